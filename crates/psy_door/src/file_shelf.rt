@@ -1,0 +1,100 @@
+ghost use Rattle.std.specs.Prelude.{◌≡◌, ◌<◌, ◌≤◌, None, [], vec_len, IfOk, IsOk};
+
+use psy_base::{Text, limits};
+use std::alloc::{AllocError, Global};
+use std::fs;
+use std::io::{self, Read};
+use std::marker::Model;
+use std::rt::Files;
+
+use crate::shelf::{FetchFault, Shelf};
+
+const BLOCK: usize = 4096;
+
+/// The files of the system, by path. It tells no content, and counts a fault at every error of the
+/// system.
+#[derive(Drop)]
+pub struct FileShelf<'a, R> {
+    files: &'a R,
+    faults: u64,
+    failed_name: Option<Text>,
+    taken: usize,
+}
+
+impl<'a, R> Model for FileShelf<'a, R> {
+    ghost use Rattle.std.specs.Prelude.{unwrap_or, []};
+    ghost use Rattle.psy_door.specs.States.{FileShelfState};
+
+    ghost Value = { FileShelfState };
+
+    ghost view = { λ s. record { faults = s.faults; failed_name = unwrap_or s.failed_name []; taken = s.taken } };
+}
+
+impl<'a, R: Files> FileShelf<'a, R> {
+    /// A shelf over the files that this runtime reaches. It takes no memory.
+    pub fn new(files: &'a R) -> FileShelf<'a, R>
+        ensures { result ≡ record { faults = 0; failed_name = []; taken = 0 } }
+    {
+        FileShelf {
+            files,
+            faults: 0,
+            failed_name: None,
+            taken: 0,
+        }
+    }
+}
+
+// What ended the reading of a file, other than its end.
+#[derive(Drop)]
+enum ReadFault {
+    System(io::Error),
+    Memory(AllocError),
+}
+
+// Adds the bytes of the file, at most one more than a shelf gives.
+fn read_some<F: Read>(file: &mut F, bytes: &mut Vec<u8>) -> Result<(), ReadFault>
+    requires { vec_len bytes.old ≤ 262145 }
+    ensures { vec_len bytes.new ≤ 262145 }
+{
+    let mut block = [0u8; BLOCK];
+    'filling: while bytes.len() <= limits::FILE_BYTES {
+        let asked = BLOCK.min(limits::FILE_BYTES + 1 - bytes.len());
+        let n = file.read(&mut block[..asked]).map_err(ReadFault::System)?;
+        if n == 0 {
+            return Ok(());
+        }
+        bytes.extend_from_slice(&block[..n]).map_err(ReadFault::Memory)?;
+    }
+    Ok(())
+}
+
+impl<'a, R: Files> Shelf for FileShelf<'a, R> {
+    ghost files = { λ _. None };
+
+    ghost faults = { λ s. s.faults };
+
+    ghost failed_name = { λ s. s.failed_name };
+
+    ghost taken = { λ s. s.taken };
+
+    fn fetch(&mut self, alloc: Global, name: &str) -> Result<Vec<u8>, FetchFault> {
+        let asked = Text::from_bytes(alloc, name.as_bytes())?;
+        let mut bytes = Vec::new(alloc);
+        self.taken = 0;
+        let outcome = match fs::open(self.files, name) {
+            Ok(mut file) => read_some(&mut file, &mut bytes),
+            Err(error) => Err(ReadFault::System(error)),
+        };
+        self.taken = bytes.len();
+        match outcome {
+            Err(ReadFault::System(_)) => {
+                self.faults = self.faults.saturating_add(1);
+                self.failed_name = Some(asked);
+                Err(FetchFault::Failed)
+            }
+            Err(ReadFault::Memory(_)) => Err(FetchFault::Memory),
+            Ok(()) if bytes.len() > limits::FILE_BYTES => Err(FetchFault::TooLong),
+            Ok(()) => Ok(bytes),
+        }
+    }
+}

@@ -1,0 +1,21 @@
+-- What the fields of a kernel stand for.
+use Rattle.std.specs.Prelude.{◌≡◌, ℕ, ◌+◌, ◌-◌, ◌*◌, ◌<◌, ◌≤◌, map, min, Option, None, Some, ℤ}
+use Rattle.psy_kernel.specs.Meaning.{IsAdmitted, below, date_of, value_after, cost_of, finish_of, slack_of, least}
+use Rattle.psy_kernel.specs.declared.kernel.Kernel.TheInside.{Inside}
+
+-- Of the published values the last is number `published - 1`, and the action of that number is the
+-- present one, where there is one.
+pub record StandsFor (k : Inside) : Type 0 where
+  pub admitted : IsAdmitted k.first
+  pub dates : k.dates ≤ k.first.until + 1
+  pub cycles_due : k.cycles ≤ k.dates * k.first.quantum
+  pub cycles_done : (k.dates - 1) * k.first.quantum ≤ k.cycles
+  pub next_date : k.next_date ≡ date_of k.first k.published
+  pub ahead : k.dates ≤ k.next_date
+  pub behind : 0 < k.published → date_of k.first (k.published - 1) < k.dates
+  pub value : k.value ≡ value_after k.first (k.published - 1)
+  pub idle : k.published ≡ 0 → k.work ≡ 0
+  pub work : 0 < k.published → k.work ≡ cost_of k.first (k.published - 1)
+  pub units : k.units ≡ min k.work (k.cycles - date_of k.first (k.published - 1) * k.first.quantum)
+  pub finish : 0 < k.published → k.units ≡ k.work → k.finish ≡ finish_of k.first (k.published - 1)
+  pub slack : k.slack ≡ least (map (slack_of k.first) (below (k.published - 1)))

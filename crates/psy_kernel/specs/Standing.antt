@@ -1,0 +1,31 @@
+-- Where a run stands, and what a kernel's fields stand for there.
+use Rattle.std.specs.Prelude.{◌≡◌, ℕ, ◌+◌, ◌-◌, ◌*◌, ◌<◌, ◌≤◌, ◌==◌, if◌then◌else◌, map, length, min, Option, None, Some, ℤ}
+use Rattle.psy_kernel.specs.declared.first.First.{First}
+use Rattle.psy_kernel.specs.declared.stage.Stage.{Stage}
+use Rattle.psy_kernel.specs.declared.stage.Stage.TheVariants.{DateDue, CycleDue, Over}
+use Rattle.psy_kernel.specs.Meaning.{published, due_by, least_slack}
+
+-- a program with its last date, and how many dates and cycles of its run were done
+pub record Progress : Type 0 where
+  pub first : First
+  pub dates : ℕ
+  pub cycles : ℕ
+
+-- what is due next: date t once the dates before it and the cycles before t * Q were done
+abbrev pub stage_of : Progress → Stage
+stage_of run =
+    if run.dates == run.first.until + 1 then Over
+    else if run.cycles == run.dates * run.first.quantum then DateDue run.dates
+    else CycleDue run.cycles
+
+-- the value published at the date done last
+abbrev pub value_of : Progress → Option ℤ
+value_of run = elim run.dates [ zero ↦ None | suc date ↦ published run.first date ]
+
+-- how many actions were due by the date done last
+abbrev pub count_of : Progress → ℕ
+count_of run = elim run.dates [ zero ↦ 0 | suc date ↦ length (due_by run.first date) ]
+
+-- the least slack of these
+abbrev pub slack_of : Progress → Option ℕ
+slack_of run = elim run.dates [ zero ↦ None | suc date ↦ least_slack run.first date ]
