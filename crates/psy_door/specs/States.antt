@@ -55,8 +55,9 @@ kept sink piece = take (sink.room - length sink.bytes) piece
 -- the sink after a piece was written
 abbrev pub written : CleanSinkState → List ℕ → CleanSinkState
 written sink piece = record sink {
-    bytes = sink.bytes ++ kept sink piece;
-    whole = sink.whole && nat_le (length sink.bytes + length piece) sink.room }
+  bytes = sink.bytes ++ kept sink piece;
+  whole = sink.whole && nat_le (length sink.bytes + length piece) sink.room;
+}
 
 -- the bytes, as long as all were kept
 abbrev pub told : CleanSinkState → Option (List ℕ)

@@ -1,12 +1,11 @@
 ghost use Rattle.std.specs.Prelude.{◌≡◌, ◌≢◌, ◌<◌, ◌≤◌, Some, [], map, length, vec_len, IfOk};
 ghost use Rattle.psy_door.specs.Files.{files_of, bytes_under, taken_of};
 
+use crate::files;
+use crate::shelf::{FetchFault, Shelf};
 use psy_base::{Text, limits};
 use std::alloc::Global;
 use std::marker::Model;
-
-use crate::files;
-use crate::shelf::{FetchFault, Shelf};
 
 /// Files in memory whose calls never fail. A name that it doesn't hold is that of an empty file.
 #[derive(Debug, Drop)]

@@ -1,11 +1,10 @@
 ghost use Rattle.std.specs.Prelude.{◌≡◌, true, [], length, IfOk};
 ghost use Rattle.psy_door.specs.States.{written, told};
 
+use crate::sink::{Failed, Sink};
 use psy_base::Memory;
 use std::alloc::Global;
 use std::marker::Model;
-
-use crate::sink::{Failed, Sink};
 
 /// A sink in memory whose calls never fail. It keeps what fits its room, and tells its bytes as long
 /// as all were kept.

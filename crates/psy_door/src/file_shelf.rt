@@ -1,13 +1,12 @@
 ghost use Rattle.std.specs.Prelude.{◌≡◌, ◌<◌, ◌≤◌, None, [], vec_len, IfOk, IsOk};
 
+use crate::shelf::{FetchFault, Shelf};
 use psy_base::{Text, limits};
 use std::alloc::{AllocError, Global};
 use std::fs;
 use std::io::{self, Read};
 use std::marker::Model;
 use std::rt::Files;
-
-use crate::shelf::{FetchFault, Shelf};
 
 const BLOCK: usize = 4096;
 
@@ -63,7 +62,9 @@ fn read_some<F: Read>(file: &mut F, bytes: &mut Vec<u8>) -> Result<(), ReadFault
         if n == 0 {
             return Ok(());
         }
-        bytes.extend_from_slice(&block[..n]).map_err(ReadFault::Memory)?;
+        bytes
+            .extend_from_slice(&block[..n])
+            .map_err(ReadFault::Memory)?;
     }
     Ok(())
 }

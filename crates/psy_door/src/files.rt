@@ -2,10 +2,9 @@ ghost use Rattle.std.specs.Prelude.{◌≡◌, ◌≢◌, ◌<◌, ◌≤◌, ma
 ghost use Rattle.std.specs.Option.{option_copied};
 ghost use Rattle.psy_door.specs.Files.{named};
 
+use crate::shelf::FetchFault;
 use psy_base::{Text, limits};
 use std::alloc::Global;
-
-use crate::shelf::FetchFault;
 
 /// The first file with this name.
 fn first<'a>(files: &'a [(Text, Vec<u8>)], name: &[u8]) -> Option<&'a (Text, Vec<u8>)>

@@ -7,11 +7,11 @@ mod clean_sink;
 mod counts;
 mod file_shelf;
 mod files;
+mod shelf;
 mod shelf_map;
+mod sink;
 mod sink_vec;
 mod std_sink;
-mod shelf;
-mod sink;
 
 pub use clean_shelf::CleanShelf;
 pub use clean_sink::CleanSink;

@@ -3,13 +3,11 @@ ghost use Rattle.psy_door.specs.Faults.{Rose};
 ghost use Rattle.psy_door.specs.Files.{files_of, bytes_under};
 ghost use Rattle.psy_door.specs.States.{FetchFails, counted_up};
 
+use crate::shelf::{FetchFault, Shelf};
+use crate::{counts, files};
 use psy_base::{Text, limits};
 use std::alloc::Global;
 use std::marker::Model;
-
-use crate::counts;
-use crate::files;
-use crate::shelf::{FetchFault, Shelf};
 
 /// Files in memory. Calls with listed numbers, and calls for a name that it doesn't hold, fail.
 #[derive(Debug, Drop)]
@@ -29,12 +27,13 @@ impl Model for ShelfMap {
     ghost Value = { ShelfState };
 
     ghost view = { λ s. record {
-        files = map (λ p. (p.0, p.1.items)) s.files.items;
-        fails = s.fails.items;
-        calls = s.calls;
-        faults = s.faults;
-        failed_name = unwrap_or s.failed_name [];
-        taken = s.taken } };
+      files = map (λ p. (p.0, p.1.items)) s.files.items;
+      fails = s.fails.items;
+      calls = s.calls;
+      faults = s.faults;
+      failed_name = unwrap_or s.failed_name [];
+      taken = s.taken;
+    } };
 }
 
 impl ShelfMap {
@@ -42,12 +41,13 @@ impl ShelfMap {
     /// Of two files with one name the first stands. It takes no memory.
     pub fn new(files: Vec<(Text, Vec<u8>)>, fails: Vec<u32>) -> ShelfMap
         ensures { result ≡ record {
-            files = map (λ p. (p.0, p.1.items)) files.items;
-            fails = fails.items;
-            calls = 0;
-            faults = 0;
-            failed_name = [];
-            taken = 0 } }
+          files = map (λ p. (p.0, p.1.items)) files.items;
+          fails = fails.items;
+          calls = 0;
+          faults = 0;
+          failed_name = [];
+          taken = 0;
+        } }
     {
         ShelfMap {
             files,

@@ -1,12 +1,11 @@
 ghost use Rattle.std.specs.Prelude.{◌≡◌, ℕ, ◌+◌, ◌<◌, ◌≤◌, Some, [], ◌++◌, length, take, IfOk, OnOk, OnErr, IsErr, ◌↔◌};
 ghost use Rattle.psy_door.specs.States.{SinkState, WriteFails, fitting, counted_up};
 
+use crate::counts;
+use crate::sink::{Failed, Sink};
 use psy_base::Memory;
 use std::alloc::Global;
 use std::marker::Model;
-
-use crate::counts;
-use crate::sink::{Failed, Sink};
 
 /// A sink in memory with a fixed room. Calls with listed numbers, and calls without room for a piece
 /// that isn't empty, fail.
@@ -27,12 +26,13 @@ impl Model for SinkVec {
     ghost Value = { SinkState };
 
     ghost view = { λ s. record {
-        bytes = s.bytes.items;
-        room = s.room;
-        most = s.most;
-        fails = s.fails.items;
-        calls = s.calls;
-        faults = s.faults } };
+      bytes = s.bytes.items;
+      room = s.room;
+      most = s.most;
+      fails = s.fails.items;
+      calls = s.calls;
+      faults = s.faults;
+    } };
 
     ghost invariant = { λ s. (vec_len s.bytes ≤ s.room) × (s.room ≤ vec_capacity s.bytes) × (0 < s.most) };
 }
@@ -43,12 +43,13 @@ impl SinkVec {
     pub fn new(alloc: Global, room: usize, most: usize, fails: Vec<u32>) -> Result<SinkVec, Memory>
         requires { 1 ≤ most }
         ensures { IfOk result (λ s. s ≡ record {
-            bytes = [];
-            room = room;
-            most = most;
-            fails = fails.items;
-            calls = 0;
-            faults = 0 }) }
+          bytes = [];
+          room = room;
+          most = most;
+          fails = fails.items;
+          calls = 0;
+          faults = 0;
+        }) }
     {
         Ok(SinkVec {
             bytes: Vec::with_capacity(alloc, room)?,
@@ -87,11 +88,13 @@ impl Sink for SinkVec {
         ensures fails { IsErr result ↔ WriteFails self.old piece.now }
         ensures fitting { IfOk result (λ n. n ≡ fitting self.old (length piece.now)) }
         ensures ok { IfOk result (λ n. self.new ≡ record self.old {
-            bytes = self.old.bytes ++ take n piece.now;
-            calls = counted_up self.old.calls }) }
+          bytes = self.old.bytes ++ take n piece.now;
+          calls = counted_up self.old.calls;
+        }) }
         ensures err { OnErr result (self.new ≡ record self.old {
-            calls = counted_up self.old.calls;
-            faults = counted_up self.old.faults }) }
+          calls = counted_up self.old.calls;
+          faults = counted_up self.old.faults;
+        }) }
     {
         let number = self.calls;
         self.calls = number.saturating_add(1);

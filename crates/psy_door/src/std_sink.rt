@@ -1,9 +1,8 @@
 ghost use Rattle.std.specs.Prelude.{◌≡◌, ◌<◌, ◌≤◌, None, length, IfSome};
 
+use crate::sink::{Failed, Sink};
 use std::io::{self, Write};
 use std::marker::Model;
-
-use crate::sink::{Failed, Sink};
 
 /// Standard output, or another writer of the system, flushed in each write. It tells no content, and
 /// counts a fault at every error of the system and at every write that takes nothing.

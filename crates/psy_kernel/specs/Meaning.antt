@@ -1,6 +1,6 @@
 -- The dated meaning of a program with one clock, one agent and one temporal variable. It knows no
 -- cycle of execution, but for the finish of an action, by which slack is measured.
-use Rattle.std.specs.Prelude.{ℕ, ◌+◌, ◌-◌, ◌*◌, ◌==◌, nat_le, nat_eq, if◌then◌else◌, Bool, List, [], ◌∷◌, map, filter, length, find, fold, min, Option, None, Some, option_map, ℤ, pos, ◌+ℤ◌, ◌++◌, true, false, ◌≤◌, ◌<◌, ◌≤ℤ◌, negsuc}
+use Rattle.std.specs.Prelude.{zero, suc, ℕ, ◌+◌, ◌-◌, ◌*◌, ◌==◌, nat_le, nat_eq, if◌then◌else◌, Bool, List, [], ◌∷◌, map, filter, length, find, fold, min, Option, None, Some, option_map, ℤ, pos, ◌+ℤ◌, ◌++◌, true, false, ◌≤◌, ◌<◌, ◌≤ℤ◌, negsuc}
 use Rattle.std.specs.Int.{int_wrap, w32}
 use Rattle.psy_kernel.specs.declared.first.First.{First}
 
@@ -56,6 +56,11 @@ due_by first date = filter (λ n. nat_le (deadline_of first n) date) (below (dat
 -- the cycles between an action's finish and its deadline
 abbrev pub slack_of : First → ℕ → ℕ
 slack_of first n = deadline_of first n * first.quantum - finish_of first n
+
+-- the lesser of a number and the least one so far
+abbrev pub lesser : Option ℕ → ℕ → ℕ
+lesser None x = x
+lesser (Some least) x = min least x
 
 -- the least of a list, and None where it is empty
 abbrev pub least : List ℕ → Option ℕ

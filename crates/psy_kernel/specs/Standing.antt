@@ -1,5 +1,5 @@
 -- Where a run stands, and what a kernel's fields stand for there.
-use Rattle.std.specs.Prelude.{◌≡◌, ℕ, ◌+◌, ◌-◌, ◌*◌, ◌<◌, ◌≤◌, ◌==◌, if◌then◌else◌, map, length, min, Option, None, Some, ℤ}
+use Rattle.std.specs.Prelude.{zero, suc, ◌≡◌, ℕ, ◌+◌, ◌-◌, ◌*◌, ◌<◌, ◌≤◌, ◌==◌, if◌then◌else◌, map, length, min, Option, None, Some, ℤ}
 use Rattle.psy_kernel.specs.declared.first.First.{First}
 use Rattle.psy_kernel.specs.declared.stage.Stage.{Stage}
 use Rattle.psy_kernel.specs.declared.stage.Stage.TheVariants.{DateDue, CycleDue, Over}
@@ -26,6 +26,6 @@ value_of run = elim run.dates [ zero ↦ None | suc date ↦ published run.first
 abbrev pub count_of : Progress → ℕ
 count_of run = elim run.dates [ zero ↦ 0 | suc date ↦ length (due_by run.first date) ]
 
--- the least slack of these
-abbrev pub slack_of : Progress → Option ℕ
-slack_of run = elim run.dates [ zero ↦ None | suc date ↦ least_slack run.first date ]
+-- the least slack of these, and None where there is none
+abbrev pub least_slack_of : Progress → Option ℕ
+least_slack_of run = elim run.dates [ zero ↦ None | suc date ↦ least_slack run.first date ]

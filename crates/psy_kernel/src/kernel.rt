@@ -1,11 +1,10 @@
-ghost use Rattle.std.specs.Prelude.{◌≡◌, ◌+◌, ◌-◌, ◌<◌, ◌↔◌, None, Some, IsNone, length, option_map, unwrap_or, min};
-ghost use Rattle.psy_kernel.specs.Meaning.{IsAdmitted, next_value, cost_of};
-ghost use Rattle.psy_kernel.specs.Standing.{stage_of, value_of, count_of, slack_of};
-
-use std::marker::Model;
+ghost use Rattle.std.specs.Prelude.{◌≡◌, ◌+◌, ◌-◌, ◌*◌, ◌^◌, ◌<◌, ◌≤◌, ◌↔◌, map, None, Some, IsNone, length, option_map, unwrap_or, min, pos};
+ghost use Rattle.psy_kernel.specs.Meaning.{IsAdmitted, below, date_of, next_value, value_after, cost_of, finish_of, slack_of, least, lesser};
+ghost use Rattle.psy_kernel.specs.Standing.{stage_of, value_of, count_of, least_slack_of};
 
 use crate::first::First;
 use crate::stage::Stage;
+use std::marker::Model;
 
 /// The run of a program: contracts see how many dates and cycles of it were done. Its fields stand for
 /// the dated meaning there, so that what it tells is the meaning's.
@@ -35,13 +34,34 @@ impl Model for Kernel {
     ghost invariant = { StandsFor };
 }
 
-// The value of the assigned expression.
+// A number of the program's text.
+fn literal(value: u32) -> i32
+    requires { value ≤ 2147483647 }
+    ensures { result ≡ pos value }
+{
+    value as i32
+}
+
+// The value of the assigned expression, where the variable has this one.
+#[tactic(auto, using(std::proofs::lemmas::Int::wraps))]
 fn next(first: &First, value: i32) -> i32
     requires { first.now.add ≤ 2147483647 }
     ensures { result ≡ next_value first.now value }
 {
-    let own = if first.own { value } else { 0 };
-    own.wrapping_add(first.add as i32)
+    let add = literal(first.add);
+    if first.own {
+        return value.wrapping_add(add);
+    }
+    add
+}
+
+// The value that is published when action number n starts, where the one before is known.
+fn value_at(first: &First, n: u64, before: i32) -> i32
+    requires add { first.now.add ≤ 2147483647 }
+    requires known { before ≡ value_after first.now (n - 1) }
+    ensures { result ≡ value_after first.now n }
+{
+    if n == 0 { before } else { next(first, before) }
 }
 
 // The cost of action number n.
@@ -51,6 +71,31 @@ fn cost(first: &First, n: u64) -> u64
     let body = if first.own { 5 } else { 3 };
     let jump = if n == 0 { 0 } else { 1 };
     body + jump
+}
+
+// The lesser of a slack and the least one so far.
+fn lesser(least: Option<u64>, slack: u64) -> u64
+    ensures { result ≡ lesser least slack }
+{
+    match least {
+        None => slack,
+        Some(least) => least.min(slack),
+    }
+}
+
+// The least slack among the actions before number n, where it was known of those before `n - 1`,
+// and that one has ended.
+fn slack_at(first: &First, n: u64, date: u64, finish: u64, so_far: Option<u64>) -> Option<u64>
+    requires fits { date * first.now.quantum < 2 ^ 64 }
+    requires ended { 0 < n → (date ≡ date_of first.now n) × (finish ≡ finish_of first.now (n - 1)) }
+    requires in_time { 0 < n → finish ≤ date * first.now.quantum }
+    requires known { so_far ≡ least (map (slack_of first.now) (below (n - 1))) }
+    ensures { result ≡ least (map (slack_of first.now) (below n)) }
+{
+    if n == 0 {
+        return so_far;
+    }
+    Some(lesser(so_far, date * u64::from(first.quantum) - finish))
 }
 
 impl Kernel {
@@ -93,18 +138,17 @@ impl Kernel {
         ensures { self.new ≡ record self.old { dates = self.old.dates + 1 } }
     {
         let date = self.dates;
-        if date == self.next_date {
-            if self.published > 0 {
-                let slack = date * u64::from(self.first.quantum) - self.finish;
-                self.slack = Some(self.slack.map_or(slack, |least| least.min(slack)));
-                self.value = next(&self.first, self.value);
-            }
-            self.work = cost(&self.first, self.published);
-            self.units = 0;
-            self.published += 1;
-            self.next_date += u64::from(self.first.period);
-        }
         self.dates = date + 1;
+        if date != self.next_date {
+            return;
+        }
+        let n = self.published;
+        self.slack = slack_at(&self.first, n, date, self.finish, self.slack);
+        self.value = value_at(&self.first, n, self.value);
+        self.work = cost(&self.first, n);
+        self.units = 0;
+        self.published = n + 1;
+        self.next_date = date + u64::from(self.first.period);
     }
 
     /// Does the cycle that is due: the present action gets it, where it isn't finished.
@@ -112,21 +156,22 @@ impl Kernel {
         requires { stage_of self.old ≡ Stage.CycleDue self.old.cycles }
         ensures { self.new ≡ record self.old { cycles = self.old.cycles + 1 } }
     {
-        let next = self.cycles + 1;
-        if self.units < self.work {
-            self.units += 1;
-            if self.units == self.work {
-                self.finish = next;
-            }
+        self.cycles += 1;
+        if self.units == self.work {
+            return;
         }
-        self.cycles = next;
+        self.units += 1;
+        self.finish = self.cycles;
     }
 
     /// The value published at the date done last; None exactly where the clock has no date there.
     pub fn value(&self) -> Option<i32>
         ensures { result ≡ value_of self.now }
     {
-        if self.dates == 0 || self.next_date != self.dates - 1 + u64::from(self.first.period) {
+        if self.dates == 0 {
+            return None;
+        }
+        if self.next_date != self.dates - 1 + u64::from(self.first.period) {
             return None;
         }
         Some(self.value)
@@ -136,7 +181,7 @@ impl Kernel {
     /// from an action's finish to its deadline; None exactly where none was due.
     pub fn counted(&self) -> (u64, Option<u64>)
         ensures count { result.0 ≡ count_of self.now }
-        ensures slack { result.1 ≡ slack_of self.now }
+        ensures slack { result.1 ≡ least_slack_of self.now }
         ensures none { IsNone result.1 ↔ (result.0 ≡ 0) }
     {
         (self.published.saturating_sub(1), self.slack)
