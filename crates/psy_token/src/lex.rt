@@ -1,0 +1,1 @@
+use psy_base::Items;
