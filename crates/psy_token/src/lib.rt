@@ -1,10 +1,12 @@
 //! Cuts a program's text into tokens, or finds its first fault.
 #![tactic(auto)]
 
+mod comment;
 mod fault;
-mod lex;
+mod pass;
+mod number;
 mod scan;
 mod spelling;
 
 pub use fault::LexFault;
-
+pub use pass::lex;

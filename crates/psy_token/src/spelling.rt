@@ -1,6 +1,6 @@
 //! The spellings of reserved words and signs.
-ghost use Rattle.std.specs.Prelude.{◌≡◌, find, bytes_eq, nat_eq};
-ghost use Rattle.std.specs.List.{starts_with};
+ghost use Rattle.std.specs.Prelude.{◌≡◌};
+ghost use Rattle.psy_token.specs.Reading.{reserved, sign_at};
 ghost use Rattle.psy_tree.specs.Lexemes.{word_spelling, sign_spelling};
 
 use psy_tree::{Sign, Word};
@@ -108,7 +108,7 @@ fn word_spelling(word: Word) -> &'static [u8]
     }
 }
 
-fn sign_spelling(sign: Sign) -> &'static [u8]
+pub fn sign_spelling(sign: Sign) -> &'static [u8]
     ensures { result.now ≡ sign_spelling sign }
 {
     match sign {
@@ -146,14 +146,14 @@ fn sign_spelling(sign: Sign) -> &'static [u8]
 
 /// The reserved word with this spelling.
 pub fn reserved(word: &[u8]) -> Option<Word>
-    ensures { result ≡ find (λ w. bytes_eq (word_spelling w) word.now) WORDS }
+    ensures { result ≡ reserved word.now }
 {
     WORDS.iter().copied().find(|reserved| word_spelling(*reserved) == word)
 }
 
 /// The longest sign with which the bytes begin.
 pub fn sign_at(rest: &[u8]) -> Option<Sign>
-    ensures { result ≡ find (λ s. starts_with nat_eq rest.now (sign_spelling s)) SIGNS }
+    ensures { result ≡ sign_at rest.now }
 {
     SIGNS.iter().copied().find(|sign| rest.starts_with(sign_spelling(*sign)))
 }

@@ -1,1 +1,0 @@
-use psy_base::Items;
