@@ -113,9 +113,13 @@ FaultGives at (answers.BigLiteral place) front = (place ≡ at) × (front ≡ Fa
 FaultGives at (answers.OpenComment place) front = (place ≡ at) × (front ≡ Faulty OpenComment 0)
 FaultGives at answers.Memory front = Unit {0}
 
+-- the span cuts off the whole piece at the front
+abbrev pub Cuts : List ℕ → Span → Front → Type 0
+Cuts rest span front = (front ≡ Whole (piece_by span.kind (take span.len rest))) × (0 < span.len) × (span.len ≤ length rest)
+
 -- what was answered for the rest of a text, with `at` bytes before it, is its front
 abbrev pub Gives : ℕ → List ℕ → Result Span LexFault → Front → Type 0
-Gives at rest (Ok span) front = (front ≡ Whole (piece_by span.kind (take span.len rest))) × (0 < span.len) × (span.len ≤ length rest)
+Gives at rest (Ok span) front = Cuts rest span front
 Gives at rest (Err fault) front = FaultGives at fault front
 
 -- the tokens and the one at that place, if it is one

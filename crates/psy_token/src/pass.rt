@@ -7,7 +7,7 @@ ghost use Rattle.psy_tree.specs.Lexemes.{is_in_word};
 ghost use Rattle.psy_tree.specs.Faults.{Fault, FirstFault};
 ghost use Rattle.psy_tree.specs.Tokens.{TokensOf};
 ghost use Rattle.psy_token.specs.Answer.{IsFirstFault, GivesTokens, GivesFault, fault_at};
-ghost use Rattle.psy_token.specs.Reading.{Gives, with_token, front_of, word_front, number_front, block_front, line_front, sign_front, word_kind, goes_on};
+ghost use Rattle.psy_token.specs.Reading.{Cuts, Gives, with_token, front_of, word_front, number_front, block_front, line_front, sign_front, word_kind, goes_on};
 
 use crate::comment::close_len;
 use crate::fault::LexFault;
@@ -96,14 +96,14 @@ fn block_comment(rest: &[u8], at: usize) -> Result<Span, LexFault>
 }
 
 #[tactic(auto, unfolding(crate::specs::Reading::line_front))]
-fn line_comment(rest: &[u8]) -> Result<Span, LexFault>
+fn line_comment(rest: &[u8]) -> Span
     requires opened { 2 ≤ length rest.now }
-    ensures { Gives 0 rest.now result (line_front rest.now) }
+    ensures { Cuts rest.now result (line_front rest.now) }
 {
-    Ok(Span {
+    Span {
         len: line_len(&rest[2..]) + 2,
         kind: None,
-    })
+    }
 }
 
 #[tactic(auto, unfolding(crate::specs::Reading::sign_front))]
@@ -138,7 +138,7 @@ fn front(alloc: Global, rest: &[u8], at: usize) -> Result<Span, LexFault>
         return number(rest, at);
     }
     if rest.starts_with(b"//") {
-        return line_comment(rest);
+        return Ok(line_comment(rest));
     }
     if rest.starts_with(b"/*") {
         return block_comment(rest, at);
