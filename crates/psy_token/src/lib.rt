@@ -3,10 +3,12 @@
 
 mod comment;
 mod fault;
+mod law;
 mod pass;
 mod number;
 mod scan;
 mod spelling;
 
 pub use fault::LexFault;
+pub use law::one_reading;
 pub use pass::lex;
