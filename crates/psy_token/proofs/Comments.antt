@@ -15,7 +15,7 @@ shift_more at (Some n) = let e : n + 1 + at ≡ n + (at + 1) = omega arith in ap
 pub close_len-passed : (bytes : List ℕ) (at : ℕ) → at < length bytes → (get_or bytes at 0 == 42) && next_is 47 (drop (at + 1) bytes) ≡ false → close_len bytes ≡ option_map (λ n. n + at) (close_len (drop at bytes)) → close_len bytes ≡ option_map (λ n. n + (at + 1)) (close_len (drop (at + 1) bytes))
 close_len-passed bytes at within none so_far =
     let e : close_len (drop at bytes) ≡ option_map (λ n. n + 1) (close_len (drop (at + 1) bytes)) =
-        at_drop_more close_len bytes at 0 within ∙ ap (λ t. cond t (Some 2) (option_map (λ n. n + 1) (close_len (drop (at + 1) bytes)))) none
+    at_drop_more close_len bytes at 0 within ∙ ap (λ t. cond t (Some 2) (option_map (λ n. n + 1) (close_len (drop (at + 1) bytes)))) none
     in so_far ∙ ap (option_map (λ n. n + at)) e ∙ shift_more at (close_len (drop (at + 1) bytes))
 
 -- a test of two parts, the second or the first of which fails
@@ -120,9 +120,9 @@ some_by b bytes len later false test found = some_rest (close_len bytes) refl fo
           whole = ap (λ l. b ∷ l) r.whole;
           len_is = let f : n + 1 ≡ len = cc in omega (arith, r.len_is);
           first = λ h. elim (HasClose-cons b (r.inside ++ codes "*") h) [
-              inl t ↦ let same : closes b bytes ≡ true = ap (λ x. (b == 42) && x) (ap (next_is 47) r.whole ∙ next_is-front 47 r.inside r.rest) ∙ t in cc
+            | inl t ↦ let same : closes b bytes ≡ true = ap (λ x. (b == 42) && x) (ap (next_is 47) r.whole ∙ next_is-front 47 r.inside r.rest) ∙ t in cc
             | inr there ↦ r.first there
-            ];
+          ];
         }
 
 pub close_len-some : (bytes : List ℕ) (len : ℕ) → close_len bytes ≡ Some len → Closes bytes len

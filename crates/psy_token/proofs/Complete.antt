@@ -250,7 +250,7 @@ lexeme : (kind : Kind) (bytes rest : List ℕ) → Stands (Lexeme kind bytes) re
 lexeme (kinds.Word word) bytes rest (is, ends) =
     subst (λ p. front_of (p ++ rest) ≡ Whole (Lexeme (kinds.Word word) p)) (sym is)
     (short_word (word_spelling word) rest (IsWord-spelling word) ends (length-spelling word)
-     ∙ ap (λ f. Whole (Lexeme (kind_by f (word_spelling word)) (word_spelling word))) (reserved-spelling word))
+    ∙ ap (λ f. Whole (Lexeme (kind_by f (word_spelling word)) (word_spelling word))) (reserved-spelling word))
 lexeme (kinds.Name name) bytes rest ((is, word, short, other), ends) =
     subst (λ p. front_of (p ++ rest) ≡ Whole (Lexeme (kinds.Name name) p)) (sym is)
     (short_word name rest word ends short ∙ ap (λ f. Whole (Lexeme (kind_by f name) name)) (reserved-other name other))

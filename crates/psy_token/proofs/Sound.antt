@@ -114,10 +114,11 @@ number_has b more digit = number_of (b ∷ more) (number_len (b ∷ more)) (numb
 
 line_at : (more : List ℕ) (len : ℕ) → len ≡ suc (suc (prefix_len is_in_line more)) → Has (47 ∷ 47 ∷ more) (Whole (Separator (take len (47 ∷ 47 ∷ more))))
 line_at more len is =
-    subst (λ n. Has (47 ∷ 47 ∷ more) (Whole (Separator (take n (47 ∷ 47 ∷ more))))) (sym is)
-    (drop (prefix_len is_in_line more) more,
-     ap (λ l. 47 ∷ 47 ∷ l) (sym (take-append-drop (prefix_len is_in_line more) more)),
-     inr (inr (take (prefix_len is_in_line more) more, refl, (longest is_in_line more).each, (longest is_in_line more).ends)))
+    subst (λ n. Has (47 ∷ 47 ∷ more) (Whole (Separator (take n (47 ∷ 47 ∷ more))))) (sym is) (
+      drop (prefix_len is_in_line more) more,
+      ap (λ l. 47 ∷ 47 ∷ l) (sym (take-append-drop (prefix_len is_in_line more) more)),
+      inr (inr (take (prefix_len is_in_line more) more, refl, (longest is_in_line more).each, (longest is_in_line more).ends)),
+    )
 
 line_of : (more : List ℕ) → Has (codes "//" ++ more) (line_front (codes "//" ++ more))
 unfolding line_front

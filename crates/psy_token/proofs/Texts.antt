@@ -61,15 +61,14 @@ State-more text at tokens kind len (within, (pieces, splits, at_is, tokens_are))
     let has : Has rest (Whole piece) = subst (Has rest) is (front_has rest) in
     let after : has.0 ≡ drop (at + len) text = cut_rest rest kind len has.0 fits has.1 ∙ drop-drop len at text in
     let size : length (text_of (pieces ++ piece ∷ [])) ≡ at + len =
-        ap length (sym (flat_map_more bytes_of [] pieces piece)) ∙ length-append (text_of pieces) (bytes_of piece) ∙ omega (arith, ap length (bytes_of-piece_by kind (take len rest)), length-take-le len rest fits, at_is) in
-    (
+    ap length (sym (flat_map_more bytes_of [] pieces piece)) ∙ length-append (text_of pieces) (bytes_of piece) ∙ omega (arith, ap length (bytes_of-piece_by kind (take len rest)), length-take-le len rest fits, at_is) in (
       omega (arith, length-drop at text),
       (
         pieces ++ piece ∷ [],
         subst (λ r. Splits text (pieces ++ piece ∷ []) r) after (Splits-push text pieces rest piece has.0 splits has.1 has.2),
         sym size,
-        ap (λ p. with_token tokens p kind) at_is ∙ ap (λ ts. with_token ts (length (text_of pieces)) kind) tokens_are ∙ ap (λ n. with_token (tokens_from 0 pieces) n kind) (omega arith) ∙ tokens-push 0 pieces kind (take len rest)
-      )
+        ap (λ p. with_token tokens p kind) at_is ∙ ap (λ ts. with_token ts (length (text_of pieces)) kind) tokens_are ∙ ap (λ n. with_token (tokens_from 0 pieces) n kind) (omega arith) ∙ tokens-push 0 pieces kind (take len rest),
+      ),
     )
 
 -- at the end they are all
@@ -111,7 +110,7 @@ one_split (p ∷ ps) (q ∷ qs) r s all others same r_last s_last =
     let first : Whole p ≡ Whole q = sym (whole_first p ps r all) ∙ ap front_of same ∙ whole_first q qs s others in
     let e : p ≡ q = cc in
     let flat : bytes_of p ++ (text_of ps ++ r) ≡ bytes_of p ++ (text_of qs ++ s) =
-        sym (append_assoc (bytes_of p) (text_of ps) r) ∙ same ∙ append_assoc (bytes_of q) (text_of qs) s ∙ ap (λ x. bytes_of x ++ (text_of qs ++ s)) (sym e) in
+    sym (append_assoc (bytes_of p) (text_of ps) r) ∙ same ∙ append_assoc (bytes_of q) (text_of qs) s ∙ ap (λ x. bytes_of x ++ (text_of qs ++ s)) (sym e) in
     let later = one_split ps qs r s all.1 others.1 (append_cancel_left (bytes_of p) (text_of ps ++ r) (text_of qs ++ s) flat) r_last s_last in
     (λ i. e i ∷ later.0 i, later.1)
 

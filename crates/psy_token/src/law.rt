@@ -9,5 +9,4 @@ pub fn one_reading()
     ensures tokens { (text : List ℕ) (some others : List Token) → TokensOf text some → TokensOf text others → some ≡ others }
     ensures fault { (text : List ℕ) (fault other : Fault) (place elsewhere : ℕ) → FirstFault text fault place → FirstFault text other elsewhere → (fault ≡ other) × (place ≡ elsewhere) }
     ensures not_both { (text : List ℕ) (tokens : List Token) (fault : Fault) (place : ℕ) → TokensOf text tokens → FirstFault text fault place → ⊥ }
-{
-}
+{}

@@ -4,10 +4,12 @@
 mod comment;
 mod fault;
 mod law;
-mod pass;
 mod number;
+mod pass;
 mod scan;
 mod spelling;
+#[cfg(test)]
+mod tests;
 
 pub use fault::LexFault;
 pub use law::one_reading;

@@ -13,11 +13,7 @@ pub fn number_len(rest: &[u8]) -> usize
     ensures value { result ≡ number_len rest.now }
     ensures within { result ≤ length rest.now }
 {
-    if rest[0] == b'0' {
-        1
-    } else {
-        digits_len(rest)
-    }
+    if rest[0] == b'0' { 1 } else { digits_len(rest) }
 }
 
 /// What the digits stand for, unless it is greater than a number may be.

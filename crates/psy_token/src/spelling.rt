@@ -148,12 +148,18 @@ pub fn sign_spelling(sign: Sign) -> &'static [u8]
 pub fn reserved(word: &[u8]) -> Option<Word>
     ensures { result ≡ reserved word.now }
 {
-    WORDS.iter().copied().find(|reserved| word_spelling(*reserved) == word)
+    WORDS
+        .iter()
+        .copied()
+        .find(|reserved| word_spelling(*reserved) == word)
 }
 
 /// The longest sign with which the bytes begin.
 pub fn sign_at(rest: &[u8]) -> Option<Sign>
     ensures { result ≡ sign_at rest.now }
 {
-    SIGNS.iter().copied().find(|sign| rest.starts_with(sign_spelling(*sign)))
+    SIGNS
+        .iter()
+        .copied()
+        .find(|sign| rest.starts_with(sign_spelling(*sign)))
 }
