@@ -1,0 +1,60 @@
+-- The sorts of bytes, beside one another.
+use Rattle.std.proofs.Common.{◌≡◌, ℕ, List, [], ◌∷◌, refl, ap, Bool, true, false, ◌||◌, arith}
+use Rattle.std.specs.Char.{is_ascii_digit}
+use Rattle.std.proofs.lemmas.Bool.Decides.{nat_tests}
+use Rattle.psy_tree.specs.Lexemes.{is_blank, begins_word, is_in_word, EndsBefore}
+use Rattle.psy_token.specs.Reading.{goes_on}
+
+or_left : (a b : Bool) → a ≡ true → a || b ≡ true
+or_left true b is = refl
+or_left false b is = cc
+
+or_right : (a b : Bool) → b ≡ true → a || b ≡ true
+or_right true b is = refl
+or_right false b is = is
+
+or_none : (a b : Bool) → a || b ≡ false → (a ≡ false) × (b ≡ false)
+or_none true b is = cc
+or_none false b is = (refl, is)
+
+pub or_second : (a b : Bool) → a || b ≡ true → a ≡ false → b ≡ true
+or_second true b is first = cc
+or_second false b is first = is
+
+pub in_word-begins : (b : ℕ) → begins_word b ≡ true → is_in_word b ≡ true
+in_word-begins b is = or_left (begins_word b) (is_ascii_digit b) is
+
+pub in_word-digit : (b : ℕ) → is_ascii_digit b ≡ true → is_in_word b ≡ true
+in_word-digit b is = or_right (begins_word b) (is_ascii_digit b) is
+
+pub in_word-neither : (b : ℕ) → is_in_word b ≡ false → (begins_word b ≡ false) × (is_ascii_digit b ≡ false)
+in_word-neither b is = or_none (begins_word b) (is_ascii_digit b) is
+
+or_of : (a b : Bool) → a ≡ false → b ≡ false → a || b ≡ false
+or_of true b first second = cc
+or_of false b first second = second
+
+pub in_word-none : (b : ℕ) → begins_word b ≡ false → is_ascii_digit b ≡ false → is_in_word b ≡ false
+in_word-none b first second = or_of (begins_word b) (is_ascii_digit b) first second
+
+pub begins-not_blank : (b : ℕ) → begins_word b ≡ true → is_blank b ≡ false
+begins-not_blank b is = grind (arith, nat_tests)
+
+pub digit-not_blank : (b : ℕ) → is_ascii_digit b ≡ true → is_blank b ≡ false
+digit-not_blank b is = grind (arith, nat_tests)
+
+pub digit-not_begins : (b : ℕ) → is_ascii_digit b ≡ true → begins_word b ≡ false
+digit-not_begins b is = grind (arith, nat_tests)
+
+-- a number ends where no byte of a word goes on
+pub goes_on-none : (rest : List ℕ) → goes_on rest ≡ false → EndsBefore is_in_word rest
+goes_on-none [] is = tt
+goes_on-none (b ∷ rest) is = is
+
+pub goes_on-ends : (rest : List ℕ) → EndsBefore is_in_word rest → goes_on rest ≡ false
+goes_on-ends [] ends = refl
+goes_on-ends (b ∷ rest) ends = ends
+
+pub EndsBefore-digits : (rest : List ℕ) → EndsBefore is_in_word rest → EndsBefore is_ascii_digit rest
+EndsBefore-digits [] ends = tt
+EndsBefore-digits (b ∷ rest) ends = (in_word-neither b ends).1
