@@ -54,30 +54,30 @@ unary_of signs.Tilde = Some Flip
 unary_of signs.Bang = Some Not
 unary_of _ = None
 
--- the operator between two operands, and its level, of which 1 is the tightest
+-- the operator between two operands, and its level, of which 0 is the tightest and 9 the loosest
 abbrev pub binary_of : Sign → Option (ℕ × Op2)
-binary_of signs.Star = Some (1, operators.Mul)
-binary_of signs.Slash = Some (1, operators.Div)
-binary_of signs.Percent = Some (1, operators.Rem)
-binary_of signs.Plus = Some (2, operators.Add)
-binary_of signs.Minus = Some (2, operators.Sub)
-binary_of signs.ShiftLeft = Some (3, operators.Shl)
-binary_of signs.ShiftRight = Some (3, operators.Shr)
-binary_of signs.Less = Some (4, operators.Lt)
-binary_of signs.LessEqual = Some (4, operators.Le)
-binary_of signs.Greater = Some (4, operators.Gt)
-binary_of signs.GreaterEqual = Some (4, operators.Ge)
-binary_of signs.Equal = Some (5, operators.Eq)
-binary_of signs.NotEqual = Some (5, operators.Ne)
-binary_of signs.Amp = Some (6, operators.And)
-binary_of signs.Caret = Some (7, operators.Xor)
-binary_of signs.Bar = Some (8, operators.Or)
-binary_of signs.AmpAmp = Some (9, operators.AndAnd)
-binary_of signs.BarBar = Some (10, operators.OrOr)
+binary_of signs.Star = Some (0, operators.Mul)
+binary_of signs.Slash = Some (0, operators.Div)
+binary_of signs.Percent = Some (0, operators.Rem)
+binary_of signs.Plus = Some (1, operators.Add)
+binary_of signs.Minus = Some (1, operators.Sub)
+binary_of signs.ShiftLeft = Some (2, operators.Shl)
+binary_of signs.ShiftRight = Some (2, operators.Shr)
+binary_of signs.Less = Some (3, operators.Lt)
+binary_of signs.LessEqual = Some (3, operators.Le)
+binary_of signs.Greater = Some (3, operators.Gt)
+binary_of signs.GreaterEqual = Some (3, operators.Ge)
+binary_of signs.Equal = Some (4, operators.Eq)
+binary_of signs.NotEqual = Some (4, operators.Ne)
+binary_of signs.Amp = Some (5, operators.And)
+binary_of signs.Caret = Some (6, operators.Xor)
+binary_of signs.Bar = Some (7, operators.Or)
+binary_of signs.AmpAmp = Some (8, operators.AndAnd)
+binary_of signs.BarBar = Some (9, operators.OrOr)
 binary_of _ = None
 
 mutual
-  -- an expression whose operators outside brackets are of this level or tighter; level 0 has no binary one
+  -- an expression whose operators between operands, brackets aside, are of levels below this number
   pub data Expr : ℕ → List Numbered → RawExpr → List Numbered → Type 0 where
     number : {k : Lit} {rest : List Numbered} → Expr 0 (numeral k ∷ rest) (Number k) rest
     variable : {x : Name} {rest : List Numbered} → Expr 0 (named x ∷ rest) (Var x) rest
@@ -107,7 +107,7 @@ mutual
       → Expr (suc level) ts e rest
     -- the left side is of the same or a tighter level, the right side of a tighter level
     binary : {level : ℕ} {op : Op2} {left right : RawExpr} {s : Sign} {n : ℕ} {ts us rest : List Numbered}
-      → binary_of s ≡ Some (suc level, op) → Expr (suc level) ts left (sign n s ∷ us) → Expr level us right rest
+      → binary_of s ≡ Some (level, op) → Expr (suc level) ts left (sign n s ∷ us) → Expr level us right rest
       → Expr (suc level) ts (Binary op left right) rest
 
   -- the arguments after the first, and the closing bracket
