@@ -1,12 +1,13 @@
 -- What the fields of a kernel stand for.
 use Rattle.std.specs.Prelude.{◌≡◌, ℕ, ◌+◌, ◌-◌, ◌*◌, ◌<◌, ◌≤◌, map, min, Option, None, Some, ℤ}
-use Rattle.psy_kernel.specs.Meaning.{IsAdmitted, below, date_of, value_after, cost_of, finish_of, slack_of, least}
+use Rattle.psy_kernel.specs.Meaning.{InRange, IsFeasible, below, date_of, value_after, cost_of, finish_of, slack_of, least}
 use Rattle.psy_kernel.specs.declared.kernel.Kernel.TheInside.{Inside}
 
 -- Of the published values the last is number `published - 1`, and the action of that number is the
 -- present one, where there is one. `finish` is the cycle after its last unit.
 pub record StandsFor (k : Inside) : Type 0 where
-  pub admitted : IsAdmitted k.first
+  pub range : InRange k.first
+  pub feasible : IsFeasible k.first
   pub dates : k.dates ≤ k.first.until + 1
   pub cycles : k.cycles ≤ k.dates * k.first.quantum
   pub next_date : k.next_date ≡ date_of k.first k.published

@@ -1,5 +1,5 @@
 ghost use Rattle.std.specs.Prelude.{◌≡◌, ◌+◌, ◌-◌, ◌*◌, ◌^◌, ◌<◌, ◌≤◌, ◌↔◌, map, None, Some, IsNone, length, option_map, unwrap_or, min, pos};
-ghost use Rattle.psy_kernel.specs.Meaning.{IsAdmitted, below, date_of, next_value, value_after, cost_of, finish_of, slack_of, least, lesser};
+ghost use Rattle.psy_kernel.specs.Meaning.{InRange, IsFeasible, below, date_of, next_value, value_after, cost_of, finish_of, slack_of, least, lesser};
 ghost use Rattle.psy_kernel.specs.Standing.{stage_of, value_of, count_of, least_slack_of};
 
 use crate::first::First;
@@ -101,7 +101,8 @@ fn slack_at(first: &First, n: u64, date: u64, finish: u64, so_far: Option<u64>) 
 impl Kernel {
     /// A kernel before date 0. It takes no memory.
     pub fn boot(first: First) -> Kernel
-        requires { IsAdmitted first }
+        requires range { InRange first }
+        requires feasible { IsFeasible first }
         ensures { result ≡ record { first = first; dates = 0; cycles = 0 } }
     {
         Kernel {
