@@ -15,7 +15,8 @@ use Rattle.psy_tree.specs.Tokens.{Piece, Separator, Lexeme, bytes_of, Stands}
 use Rattle.psy_tree.specs.Faults.{Fault, BadByte, LongName, BigLiteral, OpenComment, IsAtFault, BeginsNothing}
 use Rattle.psy_token.specs.Reading.{Front, End, Whole, Faulty, front_of, word_front, number_front, block_front, line_front, sign_front, mark_front, kind_by, reserved, number_len, number_of_len, goes_on, close_len, block_by, sign_by, sign_at}
 use Rattle.psy_token.proofs.Runs.{longest, IsLongest}
-use Rattle.psy_token.proofs.Bytes.{in_word-begins, in_word-none, or_second, goes_on-none}
+use Rattle.psy_token.proofs.Bytes.{in_word-begins, in_word-none, goes_on-none}
+use Rattle.psy_token.proofs.Booleans.{or_second}
 use Rattle.psy_token.proofs.Comments.{Closes, close_len-some, close_len-none}
 use Rattle.psy_token.proofs.Spellings.{reserved-some, reserved-none, sign_at-some, sign_at-none, sign_at-longest, starts_with-true, starts_with-front, first_sign, first_sign-spelling}
 
