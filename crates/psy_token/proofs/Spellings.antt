@@ -1,5 +1,5 @@
 -- The reserved words and the signs: each is found by its spelling, and a longer sign before a shorter one.
-use Rattle.std.proofs.Common.{◌≡◌, ◌≢◌, ℕ, zero, suc, ◌+◌, ◌<◌, ◌≤◌, List, [], ◌∷◌, ◌++◌, length, take, drop, refl, ap, sym, subst, ◌∙◌, Bool, true, false, cond, ◌&&◌, Option, Some, None, arith}
+use Rattle.std.proofs.Common.{◌≡◌, ◌≢◌, ℕ, zero, suc, ◌≤◌, List, [], ◌∷◌, ◌++◌, length, take, drop, refl, ap, sym, subst, ◌∙◌, Bool, true, false, cond, ◌&&◌, Option, Some, None, arith}
 use Rattle.std.specs.Prelude.{find, bytes_eq, nat_eq, nat_le, slice_get}
 use Rattle.std.specs.List.{starts_with, list_all}
 use Rattle.std.proofs.lemmas.List.{take-append-drop, take_at}
