@@ -182,7 +182,7 @@ sign_whole sign rest longest =
     ap (λ f. sign_by f (sign_spelling sign ++ rest)) (sign_at-spelling sign rest longest)
     ∙ ap (λ p. Whole (Lexeme (kinds.Sign sign) p)) (take_at (sign_spelling sign) rest (length (sign_spelling sign)) refl)
 
-head_of : (sign : Sign) → (b : ℕ) × (more : List ℕ) × (sign_spelling sign ≡ b ∷ more)
+pub head_of : (sign : Sign) → (b : ℕ) × (more : List ℕ) × (sign_spelling sign ≡ b ∷ more)
 head_of Semicolon = (_, _, refl)
 head_of OpenBrace = (_, _, refl)
 head_of CloseBrace = (_, _, refl)

@@ -1,4 +1,4 @@
-use Rattle.std.proofs.Common.{ℕ, ◌-◌, length}
+use Rattle.std.proofs.Common.{◌-◌, length}
 use Rattle.psy_token.proofs.Texts.{State}
 use Rattle.psy_token.proofs.pass.lex.Given as goal
 
