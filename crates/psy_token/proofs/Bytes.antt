@@ -1,25 +1,10 @@
 -- The sorts of bytes, beside one another.
-use Rattle.std.proofs.Common.{◌≡◌, ℕ, List, [], ◌∷◌, refl, ap, Bool, true, false, ◌||◌, arith}
+use Rattle.std.proofs.Common.{◌≡◌, ℕ, List, [], ◌∷◌, refl, true, false, arith}
 use Rattle.std.specs.Char.{is_ascii_digit}
 use Rattle.std.proofs.lemmas.Bool.Decides.{nat_tests}
 use Rattle.psy_tree.specs.Lexemes.{is_blank, begins_word, is_in_word, EndsBefore}
+use Rattle.psy_token.proofs.Booleans.{or_left, or_right, or_none, or_of}
 use Rattle.psy_token.specs.Reading.{goes_on}
-
-or_left : (a b : Bool) → a ≡ true → a || b ≡ true
-or_left true b is = refl
-or_left false b is = cc
-
-or_right : (a b : Bool) → b ≡ true → a || b ≡ true
-or_right true b is = refl
-or_right false b is = is
-
-or_none : (a b : Bool) → a || b ≡ false → (a ≡ false) × (b ≡ false)
-or_none true b is = cc
-or_none false b is = (refl, is)
-
-pub or_second : (a b : Bool) → a || b ≡ true → a ≡ false → b ≡ true
-or_second true b is first = cc
-or_second false b is first = is
 
 pub in_word-begins : (b : ℕ) → begins_word b ≡ true → is_in_word b ≡ true
 in_word-begins b is = or_left (begins_word b) (is_ascii_digit b) is
@@ -29,10 +14,6 @@ in_word-digit b is = or_right (begins_word b) (is_ascii_digit b) is
 
 pub in_word-neither : (b : ℕ) → is_in_word b ≡ false → (begins_word b ≡ false) × (is_ascii_digit b ≡ false)
 in_word-neither b is = or_none (begins_word b) (is_ascii_digit b) is
-
-or_of : (a b : Bool) → a ≡ false → b ≡ false → a || b ≡ false
-or_of true b first second = cc
-or_of false b first second = second
 
 pub in_word-none : (b : ℕ) → begins_word b ≡ false → is_ascii_digit b ≡ false → is_in_word b ≡ false
 in_word-none b first second = or_of (begins_word b) (is_ascii_digit b) first second

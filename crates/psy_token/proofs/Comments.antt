@@ -1,11 +1,11 @@
 -- The end of a block comment.
-use Rattle.std.proofs.Common.{◌≡◌, ◌≢◌, ℕ, zero, suc, ◌+◌, ◌<◌, ◌==◌, List, [], ◌∷◌, ◌++◌, length, take, drop, get_or, refl, ap, sym, subst, ◌∙◌, Bool, true, false, cond, ◌&&◌, ◌⊎◌, inl, inr, Option, Some, None, arith, codes}
+use Rattle.std.proofs.Common.{◌≡◌, ℕ, suc, ◌+◌, ◌<◌, ◌==◌, List, [], ◌∷◌, ◌++◌, length, drop, get_or, refl, ap, sym, ◌∙◌, Bool, true, false, cond, ◌&&◌, ◌⊎◌, inl, inr, Option, Some, None, arith, codes}
 use Rattle.std.specs.Prelude.{option_map}
 use Rattle.std.proofs.lemmas.List.{at_drop_more}
-use Rattle.std.proofs.lemmas.Bool.{eq-eqb, eqb-true}
-use Rattle.std.proofs.lemmas.Bool.Decides.{nat_tests}
+use Rattle.std.proofs.lemmas.Bool.{eqb-true}
 use Rattle.psy_tree.specs.Lexemes.{HasClose}
 use Rattle.psy_token.specs.Reading.{close_len, next_is}
+use Rattle.psy_token.proofs.Booleans.{and_left, and_right}
 
 shift_more : (at : ℕ) (found : Option ℕ) → option_map (λ n. n + at) (option_map (λ n. n + 1) found) ≡ option_map (λ n. n + (at + 1)) found
 shift_more at None = refl
@@ -17,22 +17,6 @@ close_len-passed bytes at within none so_far =
     let e : close_len (drop at bytes) ≡ option_map (λ n. n + 1) (close_len (drop (at + 1) bytes)) =
     at_drop_more close_len bytes at 0 within ∙ ap (λ t. cond t (Some 2) (option_map (λ n. n + 1) (close_len (drop (at + 1) bytes)))) none
     in so_far ∙ ap (option_map (λ n. n + at)) e ∙ shift_more at (close_len (drop (at + 1) bytes))
-
--- a test of two parts, the second or the first of which fails
-pub and-false : (a b : Bool) → b ≡ false → a && b ≡ false
-and-false true b is = is
-and-false false b is = refl
-
-pub first-false : (x y : ℕ) (b : Bool) → (x ≡ y → ⊥) → (x == y) && b ≡ false
-first-false x y b differ = grind (arith, nat_tests)
-
-and_left : (a b : Bool) → a && b ≡ true → a ≡ true
-and_left true b is = refl
-and_left false b is = cc
-
-and_right : (a b : Bool) → a && b ≡ true → b ≡ true
-and_right true b is = is
-and_right false b is = cc
 
 -- `*/` begins here
 abbrev closes : ℕ → List ℕ → Bool

@@ -1,20 +1,19 @@
 -- What the text has is the front: there is one piece or fault at most.
-use Rattle.std.proofs.Common.{◌≡◌, ◌≢◌, ℕ, zero, suc, ◌+◌, ◌<◌, ◌≤◌, ◌==◌, List, [], ◌∷◌, ◌++◌, length, take, drop, refl, ap, sym, subst, ◌∙◌, Bool, true, false, cond, ◌⊎◌, inl, inr, Option, Some, None, arith, codes}
-use Rattle.std.specs.Prelude.{nat_le, nat_eq, IsTrue}
+use Rattle.std.proofs.Common.{◌≡◌, ℕ, suc, ◌+◌, ◌<◌, ◌≤◌, ◌==◌, List, [], ◌∷◌, ◌++◌, length, take, drop, refl, ap, sym, subst, ◌∙◌, Bool, true, false, cond, ◌⊎◌, inl, inr, Option, Some, None, arith, codes}
+use Rattle.std.specs.Prelude.{nat_le, nat_eq}
 use Rattle.std.specs.List.{prefix_len, starts_with}
 use Rattle.std.specs.Char.{is_ascii_digit}
 use Rattle.std.proofs.lemmas.Bool.{cond-true, cond-false, le-leb, lt-leb, eqb-true}
-use Rattle.std.proofs.lemmas.List.{take_at, drop_at, length-append, append_assoc}
+use Rattle.std.proofs.lemmas.List.{take_at, drop_at, length-append}
 use Rattle.psy_base.specs.declared.limits.TheConstants.{WORD_BYTES, LITERAL}
 use Rattle.psy_tree.specs.declared.token.Kind.{Kind}
 use Rattle.psy_tree.specs.declared.token.Kind.TheVariants as kinds
-use Rattle.psy_tree.specs.declared.token.Word.{Word}
 use Rattle.psy_tree.specs.declared.token.Sign.{Sign}
 use Rattle.psy_tree.specs.declared.token.Sign.TheVariants.{Semicolon, OpenBrace, CloseBrace, OpenRound, CloseRound, OpenSquare, CloseSquare, Comma, Assign, Plus, Minus, Star, Slash, Percent, ShiftLeft, ShiftRight, Less, LessEqual, Greater, GreaterEqual, Equal, NotEqual, Amp, Caret, Bar, AmpAmp, BarBar, Tilde, Bang}
-use Rattle.psy_tree.specs.Lexemes.{is_blank, begins_word, is_in_word, is_in_line, Each, EndsBefore, IsWord, IsNumber, decimal_value, word_spelling, sign_spelling, OpensComment, HasClose, Spells, EndsToken, IsLongestSign, IsBlank, IsBlockComment, IsLineComment}
+use Rattle.psy_tree.specs.Lexemes.{is_blank, begins_word, is_in_word, is_in_line, Each, EndsBefore, IsWord, IsNumber, decimal_value, word_spelling, sign_spelling, OpensComment, HasClose, IsLongestSign}
 use Rattle.psy_tree.specs.Tokens.{Piece, Separator, Lexeme, bytes_of, Stands}
 use Rattle.psy_tree.specs.Faults.{Fault, BadByte, LongName, BigLiteral, OpenComment, IsAtFault, BeginsNothing, MayNotFollow}
-use Rattle.psy_token.specs.Reading.{Front, End, Whole, Faulty, front_of, word_front, number_front, block_front, line_front, sign_front, mark_front, kind_by, word_kind, reserved, number_len, number_of_len, goes_on, close_len, block_by, sign_by, sign_at}
+use Rattle.psy_token.specs.Reading.{Whole, Faulty, front_of, word_front, number_front, block_front, line_front, sign_front, mark_front, kind_by, word_kind, number_len, number_of_len, goes_on, block_by, sign_by, sign_at}
 use Rattle.psy_token.proofs.Runs.{prefix_len-run}
 use Rattle.psy_token.proofs.Bytes.{in_word-begins, in_word-digit, in_word-neither, begins-not_blank, digit-not_blank, digit-not_begins, goes_on-ends, EndsBefore-digits}
 use Rattle.psy_token.proofs.Comments.{close_len-closes, close_len-open}
@@ -183,7 +182,7 @@ sign_whole sign rest longest =
     ap (λ f. sign_by f (sign_spelling sign ++ rest)) (sign_at-spelling sign rest longest)
     ∙ ap (λ p. Whole (Lexeme (kinds.Sign sign) p)) (take_at (sign_spelling sign) rest (length (sign_spelling sign)) refl)
 
-head_of : (sign : Sign) → (b : ℕ) × (more : List ℕ) × (sign_spelling sign ≡ b ∷ more)
+pub head_of : (sign : Sign) → (b : ℕ) × (more : List ℕ) × (sign_spelling sign ≡ b ∷ more)
 head_of Semicolon = (_, _, refl)
 head_of OpenBrace = (_, _, refl)
 head_of CloseBrace = (_, _, refl)

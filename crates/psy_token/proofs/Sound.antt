@@ -1,6 +1,6 @@
 -- What the front is, the text has.
-use Rattle.std.proofs.Common.{◌≡◌, ◌≢◌, ℕ, zero, suc, ◌+◌, ◌<◌, ◌≤◌, ◌==◌, List, [], ◌∷◌, ◌++◌, length, take, drop, refl, ap, sym, subst, ◌∙◌, Bool, true, false, cond, ◌⊎◌, inl, inr, Option, Some, None, arith, codes}
-use Rattle.std.specs.Prelude.{nat_le, nat_eq, IsTrue}
+use Rattle.std.proofs.Common.{◌≡◌, ℕ, suc, ◌+◌, ◌<◌, ◌≤◌, ◌==◌, List, [], ◌∷◌, ◌++◌, length, take, drop, refl, ap, sym, subst, ◌∙◌, Bool, true, false, cond, ◌⊎◌, inl, inr, Option, Some, None, arith, codes}
+use Rattle.std.specs.Prelude.{nat_le, nat_eq}
 use Rattle.std.specs.List.{prefix_len, starts_with}
 use Rattle.std.specs.Char.{is_ascii_digit}
 use Rattle.std.proofs.lemmas.Bool.{leb-true, leb-false, eqb-true}
@@ -10,12 +10,13 @@ use Rattle.psy_base.specs.declared.limits.TheConstants.{WORD_BYTES, LITERAL}
 use Rattle.psy_tree.specs.declared.token.Kind.TheVariants as kinds
 use Rattle.psy_tree.specs.declared.token.Word.{Word}
 use Rattle.psy_tree.specs.declared.token.Sign.{Sign}
-use Rattle.psy_tree.specs.Lexemes.{is_blank, begins_word, is_in_word, is_in_line, Each, EndsBefore, IsWord, IsNumber, decimal_value, word_spelling, sign_spelling, OpensComment, HasClose}
-use Rattle.psy_tree.specs.Tokens.{Piece, Separator, Lexeme, bytes_of, Stands}
-use Rattle.psy_tree.specs.Faults.{Fault, BadByte, LongName, BigLiteral, OpenComment, IsAtFault, BeginsNothing}
+use Rattle.psy_tree.specs.Lexemes.{is_blank, begins_word, is_in_word, is_in_line, Each, EndsBefore, IsWord, IsNumber, decimal_value, sign_spelling, OpensComment}
+use Rattle.psy_tree.specs.Tokens.{Separator, Lexeme, bytes_of, Stands}
+use Rattle.psy_tree.specs.Faults.{BadByte, LongName, BigLiteral, IsAtFault}
 use Rattle.psy_token.specs.Reading.{Front, End, Whole, Faulty, front_of, word_front, number_front, block_front, line_front, sign_front, mark_front, kind_by, reserved, number_len, number_of_len, goes_on, close_len, block_by, sign_by, sign_at}
-use Rattle.psy_token.proofs.Runs.{longest, IsLongest}
-use Rattle.psy_token.proofs.Bytes.{in_word-begins, in_word-none, or_second, goes_on-none}
+use Rattle.psy_token.proofs.Runs.{longest}
+use Rattle.psy_token.proofs.Bytes.{in_word-begins, in_word-none, goes_on-none}
+use Rattle.psy_token.proofs.Booleans.{or_second}
 use Rattle.psy_token.proofs.Comments.{Closes, close_len-some, close_len-none}
 use Rattle.psy_token.proofs.Spellings.{reserved-some, reserved-none, sign_at-some, sign_at-none, sign_at-longest, starts_with-true, starts_with-front, first_sign, first_sign-spelling}
 

@@ -1,5 +1,5 @@
 -- The reserved words and the signs: each is found by its spelling, and a longer sign before a shorter one.
-use Rattle.std.proofs.Common.{◌≡◌, ◌≢◌, ℕ, zero, suc, ◌+◌, ◌<◌, ◌≤◌, List, [], ◌∷◌, ◌++◌, length, take, drop, refl, ap, sym, subst, ◌∙◌, Bool, true, false, cond, ◌&&◌, Option, Some, None, arith}
+use Rattle.std.proofs.Common.{◌≡◌, ◌≢◌, ℕ, zero, suc, ◌≤◌, List, [], ◌∷◌, ◌++◌, length, take, drop, refl, ap, sym, subst, ◌∙◌, Bool, true, false, cond, ◌&&◌, Option, Some, None, arith}
 use Rattle.std.specs.Prelude.{find, bytes_eq, nat_eq, nat_le, slice_get}
 use Rattle.std.specs.List.{starts_with, list_all}
 use Rattle.std.proofs.lemmas.List.{take-append-drop, take_at}
@@ -13,6 +13,7 @@ use Rattle.psy_tree.specs.declared.token.Sign.TheVariants.{Semicolon, OpenBrace,
 use Rattle.psy_tree.specs.Lexemes.{word_spelling, sign_spelling, IsLongestSign, IsWord, Each, begins_word, is_in_word}
 use Rattle.psy_token.specs.declared.spelling.TheConstants.{WORDS, SIGNS}
 use Rattle.psy_token.specs.Reading.{reserved, sign_at}
+use Rattle.psy_token.proofs.Booleans.{and_left, and_right}
 
 passes_by : {X : Type 0} (test : X → Bool) (y : X) (ys : List X) (x : X) → (find test ys ≡ Some x → test x ≡ true) → (t : Bool) → test y ≡ t → cond t (Some y) (find test ys) ≡ Some x → test x ≡ true
 passes_by test y ys x later true passes found = let e : y ≡ x = cc in subst (λ z. test z ≡ true) e passes
@@ -259,14 +260,6 @@ falls (s ∷ signs) = list_all (no_longer s) signs && falls signs
 SIGNS-fall : falls SIGNS ≡ true
 unfolding falls no_longer
 SIGNS-fall = refl
-
-and_left : (a b : Bool) → a && b ≡ true → a ≡ true
-and_left true b is = refl
-and_left false b is = cc
-
-and_right : (a b : Bool) → a && b ≡ true → b ≡ true
-and_right true b is = is
-and_right false b is = cc
 
 list_all-get : (test : Sign → Bool) (signs : List Sign) (i : ℕ) (t : Sign) → list_all test signs ≡ true → slice_get signs i ≡ Some t → test t ≡ true
 list_all-get test [] i t each is = cc

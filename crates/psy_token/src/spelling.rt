@@ -151,7 +151,7 @@ pub fn reserved(word: &[u8]) -> Option<Word>
     WORDS
         .iter()
         .copied()
-        .find(|reserved| word_spelling(*reserved) == word)
+        .find(|candidate| word_spelling(*candidate) == word)
 }
 
 /// The longest sign with which the bytes begin.

@@ -311,3 +311,11 @@ fn the_first_fault_is_answered(rt: HostRuntime) {
         assert_eq!(rt; fault_of(rt.alloc(), text), *want, "case {i}");
     }
 }
+
+#[test]
+fn the_longest_text_is_read(rt: HostRuntime) -> Result<(), Fail> {
+    let text = vec![in rt.alloc(); b';'; FILE_BYTES]?;
+    let tokens = lex(rt.alloc(), text.as_slice())?;
+    assert_eq!(rt; tokens.len(), FILE_BYTES);
+    Ok(())
+}

@@ -1,5 +1,5 @@
 -- The first fault of a text that isn't blanks, comments and tokens in a row.
-use Rattle.std.specs.Prelude.{◌≡◌, ◌≢◌, ℕ, ◌+◌, ◌<◌, ◌≤◌, IsTrue, IsFalse, List, [], ◌∷◌, ◌++◌, length, codes, ◌⊎◌}
+use Rattle.std.specs.Prelude.{◌≡◌, ◌≢◌, ℕ, ◌+◌, ◌<◌, ◌≤◌, IsTrue, IsFalse, List, ◌∷◌, ◌++◌, length, codes, ◌⊎◌}
 use Rattle.std.specs.Char.{is_ascii_digit}
 use Rattle.psy_base.specs.declared.limits.TheConstants.{WORD_BYTES, LITERAL}
 use Rattle.psy_tree.specs.declared.token.Sign.{Sign}

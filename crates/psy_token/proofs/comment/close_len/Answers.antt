@@ -1,7 +1,8 @@
 use Rattle.std.proofs.Common.{ap, sym, ◌∙◌, ◌+◌}
 use Rattle.std.proofs.lemmas.List.{take_rest}
 use Rattle.psy_token.specs.Reading.{next_is}
-use Rattle.psy_token.proofs.Comments.{close_len-passed, and-false, first-false}
+use Rattle.psy_token.proofs.Comments.{close_len-passed}
+use Rattle.psy_token.proofs.Booleans.{and-false, first-false}
 use Rattle.psy_token.proofs.comment.close_len.Goals as goal
 use Rattle.psy_token.proofs.comment.close_len.Goals.{else-inside-at-eq42-via-then-inside-at-eq42+else-next_is, else-inside-at-eq42-via-else-inside-at-eq42}
 

@@ -1,5 +1,4 @@
-use Rattle.std.proofs.Common.{◌≡◌, ◌<◌, ◌≤◌, ◌+◌, ◌-◌, ◌*◌, ◌^◌, arith, ap, ◌∙◌, drop, length, get_or}
-use Rattle.psy_base.specs.declared.limits.TheConstants.{LITERAL}
+use Rattle.std.proofs.Common.{◌+◌, ◌-◌, ◌*◌, ◌^◌, arith, ap, ◌∙◌, drop, length, get_or}
 use Rattle.psy_tree.specs.Lexemes.{decimal_value}
 use Rattle.psy_token.proofs.Decimal.{decimal_value-more, decimal_value-front}
 use Rattle.psy_token.proofs.number.decimal_value.Goals as goal

@@ -1,10 +1,8 @@
-use Rattle.std.proofs.Common.{◌≡◌, ℕ, ◌+◌, ◌≤◌, ◌∙◌, List, [], drop, take, length, ap, sym, subst, arith}
-use Rattle.std.specs.Prelude.{IfErr, Ok}
+use Rattle.std.proofs.Common.{◌≡◌, ◌+◌, ◌≤◌, drop, take, length, sym, subst}
+use Rattle.std.specs.Prelude.{Ok}
 use Rattle.std.proofs.lemmas.List.{take_rest}
 use Rattle.std.proofs.lemmas.Result.{err_from_is_err_and, IfOk-from_err}
-use Rattle.psy_tree.specs.declared.token.Token.{Token}
-use Rattle.psy_tree.specs.Tokens.{TokensOf, Splits}
-use Rattle.psy_token.specs.Answer.{IsFirstFault}
+use Rattle.psy_tree.specs.Tokens.{TokensOf}
 use Rattle.psy_token.specs.Reading.{Whole, FaultGives, front_of, piece_by}
 use Rattle.psy_token.proofs.Texts.{State, State-more, State-end, IsFirstFault-met, gives_tokens, gives_fault}
 use Rattle.psy_token.proofs.pass.lex.Goals as goal
