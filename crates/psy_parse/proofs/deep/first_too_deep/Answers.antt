@@ -8,8 +8,8 @@ loop-number-preserved c =
     let tokens = c.args.tokens.now in
     let i = c.loop-number.number in
     let more = front_more tokens i c.index-tokens-number.result c.loop-number-test.true c.index-tokens-number.is in
-    let depth : depth_of (front tokens (i + 1)) ≡ c.depth_after-depth.result = rw more (c.depth_after-depth.ensures.depth _ c.loop-number.invariant.depth) in
-    let run : run_of (front tokens (i + 1)) ≡ c.run_after-run.result = rw more (c.run_after-run.ensures.run _ c.loop-number.invariant.run) in
+    let depth : depth_of (front tokens (i + 1)) ≡ c.depth_after-depth.result = rw more (c.depth_after-depth.ensures.depth (front tokens i) c.loop-number.invariant.depth) in
+    let run : run_of (front tokens (i + 1)) ≡ c.run_after-run.result = rw more (c.run_after-run.ensures.run (front tokens i) c.loop-number.invariant.run) in
     record {
       depth = depth;
       run = run;
