@@ -10,7 +10,7 @@ use Rattle.psy_tree.specs.declared.raw.Init.{Init}
 use Rattle.psy_tree.specs.declared.raw.Raw.{Raw}
 use Rattle.psy_tree.specs.declared.raw.Local.{Local}
 use Rattle.psy_tree.specs.declared.raw.Item.{Item}
-use Rattle.psy_tree.specs.Grammar.{Numbered, numbered, named, numeral, word, sign, Start, Variable, Declared, Many, Further, Params, Parent, Shift, Declaration, Program, Spells}
+use Rattle.psy_tree.specs.Grammar.{Numbered, numbered, named, numeral, word, sign, Start, FunctionLocal, AgentLocal, Many, Further, Params, Parent, Shift, Declaration, Program, Spells}
 use Rattle.psy_tree.specs.Grammar as grammar
 use Rattle.psy_parse.specs.Reading.{◌>>=◌, name_at, number_at, after_number, after_word, after_sign, word_at, sign_at, start_at, array_at, scalar_at, local_at, locals_at, param_at, further_at, params_at, parent_at, shift_at, clock_at, temporal_at, input_at, stream_at, function_at, agent_at, declaration_at, program_at, is_end, quantum_at, text_at}
 use Rattle.psy_parse.proofs.Numbers.{length_of_numbered}
@@ -29,21 +29,21 @@ start_again grammar.Start.negated = refl
 
 -- a function's local, or an agent's
 abbrev OneLocal : Bool → List Numbered → Local → List Numbered → Type 0
-OneLocal false = Variable
-OneLocal true = Declared
+OneLocal false = FunctionLocal
+OneLocal true = AgentLocal
 
 -- a local behind its first word is read again
 data LocalAgain (arrays : Bool) : List Numbered → Local → List Numbered → Type 0 where
   again : {n : ℕ} {x : Local} {ts rest : List Numbered} → length rest < length ts → local_at arrays ts ≡ Ok (x, rest) → LocalAgain arrays (word n words.Int ∷ ts) x rest
 
-variable_again : {ts rest : List Numbered} {x : Local} → Variable ts x rest → LocalAgain false ts x rest
+variable_again : {ts rest : List Numbered} {x : Local} → FunctionLocal ts x rest → LocalAgain false ts x rest
 unfolding local_at scalar_at name_at sign_at after_sign
-variable_again (grammar.Variable.scalar h) = again (omega (arith, shorter_start h)) (rw (start_again h) refl)
+variable_again (grammar.FunctionLocal.scalar h) = again (omega (arith, shorter_start h)) (rw (start_again h) refl)
 
-declared_again : {ts rest : List Numbered} {x : Local} → Declared ts x rest → LocalAgain true ts x rest
+declared_again : {ts rest : List Numbered} {x : Local} → AgentLocal ts x rest → LocalAgain true ts x rest
 unfolding local_at scalar_at array_at name_at number_at after_number sign_at after_sign
-declared_again (grammar.Declared.variable (grammar.Variable.scalar h)) = again (omega (arith, shorter_start h)) (rw (start_again h) refl)
-declared_again grammar.Declared.array = again (omega arith) refl
+declared_again (grammar.AgentLocal.variable (grammar.FunctionLocal.scalar h)) = again (omega (arith, shorter_start h)) (rw (start_again h) refl)
+declared_again grammar.AgentLocal.array = again (omega arith) refl
 
 local_again : (arrays : Bool) {ts rest : List Numbered} {x : Local} → OneLocal arrays ts x rest → LocalAgain arrays ts x rest
 local_again false h = variable_again h

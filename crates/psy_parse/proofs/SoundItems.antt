@@ -9,7 +9,7 @@ use Rattle.psy_tree.specs.declared.raw.Lit.{Lit}
 use Rattle.psy_tree.specs.declared.raw.Local.{Local}
 use Rattle.psy_tree.specs.declared.raw.Raw.{Raw}
 use Rattle.psy_tree.specs.declared.raw.Item.{Item}
-use Rattle.psy_tree.specs.Grammar.{Numbered, numbered, named, numeral, word, sign, Start, Variable, Declared, Many, Further, Params, Parent, Shift, Declaration, Program, Spells}
+use Rattle.psy_tree.specs.Grammar.{Numbered, numbered, named, numeral, word, sign, Start, FunctionLocal, AgentLocal, Many, Further, Params, Parent, Shift, Declaration, Program, Spells}
 use Rattle.psy_tree.specs.Grammar as grammar
 use Rattle.psy_parse.specs.Reading.{◌>>=◌, name_at, start_at, array_at, scalar_at, local_at, locals_at, param_at, further_at, params_at, parent_at, shift_at, clock_at, temporal_at, input_at, stream_at, function_at, agent_at, declaration_at, program_at, is_end, quantum_at, text_at}
 use Rattle.psy_parse.proofs.Sound.{Sound, done, failed, SoundEnd, done_end, failed_end, sound_end_ok, end_bind, end_map, end_then, Behind, behind, nothing_behind, one_behind, sound_bind, sound_map, given_sign, given_word, sound_sign, sound_word, sound_number, sound_name}
@@ -21,23 +21,23 @@ start_sound ts =
     given_sign _ _ _ _ (λ n us a. sound_number _ _ (λ k vs b. done (rw (a, b) grammar.Start.negated)))
     (sound_number _ _ (λ k vs b. done (rw b grammar.Start.plain)))
 
-scalar_sound : (n : ℕ) (x : Name) (ts : List Numbered) → Sound (Variable (word n words.Int ∷ named x ∷ ts)) (scalar_at x ts)
+scalar_sound : (n : ℕ) (x : Name) (ts : List Numbered) → Sound (FunctionLocal (word n words.Int ∷ named x ∷ ts)) (scalar_at x ts)
 unfolding scalar_at
-scalar_sound n x ts = sound_sign _ _ _ (λ _ us a. sound_bind _ _ (start_sound us) (λ i vs h. sound_sign _ _ _ (λ _ ws b. done (rw a (grammar.Variable.scalar (rw b at h))))))
+scalar_sound n x ts = sound_sign _ _ _ (λ _ us a. sound_bind _ _ (start_sound us) (λ i vs h. sound_sign _ _ _ (λ _ ws b. done (rw a (grammar.FunctionLocal.scalar (rw b at h))))))
 
-array_sound : (n m : ℕ) (x : Name) (ts : List Numbered) → Sound (Declared (word n words.Int ∷ named x ∷ sign m signs.OpenSquare ∷ ts)) (array_at x ts)
+array_sound : (n m : ℕ) (x : Name) (ts : List Numbered) → Sound (AgentLocal (word n words.Int ∷ named x ∷ sign m signs.OpenSquare ∷ ts)) (array_at x ts)
 unfolding array_at
-array_sound n m x ts = sound_number _ _ (λ k us a. sound_sign _ _ _ (λ _ vs b. sound_sign _ _ _ (λ _ ws c. done (rw (a, b, c) grammar.Declared.array))))
+array_sound n m x ts = sound_number _ _ (λ k us a. sound_sign _ _ _ (λ _ vs b. sound_sign _ _ _ (λ _ ws c. done (rw (a, b, c) grammar.AgentLocal.array))))
 
 -- a function's local, or an agent's
 abbrev OneLocal : Bool → List Numbered → Local → List Numbered → Type 0
-OneLocal false = Variable
-OneLocal true = Declared
+OneLocal false = FunctionLocal
+OneLocal true = AgentLocal
 
 local_sound : (arrays : Bool) (n : ℕ) (ts : List Numbered) → Sound (OneLocal arrays (word n words.Int ∷ ts)) (local_at arrays ts)
 unfolding local_at
 local_sound false n ts = sound_name _ _ (λ x us a. rw a (scalar_sound n x us))
-local_sound true n ts = sound_name _ _ (λ x us a. rw a (given_sign _ _ _ _ (λ m vs b. rw b (array_sound n m x vs)) (sound_map (λ l rest h. grammar.Declared.variable h) (scalar_sound n x us))))
+local_sound true n ts = sound_name _ _ (λ x us a. rw a (given_sign _ _ _ _ (λ m vs b. rw b (array_sound n m x vs)) (sound_map (λ l rest h. grammar.AgentLocal.variable h) (scalar_sound n x us))))
 
 locals_sound : (arrays : Bool) (n : ℕ) (front : List Local) (ts : List Numbered) → Sound (Behind (Many (OneLocal arrays)) front ts) (locals_at arrays n front ts)
 unfolding locals_at

@@ -8,6 +8,7 @@ use Rattle.psy_arith.specs.declared.Op2.TheVariants as operators
 use Rattle.psy_tree.specs.declared.token.Token.{Token}
 use Rattle.psy_tree.specs.declared.token.Kind.{Kind}
 use Rattle.psy_tree.specs.declared.token.Kind.TheVariants as kinds
+use Rattle.psy_tree.specs.declared.token.Word.{Word}
 use Rattle.psy_tree.specs.declared.token.Word.TheVariants as words
 use Rattle.psy_tree.specs.declared.token.Sign.{Sign}
 use Rattle.psy_tree.specs.declared.token.Sign.TheVariants as signs
@@ -41,7 +42,7 @@ abbrev pub numeral : Lit → Numbered
 numeral k = (k.token, kinds.Number k.value)
 
 -- a reserved word, and a sign
-abbrev pub word : ℕ → words.the_data → Numbered
+abbrev pub word : ℕ → Word → Numbered
 word n w = (n, kinds.Word w)
 
 abbrev pub sign : ℕ → Sign → Numbered
@@ -118,6 +119,7 @@ mutual
       → Others (sign n signs.Comma ∷ ts) (e ∷ others) rest
 
 mutual
+  -- a statement
   pub data Stmt : List Numbered → RawStmt → List Numbered → Type 0 where
     set : {x : Name} {e : RawExpr} {a b : ℕ} {ts rest : List Numbered}
       → Expr 10 ts e (sign b signs.Semicolon ∷ rest)
@@ -161,17 +163,19 @@ pub data Start : List Numbered → Init → List Numbered → Type 0 where
   plain : {k : Lit} {rest : List Numbered} → Start (numeral k ∷ rest) (record { minus = false; value = k }) rest
   negated : {k : Lit} {n : ℕ} {rest : List Numbered} → Start (sign n signs.Minus ∷ numeral k ∷ rest) (record { minus = true; value = k }) rest
 
-pub data Variable : List Numbered → Local → List Numbered → Type 0 where
+-- the local of a function: a variable with its first value
+pub data FunctionLocal : List Numbered → Local → List Numbered → Type 0 where
   scalar : {x : Name} {init : Init} {n a b : ℕ} {ts rest : List Numbered}
     → Start ts init (sign b signs.Semicolon ∷ rest)
-    → Variable (word n words.Int ∷ named x ∷ sign a signs.Assign ∷ ts) (Scalar x init) rest
+    → FunctionLocal (word n words.Int ∷ named x ∷ sign a signs.Assign ∷ ts) (Scalar x init) rest
 
-pub data Declared : List Numbered → Local → List Numbered → Type 0 where
-  variable : {x : Local} {ts rest : List Numbered} → Variable ts x rest → Declared ts x rest
+-- the local of an agent: a variable, or an array with its number of cells
+pub data AgentLocal : List Numbered → Local → List Numbered → Type 0 where
+  variable : {x : Local} {ts rest : List Numbered} → FunctionLocal ts x rest → AgentLocal ts x rest
   array : {x : Name} {cells : Lit} {n a b c : ℕ} {rest : List Numbered}
-    → Declared (word n words.Int ∷ named x ∷ sign a signs.OpenSquare ∷ numeral cells ∷ sign b signs.CloseSquare ∷ sign c signs.Semicolon ∷ rest) (Array x cells) rest
+    → AgentLocal (word n words.Int ∷ named x ∷ sign a signs.OpenSquare ∷ numeral cells ∷ sign b signs.CloseSquare ∷ sign c signs.Semicolon ∷ rest) (Array x cells) rest
 
--- none or more, one after another
+-- none or more locals, one after another
 pub data Many (One : List Numbered → Local → List Numbered → Type 0) : List Numbered → List Local → List Numbered → Type 0 where
   none : {rest : List Numbered} → Many One rest [] rest
   more : {first : Local} {others : List Local} {ts us rest : List Numbered}
@@ -192,7 +196,7 @@ pub data Params : List Numbered → List Name → List Numbered → Type 0 where
     → Further ts others rest
     → Params (word n words.Int ∷ named x ∷ ts) (x ∷ others) rest
 
--- the clock that another is counted on
+-- what a clock counts: ticks, or the dates of another clock
 pub data Parent : List Numbered → Option Name → List Numbered → Type 0 where
   the_tick : {n : ℕ} {rest : List Numbered} → Parent (word n words.Tick ∷ rest) None rest
   a_clock : {x : Name} {rest : List Numbered} → Parent (named x ∷ rest) (Some x) rest
@@ -202,6 +206,7 @@ pub data Shift : List Numbered → Option Lit → List Numbered → Type 0 where
   without : {n : ℕ} {rest : List Numbered} → Shift (sign n signs.Semicolon ∷ rest) None rest
   shifted : {k : Lit} {a b : ℕ} {rest : List Numbered} → Shift (sign a signs.Plus ∷ numeral k ∷ sign b signs.Semicolon ∷ rest) (Some k) rest
 
+-- a declaration
 pub data Declaration : List Numbered → Item → List Numbered → Type 0 where
   clock : {name : Name} {by : Lit} {parent : Option Name} {shift : Option Lit} {n a b : ℕ} {ts us rest : List Numbered}
     → Parent ts parent us → Shift us shift rest
@@ -215,10 +220,10 @@ pub data Declaration : List Numbered → Item → List Numbered → Type 0 where
   stream : {name receiver clock : Name} {keep : Lit} {n a b c d : ℕ} {rest : List Numbered}
     → Declaration (word n words.Stream ∷ named name ∷ word a words.To ∷ named receiver ∷ word b words.Keep ∷ numeral keep ∷ word c words.On ∷ named clock ∷ sign d signs.Semicolon ∷ rest) (Stream name receiver keep clock) rest
   function : {name : Name} {params : List Name} {locals : List Local} {stmts : List RawStmt} {n a b : ℕ} {ts us vs rest : List Numbered}
-    → Params ts params (sign b signs.OpenBrace ∷ us) → Many Variable us locals vs → Block vs stmts rest
+    → Params ts params (sign b signs.OpenBrace ∷ us) → Many FunctionLocal us locals vs → Block vs stmts rest
     → Declaration (word n words.Int ∷ named name ∷ sign a signs.OpenRound ∷ ts) (Function name params locals stmts) rest
   agent : {name clock : Name} {budget : Lit} {locals : List Local} {stmts : List RawStmt} {n a b c body d e : ℕ} {ts us rest : List Numbered}
-    → Many Declared ts locals (word body words.Body ∷ sign d signs.OpenBrace ∷ us) → Block us stmts (sign e signs.CloseBrace ∷ rest)
+    → Many AgentLocal ts locals (word body words.Body ∷ sign d signs.OpenBrace ∷ us) → Block us stmts (sign e signs.CloseBrace ∷ rest)
     → Declaration (word n words.Agent ∷ named name ∷ word a words.On ∷ named clock ∷ word b words.Budget ∷ numeral budget ∷ sign c signs.OpenBrace ∷ ts) (Agent name clock budget locals body stmts) rest
 
 -- declarations up to the end of the text
