@@ -174,8 +174,8 @@ make : (n : ℕ) → ((j : ℕ) → j < n → Complete j) → Complete n
 make zero H = record { expr = λ level ts e rest h lt c. absurd (omega arith); others = λ ts es rest o lt front. absurd (omega arith) }
 make (suc n) H = record {
   expr = λ level ts e rest h lt c.
-    let s = spine n (λ j le. H j (omega arith)) level h level level (omega arith) (omega arith) (omega arith) c in
-    s.reads ∙ stops s.turns (length rest) level e rest s.enough c.operator;
+      let s = spine n (λ j le. H j (omega arith)) level h level level (omega arith) (omega arith) (omega arith) c in
+      s.reads ∙ stops s.turns (length rest) level e rest s.enough c.operator;
   others = λ ts es rest o lt front. others_again n (H n (omega arith)) o (omega arith) front;
 }
 

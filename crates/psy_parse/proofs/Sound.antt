@@ -55,7 +55,7 @@ sound_end_ok {A = A} {P = P} (done_end {x = y} p) x e = let same : y ≡ x = cc 
 sound_end_ok failed_end x e = absurd cc
 
 pub end_bind : {A B : Type 0} {P : A → Type 0} {R : B → List Numbered → Type 0} (r : Result (B × List Numbered) ℕ) (f : B × List Numbered → Result A ℕ)
-  → Sound R r → ((y : B) (us : List Numbered) → R y us → SoundEnd P (f (y, us))) → SoundEnd P (r >>= f)
+    → Sound R r → ((y : B) (us : List Numbered) → R y us → SoundEnd P (f (y, us))) → SoundEnd P (r >>= f)
 end_bind r f (done p) h = h _ _ p
 end_bind r f failed h = failed_end
 
@@ -70,7 +70,7 @@ end_map h failed_end = failed_end
 module _ {A : Type 0} where
   -- what follows a part that was read
   pub sound_bind : {B : Type 0} {P : A → List Numbered → Type 0} {R : B → List Numbered → Type 0} (r : Result (B × List Numbered) ℕ) (f : B × List Numbered → Result (A × List Numbered) ℕ)
-    → Sound R r → ((y : B) (us : List Numbered) → R y us → Sound P (f (y, us))) → Sound P (r >>= f)
+      → Sound R r → ((y : B) (us : List Numbered) → R y us → Sound P (f (y, us))) → Sound P (r >>= f)
   sound_bind r f (done p) h = h _ _ p
   sound_bind r f failed h = failed
 
@@ -80,12 +80,12 @@ module _ {A : Type 0} where
 
   -- what follows a test
   tested : {B : Type 0} {P : A → List Numbered → Type 0} (b : Bool) (x : B) (f : B → Result (A × List Numbered) ℕ) (other : Result (A × List Numbered) ℕ)
-    → (b ≡ true → Sound P (f x)) → Sound P other → Sound P (given (cond b (Some x) None) f other)
+      → (b ≡ true → Sound P (f x)) → Sound P other → Sound P (given (cond b (Some x) None) f other)
   tested true x f other h k = h refl
   tested false x f other h k = k
 
   pub given_sign : {P : A → List Numbered → Type 0} (s : Sign) (ts : List Numbered) (f : List Numbered → Result (A × List Numbered) ℕ) (other : Result (A × List Numbered) ℕ)
-    → ((n : ℕ) (us : List Numbered) → ts ≡ sign n s ∷ us → Sound P (f us)) → Sound P other → Sound P (given (after_sign s ts) f other)
+      → ((n : ℕ) (us : List Numbered) → ts ≡ sign n s ∷ us → Sound P (f us)) → Sound P other → Sound P (given (after_sign s ts) f other)
   unfolding after_sign
   given_sign s [] f other h k = k
   given_sign s ((n, kinds.Word w) ∷ ts) f other h k = k
@@ -95,7 +95,7 @@ module _ {A : Type 0} where
       tested (sameb sign_kind.the_type r s) ts f other (λ e. h n ts (ap (λ (x : Sign). sign n x ∷ ts) (same_true sign_kind.the_type (search rules) r s e))) k
 
   pub given_word : {P : A → List Numbered → Type 0} (w : Word) (ts : List Numbered) (f : ℕ × List Numbered → Result (A × List Numbered) ℕ) (other : Result (A × List Numbered) ℕ)
-    → ((n : ℕ) (us : List Numbered) → ts ≡ word n w ∷ us → Sound P (f (n, us))) → Sound P other → Sound P (given (after_word w ts) f other)
+      → ((n : ℕ) (us : List Numbered) → ts ≡ word n w ∷ us → Sound P (f (n, us))) → Sound P other → Sound P (given (after_word w ts) f other)
   unfolding after_word
   given_word w [] f other h k = k
   given_word w ((n, kinds.Sign s) ∷ ts) f other h k = k
@@ -105,7 +105,7 @@ module _ {A : Type 0} where
       tested (sameb word_kind.the_type r w) (n, ts) f other (λ e. h n ts (ap (λ (x : Word). word n x ∷ ts) (same_true word_kind.the_type (search rules) r w e))) k
 
   pub given_number : {P : A → List Numbered → Type 0} (ts : List Numbered) (f : Lit × List Numbered → Result (A × List Numbered) ℕ) (other : Result (A × List Numbered) ℕ)
-    → ((k : Lit) (us : List Numbered) → ts ≡ numeral k ∷ us → Sound P (f (k, us))) → Sound P other → Sound P (given (after_number ts) f other)
+      → ((k : Lit) (us : List Numbered) → ts ≡ numeral k ∷ us → Sound P (f (k, us))) → Sound P other → Sound P (given (after_number ts) f other)
   unfolding after_number
   given_number [] f other h k = k
   given_number ((n, kinds.Sign s) ∷ ts) f other h k = k
@@ -115,27 +115,27 @@ module _ {A : Type 0} where
 
   -- what is found, or else nothing is read
   or_not : {B : Type 0} {P : A → List Numbered → Type 0} (o : Option B) (ts : List Numbered) (f : B → Result (A × List Numbered) ℕ)
-    → Sound P (given o f (Err (length ts))) → Sound P (or_stuck ts o >>= f)
+      → Sound P (given o f (Err (length ts))) → Sound P (or_stuck ts o >>= f)
   or_not (Some x) ts f h = h
   or_not None ts f h = h
 
   pub sound_sign : {P : A → List Numbered → Type 0} (s : Sign) (ts : List Numbered) (f : List Numbered → Result (A × List Numbered) ℕ)
-    → ((n : ℕ) (us : List Numbered) → ts ≡ sign n s ∷ us → Sound P (f us)) → Sound P (sign_at s ts >>= f)
+      → ((n : ℕ) (us : List Numbered) → ts ≡ sign n s ∷ us → Sound P (f us)) → Sound P (sign_at s ts >>= f)
   unfolding sign_at
   sound_sign s ts f h = or_not (after_sign s ts) ts f (given_sign s ts f _ h failed)
 
   pub sound_word : {P : A → List Numbered → Type 0} (w : Word) (ts : List Numbered) (f : ℕ × List Numbered → Result (A × List Numbered) ℕ)
-    → ((n : ℕ) (us : List Numbered) → ts ≡ word n w ∷ us → Sound P (f (n, us))) → Sound P (word_at w ts >>= f)
+      → ((n : ℕ) (us : List Numbered) → ts ≡ word n w ∷ us → Sound P (f (n, us))) → Sound P (word_at w ts >>= f)
   unfolding word_at
   sound_word w ts f h = or_not (after_word w ts) ts f (given_word w ts f _ h failed)
 
   pub sound_number : {P : A → List Numbered → Type 0} (ts : List Numbered) (f : Lit × List Numbered → Result (A × List Numbered) ℕ)
-    → ((k : Lit) (us : List Numbered) → ts ≡ numeral k ∷ us → Sound P (f (k, us))) → Sound P (number_at ts >>= f)
+      → ((k : Lit) (us : List Numbered) → ts ≡ numeral k ∷ us → Sound P (f (k, us))) → Sound P (number_at ts >>= f)
   unfolding number_at
   sound_number ts f h = or_not (after_number ts) ts f (given_number ts f _ h failed)
 
   pub sound_name : {P : A → List Numbered → Type 0} (ts : List Numbered) (f : Name × List Numbered → Result (A × List Numbered) ℕ)
-    → ((x : Name) (us : List Numbered) → ts ≡ named x ∷ us → Sound P (f (x, us))) → Sound P (name_at ts >>= f)
+      → ((x : Name) (us : List Numbered) → ts ≡ named x ∷ us → Sound P (f (x, us))) → Sound P (name_at ts >>= f)
   unfolding name_at
   sound_name [] f h = failed
   sound_name ((n, kinds.Sign s) ∷ ts) f h = failed
@@ -144,7 +144,7 @@ module _ {A : Type 0} where
   sound_name ((n, kinds.Name t) ∷ ts) f h = h (record { text = t; token = n }) ts refl
 
   pub given_unary : {P : A → List Numbered → Type 0} (ts : List Numbered) (f : Op1 × List Numbered → Result (A × List Numbered) ℕ) (other : Result (A × List Numbered) ℕ)
-    → ((n : ℕ) (s : Sign) (op : Op1) (us : List Numbered) → unary_of s ≡ Some op → ts ≡ sign n s ∷ us → Sound P (f (op, us))) → Sound P other → Sound P (given (unary_at_front ts) f other)
+      → ((n : ℕ) (s : Sign) (op : Op1) (us : List Numbered) → unary_of s ≡ Some op → ts ≡ sign n s ∷ us → Sound P (f (op, us))) → Sound P other → Sound P (given (unary_at_front ts) f other)
   unfolding unary_at_front
   given_unary [] f other h k = k
   given_unary ((n, kinds.Number v) ∷ ts) f other h k = k
@@ -157,8 +157,8 @@ module _ {A : Type 0} where
       ] (λ op e. h n s op ts e refl)
 
   pub given_binary : {P : A → List Numbered → Type 0} (level : ℕ) (ts : List Numbered) (f : ℕ × Op2 × List Numbered → Result (A × List Numbered) ℕ) (other : Result (A × List Numbered) ℕ)
-    → ((n : ℕ) (s : Sign) (own : ℕ) (op : Op2) (us : List Numbered) → binary_of s ≡ Some (own, op) → ts ≡ sign n s ∷ us → binary_at_front level ts ≡ Some (own, op, us) → Sound P (f (own, op, us)))
-    → (binary_at_front level ts ≡ None → Sound P other) → Sound P (given (binary_at_front level ts) f other)
+      → ((n : ℕ) (s : Sign) (own : ℕ) (op : Op2) (us : List Numbered) → binary_of s ≡ Some (own, op) → ts ≡ sign n s ∷ us → binary_at_front level ts ≡ Some (own, op, us) → Sound P (f (own, op, us)))
+      → (binary_at_front level ts ≡ None → Sound P other) → Sound P (given (binary_at_front level ts) f other)
   unfolding binary_at_front
   given_binary level [] f other h k = k refl
   given_binary level ((n, kinds.Number v) ∷ ts) f other h k = k refl

@@ -50,7 +50,6 @@ call_of e (behind o) = grammar.Expr.call e.expr o
 module _ (expr : ℕ → Reads RawExpr) (others : List RawExpr → Reads (List RawExpr))
     (expr_sound : (level : ℕ) (ts : List Numbered) → Sound (Whole level ts) (expr level ts))
     (others_sound : (front : List RawExpr) (ts : List Numbered) → Sound (Behind Others front ts) (others front ts)) where
-
   args_sound : (n : ℕ) (f : Name) (ts : List Numbered) → Sound (λ args rest. Expr 0 (named f ∷ sign n signs.OpenRound ∷ ts) (Call f args) rest) (args_at (expr 10) others ts)
   unfolding args_at
   args_sound n f ts =
@@ -132,8 +131,8 @@ none_at_zero ((n, kinds.Sign s) ∷ ts) = zero_cases (binary_of s) ts
 pub record AllSound (n : ℕ) : Type 0 where
   pub expr : (level : ℕ) (ts : List Numbered) → Sound (Whole level ts) (expr_at n level ts)
   climb : (level : ℕ) (e : RawExpr) (start ts : List Numbered) → Expr level start e ts
-    → ((own : ℕ) (op : Op2) (us : List Numbered) → binary_at_front level ts ≡ Some (own, op, us) → Expr (suc own) start e ts)
-    → Sound (Whole level start) (climb_at n level e ts)
+      → ((own : ℕ) (op : Op2) (us : List Numbered) → binary_at_front level ts ≡ Some (own, op, us) → Expr (suc own) start e ts)
+      → Sound (Whole level start) (climb_at n level e ts)
   others : (front : List RawExpr) (ts : List Numbered) → Sound (Behind Others front ts) (others_at n front ts)
 
 pub all_sound : (n : ℕ) → AllSound n
@@ -143,15 +142,15 @@ all_sound (suc n) =
     let h = all_sound n in
     record {
       expr = λ level ts. sound_bind _ _ (operand_sound (expr_at n) (others_at n) h.expr h.others ts) (λ e us o.
-        h.climb level e ts us (looser 0 level (omega arith) o) (λ own op vs found. looser 0 (suc own) (omega arith) o));
+          h.climb level e ts us (looser 0 level (omega arith) o) (λ own op vs found. looser 0 (suc own) (omega arith) o));
       climb = λ level e start ts left next.
-        given_binary level ts _ _ (λ m s own op us is a found.
+          given_binary level ts _ _ (λ m s own op us is a found.
           sound_bind _ _ (h.expr own us) (λ r vs right.
-            let whole : Expr (suc own) start (Binary op e r) vs = grammar.Expr.binary is (rw a at (next own op us found)) right.expr in
-            h.climb level (Binary op e r) start vs (looser (suc own) level (not_below level 0 own op ts us found (none_at_zero ts)).1 whole) (λ own' op' ws found'.
-              looser (suc own) (suc own') (omega (arith, not_below level own own' op' vs ws found' right.ended)) whole)))
-        (λ none. done (record { expr = left; ended = none }));
+          let whole : Expr (suc own) start (Binary op e r) vs = grammar.Expr.binary is (rw a at (next own op us found)) right.expr in
+          h.climb level (Binary op e r) start vs (looser (suc own) level (not_below level 0 own op ts us found (none_at_zero ts)).1 whole) (λ own' op' ws found'.
+          looser (suc own) (suc own') (omega (arith, not_below level own own' op' vs ws found' right.ended)) whole)))
+          (λ none. done (record { expr = left; ended = none }));
       others = λ front ts.
-        given_sign _ _ _ _ (λ m us a. done (rw a (nothing_behind front grammar.Others.no_more)))
-        (sound_sign _ _ _ (λ m us a. sound_bind _ _ (h.expr 10 us) (λ e vs w. sound_map (λ args rest b. rw a (one_behind front e (λ _ _ o. grammar.Others.one_more w.expr o) b)) (h.others (front ++ e ∷ []) vs))));
+          given_sign _ _ _ _ (λ m us a. done (rw a (nothing_behind front grammar.Others.no_more)))
+          (sound_sign _ _ _ (λ m us a. sound_bind _ _ (h.expr 10 us) (λ e vs w. sound_map (λ args rest b. rw a (one_behind front e (λ _ _ o. grammar.Others.one_more w.expr o) b)) (h.others (front ++ e ∷ []) vs))));
     }

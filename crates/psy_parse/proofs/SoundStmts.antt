@@ -43,7 +43,6 @@ advance_sound n ts =
 module _ (expr : Reads RawExpr) (block : Reads (List RawStmt))
     (expr_sound : (ts : List Numbered) → Sound (Expr 10 ts) (expr ts))
     (block_sound : (ts : List Numbered) → Sound (Block ts) (block ts)) where
-
   test_sound : (ts : List Numbered) → Sound (InRound ts) (test_at expr ts)
   unfolding test_at
   test_sound ts = sound_sign _ _ _ (λ n us a. sound_bind _ _ (expr_sound us) (λ e vs h. sound_sign _ _ _ (λ m ws b. done (rw a (round (rw b at h))))))

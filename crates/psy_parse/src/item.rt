@@ -214,11 +214,7 @@ fn function<'a>(
 }
 
 #[tactic(auto, unfolding(crate::specs::Reading::agent_at))]
-fn agent<'a>(
-    alloc: Global,
-    depth: usize,
-    cursor: Cursor<'a>,
-) -> Result<(Item, Cursor<'a>), Fault>
+fn agent<'a>(alloc: Global, depth: usize, cursor: Cursor<'a>) -> Result<(Item, Cursor<'a>), Fault>
     ensures { Gives (λ x. (x.0, left x.1)) result (agent_at depth (left cursor.entry)) }
 {
     let (agent, rest) = name(alloc, cursor)?;
@@ -320,11 +316,7 @@ fn locals<'a>(
 
 /// A local, behind the word `int`.
 #[tactic(auto, unfolding(crate::specs::Reading::local_at))]
-fn local<'a>(
-    alloc: Global,
-    arrays: bool,
-    cursor: Cursor<'a>,
-) -> Result<(Local, Cursor<'a>), Fault>
+fn local<'a>(alloc: Global, arrays: bool, cursor: Cursor<'a>) -> Result<(Local, Cursor<'a>), Fault>
     ensures { Gives (λ x. (x.0, left x.1)) result (local_at arrays (left cursor.entry)) }
 {
     let (name, rest) = name(alloc, cursor)?;
@@ -368,5 +360,11 @@ fn start<'a>(cursor: Cursor<'a>) -> Result<(Init, Cursor<'a>), Fault>
         return Ok((Init { minus: true, value }, rest));
     }
     let (value, rest) = number(cursor)?;
-    Ok((Init { minus: false, value }, rest))
+    Ok((
+        Init {
+            minus: false,
+            value,
+        },
+        rest,
+    ))
 }

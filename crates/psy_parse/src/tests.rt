@@ -186,9 +186,15 @@ fn programs_are_read_or_refused(rt: HostRuntime) -> Result<(), Fail> {
     let cases = [
         ("tick 1 ;", "0"),
         ("tick 1 ; clock c = 2 * tick ; clock d = 3 * c + 1 ;", "2"),
-        ("tick 1 ; temporal x of A on c = - 1 depth 2 ; input y on c = 0 depth 1 ;", "2"),
+        (
+            "tick 1 ; temporal x of A on c = - 1 depth 2 ; input y on c = 0 depth 1 ;",
+            "2",
+        ),
         ("tick 1 ; stream s to A keep 1 on c ;", "1"),
-        ("tick 1 ; int f ( ) { } int g ( int a , int b ) { int v = 1 ; v = g ( a , b ) ; }", "2"),
+        (
+            "tick 1 ; int f ( ) { } int g ( int a , int b ) { int v = 1 ; v = g ( a , b ) ; }",
+            "2",
+        ),
         ("tick 1 ; agent A on c budget 9 { body { } }", "1"),
         (
             "tick 1 ; agent A on c budget 9 { int v = 0 ; int a [ 4 ] ; body { if ( v ) { } else { a [ v ] = 1 ; } while ( v < 4 ) max 4 { v = v + 1 ; } while ( 1 ) { advance 1 on c budget 7 ; } send v to s after 0 on c ; advance 2 on c ; } }",
@@ -200,7 +206,10 @@ fn programs_are_read_or_refused(rt: HostRuntime) -> Result<(), Fail> {
         ("tick 1 ; clock c = * tick ;", "not a program"),
         ("tick 1 ; clock c = 2 tick ;", "not a program"),
         ("tick 1 ; clock c = 2 * tick + ;", "not a program"),
-        ("tick 1 ; temporal x on c of A = 1 depth 2 ;", "not a program"),
+        (
+            "tick 1 ; temporal x on c of A = 1 depth 2 ;",
+            "not a program",
+        ),
         ("tick 1 ; input y on c = 0 depth ;", "not a program"),
         ("tick 1 ; stream s to to A keep 1 on c ;", "not a program"),
         ("tick 1 ; int f ( int a , ) { }", "not a program"),
@@ -208,18 +217,36 @@ fn programs_are_read_or_refused(rt: HostRuntime) -> Result<(), Fail> {
         ("tick 1 ; int f ( ) { return ; }", "not a program"),
         ("tick 1 ; int f ( ) { return g ( 1 , ) ; }", "not a program"),
         ("tick 1 ; int f ( ) { return 1 + ; }", "not a program"),
-        ("tick 1 ; int f ( ) { return past ( 1 , x ) ; }", "not a program"),
-        ("tick 1 ; int f ( ) { return 1 return 2 ; }", "not a program"),
+        (
+            "tick 1 ; int f ( ) { return past ( 1 , x ) ; }",
+            "not a program",
+        ),
+        (
+            "tick 1 ; int f ( ) { return 1 return 2 ; }",
+            "not a program",
+        ),
         ("tick 1 ; int f ( ) { x [ 1 = 2 ; }", "not a program"),
         ("tick 1 ; int f ( ) { if ( x ) { } else }", "not a program"),
         ("tick 1 ; int f ( ) { else { } }", "not a program"),
         ("tick 1 ; int f ( ) { while x { } }", "not a program"),
-        ("tick 1 ; int f ( ) { send 1 to s on c after 0 ; }", "not a program"),
-        ("tick 1 ; int f ( ) { advance 1 on c budget ; }", "not a program"),
+        (
+            "tick 1 ; int f ( ) { send 1 to s on c after 0 ; }",
+            "not a program",
+        ),
+        (
+            "tick 1 ; int f ( ) { advance 1 on c budget ; }",
+            "not a program",
+        ),
         ("tick 1 ; int f ( ) {", "not a program"),
         ("tick 1 ; agent A on c budget 9 { body { }", "not a program"),
-        ("tick 1 ; agent A on c budget 9 { } body { }", "not a program"),
-        ("tick 1 ; agent A on c budget 9 { body { } int v = 0 ; }", "not a program"),
+        (
+            "tick 1 ; agent A on c budget 9 { } body { }",
+            "not a program",
+        ),
+        (
+            "tick 1 ; agent A on c budget 9 { body { } int v = 0 ; }",
+            "not a program",
+        ),
     ];
     for (text, want) in cases {
         assert_eq!(rt; in_short(alloc, text)?.as_str(), want, "{text}");
@@ -232,12 +259,36 @@ fn deep_texts_are_refused_first(rt: HostRuntime) -> Result<(), Fail> {
     let alloc = rt.alloc();
     // What stands before, the piece that is repeated, how often, what stands behind, and the answer.
     let cases = [
-        ("tick 1 ; int f ( ) { return", " (", 63, "", "nested too deep at token 71"),
-        ("tick 1 ; int f ( ) { return", " (", 62, " 1", "not a program"),
+        (
+            "tick 1 ; int f ( ) { return",
+            " (",
+            63,
+            "",
+            "nested too deep at token 71",
+        ),
+        (
+            "tick 1 ; int f ( ) { return",
+            " (",
+            62,
+            " 1",
+            "not a program",
+        ),
         ("tick 1 ; int f ( ) { return", " -", 255, " 1 ; }", "1"),
-        ("tick 1 ; int f ( ) { return", " -", 256, " 1 ; }", "nested too deep at token 264"),
+        (
+            "tick 1 ; int f ( ) { return",
+            " -",
+            256,
+            " 1 ; }",
+            "nested too deep at token 264",
+        ),
         ("tick 1 ; int f ( ) { return 1", " + 1", 255, " ; }", "1"),
-        ("tick 1 ; int f ( ) { return 1", " + 1", 256, " ; }", "nested too deep at token 520"),
+        (
+            "tick 1 ; int f ( ) { return 1",
+            " + 1",
+            256,
+            " ; }",
+            "nested too deep at token 520",
+        ),
         ("tick 1 ; int f ( ) {", " x = - 1 ;", 300, " }", "1"),
         (") ) )", " [", 64, "", "nested too deep at token 66"),
         (") ) )", " [", 63, "", "not a program"),
@@ -247,11 +298,19 @@ fn deep_texts_are_refused_first(rt: HostRuntime) -> Result<(), Fail> {
     for (before, piece, times, behind, want) in cases {
         let middle = repeated(alloc, piece, times)?;
         let text = format!(in alloc; "{before}{}{behind}", middle.as_str())?;
-        assert_eq!(rt; in_short(alloc, text.as_str())?.as_str(), want, "{before} {piece} {times}");
+        assert_eq!(rt;
+            in_short(alloc, text.as_str())?.as_str(),
+            want,
+            "{before} {piece} {times}"
+        );
     }
     let opened = repeated(alloc, " (", 62)?;
     let closed = repeated(alloc, " )", 62)?;
-    let text = format!(in alloc; "tick 1 ; int f ( ) {{ return{} 1{} ; }}", opened.as_str(), closed.as_str())?;
+    let text = format!(in alloc;
+        "tick 1 ; int f ( ) {{ return{} 1{} ; }}",
+        opened.as_str(),
+        closed.as_str()
+    )?;
     assert_eq!(rt; in_short(alloc, text.as_str())?.as_str(), "1", "depth 63");
     Ok(())
 }
