@@ -293,17 +293,20 @@ locals_at arrays (suc n) front ts =
     given (after_word words.Int ts) (λ w. local_at arrays w.1 >>= λ x. locals_at arrays n (front ++ x.0 ∷ []) x.1)
     (Ok (front, ts))
 
+unfoldable pub param_at : Reads Name
+param_at ts = word_at words.Int ts >>= λ w. name_at w.1
+
 -- the parameters behind these, and the closing bracket
 unfoldable pub further_at : ℕ → List Name → Reads (List Name)
 further_at zero front ts = stuck ts
 further_at (suc n) front ts =
     given (after_sign signs.CloseRound ts) (λ us. Ok (front, us))
-    (sign_at signs.Comma ts >>= λ us. word_at words.Int us >>= λ w. name_at w.1 >>= λ x. further_at n (front ++ x.0 ∷ []) x.1)
+    (sign_at signs.Comma ts >>= λ us. param_at us >>= λ x. further_at n (front ++ x.0 ∷ []) x.1)
 
 unfoldable pub params_at : ℕ → Reads (List Name)
 params_at n ts =
     given (after_sign signs.CloseRound ts) (λ us. Ok ([], us))
-    (word_at words.Int ts >>= λ w. name_at w.1 >>= λ x. further_at n (x.0 ∷ []) x.1)
+    (param_at ts >>= λ x. further_at n (x.0 ∷ []) x.1)
 
 unfoldable pub parent_at : Reads (Option Name)
 parent_at ts =
@@ -405,10 +408,16 @@ program_at (suc n) front ts =
     if is_end ts then Ok front
     else (declaration_at n ts >>= λ x. program_at n (front ++ x.0 ∷ []) x.1)
 
-unfoldable pub text_at : ℕ → List Numbered → Result Raw ℕ
-text_at n ts = do
+-- the length of the tick, behind which the declarations stand
+unfoldable pub quantum_at : Reads Lit
+quantum_at ts = do
   w ← word_at words.Tick ts
   quantum ← number_at w.1
   us ← sign_at signs.Semicolon quantum.1
-  items ← program_at n [] us
+  Ok (quantum.0, us)
+
+unfoldable pub text_at : ℕ → List Numbered → Result Raw ℕ
+text_at n ts = do
+  quantum ← quantum_at ts
+  items ← program_at n [] quantum.1
   Ok (record { quantum = quantum.0; items = items })

@@ -188,11 +188,7 @@ fn in_brackets<'a>(alloc: Global, cursor: Cursor<'a>) -> Result<(Name, Cursor<'a
 
 /// What stands behind the word `past`.
 #[tactic(auto, unfolding(crate::specs::Reading::past_at))]
-fn past<'a>(
-    alloc: Global,
-    token: u32,
-    cursor: Cursor<'a>,
-) -> Result<(RawExpr, Cursor<'a>), Fault>
+fn past<'a>(alloc: Global, token: u32, cursor: Cursor<'a>) -> Result<(RawExpr, Cursor<'a>), Fault>
     ensures { Gives (λ x. (x.0, left x.1)) result (past_at token (left cursor.entry)) }
 {
     let rest = sign(cursor, Sign::OpenRound)?;

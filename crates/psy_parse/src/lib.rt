@@ -6,12 +6,12 @@ mod deep;
 mod expr;
 mod fault;
 mod item;
-mod parse;
+mod program;
 mod reader;
 mod stmt;
 
 pub use fault::ParseFault;
-
+pub use program::parse;
 
 #[cfg(test)]
 mod tests;

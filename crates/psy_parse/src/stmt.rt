@@ -4,9 +4,7 @@ ghost use Rattle.psy_parse.specs.Reading.{Gives, left, expr_at, test_at, block_i
 use crate::cursor::Cursor;
 use crate::expr::{LEVELS, expr};
 use crate::fault::Fault;
-use crate::reader::{
-    after_sign, after_word, name, number, optional_number, sign, stuck, word,
-};
+use crate::reader::{after_sign, after_word, name, number, optional_number, sign, stuck, word};
 use psy_base::Items;
 use psy_tree::{Name, RawExpr, RawStmt, Sign, Word};
 use std::alloc::Global;
@@ -39,11 +37,7 @@ pub fn block<'a>(
 /// A statement, by its first word.
 #[cycle(stmt)]
 #[tactic(auto, unfolding(crate::specs::Reading::stmt_at))]
-fn stmt<'a>(
-    alloc: Global,
-    depth: usize,
-    cursor: Cursor<'a>,
-) -> Result<(RawStmt, Cursor<'a>), Fault>
+fn stmt<'a>(alloc: Global, depth: usize, cursor: Cursor<'a>) -> Result<(RawStmt, Cursor<'a>), Fault>
     ensures { Gives (λ x. (x.0, left x.1)) result (stmt_at (expr_at depth 10) (block_at depth []) (left cursor.entry)) }
 {
     if let Some((_, rest)) = after_word(cursor, Word::If) {
@@ -123,11 +117,7 @@ fn block_in_braces<'a>(
 
 /// An expression in round brackets.
 #[tactic(auto, unfolding(crate::specs::Reading::test_at))]
-fn test<'a>(
-    alloc: Global,
-    depth: usize,
-    cursor: Cursor<'a>,
-) -> Result<(RawExpr, Cursor<'a>), Fault>
+fn test<'a>(alloc: Global, depth: usize, cursor: Cursor<'a>) -> Result<(RawExpr, Cursor<'a>), Fault>
     ensures { Gives (λ x. (x.0, left x.1)) result (test_at (expr_at depth 10) (left cursor.entry)) }
 {
     let rest = sign(cursor, Sign::OpenRound)?;
