@@ -1,4 +1,6 @@
-ghost use Rattle.std.specs.Prelude.{◌≡◌, ◌<◌, ◌≤◌, None, [], vec_len, IfOk, IsOk};
+ghost use Rattle.std.specs.Prelude.{◌≡◌, ◌≢◌, ◌<◌, ◌≤◌, None, [], ⊤, vec_len, IfOk, IsOk};
+ghost use Rattle.psy_door.specs.Faults.{Rose};
+ghost use Rattle.psy_door.specs.States.{counted_up};
 
 use crate::shelf::{FetchFault, Shelf};
 use psy_base::{Text, limits};
@@ -78,10 +80,21 @@ impl<'a, R: Files> Shelf for FileShelf<'a, R> {
 
     ghost taken = { λ s. s.taken };
 
-    fn fetch(&mut self, alloc: Global, name: &str) -> Result<Vec<u8>, FetchFault> {
+    fn fetch(&mut self, alloc: Global, name: &str) -> Result<Vec<u8>, FetchFault>
+        ensures counted { self.old.faults ≤ self.new.faults }
+        ensures within { IfOk result (λ bytes. vec_len bytes ≤ 262144) }
+        ensures took { IfOk result (λ bytes. self.new.taken ≡ vec_len bytes) }
+        ensures untold { IfOk result (λ _. ⊤) }
+        ensures failed { result ≡ Err FetchFault.Failed → Rose self.old.faults self.new.faults }
+        ensures one_more { result ≡ Err FetchFault.Failed → self.new.faults ≡ counted_up self.old.faults }
+        ensures same_faults { result ≢ Err FetchFault.Failed → self.new.faults ≡ self.old.faults }
+        ensures named { result ≡ Err FetchFault.Failed → self.new.failed_name ≡ name.now }
+        ensures same_name { result ≢ Err FetchFault.Failed → self.new.failed_name ≡ self.old.failed_name }
+        ensures too_long { result ≡ Err FetchFault.TooLong → self.new.taken ≡ 262145 }
+    {
+        self.taken = 0;
         let asked = Text::from_bytes(alloc, name.as_bytes())?;
         let mut bytes = Vec::new(alloc);
-        self.taken = 0;
         let outcome = match fs::open(self.files, name) {
             Ok(mut file) => read_some(&mut file, &mut bytes),
             Err(error) => Err(ReadFault::System(error)),

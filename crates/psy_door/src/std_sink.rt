@@ -1,4 +1,5 @@
-ghost use Rattle.std.specs.Prelude.{◌≡◌, ◌<◌, ◌≤◌, None, length, IfSome};
+ghost use Rattle.std.specs.Prelude.{◌≡◌, ◌<◌, ◌≤◌, None, length, IfOk, IfSome, OnOk, OnErr};
+ghost use Rattle.psy_door.specs.States.{counted_up};
 
 use crate::sink::{Failed, Sink};
 use std::io::{self, Write};
@@ -47,7 +48,13 @@ impl<W: Write> Sink for StdSink<W> {
 
     ghost faults = { λ faults. faults };
 
-    fn write(&mut self, piece: &[u8]) -> Result<usize, Failed> {
+    fn write(&mut self, piece: &[u8]) -> Result<usize, Failed>
+        ensures counted { self.old ≤ self.new }
+        ensures most { IfOk result (λ n. n ≤ length piece.now) }
+        ensures some { IfOk result (λ n. 0 < length piece.now → 0 < n) }
+        ensures ok { OnOk result (self.new ≡ self.old) }
+        ensures err { OnErr result (self.new ≡ counted_up self.old) }
+    {
         match pushed(&mut self.out, piece) {
             Some(n) => Ok(n),
             None => {
