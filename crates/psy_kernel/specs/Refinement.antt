@@ -9,6 +9,7 @@ pub record StandsFor (k : Inside) : Type 0 where
   pub admitted : IsAdmitted k.first
   pub dates : k.dates ≤ k.first.until + 1
   pub cycles : k.cycles ≤ k.dates * k.first.quantum
+  pub reached : k.dates * k.first.quantum ≤ k.cycles + k.first.quantum
   pub next_date : k.next_date ≡ date_of k.first k.published
   pub ahead : k.dates ≤ k.next_date
   pub behind : 0 < k.published → date_of k.first (k.published - 1) < k.dates

@@ -1,6 +1,6 @@
-ghost use Rattle.std.specs.Prelude.{◌≡◌, ◌+◌, ◌-◌, ◌*◌, ◌^◌, ◌<◌, ◌≤◌, ◌↔◌, map, None, Some, IsNone, length, option_map, unwrap_or, min, pos};
+ghost use Rattle.std.specs.Prelude.{◌≡◌, ◌≢◌, ℕ, ◌+◌, ◌-◌, ◌*◌, ◌^◌, ◌<◌, ◌≤◌, ◌↔◌, map, None, Some, IsNone, length, option_map, unwrap_or, min, pos};
 ghost use Rattle.psy_kernel.specs.Meaning.{IsAdmitted, below, date_of, next_value, value_after, cost_of, finish_of, slack_of, least, lesser};
-ghost use Rattle.psy_kernel.specs.Standing.{stage_of, value_of, count_of, least_slack_of};
+ghost use Rattle.psy_kernel.specs.Standing.{stage_of, value_of, IsOffClock, count_of, least_slack_of};
 
 use crate::first::First;
 use crate::stage::Stage;
@@ -102,7 +102,8 @@ impl Kernel {
     /// A kernel before date 0. It takes no memory.
     pub fn boot(first: First) -> Kernel
         requires { IsAdmitted first }
-        ensures { result ≡ record { first = first; dates = 0; cycles = 0 } }
+        ensures state { result ≡ record { first = first; dates = 0; cycles = 0 } }
+        ensures stage { stage_of result ≡ Stage.DateDue 0 }
     {
         Kernel {
             first,
@@ -135,7 +136,11 @@ impl Kernel {
     /// next action starts.
     pub fn date(&mut self)
         requires { stage_of self.old ≡ Stage.DateDue self.old.dates }
-        ensures { self.new ≡ record self.old { dates = self.old.dates + 1 } }
+        ensures state { self.new ≡ record self.old { dates = self.old.dates + 1 } }
+
+        // The run is over after its last date, and else the cycles from this date on are due.
+        ensures last { self.old.dates ≡ self.old.first.until → stage_of self.new ≡ Stage.Over }
+        ensures earlier { self.old.dates ≢ self.old.first.until → stage_of self.new ≡ Stage.CycleDue (self.old.dates * self.old.first.quantum) }
     {
         let date = self.dates;
         self.dates = date + 1;
@@ -154,7 +159,11 @@ impl Kernel {
     /// Does the cycle that is due: the present action gets it, where it isn't finished.
     pub fn cycle(&mut self)
         requires { stage_of self.old ≡ Stage.CycleDue self.old.cycles }
-        ensures { self.new ≡ record self.old { cycles = self.old.cycles + 1 } }
+        ensures state { self.new ≡ record self.old { cycles = self.old.cycles + 1 } }
+
+        // A date is due where the cycles done fill whole ticks, and else the next cycle.
+        ensures filled { (t : ℕ) → self.new.cycles ≡ t * self.old.first.quantum → stage_of self.new ≡ Stage.DateDue t }
+        ensures inside { ((t : ℕ) → self.new.cycles ≢ t * self.old.first.quantum) → stage_of self.new ≡ Stage.CycleDue self.new.cycles }
     {
         self.cycles += 1;
         if self.units == self.work {
@@ -166,7 +175,8 @@ impl Kernel {
 
     /// The value published at the date done last; None exactly where the clock has no date there.
     pub fn value(&self) -> Option<i32>
-        ensures { result ≡ value_of self.now }
+        ensures value { result ≡ value_of self.now }
+        ensures none { IsNone result ↔ IsOffClock self.now }
     {
         if self.dates == 0 {
             return None;
