@@ -84,6 +84,7 @@ impl<'a, R: Files> Shelf for FileShelf<'a, R> {
         ensures counted { self.old.faults ≤ self.new.faults }
         ensures within { IfOk result (λ bytes. vec_len bytes ≤ 262144) }
         ensures took { IfOk result (λ bytes. self.new.taken ≡ vec_len bytes) }
+        // Nothing is told of the bytes.
         ensures untold { IfOk result (λ _. ⊤) }
         ensures failed { result ≡ Err FetchFault.Failed → Rose self.old.faults self.new.faults }
         ensures one_more { result ≡ Err FetchFault.Failed → self.new.faults ≡ counted_up self.old.faults }
@@ -110,5 +111,35 @@ impl<'a, R: Files> Shelf for FileShelf<'a, R> {
             Ok(()) if bytes.len() > limits::FILE_BYTES => Err(FetchFault::TooLong),
             Ok(()) => Ok(bytes),
         }
+    }
+}
+
+#[cfg(test)]
+mod tests {
+    use super::*;
+    use std::test::Fail;
+
+    #[test]
+    fn each_error_of_the_system_is_a_fault(rt: HostRuntime) -> Result<(), Fail> {
+        fs::write(&rt, "fetched.txt", "text")?;
+        let mut shelf = FileShelf::new(&rt);
+        let cases = [
+            ("fetched.txt", Ok(4), 0),
+            ("absent.txt", Err(FetchFault::Failed), 1),
+            ("/dev/null", Ok(0), 1),
+            ("/dev/zero", Err(FetchFault::TooLong), 1),
+            (".", Err(FetchFault::Failed), 2),
+        ];
+        for (name, want, faults) in cases {
+            let length = shelf.fetch(rt.alloc(), name).map(|bytes| bytes.len());
+            assert_eq!(rt; length, want, "of {name}");
+            assert_eq!(rt; shelf.faults, faults, "after {name}");
+        }
+        assert_eq!(rt;
+            shelf.fetch(rt.alloc(), "fetched.txt")?.as_slice(),
+            b"text".as_slice()
+        );
+        fs::remove_file(&rt, "fetched.txt")?;
+        Ok(())
     }
 }

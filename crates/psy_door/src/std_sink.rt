@@ -64,3 +64,54 @@ impl<W: Write> Sink for StdSink<W> {
         }
     }
 }
+
+#[cfg(test)]
+mod tests {
+    use super::*;
+
+    // Takes three bytes, fails, takes nothing, fails when it is flushed, and then takes all.
+    #[derive(Drop)]
+    struct Flaky {
+        calls: u32,
+    }
+
+    fn broken() -> io::Error {
+        io::Error::from(io::ErrorKind::BrokenPipe)
+    }
+
+    impl Write for Flaky {
+        fn write(&mut self, piece: &[u8]) -> io::Result<usize> {
+            self.calls = self.calls.wrapping_add(1);
+            match self.calls {
+                1 => Ok(piece.len().min(3)),
+                2 => Err(broken()),
+                3 => Ok(0),
+                _ => Ok(piece.len()),
+            }
+        }
+
+        fn flush(&mut self) -> io::Result<()> {
+            if self.calls == 4 {
+                return Err(broken());
+            }
+            Ok(())
+        }
+    }
+
+    #[test]
+    fn each_error_of_the_writer_is_a_fault(rt: HostRuntime) {
+        let mut sink = StdSink::new(Flaky { calls: 0 });
+        let cases = [
+            (Ok(3), 0),
+            (Err(Failed), 1),
+            (Err(Failed), 2),
+            (Err(Failed), 3),
+            (Ok(4), 3),
+        ];
+        for (want, faults) in cases {
+            assert_eq!(rt; sink.write(b"text"), want, "before {faults} faults");
+            assert_eq!(rt; sink.faults, faults);
+        }
+        assert_eq!(rt; sink.write(b""), Ok(0));
+    }
+}

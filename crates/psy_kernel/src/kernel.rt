@@ -197,3 +197,84 @@ impl Kernel {
         (self.published.saturating_sub(1), self.slack)
     }
 }
+
+#[cfg(test)]
+mod tests {
+    use super::*;
+    use std::process::Abort;
+
+    // A program without a shift, of which each action adds one to the variable.
+    const COUNTER: First = First {
+        quantum: 100,
+        period: 10,
+        first: 0,
+        init: 0,
+        own: true,
+        add: 1,
+        budget: 40,
+        until: 20,
+    };
+
+    // Runs to the end, compares what is published, and gives what was counted.
+    fn run(rt: &impl Abort, first: First, published: &[(u64, i32)]) -> (u64, Option<u64>)
+        requires { IsAdmitted first }
+    {
+        let mut kernel = Kernel::boot(first);
+        let mut values = published.iter();
+        for _ in 0..200_000_000u64 {
+            match kernel.stage() {
+                Stage::DateDue(date) => {
+                    kernel.date();
+                    if let Some(value) = kernel.value() {
+                        assert_eq!(rt; values.next(), Some(&(date, value)));
+                    }
+                }
+                Stage::CycleDue(_) => kernel.cycle(),
+                Stage::Over => break,
+            }
+        }
+        assert_eq!(rt; kernel.stage(), Stage::Over);
+        assert_eq!(rt; values.next(), None);
+        kernel.counted()
+    }
+
+    #[test]
+    fn runs_to_the_last_date(rt: HostRuntime) {
+        let counted = run(&rt, COUNTER, &[(0, 0), (10, 1), (20, 2)]);
+        assert_eq!(rt; counted, (2, Some(994)), "a counter");
+
+        let shifted = First {
+            first: 3,
+            init: -5,
+            add: 2,
+            ..COUNTER
+        };
+        let counted = run(&rt, shifted, &[(3, -5), (13, -3)]);
+        assert_eq!(rt; counted, (1, Some(995)), "a counter whose clock is shifted");
+
+        let constant = First {
+            own: false,
+            add: 7,
+            until: 10,
+            ..COUNTER
+        };
+        let counted = run(&rt, constant, &[(0, 0), (10, 7)]);
+        assert_eq!(rt; counted, (1, Some(997)), "a constant");
+
+        let short = First {
+            budget: 1001,
+            until: 9,
+            ..COUNTER
+        };
+        let counted = run(&rt, short, &[(0, 0)]);
+        assert_eq!(rt; counted, (0, None), "a run shorter than the period");
+
+        let wrapping = First {
+            init: 2_147_483_647,
+            until: 10,
+            ..COUNTER
+        };
+        let counted = run(&rt, wrapping, &[(0, 2_147_483_647), (10, -2_147_483_648)]);
+        assert_eq!(rt; counted, (1, Some(995)), "a sum that wraps");
+    }
+}
