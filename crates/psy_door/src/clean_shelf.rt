@@ -43,11 +43,14 @@ impl Shelf for CleanShelf {
 
     #[tactic(auto, using(crate::proofs::FilesLemmas::get_files_of))]
     fn fetch(&mut self, alloc: Global, name: &str) -> Result<Vec<u8>, FetchFault>
-        ensures state { self.new ≡ record self.old { taken = taken_of (length (bytes_under (files_of self.old.files) name.now)) } }
+        ensures state { self.new ≡ record self.old {
+          taken = taken_of (length (bytes_under (files_of self.old.files) name.now));
+        } }
         ensures within { IfOk result (λ bytes. vec_len bytes ≤ 262144) }
         ensures whole { IfOk result (λ bytes. bytes.items ≡ bytes_under (files_of self.old.files) name.now) }
         ensures never { result ≢ Err FetchFault.Failed }
-        ensures longer { result ≡ Err FetchFault.TooLong → 262144 < length (bytes_under (files_of self.old.files) name.now) }
+        ensures longer { result ≡ Err FetchFault.TooLong →
+            262144 < length (bytes_under (files_of self.old.files) name.now) }
     {
         let found = files::bytes_of(self.files.as_slice(), name.as_bytes());
         let bytes = found.unwrap_or(&[]);

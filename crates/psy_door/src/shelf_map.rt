@@ -1,4 +1,4 @@
-ghost use Rattle.std.specs.Prelude.{◌≡◌, ◌≢◌, ◌<◌, ◌≤◌, Some, [], map, length, vec_len, IfOk, IfErr, IsErr};
+ghost use Rattle.std.specs.Prelude.{◌≡◌, ◌≢◌, ◌<◌, ◌≤◌, Some, [], map, length, vec_len, IfOk, IsErr};
 ghost use Rattle.psy_door.specs.Files.{files_of, bytes_under};
 ghost use Rattle.psy_door.specs.States.{FetchFails, counted_up};
 
@@ -95,7 +95,8 @@ impl Shelf for ShelfMap {
         ensures same_name { result ≢ Err FetchFault.Failed → self.new.failed_name ≡ self.old.failed_name }
         ensures took_none { result ≡ Err FetchFault.Failed → self.new.taken ≡ 0 }
         ensures too_long { result ≡ Err FetchFault.TooLong → self.new.taken ≡ 262145 }
-        ensures longer { result ≡ Err FetchFault.TooLong → 262144 < length (bytes_under (files_of self.old.files) name.now) }
+        ensures longer { result ≡ Err FetchFault.TooLong →
+            262144 < length (bytes_under (files_of self.old.files) name.now) }
 
         // It fails exactly where it is to fail.
         ensures fails_only { result ≡ Err FetchFault.Failed → FetchFails self.old name.now }

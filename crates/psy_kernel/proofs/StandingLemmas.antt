@@ -1,11 +1,10 @@
 -- What the fields of a kernel tell of the run.
-use Rattle.std.proofs.Common.{zero, suc, ◌≡◌, ◌≢◌, ◌∙◌, sym, ap, subst, refl, ℕ, ◌+◌, ◌-◌, ◌*◌, ◌<◌, ◌≤◌, List, map, length, Option, None, Some, IsNone, ◌↔◌, arith, ◌⊎◌, inl, inr, Bool, true, false, cond, ◌==◌, lit≤, min, ℤ}
+use Rattle.std.proofs.Common.{zero, suc, ◌≡◌, ◌≢◌, ◌∙◌, sym, ap, subst, refl, ℕ, ◌+◌, ◌-◌, ◌*◌, ◌<◌, ◌≤◌, map, length, Option, None, Some, IsNone, ◌↔◌, arith, inl, inr, Bool, true, false, cond, ◌==◌, lit≤, min, ℤ}
 use Rattle.std.proofs.lemmas.Bool.{cases_lt}
 use Rattle.std.proofs.lemmas.Bool.Decides.{nat_tests}
-use Rattle.psy_kernel.specs.declared.stage.Stage.{Stage}
-use Rattle.psy_kernel.specs.declared.stage.Stage.TheVariants.{DateDue, CycleDue, Over}
+use Rattle.psy_kernel.specs.declared.stage.Stage.TheVariants.{DateDue, CycleDue}
 use Rattle.psy_kernel.specs.declared.first.First.{First}
-use Rattle.psy_kernel.specs.Meaning.{below, date_of, value_after, published, due_by, slack_of, least, finish_of, cost_of}
+use Rattle.psy_kernel.specs.Meaning.{below, date_of, value_after, due_by, slack_of, least, finish_of, cost_of}
 use Rattle.psy_kernel.specs.declared.kernel.Kernel.TheInside.{Inside}
 use Rattle.psy_kernel.specs.Refinement.{StandsFor}
 use Rattle.psy_kernel.specs.Standing.{Progress, stage_of, value_of, IsOffClock, count_of, least_slack_of}

@@ -1,6 +1,6 @@
 -- What the fields of a kernel stand for.
-use Rattle.std.specs.Prelude.{◌≡◌, ℕ, ◌+◌, ◌-◌, ◌*◌, ◌<◌, ◌≤◌, map, min, Option, None, Some, ℤ}
-use Rattle.psy_kernel.specs.Meaning.{IsAdmitted, below, date_of, value_after, cost_of, finish_of, slack_of, least}
+use Rattle.std.specs.Prelude.{◌≡◌, ◌+◌, ◌-◌, ◌*◌, ◌<◌, ◌≤◌, map, min}
+use Rattle.psy_kernel.specs.Meaning.{IsAdmitted, below, date_of, value_after, cost_of, slack_of, least}
 use Rattle.psy_kernel.specs.declared.kernel.Kernel.TheInside.{Inside}
 
 -- Of the published values the last is number `published - 1`, and the action of that number is the

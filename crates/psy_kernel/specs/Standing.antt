@@ -1,5 +1,5 @@
 -- Where a run stands, and what a kernel's fields stand for there.
-use Rattle.std.specs.Prelude.{zero, suc, ◌≡◌, ◌≢◌, ℕ, ◌+◌, ◌-◌, ◌*◌, ◌<◌, ◌≤◌, ◌==◌, if◌then◌else◌, map, length, min, Option, None, Some, ℤ}
+use Rattle.std.specs.Prelude.{zero, suc, ◌≢◌, ℕ, ◌+◌, ◌*◌, ◌==◌, if◌then◌else◌, length, Option, None, ℤ}
 use Rattle.psy_kernel.specs.declared.first.First.{First}
 use Rattle.psy_kernel.specs.declared.stage.Stage.{Stage}
 use Rattle.psy_kernel.specs.declared.stage.Stage.TheVariants.{DateDue, CycleDue, Over}

@@ -1,4 +1,4 @@
-ghost use Rattle.std.specs.Prelude.{◌≡◌, ◌≢◌, ℕ, ◌+◌, ◌-◌, ◌*◌, ◌^◌, ◌<◌, ◌≤◌, ◌↔◌, map, None, Some, IsNone, length, option_map, unwrap_or, min, pos};
+ghost use Rattle.std.specs.Prelude.{◌≡◌, ◌≢◌, ℕ, ◌+◌, ◌-◌, ◌*◌, ◌^◌, ◌<◌, ◌≤◌, ◌↔◌, map, None, Some, IsNone, min, pos};
 ghost use Rattle.psy_kernel.specs.Meaning.{IsAdmitted, below, date_of, next_value, value_after, cost_of, finish_of, slack_of, least, lesser};
 ghost use Rattle.psy_kernel.specs.Standing.{stage_of, value_of, IsOffClock, count_of, least_slack_of};
 
@@ -140,7 +140,8 @@ impl Kernel {
 
         // The run is over after its last date, and else the cycles from this date on are due.
         ensures last { self.old.dates ≡ self.old.first.until → stage_of self.new ≡ Stage.Over }
-        ensures earlier { self.old.dates ≢ self.old.first.until → stage_of self.new ≡ Stage.CycleDue (self.old.dates * self.old.first.quantum) }
+        ensures earlier { self.old.dates ≢ self.old.first.until →
+            stage_of self.new ≡ Stage.CycleDue (self.old.dates * self.old.first.quantum) }
     {
         let date = self.dates;
         self.dates = date + 1;
@@ -162,8 +163,10 @@ impl Kernel {
         ensures state { self.new ≡ record self.old { cycles = self.old.cycles + 1 } }
 
         // A date is due where the cycles done fill whole ticks, and else the next cycle.
-        ensures filled { (t : ℕ) → self.new.cycles ≡ t * self.old.first.quantum → stage_of self.new ≡ Stage.DateDue t }
-        ensures inside { ((t : ℕ) → self.new.cycles ≢ t * self.old.first.quantum) → stage_of self.new ≡ Stage.CycleDue self.new.cycles }
+        ensures filled { (t : ℕ) → self.new.cycles ≡ t * self.old.first.quantum →
+            stage_of self.new ≡ Stage.DateDue t }
+        ensures inside { ((t : ℕ) → self.new.cycles ≢ t * self.old.first.quantum) →
+            stage_of self.new ≡ Stage.CycleDue self.new.cycles }
     {
         self.cycles += 1;
         if self.units == self.work {

@@ -1,4 +1,4 @@
-use Rattle.std.proofs.Common.{◌≡◌, ◌∙◌, ap, subst, refl, ◌+◌, ◌-◌, ◌↔◌, None, Some, IsNone, ℤ, arith, rules, to_z, of_z, w32}
+use Rattle.std.proofs.Common.{◌≡◌, ◌∙◌, ap, subst, refl, ◌-◌, None, Some, arith, rules, to_z, of_z, w32}
 use Rattle.psy_kernel.specs.Standing.{value_of, IsOffClock}
 use Rattle.psy_kernel.proofs.StandingLemmas.{value_of_some, value_of_none, last_date, no_date, is_none_off, is_none_on}
 use Rattle.psy_kernel.proofs.kernel.Kernel.value.Goals as goal
