@@ -42,7 +42,16 @@ impl Shelf for CleanShelf {
     ghost taken = { λ s. s.taken };
 
     #[tactic(auto, using(crate::proofs::FilesLemmas::get_files_of))]
-    fn fetch(&mut self, alloc: Global, name: &str) -> Result<Vec<u8>, FetchFault> {
+    fn fetch(&mut self, alloc: Global, name: &str) -> Result<Vec<u8>, FetchFault>
+        ensures state { self.new ≡ record self.old {
+          taken = taken_of (length (bytes_under (files_of self.old.files) name.now));
+        } }
+        ensures within { IfOk result (λ bytes. vec_len bytes ≤ 262144) }
+        ensures whole { IfOk result (λ bytes. bytes.items ≡ bytes_under (files_of self.old.files) name.now) }
+        ensures never { result ≢ Err FetchFault.Failed }
+        ensures longer { result ≡ Err FetchFault.TooLong →
+            262144 < length (bytes_under (files_of self.old.files) name.now) }
+    {
         let found = files::bytes_of(self.files.as_slice(), name.as_bytes());
         let bytes = found.unwrap_or(&[]);
         self.taken = bytes.len().min(limits::FILE_BYTES + 1);

@@ -58,7 +58,7 @@ impl Sink for CleanSink {
         let free = self.room - self.bytes.len();
         let n = piece.len().min(free);
         if self.bytes.extend_from_slice(&piece[..n]).is_err() {
-            self.whole = false;
+            prove!(false);
         }
         self.whole = self.whole && n == piece.len();
         Ok(piece.len())

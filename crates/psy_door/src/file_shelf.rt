@@ -1,4 +1,6 @@
-ghost use Rattle.std.specs.Prelude.{◌≡◌, ◌<◌, ◌≤◌, None, [], vec_len, IfOk, IsOk};
+ghost use Rattle.std.specs.Prelude.{◌≡◌, ◌≢◌, ◌<◌, ◌≤◌, None, [], ⊤, vec_len, IfOk};
+ghost use Rattle.psy_door.specs.Faults.{Rose};
+ghost use Rattle.psy_door.specs.States.{counted_up};
 
 use crate::shelf::{FetchFault, Shelf};
 use psy_base::{Text, limits};
@@ -78,10 +80,22 @@ impl<'a, R: Files> Shelf for FileShelf<'a, R> {
 
     ghost taken = { λ s. s.taken };
 
-    fn fetch(&mut self, alloc: Global, name: &str) -> Result<Vec<u8>, FetchFault> {
+    fn fetch(&mut self, alloc: Global, name: &str) -> Result<Vec<u8>, FetchFault>
+        ensures counted { self.old.faults ≤ self.new.faults }
+        ensures within { IfOk result (λ bytes. vec_len bytes ≤ 262144) }
+        ensures took { IfOk result (λ bytes. self.new.taken ≡ vec_len bytes) }
+        // Nothing is told of the bytes.
+        ensures untold { IfOk result (λ _. ⊤) }
+        ensures failed { result ≡ Err FetchFault.Failed → Rose self.old.faults self.new.faults }
+        ensures one_more { result ≡ Err FetchFault.Failed → self.new.faults ≡ counted_up self.old.faults }
+        ensures same_faults { result ≢ Err FetchFault.Failed → self.new.faults ≡ self.old.faults }
+        ensures named { result ≡ Err FetchFault.Failed → self.new.failed_name ≡ name.now }
+        ensures same_name { result ≢ Err FetchFault.Failed → self.new.failed_name ≡ self.old.failed_name }
+        ensures too_long { result ≡ Err FetchFault.TooLong → self.new.taken ≡ 262145 }
+    {
+        self.taken = 0;
         let asked = Text::from_bytes(alloc, name.as_bytes())?;
         let mut bytes = Vec::new(alloc);
-        self.taken = 0;
         let outcome = match fs::open(self.files, name) {
             Ok(mut file) => read_some(&mut file, &mut bytes),
             Err(error) => Err(ReadFault::System(error)),
@@ -97,5 +111,35 @@ impl<'a, R: Files> Shelf for FileShelf<'a, R> {
             Ok(()) if bytes.len() > limits::FILE_BYTES => Err(FetchFault::TooLong),
             Ok(()) => Ok(bytes),
         }
+    }
+}
+
+#[cfg(test)]
+mod tests {
+    use super::*;
+    use std::test::Fail;
+
+    #[test]
+    fn each_error_of_the_system_is_a_fault(rt: HostRuntime) -> Result<(), Fail> {
+        fs::write(&rt, "fetched.txt", "text")?;
+        let mut shelf = FileShelf::new(&rt);
+        let cases = [
+            ("fetched.txt", Ok(4), 0),
+            ("absent.txt", Err(FetchFault::Failed), 1),
+            ("/dev/null", Ok(0), 1),
+            ("/dev/zero", Err(FetchFault::TooLong), 1),
+            (".", Err(FetchFault::Failed), 2),
+        ];
+        for (name, want, faults) in cases {
+            let length = shelf.fetch(rt.alloc(), name).map(|bytes| bytes.len());
+            assert_eq!(rt; length, want, "of {name}");
+            assert_eq!(rt; shelf.faults, faults, "after {name}");
+        }
+        assert_eq!(rt;
+            shelf.fetch(rt.alloc(), "fetched.txt")?.as_slice(),
+            b"text".as_slice()
+        );
+        fs::remove_file(&rt, "fetched.txt")?;
+        Ok(())
     }
 }

@@ -61,10 +61,12 @@ pub trait Shelf {
         ensures counted { faults self.old ≤ faults self.new }
         ensures within { IfOk result (λ bytes. vec_len bytes ≤ 262144) }
         ensures took { IfOk result (λ bytes. taken self.new ≡ vec_len bytes) }
-        ensures whole { IfOk result (λ bytes. WhereTold (files self.old) (λ held. bytes.items ≡ bytes_under held name.now)) }
+        ensures whole { IfOk result (λ bytes.
+            WhereTold (files self.old) (λ held. bytes.items ≡ bytes_under held name.now)) }
         ensures failed { result ≡ Err FetchFault.Failed → Rose (faults self.old) (faults self.new) }
         ensures named { result ≡ Err FetchFault.Failed → failed_name self.new ≡ name.now }
         ensures same_name { result ≢ Err FetchFault.Failed → failed_name self.new ≡ failed_name self.old }
         ensures too_long { result ≡ Err FetchFault.TooLong → taken self.new ≡ 262145 }
-        ensures longer { result ≡ Err FetchFault.TooLong → WhereTold (files self.old) (λ held. 262144 < length (bytes_under held name.now)) };
+        ensures longer { result ≡ Err FetchFault.TooLong →
+            WhereTold (files self.old) (λ held. 262144 < length (bytes_under held name.now)) };
 }

@@ -1,5 +1,4 @@
-ghost use Rattle.std.specs.Prelude.{◌≡◌, ◌≢◌, ◌<◌, ◌≤◌, Some, [], map, length, vec_len, IfOk, IfErr, IsErr};
-ghost use Rattle.psy_door.specs.Faults.{Rose};
+ghost use Rattle.std.specs.Prelude.{◌≡◌, ◌≢◌, ◌<◌, ◌≤◌, Some, [], map, length, vec_len, IfOk, IsErr};
 ghost use Rattle.psy_door.specs.Files.{files_of, bytes_under};
 ghost use Rattle.psy_door.specs.States.{FetchFails, counted_up};
 
@@ -90,11 +89,14 @@ impl Shelf for ShelfMap {
         ensures within { IfOk result (λ bytes. vec_len bytes ≤ 262144) }
         ensures took { IfOk result (λ bytes. self.new.taken ≡ vec_len bytes) }
         ensures whole { IfOk result (λ bytes. bytes.items ≡ bytes_under (files_of self.old.files) name.now) }
-        ensures failed { result ≡ Err FetchFault.Failed → Rose self.old.faults self.new.faults }
+        ensures failed { result ≡ Err FetchFault.Failed → self.new.faults ≡ counted_up self.old.faults }
+        ensures same_faults { result ≢ Err FetchFault.Failed → self.new.faults ≡ self.old.faults }
         ensures named { result ≡ Err FetchFault.Failed → self.new.failed_name ≡ name.now }
         ensures same_name { result ≢ Err FetchFault.Failed → self.new.failed_name ≡ self.old.failed_name }
+        ensures took_none { result ≡ Err FetchFault.Failed → self.new.taken ≡ 0 }
         ensures too_long { result ≡ Err FetchFault.TooLong → self.new.taken ≡ 262145 }
-        ensures longer { result ≡ Err FetchFault.TooLong → 262144 < length (bytes_under (files_of self.old.files) name.now) }
+        ensures longer { result ≡ Err FetchFault.TooLong →
+            262144 < length (bytes_under (files_of self.old.files) name.now) }
 
         // It fails exactly where it is to fail.
         ensures fails_only { result ≡ Err FetchFault.Failed → FetchFails self.old name.now }
@@ -102,6 +104,7 @@ impl Shelf for ShelfMap {
     {
         let number = self.calls;
         self.calls = number.saturating_add(1);
+        self.taken = 0;
         let asked = Text::from_bytes(alloc, name.as_bytes())?;
         if counts::is_listed(self.fails.as_slice(), number) {
             return Err(self.fail(asked));

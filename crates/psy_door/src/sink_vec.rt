@@ -1,4 +1,4 @@
-ghost use Rattle.std.specs.Prelude.{◌≡◌, ℕ, ◌+◌, ◌<◌, ◌≤◌, Some, [], ◌++◌, length, take, IfOk, OnOk, OnErr, IsErr, ◌↔◌};
+ghost use Rattle.std.specs.Prelude.{◌≡◌, ◌+◌, ◌<◌, ◌≤◌, Some, [], ◌++◌, length, take, IfOk, OnErr, IsErr, ◌↔◌};
 ghost use Rattle.psy_door.specs.States.{SinkState, WriteFails, fitting, counted_up};
 
 use crate::counts;

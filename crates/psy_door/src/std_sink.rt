@@ -1,4 +1,5 @@
-ghost use Rattle.std.specs.Prelude.{◌≡◌, ◌<◌, ◌≤◌, None, length, IfSome};
+ghost use Rattle.std.specs.Prelude.{◌≡◌, ◌<◌, ◌≤◌, None, length, IfOk, IfSome, OnOk, OnErr};
+ghost use Rattle.psy_door.specs.States.{counted_up};
 
 use crate::sink::{Failed, Sink};
 use std::io::{self, Write};
@@ -47,7 +48,13 @@ impl<W: Write> Sink for StdSink<W> {
 
     ghost faults = { λ faults. faults };
 
-    fn write(&mut self, piece: &[u8]) -> Result<usize, Failed> {
+    fn write(&mut self, piece: &[u8]) -> Result<usize, Failed>
+        ensures counted { self.old ≤ self.new }
+        ensures most { IfOk result (λ n. n ≤ length piece.now) }
+        ensures some { IfOk result (λ n. 0 < length piece.now → 0 < n) }
+        ensures ok { OnOk result (self.new ≡ self.old) }
+        ensures err { OnErr result (self.new ≡ counted_up self.old) }
+    {
         match pushed(&mut self.out, piece) {
             Some(n) => Ok(n),
             None => {
@@ -55,5 +62,56 @@ impl<W: Write> Sink for StdSink<W> {
                 Err(Failed)
             }
         }
+    }
+}
+
+#[cfg(test)]
+mod tests {
+    use super::*;
+
+    // Takes three bytes, fails, takes nothing, fails when it is flushed, and then takes all.
+    #[derive(Drop)]
+    struct Flaky {
+        calls: u32,
+    }
+
+    fn broken() -> io::Error {
+        io::Error::from(io::ErrorKind::BrokenPipe)
+    }
+
+    impl Write for Flaky {
+        fn write(&mut self, piece: &[u8]) -> io::Result<usize> {
+            self.calls = self.calls.wrapping_add(1);
+            match self.calls {
+                1 => Ok(piece.len().min(3)),
+                2 => Err(broken()),
+                3 => Ok(0),
+                _ => Ok(piece.len()),
+            }
+        }
+
+        fn flush(&mut self) -> io::Result<()> {
+            if self.calls == 4 {
+                return Err(broken());
+            }
+            Ok(())
+        }
+    }
+
+    #[test]
+    fn each_error_of_the_writer_is_a_fault(rt: HostRuntime) {
+        let mut sink = StdSink::new(Flaky { calls: 0 });
+        let cases = [
+            (Ok(3), 0),
+            (Err(Failed), 1),
+            (Err(Failed), 2),
+            (Err(Failed), 3),
+            (Ok(4), 3),
+        ];
+        for (want, faults) in cases {
+            assert_eq!(rt; sink.write(b"text"), want, "before {faults} faults");
+            assert_eq!(rt; sink.faults, faults);
+        }
+        assert_eq!(rt; sink.write(b""), Ok(0));
     }
 }

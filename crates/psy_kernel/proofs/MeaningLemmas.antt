@@ -1,14 +1,13 @@
 -- Dates, published values and slacks of a program with one clock.
-use Rattle.std.proofs.Common.{zero, suc, ◌≡◌, ◌≢◌, ◌∙◌, sym, ap, subst, refl, ℕ, ◌+◌, ◌-◌, ◌*◌, ◌<◌, ◌≤◌, ◌==◌, nat_le, nat_eq, Bool, true, false, cond, List, [], ◌∷◌, ◌++◌, map, filter, find, fold, length, min, Option, None, Some, option_map, arith, ◌⊎◌, inl, inr, append-nil}
+use Rattle.std.proofs.Common.{zero, suc, ◌≡◌, ◌≢◌, sym, ap, subst, refl, ℕ, ◌+◌, ◌<◌, ◌≤◌, ◌==◌, nat_le, Bool, true, false, List, [], ◌∷◌, ◌++◌, filter, find, length, min, None, Some, option_map, arith, inl, inr, append-nil}
 use Rattle.std.proofs.lemmas.Bool.Decides.{nat_tests}
 use Rattle.std.proofs.Math.Nat.{mul-le-mul_left, mul-le-mul_right, eq-or-lt_of_le}
-use Rattle.std.proofs.lemmas.List.{map-append}
 use Rattle.std.proofs.lemmas.List.Elements.{filter-append}
 use Rattle.std.proofs.lemmas.List.Folds.{find-append}
 use Rattle.std.proofs.lemmas.List.Sums.{fold-append}
 use Rattle.std.proofs.lemmas.Grind.{common_steps}
 use Rattle.psy_kernel.specs.declared.first.First.{First}
-use Rattle.psy_kernel.specs.Meaning.{below, date_of, value_after, published, due_by, deadline_of, slack_of, least, least_slack, lesser}
+use Rattle.psy_kernel.specs.Meaning.{below, date_of, value_after, published, due_by, deadline_of, least, lesser}
 
 -- dates rise
 pub date_of_mono : (first : First) (m n : ℕ) → m ≤ n → date_of first m ≤ date_of first n

@@ -1,16 +1,16 @@
 -- What the fields of a kernel tell of the run.
-use Rattle.std.proofs.Common.{zero, suc, ◌≡◌, ◌≢◌, ◌∙◌, sym, ap, subst, refl, ℕ, ◌+◌, ◌-◌, ◌*◌, ◌<◌, ◌≤◌, List, map, length, Option, None, Some, IsNone, ◌↔◌, arith, ◌⊎◌, inl, inr, Bool, true, false, cond, ◌==◌, lit≤, min, ℤ}
+use Rattle.std.proofs.Common.{zero, suc, ◌≡◌, ◌≢◌, ◌∙◌, sym, ap, subst, refl, ℕ, ◌+◌, ◌-◌, ◌*◌, ◌<◌, ◌≤◌, map, length, Option, None, Some, IsNone, ◌↔◌, arith, inl, inr, Bool, true, false, cond, ◌==◌, lit≤, min, ℤ}
 use Rattle.std.proofs.lemmas.Bool.{cases_lt}
 use Rattle.std.proofs.lemmas.Bool.Decides.{nat_tests}
-use Rattle.psy_kernel.specs.declared.stage.Stage.{Stage}
-use Rattle.psy_kernel.specs.declared.stage.Stage.TheVariants.{DateDue, CycleDue, Over}
+use Rattle.psy_kernel.specs.declared.stage.Stage.TheVariants.{DateDue, CycleDue}
 use Rattle.psy_kernel.specs.declared.first.First.{First}
-use Rattle.psy_kernel.specs.Meaning.{below, date_of, value_after, published, due_by, slack_of, least, finish_of, cost_of}
+use Rattle.psy_kernel.specs.Meaning.{below, date_of, value_after, due_by, slack_of, least, finish_of, cost_of}
 use Rattle.psy_kernel.specs.declared.kernel.Kernel.TheInside.{Inside}
 use Rattle.psy_kernel.specs.Refinement.{StandsFor}
-use Rattle.psy_kernel.specs.Standing.{Progress, stage_of, value_of, count_of, least_slack_of}
+use Rattle.psy_kernel.specs.Standing.{Progress, stage_of, value_of, IsOffClock, count_of, least_slack_of}
 use Rattle.psy_kernel.proofs.MeaningLemmas.{date_of_mono, published_at, published_not, due_by_is, length_below, index_le_date, least_snoc}
 use Rattle.std.proofs.lemmas.List.{map-append}
+use Rattle.std.proofs.Math.Nat.{mul-le-mul_right}
 
 -- action number n is the present one where so many dates were done, or the first one is still to come
 pub record IsPresent (first : First) (dates n : ℕ) : Type 0 where
@@ -92,9 +92,45 @@ last_date k h done e = last_of k.first k.dates k.published h.range.phase done (s
 pub no_date : (k : Inside) → StandsFor k → 0 < k.dates → k.next_date ≢ k.dates - 1 + k.first.period → (n : ℕ) → date_of k.first n + 1 ≢ k.dates
 no_date k h done ne = none_of k.first k.dates k.published h.behind (omega (arith, h.ahead, h.next_date)) (λ e. ne (h.next_date ∙ e))
 
+-- a value is missing exactly off the clock
+pub is_none_off : (run : Progress) (value : Option ℤ) → IsNone value → IsOffClock run → IsNone value ↔ IsOffClock run
+is_none_off run value none off = (λ _. off, λ _. none)
+
+pub is_none_on : (k : Inside) (run : Progress) (value : ℤ) (n : ℕ) → ◌≡◌ {A = Progress} (record { first = k.first; dates = k.dates; cycles = k.cycles }) run → 0 < k.dates → date_of k.first n ≡ k.dates - 1 → IsNone (Some value) ↔ IsOffClock run
+is_none_on k run value n e done on = (λ none. absurd (let missing = none in cc), λ off. absurd (subst IsOffClock (sym e) off n (omega arith)))
+
+-- cycles that fill whole ticks, and pass those of the date before, are those of the date that is due
+ticks_filled : (quantum dates cycles t : ℕ) → 1 ≤ quantum → cycles ≤ dates * quantum → dates * quantum < cycles + quantum → cycles ≡ t * quantum → dates ≡ t
+ticks_filled quantum dates cycles t some within reached filled = elim (cases_lt t dates) [
+  | inl lt ↦ absurd (let sooner : t + 1 ≤ dates = omega arith in omega (arith, mul-le-mul_right quantum sooner))
+  | inr ge ↦ elim (cases_lt dates t) [
+    | inl lt ↦ absurd (let later : dates + 1 ≤ t = omega arith in omega (arith, mul-le-mul_right quantum later))
+    | inr le ↦ omega arith
+  ]
+]
+
+-- where the cycles done fill whole ticks, and another date is to come, it is due
+pub filled_stage : (run : Progress) (t : ℕ) → 1 ≤ run.first.quantum → run.dates ≢ run.first.until + 1 → run.cycles ≤ run.dates * run.first.quantum → run.dates * run.first.quantum < run.cycles + run.first.quantum → run.cycles ≡ t * run.first.quantum → stage_of run ≡ DateDue t
+filled_stage run t some more within reached filled =
+    let dates = ticks_filled run.first.quantum run.dates run.cycles t some within reached filled in
+    let all : run.cycles ≡ run.dates * run.first.quantum = filled ∙ ap (λ d. d * run.first.quantum) (sym dates) in
+    let due : stage_of run ≡ DateDue run.dates = grind (arith, nat_tests) in
+    due ∙ ap DateDue dates
+
 -- where a date is due, its cycles were done
 pub date_due : (run : Progress) → stage_of run ≡ DateDue run.dates → (run.dates ≢ run.first.until + 1) × (run.cycles ≡ run.dates * run.first.quantum)
 date_due run e = (grind (arith, nat_tests), grind (arith, nat_tests))
+
+-- where a cycle is due, another date is to come, and its cycles weren't all done
+pub cycle_due : (run : Progress) → stage_of run ≡ CycleDue run.cycles → (run.dates ≢ run.first.until + 1) × (run.cycles ≢ run.dates * run.first.quantum)
+cycle_due run e = (grind (arith, nat_tests), grind (arith, nat_tests))
+
+-- after a cycle that fills a tick a date is due
+pub filled_of : (k : Inside) (run : Progress) (t : ℕ) → ◌≡◌ {A = Progress} (record { first = k.first; dates = k.dates; cycles = k.cycles }) run → stage_of run ≡ CycleDue run.cycles → StandsFor k → k.cycles + 1 ≡ t * run.first.quantum → stage_of (record { first = k.first; dates = k.dates; cycles = k.cycles + 1 }) ≡ DateDue t
+filled_of k run t e stage h filled =
+    let due = cycle_due (record { first = k.first; dates = k.dates; cycles = k.cycles }) (subst (λ r. stage_of r ≡ CycleDue r.cycles) (sym e) stage) in
+    let quantum : k.first.quantum ≡ run.first.quantum = ap (λ r. r.first.quantum) e in
+    filled_stage (record { first = k.first; dates = k.dates; cycles = k.cycles + 1 }) t h.range.quantum.0 due.0 (omega (arith, due.1, h.cycles)) (omega (arith, h.reached)) (filled ∙ ap (λ q. t * q) (sym quantum))
 
 -- a date of the clock after the first is a period after the one before, and not before the period's end
 pub date_of_next : (first : First) (n : ℕ) → 0 < n → date_of first n ≡ date_of first (n - 1) + first.period
@@ -148,6 +184,7 @@ turned k value work slack h due cycles within value-is work-is slack-is =
       feasible = h.feasible;
       dates = omega arith;
       cycles = omega (arith, cycles);
+      reached = omega (arith, cycles);
       next_date = omega (arith, date);
       ahead = omega arith;
       behind = λ _. rw m (omega (arith, date));

@@ -1,6 +1,6 @@
 -- The dated meaning of a program with one clock, one agent and one temporal variable. It knows no
 -- cycle of execution, but for the finish of an action, by which slack is measured.
-use Rattle.std.specs.Prelude.{zero, suc, ℕ, ◌+◌, ◌-◌, ◌*◌, ◌==◌, nat_le, nat_eq, if◌then◌else◌, Bool, List, [], ◌∷◌, map, filter, length, find, fold, min, Option, None, Some, option_map, ℤ, pos, ◌+ℤ◌, ◌++◌, true, false, ◌≤◌, ◌<◌, ◌≤ℤ◌, negsuc}
+use Rattle.std.specs.Prelude.{zero, suc, ℕ, ◌+◌, ◌-◌, ◌*◌, ◌==◌, nat_le, if◌then◌else◌, List, [], ◌∷◌, map, filter, find, fold, min, Option, None, Some, option_map, ℤ, pos, ◌+ℤ◌, ◌++◌, ◌≤◌, ◌<◌, ◌≤ℤ◌, negsuc}
 use Rattle.std.specs.Int.{int_wrap, w32}
 use Rattle.psy_kernel.specs.declared.first.First.{First}
 

@@ -1,6 +1,6 @@
 -- What the fields of a kernel stand for.
-use Rattle.std.specs.Prelude.{◌≡◌, ℕ, ◌+◌, ◌-◌, ◌*◌, ◌<◌, ◌≤◌, map, min, Option, None, Some, ℤ}
-use Rattle.psy_kernel.specs.Meaning.{InRange, IsFeasible, below, date_of, value_after, cost_of, finish_of, slack_of, least}
+use Rattle.std.specs.Prelude.{◌≡◌, ◌+◌, ◌-◌, ◌*◌, ◌<◌, ◌≤◌, map, min}
+use Rattle.psy_kernel.specs.Meaning.{InRange, IsFeasible, below, date_of, value_after, cost_of, slack_of, least}
 use Rattle.psy_kernel.specs.declared.kernel.Kernel.TheInside.{Inside}
 
 -- Of the published values the last is number `published - 1`, and the action of that number is the
@@ -10,6 +10,7 @@ pub record StandsFor (k : Inside) : Type 0 where
   pub feasible : IsFeasible k.first
   pub dates : k.dates ≤ k.first.until + 1
   pub cycles : k.cycles ≤ k.dates * k.first.quantum
+  pub reached : k.dates * k.first.quantum ≤ k.cycles + k.first.quantum
   pub next_date : k.next_date ≡ date_of k.first k.published
   pub ahead : k.dates ≤ k.next_date
   pub behind : 0 < k.published → date_of k.first (k.published - 1) < k.dates

@@ -1,9 +1,9 @@
 -- Where a run stands, and what a kernel's fields stand for there.
-use Rattle.std.specs.Prelude.{zero, suc, ◌≡◌, ℕ, ◌+◌, ◌-◌, ◌*◌, ◌<◌, ◌≤◌, ◌==◌, if◌then◌else◌, map, length, min, Option, None, Some, ℤ}
+use Rattle.std.specs.Prelude.{zero, suc, ◌≢◌, ℕ, ◌+◌, ◌*◌, ◌==◌, if◌then◌else◌, length, Option, None, ℤ}
 use Rattle.psy_kernel.specs.declared.first.First.{First}
 use Rattle.psy_kernel.specs.declared.stage.Stage.{Stage}
 use Rattle.psy_kernel.specs.declared.stage.Stage.TheVariants.{DateDue, CycleDue, Over}
-use Rattle.psy_kernel.specs.Meaning.{published, due_by, least_slack}
+use Rattle.psy_kernel.specs.Meaning.{date_of, published, due_by, least_slack}
 
 -- a program with its last date, and how many dates and cycles of its run were done
 pub record Progress : Type 0 where
@@ -25,6 +25,10 @@ stage_of run =
 -- the value published at the date done last
 abbrev pub value_of : Progress → Option ℤ
 value_of run = elim run.dates [ zero ↦ None | suc date ↦ published run.first date ]
+
+-- the date done last is none of the clock's, or none was done
+abbrev pub IsOffClock : Progress → Type 0
+IsOffClock run = (n : ℕ) → date_of run.first n + 1 ≢ run.dates
 
 -- how many actions were due by the date done last
 abbrev pub count_of : Progress → ℕ

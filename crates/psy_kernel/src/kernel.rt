@@ -1,6 +1,6 @@
-ghost use Rattle.std.specs.Prelude.{◌≡◌, ◌+◌, ◌-◌, ◌*◌, ◌^◌, ◌<◌, ◌≤◌, ◌↔◌, map, None, Some, IsNone, length, option_map, unwrap_or, min, pos};
+ghost use Rattle.std.specs.Prelude.{◌≡◌, ◌≢◌, ℕ, ◌+◌, ◌-◌, ◌*◌, ◌^◌, ◌<◌, ◌≤◌, ◌↔◌, map, None, Some, IsNone, min, pos};
 ghost use Rattle.psy_kernel.specs.Meaning.{InRange, IsFeasible, below, date_of, next_value, value_after, cost_of, finish_of, slack_of, least, lesser};
-ghost use Rattle.psy_kernel.specs.Standing.{stage_of, value_of, count_of, least_slack_of};
+ghost use Rattle.psy_kernel.specs.Standing.{stage_of, value_of, IsOffClock, count_of, least_slack_of};
 
 use crate::first::First;
 use crate::stage::Stage;
@@ -103,7 +103,8 @@ impl Kernel {
     pub fn boot(first: First) -> Kernel
         requires range { InRange first }
         requires feasible { IsFeasible first }
-        ensures { result ≡ record { first = first; dates = 0; cycles = 0 } }
+        ensures state { result ≡ record { first = first; dates = 0; cycles = 0 } }
+        ensures stage { stage_of result ≡ Stage.DateDue 0 }
     {
         Kernel {
             first,
@@ -136,7 +137,12 @@ impl Kernel {
     /// next action starts.
     pub fn date(&mut self)
         requires { stage_of self.old ≡ Stage.DateDue self.old.dates }
-        ensures { self.new ≡ record self.old { dates = self.old.dates + 1 } }
+        ensures state { self.new ≡ record self.old { dates = self.old.dates + 1 } }
+
+        // The run is over after its last date, and else the cycles from this date on are due.
+        ensures last { self.old.dates ≡ self.old.first.until → stage_of self.new ≡ Stage.Over }
+        ensures earlier { self.old.dates ≢ self.old.first.until →
+            stage_of self.new ≡ Stage.CycleDue (self.old.dates * self.old.first.quantum) }
     {
         let date = self.dates;
         self.dates = date + 1;
@@ -155,7 +161,13 @@ impl Kernel {
     /// Does the cycle that is due: the present action gets it, where it isn't finished.
     pub fn cycle(&mut self)
         requires { stage_of self.old ≡ Stage.CycleDue self.old.cycles }
-        ensures { self.new ≡ record self.old { cycles = self.old.cycles + 1 } }
+        ensures state { self.new ≡ record self.old { cycles = self.old.cycles + 1 } }
+
+        // A date is due where the cycles done fill whole ticks, and else the next cycle.
+        ensures filled { (t : ℕ) → self.new.cycles ≡ t * self.old.first.quantum →
+            stage_of self.new ≡ Stage.DateDue t }
+        ensures inside { ((t : ℕ) → self.new.cycles ≢ t * self.old.first.quantum) →
+            stage_of self.new ≡ Stage.CycleDue self.new.cycles }
     {
         self.cycles += 1;
         if self.units == self.work {
@@ -167,7 +179,8 @@ impl Kernel {
 
     /// The value published at the date done last; None exactly where the clock has no date there.
     pub fn value(&self) -> Option<i32>
-        ensures { result ≡ value_of self.now }
+        ensures value { result ≡ value_of self.now }
+        ensures none { IsNone result ↔ IsOffClock self.now }
     {
         if self.dates == 0 {
             return None;
@@ -186,5 +199,87 @@ impl Kernel {
         ensures none { IsNone result.1 ↔ (result.0 ≡ 0) }
     {
         (self.published.saturating_sub(1), self.slack)
+    }
+}
+
+#[cfg(test)]
+mod tests {
+    use super::*;
+    use std::process::Abort;
+
+    // A program without a shift, of which each action adds one to the variable.
+    const COUNTER: First = First {
+        quantum: 100,
+        period: 10,
+        first: 0,
+        init: 0,
+        own: true,
+        add: 1,
+        budget: 40,
+        until: 20,
+    };
+
+    // Runs to the end, compares what is published, and gives what was counted.
+    fn run(rt: &impl Abort, first: First, published: &[(u64, i32)]) -> (u64, Option<u64>)
+        requires range { InRange first }
+        requires feasible { IsFeasible first }
+    {
+        let mut kernel = Kernel::boot(first);
+        let mut values = published.iter();
+        for _ in 0..200_000_000u64 {
+            match kernel.stage() {
+                Stage::DateDue(date) => {
+                    kernel.date();
+                    if let Some(value) = kernel.value() {
+                        assert_eq!(rt; values.next(), Some(&(date, value)));
+                    }
+                }
+                Stage::CycleDue(_) => kernel.cycle(),
+                Stage::Over => break,
+            }
+        }
+        assert_eq!(rt; kernel.stage(), Stage::Over);
+        assert_eq!(rt; values.next(), None);
+        kernel.counted()
+    }
+
+    #[test]
+    fn runs_to_the_last_date(rt: HostRuntime) {
+        let counted = run(&rt, COUNTER, &[(0, 0), (10, 1), (20, 2)]);
+        assert_eq!(rt; counted, (2, Some(994)), "a counter");
+
+        let shifted = First {
+            first: 3,
+            init: -5,
+            add: 2,
+            ..COUNTER
+        };
+        let counted = run(&rt, shifted, &[(3, -5), (13, -3)]);
+        assert_eq!(rt; counted, (1, Some(995)), "a counter whose clock is shifted");
+
+        let constant = First {
+            own: false,
+            add: 7,
+            until: 10,
+            ..COUNTER
+        };
+        let counted = run(&rt, constant, &[(0, 0), (10, 7)]);
+        assert_eq!(rt; counted, (1, Some(997)), "a constant");
+
+        let short = First {
+            budget: 1001,
+            until: 9,
+            ..COUNTER
+        };
+        let counted = run(&rt, short, &[(0, 0)]);
+        assert_eq!(rt; counted, (0, None), "a run shorter than the period");
+
+        let wrapping = First {
+            init: 2_147_483_647,
+            until: 10,
+            ..COUNTER
+        };
+        let counted = run(&rt, wrapping, &[(0, 2_147_483_647), (10, -2_147_483_648)]);
+        assert_eq!(rt; counted, (1, Some(995)), "a sum that wraps");
     }
 }

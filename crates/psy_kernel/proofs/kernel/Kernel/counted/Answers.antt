@@ -1,4 +1,4 @@
-use Rattle.std.proofs.Common.{◌∙◌, ap, ℕ, ◌-◌, arith}
+use Rattle.std.proofs.Common.{◌∙◌, ap, ◌-◌}
 use Rattle.psy_kernel.specs.Standing.{count_of, least_slack_of}
 use Rattle.psy_kernel.proofs.StandingLemmas.{present, count_of_is, least_slack_of_is, least_none}
 use Rattle.psy_kernel.proofs.kernel.Kernel.counted.Goals as goal
