@@ -23,11 +23,11 @@ log_of-next first variable n = let e : n + 1 ≡ suc n = omega arith in rw e (lo
 pub log_of-more : (first : First) (variable : List ℕ) (dates n : ℕ) → dates ≤ n → (rest : List ℕ) × (log_of first variable n ≡ log_of first variable dates ++ rest)
 log_of-more first variable dates zero h = let none : dates ≡ 0 = omega arith in ([], rw none refl)
 log_of-more first variable dates (suc n) h = elim (eq-or-lt_of_le h) [
-    | inl eq ↦ ([], rw eq (sym (append-nil (log_of first variable (suc n)))))
-    | inr lt ↦
-        let before = log_of-more first variable dates n (omega arith) in
-        (before.0 ++ lines_at first variable n, log_of-suc first variable n ∙ ap (λ text. text ++ lines_at first variable n) before.1 ∙ append_assoc (log_of first variable dates) before.0 (lines_at first variable n))
-  ]
+  | inl eq ↦ ([], rw eq (sym (append-nil (log_of first variable (suc n)))))
+  | inr lt ↦
+      let before = log_of-more first variable dates n (omega arith) in
+      (before.0 ++ lines_at first variable n, log_of-suc first variable n ∙ ap (λ text. text ++ lines_at first variable n) before.1 ∙ append_assoc (log_of first variable dates) before.0 (lines_at first variable n))
+]
 
 -- what is due where a date is
 pub stage-date : (run : Progress) (date : ℕ) → stage_of run ≡ DateDue date → (date ≡ run.dates) × (run.cycles ≡ run.dates * run.first.quantum) × (run.dates ≢ run.first.until + 1)

@@ -11,11 +11,11 @@ use Rattle.psy_run.proofs.GrowthLemmas.{Grew-trans}
 -- a front of a text is a front of the text with more behind it
 pub GrewByFront-append : (a b : Option (List ℕ)) (p q : List ℕ) → GrewByFront a b p → GrewByFront a b (p ++ q)
 GrewByFront-append a b p q h = elim (cases_lt (length p) h.0) [
-    | inr le ↦ (h.0, subst (λ text. Grew a b text) (sym (take-append-le h.0 p q le)) h.1)
-    | inl lt ↦
-        let all : length p ≤ h.0 = omega arith in
-        (length p, subst (λ text. Grew a b text) (take_all h.0 p all ∙ sym (take-append_seam p q)) h.1)
-  ]
+  | inr le ↦ (h.0, subst (λ text. Grew a b text) (sym (take-append-le h.0 p q le)) h.1)
+  | inl lt ↦
+      let all : length p ≤ h.0 = omega arith in
+      (length p, subst (λ text. Grew a b text) (take_all h.0 p all ∙ sym (take-append_seam p q)) h.1)
+]
 
 -- a text, and a front of the next one
 pub Grew-GrewByFront : (a b c : Option (List ℕ)) (p q : List ℕ) → Grew a b p → GrewByFront b c q → GrewByFront a c (p ++ q)

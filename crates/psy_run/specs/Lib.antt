@@ -1,3 +1,4 @@
+pub mod Answer
 pub mod Asked
 pub mod Form
 pub mod Log

@@ -321,10 +321,15 @@ fn read_numbers(p: &Parts, quantum: u32, until: u32) -> Option<First>
         budget: p.agent.budget.value,
         until,
     };
-    if is_in_range(&first) { Some(first) } else { None }
+    if is_in_range(&first) {
+        Some(first)
+    } else {
+        None
+    }
 }
 
 /// A program of the form that is served: the names of its variable and its agent, and its numbers.
+#[derive(Clone, Copy)]
 pub struct Form<'a> {
     pub variable: &'a [u8],
     pub agent: &'a [u8],

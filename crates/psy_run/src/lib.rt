@@ -1,10 +1,15 @@
-//! The top call of psyc.
+//! The top call of psyc: from words and the bytes of a program to a status and a text.
 #![tactic(auto)]
 
+mod asked;
 mod form;
+mod judge;
 mod line;
 mod log;
+mod refusal;
 mod run;
+mod top;
 mod write;
 
+pub use top::psyc;
 pub use write::{WriteFault, write_all_of};

@@ -4,12 +4,11 @@ ghost use Rattle.psy_kernel.specs.Standing.{ended};
 ghost use Rattle.psy_run.specs.Log.{lines_at, log_of, summary_of, text_of};
 ghost use Rattle.psy_run.specs.Writing.{Written};
 
-use psy_door::Sink;
-use psy_kernel::{Kernel, Stage};
-
 use crate::line::Line;
 use crate::log;
 use crate::write::{WriteFault, write_all_of};
+use psy_door::Sink;
+use psy_kernel::{Kernel, Stage};
 
 // Writes a line.
 fn write_line<S: Sink>(out: &mut S, line: &Line) -> Result<(), WriteFault>
@@ -40,11 +39,7 @@ fn write_date<S: Sink>(
 }
 
 // Does all dates and cycles of a kernel that was just booted, and writes the lines of each date.
-fn run_dates<S: Sink>(
-    kernel: &mut Kernel,
-    variable: &[u8],
-    out: &mut S,
-) -> Result<(), WriteFault>
+fn run_dates<S: Sink>(kernel: &mut Kernel, variable: &[u8], out: &mut S) -> Result<(), WriteFault>
     requires short { length variable.now ≤ 32 }
     requires booted { kernel.old ≡ record { first = kernel.old.first; dates = 0; cycles = 0 } }
     ensures counted { S.faults out.old ≤ S.faults out.new }

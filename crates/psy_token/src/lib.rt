@@ -13,4 +13,5 @@ mod tests;
 
 pub use fault::LexFault;
 pub use law::one_reading;
+pub use number::decimal_value;
 pub use pass::lex;

@@ -28,7 +28,7 @@ stages-preserved g c =
       over = rw c.date.ensures (λ e. let last : c.stages.kernel.dates ≡ c.stages.kernel.first.until = omega arith in due.1 ∙ ap (λ d. d * c.stages.kernel.first.quantum) last);
       counted = omega (arith, c.in_default.ensures.counted);
       grew =
-        rw (ap (λ k. k.dates) c.date.ensures)
-        (Grew-date _ _ _ c.args.kernel.now.first variable c.stages.kernel.dates c.stages.invariant.grew
-        (subst (λ text. Grew (g.S.Sink.held c.stages.out) (g.S.Sink.held c.write_date.new.out) text) line c.in_default.ensures.written));
+          rw (ap (λ k. k.dates) c.date.ensures)
+          (Grew-date _ _ _ c.args.kernel.now.first variable c.stages.kernel.dates c.stages.invariant.grew
+          (subst (λ text. Grew (g.S.Sink.held c.stages.out) (g.S.Sink.held c.write_date.new.out) text) line c.in_default.ensures.written));
     }

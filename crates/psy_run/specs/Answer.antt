@@ -1,0 +1,90 @@
+-- The defined answer: the status and the text that belong to the words and to the bytes of the file that they name.
+use Rattle.std.specs.Prelude.{◌≡◌, ℕ, ◌*◌, ◌<◌, ◌≤◌, List, ◌++◌, length, codes, decimal, Option}
+use Rattle.psy_base.specs.declared.limits.TheConstants.{FILE_BYTES}
+use Rattle.psy_tree.specs.declared.token.Token.{Token}
+use Rattle.psy_tree.specs.declared.raw.Raw.{Raw}
+use Rattle.psy_tree.specs.Tokens.{TokensOf}
+use Rattle.psy_tree.specs.Faults as faults
+use Rattle.psy_tree.specs.Grammar.{Spells}
+use Rattle.psy_tree.specs.Deep as deep
+use Rattle.psy_kernel.specs.Meaning.{IsFeasible}
+use Rattle.psy_door.specs.Files.{Files, WhereTold, bytes_under}
+use Rattle.psy_run.specs.declared.refusal.Refusal.{Refusal}
+use Rattle.psy_run.specs.declared.refusal.Refusal.TheVariants.{Words, ReadProgram, LongProgram, BadByte, LongName, BigLiteral, OpenComment, Syntax, Deep, NotBuilt, Infeasible}
+use Rattle.psy_run.specs.Asked.{AsksRun, AskNothing}
+use Rattle.psy_run.specs.Form.{Program, IsForm}
+use Rattle.psy_run.specs.Log.{text_of}
+
+-- the status of each refusal
+abbrev pub status_of : Refusal → ℕ
+status_of Words = 2
+status_of ReadProgram = 3
+status_of LongProgram = 7
+status_of (BadByte place) = 1
+status_of (LongName place) = 1
+status_of (BigLiteral place) = 1
+status_of (OpenComment place) = 1
+status_of Syntax = 1
+status_of (Deep token) = 1
+status_of NotBuilt = 1
+status_of (Infeasible length demand supply) = 5
+
+-- `refused lex NUMBER at PLACE`
+abbrev pub lex_line : ℕ → ℕ → List ℕ
+lex_line number place = codes "refused lex " ++ decimal number ++ codes " at " ++ decimal place ++ codes "\n"
+
+-- the line of each refusal
+abbrev pub line_of : Refusal → List ℕ
+line_of Words = codes "words\n"
+line_of ReadProgram = codes "read program\n"
+line_of LongProgram = codes "limit program 262144\n"
+line_of (BadByte place) = lex_line 1 place
+line_of (LongName place) = lex_line 2 place
+line_of (BigLiteral place) = lex_line 3 place
+line_of (OpenComment place) = lex_line 4 place
+line_of Syntax = codes "refused parse 1\n"
+line_of (Deep token) = codes "refused parse 2 at " ++ decimal token ++ codes "\n"
+line_of NotBuilt = codes "not built\n"
+line_of (Infeasible length demand supply) = codes "infeasible " ++ decimal length ++ codes " " ++ decimal demand ++ codes " " ++ decimal supply ++ codes "\n"
+
+-- the tokens of a file that isn't too long
+abbrev pub HasTokens : List ℕ → List Token → Type 0
+HasTokens bytes tokens = (length bytes ≤ FILE_BYTES) × TokensOf bytes tokens
+
+-- the tree of a file whose text isn't too deep
+abbrev pub HasTree : List ℕ → Raw → Type 0
+HasTree bytes raw = (tokens : List Token) × HasTokens bytes tokens × deep.Shallow tokens × Spells raw tokens
+
+-- the file is a program of the form that is served, to be run up to this date
+abbrev pub HasProgram : List ℕ → ℕ → Program → Type 0
+HasProgram bytes until program = (raw : Raw) × HasTree bytes raw × IsForm raw until program
+
+-- A program file is refused: each refusal stands behind the steps before it, so that one at most fits.
+abbrev pub Refuses : List ℕ → ℕ → Refusal → Type 0
+Refuses bytes until Words = ⊥
+Refuses bytes until ReadProgram = ⊥
+Refuses bytes until LongProgram = FILE_BYTES < length bytes
+Refuses bytes until (BadByte place) = (length bytes ≤ FILE_BYTES) × faults.FirstFault bytes faults.BadByte place
+Refuses bytes until (LongName place) = (length bytes ≤ FILE_BYTES) × faults.FirstFault bytes faults.LongName place
+Refuses bytes until (BigLiteral place) = (length bytes ≤ FILE_BYTES) × faults.FirstFault bytes faults.BigLiteral place
+Refuses bytes until (OpenComment place) = (length bytes ≤ FILE_BYTES) × faults.FirstFault bytes faults.OpenComment place
+Refuses bytes until (Deep token) = (tokens : List Token) × HasTokens bytes tokens × deep.Deep tokens token
+Refuses bytes until Syntax = (tokens : List Token) × HasTokens bytes tokens × deep.Shallow tokens × ((raw : Raw) → Spells raw tokens → ⊥)
+Refuses bytes until NotBuilt = (raw : Raw) × HasTree bytes raw × ((program : Program) → IsForm raw until program → ⊥)
+Refuses bytes until (Infeasible length demand supply) =
+    (program : Program) × HasProgram bytes until program × (program.first.period ≤ program.first.until) × (supply < demand)
+    × (length ≡ program.first.period) × (demand ≡ program.first.budget) × (supply ≡ program.first.quantum * program.first.period)
+
+-- the file is a program that is run
+abbrev pub IsAccepted : List ℕ → ℕ → Program → Type 0
+IsAccepted bytes until program = HasProgram bytes until program × IsFeasible program.first
+
+-- The status and the text that answer the words, where the file that they name has these bytes.
+pub data Answers (words : List (List ℕ)) (bytes : List ℕ) : ℕ → List ℕ → Type 0 where
+  unlisted : AskNothing words → Answers words bytes (status_of Words) (line_of Words)
+  refused : (name : List ℕ) (until : ℕ) (refusal : Refusal) → AsksRun words name until → Refuses bytes until refusal → Answers words bytes (status_of refusal) (line_of refusal)
+  run : (name : List ℕ) (until : ℕ) (program : Program) → AsksRun words name until → IsAccepted bytes until program → Answers words bytes 0 (text_of program.first program.variable program.agent)
+
+-- the bytes are those of the file that the words name, where files are told
+abbrev pub AreNamed : List (List ℕ) → Option Files → List ℕ → Type 0
+AreNamed words files bytes = WhereTold files (λ held. (name : List ℕ) (until : ℕ) → AsksRun words name until → bytes ≡ bytes_under held name)

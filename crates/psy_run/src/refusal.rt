@@ -1,0 +1,122 @@
+ghost use Rattle.std.specs.Prelude.{◌≡◌, ◌≤◌, length};
+ghost use Rattle.psy_run.specs.Answer.{status_of, line_of, lex_line};
+
+use crate::line::Line;
+
+/// Why the words, or the program that they name, aren't run. Contracts read the status and the line of
+/// each from one definition.
+#[derive(Clone, Copy, Debug, PartialEq, Eq)]
+pub enum Refusal {
+    /// The words are of no listed form.
+    Words,
+    /// The program's file can't be read.
+    ReadProgram,
+    /// The program's file is too long.
+    LongProgram,
+    /// A byte that begins no token, after so many bytes.
+    BadByte(u32),
+    /// A word that is too long, after so many bytes.
+    LongName(u32),
+    /// A number that is too great, after so many bytes.
+    BigLiteral(u32),
+    /// A comment without an end, after so many bytes.
+    OpenComment(u32),
+    /// The text is nested too deep at the token of this number.
+    Deep(u32),
+    /// The tokens aren't those of a program.
+    Syntax,
+    /// The program isn't of a form that is served so far.
+    NotBuilt,
+    /// The work due in a window of so many ticks needs more cycles than it has.
+    Infeasible {
+        length: u32,
+        demand: u32,
+        supply: u32,
+    },
+}
+
+impl Refusal {
+    /// The status with which the program ends.
+    pub fn status(self) -> u8
+        ensures { result ≡ status_of self }
+    {
+        match self {
+            Refusal::BadByte(_)
+            | Refusal::LongName(_)
+            | Refusal::BigLiteral(_)
+            | Refusal::OpenComment(_)
+            | Refusal::Deep(_)
+            | Refusal::Syntax
+            | Refusal::NotBuilt => 1,
+            Refusal::Words => 2,
+            Refusal::ReadProgram => 3,
+            Refusal::Infeasible { .. } => 5,
+            Refusal::LongProgram => 7,
+        }
+    }
+
+    /// The line that says it.
+    pub fn line(self) -> Line
+        ensures { result ≡ line_of self }
+    {
+        match self {
+            Refusal::Words => text(b"words\n"),
+            Refusal::ReadProgram => text(b"read program\n"),
+            Refusal::LongProgram => text(b"limit program 262144\n"),
+            Refusal::BadByte(place) => lexical(1, place),
+            Refusal::LongName(place) => lexical(2, place),
+            Refusal::BigLiteral(place) => lexical(3, place),
+            Refusal::OpenComment(place) => lexical(4, place),
+            Refusal::Deep(token) => deep(token),
+            Refusal::Syntax => text(b"refused parse 1\n"),
+            Refusal::NotBuilt => text(b"not built\n"),
+            Refusal::Infeasible {
+                length,
+                demand,
+                supply,
+            } => infeasible(length, demand, supply),
+        }
+    }
+}
+
+fn text(bytes: &[u8]) -> Line
+    requires { length bytes.now ≤ 128 }
+    ensures { result ≡ bytes.now }
+{
+    let mut line = Line::new();
+    line.add(bytes);
+    line
+}
+
+fn lexical(number: u64, place: u32) -> Line
+    ensures { result ≡ lex_line number place }
+{
+    let mut line = text(b"refused lex ");
+    line.add_number(number);
+    line.add(b" at ");
+    line.add_number(u64::from(place));
+    line.add(b"\n");
+    line
+}
+
+fn deep(token: u32) -> Line
+    ensures { result ≡ line_of (Refusal.Deep token) }
+{
+    let mut line = text(b"refused parse 2 at ");
+    line.add_number(u64::from(token));
+    line.add(b"\n");
+    line
+}
+
+fn infeasible(length: u32, demand: u32, supply: u32) -> Line
+    ensures { result ≡ line_of (Refusal.Infeasible length demand supply) }
+{
+    let mut line = text(b"infeasible ");
+    line.add_number(u64::from(length));
+    line.add(b" ");
+    line.add_number(u64::from(demand));
+    line.add(b" ");
+    line.add_number(u64::from(supply));
+    line.add(b"\n");
+    line
+}
