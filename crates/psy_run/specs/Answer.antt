@@ -11,6 +11,8 @@ use Rattle.psy_kernel.specs.Meaning.{IsFeasible}
 use Rattle.psy_door.specs.Files.{Files, WhereTold, bytes_under}
 use Rattle.psy_run.specs.declared.refusal.Refusal.{Refusal}
 use Rattle.psy_run.specs.declared.refusal.Refusal.TheVariants.{Words, ReadProgram, LongProgram, BadByte, LongName, BigLiteral, OpenComment, Syntax, Deep, NotBuilt, Infeasible}
+use Rattle.psy_run.specs.declared.judge.Stop.{Stop}
+use Rattle.psy_run.specs.declared.judge.Stop.TheVariants as stops
 use Rattle.psy_run.specs.Asked.{AsksRun, AskNothing}
 use Rattle.psy_run.specs.Form.{Program, IsForm}
 use Rattle.psy_run.specs.Log.{text_of}
@@ -84,6 +86,11 @@ pub data Answers (words : List (List ℕ)) (bytes : List ℕ) : ℕ → List ℕ
   unlisted : AskNothing words → Answers words bytes (status_of Words) (line_of Words)
   refused : (name : List ℕ) (until : ℕ) (refusal : Refusal) → AsksRun words name until → Refuses bytes until refusal → Answers words bytes (status_of refusal) (line_of refusal)
   run : (name : List ℕ) (until : ℕ) (program : Program) → AsksRun words name until → IsAccepted bytes until program → Answers words bytes 0 (text_of program.first program.variable program.agent)
+
+-- the step stopped as the definition says, or for want of memory
+abbrev pub IsStop : List ℕ → ℕ → Stop → Type 0
+IsStop bytes until (stops.Refused refusal) = Refuses bytes until refusal
+IsStop bytes until stops.Memory = Unit {0}
 
 -- the bytes are those of the file that the words name, where files are told
 abbrev pub AreNamed : List (List ℕ) → Option Files → List ℕ → Type 0

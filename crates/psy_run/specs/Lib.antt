@@ -2,5 +2,6 @@ pub mod Answer
 pub mod Asked
 pub mod Form
 pub mod Log
+pub mod Outcome
 pub mod Seen
 pub mod Writing

@@ -1,5 +1,11 @@
 //! The steps that judge a program's file, each with its refusal.
-use crate::refusal::Refusal;
+ghost use Rattle.std.specs.Prelude.{◌≡◌, ◌≢◌, ℕ, ◌<◌, ◌≤◌, List, length, IfOk, IfErr, vec_len, MatchOption, ◌*◌};
+ghost use Rattle.psy_base.specs.declared.limits.TheConstants.{FILE_BYTES};
+ghost use Rattle.psy_door.specs.Faults.{Rose};
+ghost use Rattle.psy_door.specs.Files.{WhereTold, bytes_under};
+ghost use Rattle.psy_kernel.specs.Meaning.{InRange, IsFeasible};
+ghost use Rattle.psy_run.specs.Answer.{HasTokens, HasTree, IsStop};
+
 use psy_base::Items;
 use psy_door::{FetchFault, Shelf};
 use psy_kernel::First;
@@ -8,6 +14,8 @@ use psy_token::{LexFault, lex};
 use psy_tree::{Raw, Token};
 use std::alloc::Global;
 
+use crate::refusal::Refusal;
+
 /// Why there is no run: a refusal, or want of memory.
 #[derive(Clone, Copy, Debug, PartialEq, Eq)]
 pub enum Stop {
@@ -15,18 +23,12 @@ pub enum Stop {
     Memory,
 }
 
-/// The bytes of the program's file.
-pub fn load<F: Shelf>(alloc: Global, shelf: &mut F, name: &str) -> Result<Vec<u8>, Stop> {
-    match shelf.fetch(alloc, name) {
-        Ok(bytes) => Ok(bytes),
-        Err(FetchFault::Failed) => Err(Stop::Refused(Refusal::ReadProgram)),
-        Err(FetchFault::TooLong) => Err(Stop::Refused(Refusal::LongProgram)),
-        Err(FetchFault::Memory) => Err(Stop::Memory),
-    }
-}
-
 // The tokens of the file.
-fn tokens(alloc: Global, bytes: &[u8]) -> Result<Items<Token>, Stop> {
+fn tokens(alloc: Global, bytes: &[u8]) -> Result<Items<Token>, Stop>
+    requires { length bytes.now ≤ FILE_BYTES }
+    ensures ok { IfOk result (λ tokens. HasTokens bytes.now tokens) }
+    ensures err { IfErr result (λ stop. (until : ℕ) → IsStop bytes.now until stop) }
+{
     match lex(alloc, bytes) {
         Ok(tokens) => Ok(tokens),
         Err(LexFault::BadByte(place)) => Err(Stop::Refused(Refusal::BadByte(place))),
@@ -37,9 +39,16 @@ fn tokens(alloc: Global, bytes: &[u8]) -> Result<Items<Token>, Stop> {
     }
 }
 
-/// The tree of the file.
-pub fn tree(alloc: Global, bytes: &[u8]) -> Result<Raw, Stop> {
-    let tokens = tokens(alloc, bytes)?;
+/// The tree of a file that isn't too long.
+pub fn tree(alloc: Global, bytes: &[u8]) -> Result<Raw, Stop>
+    requires { length bytes.now ≤ FILE_BYTES }
+    ensures ok { IfOk result (λ raw. HasTree bytes.now raw) }
+    ensures err { IfErr result (λ stop. (until : ℕ) → IsStop bytes.now until stop) }
+{
+    let tokens = match tokens(alloc, bytes) {
+        Ok(tokens) => tokens,
+        Err(stop) => return Err(stop),
+    };
     match parse(alloc, tokens.as_slice()) {
         Ok(raw) => Ok(raw),
         Err(ParseFault::Deep(token)) => Err(Stop::Refused(Refusal::Deep(token))),
@@ -48,15 +57,17 @@ pub fn tree(alloc: Global, bytes: &[u8]) -> Result<Raw, Stop> {
     }
 }
 
-/// The processor has the cycles that the program's actions may use.
-pub fn admit(first: &First) -> Result<(), Stop> {
+/// The window of so many ticks in which the program's actions need more cycles than it has, if there is
+/// one up to the last date: its length, the cycles needed, and the cycles that it has.
+pub fn overload(first: &First) -> Option<(u32, u32, u32)>
+    requires { InRange first.now }
+    ensures { MatchOption result (IsFeasible first.now) (λ o.
+        (first.now.period ≤ first.now.until) × (o.2 < o.1)
+        × (o.0 ≡ first.now.period) × (o.1 ≡ first.now.budget) × (o.2 ≡ first.now.quantum * first.now.period)) }
+{
     let supply = first.quantum * first.period;
     if first.period <= first.until && first.budget > supply {
-        return Err(Stop::Refused(Refusal::Infeasible {
-            length: first.period,
-            demand: first.budget,
-            supply,
-        }));
+        return Some((first.period, first.budget, supply));
     }
-    Ok(())
+    None
 }

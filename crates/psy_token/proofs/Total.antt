@@ -4,7 +4,7 @@ use Rattle.std.proofs.lemmas.List.{append_assoc, length-append}
 use Rattle.psy_tree.specs.declared.token.Kind.TheVariants as kinds
 use Rattle.psy_tree.specs.declared.token.Token.{Token}
 use Rattle.psy_tree.specs.Lexemes.{IsWord, IsNumber, word_spelling}
-use Rattle.psy_tree.specs.Tokens.{Piece, Separator, Lexeme, bytes_of, text_of, Stands, Splits, tokens_from, TokensOf}
+use Rattle.psy_tree.specs.Tokens.{Piece, Separator, Lexeme, bytes_of, text_of, Stands, AllStand, Splits, tokens_from, TokensOf}
 use Rattle.psy_tree.specs.Faults.{Fault, IsAtFault, FirstFault}
 use Rattle.psy_token.specs.Reading.{Front, End, Whole, Faulty, front_of}
 use Rattle.psy_token.proofs.Spellings.{IsWord-spelling}
@@ -66,3 +66,13 @@ either_of text (inr (pieces, rest, fault, behind, splits, at)) = inr (fault, len
 
 pub tokens_or_fault : (text : List ℕ) → ((tokens : List Token) × TokensOf text tokens) ⊎ ((fault : Fault) × (place : ℕ) × FirstFault text fault place)
 tokens_or_fault text = either_of text (read_up_to (length text) text (omega arith))
+
+few_tokens : (place : ℕ) (pieces : List Piece) (rest : List ℕ) → AllStand pieces rest → length (tokens_from place pieces) ≤ length (text_of pieces)
+few_tokens place [] rest stand = omega arith
+few_tokens place (Separator bytes ∷ pieces) rest stand = omega (arith, few_tokens (place + length bytes) pieces rest stand.1, length-append bytes (text_of pieces))
+few_tokens place (Lexeme kind bytes ∷ pieces) rest stand = omega (arith, few_tokens (place + length bytes) pieces rest stand.1, length-append bytes (text_of pieces), piece_bytes (Lexeme kind bytes) (text_of pieces ++ rest) stand.0)
+
+-- a text has no more tokens than bytes
+pub length-TokensOf : (text : List ℕ) (tokens : List Token) → TokensOf text tokens → length tokens ≤ length text
+length-TokensOf text tokens (pieces, splits, are) =
+    omega (arith, few_tokens 0 pieces [] splits.stand, ap length are, ap length splits.whole, length-append (text_of pieces) ([]))

@@ -163,6 +163,7 @@ pub fn lex(alloc: Global, text: &[u8]) -> Result<Items<Token>, LexFault>
     // What is answered holds of the text.
     ensures tokens { IfOk result (λ tokens. TokensOf text.now tokens) }
     ensures fault { IfErr result (λ fault. IsFirstFault text.now fault) }
+    ensures few { IfOk result (λ tokens. length tokens ≤ length text.now) }
 
     // What holds of the text is answered, unless memory runs out.
     ensures all_tokens { (tokens : List Token) → TokensOf text.now tokens → GivesTokens result tokens }

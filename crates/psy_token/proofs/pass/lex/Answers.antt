@@ -5,6 +5,7 @@ use Rattle.std.proofs.lemmas.Result.{err_from_is_err_and, IfOk-from_err}
 use Rattle.psy_tree.specs.Tokens.{TokensOf}
 use Rattle.psy_token.specs.Reading.{Whole, FaultGives, front_of, piece_by}
 use Rattle.psy_token.proofs.Texts.{State, State-more, State-end, IsFirstFault-met, gives_tokens, gives_fault}
+use Rattle.psy_token.proofs.Total.{length-TokensOf}
 use Rattle.psy_token.proofs.pass.lex.Goals as goal
 
 pub returns-in_err-len-clause-fault : goal.returns-in_err-len-clause-fault
@@ -37,3 +38,6 @@ returns-clause-all_tokens c = gives_tokens c.args.text.now (Ok c.loop-at.tokens)
 
 pub returns-clause-all_faults : goal.returns-clause-all_faults
 returns-clause-all_faults c = gives_fault c.args.text.now (Ok c.loop-at.tokens) (State-end c.args.text.now c.loop-at.at c.loop-at.tokens c.loop-at.invariant c.loop-at-test.false) tt
+
+pub returns-clause-few : goal.returns-clause-few
+returns-clause-few c = length-TokensOf c.args.text.now c.loop-at.tokens (State-end c.args.text.now c.loop-at.at c.loop-at.tokens c.loop-at.invariant c.loop-at-test.false)
