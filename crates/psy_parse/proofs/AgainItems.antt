@@ -165,6 +165,10 @@ one_tree tokens raw other read s =
     let same : ◌≡◌ {A = Result Raw ℕ} (Ok other) (Ok raw) = sym again ∙ read in
     cc
 
+-- tokens have one tree at most
+pub Spells-unique : (tokens : List Token) (raw other : Raw) → Spells raw tokens → Spells other tokens → raw ≡ other
+Spells-unique tokens raw other s t = one_tree tokens other raw (reading_from_spells (length tokens + 1) t (omega arith)) s
+
 -- where reading can't go on, there is none
 pub no_tree : (tokens : List Token) (n : ℕ) → text_at (length tokens + 1) (numbered 0 tokens) ≡ Err n → (raw : Raw) → Spells raw tokens → ⊥
 no_tree tokens n read raw s =

@@ -1,3 +1,4 @@
+pub mod AnswerLemmas
 pub mod FormLemmas
 pub mod GrowthLemmas
 pub mod LogLemmas

@@ -4,6 +4,7 @@
 mod asked;
 mod form;
 mod judge;
+mod law;
 mod line;
 mod log;
 mod refusal;
@@ -11,5 +12,6 @@ mod run;
 mod top;
 mod write;
 
+pub use law::one_answer;
 pub use top::psyc;
 pub use write::{WriteFault, write_all_of};

@@ -1,0 +1,177 @@
+-- Words and the bytes of the file that they name have one answer at most.
+use Rattle.std.proofs.Common.{◌≡◌, ◌∙◌, sym, subst, ap, refl, ℕ, ◌*◌, ◌<◌, ◌≤◌, List, [], ◌∷◌, length, codes, arith}
+use Rattle.psy_base.specs.declared.limits.TheConstants.{FILE_BYTES}
+use Rattle.psy_tree.specs.declared.token.Token.{Token}
+use Rattle.psy_tree.specs.declared.raw.Raw.{Raw}
+use Rattle.psy_tree.specs.Lexemes.{decimal_value}
+use Rattle.psy_tree.specs.Tokens.{TokensOf}
+use Rattle.psy_tree.specs.Faults as faults
+use Rattle.psy_tree.specs.Faults.{Fault, FirstFault, number_of}
+use Rattle.psy_tree.specs.Grammar.{Spells}
+use Rattle.psy_tree.specs.Deep as deep
+use Rattle.psy_token.proofs.Texts.{TokensOf-once, FirstFault-once, not_both}
+use Rattle.psy_parse.proofs.AgainItems.{Spells-unique}
+use Rattle.psy_kernel.specs.Meaning.{IsFeasible}
+use Rattle.psy_run.specs.declared.refusal.Refusal.{Refusal}
+use Rattle.psy_run.specs.declared.refusal.Refusal.TheVariants.{Words, ReadProgram, LongProgram, BadByte, LongName, BigLiteral, OpenComment, Syntax, Deep, NotBuilt, Infeasible}
+use Rattle.psy_run.specs.Asked.{AsksRun, AskNothing}
+use Rattle.psy_run.specs.Form.{Program, IsForm, HaveNumbers}
+use Rattle.psy_run.specs.Log.{text_of}
+use Rattle.psy_run.specs.Answer.{Answers, unlisted, refused, run, Refuses, status_of, line_of, lex_line}
+use Rattle.psy_run.proofs.FormLemmas.{items_of-injective, have_one_numbers}
+
+-- words ask for one run at most
+pub AsksRun-unique : (words : List (List ℕ)) (name other_name : List ℕ) (until other_until : ℕ) → AsksRun words name until → AsksRun words other_name other_until → (name ≡ other_name) × (until ≡ other_until)
+AsksRun-unique words name other_name until other_until a b =
+    let same : codes "run" ∷ name ∷ a.date ∷ [] ≡ codes "run" ∷ other_name ∷ b.date ∷ [] = sym a.three ∙ b.three in
+    let date : a.date ≡ b.date = cc in
+    (cc, a.is_date.value ∙ ap decimal_value date ∙ sym b.is_date.value)
+
+-- a tree is one program at most
+pub IsForm-unique : (raw : Raw) (until : ℕ) (program other : Program) → IsForm raw until program → IsForm raw until other → program ≡ other
+IsForm-unique raw until program other a b =
+    let parts = items_of-injective a.parts b.parts (sym a.items ∙ b.items) in
+    let variable = a.variable ∙ ap (λ p. p.variable.text) parts ∙ sym b.variable in
+    let agent = a.agent ∙ ap (λ p. p.agent.text) parts ∙ sym b.agent in
+    let numbers = subst (λ p. HaveNumbers raw.quantum.value until p other.first) (sym parts) b.numbers in
+    let first = have_one_numbers raw.quantum.value until a.parts program.first other.first a.numbers numbers in
+    λ i. record { variable = variable i; agent = agent i; first = first i }
+
+-- one token is the first that is too deep
+pub Deep-unique : (tokens : List Token) (n m : ℕ) → deep.Deep tokens n → deep.Deep tokens m → n ≡ m
+Deep-unique tokens n m a b =
+    let not_before : n < m → ⊥ = λ before. b.first n before a.reached in
+    let not_behind : m < n → ⊥ = λ behind. a.first m behind b.reached in
+    omega arith
+
+Deep-not_shallow : (tokens : List Token) (n : ℕ) → deep.Deep tokens n → deep.Shallow tokens → ⊥
+Deep-not_shallow tokens n a shallow = shallow n a.stands a.reached
+
+-- The steps that judge a file, the last first: each stops with a status and a text, or goes on to the one above it.
+
+-- what is answered for a program
+data OfProgram (program : Program) : ℕ → List ℕ → Type 0 where
+  infeasible : (window demand supply : ℕ) → program.first.period ≤ program.first.until → supply < demand
+      → window ≡ program.first.period → demand ≡ program.first.budget → supply ≡ program.first.quantum * program.first.period
+      → OfProgram program (status_of (Infeasible window demand supply)) (line_of (Infeasible window demand supply))
+  feasible : IsFeasible program.first → OfProgram program 0 (text_of program.first program.variable program.agent)
+
+-- for a tree
+data OfTree (until : ℕ) (raw : Raw) : ℕ → List ℕ → Type 0 where
+  stops : ((program : Program) → IsForm raw until program → ⊥) → OfTree until raw (status_of NotBuilt) (line_of NotBuilt)
+  goes_on : {status : ℕ} {text : List ℕ} (program : Program) → IsForm raw until program → OfProgram program status text → OfTree until raw status text
+
+-- for tokens that aren't nested too deep
+data OfShallow (until : ℕ) (tokens : List Token) : ℕ → List ℕ → Type 0 where
+  stops : ((raw : Raw) → Spells raw tokens → ⊥) → OfShallow until tokens (status_of Syntax) (line_of Syntax)
+  goes_on : {status : ℕ} {text : List ℕ} (raw : Raw) → Spells raw tokens → OfTree until raw status text → OfShallow until tokens status text
+
+-- for tokens
+data OfTokens (until : ℕ) (tokens : List Token) : ℕ → List ℕ → Type 0 where
+  stops : (token : ℕ) → deep.Deep tokens token → OfTokens until tokens (status_of (Deep token)) (line_of (Deep token))
+  goes_on : {status : ℕ} {text : List ℕ} → deep.Shallow tokens → OfShallow until tokens status text → OfTokens until tokens status text
+
+-- for a file that isn't too long
+data OfShort (until : ℕ) (bytes : List ℕ) : ℕ → List ℕ → Type 0 where
+  stops : (fault : Fault) (place : ℕ) → FirstFault bytes fault place → OfShort until bytes 1 (lex_line (number_of fault) place)
+  goes_on : {status : ℕ} {text : List ℕ} (tokens : List Token) → TokensOf bytes tokens → OfTokens until tokens status text → OfShort until bytes status text
+
+-- for a file
+data OfFile (until : ℕ) (bytes : List ℕ) : ℕ → List ℕ → Type 0 where
+  stops : FILE_BYTES < length bytes → OfFile until bytes (status_of LongProgram) (line_of LongProgram)
+  goes_on : {status : ℕ} {text : List ℕ} → length bytes ≤ FILE_BYTES → OfShort until bytes status text → OfFile until bytes status text
+
+-- for words, where the file that they name has these bytes
+data OfWords (words : List (List ℕ)) (bytes : List ℕ) : ℕ → List ℕ → Type 0 where
+  stops : AskNothing words → OfWords words bytes (status_of Words) (line_of Words)
+  goes_on : {status : ℕ} {text : List ℕ} (name : List ℕ) (until : ℕ) → AsksRun words name until → OfFile until bytes status text → OfWords words bytes status text
+
+-- each refusal is a stop at its step
+of_refusal : (bytes : List ℕ) (until : ℕ) (refusal : Refusal) → Refuses bytes until refusal → OfFile until bytes (status_of refusal) (line_of refusal)
+of_refusal bytes until Words never = absurd never
+of_refusal bytes until ReadProgram never = absurd never
+of_refusal bytes until LongProgram long = OfFile.stops long
+of_refusal bytes until (BadByte place) (short, at) = OfFile.goes_on short (OfShort.stops faults.BadByte place at)
+of_refusal bytes until (LongName place) (short, at) = OfFile.goes_on short (OfShort.stops faults.LongName place at)
+of_refusal bytes until (BigLiteral place) (short, at) = OfFile.goes_on short (OfShort.stops faults.BigLiteral place at)
+of_refusal bytes until (OpenComment place) (short, at) = OfFile.goes_on short (OfShort.stops faults.OpenComment place at)
+of_refusal bytes until (Deep token) (tokens, (short, has), too_deep) = OfFile.goes_on short (OfShort.goes_on tokens has (OfTokens.stops token too_deep))
+of_refusal bytes until Syntax (tokens, (short, has), shallow, none) = OfFile.goes_on short (OfShort.goes_on tokens has (OfTokens.goes_on shallow (OfShallow.stops none)))
+of_refusal bytes until NotBuilt (raw, (tokens, (short, has), shallow, spells), none) =
+    OfFile.goes_on short (OfShort.goes_on tokens has (OfTokens.goes_on shallow (OfShallow.goes_on raw spells (OfTree.stops none))))
+of_refusal bytes until (Infeasible window demand supply) (program, (raw, (tokens, (short, has), shallow, spells), form), due, less, window_is, demand_is, supply_is) =
+    OfFile.goes_on short (OfShort.goes_on tokens has (OfTokens.goes_on shallow (OfShallow.goes_on raw spells (OfTree.goes_on program form (OfProgram.infeasible window demand supply due less window_is demand_is supply_is)))))
+
+of_answer : (words : List (List ℕ)) (bytes : List ℕ) (status : ℕ) (text : List ℕ) → Answers words bytes status text → OfWords words bytes status text
+of_answer words bytes status text (unlisted nothing) = OfWords.stops nothing
+of_answer words bytes status text (refused name until refusal asks refuses) = OfWords.goes_on name until asks (of_refusal bytes until refusal refuses)
+of_answer words bytes status text (run name until program asks ((raw, (tokens, (short, has), shallow, spells), form), can)) =
+    OfWords.goes_on name until asks (OfFile.goes_on short (OfShort.goes_on tokens has (OfTokens.goes_on shallow (OfShallow.goes_on raw spells (OfTree.goes_on program form (OfProgram.feasible can))))))
+
+-- each step has one answer at most
+abbrev Same : ℕ → ℕ → List ℕ → List ℕ → Type 0
+Same status other_status text other_text = (status ≡ other_status) × (text ≡ other_text)
+
+not_feasible : (program : Program) (demand supply : ℕ) → program.first.period ≤ program.first.until → supply < demand → demand ≡ program.first.budget → supply ≡ program.first.quantum * program.first.period → IsFeasible program.first → ⊥
+not_feasible program demand supply due less demand_is supply_is can = let enough = can due in absurd (omega (arith, enough))
+
+of_program : (program : Program) (s s' : ℕ) (t t' : List ℕ) → OfProgram program s t → OfProgram program s' t' → Same s s' t t'
+of_program program s s' t t' (OfProgram.infeasible n d u due less n_is d_is u_is) (OfProgram.infeasible n' d' u' due' less' n'_is d'_is u'_is) =
+    let window_is : n ≡ n' = n_is ∙ sym n'_is in
+    let demand_is : d ≡ d' = d_is ∙ sym d'_is in
+    let supply_is : u ≡ u' = u_is ∙ sym u'_is in
+    (refl, λ i. line_of (Infeasible (window_is i) (demand_is i) (supply_is i)))
+of_program program s s' t t' (OfProgram.infeasible n d u due less n_is d_is u_is) (OfProgram.feasible can) = absurd (not_feasible program d u due less d_is u_is can)
+of_program program s s' t t' (OfProgram.feasible can) (OfProgram.infeasible n d u due less n_is d_is u_is) = absurd (not_feasible program d u due less d_is u_is can)
+of_program program s s' t t' (OfProgram.feasible can) (OfProgram.feasible again) = (refl, refl)
+
+of_tree : (until : ℕ) (raw : Raw) (s s' : ℕ) (t t' : List ℕ) → OfTree until raw s t → OfTree until raw s' t' → Same s s' t t'
+of_tree until raw s s' t t' (OfTree.stops none) (OfTree.stops again) = (refl, refl)
+of_tree until raw s s' t t' (OfTree.stops none) (OfTree.goes_on program form more) = absurd (none program form)
+of_tree until raw s s' t t' (OfTree.goes_on program form more) (OfTree.stops none) = absurd (none program form)
+of_tree until raw s s' t t' (OfTree.goes_on program form more) (OfTree.goes_on program' form' more') =
+    let same = IsForm-unique raw until program program' form form' in
+    of_program program' s s' t t' (subst (λ p. OfProgram p s t) same more) more'
+
+of_shallow : (until : ℕ) (tokens : List Token) (s s' : ℕ) (t t' : List ℕ) → OfShallow until tokens s t → OfShallow until tokens s' t' → Same s s' t t'
+of_shallow until tokens s s' t t' (OfShallow.stops none) (OfShallow.stops again) = (refl, refl)
+of_shallow until tokens s s' t t' (OfShallow.stops none) (OfShallow.goes_on raw spells more) = absurd (none raw spells)
+of_shallow until tokens s s' t t' (OfShallow.goes_on raw spells more) (OfShallow.stops none) = absurd (none raw spells)
+of_shallow until tokens s s' t t' (OfShallow.goes_on raw spells more) (OfShallow.goes_on raw' spells' more') =
+    let same = Spells-unique tokens raw raw' spells spells' in
+    of_tree until raw' s s' t t' (subst (λ r. OfTree until r s t) same more) more'
+
+of_tokens : (until : ℕ) (tokens : List Token) (s s' : ℕ) (t t' : List ℕ) → OfTokens until tokens s t → OfTokens until tokens s' t' → Same s s' t t'
+of_tokens until tokens s s' t t' (OfTokens.stops n too_deep) (OfTokens.stops m again) = let same = Deep-unique tokens n m too_deep again in (refl, ap (λ k. line_of (Deep k)) same)
+of_tokens until tokens s s' t t' (OfTokens.stops n too_deep) (OfTokens.goes_on shallow more) = absurd (Deep-not_shallow tokens n too_deep shallow)
+of_tokens until tokens s s' t t' (OfTokens.goes_on shallow more) (OfTokens.stops n too_deep) = absurd (Deep-not_shallow tokens n too_deep shallow)
+of_tokens until tokens s s' t t' (OfTokens.goes_on shallow more) (OfTokens.goes_on again more') = of_shallow until tokens s s' t t' more more'
+
+of_short : (until : ℕ) (bytes : List ℕ) (s s' : ℕ) (t t' : List ℕ) → OfShort until bytes s t → OfShort until bytes s' t' → Same s s' t t'
+of_short until bytes s s' t t' (OfShort.stops f p at) (OfShort.stops g q again) =
+    let same = FirstFault-once bytes f g p q at again in
+    (refl, λ i. lex_line (number_of (same.0 i)) (same.1 i))
+of_short until bytes s s' t t' (OfShort.stops f p at) (OfShort.goes_on tokens has more) = absurd (not_both bytes tokens f p has at)
+of_short until bytes s s' t t' (OfShort.goes_on tokens has more) (OfShort.stops f p at) = absurd (not_both bytes tokens f p has at)
+of_short until bytes s s' t t' (OfShort.goes_on tokens has more) (OfShort.goes_on tokens' has' more') =
+    let same = TokensOf-once bytes tokens tokens' has has' in
+    of_tokens until tokens' s s' t t' (subst (λ ts. OfTokens until ts s t) same more) more'
+
+of_file : (until : ℕ) (bytes : List ℕ) (s s' : ℕ) (t t' : List ℕ) → OfFile until bytes s t → OfFile until bytes s' t' → Same s s' t t'
+of_file until bytes s s' t t' (OfFile.stops long) (OfFile.stops again) = (refl, refl)
+of_file until bytes s s' t t' (OfFile.stops long) (OfFile.goes_on short more) = absurd (omega arith)
+of_file until bytes s s' t t' (OfFile.goes_on short more) (OfFile.stops long) = absurd (omega arith)
+of_file until bytes s s' t t' (OfFile.goes_on short more) (OfFile.goes_on again more') = of_short until bytes s s' t t' more more'
+
+of_words : (words : List (List ℕ)) (bytes : List ℕ) (s s' : ℕ) (t t' : List ℕ) → OfWords words bytes s t → OfWords words bytes s' t' → Same s s' t t'
+of_words words bytes s s' t t' (OfWords.stops nothing) (OfWords.stops again) = (refl, refl)
+of_words words bytes s s' t t' (OfWords.stops nothing) (OfWords.goes_on name until asks more) = absurd (nothing name until asks)
+of_words words bytes s s' t t' (OfWords.goes_on name until asks more) (OfWords.stops nothing) = absurd (nothing name until asks)
+of_words words bytes s s' t t' (OfWords.goes_on name until asks more) (OfWords.goes_on name' until' asks' more') =
+    let same = (AsksRun-unique words name name' until until' asks asks').1 in
+    of_file until' bytes s s' t t' (subst (λ u. OfFile u bytes s t) same more) more'
+
+-- words and bytes have one answer at most
+pub Answers-unique : (words : List (List ℕ)) (bytes : List ℕ) (status other_status : ℕ) (text other_text : List ℕ) → Answers words bytes status text → Answers words bytes other_status other_text → (status ≡ other_status) × (text ≡ other_text)
+Answers-unique words bytes status other_status text other_text a b =
+    of_words words bytes status other_status text other_text (of_answer words bytes status text a) (of_answer words bytes other_status other_text b)
