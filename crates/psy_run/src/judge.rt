@@ -27,6 +27,7 @@ pub enum Stop {
 fn tokens(alloc: Global, bytes: &[u8]) -> Result<Items<Token>, Stop>
     requires { length bytes.now ≤ FILE_BYTES }
     ensures ok { IfOk result (λ tokens. HasTokens bytes.now tokens) }
+    ensures few { IfOk result (λ tokens. length tokens ≤ 262144) }
     ensures err { IfErr result (λ stop. (until : ℕ) → IsStop bytes.now until stop) }
 {
     match lex(alloc, bytes) {

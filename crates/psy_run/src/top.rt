@@ -6,7 +6,7 @@ ghost use Rattle.psy_door.specs.Files.{Files};
 ghost use Rattle.psy_door.specs.Growth.{Grew, GrewByFront};
 ghost use Rattle.psy_kernel.specs.Standing.{stage_of, ended};
 ghost use Rattle.psy_run.specs.Asked.{AskNothing};
-ghost use Rattle.psy_run.specs.Answer.{Answers, AreNamed, status_of, line_of};
+ghost use Rattle.psy_run.specs.Answer.{Answers, AreNamed, IsStop, status_of, line_of};
 ghost use Rattle.psy_run.specs.Outcome.{Says, Ends, IsUnread, MayWrite, DidRun};
 ghost use Rattle.psy_kernel.specs.declared.stage.Stage.TheVariants.{Over};
 
@@ -32,6 +32,17 @@ fn refuse<S: Sink>(refusal: Refusal, out: &mut S) -> u8
     }
 }
 
+// Ends a run that a step has stopped.
+fn end<S: Sink>(stop: Stop, out: &mut S) -> u8
+    ensures counted { S.faults out.old ≤ S.faults out.new }
+    ensures ends { (bytes : List ℕ) (until : ℕ) → IsStop bytes until stop → Ends bytes until (S.held out.old) (S.held out.new) (S.faults out.old) (S.faults out.new) result None }
+{
+    match stop {
+        Stop::Refused(refusal) => refuse(refusal, out),
+        Stop::Memory => 8,
+    }
+}
+
 // Runs the program in a file with these bytes.
 fn run<S: Sink>(
     alloc: Global,
@@ -48,8 +59,7 @@ fn run<S: Sink>(
 {
     let raw = match tree(alloc, bytes) {
         Ok(raw) => raw,
-        Err(Stop::Refused(refusal)) => return refuse(refusal, out),
-        Err(Stop::Memory) => return 8,
+        Err(stop) => return end(stop, out),
     };
     let Some(form) = read_form(&raw, until) else {
         return refuse(Refusal::NotBuilt, out);
