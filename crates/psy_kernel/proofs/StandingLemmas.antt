@@ -82,11 +82,11 @@ none_of first dates (suc m) behind ahead ne n e = elim (cases_lt n (suc m)) [
 
 -- the present action of a kernel is number `published - 1`
 pub present : (k : Inside) → StandsFor k → IsPresent k.first k.dates (k.published - 1)
-present k h = present_of k.first k.dates k.published h.admitted.period.0 h.behind (omega (arith, h.ahead, h.next_date))
+present k h = present_of k.first k.dates k.published h.range.period.0 h.behind (omega (arith, h.ahead, h.next_date))
 
 -- where the next date is one period after the date done last, that date is one of the clock
 pub last_date : (k : Inside) → StandsFor k → 0 < k.dates → k.next_date ≡ k.dates - 1 + k.first.period → date_of k.first (k.published - 1) ≡ k.dates - 1
-last_date k h done e = last_of k.first k.dates k.published h.admitted.phase done (sym h.next_date ∙ e)
+last_date k h done e = last_of k.first k.dates k.published h.range.phase done (sym h.next_date ∙ e)
 
 -- and else it is none
 pub no_date : (k : Inside) → StandsFor k → 0 < k.dates → k.next_date ≢ k.dates - 1 + k.first.period → (n : ℕ) → date_of k.first n + 1 ≢ k.dates
@@ -130,7 +130,7 @@ pub filled_of : (k : Inside) (run : Progress) (t : ℕ) → ◌≡◌ {A = Progr
 filled_of k run t e stage h filled =
     let due = cycle_due (record { first = k.first; dates = k.dates; cycles = k.cycles }) (subst (λ r. stage_of r ≡ CycleDue r.cycles) (sym e) stage) in
     let quantum : k.first.quantum ≡ run.first.quantum = ap (λ r. r.first.quantum) e in
-    filled_stage (record { first = k.first; dates = k.dates; cycles = k.cycles + 1 }) t h.admitted.quantum.0 due.0 (omega (arith, due.1, h.cycles)) (omega (arith, h.reached)) (filled ∙ ap (λ q. t * q) (sym quantum))
+    filled_stage (record { first = k.first; dates = k.dates; cycles = k.cycles + 1 }) t h.range.quantum.0 due.0 (omega (arith, due.1, h.cycles)) (omega (arith, h.reached)) (filled ∙ ap (λ q. t * q) (sym quantum))
 
 -- a date of the clock after the first is a period after the one before, and not before the period's end
 pub date_of_next : (first : First) (n : ℕ) → 0 < n → date_of first n ≡ date_of first (n - 1) + first.period
@@ -163,11 +163,11 @@ pub finished : (k : Inside) → StandsFor k → 0 < k.published → k.dates ≡ 
 finished k h some due cycles within =
     let start = date_of k.first (k.published - 1) in
     let date : k.dates ≡ start + k.first.period = due ∙ h.next_date ∙ date_of_next k.first k.published some in
-    let room : k.first.budget ≤ k.first.quantum * k.first.period = h.admitted.feasible (omega arith) in
+    let room : k.first.budget ≤ k.first.quantum * k.first.period = h.feasible (omega arith) in
     let span : k.dates * k.first.quantum ≡ start * k.first.quantum + k.first.quantum * k.first.period = ap (λ d. d * k.first.quantum) date ∙ times_sum start k.first.period k.first.quantum in
     let work = h.work some in
     let small : k.work ≤ 6 = omega (arith, cost_of_le k.first (k.published - 1)) in
-    let given = all_units k.units k.work k.cycles (start * k.first.quantum) _ _ h.units small h.admitted.budget.0 room (cycles ∙ span) in
+    let given = all_units k.units k.work k.cycles (start * k.first.quantum) _ _ h.units small h.range.budget.0 room (cycles ∙ span) in
     let some-units : 0 < k.units = omega (arith, given.0, le_cost_of k.first (k.published - 1)) in
     let finish = h.finish some-units in
     (finish ∙ ap (λ u. start * k.first.quantum + u) (given.0 ∙ work), omega (arith, given.1))
@@ -178,9 +178,10 @@ turned k value work slack h due cycles within value-is work-is slack-is =
     let m : k.published + 1 - 1 ≡ k.published = omega arith in
     let date : k.dates ≡ date_of k.first k.published = due ∙ h.next_date in
     let start : k.cycles ≡ date_of k.first k.published * k.first.quantum = cycles ∙ ap (λ d. d * k.first.quantum) date in
-    let period = h.admitted.period.0 in
+    let period = h.range.period.0 in
     record {
-      admitted = h.admitted;
+      range = h.range;
+      feasible = h.feasible;
       dates = omega arith;
       cycles = omega (arith, cycles);
       reached = omega (arith, cycles);

@@ -4,8 +4,8 @@ use Rattle.std.specs.Prelude.{zero, suc, ℕ, ◌+◌, ◌-◌, ◌*◌, ◌==�
 use Rattle.std.specs.Int.{int_wrap, w32}
 use Rattle.psy_kernel.specs.declared.first.First.{First}
 
--- the ranges of the numbers of such a program, and that the processor meets its deadlines
-pub record IsAdmitted (first : First) : Type 0 where
+-- the numbers of such a program are in their ranges
+pub record InRange (first : First) : Type 0 where
   pub quantum : (1 ≤ first.quantum) × (first.quantum ≤ 1000)
   pub period : (1 ≤ first.period) × (first.period ≤ 10000)
   pub phase : first.first < first.period
@@ -13,7 +13,10 @@ pub record IsAdmitted (first : First) : Type 0 where
   pub add : first.add ≤ 2147483647
   pub budget : (8 ≤ first.budget) × (first.budget ≤ 1000000)
   pub until : first.until ≤ 100000
-  pub feasible : first.period ≤ first.until → first.budget ≤ first.quantum * first.period
+
+-- the processor meets each deadline up to the last date: an action fits between two dates
+abbrev pub IsFeasible : First → Type 0
+IsFeasible first = first.period ≤ first.until → first.budget ≤ first.quantum * first.period
 
 -- the numbers below n, in order
 abbrev pub below : ℕ → List ℕ

@@ -1,12 +1,13 @@
 -- What the fields of a kernel stand for.
 use Rattle.std.specs.Prelude.{◌≡◌, ◌+◌, ◌-◌, ◌*◌, ◌<◌, ◌≤◌, map, min}
-use Rattle.psy_kernel.specs.Meaning.{IsAdmitted, below, date_of, value_after, cost_of, slack_of, least}
+use Rattle.psy_kernel.specs.Meaning.{InRange, IsFeasible, below, date_of, value_after, cost_of, slack_of, least}
 use Rattle.psy_kernel.specs.declared.kernel.Kernel.TheInside.{Inside}
 
 -- Of the published values the last is number `published - 1`, and the action of that number is the
 -- present one, where there is one. `finish` is the cycle after its last unit.
 pub record StandsFor (k : Inside) : Type 0 where
-  pub admitted : IsAdmitted k.first
+  pub range : InRange k.first
+  pub feasible : IsFeasible k.first
   pub dates : k.dates ≤ k.first.until + 1
   pub cycles : k.cycles ≤ k.dates * k.first.quantum
   pub reached : k.dates * k.first.quantum ≤ k.cycles + k.first.quantum

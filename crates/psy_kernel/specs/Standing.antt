@@ -11,6 +11,10 @@ pub record Progress : Type 0 where
   pub dates : ℕ
   pub cycles : ℕ
 
+-- a run whose last date was done
+abbrev pub ended : First → Progress
+ended first = record { first = first; dates = first.until + 1; cycles = first.until * first.quantum }
+
 -- what is due next: date t once the dates before it and the cycles before t * Q were done
 abbrev pub stage_of : Progress → Stage
 stage_of run =

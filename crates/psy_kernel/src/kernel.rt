@@ -1,5 +1,5 @@
 ghost use Rattle.std.specs.Prelude.{◌≡◌, ◌≢◌, ℕ, ◌+◌, ◌-◌, ◌*◌, ◌^◌, ◌<◌, ◌≤◌, ◌↔◌, map, None, Some, IsNone, min, pos};
-ghost use Rattle.psy_kernel.specs.Meaning.{IsAdmitted, below, date_of, next_value, value_after, cost_of, finish_of, slack_of, least, lesser};
+ghost use Rattle.psy_kernel.specs.Meaning.{InRange, IsFeasible, below, date_of, next_value, value_after, cost_of, finish_of, slack_of, least, lesser};
 ghost use Rattle.psy_kernel.specs.Standing.{stage_of, value_of, IsOffClock, count_of, least_slack_of};
 
 use crate::first::First;
@@ -101,7 +101,8 @@ fn slack_at(first: &First, n: u64, date: u64, finish: u64, so_far: Option<u64>) 
 impl Kernel {
     /// A kernel before date 0. It takes no memory.
     pub fn boot(first: First) -> Kernel
-        requires { IsAdmitted first }
+        requires range { InRange first }
+        requires feasible { IsFeasible first }
         ensures state { result ≡ record { first = first; dates = 0; cycles = 0 } }
         ensures stage { stage_of result ≡ Stage.DateDue 0 }
     {
@@ -221,7 +222,8 @@ mod tests {
 
     // Runs to the end, compares what is published, and gives what was counted.
     fn run(rt: &impl Abort, first: First, published: &[(u64, i32)]) -> (u64, Option<u64>)
-        requires { IsAdmitted first }
+        requires range { InRange first }
+        requires feasible { IsFeasible first }
     {
         let mut kernel = Kernel::boot(first);
         let mut values = published.iter();

@@ -26,7 +26,7 @@ returns-clause-value c =
     let k = c.self.inside in
     let same : to_z w32 (of_z w32 k.value) ≡ k.value = search rules in
     ap Some (same ∙ c.self.invariant.value)
-    ∙ value_of_some k.first k.dates k.cycles _ c.self.invariant.admitted.period.0 (omega arith) (last_date k c.self.invariant (omega arith) (omega arith))
+    ∙ value_of_some k.first k.dates k.cycles _ c.self.invariant.range.period.0 (omega arith) (last_date k c.self.invariant (omega arith) (omega arith))
     ∙ ap value_of c.self.view_is
 
 pub returns-clause-none : goal.returns-clause-none

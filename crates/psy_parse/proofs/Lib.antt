@@ -1,0 +1,9 @@
+pub mod Numbers
+pub mod Sound
+pub mod SoundExprs
+pub mod SoundStmts
+pub mod SoundItems
+pub mod Again
+pub mod AgainStmts
+pub mod AgainItems
+pub mod Front

@@ -1,0 +1,51 @@
+ghost use Rattle.std.specs.Prelude.{◌≡◌};
+ghost use Rattle.psy_parse.specs.declared.fault.Fault.TheVariants.{Memory as no_memory};
+
+use psy_base::Memory;
+use std::alloc::{AllocError, AllocFailed};
+use thiserror::Error;
+
+/// Why tokens have no tree.
+#[derive(Debug, Drop, Error)]
+pub enum ParseFault {
+    /// The tokens are not those of a program.
+    #[error("not a program")]
+    Syntax,
+    /// The number of the first token at which the text is nested too deep, counted from 0.
+    #[error("nested too deep at token {0}")]
+    Deep(u32),
+    #[error("out of memory")]
+    Memory,
+}
+
+/// Why a part of the text was not read.
+#[derive(Debug, Drop)]
+pub enum Fault {
+    Memory,
+    /// So many tokens are left where reading can't go on.
+    Stuck(usize),
+}
+
+impl From<Memory> for Fault {
+    ghost from_gives = { λ _ e. e ≡ no_memory };
+
+    fn from(_error: Memory) -> Fault {
+        Fault::Memory
+    }
+}
+
+impl From<AllocError> for Fault {
+    ghost from_gives = { λ _ e. e ≡ no_memory };
+
+    fn from(_error: AllocError) -> Fault {
+        Fault::Memory
+    }
+}
+
+impl<T: Drop> From<AllocFailed<T>> for Fault {
+    ghost from_gives = { λ _ e. e ≡ no_memory };
+
+    fn from(_refused: AllocFailed<T>) -> Fault {
+        Fault::Memory
+    }
+}

@@ -1,0 +1,17 @@
+//! From the tokens of a program's text to its tree.
+#![tactic(auto)]
+
+mod cursor;
+mod deep;
+mod expr;
+mod fault;
+mod item;
+mod program;
+mod reader;
+mod stmt;
+
+pub use fault::ParseFault;
+pub use program::parse;
+
+#[cfg(test)]
+mod tests;

@@ -1,0 +1,4 @@
+pub mod FormLemmas
+pub mod GrowthLemmas
+pub mod LogLemmas
+pub mod WritingLemmas

@@ -1,0 +1,5 @@
+pub mod Asked
+pub mod Form
+pub mod Log
+pub mod Seen
+pub mod Writing

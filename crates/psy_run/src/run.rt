@@ -1,0 +1,117 @@
+ghost use Rattle.std.specs.Prelude.{◌≡◌, ◌+◌, ◌-◌, ◌*◌, ◌<◌, ◌≤◌, length, OnOk, OnErr};
+ghost use Rattle.psy_door.specs.Faults.{Rose};
+ghost use Rattle.psy_kernel.specs.Standing.{ended};
+ghost use Rattle.psy_run.specs.Log.{lines_at, log_of, summary_of, text_of};
+ghost use Rattle.psy_run.specs.Writing.{Written};
+
+use psy_door::Sink;
+use psy_kernel::{Kernel, Stage};
+
+use crate::line::Line;
+use crate::log;
+use crate::write::{WriteFault, write_all_of};
+
+// Writes a line.
+fn write_line<S: Sink>(out: &mut S, line: &Line) -> Result<(), WriteFault>
+    ensures counted { S.faults out.old ≤ S.faults out.new }
+    ensures failed { OnErr result (Rose (S.faults out.old) (S.faults out.new)) }
+    ensures written { Written (S.held out.old) (S.held out.new) result line.now }
+{
+    write_all_of(out, line.bytes())
+}
+
+// Writes the lines of the date done last.
+fn write_date<S: Sink>(
+    kernel: &Kernel,
+    date: u64,
+    variable: &[u8],
+    out: &mut S,
+) -> Result<(), WriteFault>
+    requires short { length variable.now ≤ 32 }
+    requires done { kernel.now.dates ≡ date + 1 }
+    ensures counted { S.faults out.old ≤ S.faults out.new }
+    ensures failed { OnErr result (Rose (S.faults out.old) (S.faults out.new)) }
+    ensures written { Written (S.held out.old) (S.held out.new) result (lines_at kernel.now.first variable.now date) }
+{
+    match kernel.value() {
+        None => write_line(out, &Line::new()),
+        Some(value) => write_line(out, &log::value_line(date, variable, value)),
+    }
+}
+
+// Does all dates and cycles of a kernel that was just booted, and writes the lines of each date.
+fn run_dates<S: Sink>(
+    kernel: &mut Kernel,
+    variable: &[u8],
+    out: &mut S,
+) -> Result<(), WriteFault>
+    requires short { length variable.now ≤ 32 }
+    requires booted { kernel.old ≡ record { first = kernel.old.first; dates = 0; cycles = 0 } }
+    ensures counted { S.faults out.old ≤ S.faults out.new }
+    ensures failed { OnErr result (Rose (S.faults out.old) (S.faults out.new)) }
+    ensures over { OnOk result (kernel.new ≡ ended kernel.old.first) }
+    ensures written { Written (S.held out.old) (S.held out.new) result (log_of kernel.old.first variable.now (kernel.old.first.until + 1)) }
+{
+    'stages: loop {
+        match kernel.stage() {
+            Stage::Over => return Ok(()),
+            Stage::CycleDue(_) => kernel.cycle(),
+            Stage::DateDue(date) => {
+                kernel.date();
+                if let Err(fault) = write_date(kernel, date, variable, out) {
+                    return Err(fault);
+                }
+            }
+        }
+    }
+}
+
+// Writes the summary of a kernel that is over.
+fn write_summary<S: Sink>(
+    kernel: &Kernel,
+    until: u32,
+    variable: &[u8],
+    agent: &[u8],
+    out: &mut S,
+) -> Result<(), WriteFault>
+    requires variable { length variable.now ≤ 32 }
+    requires agent { length agent.now ≤ 32 }
+    requires until { until ≡ kernel.now.first.until }
+    requires over { kernel.now.dates ≡ until + 1 }
+    ensures counted { S.faults out.old ≤ S.faults out.new }
+    ensures failed { OnErr result (Rose (S.faults out.old) (S.faults out.new)) }
+    ensures written { Written (S.held out.old) (S.held out.new) result (summary_of kernel.now.first variable.now agent.now) }
+{
+    if let Err(fault) = write_line(out, &log::end_line(u64::from(until))) {
+        return Err(fault);
+    }
+    let (count, slack) = kernel.counted();
+    if let Err(fault) = write_line(out, &log::agent_line(agent, count, slack)) {
+        return Err(fault);
+    }
+    write_line(out, &log::variable_line(variable))
+}
+
+/// Runs a kernel that was just booted to its last date, and writes the values date by date and the
+/// summary. It takes no memory.
+pub fn run_loop<S: Sink>(
+    kernel: &mut Kernel,
+    until: u32,
+    variable: &[u8],
+    agent: &[u8],
+    out: &mut S,
+) -> Result<(), WriteFault>
+    requires variable { length variable.now ≤ 32 }
+    requires agent { length agent.now ≤ 32 }
+    requires until { until ≡ kernel.old.first.until }
+    requires booted { kernel.old ≡ record { first = kernel.old.first; dates = 0; cycles = 0 } }
+    ensures counted { S.faults out.old ≤ S.faults out.new }
+    ensures failed { OnErr result (Rose (S.faults out.old) (S.faults out.new)) }
+    ensures over { OnOk result (kernel.new ≡ ended kernel.old.first) }
+    ensures written { Written (S.held out.old) (S.held out.new) result (text_of kernel.old.first variable.now agent.now) }
+{
+    if let Err(fault) = run_dates(kernel, variable, out) {
+        return Err(fault);
+    }
+    write_summary(kernel, until, variable, agent, out)
+}

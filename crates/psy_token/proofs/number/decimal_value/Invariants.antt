@@ -1,0 +1,11 @@
+use Rattle.std.proofs.Common.{◌≡◌, ◌+◌, ◌*◌, ◌^◌, ◌≤◌, drop, length}
+use Rattle.psy_base.specs.declared.limits.TheConstants.{LITERAL}
+use Rattle.psy_tree.specs.Lexemes.{decimal_value}
+use Rattle.psy_token.proofs.number.decimal_value.Given as goal
+
+-- the value so far, before the digits that are left
+abbrev pub invariant-loop-digit : goal.invariant-loop-digit
+invariant-loop-digit l = record {
+  small : l.value ≤ LITERAL;
+  so_far : l.value * 10 ^ length (drop l.digit-index l.digits) + decimal_value (drop l.digit-index l.digits) ≡ decimal_value l.digits;
+}
