@@ -1,7 +1,7 @@
 -- How the first pair with a name is found, in a list of files and in the map that it makes.
-use Rattle.std.proofs.Common.{◌≡◌, ◌∙◌, sym, ap, refl, ℕ, List, [], ◌∷◌, map, Bool, true, false, cond, Option, None, Some, Vec, Global, bytes_eq}
+use Rattle.std.proofs.Common.{◌≡◌, ◌∙◌, ap, refl, ℕ, List, [], ◌∷◌, map, true, false, cond, Some, Vec, Global, bytes_eq}
 use Rattle.std.specs.Prelude.{option_map, find}
-use Rattle.std.specs.Ordering.{nat_cmp, is_eq}
+use Rattle.std.specs.Ordering.{nat_cmp}
 use Rattle.std.specs.Cmp.Lexicographic.{slice_cmp, nat_list_cmp_total}
 use Rattle.std.specs.FinMap as m
 use Rattle.std.proofs.lemmas.Map.Text.{is_eq-slice_cmp}

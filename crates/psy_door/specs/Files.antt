@@ -1,5 +1,5 @@
 -- What a shelf holds, where it tells it.
-use Rattle.std.specs.Prelude.{◌≡◌, ℕ, ◌+◌, List, [], map, min, length, Contains, Option, None, Some, unwrap_or, option_map, find, bytes_eq}
+use Rattle.std.specs.Prelude.{ℕ, List, [], min, Option, None, Some, unwrap_or, option_map, find, bytes_eq}
 use Rattle.std.specs.Ordering.{nat_cmp}
 use Rattle.std.specs.Cmp.Lexicographic.{slice_cmp}
 use Rattle.std.specs.FinMap.{FinMap, get, from_entries}

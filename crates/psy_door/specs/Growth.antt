@@ -1,6 +1,6 @@
 -- How the bytes that a sink holds grow. A sink may stop telling them, and one that doesn't tell them
 -- never begins to.
-use Rattle.std.specs.Prelude.{◌≡◌, ℕ, ◌≤◌, List, ◌++◌, take, length, Option, None, Some}
+use Rattle.std.specs.Prelude.{◌≡◌, ℕ, List, ◌++◌, take, Option, None, Some}
 
 -- the bytes held grew by this piece, as far as they are told
 abbrev pub Grew : Option (List ℕ) → Option (List ℕ) → List ℕ → Type 0

@@ -49,7 +49,7 @@ pub trait Shelf {
     // how many of its calls failed
     ghost faults: { Self → ℕ };
 
-    // the name given to the call that failed last, empty at first
+    // the name that the last call to fail asked for, and no bytes before there was one
     ghost failed_name: { Self → List ℕ };
 
     // how many bytes its last call took from a file

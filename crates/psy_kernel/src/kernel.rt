@@ -177,7 +177,8 @@ impl Kernel {
         self.finish = self.cycles;
     }
 
-    /// The value published at the date done last; None exactly where the clock has no date there.
+    /// What the variable published at the last date that was done; None exactly where that is no date
+    /// of its clock, or no date was done.
     pub fn value(&self) -> Option<i32>
         ensures value { result ≡ value_of self.now }
         ensures none { IsNone result ↔ IsOffClock self.now }
