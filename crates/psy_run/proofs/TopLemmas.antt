@@ -39,15 +39,15 @@ Answers-status words bytes status text (run name until program asks accepted) = 
 
 -- what was said is the defined answer, unless a write failed
 pub said_answered : (words : List (List ℕ)) (files : Option Files) (bytes : List ℕ) (old now : Option (List ℕ)) (before after answer status : ℕ) (text : List ℕ)
-  → AreNamed words files bytes → Answers words bytes status text → Says old now before after answer status text → answer ≢ 4
-  → (bytes : List ℕ) × (text : List ℕ) × AreNamed words files bytes × Answers words bytes answer text × Grew old now text
+    → AreNamed words files bytes → Answers words bytes status text → Says old now before after answer status text → answer ≢ 4
+    → (bytes : List ℕ) × (text : List ℕ) × AreNamed words files bytes × Answers words bytes answer text × Grew old now text
 said_answered words files bytes old now before after answer status text named answers (inl (is, grew)) ne = (bytes, text, named, subst (λ s. Answers words bytes s text) (sym is) answers, grew)
 said_answered words files bytes old now before after answer status text named answers (inr (four, rose, front)) ne = absurd (ne four)
 
 -- where a write failed, a front of the defined text was added
 pub said_cut : (words : List (List ℕ)) (files : Option Files) (failed : List ℕ) (shelf_before shelf_after : ℕ) (bytes : List ℕ) (old now : Option (List ℕ)) (before after answer status : ℕ) (text : List ℕ)
-  → AreNamed words files bytes → Answers words bytes status text → Says old now before after answer status text → answer ≡ 4
-  → (text : List ℕ) × MayWrite words files failed shelf_before shelf_after text × GrewByFront old now text
+    → AreNamed words files bytes → Answers words bytes status text → Says old now before after answer status text → answer ≡ 4
+    → (text : List ℕ) × MayWrite words files failed shelf_before shelf_after text × GrewByFront old now text
 said_cut words files failed sb sa bytes old now before after answer status text named answers (inl (is, grew)) four = absurd (Answers-status words bytes status text answers (sym is ∙ four))
 said_cut words files failed sb sa bytes old now before after answer status text named answers (inr (is, rose, front)) four = (text, inl (bytes, status, named, answers), front)
 
@@ -61,9 +61,9 @@ Answers-named words held bytes other status text named named' (run name until pr
 
 -- what is defined was said, where no write failed
 pub said_complete : (words : List (List ℕ)) (files : Option Files) (bytes : List ℕ) (old now : Option (List ℕ)) (before after answer status : ℕ) (text : List ℕ)
-  → AreNamed words files bytes → Answers words bytes status text → Says old now before after answer status text → (Rose before after → ⊥)
-  → (held : Files) (other : List ℕ) (other_text : List ℕ) (other_status : ℕ) → files ≡ Some held → AreNamed words (Some held) other → Answers words other other_status other_text
-  → (answer ≡ other_status) × Grew old now other_text
+    → AreNamed words files bytes → Answers words bytes status text → Says old now before after answer status text → (Rose before after → ⊥)
+    → (held : Files) (other : List ℕ) (other_text : List ℕ) (other_status : ℕ) → files ≡ Some held → AreNamed words (Some held) other → Answers words other other_status other_text
+    → (answer ≡ other_status) × Grew old now other_text
 said_complete words files bytes old now before after answer status text named answers (inr (four, rose, front)) fine held other other_text other_status is named' answers' = absurd (fine rose)
 said_complete words files bytes old now before after answer status text named answers (inl (same, grew)) fine held other other_text other_status is named' answers' =
     let here : AreNamed words (Some held) bytes = subst (λ f. AreNamed words f bytes) is named in
@@ -90,8 +90,8 @@ long_bytes n (Some held) name long = (bytes_under held name, long, refl)
 
 -- a run ends for want of memory, or says the defined answer
 pub ends_said : (words : List (List ℕ)) (name bytes : List ℕ) (until : ℕ) (old now : Option (List ℕ)) (before after answer : ℕ) (left : Option Progress)
-  → AsksRun words name until → Ends bytes until old now before after answer left
-  → ((answer ≡ 8) × Grew old now []) ⊎ ((status : ℕ) × (text : List ℕ) × Answers words bytes status text × Says old now before after answer status text)
+    → AsksRun words name until → Ends bytes until old now before after answer left
+    → ((answer ≡ 8) × Grew old now []) ⊎ ((status : ℕ) × (text : List ℕ) × Answers words bytes status text × Says old now before after answer status text)
 ends_said words name bytes until old now before after answer left asks (outcome.Ends.memory grew) = inl (refl, grew)
 ends_said words name bytes until old now before after answer left asks (outcome.Ends.refused status refusal refuses says) = inr (status_of refusal, line_of refusal, refused name until refusal asks refuses, says)
 ends_said words name bytes until old now before after answer left asks (outcome.Ends.done program accepted grew) = inr (0, text_of program.first program.variable program.agent, run name until program asks accepted, inl (refl, grew))
@@ -99,8 +99,8 @@ ends_said words name bytes until old now before after answer left asks (outcome.
 
 -- the kernel that a run leaves did it
 pub ends_left : (words : List (List ℕ)) (files : Option Files) (name bytes : List ℕ) (until : ℕ) (old now : Option (List ℕ)) (before after answer : ℕ) (left : Option Progress)
-  → AsksRun words name until → AreNamed words files bytes → Ends bytes until old now before after answer left
-  → IfSome left (λ kernel. (answer ≡ 0) × (stage_of kernel ≡ Over) × DidRun words files kernel)
+    → AsksRun words name until → AreNamed words files bytes → Ends bytes until old now before after answer left
+    → IfSome left (λ kernel. (answer ≡ 0) × (stage_of kernel ≡ Over) × DidRun words files kernel)
 ends_left words files name bytes until old now before after answer left asks named (outcome.Ends.memory grew) = tt
 ends_left words files name bytes until old now before after answer left asks named (outcome.Ends.refused status refusal refuses says) = tt
 ends_left words files name bytes until old now before after answer left asks named (outcome.Ends.cut program accepted rose front) = tt
@@ -108,18 +108,18 @@ ends_left words files name bytes until old now before after answer left asks nam
     (refl, grind (arith, nat_tests), record { name = name; until = until; bytes = bytes; program = program; asked = asks; named = named; accepted = accepted; over = refl })
 
 pub ends_refused : (bytes : List ℕ) (until : ℕ) (old now : Option (List ℕ)) (before after answer : ℕ) (left : Option Progress) (refusal : Refusal)
-  → left ≡ None → Refuses bytes until refusal → Says old now before after answer (status_of refusal) (line_of refusal) → Ends bytes until old now before after answer left
+    → left ≡ None → Refuses bytes until refusal → Says old now before after answer (status_of refusal) (line_of refusal) → Ends bytes until old now before after answer left
 ends_refused bytes until old now before after answer left refusal none refuses says = subst (Ends bytes until old now before after answer) (sym none) (outcome.Ends.refused answer refusal refuses says)
 
 pub ends_memory : (bytes : List ℕ) (until : ℕ) (held : Option (List ℕ)) (faults : ℕ) → Ends bytes until held held faults faults 8 None
 ends_memory bytes until held faults = outcome.Ends.memory (Grew-nothing held)
 
 pub ends_done : (bytes : List ℕ) (until : ℕ) (old now : Option (List ℕ)) (before after : ℕ) (kernel : Progress) (program : Program)
-  → IsAccepted bytes until program → kernel ≡ ended program.first → Grew old now (text_of program.first program.variable program.agent) → Ends bytes until old now before after 0 (Some kernel)
+    → IsAccepted bytes until program → kernel ≡ ended program.first → Grew old now (text_of program.first program.variable program.agent) → Ends bytes until old now before after 0 (Some kernel)
 ends_done bytes until old now before after kernel program accepted over grew = subst (λ k. Ends bytes until old now before after 0 (Some k)) (sym over) (outcome.Ends.done program accepted grew)
 
 pub ends_cut : (bytes : List ℕ) (until : ℕ) (old now : Option (List ℕ)) (before after : ℕ) (left : Option Progress) (program : Program)
-  → left ≡ None → IsAccepted bytes until program → Rose before after → GrewByFront old now (text_of program.first program.variable program.agent) → Ends bytes until old now before after 4 left
+    → left ≡ None → IsAccepted bytes until program → Rose before after → GrewByFront old now (text_of program.first program.variable program.agent) → Ends bytes until old now before after 4 left
 ends_cut bytes until old now before after left program none accepted rose front = subst (Ends bytes until old now before after 4) (sym none) (outcome.Ends.cut program accepted rose front)
 
 -- the end of a run, whatever was left before it

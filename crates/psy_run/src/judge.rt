@@ -6,6 +6,7 @@ ghost use Rattle.psy_door.specs.Files.{WhereTold, bytes_under};
 ghost use Rattle.psy_kernel.specs.Meaning.{InRange, IsFeasible};
 ghost use Rattle.psy_run.specs.Answer.{HasTokens, HasTree, IsStop};
 
+use crate::refusal::Refusal;
 use psy_base::Items;
 use psy_door::{FetchFault, Shelf};
 use psy_kernel::First;
@@ -13,8 +14,6 @@ use psy_parse::{ParseFault, parse};
 use psy_token::{LexFault, lex};
 use psy_tree::{Raw, Token};
 use std::alloc::Global;
-
-use crate::refusal::Refusal;
 
 /// Why there is no run: a refusal, or want of memory.
 #[derive(Clone, Copy, Debug, PartialEq, Eq)]

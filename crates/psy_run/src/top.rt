@@ -10,16 +10,15 @@ ghost use Rattle.psy_run.specs.Answer.{Answers, AreNamed, IsStop, status_of, lin
 ghost use Rattle.psy_run.specs.Outcome.{Says, Ends, IsUnread, MayWrite, DidRun};
 ghost use Rattle.psy_kernel.specs.declared.stage.Stage.TheVariants.{Over};
 
-use psy_door::{FetchFault, Shelf, Sink};
-use psy_kernel::Kernel;
-use std::alloc::Global;
-
 use crate::asked::read_words;
 use crate::form::read_form;
 use crate::judge::{Stop, overload, tree};
 use crate::refusal::Refusal;
 use crate::run::run_loop;
 use crate::write::write_all_of;
+use psy_door::{FetchFault, Shelf, Sink};
+use psy_kernel::Kernel;
+use std::alloc::Global;
 
 // Answers with a refusal's line and status.
 fn refuse<S: Sink>(refusal: Refusal, out: &mut S) -> u8
@@ -65,7 +64,14 @@ fn run<S: Sink>(
         return refuse(Refusal::NotBuilt, out);
     };
     if let Some((length, demand, supply)) = overload(&form.first) {
-        return refuse(Refusal::Infeasible { length, demand, supply }, out);
+        return refuse(
+            Refusal::Infeasible {
+                length,
+                demand,
+                supply,
+            },
+            out,
+        );
     }
     let mut kernel = Kernel::boot(form.first);
     match run_loop(&mut kernel, until, form.variable, form.agent, out) {
