@@ -1,5 +1,10 @@
-pub mod Lexemes
-pub mod Tokens
-pub mod Faults
 pub mod Deep
+pub mod Faults
 pub mod Grammar
+pub mod Lexemes
+pub mod Paths
+pub mod Places
+pub mod Rules
+pub mod Scope
+pub mod Stands
+pub mod Tokens

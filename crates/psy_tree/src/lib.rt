@@ -1,8 +1,15 @@
-//! Tokens, the tree of a program's text, and the definitions of both.
+//! Tokens, the tree of a program's text, the unit that a tree stands for, and the definitions of
+//! these.
 #![tactic(auto)]
 
 mod raw;
+mod reach;
+mod rules;
 mod token;
+mod unit;
 
 pub use raw::{Init, Item, Lit, Local, Name, Raw, RawExpr, RawStmt};
+pub use reach::{Asks, Found};
+pub use rules::{Count, RuleKind};
 pub use token::{Kind, Sign, Token, Word};
+pub use unit::{AgentDecl, Expr, FunctionDecl, Point, Slots, Stmt, StreamDecl, Unit, VarDecl};

@@ -1,0 +1,159 @@
+ghost use Rattle.std.specs.Prelude.{◌≡◌, ℕ, ◌+◌, ◌-◌, ◌*◌, ◌^◌, ◌<◌, ◌≤◌, ◌↔◌, IfOk};
+ghost use Rattle.std.specs.Result.{IsErrOf};
+ghost use Rattle.psy_clock.specs.Dates.{IsClock, IsDate, IsAfter, IsFrom, date, count, count_below, after_date, from_date, derived};
+
+use thiserror::Error;
+
+/// The greatest period of a clock, in ticks.
+pub const LONGEST_PERIOD: u32 = 10_000;
+
+/// A clock. Its dates are `first`, `first + period`, `first + 2 * period` and so on, in ticks.
+#[derive(Clone, Copy, Debug, PartialEq, Eq)]
+pub struct Clock {
+    /// Ticks from a date to the next, from 1 to 10,000.
+    pub period: u32,
+    /// The first date, which is below the period.
+    pub first: u32,
+}
+
+/// Why no clock can be derived.
+#[derive(Clone, Copy, Debug, PartialEq, Eq, Error)]
+pub enum ClockFault {
+    /// The shift isn't below the factor.
+    #[error("the shift isn't below the factor")]
+    BadShift,
+    /// The period passes 10,000 ticks.
+    #[error("the period passes 10,000 ticks")]
+    TooSlow,
+}
+
+/// The clock whose activations are number `m`, `n + m`, `2 * n + m` and so on of the parent's.
+pub fn derive(parent: Clock, n: u32, m: u32) -> Result<Clock, ClockFault>
+    requires { IsClock parent }
+    ensures clock { IfOk result (λ c. c ≡ derived parent n m) }
+    ensures lawful { IfOk result IsClock }
+    ensures dates { IfOk result (λ c. (i : ℕ) → date c i ≡ date parent (n * i + m)) }
+    ensures shift { IsErrOf result ClockFault.BadShift ↔ n ≤ m }
+    ensures slow { IsErrOf result ClockFault.TooSlow ↔ ((m < n) × (10000 < n * parent.period)) }
+{
+    if m >= n {
+        return Err(ClockFault::BadShift);
+    }
+    let period = u64::from(n) * u64::from(parent.period);
+    if period > u64::from(LONGEST_PERIOD) {
+        return Err(ClockFault::TooSlow);
+    }
+    Ok(Clock {
+        period: n * parent.period,
+        first: parent.first + m * parent.period,
+    })
+}
+
+impl Clock {
+    /// The clock whose dates are all numbers.
+    pub fn base() -> Clock
+        ensures clock { result ≡ record { period = 1; first = 0 } }
+        ensures lawful { IsClock result }
+    {
+        Clock {
+            period: 1,
+            first: 0,
+        }
+    }
+
+    /// The `k`-th date above `t`.
+    pub fn after(self, t: u64, k: u32) -> u64
+        requires clock { IsClock self }
+        requires some { 1 ≤ k }
+        requires few { k ≤ 1024 }
+        requires early { t ≤ 2 ^ 40 }
+        ensures after { IsAfter self t k result }
+        ensures value { result ≡ after_date self t k }
+    {
+        self.at(self.count_to(t) + u64::from(k - 1))
+    }
+
+    /// The `k`-th date at or above `t`, counted from 0.
+    pub fn from_date(self, t: u64, k: u32) -> u64
+        requires clock { IsClock self }
+        requires few { k ≤ 1024 }
+        requires early { t ≤ 2 ^ 40 }
+        ensures from { IsFrom self t k result }
+        ensures value { result ≡ from_date self t k }
+    {
+        self.at(self.count_before(t) + u64::from(k))
+    }
+
+    /// The number of dates at or below `t`.
+    pub fn count_to(self, t: u64) -> u64
+        requires clock { IsClock self }
+        requires early { t ≤ 2 ^ 40 }
+        ensures { result ≡ count self t }
+    {
+        let first = u64::from(self.first);
+        if t < first {
+            return 0;
+        }
+        (t - first) / u64::from(self.period) + 1
+    }
+
+    /// The number of dates below `t`.
+    fn count_before(self, t: u64) -> u64
+        requires clock { IsClock self }
+        requires early { t ≤ 2 ^ 40 }
+        ensures { result ≡ count_below self t }
+    {
+        if t == 0 { 0 } else { self.count_to(t - 1) }
+    }
+
+    /// Date number `i`, from 0.
+    fn at(self, i: u64) -> u64
+        requires clock { IsClock self }
+        requires few { i ≤ 2 ^ 41 }
+        ensures { result ≡ date self i }
+    {
+        u64::from(self.first) + i * u64::from(self.period)
+    }
+}
+
+#[cfg(test)]
+mod tests {
+    use super::*;
+
+    #[test]
+    fn derived_clocks_have_the_stated_dates(rt: HostRuntime) {
+        let base = Clock::base();
+        let b = derive(base, 10, 4).expect(&rt, "b");
+        let e = derive(b, 3, 2).expect(&rt, "e");
+        assert_eq!(rt; (b.period, b.first), (10, 4));
+        assert_eq!(rt; (e.period, e.first), (30, 24));
+        assert_eq!(rt; derive(base, 2, 2), Err(ClockFault::BadShift));
+        assert_eq!(rt;
+            derive(b, 1_001, 1_001),
+            Err(ClockFault::BadShift),
+            "the shift is judged first"
+        );
+        assert_eq!(rt; derive(b, 1_001, 1_000), Err(ClockFault::TooSlow));
+        assert_eq!(rt;
+            derive(b, 1_000, 999).is_ok(),
+            true,
+            "10,000 ticks are lawful"
+        );
+        for (t, k, after, from) in [
+            (0, 1, 24, 54),
+            (23, 1, 24, 54),
+            (24, 1, 54, 54),
+            (24, 2, 84, 84),
+            (25, 1, 54, 84),
+        ] {
+            assert_eq!(rt; e.after(t, k), after, "after {t}, {k}");
+            assert_eq!(rt; e.from_date(t, k), from, "from {t}, {k}");
+        }
+        for (t, count) in [(0, 0), (23, 0), (24, 1), (53, 1), (54, 2), (84, 3)] {
+            assert_eq!(rt; e.count_to(t), count, "count to {t}");
+        }
+        assert_eq!(rt; e.from_date(24, 0), 24);
+        assert_eq!(rt; base.from_date(7, 0), 7);
+        assert_eq!(rt; base.after(7, 3), 10);
+    }
+}

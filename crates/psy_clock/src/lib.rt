@@ -1,0 +1,7 @@
+//! Clocks: the dates at which time moves on for an agent, a variable or a stream.
+#![tactic(auto)]
+
+mod clock;
+pub mod laws;
+
+pub use clock::{Clock, ClockFault, LONGEST_PERIOD, derive};

@@ -1,0 +1,241 @@
+-- The unit that a program stands for: the program with numbers for names.
+use Rattle.std.specs.Prelude.{◌≡◌, ℕ, ◌+◌, Bool, true, false, ◌||◌, nat_lt, if◌then◌else◌, List, [], ◌∷◌, ◌++◌, map, take, length, Option, Some, None, option_to_list, slice_get, ℤ, pos}
+use Rattle.std.specs.List.{count_by, list_any, flat_map}
+use Rattle.std.specs.Int.{w32, cast_signed, int_wrapping_neg}
+use Rattle.psy_tree.specs.declared.raw.Name.{Name}
+use Rattle.psy_tree.specs.declared.raw.Lit.{Lit}
+use Rattle.psy_tree.specs.declared.raw.Init.{Init}
+use Rattle.psy_tree.specs.declared.raw.Local.{Local}
+use Rattle.psy_tree.specs.declared.raw.Local.TheVariants as local
+use Rattle.psy_tree.specs.declared.raw.Item.{Item}
+use Rattle.psy_tree.specs.declared.raw.Item.TheVariants as item
+use Rattle.psy_tree.specs.declared.raw.Raw.{Raw}
+use Rattle.psy_tree.specs.declared.raw.RawExpr.{RawExpr, fold-RawExpr}
+use Rattle.psy_tree.specs.declared.raw.RawExpr.TheOpen.{RawExpr-F}
+use Rattle.psy_tree.specs.declared.raw.RawStmt.{RawStmt, fold-RawStmt}
+use Rattle.psy_tree.specs.declared.raw.RawStmt.TheOpen.{RawStmt-F}
+use Rattle.psy_tree.specs.declared.reach.Found.{Found}
+use Rattle.psy_tree.specs.declared.reach.Found.TheVariants as found
+use Rattle.psy_tree.specs.declared.rules.Count.{Count}
+use Rattle.psy_tree.specs.declared.rules.Count.TheVariants as counted
+use Rattle.psy_tree.specs.declared.unit.Unit.{Unit as Whole}
+use Rattle.psy_tree.specs.declared.unit.VarDecl.{VarDecl}
+use Rattle.psy_tree.specs.declared.unit.StreamDecl.{StreamDecl}
+use Rattle.psy_tree.specs.declared.unit.FunctionDecl.{FunctionDecl}
+use Rattle.psy_tree.specs.declared.unit.AgentDecl.{AgentDecl}
+use Rattle.psy_tree.specs.declared.unit.Slots.{Slots}
+use Rattle.psy_tree.specs.declared.unit.Point.{Point}
+use Rattle.psy_tree.specs.declared.unit.Expr.{Expr, roll-Expr}
+use Rattle.psy_tree.specs.declared.unit.Expr.TheOpen.{Expr-F}
+use Rattle.psy_tree.specs.declared.unit.Stmt.{Stmt, roll-Stmt}
+use Rattle.psy_tree.specs.declared.unit.Stmt.TheOpen.{Stmt-F}
+use Rattle.psy_tree.specs.Paths.{advances_list}
+use Rattle.psy_tree.specs.Scope.{Site, item_name, slots_of, stands_for, stands_globally}
+use Rattle.psy_tree.specs.Rules.{is_clock, is_agent, is_function, is_stream, sound_clocks, shift_of, NoFault}
+
+-- ---- counts and their limits
+
+abbrev pub is_variable : Option Item → Bool
+is_variable (Some (item.Temporal name owner clock init depth)) = true
+is_variable (Some (item.Input name clock init depth)) = true
+is_variable _ = false
+
+abbrev pub counting : (Option Item → Bool) → List Item → ℕ
+counting p items = count_by (λ i. p (Some i)) items
+
+-- The points of an agent: the head of its body, and each `advance`.
+abbrev pub points_of : Item → ℕ
+points_of (item.Agent name clock budget locals body stmts) = 1 + advances_list stmts
+points_of _ = 0
+
+-- A count passes its limit.
+abbrev pub passes : List Item → Count → Bool
+passes items counted.Clocks = nat_lt 64 (counting is_clock items)
+passes items counted.Agents = nat_lt 64 (counting is_agent items)
+passes items counted.Variables = nat_lt 256 (counting is_variable items)
+passes items counted.Streams = nat_lt 64 (counting is_stream items)
+passes items counted.Functions = nat_lt 64 (counting is_function items)
+passes items counted.Names = list_any (λ i. nat_lt 64 (length (slots_of i))) items
+passes items counted.Points = list_any (λ i. nat_lt 256 (points_of i)) items
+
+abbrev pub first_that : (Count → Bool) → List Count → Option Count
+first_that p [] = None
+first_that p (c ∷ cs) = if p c then Some c else first_that p cs
+
+abbrev pub counts : List Count
+counts =
+    counted.Clocks ∷ (counted.Agents ∷ (counted.Variables ∷ (counted.Streams ∷ (counted.Functions ∷ (counted.Names ∷ (counted.Points ∷ []))))))
+
+-- The first count that passes its limit, in their order.
+abbrev pub first_passed : Raw → Option Count
+first_passed raw = first_that (passes raw.items) counts
+
+-- ---- numbers for names
+
+-- A literal as a signed number of 32 bits: itself, since it is at most 2,147,483,647.
+abbrev pub signed : Lit → ℤ
+signed l = cast_signed w32 l.value
+
+abbrev pub first_value : Init → ℤ
+first_value i = if i.minus then int_wrapping_neg w32 (signed i.value) else signed i.value
+
+-- The number of a declaration among those of its kind.
+abbrev pub number_of_item : (Option Item → Bool) → List Item → Option Found → ℕ
+number_of_item p items (Some (found.Item k)) = counting p (take k items)
+number_of_item p items _ = 0
+
+abbrev pub global_number : (Option Item → Bool) → List Item → Name → ℕ
+global_number p items name = number_of_item p items (stands_globally items name.text)
+
+abbrev pub number_at : (Option Item → Bool) → Site → Name → ℕ
+number_at p site name = number_of_item p site.items (stands_for site name.text)
+
+abbrev pub slot_number : Option Found → ℕ
+slot_number (Some (found.Slot k)) = k
+slot_number _ = 0
+
+-- ---- expressions
+
+-- A slot, or a variable that the agent owns
+abbrev pub value_of : Site → Option Found → Expr
+value_of site (Some (found.Item k)) = roll-Expr (Expr-F.Copy (counting is_variable (take k site.items)))
+value_of site f = roll-Expr (Expr-F.Slot (slot_number f))
+
+abbrev pub expr_step : Site → RawExpr-F Expr → Expr
+expr_step site (RawExpr-F.Number number) = roll-Expr (Expr-F.Number (signed number))
+expr_step site (RawExpr-F.Var name) = value_of site (stands_for site name.text)
+expr_step site (RawExpr-F.Cell name index) = roll-Expr (Expr-F.Cell (slot_number (stands_for site name.text)) index)
+expr_step site (RawExpr-F.Past token name back) = roll-Expr (Expr-F.Past (number_at is_variable site name) back.value)
+expr_step site (RawExpr-F.Ready token name) = roll-Expr (Expr-F.Ready (number_at is_stream site name))
+expr_step site (RawExpr-F.Take token name) = roll-Expr (Expr-F.Take (number_at is_stream site name))
+expr_step site (RawExpr-F.Unary op operand) = roll-Expr (Expr-F.Unary op operand)
+expr_step site (RawExpr-F.Binary op left right) = roll-Expr (Expr-F.Binary op left right)
+expr_step site (RawExpr-F.Call name arguments) = roll-Expr (Expr-F.Call (number_at is_function site name) arguments)
+
+abbrev pub expr_of : Site → RawExpr → Expr
+expr_of site = fold-RawExpr Expr (expr_step site)
+
+-- ---- statements: each with the points before it, and these with its own behind them
+
+abbrev pub Numbering : Type 0 → Type 0
+Numbering A = List Point → A × List Point
+
+abbrev pub with_value : {A B : Type 0} → (A → B) → A × List Point → B × List Point
+with_value f r = (f r.0, r.1)
+
+abbrev pub and_more : {A : Type 0} → A → List A × List Point → List A × List Point
+and_more a r = (a ∷ r.0, r.1)
+
+abbrev pub in_turn : {A : Type 0} → List (Numbering A) → Numbering (List A)
+in_turn [] points = ([], points)
+in_turn (n ∷ ns) points = and_more (n points).0 (in_turn ns (n points).1)
+
+-- The budget that an `advance` gives the next action: its own, or the agent's.
+abbrev pub agent_budget : Option Item → ℕ
+agent_budget (Some (item.Agent name clock budget locals body stmts)) = budget.value
+agent_budget _ = 0
+
+abbrev pub budget_of : Site → Option Lit → ℕ
+budget_of site None = agent_budget (slice_get site.items site.at)
+budget_of site (Some budget) = budget.value
+
+abbrev pub set_by : Site → Option Found → Expr → Stmt
+set_by site (Some (found.Item k)) value = roll-Stmt (Stmt-F.SetCopy (counting is_variable (take k site.items)) value)
+set_by site f value = roll-Stmt (Stmt-F.Set (slot_number f) value)
+
+abbrev pub while_of : Option Lit → Expr → List Stmt → Stmt
+while_of None test body = roll-Stmt (Stmt-F.Timed test body)
+while_of (Some most) test body = roll-Stmt (Stmt-F.Bounded test most.value body)
+
+abbrev pub stmt_step : Site → RawStmt-F (Numbering Stmt) → Numbering Stmt
+stmt_step site (RawStmt-F.Set name value) points = (set_by site (stands_for site name.text) (expr_of site value), points)
+stmt_step site (RawStmt-F.SetCell name index value) points =
+    (roll-Stmt (Stmt-F.SetCell (slot_number (stands_for site name.text)) (expr_of site index) (expr_of site value)), points)
+stmt_step site (RawStmt-F.If test branch None) points =
+    with_value (λ ss. roll-Stmt (Stmt-F.If (expr_of site test) ss None)) (in_turn branch points)
+stmt_step site (RawStmt-F.If test branch (Some other)) points =
+    with_value (λ ts. roll-Stmt (Stmt-F.If (expr_of site test) (in_turn branch points).0 (Some ts))) (in_turn other (in_turn branch points).1)
+stmt_step site (RawStmt-F.While token test most body) points =
+    with_value (while_of most (expr_of site test)) (in_turn body points)
+stmt_step site (RawStmt-F.Send token value stream after clock) points =
+    (roll-Stmt (Stmt-F.Send (expr_of site value) (number_at is_stream site stream) after.value (number_at is_clock site clock)), points)
+stmt_step site (RawStmt-F.Advance token count clock budget) points = (
+  roll-Stmt (Stmt-F.Advance (length points)),
+  points ++ record { count = count.value; clock = number_at is_clock site clock; budget = budget_of site budget } ∷ [],
+)
+stmt_step site (RawStmt-F.Return token value) points = (roll-Stmt (Stmt-F.Return (expr_of site value)), points)
+
+abbrev pub stmt_of : Site → RawStmt → Numbering Stmt
+stmt_of site = fold-RawStmt (Numbering Stmt) (stmt_step site)
+
+abbrev pub stmts_of : Site → List RawStmt → Numbering (List Stmt)
+stmts_of site stmts = in_turn (map (stmt_of site) stmts)
+
+-- ---- declarations
+
+abbrev pub slot_of : Local → Slots
+slot_of (local.Scalar name init) = record { name = name.text; cells = 1; init = first_value init; array = false }
+slot_of (local.Array name cells) = record { name = name.text; cells = cells.value; init = pos 0; array = true }
+
+abbrev pub local_value : Local → ℤ
+local_value (local.Scalar name init) = first_value init
+local_value (local.Array name cells) = pos 0
+
+abbrev pub clock_names : Item → List (List ℕ)
+clock_names (item.Clock name by parent shift) = name.text ∷ []
+clock_names _ = []
+
+abbrev pub variables : List Item → Item → List VarDecl
+variables items (item.Temporal name owner clock init depth) =
+    record { name = name.text; owner = Some (global_number is_agent items owner); clock = global_number is_clock items clock; init = first_value init; depth = depth.value } ∷ []
+variables items (item.Input name clock init depth) =
+    record { name = name.text; owner = None; clock = global_number is_clock items clock; init = first_value init; depth = depth.value } ∷ []
+variables items _ = []
+
+abbrev pub streams : List Item → Item → List StreamDecl
+streams items (item.Stream name receiver keep clock) =
+    record { name = name.text; receiver = global_number is_agent items receiver; keep = keep.value; clock = global_number is_clock items clock } ∷ []
+streams items _ = []
+
+abbrev pub inside_of : List Item → ℕ → Site
+inside_of items k = record { items = items; at = k; inside = true }
+
+abbrev pub functions : List Item → ℕ → Item → List FunctionDecl
+functions items k (item.Function name params locals stmts) =
+    record { name = name.text; params = length params; locals = map local_value locals; stmts = (stmts_of (inside_of items k) stmts []).0 } ∷ []
+functions items k _ = []
+
+-- Point 0 is the head of the body.
+abbrev pub head_point : ℕ → ℕ → Point
+head_point clock budget = record { count = 0; clock = clock; budget = budget }
+
+abbrev pub agent_with : List Item → Name → Name → Lit → List Local → List Stmt × List Point → AgentDecl
+agent_with items name clock budget locals body =
+    record { name = name.text; clock = global_number is_clock items clock; budget = budget.value; slots = map slot_of locals; points = body.1; stmts = body.0 }
+
+abbrev pub agents : List Item → ℕ → Item → List AgentDecl
+agents items k (item.Agent name clock budget locals body stmts) =
+    agent_with items name clock budget locals (stmts_of (inside_of items k) stmts (head_point (global_number is_clock items clock) budget.value ∷ [])) ∷ []
+agents items k _ = []
+
+-- What each declaration gives, from number k on
+abbrev pub each_from : {A : Type 0} → (ℕ → Item → List A) → ℕ → List Item → List A
+each_from f k [] = []
+each_from f k (i ∷ is) = f k i ++ each_from f (k + 1) is
+
+abbrev pub unit_of : Raw → Whole
+unit_of raw = record {
+  quantum = raw.quantum.value;
+  clocks = flat_map option_to_list (sound_clocks raw.items (length raw.items));
+  clock_names = flat_map clock_names raw.items;
+  variables = flat_map (variables raw.items) raw.items;
+  streams = flat_map (streams raw.items) raw.items;
+  functions = each_from (functions raw.items) 0 raw.items;
+  agents = each_from (agents raw.items) 0 raw.items;
+}
+
+-- The unit is that of a program without a fault, no count of which passes its limit.
+pub record Stands (unit : Whole) (raw : Raw) : Type 0 where
+  pub no_fault : NoFault raw
+  pub within_limits : first_passed raw ≡ None
+  pub numbered : unit ≡ unit_of raw
