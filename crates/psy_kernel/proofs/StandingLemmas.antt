@@ -4,7 +4,7 @@ use Rattle.std.proofs.lemmas.Bool.{cases_lt}
 use Rattle.std.proofs.lemmas.Bool.Decides.{nat_tests}
 use Rattle.psy_kernel.specs.declared.stage.Stage.TheVariants.{DateDue, CycleDue}
 use Rattle.psy_kernel.specs.declared.first.First.{First}
-use Rattle.psy_kernel.specs.Meaning.{below, date_of, value_after, due_by, slack_of, least, finish_of, cost_of}
+use Rattle.psy_kernel.specs.Meaning.{InRange, IsFeasible, deadline_of, below, date_of, value_after, due_by, slack_of, least, finish_of, cost_of}
 use Rattle.psy_kernel.specs.declared.kernel.Kernel.TheInside.{Inside}
 use Rattle.psy_kernel.specs.Refinement.{StandsFor}
 use Rattle.psy_kernel.specs.Standing.{Progress, stage_of, value_of, IsOffClock, count_of, least_slack_of}
@@ -202,3 +202,12 @@ pub date_due_of : (k : Inside) (run : Progress) → ◌≡◌ {A = Progress} (re
 date_due_of k run e stage h =
     let due = date_due (record { first = k.first; dates = k.dates; cycles = k.cycles }) (subst (λ r. stage_of r ≡ DateDue r.dates) (sym e) stage) in
     (due.1, omega (arith, due.0, h.dates))
+
+-- an action of a feasible program finishes by its deadline
+pub finish_of-le : (first : First) (n : ℕ) → InRange first → IsFeasible first → deadline_of first n ≤ first.until → finish_of first n ≤ deadline_of first n * first.quantum
+finish_of-le first n range feasible due =
+    let next : deadline_of first n ≡ date_of first n + first.period = omega arith in
+    let room : first.budget ≤ first.quantum * first.period = feasible (omega arith) in
+    let span : deadline_of first n * first.quantum ≡ date_of first n * first.quantum + first.quantum * first.period = ap (λ d. d * first.quantum) next ∙ times_sum (date_of first n) first.period first.quantum in
+    let budget = range.budget.0 in
+    omega (arith, cost_of_le first n, span)

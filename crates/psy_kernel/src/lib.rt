@@ -4,8 +4,10 @@
 
 mod first;
 mod kernel;
+mod law;
 mod stage;
 
 pub use first::First;
 pub use kernel::Kernel;
+pub use law::meets_deadlines;
 pub use stage::Stage;

@@ -1,0 +1,5 @@
+use Rattle.psy_kernel.proofs.StandingLemmas.{finish_of-le}
+use Rattle.psy_kernel.proofs.law.meets_deadlines.Goals as goal
+
+pub returns : goal.returns
+returns c = finish_of-le

@@ -1,0 +1,9 @@
+//! What follows from the definitions alone.
+ghost use Rattle.std.specs.Prelude.{ℕ, ◌*◌, ◌≤◌};
+ghost use Rattle.psy_kernel.specs.declared.first.First.{First};
+ghost use Rattle.psy_kernel.specs.Meaning.{InRange, IsFeasible, deadline_of, finish_of};
+
+/// Each action that is due by the last date of a feasible program finishes by its deadline.
+pub fn meets_deadlines()
+    ensures { (first : First) (n : ℕ) → InRange first → IsFeasible first → deadline_of first n ≤ first.until → finish_of first n ≤ deadline_of first n * first.quantum }
+{}
