@@ -1,5 +1,5 @@
 -- Words and the bytes of the file that they name have one answer at most.
-use Rattle.std.proofs.Common.{◌≡◌, ◌∙◌, sym, subst, ap, refl, ℕ, ◌*◌, ◌<◌, ◌≤◌, List, [], ◌∷◌, length, codes, arith}
+use Rattle.std.proofs.Common.{◌≡◌, ◌∙◌, sym, subst, ap, refl, ℕ, ◌*◌, ◌<◌, ◌≤◌, List, [], ◌∷◌, length, codes, arith, Some, None, slice_get, ◌⊎◌, inl, inr, ◌==◌, if◌then◌else◌}
 use Rattle.psy_base.specs.declared.limits.TheConstants.{FILE_BYTES}
 use Rattle.psy_tree.specs.declared.token.Token.{Token}
 use Rattle.psy_tree.specs.declared.raw.Raw.{Raw}
@@ -11,14 +11,21 @@ use Rattle.psy_tree.specs.Grammar.{Spells}
 use Rattle.psy_tree.specs.Deep as deep
 use Rattle.psy_token.proofs.Texts.{TokensOf-once, FirstFault-once, not_both}
 use Rattle.psy_parse.proofs.AgainItems.{Spells-unique}
+use Rattle.psy_tree.specs.declared.unit.Unit.{Unit as Whole}
+use Rattle.psy_tree.specs.declared.rules.Count.{Count}
+use Rattle.psy_tree.specs.declared.rules.RuleKind.{RuleKind}
+use Rattle.psy_tree.specs.declared.rules.RuleKind.TheVariants as kind
+use Rattle.psy_tree.specs.Rules as rules
+use Rattle.psy_tree.specs.Rules.{LeastFault, NoFault}
+use Rattle.psy_tree.specs.Stands.{Stands, first_passed}
 use Rattle.psy_kernel.specs.Meaning.{IsFeasible}
 use Rattle.psy_run.specs.declared.refusal.Refusal.{Refusal}
-use Rattle.psy_run.specs.declared.refusal.Refusal.TheVariants.{Words, ReadProgram, LongProgram, BadByte, LongName, BigLiteral, OpenComment, Syntax, Deep, NotBuilt, Infeasible}
+use Rattle.psy_run.specs.declared.refusal.Refusal.TheVariants.{Words, ReadProgram, LongProgram, BadByte, LongName, BigLiteral, OpenComment, Syntax, Deep, Rule, Many, NotBuilt, Infeasible}
 use Rattle.psy_run.specs.Asked.{AsksRun, AskNothing}
-use Rattle.psy_run.specs.Form.{Program, IsForm, HaveNumbers}
+use Rattle.psy_run.specs.Form.{Program, IsForm, DoesOne, HaveNumbers}
 use Rattle.psy_run.specs.Log.{text_of}
-use Rattle.psy_run.specs.Answer.{Answers, unlisted, refused, run, Refuses, status_of, line_of, lex_line}
-use Rattle.psy_run.proofs.FormLemmas.{items_of-injective, have_one_numbers}
+use Rattle.psy_run.specs.Answer.{Answers, unlisted, refused, run, Refuses, status_of, line_of, lex_line, limit_line}
+use Rattle.psy_run.proofs.FormLemmas.{have_one_numbers, one_value}
 
 -- words ask for one run at most
 pub AsksRun-unique : (words : List (List ℕ)) (name other_name : List ℕ) (until other_until : ℕ) → AsksRun words name until → AsksRun words other_name other_until → (name ≡ other_name) × (until ≡ other_until)
@@ -27,15 +34,21 @@ AsksRun-unique words name other_name until other_until a b =
     let date : a.date ≡ b.date = cc in
     (cc, a.is_date.value ∙ ap decimal_value date ∙ sym b.is_date.value)
 
--- a tree is one program at most
-pub IsForm-unique : (raw : Raw) (until : ℕ) (program other : Program) → IsForm raw until program → IsForm raw until other → program ≡ other
-IsForm-unique raw until program other a b =
-    let parts = items_of-injective a.parts b.parts (sym a.items ∙ b.items) in
-    let variable = a.variable ∙ ap (λ p. p.variable.text) parts ∙ sym b.variable in
-    let agent = a.agent ∙ ap (λ p. p.agent.text) parts ∙ sym b.agent in
-    let numbers = subst (λ p. HaveNumbers raw.quantum.value until p other.first) (sym parts) b.numbers in
-    let first = have_one_numbers raw.quantum.value until a.parts program.first other.first a.numbers numbers in
-    λ i. record { variable = variable i; agent = agent i; first = first i }
+one_of : {A : Type 0} (xs : List A) (x y : A) → xs ≡ x ∷ [] → xs ≡ y ∷ [] → x ≡ y
+one_of xs x y a b = let e : x ∷ [] ≡ y ∷ [] = sym a ∙ b in cc
+
+-- a unit is one program at most
+pub IsForm-unique : (unit : Whole) (until : ℕ) (program other : Program) → IsForm unit until program → IsForm unit until other → program ≡ other
+IsForm-unique unit until program other a b =
+    let variable = one_of unit.variables a.variable b.variable a.variables b.variables in
+    let agent = one_of unit.agents a.agent b.agent a.agents b.agents in
+    let clock : a.clock ≡ b.clock = let e : Some a.clock ≡ Some b.clock = sym a.on ∙ ap (λ g. slice_get unit.clocks g.clock) agent ∙ b.on in cc in
+    let value : a.value ≡ b.value = one_value a.agent b.agent a.value b.value agent a.does b.does in
+    let numbers : HaveNumbers unit.quantum until a.agent.budget a.variable.init a.clock a.value other.first = subst (λ g. HaveNumbers unit.quantum until g.budget a.variable.init a.clock a.value other.first) (sym agent) (subst (λ v. HaveNumbers unit.quantum until b.agent.budget v.init a.clock a.value other.first) (sym variable) (subst (λ c. HaveNumbers unit.quantum until b.agent.budget b.variable.init c a.value other.first) (sym clock) (subst (λ e. HaveNumbers unit.quantum until b.agent.budget b.variable.init b.clock e other.first) (sym value) b.numbers))) in
+    let first = have_one_numbers unit.quantum until a.agent.budget a.variable.init a.clock a.value program.first other.first a.numbers numbers in
+    let named = a.names.0 ∙ ap (λ v. v.name) variable ∙ sym b.names.0 in
+    let called = a.names.1 ∙ ap (λ g. g.name) agent ∙ sym b.names.1 in
+    λ i. record { variable = named i; agent = called i; first = first i }
 
 -- one token is the first that is too deep
 pub Deep-unique : (tokens : List Token) (n m : ℕ) → deep.Deep tokens n → deep.Deep tokens m → n ≡ m
@@ -47,6 +60,49 @@ Deep-unique tokens n m a b =
 Deep-not_shallow : (tokens : List Token) (n : ℕ) → deep.Deep tokens n → deep.Shallow tokens → ⊥
 Deep-not_shallow tokens n a shallow = shallow n a.stands a.reached
 
+kind_at : ℕ → RuleKind
+kind_at n =
+    if n == 1 then kind.Twice
+    else (if n == 2 then kind.Unknown
+    else (if n == 3 then kind.WrongKind
+    else (if n == 4 then kind.NotOwner
+    else (if n == 5 then kind.NotReceiver
+    else (if n == 6 then kind.TooDeep
+    else (if n == 7 then kind.NoMax
+    else (if n == 8 then kind.MixedLoop
+    else (if n == 9 then kind.NoAdvance
+    else (if n == 10 then kind.CallsDown
+    else (if n == 11 then kind.BadClock
+    else kind.BadNumber))))))))))
+
+kind_at-number_of : (k : RuleKind) → kind_at (rules.number_of k) ≡ k
+unfolding kind_at
+kind_at-number_of kind.Twice = refl
+kind_at-number_of kind.Unknown = refl
+kind_at-number_of kind.WrongKind = refl
+kind_at-number_of kind.NotOwner = refl
+kind_at-number_of kind.NotReceiver = refl
+kind_at-number_of kind.TooDeep = refl
+kind_at-number_of kind.NoMax = refl
+kind_at-number_of kind.MixedLoop = refl
+kind_at-number_of kind.NoAdvance = refl
+kind_at-number_of kind.CallsDown = refl
+kind_at-number_of kind.BadClock = refl
+kind_at-number_of kind.BadNumber = refl
+
+number_of-injective : (k l : RuleKind) → rules.number_of k ≡ rules.number_of l → k ≡ l
+number_of-injective k l e = sym (kind_at-number_of k) ∙ ap kind_at e ∙ kind_at-number_of l
+
+-- a program has one least fault at most
+LeastFault-unique : (raw : Raw) (k l : RuleKind) (n m : ℕ) → LeastFault raw k n → LeastFault raw l m → (k ≡ l) × (n ≡ m)
+LeastFault-unique raw k l n m a b = elim (a.least l m b.present) [
+    | inl before ↦ elim (b.least k n a.present) [ inl behind ↦ absurd (omega arith) | inr also ↦ absurd (let e = also.0 in omega arith) ]
+    | inr at ↦ elim (b.least k n a.present) [
+      | inl behind ↦ absurd (let e = at.0 in omega arith)
+      | inr also ↦ (number_of-injective k l (let p = at.1 in let q = also.1 in omega arith), at.0)
+    ]
+  ]
+
 -- The steps that judge a file, the last first: each stops with a status and a text, or goes on to the one above it.
 
 -- what is answered for a program
@@ -56,10 +112,16 @@ data OfProgram (program : Program) : ℕ → List ℕ → Type 0 where
       → OfProgram program (status_of (Infeasible window demand supply)) (line_of (Infeasible window demand supply))
   feasible : IsFeasible program.first → OfProgram program 0 (text_of program.first program.variable program.agent)
 
+-- for a unit
+data OfUnit (until : ℕ) (unit : Whole) : ℕ → List ℕ → Type 0 where
+  stops : ((program : Program) → IsForm unit until program → ⊥) → OfUnit until unit (status_of NotBuilt) (line_of NotBuilt)
+  goes_on : {status : ℕ} {text : List ℕ} (program : Program) → IsForm unit until program → OfProgram program status text → OfUnit until unit status text
+
 -- for a tree
 data OfTree (until : ℕ) (raw : Raw) : ℕ → List ℕ → Type 0 where
-  stops : ((program : Program) → IsForm raw until program → ⊥) → OfTree until raw (status_of NotBuilt) (line_of NotBuilt)
-  goes_on : {status : ℕ} {text : List ℕ} (program : Program) → IsForm raw until program → OfProgram program status text → OfTree until raw status text
+  breaks : (kind : RuleKind) (token : ℕ) → LeastFault raw kind token → OfTree until raw (status_of (Rule kind token)) (line_of (Rule kind token))
+  passes : (count : Count) → NoFault raw → first_passed raw ≡ Some count → OfTree until raw (status_of (Many count)) (line_of (Many count))
+  goes_on : {status : ℕ} {text : List ℕ} (unit : Whole) → Stands unit raw → OfUnit until unit status text → OfTree until raw status text
 
 -- for tokens that aren't nested too deep
 data OfShallow (until : ℕ) (tokens : List Token) : ℕ → List ℕ → Type 0 where
@@ -97,16 +159,20 @@ of_refusal bytes until (BigLiteral place) (short, at) = OfFile.goes_on short (Of
 of_refusal bytes until (OpenComment place) (short, at) = OfFile.goes_on short (OfShort.stops faults.OpenComment place at)
 of_refusal bytes until (Deep token) (tokens, (short, has), too_deep) = OfFile.goes_on short (OfShort.goes_on tokens has (OfTokens.stops token too_deep))
 of_refusal bytes until Syntax (tokens, (short, has), shallow, none) = OfFile.goes_on short (OfShort.goes_on tokens has (OfTokens.goes_on shallow (OfShallow.stops none)))
-of_refusal bytes until NotBuilt (raw, (tokens, (short, has), shallow, spells), none) =
-    OfFile.goes_on short (OfShort.goes_on tokens has (OfTokens.goes_on shallow (OfShallow.goes_on raw spells (OfTree.stops none))))
-of_refusal bytes until (Infeasible window demand supply) (program, (raw, (tokens, (short, has), shallow, spells), form), due, less, window_is, demand_is, supply_is) =
-    OfFile.goes_on short (OfShort.goes_on tokens has (OfTokens.goes_on shallow (OfShallow.goes_on raw spells (OfTree.goes_on program form (OfProgram.infeasible window demand supply due less window_is demand_is supply_is)))))
+of_refusal bytes until (Rule kind token) (raw, (tokens, (short, has), shallow, spells), least) =
+    OfFile.goes_on short (OfShort.goes_on tokens has (OfTokens.goes_on shallow (OfShallow.goes_on raw spells (OfTree.breaks kind token least))))
+of_refusal bytes until (Many count) (raw, (tokens, (short, has), shallow, spells), none, passed) =
+    OfFile.goes_on short (OfShort.goes_on tokens has (OfTokens.goes_on shallow (OfShallow.goes_on raw spells (OfTree.passes count none passed))))
+of_refusal bytes until NotBuilt (unit, (raw, (tokens, (short, has), shallow, spells), stands), none) =
+    OfFile.goes_on short (OfShort.goes_on tokens has (OfTokens.goes_on shallow (OfShallow.goes_on raw spells (OfTree.goes_on unit stands (OfUnit.stops none)))))
+of_refusal bytes until (Infeasible window demand supply) (program, (unit, (raw, (tokens, (short, has), shallow, spells), stands), form), due, less, window_is, demand_is, supply_is) =
+    OfFile.goes_on short (OfShort.goes_on tokens has (OfTokens.goes_on shallow (OfShallow.goes_on raw spells (OfTree.goes_on unit stands (OfUnit.goes_on program form (OfProgram.infeasible window demand supply due less window_is demand_is supply_is))))))
 
 of_answer : (words : List (List ℕ)) (bytes : List ℕ) (status : ℕ) (text : List ℕ) → Answers words bytes status text → OfWords words bytes status text
 of_answer words bytes status text (unlisted nothing) = OfWords.stops nothing
 of_answer words bytes status text (refused name until refusal asks refuses) = OfWords.goes_on name until asks (of_refusal bytes until refusal refuses)
-of_answer words bytes status text (run name until program asks ((raw, (tokens, (short, has), shallow, spells), form), can)) =
-    OfWords.goes_on name until asks (OfFile.goes_on short (OfShort.goes_on tokens has (OfTokens.goes_on shallow (OfShallow.goes_on raw spells (OfTree.goes_on program form (OfProgram.feasible can))))))
+of_answer words bytes status text (run name until program asks ((unit, (raw, (tokens, (short, has), shallow, spells), stands), form), can)) =
+    OfWords.goes_on name until asks (OfFile.goes_on short (OfShort.goes_on tokens has (OfTokens.goes_on shallow (OfShallow.goes_on raw spells (OfTree.goes_on unit stands (OfUnit.goes_on program form (OfProgram.feasible can)))))))
 
 -- each step has one answer at most
 abbrev Same : ℕ → ℕ → List ℕ → List ℕ → Type 0
@@ -125,13 +191,33 @@ of_program program s s' t t' (OfProgram.infeasible n d u due less n_is d_is u_is
 of_program program s s' t t' (OfProgram.feasible can) (OfProgram.infeasible n d u due less n_is d_is u_is) = absurd (not_feasible program d u due less d_is u_is can)
 of_program program s s' t t' (OfProgram.feasible can) (OfProgram.feasible again) = (refl, refl)
 
-of_tree : (until : ℕ) (raw : Raw) (s s' : ℕ) (t t' : List ℕ) → OfTree until raw s t → OfTree until raw s' t' → Same s s' t t'
-of_tree until raw s s' t t' (OfTree.stops none) (OfTree.stops again) = (refl, refl)
-of_tree until raw s s' t t' (OfTree.stops none) (OfTree.goes_on program form more) = absurd (none program form)
-of_tree until raw s s' t t' (OfTree.goes_on program form more) (OfTree.stops none) = absurd (none program form)
-of_tree until raw s s' t t' (OfTree.goes_on program form more) (OfTree.goes_on program' form' more') =
-    let same = IsForm-unique raw until program program' form form' in
+of_unit : (until : ℕ) (unit : Whole) (s s' : ℕ) (t t' : List ℕ) → OfUnit until unit s t → OfUnit until unit s' t' → Same s s' t t'
+of_unit until unit s s' t t' (OfUnit.stops none) (OfUnit.stops again) = (refl, refl)
+of_unit until unit s s' t t' (OfUnit.stops none) (OfUnit.goes_on program form more) = absurd (none program form)
+of_unit until unit s s' t t' (OfUnit.goes_on program form more) (OfUnit.stops none) = absurd (none program form)
+of_unit until unit s s' t t' (OfUnit.goes_on program form more) (OfUnit.goes_on program' form' more') =
+    let same = IsForm-unique unit until program program' form form' in
     of_program program' s s' t t' (subst (λ p. OfProgram p s t) same more) more'
+
+not_passed : (raw : Raw) (unit : Whole) (count : Count) → Stands unit raw → first_passed raw ≡ Some count → ⊥
+not_passed raw unit count stands passed = absurd (let e : Some count ≡ None = sym passed ∙ stands.within_limits in cc)
+
+of_tree : (until : ℕ) (raw : Raw) (s s' : ℕ) (t t' : List ℕ) → OfTree until raw s t → OfTree until raw s' t' → Same s s' t t'
+of_tree until raw s s' t t' (OfTree.breaks k n least) (OfTree.breaks l m again) =
+    let same = LeastFault-unique raw k l n m least again in
+    (refl, λ i. line_of (Rule (same.0 i) (same.1 i)))
+of_tree until raw s s' t t' (OfTree.breaks k n least) (OfTree.passes count none passed) = absurd (none k n least.present)
+of_tree until raw s s' t t' (OfTree.breaks k n least) (OfTree.goes_on unit stands more) = absurd (stands.no_fault k n least.present)
+of_tree until raw s s' t t' (OfTree.passes count none passed) (OfTree.breaks k n least) = absurd (none k n least.present)
+of_tree until raw s s' t t' (OfTree.passes count none passed) (OfTree.passes other again passed') =
+    let same : count ≡ other = let e : Some count ≡ Some other = sym passed ∙ passed' in cc in
+    (refl, ap limit_line same)
+of_tree until raw s s' t t' (OfTree.passes count none passed) (OfTree.goes_on unit stands more) = absurd (not_passed raw unit count stands passed)
+of_tree until raw s s' t t' (OfTree.goes_on unit stands more) (OfTree.breaks k n least) = absurd (stands.no_fault k n least.present)
+of_tree until raw s s' t t' (OfTree.goes_on unit stands more) (OfTree.passes count none passed) = absurd (not_passed raw unit count stands passed)
+of_tree until raw s s' t t' (OfTree.goes_on unit stands more) (OfTree.goes_on unit' stands' more') =
+    let same = stands.numbered ∙ sym stands'.numbered in
+    of_unit until unit' s s' t t' (subst (λ u. OfUnit until u s t) same more) more'
 
 of_shallow : (until : ℕ) (tokens : List Token) (s s' : ℕ) (t t' : List ℕ) → OfShallow until tokens s t → OfShallow until tokens s' t' → Same s s' t t'
 of_shallow until tokens s s' t t' (OfShallow.stops none) (OfShallow.stops again) = (refl, refl)

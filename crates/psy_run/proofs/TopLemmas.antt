@@ -8,7 +8,7 @@ use Rattle.psy_door.specs.Growth.{Grew, GrewByFront}
 use Rattle.psy_kernel.specs.declared.stage.Stage.TheVariants.{Over}
 use Rattle.psy_kernel.specs.Standing.{Progress, stage_of, ended}
 use Rattle.psy_run.specs.declared.refusal.Refusal.{Refusal}
-use Rattle.psy_run.specs.declared.refusal.Refusal.TheVariants.{Words, ReadProgram, LongProgram, BadByte, LongName, BigLiteral, OpenComment, Syntax, Deep, NotBuilt, Infeasible}
+use Rattle.psy_run.specs.declared.refusal.Refusal.TheVariants.{Words, ReadProgram, LongProgram, BadByte, LongName, BigLiteral, OpenComment, Syntax, Deep, Rule, Many, NotBuilt, Infeasible}
 use Rattle.psy_run.specs.Asked.{AsksRun, AskNothing}
 use Rattle.psy_run.specs.Form.{Program}
 use Rattle.psy_run.specs.Log.{text_of}
@@ -29,6 +29,8 @@ status_of_refusal bytes until (BigLiteral place) h = λ e. absurd (omega arith)
 status_of_refusal bytes until (OpenComment place) h = λ e. absurd (omega arith)
 status_of_refusal bytes until (Deep token) h = λ e. absurd (omega arith)
 status_of_refusal bytes until Syntax h = λ e. absurd (omega arith)
+status_of_refusal bytes until (Rule kind token) h = λ e. absurd (omega arith)
+status_of_refusal bytes until (Many count) h = λ e. absurd (omega arith)
 status_of_refusal bytes until NotBuilt h = λ e. absurd (omega arith)
 status_of_refusal bytes until (Infeasible l d s) h = λ e. absurd (omega arith)
 

@@ -1,5 +1,5 @@
 -- The defined answer: the status and the text that belong to the words and to the bytes of the file that they name.
-use Rattle.std.specs.Prelude.{◌≡◌, ℕ, ◌*◌, ◌<◌, ◌≤◌, List, ◌++◌, length, codes, decimal, Option}
+use Rattle.std.specs.Prelude.{◌≡◌, ℕ, ◌*◌, ◌<◌, ◌≤◌, List, ◌++◌, length, codes, decimal, Option, Some}
 use Rattle.psy_base.specs.declared.limits.TheConstants.{FILE_BYTES}
 use Rattle.psy_tree.specs.declared.token.Token.{Token}
 use Rattle.psy_tree.specs.declared.raw.Raw.{Raw}
@@ -7,10 +7,15 @@ use Rattle.psy_tree.specs.Tokens.{TokensOf}
 use Rattle.psy_tree.specs.Faults as faults
 use Rattle.psy_tree.specs.Grammar.{Spells}
 use Rattle.psy_tree.specs.Deep as deep
+use Rattle.psy_tree.specs.declared.unit.Unit.{Unit as Whole}
+use Rattle.psy_tree.specs.declared.rules.Count.{Count}
+use Rattle.psy_tree.specs.declared.rules.Count.TheVariants.{Clocks, Agents, Variables, Streams, Functions, Names, Points}
+use Rattle.psy_tree.specs.Rules.{number_of, LeastFault, NoFault}
+use Rattle.psy_tree.specs.Stands.{Stands, first_passed}
 use Rattle.psy_kernel.specs.Meaning.{IsFeasible}
 use Rattle.psy_door.specs.Files.{Files, WhereTold, bytes_under}
 use Rattle.psy_run.specs.declared.refusal.Refusal.{Refusal}
-use Rattle.psy_run.specs.declared.refusal.Refusal.TheVariants.{Words, ReadProgram, LongProgram, BadByte, LongName, BigLiteral, OpenComment, Syntax, Deep, NotBuilt, Infeasible}
+use Rattle.psy_run.specs.declared.refusal.Refusal.TheVariants.{Words, ReadProgram, LongProgram, BadByte, LongName, BigLiteral, OpenComment, Syntax, Deep, Rule, Many, NotBuilt, Infeasible}
 use Rattle.psy_run.specs.declared.judge.Stop.{Stop}
 use Rattle.psy_run.specs.declared.judge.Stop.TheVariants as stops
 use Rattle.psy_run.specs.Asked.{AsksRun, AskNothing}
@@ -28,12 +33,24 @@ status_of (BigLiteral place) = 1
 status_of (OpenComment place) = 1
 status_of Syntax = 1
 status_of (Deep token) = 1
+status_of (Rule kind token) = 1
+status_of (Many count) = 7
 status_of NotBuilt = 1
 status_of (Infeasible length demand supply) = 5
 
 -- `refused lex NUMBER at PLACE`
 abbrev pub lex_line : ℕ → ℕ → List ℕ
 lex_line number place = codes "refused lex " ++ decimal number ++ codes " at " ++ decimal place ++ codes "\n"
+
+-- `limit NAME NUMBER`
+abbrev pub limit_line : Count → List ℕ
+limit_line Clocks = codes "limit clocks 64\n"
+limit_line Agents = codes "limit agents 64\n"
+limit_line Variables = codes "limit variables 256\n"
+limit_line Streams = codes "limit streams 64\n"
+limit_line Functions = codes "limit functions 64\n"
+limit_line Names = codes "limit names 64\n"
+limit_line Points = codes "limit points 256\n"
 
 -- the line of each refusal
 abbrev pub line_of : Refusal → List ℕ
@@ -46,6 +63,8 @@ line_of (BigLiteral place) = lex_line 3 place
 line_of (OpenComment place) = lex_line 4 place
 line_of Syntax = codes "refused parse 1\n"
 line_of (Deep token) = codes "refused parse 2 at " ++ decimal token ++ codes "\n"
+line_of (Rule kind token) = codes "refused rule " ++ decimal (number_of kind) ++ codes " at " ++ decimal token ++ codes "\n"
+line_of (Many count) = limit_line count
 line_of NotBuilt = codes "not built\n"
 line_of (Infeasible length demand supply) = codes "infeasible " ++ decimal length ++ codes " " ++ decimal demand ++ codes " " ++ decimal supply ++ codes "\n"
 
@@ -57,9 +76,13 @@ HasTokens bytes tokens = (length bytes ≤ FILE_BYTES) × TokensOf bytes tokens
 abbrev pub HasTree : List ℕ → Raw → Type 0
 HasTree bytes raw = (tokens : List Token) × HasTokens bytes tokens × deep.Shallow tokens × Spells raw tokens
 
+-- the unit of a file whose program breaks no rule and keeps the limits
+abbrev pub HasUnit : List ℕ → Whole → Type 0
+HasUnit bytes unit = (raw : Raw) × HasTree bytes raw × Stands unit raw
+
 -- the file is a program of the form that is served, to be run up to this date
 abbrev pub HasProgram : List ℕ → ℕ → Program → Type 0
-HasProgram bytes until program = (raw : Raw) × HasTree bytes raw × IsForm raw until program
+HasProgram bytes until program = (unit : Whole) × HasUnit bytes unit × IsForm unit until program
 
 -- A program file is refused: each refusal stands behind the steps before it, so that one at most fits.
 abbrev pub Refuses : List ℕ → ℕ → Refusal → Type 0
@@ -72,7 +95,9 @@ Refuses bytes until (BigLiteral place) = (length bytes ≤ FILE_BYTES) × faults
 Refuses bytes until (OpenComment place) = (length bytes ≤ FILE_BYTES) × faults.FirstFault bytes faults.OpenComment place
 Refuses bytes until (Deep token) = (tokens : List Token) × HasTokens bytes tokens × deep.Deep tokens token
 Refuses bytes until Syntax = (tokens : List Token) × HasTokens bytes tokens × deep.Shallow tokens × ((raw : Raw) → Spells raw tokens → ⊥)
-Refuses bytes until NotBuilt = (raw : Raw) × HasTree bytes raw × ((program : Program) → IsForm raw until program → ⊥)
+Refuses bytes until (Rule kind token) = (raw : Raw) × HasTree bytes raw × LeastFault raw kind token
+Refuses bytes until (Many count) = (raw : Raw) × HasTree bytes raw × NoFault raw × (first_passed raw ≡ Some count)
+Refuses bytes until NotBuilt = (unit : Whole) × HasUnit bytes unit × ((program : Program) → IsForm unit until program → ⊥)
 Refuses bytes until (Infeasible length demand supply) =
     (program : Program) × HasProgram bytes until program × (program.first.period ≤ program.first.until) × (supply < demand)
     × (length ≡ program.first.period) × (demand ≡ program.first.budget) × (supply ≡ program.first.quantum * program.first.period)

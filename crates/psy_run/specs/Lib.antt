@@ -3,5 +3,4 @@ pub mod Asked
 pub mod Form
 pub mod Log
 pub mod Outcome
-pub mod Seen
 pub mod Writing

@@ -1,284 +1,93 @@
-//! The form of program that is served so far: one clock, one agent and one temporal variable.
-ghost use Rattle.std.specs.Prelude.{◌≡◌, ◌≢◌, ℕ, ◌<◌, ◌≤◌, ◌↔◌, Bool, IsTrue, length, List, [], ◌∷◌, MatchOption, None};
-ghost use Rattle.psy_tree.specs.declared.raw.Name.{Name};
-ghost use Rattle.psy_tree.specs.declared.raw.Lit.{Lit};
-ghost use Rattle.psy_tree.specs.declared.raw.Init.{Init};
-ghost use Rattle.psy_tree.specs.declared.raw.RawExpr.{RawExpr};
-ghost use Rattle.psy_tree.specs.declared.raw.RawStmt.{RawStmt};
-ghost use Rattle.psy_run.specs.Form as spec;
+//! The form of program that is served so far: one agent and one temporal variable, on one of its clocks.
+ghost use Rattle.std.specs.Prelude.{◌≡◌, ◌≢◌, ℕ, ◌≤◌, ◌↔◌, Bool, IsTrue, length, [], ◌∷◌, MatchOption, Some, pos};
 ghost use Rattle.psy_base.specs.declared.limits.TheConstants.{WORD_BYTES};
 ghost use Rattle.psy_kernel.specs.Meaning.{InRange};
-ghost use Rattle.psy_run.specs.Form.{Adds, HaveNames, HaveNumbers, IsForm, items_of, shift_of, value_of};
+ghost use Rattle.psy_tree.specs.declared.unit.Expr.{Expr};
+ghost use Rattle.psy_tree.specs.declared.unit.Point.{Point};
+ghost use Rattle.psy_tree.specs.declared.unit.Stmt.{Stmt};
+ghost use Rattle.psy_run.specs.Form as spec;
+ghost use Rattle.psy_run.specs.Form.{Adds, DoesOne, IsOwn, HaveNumbers, IsForm};
 ghost use Rattle.psy_kernel.specs.declared.first.First.{First as first};
-ghost use Rattle.psy_run.specs.Seen.{seen};
 
 use psy_arith::Op2;
-use psy_base::limits;
+use psy_base::{Text, limits};
+use psy_clock::Clock;
 use psy_kernel::First;
-use psy_tree::{Init, Item, Lit, Name, Raw, RawExpr, RawStmt};
-
-// A clock that is counted on `tick`: its name, its factor, and its shift where one is written.
-#[derive(Clone, Copy)]
-struct ClockParts<'a> {
-    name: &'a Name,
-    by: Lit,
-    shift: Option<Lit>,
-}
-
-fn clock(item: &Item) -> Option<ClockParts<'_>>
-    ensures { MatchOption result ((name : Name) (by : Lit) (shift : _) → item.now ≢ Item.Clock name by None shift) (λ c. item.now ≡ Item.Clock c.name.now c.by None c.shift) }
-{
-    match item {
-        Item::Clock {
-            name,
-            by,
-            parent: None,
-            shift,
-        } => Some(ClockParts {
-            name,
-            by: *by,
-            shift: *shift,
-        }),
-        _ => None,
-    }
-}
-
-// A temporal variable.
-#[derive(Clone, Copy)]
-struct VariableParts<'a> {
-    name: &'a Name,
-    owner: &'a Name,
-    clock: &'a Name,
-    init: Init,
-    depth: Lit,
-}
-
-fn variable(item: &Item) -> Option<VariableParts<'_>>
-    ensures { MatchOption result ((name owner clock : Name) (init : Init) (depth : Lit) → item.now ≢ Item.Temporal name owner clock init depth) (λ v. item.now ≡ Item.Temporal v.name.now v.owner.now v.clock.now v.init v.depth) }
-{
-    match item {
-        Item::Temporal {
-            name,
-            owner,
-            clock,
-            init,
-            depth,
-        } => Some(VariableParts {
-            name,
-            owner,
-            clock,
-            init: *init,
-            depth: *depth,
-        }),
-        _ => None,
-    }
-}
-
-// An agent without locals whose body has two statements.
-#[derive(Clone, Copy)]
-struct AgentParts<'a> {
-    name: &'a Name,
-    clock: &'a Name,
-    budget: Lit,
-    body: u32,
-    first: &'a RawStmt,
-    second: &'a RawStmt,
-}
-
-fn agent(item: &Item) -> Option<AgentParts<'_>>
-    ensures { MatchOption result
-        ((name clock : Name) (budget : Lit) (body : ℕ) (first second : RawStmt) → item.now ≢ Item.Agent name clock budget [] body (first ∷ second ∷ []))
-        (λ a. item.now ≡ Item.Agent a.name.now a.clock.now a.budget [] a.body (a.first.now ∷ a.second.now ∷ [])) }
-{
-    match item {
-        Item::Agent {
-            name,
-            clock,
-            budget,
-            locals,
-            body_token,
-            stmts,
-        } => match (locals.as_slice(), stmts.as_slice()) {
-            ([], [first, second]) => Some(AgentParts {
-                name,
-                clock,
-                budget: *budget,
-                body: *body_token,
-                first,
-                second,
-            }),
-            _ => None,
-        },
-        _ => None,
-    }
-}
-
-// An assignment: what is assigned, and the expression.
-fn set(stmt: &RawStmt) -> Option<(&Name, &RawExpr)>
-    ensures { MatchOption result ((name : Name) (value : RawExpr) → stmt.now ≢ RawStmt.Set name value) (λ s. stmt.now ≡ RawStmt.Set s.0.now s.1.now) }
-{
-    match stmt {
-        RawStmt::Set(name, value) => Some((name, value)),
-        _ => None,
-    }
-}
-
-// An `advance` without a budget.
-#[derive(Clone, Copy)]
-struct AdvanceParts<'a> {
-    token: u32,
-    count: Lit,
-    clock: &'a Name,
-}
-
-fn advance(stmt: &RawStmt) -> Option<AdvanceParts<'_>>
-    ensures { MatchOption result ((token : ℕ) (count : Lit) (clock : Name) → stmt.now ≢ RawStmt.Advance token count clock None) (λ a. stmt.now ≡ RawStmt.Advance a.token a.count a.clock.now None) }
-{
-    match stmt {
-        RawStmt::Advance {
-            token,
-            count,
-            clock,
-            budget: None,
-        } => Some(AdvanceParts {
-            token: *token,
-            count: *count,
-            clock,
-        }),
-        _ => None,
-    }
-}
+use psy_tree::{AgentDecl, Expr, Point, Stmt, Unit, VarDecl};
 
 // A sum: its two sides.
-fn sides(value: &RawExpr) -> Option<(&RawExpr, &RawExpr)>
-    ensures { MatchOption result ((left right : RawExpr) → value.now ≢ RawExpr.Binary Op2.Add left right) (λ s. value.now ≡ RawExpr.Binary Op2.Add s.0.now s.1.now) }
+fn sides(value: &Expr) -> Option<(&Expr, &Expr)>
+    ensures { MatchOption result ((left right : Expr) → value.now ≢ Expr.Binary Op2.Add left right) (λ s. value.now ≡ Expr.Binary Op2.Add s.0.now s.1.now) }
 {
     match value {
-        RawExpr::Binary(Op2::Add, left, right) => Some((left.get(), right.get())),
+        Expr::Binary(Op2::Add, left, right) => Some((left.get(), right.get())),
         _ => None,
     }
 }
 
-// The expression is the variable and a number, or a number alone: whether it begins with the variable,
+// A number that isn't below 0.
+fn literal(value: &Expr) -> Option<u32>
+    ensures { MatchOption result ((n : ℕ) → value.now ≢ Expr.Number (pos n)) (λ n. value.now ≡ Expr.Number (pos n)) }
+{
+    match value {
+        Expr::Number(n) if *n >= 0 => Some(*n as u32),
+        _ => None,
+    }
+}
+
+fn is_variable(value: &Expr) -> bool
+    ensures { IsTrue result ↔ (value.now ≡ Expr.Copy 0) }
+{
+    match value {
+        Expr::Copy(variable) => *variable == 0,
+        _ => false,
+    }
+}
+
+// The expression is variable 0 and a number, or a number alone: whether it begins with the variable,
 // and the number.
 #[tactic(auto, using(crate::proofs::FormLemmas::adds_number, crate::proofs::FormLemmas::adds_sum))]
-fn adds(variable: &Name, value: &RawExpr) -> Option<(bool, u32)>
-    ensures { MatchOption result ((own : Bool) (add : ℕ) → Adds variable.now.text value.now own add → ⊥) (λ a. Adds variable.now.text value.now a.0 a.1) }
+fn adds(value: &Expr) -> Option<(bool, u32)>
+    ensures { MatchOption result ((own : Bool) (add : ℕ) → Adds value.now own add → ⊥) (λ a. Adds value.now a.0 a.1) }
 {
-    if let RawExpr::Number(k) = value {
-        return Some((false, k.value));
+    if let Some(add) = literal(value) {
+        return Some((false, add));
     }
     let Some((left, right)) = sides(value) else {
         return None;
     };
-    match (left, right) {
-        (RawExpr::Var(x), RawExpr::Number(k)) if x.text == variable.text => Some((true, k.value)),
+    let Some(add) = literal(right) else {
+        return None;
+    };
+    if is_variable(left) { Some((true, add)) } else { None }
+}
+
+// An assignment of variable 0 and an `advance` to point 1: the assigned expression.
+fn assigned(stmts: &[Stmt]) -> Option<&Expr>
+    ensures { MatchOption result ((value : Expr) → stmts.now ≢ Stmt.SetCopy 0 value ∷ Stmt.Advance 1 ∷ []) (λ value. stmts.now ≡ Stmt.SetCopy 0 value.now ∷ Stmt.Advance 1 ∷ []) }
+{
+    match stmts {
+        [Stmt::SetCopy(0, value), Stmt::Advance(1)] => Some(value),
         _ => None,
     }
 }
 
-// The names and numbers of a tree with three such declarations.
-#[derive(Clone, Copy)]
-struct Parts<'a> {
-    clock: ClockParts<'a>,
-    variable: VariableParts<'a>,
-    agent: AgentParts<'a>,
-    assigned: &'a Name,
-    value: &'a RawExpr,
-    advance: AdvanceParts<'a>,
+// The points are the head of the body and an `advance` to the next date, both of that clock and budget.
+fn are_points(points: &[Point], clock: u32, budget: u32) -> bool
+    ensures { IsTrue result ↔ (points.now ≡ (record { count = 0; clock = clock; budget = budget }) ∷ (record { count = 1; clock = clock; budget = budget }) ∷ []) }
+{
+    let head = Point { count: 0, clock, budget };
+    let next = Point { count: 1, clock, budget };
+    match points {
+        [first, second] => *first == head && *second == next,
+        _ => false,
+    }
 }
 
-fn read_parts(raw: &Raw) -> Option<Parts<'_>>
-    ensures { MatchOption result ((p : spec.Parts) → raw.now.items ≢ items_of p) (λ q. raw.now.items ≡ items_of (seen q)) }
+fn is_short(name: &Text) -> bool
+    ensures { IsTrue result ↔ (length name.now ≤ WORD_BYTES) }
 {
-    let [first, second, third] = raw.items.as_slice() else {
-        return None;
-    };
-    let clock = clock(first)?;
-    let variable = variable(second)?;
-    let agent = agent(third)?;
-    let (assigned, value) = set(agent.first)?;
-    let advance = advance(agent.second)?;
-    Some(Parts {
-        clock,
-        variable,
-        agent,
-        assigned,
-        value,
-        advance,
-    })
-}
-
-fn same(name: &Name, other: &Name) -> bool
-    ensures { IsTrue result ↔ (name.now.text ≡ other.now.text) }
-{
-    name.text == other.text
-}
-
-fn is_short(name: &Name) -> bool
-    ensures { IsTrue result ↔ (length name.now.text ≤ WORD_BYTES) }
-{
-    name.text.bytes().len() <= limits::WORD_BYTES
-}
-
-// Whether each name is used for what it is declared as, and the three are different.
-fn have_names(p: &Parts) -> bool
-    ensures { IsTrue result ↔ HaveNames (seen p.now) }
-{
-    let clock = p.clock.name;
-    let variable = p.variable.name;
-    let agent = p.agent.name;
-    if !same(p.variable.owner, agent) {
-        return false;
-    }
-    if !same(p.variable.clock, clock) {
-        return false;
-    }
-    if !same(p.agent.clock, clock) {
-        return false;
-    }
-    if !same(p.advance.clock, clock) {
-        return false;
-    }
-    if !same(p.assigned, variable) {
-        return false;
-    }
-    if same(clock, variable) {
-        return false;
-    }
-    if same(clock, agent) {
-        return false;
-    }
-    if same(variable, agent) {
-        return false;
-    }
-    if !is_short(variable) {
-        return false;
-    }
-    is_short(agent)
-}
-
-// A first value, where it is one that a text can have.
-fn init_value(init: Init) -> Option<i32>
-    ensures { MatchOption result (2147483647 < init.value.value) (λ value. value ≡ value_of init) }
-{
-    if init.value.value > limits::LITERAL {
-        return None;
-    }
-    let value = init.value.value as i32;
-    if init.minus {
-        return Some(0 - value);
-    }
-    Some(value)
-}
-
-fn shift_value(shift: Option<Lit>) -> u32
-    ensures { result ≡ shift_of shift }
-{
-    match shift {
-        None => 0,
-        Some(shift) => shift.value,
-    }
+    name.bytes().len() <= limits::WORD_BYTES
 }
 
 fn is_in_range(first: &First) -> bool
@@ -299,33 +108,24 @@ fn is_in_range(first: &First) -> bool
     first.until <= limits::UNTIL
 }
 
-// The numbers of such a program, in their ranges.
-fn read_numbers(p: &Parts, quantum: u32, until: u32) -> Option<First>
-    ensures { MatchOption result ((first : first) → HaveNumbers quantum until (seen p.now) first → ⊥) (λ first. HaveNumbers quantum until (seen p.now) first) }
+// What the agent assigns, where it has no locals, assigns once and advances to the next date.
+fn read_agent(agent: &AgentDecl) -> Option<&Expr>
+    ensures { MatchOption result ((value : Expr) → DoesOne agent.now value → ⊥) (λ value. DoesOne agent.now value.now) }
 {
-    let (own, add) = adds(p.variable.name, p.value)?;
-    let init = init_value(p.variable.init)?;
-    if p.variable.depth.value != 1 {
+    if !agent.slots.is_empty() {
         return None;
     }
-    if p.advance.count.value != 1 {
+    if !are_points(agent.points.as_slice(), agent.clock, agent.budget) {
         return None;
     }
-    let first = First {
-        quantum,
-        period: p.clock.by.value,
-        first: shift_value(p.clock.shift),
-        init,
-        own,
-        add,
-        budget: p.agent.budget.value,
-        until,
-    };
-    if is_in_range(&first) {
-        Some(first)
-    } else {
-        None
-    }
+    assigned(agent.stmts.as_slice())
+}
+
+// The variable has depth 1, and agent 0 owns it.
+fn is_own(variable: &VarDecl, clock: u32) -> bool
+    ensures { IsTrue result ↔ IsOwn variable.now clock }
+{
+    variable.owner == Some(0) && variable.depth == 1 && variable.clock == clock
 }
 
 /// A program of the form that is served: the names of its variable and its agent, and its numbers.
@@ -336,18 +136,70 @@ pub struct Form<'a> {
     pub first: First,
 }
 
-/// The program that the tree is, to be run up to this date; None exactly where it has another form.
-pub fn read_form(raw: &Raw, until: u32) -> Option<Form<'_>>
-    ensures { MatchOption result ((program : spec.Program) → IsForm raw.now until program → ⊥) (λ f. IsForm raw.now until (record { variable = f.variable.now; agent = f.agent.now; first = f.first })) }
+// The numbers of such a program, in their ranges.
+fn read_numbers(
+    quantum: u32,
+    until: u32,
+    budget: u32,
+    init: i32,
+    clock: Clock,
+    value: &Expr,
+) -> Option<First>
+    ensures { MatchOption result ((first : first) → HaveNumbers quantum until budget init clock value.now first → ⊥) (λ first. HaveNumbers quantum until budget init clock value.now first) }
 {
-    let parts = read_parts(raw)?;
-    if !have_names(&parts) {
+    let Some((own, add)) = adds(value) else {
+        return None;
+    };
+    let first = First {
+        quantum,
+        period: clock.period,
+        first: clock.first,
+        init,
+        own,
+        add,
+        budget,
+        until,
+    };
+    if is_in_range(&first) { Some(first) } else { None }
+}
+
+/// The program that the unit is, to be run up to this date; None exactly where it has another form.
+pub fn read_form(unit: &Unit, until: u32) -> Option<Form<'_>>
+    ensures { MatchOption result ((program : spec.Program) → IsForm unit.now until program → ⊥) (λ f. IsForm unit.now until (record { variable = f.variable.now; agent = f.agent.now; first = f.first })) }
+{
+    let [variable] = unit.variables.as_slice() else {
+        return None;
+    };
+    let [agent] = unit.agents.as_slice() else {
+        return None;
+    };
+    if !unit.streams.is_empty() {
         return None;
     }
-    let first = read_numbers(&parts, raw.quantum.value, until)?;
+    if !unit.functions.is_empty() {
+        return None;
+    }
+    if !is_own(variable, agent.clock) {
+        return None;
+    }
+    let Some(value) = read_agent(agent) else {
+        return None;
+    };
+    let Some(clock) = unit.clocks.get(agent.clock as usize) else {
+        return None;
+    };
+    if !is_short(&variable.name) {
+        return None;
+    }
+    if !is_short(&agent.name) {
+        return None;
+    }
+    let Some(first) = read_numbers(unit.quantum, until, agent.budget, variable.init, *clock, value) else {
+        return None;
+    };
     Some(Form {
-        variable: parts.variable.name.text.bytes(),
-        agent: parts.agent.name.text.bytes(),
+        variable: variable.name.bytes(),
+        agent: agent.name.bytes(),
         first,
     })
 }

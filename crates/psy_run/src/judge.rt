@@ -4,15 +4,16 @@ ghost use Rattle.psy_base.specs.declared.limits.TheConstants.{FILE_BYTES};
 ghost use Rattle.psy_door.specs.Faults.{Rose};
 ghost use Rattle.psy_door.specs.Files.{WhereTold, bytes_under};
 ghost use Rattle.psy_kernel.specs.Meaning.{InRange, IsFeasible};
-ghost use Rattle.psy_run.specs.Answer.{HasTokens, HasTree, IsStop};
+ghost use Rattle.psy_run.specs.Answer.{HasTokens, HasTree, HasUnit, IsStop};
 
 use crate::refusal::Refusal;
 use psy_base::Items;
 use psy_door::{FetchFault, Shelf};
 use psy_kernel::First;
 use psy_parse::{ParseFault, parse};
+use psy_rules::{RuleFault, resolve};
 use psy_token::{LexFault, lex};
-use psy_tree::{Raw, Token};
+use psy_tree::{Raw, Token, Unit};
 use std::alloc::Global;
 
 /// Why there is no run: a refusal, or want of memory.
@@ -39,8 +40,8 @@ fn tokens(alloc: Global, bytes: &[u8]) -> Result<Items<Token>, Stop>
     }
 }
 
-/// The tree of a file that isn't too long.
-pub fn tree(alloc: Global, bytes: &[u8]) -> Result<Raw, Stop>
+// The tree of a file that isn't too long.
+fn tree(alloc: Global, bytes: &[u8]) -> Result<Raw, Stop>
     requires { length bytes.now ≤ FILE_BYTES }
     ensures ok { IfOk result (λ raw. HasTree bytes.now raw) }
     ensures err { IfErr result (λ stop. (until : ℕ) → IsStop bytes.now until stop) }
@@ -54,6 +55,24 @@ pub fn tree(alloc: Global, bytes: &[u8]) -> Result<Raw, Stop>
         Err(ParseFault::Deep(token)) => Err(Stop::Refused(Refusal::Deep(token))),
         Err(ParseFault::Syntax) => Err(Stop::Refused(Refusal::Syntax)),
         Err(ParseFault::Memory) => Err(Stop::Memory),
+    }
+}
+
+/// The unit of a file that isn't too long.
+pub fn unit(alloc: Global, bytes: &[u8]) -> Result<Unit, Stop>
+    requires { length bytes.now ≤ FILE_BYTES }
+    ensures ok { IfOk result (λ unit. HasUnit bytes.now unit) }
+    ensures err { IfErr result (λ stop. (until : ℕ) → IsStop bytes.now until stop) }
+{
+    let raw = match tree(alloc, bytes) {
+        Ok(raw) => raw,
+        Err(stop) => return Err(stop),
+    };
+    match resolve(alloc, &raw) {
+        Ok(unit) => Ok(unit),
+        Err(RuleFault::Rule { kind, token }) => Err(Stop::Refused(Refusal::Rule { kind, token })),
+        Err(RuleFault::Many(count)) => Err(Stop::Refused(Refusal::Many(count))),
+        Err(RuleFault::Memory) => Err(Stop::Memory),
     }
 }
 

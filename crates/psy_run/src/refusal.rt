@@ -1,5 +1,8 @@
 ghost use Rattle.std.specs.Prelude.{◌≡◌, ◌≤◌, length};
-ghost use Rattle.psy_run.specs.Answer.{status_of, line_of, lex_line};
+ghost use Rattle.psy_run.specs.Answer.{status_of, line_of, lex_line, limit_line};
+ghost use Rattle.psy_tree.specs.Rules.{number_of};
+
+use psy_tree::{Count, RuleKind};
 
 use crate::line::Line;
 
@@ -25,6 +28,10 @@ pub enum Refusal {
     Deep(u32),
     /// The tokens aren't those of a program.
     Syntax,
+    /// The program breaks a rule at the token of this number.
+    Rule { kind: RuleKind, token: u32 },
+    /// So many declarations of one sort that their limit is passed.
+    Many(Count),
     /// The program isn't of a form that is served so far.
     NotBuilt,
     /// The work due in a window of so many ticks needs more cycles than it has.
@@ -47,11 +54,12 @@ impl Refusal {
             | Refusal::OpenComment(_)
             | Refusal::Deep(_)
             | Refusal::Syntax
+            | Refusal::Rule { .. }
             | Refusal::NotBuilt => 1,
             Refusal::Words => 2,
             Refusal::ReadProgram => 3,
             Refusal::Infeasible { .. } => 5,
-            Refusal::LongProgram => 7,
+            Refusal::LongProgram | Refusal::Many(_) => 7,
         }
     }
 
@@ -69,6 +77,8 @@ impl Refusal {
             Refusal::OpenComment(place) => lexical(4, place),
             Refusal::Deep(token) => deep(token),
             Refusal::Syntax => text(b"refused parse 1\n"),
+            Refusal::Rule { kind, token } => rule(kind, token),
+            Refusal::Many(count) => limit(count),
             Refusal::NotBuilt => text(b"not built\n"),
             Refusal::Infeasible {
                 length,
@@ -119,4 +129,50 @@ fn infeasible(length: u32, demand: u32, supply: u32) -> Line
     line.add_number(u64::from(supply));
     line.add(b"\n");
     line
+}
+
+// The number by which a refusal names the kind of fault.
+fn number_of(kind: RuleKind) -> u64
+    ensures { result ≡ number_of kind }
+{
+    match kind {
+        RuleKind::Twice => 1,
+        RuleKind::Unknown => 2,
+        RuleKind::WrongKind => 3,
+        RuleKind::NotOwner => 4,
+        RuleKind::NotReceiver => 5,
+        RuleKind::TooDeep => 6,
+        RuleKind::NoMax => 7,
+        RuleKind::MixedLoop => 8,
+        RuleKind::NoAdvance => 9,
+        RuleKind::CallsDown => 10,
+        RuleKind::BadClock => 11,
+        RuleKind::BadNumber => 12,
+    }
+}
+
+fn rule(kind: RuleKind, token: u32) -> Line
+    ensures { result ≡ line_of (Refusal.Rule kind token) }
+{
+    let mut line = text(b"refused rule ");
+    line.add_number(number_of(kind));
+    line.add(b" at ");
+    line.add_number(u64::from(token));
+    line.add(b"\n");
+    line
+}
+
+// The line of a count that passes its limit.
+fn limit(count: Count) -> Line
+    ensures { result ≡ limit_line count }
+{
+    match count {
+        Count::Clocks => text(b"limit clocks 64\n"),
+        Count::Agents => text(b"limit agents 64\n"),
+        Count::Variables => text(b"limit variables 256\n"),
+        Count::Streams => text(b"limit streams 64\n"),
+        Count::Functions => text(b"limit functions 64\n"),
+        Count::Names => text(b"limit names 64\n"),
+        Count::Points => text(b"limit points 256\n"),
+    }
 }

@@ -12,7 +12,7 @@ ghost use Rattle.psy_kernel.specs.declared.stage.Stage.TheVariants.{Over};
 
 use crate::asked::read_words;
 use crate::form::read_form;
-use crate::judge::{Stop, overload, tree};
+use crate::judge::{Stop, overload, unit};
 use crate::refusal::Refusal;
 use crate::run::run_loop;
 use crate::write::write_all_of;
@@ -56,11 +56,11 @@ fn run<S: Sink>(
     ensures counted { S.faults out.old ≤ S.faults out.new }
     ensures ends { Ends bytes.now until (S.held out.old) (S.held out.new) (S.faults out.old) (S.faults out.new) result left.new }
 {
-    let raw = match tree(alloc, bytes) {
-        Ok(raw) => raw,
+    let unit = match unit(alloc, bytes) {
+        Ok(unit) => unit,
         Err(stop) => return end(stop, out),
     };
-    let Some(form) = read_form(&raw, until) else {
+    let Some(form) = read_form(&unit, until) else {
         return refuse(Refusal::NotBuilt, out);
     };
     if let Some((length, demand, supply)) = overload(&form.first) {
