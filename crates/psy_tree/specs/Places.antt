@@ -1,6 +1,5 @@
 -- The places of a program that rules speak of, each with where it stands.
 use Rattle.std.specs.Prelude.{ℕ, ◌+◌, Bool, true, false, nat_lt, List, [], ◌∷◌, ◌++◌, map, length, Option, Some, None, is_some}
-use Rattle.std.specs.List.{flat_map}
 use Rattle.psy_tree.specs.declared.raw.Name.{Name}
 use Rattle.psy_tree.specs.declared.raw.Lit.{Lit}
 use Rattle.psy_tree.specs.declared.raw.Local.{Local}
@@ -14,7 +13,7 @@ use Rattle.psy_tree.specs.declared.raw.RawStmt.{RawStmt, para-RawStmt}
 use Rattle.psy_tree.specs.declared.raw.RawStmt.TheOpen.{RawStmt-F}
 use Rattle.psy_tree.specs.declared.reach.Asks.{Asks}
 use Rattle.psy_tree.specs.declared.reach.Asks.TheVariants as asks
-use Rattle.psy_tree.specs.Scope.{SlotName, slots_of, item_name, Site}
+use Rattle.psy_tree.specs.Scope.{SlotName, slots_of, Site}
 use Rattle.psy_tree.specs.Paths.{quiet_list, advances_list}
 
 pub data Place : Type 0 where

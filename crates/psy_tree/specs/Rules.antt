@@ -173,7 +173,7 @@ is_twice site (NamesItem name) = list_any (λ i. declares name.text i || list_an
 is_twice site (NamesSlot k name) = list_any (declares name.text) (take (site.at + 1) site.items) || list_any (names_slot name.text) (take k (own_slots site))
 is_twice site _ = false
 
--- 2 Unknown, where a name isn't declared in reach, or a clock's parent is a clock that doesn't stand above.
+-- 2 Unknown, where no declaration in reach has the name, or a clock's parent names a clock at or below it.
 abbrev pub below : Site → Option Found → Bool
 below site (Some (found.Item k)) = is_clock (slice_get site.items k) && nat_le site.at k
 below site _ = false
@@ -238,8 +238,8 @@ abbrev pub is_calls_down : Site → Place → Bool
 is_calls_down site (Uses name what) = in_function site && is_call what && function_from site (stands_for site name.text)
 is_calls_down site _ = false
 
--- 11 BadClock, at a clock whose shift isn't below its factor, or whose period passes 10,000 where its
--- parent is `tick` or a clock above and all clocks that it derives from are sound.
+-- 11 BadClock, where the shift reaches the factor; also where the period is above 10,000 ticks and the
+-- parent is `tick` or a sound clock above: one with lawful numbers whose own parent is so too.
 abbrev pub is_bad_clock : Site → Place → Bool
 is_bad_clock site (Derives name) = clock_at_fault site (own_item site)
 is_bad_clock site _ = false

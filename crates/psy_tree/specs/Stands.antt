@@ -1,5 +1,5 @@
 -- The unit that a program stands for: the program with numbers for names.
-use Rattle.std.specs.Prelude.{◌≡◌, ℕ, ◌+◌, Bool, true, false, ◌||◌, nat_lt, if◌then◌else◌, List, [], ◌∷◌, ◌++◌, map, take, length, Option, Some, None, option_to_list, slice_get, ℤ, pos}
+use Rattle.std.specs.Prelude.{◌≡◌, ℕ, ◌+◌, Bool, true, false, nat_lt, if◌then◌else◌, List, [], ◌∷◌, ◌++◌, map, take, length, Option, Some, None, option_to_list, slice_get, ℤ, pos}
 use Rattle.std.specs.List.{count_by, list_any, flat_map}
 use Rattle.std.specs.Int.{w32, cast_signed, int_wrapping_neg}
 use Rattle.psy_tree.specs.declared.raw.Name.{Name}
@@ -30,8 +30,8 @@ use Rattle.psy_tree.specs.declared.unit.Expr.TheOpen.{Expr-F}
 use Rattle.psy_tree.specs.declared.unit.Stmt.{Stmt, roll-Stmt}
 use Rattle.psy_tree.specs.declared.unit.Stmt.TheOpen.{Stmt-F}
 use Rattle.psy_tree.specs.Paths.{advances_list}
-use Rattle.psy_tree.specs.Scope.{Site, item_name, slots_of, stands_for, stands_globally}
-use Rattle.psy_tree.specs.Rules.{is_clock, is_agent, is_function, is_stream, sound_clocks, shift_of, NoFault}
+use Rattle.psy_tree.specs.Scope.{Site, slots_of, stands_for, stands_globally}
+use Rattle.psy_tree.specs.Rules.{is_clock, is_agent, is_function, is_stream, sound_clocks, NoFault}
 
 -- ---- counts and their limits
 

@@ -2,7 +2,8 @@ use psy_arith::{Op1, Op2};
 use psy_base::{Boxed, Items, Text};
 use psy_clock::Clock;
 
-/// A program with numbers in place of names, each kind counted from 0 by declaration.
+/// A program whose names are numbers: each kind of declaration is numbered from 0, in the order of the
+/// text.
 #[derive(Debug, Drop)]
 pub struct Unit {
     /// Cycles of a tick.
