@@ -1,5 +1,5 @@
 -- What an expression adds.
-use Rattle.std.proofs.Common.{◌≡◌, ◌∙◌, sym, subst, ap, refl, Option, Some, None, true, false, Bool, List, ℕ, bytes_eq}
+use Rattle.std.proofs.Common.{◌≡◌, ◌∙◌, sym, subst, Option, Some, None, true, false, Bool, List, ℕ, bytes_eq}
 use Rattle.std.proofs.lemmas.Slice.Eq.{bytes_eq-Decides}
 use Rattle.psy_arith.specs.declared.Op2.TheVariants.{Add}
 use Rattle.psy_tree.specs.declared.raw.Name.{Name}
