@@ -1,5 +1,5 @@
 -- A list of three words.
-use Rattle.std.proofs.Common.{◌≡◌, ap, sym, ◌∙◌, refl, ℕ, ◌<◌, ◌≤◌, List, [], ◌∷◌, map, length, slice_index_or, arith, Bool, true, false, not, bytes_eq}
+use Rattle.std.proofs.Common.{◌≡◌, sym, refl, ℕ, ◌<◌, ◌≤◌, List, [], ◌∷◌, map, length, slice_index_or, arith, Bool, true, false, not, bytes_eq}
 use Rattle.std.proofs.lemmas.Slice.Eq.{bytes_eq-Decides}
 
 pub three_of : {A B : Type 0} (f : A → B) (xs : List A) (a b c : A) → 3 ≤ length xs → length xs < 4 → a ≡ slice_index_or xs 0 a → b ≡ slice_index_or xs 1 b → c ≡ slice_index_or xs 2 c → map f xs ≡ f a ∷ f b ∷ f c ∷ []

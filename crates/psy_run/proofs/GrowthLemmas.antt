@@ -1,6 +1,6 @@
 -- How the bytes of a sink grow over several writes.
-use Rattle.std.proofs.Common.{◌≡◌, ◌∙◌, sym, ap, refl, ℕ, ◌+◌, ◌-◌, ◌≤◌, List, [], ◌∷◌, ◌++◌, take, drop, length, Option, None, Some, append_assoc, append-nil}
-use Rattle.psy_door.specs.Growth.{Grew, GrewByFront}
+use Rattle.std.proofs.Common.{◌∙◌, sym, ap, ℕ, List, [], ◌++◌, Option, None, Some, append_assoc, append-nil}
+use Rattle.psy_door.specs.Growth.{Grew}
 
 pub Grew-trans : (a b c : Option (List ℕ)) (p q : List ℕ) → Grew a b p → Grew b c q → Grew a c (p ++ q)
 Grew-trans a b None p q first second = tt

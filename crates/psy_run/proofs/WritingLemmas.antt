@@ -1,5 +1,5 @@
 -- What writing two texts in a row did.
-use Rattle.std.proofs.Common.{◌≡◌, ◌∙◌, sym, ap, subst, refl, ℕ, ◌+◌, ◌-◌, ◌≤◌, List, [], ◌∷◌, ◌++◌, take, drop, length, min, Option, None, Some, append_assoc, append-nil, arith, Result, Ok, Err, ◌⊎◌, inl, inr, ◌<◌}
+use Rattle.std.proofs.Common.{◌∙◌, sym, subst, ℕ, ◌+◌, ◌≤◌, List, ◌++◌, take, length, Option, arith, Result, Ok, Err, inl, inr}
 use Rattle.std.proofs.lemmas.Bool.{cases_lt}
 use Rattle.std.proofs.lemmas.List.{take-append-le, take_all}
 use Rattle.std.proofs.Math.Seq.{take-append-add, take-append_seam}

@@ -9,6 +9,8 @@ mod line;
 mod log;
 mod refusal;
 mod run;
+#[cfg(test)]
+mod tests;
 mod top;
 mod write;
 

@@ -1,9 +1,9 @@
-use Rattle.std.proofs.Common.{◌≡◌, ◌≢◌, ◌∙◌, ℕ, List, [], ap, subst, sym, map, string_bytes, Global, ◌⊎◌, inl, inr, ◌<◌, length, arith}
+use Rattle.std.proofs.Common.{◌≡◌, [], ap, subst, sym, map, string_bytes, Global, inl, inr, arith}
 use Rattle.std.specs.Prelude.{Err}
 use Rattle.psy_base.specs.declared.limits.TheConstants.{FILE_BYTES}
 use Rattle.psy_door.specs.Files.{WhereTold, bytes_under}
 use Rattle.psy_run.specs.declared.refusal.Refusal.TheVariants.{Words, LongProgram}
-use Rattle.psy_run.specs.Answer.{Answers, AreNamed, unlisted, refused, line_of}
+use Rattle.psy_run.specs.Answer.{unlisted, refused, line_of}
 use Rattle.psy_run.proofs.TopLemmas.{said_answered, said_cut, said_complete, named_of, unnamed, long_bytes, ends_said, ends_left}
 use Rattle.psy_run.proofs.top.psyc.Goals as goal
 

@@ -1,4 +1,4 @@
-use Rattle.std.proofs.Common.{take, arith, length-drop, sym}
+use Rattle.std.proofs.Common.{arith}
 use Rattle.std.proofs.Math.Seq.{take-add}
 use Rattle.psy_run.proofs.GrowthLemmas.{Grew-trans}
 use Rattle.psy_run.proofs.write.write_all_of.Goals as goal

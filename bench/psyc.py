@@ -1,0 +1,49 @@
+"""The program that the scripts of this folder time."""
+import os
+import subprocess
+import sys
+import time
+
+HERE = os.path.dirname(os.path.abspath(__file__))
+TOP = os.path.dirname(HERE)
+CRATE = os.path.join(TOP, "crates", "psyc")
+PROVED = os.path.join(CRATE, "out", "psyc")
+
+
+def program():
+    """The program's path: the script's first word, or else the proved program, made where needed."""
+    if len(sys.argv) > 1:
+        return os.path.abspath(sys.argv[1])
+    counter = os.path.join(TOP, "examples", "counter.psy")
+    # This proves and links it, or only runs it where nothing changed; what it says goes to standard error.
+    made = subprocess.run(["rt", "run", "--", "run", counter, "20"], cwd=CRATE, stdout=subprocess.DEVNULL)
+    if made.returncode != 0 or not os.path.exists(PROVED):
+        sys.exit("psyc isn't proved here: see `rt check` in crates/psyc")
+    return PROVED
+
+
+def seconds(words, status, times=5):
+    """The least processor time of a process with these words, in seconds."""
+    least = None
+    for _ in range(times):
+        running = subprocess.Popen(words, stdout=subprocess.DEVNULL)
+        _, ended, used = os.wait4(running.pid, 0)
+        running.returncode = os.WEXITSTATUS(ended) if os.WIFEXITED(ended) else -1
+        if running.returncode != status:
+            sys.exit(f"status {running.returncode} in place of {status}: {' '.join(words)}")
+        took = used.ru_utime + used.ru_stime
+        least = took if least is None else min(least, took)
+    return least
+
+
+def first_byte(words, times=5):
+    """The least time by the clock up to the first byte of a process with these words, in seconds."""
+    least = None
+    for _ in range(times):
+        start = time.perf_counter()
+        running = subprocess.Popen(words, stdout=subprocess.PIPE)
+        running.stdout.read(1)
+        took = time.perf_counter() - start
+        running.communicate()
+        least = took if least is None else min(least, took)
+    return least
