@@ -8,6 +8,8 @@ mod law;
 mod line;
 mod log;
 mod refusal;
+#[cfg(test)]
+mod rule_tests;
 mod run;
 #[cfg(test)]
 mod tests;
