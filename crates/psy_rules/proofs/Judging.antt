@@ -1,0 +1,64 @@
+use Rattle.std.proofs.Common.{◌≡◌, ℕ, zero, suc, ◌+◌, ◌<◌, Bool, true, false, ◌||◌, ◌&&◌, List, [], ◌∷◌, ◌++◌, map, take, length, get_or, Option, refl, sym, ap, ◌∙◌, arith, append-nil, append_assoc}
+use Rattle.std.specs.Prelude.{nat_lt}
+use Rattle.std.proofs.lemmas.List.{take_more, map-append}
+use Rattle.std.proofs.lemmas.Bool.{lt-ltb}
+use Rattle.psy_tree.specs.declared.raw.RawStmt.{RawStmt}
+use Rattle.psy_tree.specs.Scope.{Site}
+use Rattle.psy_tree.specs.Places.{Place, joined}
+use Rattle.psy_tree.specs.Paths.{all, total, quiet, quiet_list, advances, advances_list}
+use Rattle.psy_rules.specs.declared.least.Fault.{Fault}
+use Rattle.psy_rules.specs.Judged.{judged, judged_all}
+
+pub judged_all_append : (site : Site) (ps qs : List Place) (l : Option Fault) → judged_all site (ps ++ qs) l ≡ judged_all site qs (judged_all site ps l)
+judged_all_append site [] qs l = refl
+judged_all_append site (p ∷ ps) qs l = judged_all_append site ps qs (judged site p l)
+
+joined-append : {A : Type 0} (xs ys : List (List A)) → joined (xs ++ ys) ≡ joined xs ++ joined ys
+joined-append [] ys = refl
+joined-append (x ∷ xs) ys = ap (λ r. x ++ r) (joined-append xs ys) ∙ sym (append_assoc x (joined xs) (joined ys))
+
+pub joined_more : {X A : Type 0} (f : X → List A) (xs : List X) (i : ℕ) (x : X) → i < length xs → get_or xs i x ≡ x → joined (map f (take (i + 1) xs)) ≡ joined (map f (take i xs)) ++ f x
+joined_more f xs i x h e =
+    ap (λ ys. joined (map f ys)) (take_more xs i x h ∙ ap (λ y. take i xs ++ y ∷ []) e)
+    ∙ ap joined (map-append f (take i xs) (x ∷ []))
+    ∙ joined-append (map f (take i xs)) (f x ∷ [])
+    ∙ ap (λ r. joined (map f (take i xs)) ++ r) (append-nil (f x))
+
+-- One more of the things whose places are judged
+pub judged_more : {X : Type 0} (f : X → List Place) (site : Site) (xs : List X) (i : ℕ) (x : X) (l m n : Option Fault) → i < length xs → get_or xs i x ≡ x → m ≡ judged_all site (joined (map f (take i xs))) l → n ≡ judged_all site (f x) m → n ≡ judged_all site (joined (map f (take (i + 1) xs))) l
+judged_more f site xs i x l m n h e before here =
+    here ∙ ap (judged_all site (f x)) before ∙ sym (judged_all_append site (joined (map f (take i xs))) (f x) l)
+    ∙ sym (ap (λ ps. judged_all site ps l) (joined_more f xs i x h e))
+
+pub map_firsts : {A B : Type 0} (f : A → B) (xs : List A) → map (λ (s : A × B). s.0) (map (λ x. (x, f x)) xs) ≡ xs
+map_firsts f [] = refl
+map_firsts f (x ∷ xs) = ap (λ r. x ∷ r) (map_firsts f xs)
+
+pub map_seconds : {A B : Type 0} (f : A → B) (xs : List A) → map (λ (s : A × B). s.1) (map (λ x. (x, f x)) xs) ≡ map f xs
+map_seconds f [] = refl
+map_seconds f (x ∷ xs) = ap (λ r. f x ∷ r) (map_seconds f xs)
+
+all-append : (bs : List Bool) (b : Bool) → all (bs ++ b ∷ []) ≡ (all bs && b)
+all-append [] true = refl
+all-append [] false = refl
+all-append (true ∷ bs) b = all-append bs b
+all-append (false ∷ bs) b = refl
+
+total-append : (ns : List ℕ) (n : ℕ) → total (ns ++ n ∷ []) ≡ total ns + n
+total-append [] n = omega arith
+total-append (m ∷ ns) n = omega (arith, total-append ns n)
+
+pub quiet_more : (xs : List RawStmt) (i : ℕ) (x : RawStmt) → i < length xs → get_or xs i x ≡ x → quiet_list (take (i + 1) xs) ≡ (quiet_list (take i xs) && quiet x)
+quiet_more xs i x h e =
+    ap quiet_list (take_more xs i x h ∙ ap (λ y. take i xs ++ y ∷ []) e)
+    ∙ ap all (map-append quiet (take i xs) (x ∷ [])) ∙ all-append (map quiet (take i xs)) (quiet x)
+
+pub advances_more : (xs : List RawStmt) (i : ℕ) (x : RawStmt) → i < length xs → get_or xs i x ≡ x → advances_list (take (i + 1) xs) ≡ advances_list (take i xs) + advances x
+advances_more xs i x h e =
+    ap advances_list (take_more xs i x h ∙ ap (λ y. take i xs ++ y ∷ []) e)
+    ∙ ap total (map-append advances (take i xs) (x ∷ [])) ∙ total-append (map advances (take i xs)) (advances x)
+
+-- A sum is positive where a part is.
+pub positive_sum : (m n : ℕ) → (nat_lt 0 m || nat_lt 0 n) ≡ nat_lt 0 (m + n)
+positive_sum zero n = ap (nat_lt 0) (omega arith)
+positive_sum (suc m) n = ap (λ b. b || nat_lt 0 n) (lt-ltb 0 (suc m) (omega arith)) ∙ sym (lt-ltb 0 (suc m + n) (omega arith))

@@ -1,0 +1,14 @@
+pub mod Tables
+pub mod SlotLists
+pub mod Judging
+pub mod Equations
+pub mod Twice
+pub mod Items
+pub mod Program
+pub mod LeastFaults
+pub mod Reach
+pub mod Lowering
+pub mod Counting
+pub mod Advances
+pub mod Wholes
+pub mod Limits

@@ -1,0 +1,62 @@
+ghost use Rattle.std.specs.Prelude.{◌≡◌};
+ghost use Rattle.psy_tree.specs.Rules.{number_of};
+ghost use Rattle.psy_rules.specs.Judged.{is_before, noted};
+
+use psy_tree::RuleKind;
+
+/// A fault: its kind, and the token that it names.
+#[derive(Clone, Copy, Debug, PartialEq, Eq)]
+pub struct Fault {
+    pub kind: RuleKind,
+    pub token: u32,
+}
+
+/// The number of a kind, from 1 to 12.
+fn number(kind: RuleKind) -> u32
+    ensures { result ≡ number_of kind }
+{
+    match kind {
+        RuleKind::Twice => 1,
+        RuleKind::Unknown => 2,
+        RuleKind::WrongKind => 3,
+        RuleKind::NotOwner => 4,
+        RuleKind::NotReceiver => 5,
+        RuleKind::TooDeep => 6,
+        RuleKind::NoMax => 7,
+        RuleKind::MixedLoop => 8,
+        RuleKind::NoAdvance => 9,
+        RuleKind::CallsDown => 10,
+        RuleKind::BadClock => 11,
+        RuleKind::BadNumber => 12,
+    }
+}
+
+/// The least of the faults that were noted, by token and then by number.
+#[derive(Clone, Copy, Debug, PartialEq, Eq)]
+pub struct Least {
+    pub fault: Option<Fault>,
+}
+
+impl Least {
+    /// Notes a fault where there is one.
+    #[tactic(auto, unfolding(crate::specs::Judged::noted))]
+    pub fn note(&mut self, holds: bool, kind: RuleKind, token: u32)
+        ensures { self.new.fault ≡ noted holds kind token self.old.fault }
+    {
+        if holds && self.is_after(kind, token) {
+            self.fault = Some(Fault { kind, token });
+        }
+    }
+
+    /// No fault was noted, or one that comes after this.
+    fn is_after(&self, kind: RuleKind, token: u32) -> bool
+        ensures { result ≡ is_before kind token self.now.fault }
+    {
+        match self.fault {
+            None => true,
+            Some(least) => {
+                token < least.token || (token == least.token && number(kind) < number(least.kind))
+            }
+        }
+    }
+}
