@@ -46,8 +46,14 @@ fn a_unit_has_its_clocks(rt: HostRuntime) -> Result<(), Fail> {
     };
     // The dates of `c` are 0, 2, 4 and so on; `d` has each third, from 2 on.
     let clocks = [
-        Clock { period: 2, first: 0 },
-        Clock { period: 6, first: 2 },
+        Clock {
+            period: 2,
+            first: 0,
+        },
+        Clock {
+            period: 6,
+            first: 2,
+        },
     ];
     assert_eq!(rt; unit.quantum, 10);
     assert_eq!(rt; unit.clocks.as_slice(), clocks.as_slice());
@@ -84,6 +90,9 @@ fn a_count_has_its_limit(rt: HostRuntime) -> Result<(), Fail> {
         quantum: number(10, 1),
         items,
     };
-    assert_eq!(rt; resolve(rt.alloc(), &raw).err(), Some(RuleFault::Many(Count::Clocks)));
+    assert_eq!(rt;
+        resolve(rt.alloc(), &raw).err(),
+        Some(RuleFault::Many(Count::Clocks))
+    );
     Ok(())
 }

@@ -96,12 +96,12 @@ number_of-injective k l e = sym (kind_at-number_of k) ∙ ap kind_at e ∙ kind_
 -- a program has one least fault at most
 LeastFault-unique : (raw : Raw) (k l : RuleKind) (n m : ℕ) → LeastFault raw k n → LeastFault raw l m → (k ≡ l) × (n ≡ m)
 LeastFault-unique raw k l n m a b = elim (a.least l m b.present) [
-    | inl before ↦ elim (b.least k n a.present) [ inl behind ↦ absurd (omega arith) | inr also ↦ absurd (let e = also.0 in omega arith) ]
-    | inr at ↦ elim (b.least k n a.present) [
-      | inl behind ↦ absurd (let e = at.0 in omega arith)
-      | inr also ↦ (number_of-injective k l (let p = at.1 in let q = also.1 in omega arith), at.0)
-    ]
+  | inl before ↦ elim (b.least k n a.present) [ inl behind ↦ absurd (omega arith) | inr also ↦ absurd (let e = also.0 in omega arith) ]
+  | inr at ↦ elim (b.least k n a.present) [
+    | inl behind ↦ absurd (let e = at.0 in omega arith)
+    | inr also ↦ (number_of-injective k l (let p = at.1 in let q = also.1 in omega arith), at.0)
   ]
+]
 
 -- The steps that judge a file, the last first: each stops with a status and a text, or goes on to the one above it.
 

@@ -82,15 +82,15 @@ Adds-cases value own add (sum n) = inr (n, refl)
 -- a sum of other sides adds nothing
 pub adds_other_right : (value left right : Expr) → ((n : ℕ) → value ≢ Number (pos n)) → value ≡ Binary Add left right → ((n : ℕ) → right ≢ Number (pos n)) → (own : Bool) (add : ℕ) → Adds value own add → ⊥
 adds_other_right value left right alone is other own add h = elim (Adds-cases value own add h) [
-    | inl a ↦ alone a.0 a.1
-    | inr a ↦ other a.0 (Binary-injective Add Add left (Copy 0) right (Number (pos a.0)) (sym is ∙ a.1)).1
-  ]
+  | inl a ↦ alone a.0 a.1
+  | inr a ↦ other a.0 (Binary-injective Add Add left (Copy 0) right (Number (pos a.0)) (sym is ∙ a.1)).1
+]
 
 pub adds_other_left : (value left right : Expr) → ((n : ℕ) → value ≢ Number (pos n)) → value ≡ Binary Add left right → (left ≢ Copy 0) → (own : Bool) (add : ℕ) → Adds value own add → ⊥
 adds_other_left value left right alone is other own add h = elim (Adds-cases value own add h) [
-    | inl a ↦ alone a.0 a.1
-    | inr a ↦ other (Binary-injective Add Add left (Copy 0) right (Number (pos a.0)) (sym is ∙ a.1)).0
-  ]
+  | inl a ↦ alone a.0 a.1
+  | inr a ↦ other (Binary-injective Add Add left (Copy 0) right (Number (pos a.0)) (sym is ∙ a.1)).0
+]
 
 pub same_first : (a b : First) → a.quantum ≡ b.quantum → a.period ≡ b.period → a.first ≡ b.first → a.init ≡ b.init → a.own ≡ b.own → a.add ≡ b.add → a.budget ≡ b.budget → a.until ≡ b.until → a ≡ b
 same_first a b quantum period first init own add budget until =

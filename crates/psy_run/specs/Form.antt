@@ -27,9 +27,9 @@ pub data Adds : Expr → Bool → ℕ → Type 0 where
 pub record DoesOne (agent : AgentDecl) (value : Expr) : Type 0 where
   pub slots : agent.slots ≡ []
   pub points : agent.points
-    ≡ record { count = 0; clock = agent.clock; budget = agent.budget }
-    ∷ record { count = 1; clock = agent.clock; budget = agent.budget }
-    ∷ []
+      ≡ record { count = 0; clock = agent.clock; budget = agent.budget }
+      ∷ record { count = 1; clock = agent.clock; budget = agent.budget }
+      ∷ []
   pub stmts : agent.stmts ≡ SetCopy 0 value ∷ Advance 1 ∷ []
 
 -- the variable is that of agent 0, on this clock, of depth 1

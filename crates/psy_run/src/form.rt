@@ -59,7 +59,11 @@ fn adds(value: &Expr) -> Option<(bool, u32)>
     let Some(add) = literal(right) else {
         return None;
     };
-    if is_variable(left) { Some((true, add)) } else { None }
+    if is_variable(left) {
+        Some((true, add))
+    } else {
+        None
+    }
 }
 
 // An assignment of variable 0 and an `advance` to point 1: the assigned expression.
@@ -76,8 +80,16 @@ fn assigned(stmts: &[Stmt]) -> Option<&Expr>
 fn are_points(points: &[Point], clock: u32, budget: u32) -> bool
     ensures { IsTrue result ↔ (points.now ≡ (record { count = 0; clock = clock; budget = budget }) ∷ (record { count = 1; clock = clock; budget = budget }) ∷ []) }
 {
-    let head = Point { count: 0, clock, budget };
-    let next = Point { count: 1, clock, budget };
+    let head = Point {
+        count: 0,
+        clock,
+        budget,
+    };
+    let next = Point {
+        count: 1,
+        clock,
+        budget,
+    };
     match points {
         [first, second] => *first == head && *second == next,
         _ => false,
@@ -160,7 +172,11 @@ fn read_numbers(
         budget,
         until,
     };
-    if is_in_range(&first) { Some(first) } else { None }
+    if is_in_range(&first) {
+        Some(first)
+    } else {
+        None
+    }
 }
 
 /// The program that the unit is, to be run up to this date; None exactly where it has another form.
@@ -194,7 +210,14 @@ pub fn read_form(unit: &Unit, until: u32) -> Option<Form<'_>>
     if !is_short(&agent.name) {
         return None;
     }
-    let Some(first) = read_numbers(unit.quantum, until, agent.budget, variable.init, *clock, value) else {
+    let Some(first) = read_numbers(
+        unit.quantum,
+        until,
+        agent.budget,
+        variable.init,
+        *clock,
+        value,
+    ) else {
         return None;
     };
     Some(Form {

@@ -2,9 +2,8 @@ ghost use Rattle.std.specs.Prelude.{◌≡◌, ◌≤◌, length};
 ghost use Rattle.psy_run.specs.Answer.{status_of, line_of, lex_line, limit_line};
 ghost use Rattle.psy_tree.specs.Rules.{number_of};
 
-use psy_tree::{Count, RuleKind};
-
 use crate::line::Line;
+use psy_tree::{Count, RuleKind};
 
 /// Why the words, or the program that they name, aren't run. Contracts read the status and the line of
 /// each from one definition.
@@ -29,7 +28,10 @@ pub enum Refusal {
     /// The tokens aren't those of a program.
     Syntax,
     /// The program breaks a rule at the token of this number.
-    Rule { kind: RuleKind, token: u32 },
+    Rule {
+        kind: RuleKind,
+        token: u32,
+    },
     /// So many declarations of one sort that their limit is passed.
     Many(Count),
     /// The program isn't of a form that is served so far.
