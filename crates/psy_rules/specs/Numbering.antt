@@ -16,10 +16,11 @@ before_at items k = record {
   functions = counting is_function (take k items);
 }
 
--- What stands before the next one
+-- One where it is so.
 abbrev pub one_if : Bool → ℕ
 one_if b = if b then 1 else 0
 
+-- What stands before the next one.
 abbrev pub before_and : Before → Item → Before
 before_and before i = record {
   clocks = before.clocks + one_if (is_clock (Some i));

@@ -1,5 +1,5 @@
 -- Words and the bytes of the file that they name have one answer at most.
-use Rattle.std.proofs.Common.{◌≡◌, ◌∙◌, sym, subst, ap, refl, ℕ, ◌*◌, ◌<◌, ◌≤◌, List, [], ◌∷◌, length, codes, arith, Some, None, slice_get, ◌⊎◌, inl, inr, ◌==◌, if◌then◌else◌}
+use Rattle.std.proofs.Common.{◌≡◌, ◌∙◌, sym, subst, ap, refl, ℕ, ◌*◌, ◌<◌, ◌≤◌, List, [], ◌∷◌, length, codes, arith, Some, None, slice_get, inl, inr, ◌==◌, if◌then◌else◌}
 use Rattle.psy_base.specs.declared.limits.TheConstants.{FILE_BYTES}
 use Rattle.psy_tree.specs.declared.token.Token.{Token}
 use Rattle.psy_tree.specs.declared.raw.Raw.{Raw}
@@ -22,7 +22,7 @@ use Rattle.psy_kernel.specs.Meaning.{IsFeasible}
 use Rattle.psy_run.specs.declared.refusal.Refusal.{Refusal}
 use Rattle.psy_run.specs.declared.refusal.Refusal.TheVariants.{Words, ReadProgram, LongProgram, BadByte, LongName, BigLiteral, OpenComment, Syntax, Deep, Rule, Many, NotBuilt, Infeasible}
 use Rattle.psy_run.specs.Asked.{AsksRun, AskNothing}
-use Rattle.psy_run.specs.Form.{Program, IsForm, DoesOne, HaveNumbers}
+use Rattle.psy_run.specs.Form.{Program, IsForm, HaveNumbers}
 use Rattle.psy_run.specs.Log.{text_of}
 use Rattle.psy_run.specs.Answer.{Answers, unlisted, refused, run, Refuses, status_of, line_of, lex_line, limit_line}
 use Rattle.psy_run.proofs.FormLemmas.{have_one_numbers, one_value}

@@ -1,4 +1,3 @@
-use Rattle.std.proofs.Common.{refl}
 use Rattle.psy_run.proofs.FormLemmas.{adds_other_right, adds_other_left}
 use Rattle.psy_run.proofs.form.adds.Goals as goal
 
