@@ -10,7 +10,7 @@ const HEAD: &str =
     "tick 10; clock c = 1 * tick; temporal v of A on c = 0 depth 2; agent A on c budget 9 { body { ";
 
 // What stands in the body of an agent `A` that owns `v` of depth 2.
-const BODIES: [Case; 38] = [
+const BODIES: [Case; 44] = [
     ("v = past(v, 2); advance 1 on c;", 6, 36),
     ("v = past(v, 1); advance 1 on c;", 0, 0),
     ("v = 1;", 9, 28),
@@ -57,9 +57,15 @@ const BODIES: [Case; 38] = [
     ("while (v) max 0 { v = 1; } advance 1 on c;", 12, 35),
     ("while (v) max 65537 { v = 1; } advance 1 on c;", 12, 35),
     ("while (v) max 65536 { v = 1; } advance 1 on c;", 0, 0),
+    ("advance 0 on w;", 12, 31),
+    ("advance 1 on w budget 0;", 2, 33),
+    ("advance 1 on c; v = past(v, 2);", 6, 41),
+    ("advance 1 on c; while (v) { }", 7, 35),
+    ("advance 1 on c; while (v) max 1 { advance 1 on c; }", 8, 35),
+    ("while (v) max 1 { } advance 1 on c;", 0, 0),
 ];
 
-const PROGRAMS: [Case; 71] = [
+const PROGRAMS: [Case; 88] = [
     ("tick 0;", 12, 1),
     ("tick 1;", 0, 0),
     ("tick 1000000;", 0, 0),
@@ -323,6 +329,63 @@ const PROGRAMS: [Case; 71] = [
         3,
         26,
     ),
+    ("tick 1; int f(int f) { }", 1, 7),
+    ("tick 1; int f(int x) { int x = 0; }", 1, 11),
+    ("tick 1; stream s to A keep 1 on c;", 2, 6),
+    (
+        "tick 1; agent A on A budget 1 { body { advance 1 on A; } }",
+        3,
+        6,
+    ),
+    (
+        "tick 1; agent B on c budget 1 { body { v = 1; advance 1 on c; } } clock c = 1 * tick; temporal v of A on c = 0 depth 1; stream s to A keep 1 on c; agent A on c budget 1 { body { advance 1 on c; } }",
+        4,
+        12,
+    ),
+    (
+        "tick 1; clock c = 1 * tick; temporal v of A on c = 0 depth 1; stream s to A keep 1 on c; agent A on c budget 1 { body { advance 1 on c; } } agent B on c budget 1 { int n = 0; body { advance 1 on c; n = v; } }",
+        4,
+        67,
+    ),
+    (
+        "tick 1; clock c = 1 * tick; temporal v of A on c = 0 depth 1; stream s to A keep 1 on c; agent A on c budget 1 { body { advance 1 on c; } } agent B on c budget 1 { int n = 0; body { advance 1 on c; n = v(1); } }",
+        3,
+        67,
+    ),
+    (
+        "tick 1; agent B on c budget 1 { body { if (take(s)) { } advance 1 on c; } } clock c = 1 * tick; temporal v of A on c = 0 depth 1; stream s to A keep 1 on c; agent A on c budget 1 { body { advance 1 on c; } }",
+        5,
+        16,
+    ),
+    (
+        "tick 1; clock c = 1 * tick; temporal v of A on c = 0 depth 1; stream s to A keep 1 on c; agent A on c budget 1 { body { advance 1 on c; } } agent B on c budget 1 { int n = 0; body { advance 1 on c; n = take(s); } }",
+        5,
+        69,
+    ),
+    (
+        "tick 1; agent B on c budget 1 { body { if (past(v, 1)) { } advance 1 on c; } } clock c = 1 * tick; temporal v of A on c = 0 depth 1; stream s to A keep 1 on c; agent A on c budget 1 { body { advance 1 on c; } }",
+        6,
+        18,
+    ),
+    ("tick 1; int f() { while (1) { } }", 7, 8),
+    (
+        "tick 1; agent B on c budget 1 { body { while (1) max 1 { advance 1 on c; } advance 1 on c; } } clock c = 1 * tick; temporal v of A on c = 0 depth 1; stream s to A keep 1 on c; agent A on c budget 1 { body { advance 1 on c; } }",
+        8,
+        12,
+    ),
+    (
+        "tick 1; agent B on c budget 1 { body { } } clock c = 1 * tick; temporal v of A on c = 0 depth 1; stream s to A keep 1 on c; agent A on c budget 1 { body { advance 1 on c; } }",
+        9,
+        10,
+    ),
+    (
+        "tick 1; clock c = 1 * tick; temporal v of A on c = 0 depth 1; stream s to A keep 1 on c; agent A on c budget 1 { body { advance 1 on c; } } agent B on c budget 1 { body { } }",
+        9,
+        53,
+    ),
+    ("tick 1; int f() { return f(); }", 10, 9),
+    ("tick 1; int f() { } int g() { return g(); }", 10, 15),
+    ("tick 1; int f() { if (f()) { } }", 10, 10),
 ];
 
 // The text that is written of a program that isn't of a form that is run so far.
