@@ -1,0 +1,116 @@
+-- What an action sees, what it asks, and what it did (OASIS: only what was visible at its start date).
+use Rattle.std.specs.Prelude.{ℕ, ◌+◌, ◌<◌, List, [], ◌∷◌, ◌++◌, drop, length, Option, Some, None, IsSome, slice_get, slice_set, ℤ}
+use Rattle.std.specs.Int.{w32, cast_signed}
+use Rattle.psy_code.specs.declared.look.Sent.{Sent}
+
+-- What is visible to an action.
+pub record View : Type 0 where
+  -- by variable, the value published last, the one before it, and so on
+  pub pasts : List (List ℤ)
+  -- by stream, the values of the messages not yet taken, in their order; none where the agent isn't its receiver
+  pub messages : List (Option (List ℤ))
+
+abbrev pub found_in : {A B : Type 0} → Option A → (A → Option B) → Option B
+found_in None f = None
+found_in (Some x) f = f x
+
+-- past(variable, back)
+abbrev pub past_of : View → ℕ → ℕ → Option ℤ
+past_of view variable back = found_in (slice_get view.pasts variable) (λ values. slice_get values back)
+
+-- the messages of a stream
+abbrev pub messages_of : View → ℕ → Option (List ℤ)
+messages_of view stream = found_in (slice_get view.messages stream) (λ messages. messages)
+
+-- how many messages, as a number of 32 bits
+abbrev pub number_of : List ℤ → ℤ
+number_of messages = cast_signed w32 (length messages)
+
+abbrev pub first_of : List ℤ → Option ℤ
+first_of [] = None
+first_of (m ∷ rest) = Some m
+
+abbrev pub without_first : Option (List ℤ) → Option (List ℤ)
+without_first None = None
+without_first (Some messages) = Some (drop 1 messages)
+
+-- how many messages of a stream aren't yet taken
+abbrev pub count_in : View → ℕ → Option ℕ
+count_in view stream = found_in (messages_of view stream) (λ messages. Some (length messages))
+
+-- the first of them
+abbrev pub next_in : View → ℕ → Option ℤ
+next_in view stream = found_in (messages_of view stream) first_of
+
+-- The view once the first message of a stream is taken.
+abbrev pub taken_from : View → ℕ → View
+taken_from view stream = record view { messages = slice_set view.messages stream (without_first (messages_of view stream)) }
+
+-- What an instruction or an expression asks of the world.
+pub data Call : Type 0 where
+  Past : (variable back : ℕ) → Call
+  Ready : (stream : ℕ) → Call
+  Take : (stream : ℕ) → Call
+  Send : (sent : Sent) → Call
+
+-- The view after a call.
+abbrev pub view_after : View → Call → View
+view_after view (Take stream) = taken_from view stream
+view_after view _ = view
+
+-- ---- what an action did so far
+
+-- A look at a variable, with the number of the instructions that the action executed before it.
+pub record Looked : Type 0 where
+  pub number : ℕ
+  pub variable : ℕ
+  pub back : ℕ
+
+pub record Deeds : Type 0 where
+  -- how many instructions it executed
+  pub steps : ℕ
+  pub looks : List Looked
+  pub sends : List Sent
+  -- by number, the stream of each message that it took
+  pub takes : List ℕ
+
+abbrev pub nothing_done : Deeds
+nothing_done = record { steps = 0; looks = []; sends = []; takes = [] }
+
+-- one instruction more
+abbrev pub tick : Deeds → Deeds
+tick deeds = record deeds { steps = deeds.steps + 1 }
+
+-- one instruction more, which makes this call
+abbrev pub done : Deeds → Call → Deeds
+done deeds (Past variable back) = tick (record deeds { looks = deeds.looks ++ record { number = deeds.steps; variable = variable; back = back } ∷ [] })
+done deeds (Ready stream) = tick deeds
+done deeds (Take stream) = tick (record deeds { takes = deeds.takes ++ stream ∷ [] })
+done deeds (Send sent) = tick (record deeds { sends = deeds.sends ++ sent ∷ [] })
+
+-- ---- what serves the calls
+
+pub record Window : Type 0 where
+  pub view : View
+  -- how many streams and clocks there are to send by
+  pub streams : ℕ
+  pub clocks : ℕ
+  -- how many sends there is room for
+  pub room : ℕ
+  pub sends : List Sent
+  -- the variable and the `back` of the last look
+  pub noted : Option (ℕ × ℕ)
+
+-- What a call asks for is served, and a send finds room.
+abbrev pub Permits : Window → Call → Type 0
+Permits window (Past variable back) = IsSome (past_of window.view variable back)
+Permits window (Ready stream) = IsSome (messages_of window.view stream)
+Permits window (Take stream) = IsSome (messages_of window.view stream)
+Permits window (Send sent) = (sent.stream < window.streams) × (sent.clock < window.clocks) × (length window.sends < window.room)
+
+-- What a call leaves: a look is noted, a message is taken, a send is added; all else stays.
+abbrev pub answered : Window → Call → Window
+answered window (Past variable back) = record window { noted = Some (variable, back) }
+answered window (Ready stream) = window
+answered window (Take stream) = record window { view = taken_from window.view stream }
+answered window (Send sent) = record window { sends = window.sends ++ sent ∷ [] }

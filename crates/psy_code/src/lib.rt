@@ -1,0 +1,11 @@
+//! The instructions of an agent's machine, the code made of them, what an action asks of the world, and
+//! the definition of execution.
+#![tactic(auto)]
+
+mod code;
+mod instr;
+mod look;
+
+pub use code::{AgentCode, Code, CopyInit, FunctionCode, OPEN_CALLS};
+pub use instr::{Binary, Instr};
+pub use look::{Look, Sent};
