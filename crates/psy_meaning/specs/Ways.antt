@@ -1,0 +1,173 @@
+-- The ways of an action, whatever its values: each test goes either way.
+use Rattle.std.specs.Prelude.{◌≡◌, ℕ, zero, suc, ◌+◌, ◌==◌, Bool, true, false, List, [], ◌∷◌, ◌++◌, map, Option, Some, None, ◌⊎◌}
+use Rattle.psy_arith.specs.declared.operators.Op2.{Op2}
+use Rattle.psy_arith.specs.declared.operators.Op2.TheVariants as op
+use Rattle.psy_code.specs.Views.{Looked}
+use Rattle.psy_tree.specs.declared.unit.Expr.{Expr, rec-Expr}
+use Rattle.psy_tree.specs.declared.unit.Expr.TheOpen.{Expr-F}
+use Rattle.psy_tree.specs.declared.unit.FunctionDecl.{FunctionDecl}
+use Rattle.psy_tree.specs.declared.unit.Stmt.{Stmt, rec-Stmt}
+use Rattle.psy_tree.specs.declared.unit.Stmt.TheOpen.{Stmt-F}
+use Rattle.psy_meaning.specs.Statements.{Piece, Do, Hop}
+
+-- What a way meets: its instructions, its looks, and the streams that it sends to, in order.
+pub record Meter : Type 0 where
+  pub steps : ℕ
+  pub looks : List Looked
+  pub sends : List ℕ
+
+abbrev pub unmetered : Meter
+unmetered = record { steps = 0; looks = []; sends = [] }
+
+-- From what was met before to what is met with it
+abbrev pub Way : Type 1
+Way = Meter → Meter → Type 0
+
+-- ---- words for ways
+
+abbrev pub no_way : Way
+no_way before now = ⊥
+
+abbrev pub here : Way
+here before now = now ≡ before
+
+-- one instruction
+abbrev pub one : Way
+one before now = now ≡ record before { steps = before.steps + 1 }
+
+abbrev pub looking : ℕ → ℕ → Way
+looking variable back before now =
+    now ≡ record before { steps = before.steps + 1; looks = before.looks ++ record { number = before.steps; variable = variable; back = back } ∷ [] }
+
+abbrev pub sending : ℕ → Way
+sending stream before now = now ≡ record before { steps = before.steps + 1; sends = before.sends ++ stream ∷ [] }
+
+abbrev pub both : Way → Way → Way
+both first second before now = (between : Meter) × first before between × second between now
+
+abbrev pub either : Way → Way → Way
+either this that before now = this before now ⊎ that before now
+
+-- ---- expressions
+
+abbrev pub ways_through : {X : Type 0} → (X → Way) → List X → Way
+ways_through way [] = here
+ways_through way (x ∷ rest) = both (way x) (ways_through way rest)
+
+-- `&&` and `||` evaluate their right side or don't.
+abbrev pub binary_way : Op2 → Way → Way → Way
+binary_way op.AndAnd left right = both left (both one (either here (both right one)))
+binary_way op.OrOr left right = both left (both one (either here (both right one)))
+binary_way operator left right = both left (both right one)
+
+abbrev pub expr_way_step : (ℕ → Way) → (X : Type 0) → (X → Expr) → (X → Way) → Expr-F X → Way
+expr_way_step callees X tree way (Expr-F.Number number) = one
+expr_way_step callees X tree way (Expr-F.Slot slot) = one
+expr_way_step callees X tree way (Expr-F.Copy variable) = one
+expr_way_step callees X tree way (Expr-F.Cell slot index) = both (way index) one
+expr_way_step callees X tree way (Expr-F.Past variable back) = looking variable back
+expr_way_step callees X tree way (Expr-F.Ready stream) = one
+expr_way_step callees X tree way (Expr-F.Take stream) = one
+expr_way_step callees X tree way (Expr-F.Unary operator operand) = both (way operand) one
+expr_way_step callees X tree way (Expr-F.Binary operator left right) = binary_way operator (way left) (way right)
+expr_way_step callees X tree way (Expr-F.Call function arguments) = both (ways_through way arguments) (both one (callees function))
+
+abbrev pub expr_way : (ℕ → Way) → Expr → Way
+expr_way callees = rec-Expr Way (expr_way_step callees)
+
+-- ---- statements
+
+-- Where a way ends: behind the statements, back in the caller, or at a point.
+pub data End : Type 0 where
+  Fell : End
+  Back : End
+  To : (point : ℕ) → End
+
+abbrev pub Course : Type 1
+Course = End → Way
+
+abbrev pub falling : Way → Course
+falling way Fell = way
+falling way _ = no_way
+
+abbrev pub returning : Way → Course
+returning way Back = way
+returning way _ = no_way
+
+abbrev pub reaching : ℕ → Way → Course
+reaching point way end before now = (end ≡ To point) × way before now
+
+-- a course that doesn't fall through
+abbrev pub leaving : Course → Course
+leaving course Fell = no_way
+leaving course end = course end
+
+abbrev pub behind : Way → Course → Course
+behind way course end = both way (course end)
+
+-- falls through the first into the second, or leaves the first
+abbrev pub and_on : Course → Course → Course
+and_on first second end = either (both (first Fell) (second end)) (leaving first end)
+
+abbrev pub or_else : Course → Course → Course
+or_else this that end = either (this end) (that end)
+
+abbrev pub courses_through : {X : Type 0} → (X → Course) → List X → Course
+courses_through course [] = falling here
+courses_through course (x ∷ rest) = and_on (course x) (courses_through course rest)
+
+-- At most so many turns of a bounded loop, each behind its test
+abbrev pub turning : ℕ → Way → Course → Course
+turning zero test body = falling (both test (both one one))
+turning (suc more) test body = or_else (falling (both test (both one one))) (behind (both test (both one one)) (and_on body (behind one (turning more test body))))
+
+abbrev pub branching : Course → Option Course → Course
+branching branch None = or_else branch (falling here)
+branching branch (Some other) = or_else (and_on branch (falling one)) other
+
+abbrev pub option_course : {X : Type 0} → (X → Course) → Option (List X) → Option Course
+option_course course None = None
+option_course course (Some stmts) = Some (courses_through course stmts)
+
+abbrev pub course_step : (ℕ → Way) → (X : Type 0) → (X → Stmt) → (X → Course) → Stmt-F X → Course
+course_step callees X tree course (Stmt-F.Set slot value) = falling (both (expr_way callees value) one)
+course_step callees X tree course (Stmt-F.SetCopy variable value) = falling (both (expr_way callees value) one)
+course_step callees X tree course (Stmt-F.SetCell slot index value) = falling (both (expr_way callees index) (both (expr_way callees value) one))
+course_step callees X tree course (Stmt-F.If test branch other) = behind (both (expr_way callees test) one) (branching (courses_through course branch) (option_course course other))
+course_step callees X tree course (Stmt-F.Bounded test most body) = behind one (turning most (expr_way callees test) (courses_through course body))
+course_step callees X tree course (Stmt-F.Timed test body) = behind (both (expr_way callees test) one) (or_else (falling here) (courses_through course body))
+course_step callees X tree course (Stmt-F.Send value stream after clock) = falling (both (expr_way callees value) (sending stream))
+course_step callees X tree course (Stmt-F.Advance point) = reaching point one
+course_step callees X tree course (Stmt-F.Return value) = returning (both (expr_way callees value) one)
+
+abbrev pub course_by : (ℕ → Way) → Stmt → Course
+course_by callees = rec-Stmt Course (course_step callees)
+
+-- ---- functions
+
+-- A function's way comes back by a `return`, or by falling through, which costs two instructions.
+abbrev pub callee_way : (ℕ → Way) → FunctionDecl → Way
+callee_way above function = either (course Back) (both (course Fell) (both one one))
+  where
+    course : Course
+    course = courses_through (course_by above) function.stmts
+
+abbrev pub with_way : ℕ → Way → (ℕ → Way) → ℕ → Way
+with_way number last above function before now = ((function ≡ number) × last before now) ⊎ ((function ≢ number) × above function before now)
+
+abbrev pub callee_ways_from : ℕ → (ℕ → Way) → List FunctionDecl → ℕ → Way
+callee_ways_from number above [] = above
+callee_ways_from number above (f ∷ rest) = callee_ways_from (number + 1) (with_way number (callee_way above f) above) rest
+
+abbrev pub callee_ways : List FunctionDecl → ℕ → Way
+callee_ways functions = callee_ways_from 0 (λ function. here) functions
+
+-- ---- pieces of a body
+
+abbrev pub piece_course : (ℕ → Way) → Piece → Course
+piece_course callees (Do stmt) = course_by callees stmt
+piece_course callees Hop = falling one
+
+-- A way through the pieces to the first `advance`, that of the point
+abbrev pub IsWay : List FunctionDecl → List Piece → ℕ → Meter → Type 0
+IsWay functions pieces point met = courses_through (piece_course (callee_ways functions)) pieces (To point) unmetered met
