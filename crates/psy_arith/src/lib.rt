@@ -1,6 +1,11 @@
 //! The operators of the language, why an action traps, and the tables of instructions.
 #![tactic(auto)]
 
+pub mod laws;
 mod operators;
+mod table;
+#[cfg(test)]
+mod tests;
 
 pub use operators::{Op1, Op2, Trap, apply1, apply2};
+pub use table::{Row, Table};

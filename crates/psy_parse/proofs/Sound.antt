@@ -2,8 +2,8 @@
 use Rattle.std.proofs.Common.{◌≡◌, ℕ, zero, suc, ◌<◌, ◌≤◌, List, [], ◌∷◌, ◌++◌, length, Option, Some, None, Result, Ok, Err, Bool, true, false, cond, leb, refl, sym, ap, subst, ◌∙◌, rules, append_assoc, arith}
 use Rattle.std.proofs.lemmas.List.{append-nil}
 use denote.Enum.Bare.{sameb, same_true}
-use Rattle.psy_arith.specs.declared.Op1.{Op1}
-use Rattle.psy_arith.specs.declared.Op2.{Op2}
+use Rattle.psy_arith.specs.declared.operators.Op1.{Op1}
+use Rattle.psy_arith.specs.declared.operators.Op2.{Op2}
 use Rattle.psy_tree.specs.declared.token.Kind.TheVariants as kinds
 use Rattle.psy_tree.specs.declared.token.Word.{Word}
 use Rattle.psy_tree.specs.declared.token.Word.TheVariants as words

@@ -3,7 +3,7 @@ use Rattle.std.proofs.Common.{◌≡◌, ℕ, zero, suc, ◌<◌, ◌≤◌, Lis
 use Rattle.std.proofs.Math.Dec.{leb-zero}
 use Rattle.std.proofs.lemmas.Bool.{cases_lt, leb-true, leb-false}
 use Rattle.std.proofs.lemmas.List.{append-nil}
-use Rattle.psy_arith.specs.declared.Op2.{Op2}
+use Rattle.psy_arith.specs.declared.operators.Op2.{Op2}
 use Rattle.psy_tree.specs.declared.token.Kind.TheVariants as kinds
 use Rattle.psy_tree.specs.declared.token.Word.TheVariants as words
 use Rattle.psy_tree.specs.declared.token.Sign.{Sign}

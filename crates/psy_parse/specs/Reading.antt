@@ -1,8 +1,8 @@
 -- Reading from left to right. Where it can't go on, the number of the tokens that are left is the answer.
 use Rattle.std.specs.Prelude.{◌≡◌, ℕ, zero, suc, ◌-◌, List, [], ◌∷◌, ◌++◌, length, Option, Some, None, Result, Ok, Err, Bool, true, false, nat_le, if◌then◌else◌}
 use denote.Enum.Bare.{sameb}
-use Rattle.psy_arith.specs.declared.Op1.{Op1}
-use Rattle.psy_arith.specs.declared.Op2.{Op2}
+use Rattle.psy_arith.specs.declared.operators.Op1.{Op1}
+use Rattle.psy_arith.specs.declared.operators.Op2.{Op2}
 use Rattle.psy_tree.specs.declared.token.Kind.TheVariants as kinds
 use Rattle.psy_tree.specs.declared.token.Word.{Word}
 use Rattle.psy_tree.specs.declared.token.Word.TheVariants as words

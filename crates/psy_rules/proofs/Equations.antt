@@ -1,7 +1,7 @@
 -- The places of each kind of expression and statement.
 use Rattle.std.proofs.Common.{◌≡◌, ℕ, List, [], ◌∷◌, ◌++◌, map, length, Option, Some, None, sym, ap, ◌∙◌}
 use Rattle.std.specs.Prelude.{nat_lt, is_some}
-use Rattle.psy_arith.specs.declared.Op2.{Op2}
+use Rattle.psy_arith.specs.declared.operators.Op2.{Op2}
 use Rattle.psy_tree.specs.declared.raw.Name.{Name}
 use Rattle.psy_tree.specs.declared.raw.Lit.{Lit}
 use Rattle.psy_tree.specs.declared.raw.RawExpr.{RawExpr, fold-roll-RawExpr}

@@ -1,7 +1,7 @@
 -- What an expression adds.
 use Rattle.std.proofs.Common.{◌≡◌, ◌≢◌, ◌∙◌, ◌⊎◌, inl, inr, sym, subst, ap, refl, Option, Some, None, true, false, Bool, [], ◌∷◌, ℕ, pos, ℤ}
-use Rattle.psy_arith.specs.declared.Op2.{Op2}
-use Rattle.psy_arith.specs.declared.Op2.TheVariants.{Add}
+use Rattle.psy_arith.specs.declared.operators.Op2.{Op2}
+use Rattle.psy_arith.specs.declared.operators.Op2.TheVariants.{Add}
 use Rattle.psy_tree.specs.declared.unit.Expr as unit_expr
 use Rattle.psy_tree.specs.declared.unit.Expr.{Expr, fold-Expr, fold-roll-Expr, para-Expr, para-roll-Expr}
 use Rattle.psy_tree.specs.declared.unit.Expr.TheOpen.{Expr-F}

@@ -1,10 +1,10 @@
 -- The grammar of a program's text, one case for each production.
 -- In each relation the tokens of the first list, up to where those of the last list begin, spell the tree between them.
 use Rattle.std.specs.Prelude.{◌≡◌, ℕ, suc, List, [], ◌∷◌, Option, Some, None, true, false}
-use Rattle.psy_arith.specs.declared.Op1.{Op1}
-use Rattle.psy_arith.specs.declared.Op1.TheVariants.{Neg, Flip, Not}
-use Rattle.psy_arith.specs.declared.Op2.{Op2}
-use Rattle.psy_arith.specs.declared.Op2.TheVariants as operators
+use Rattle.psy_arith.specs.declared.operators.Op1.{Op1}
+use Rattle.psy_arith.specs.declared.operators.Op1.TheVariants.{Neg, Flip, Not}
+use Rattle.psy_arith.specs.declared.operators.Op2.{Op2}
+use Rattle.psy_arith.specs.declared.operators.Op2.TheVariants as operators
 use Rattle.psy_tree.specs.declared.token.Token.{Token}
 use Rattle.psy_tree.specs.declared.token.Kind.{Kind}
 use Rattle.psy_tree.specs.declared.token.Kind.TheVariants as kinds

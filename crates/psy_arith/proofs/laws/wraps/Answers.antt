@@ -1,0 +1,5 @@
+use Rattle.psy_arith.proofs.Wrapping.{wraps_is}
+use Rattle.psy_arith.proofs.laws.wraps.Goals as goal
+
+pub returns : goal.returns
+returns c = record { only = wraps_is }
