@@ -1,5 +1,6 @@
 ghost use Rattle.std.specs.Prelude.{◌≡◌};
 ghost use Rattle.psy_code.specs.Execution.{op_of};
+ghost use Rattle.psy_code.specs.Rows.{byte_of};
 
 use psy_arith::{Op1, Op2};
 
@@ -90,4 +91,61 @@ pub enum Instr {
     Binary(Binary),
     /// Pops an operand and pushes the operator's value.
     Unary(Op1),
+}
+
+impl Instr {
+    /// The byte that stands for the kind of the instruction.
+    pub fn byte(&self) -> u8
+        ensures { result ≡ byte_of self.now }
+    {
+        macro_rules! bytes {
+            ($($form:pat => $byte:literal;)*) => {
+                match self {
+                    $($form => $byte,)*
+                }
+            };
+        }
+        bytes! {
+            Instr::Push(..) => 0x01;
+            Instr::Load(..) => 0x02;
+            Instr::Store(..) => 0x03;
+            Instr::LoadCell { .. } => 0x04;
+            Instr::StoreCell { .. } => 0x05;
+            Instr::LoadCopy(..) => 0x06;
+            Instr::StoreCopy(..) => 0x07;
+            Instr::Past { .. } => 0x08;
+            Instr::Ready(..) => 0x09;
+            Instr::Take(..) => 0x0A;
+            Instr::Send { .. } => 0x0B;
+            Instr::Jump(..) => 0x0C;
+            Instr::JumpZero(..) => 0x0D;
+            Instr::AndTest(..) => 0x0E;
+            Instr::OrTest(..) => 0x0F;
+            Instr::Truth => 0x10;
+            Instr::Zero(..) => 0x11;
+            Instr::Guard { .. } => 0x12;
+            Instr::Call(..) => 0x13;
+            Instr::Return => 0x14;
+            Instr::Advance(..) => 0x15;
+            Instr::Binary(Binary::Mul) => 0x20;
+            Instr::Binary(Binary::Div) => 0x21;
+            Instr::Binary(Binary::Rem) => 0x22;
+            Instr::Binary(Binary::Add) => 0x23;
+            Instr::Binary(Binary::Sub) => 0x24;
+            Instr::Binary(Binary::Shl) => 0x25;
+            Instr::Binary(Binary::Shr) => 0x26;
+            Instr::Binary(Binary::Lt) => 0x27;
+            Instr::Binary(Binary::Le) => 0x28;
+            Instr::Binary(Binary::Gt) => 0x29;
+            Instr::Binary(Binary::Ge) => 0x2A;
+            Instr::Binary(Binary::Eq) => 0x2B;
+            Instr::Binary(Binary::Ne) => 0x2C;
+            Instr::Binary(Binary::And) => 0x2D;
+            Instr::Binary(Binary::Xor) => 0x2E;
+            Instr::Binary(Binary::Or) => 0x2F;
+            Instr::Unary(Op1::Neg) => 0x30;
+            Instr::Unary(Op1::Flip) => 0x31;
+            Instr::Unary(Op1::Not) => 0x32;
+        }
+    }
 }

@@ -5,7 +5,9 @@
 mod code;
 mod instr;
 mod look;
+mod rows;
 
 pub use code::{AgentCode, Code, CopyInit, FunctionCode, OPEN_CALLS};
 pub use instr::{Binary, Instr};
 pub use look::{Look, Sent};
+pub use rows::instructions;

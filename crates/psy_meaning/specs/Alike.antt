@@ -1,17 +1,16 @@
 -- When code acts as the statements of a unit do.
-use Rattle.std.specs.Prelude.{◌≡◌, ℕ, ◌+◌, ◌<◌, ◌==◌, if◌then◌else◌, List, [], ◌∷◌, ◌++◌, map, length, replicate, Option, Some, None, Bool, true, false, slice_get, slice_index_or, ℤ, FitsSigned}
+use Rattle.std.specs.Prelude.{◌≡◌, ℕ, ◌+◌, ◌<◌, ◌==◌, if◌then◌else◌, List, [], ◌∷◌, ◌++◌, map, length, replicate, Option, Some, None, Bool, true, false, slice_get, slice_index_or, ℤ, FitsSigned, ⊤}
 use Rattle.std.specs.Int.{w32}
 use Rattle.std.specs.List.{All, flat_map}
 use Rattle.psy_tree.specs.declared.unit.Unit.{Unit as Whole}
 use Rattle.psy_tree.specs.declared.unit.VarDecl.{VarDecl}
 use Rattle.psy_tree.specs.declared.unit.AgentDecl.{AgentDecl}
-use Rattle.psy_tree.specs.declared.unit.Slots.{Slots}
 use Rattle.psy_code.specs.declared.code.Code.{Code}
 use Rattle.psy_code.specs.declared.code.AgentCode.{AgentCode}
-use Rattle.psy_code.specs.Views.{View, Deeds, nothing_done}
+use Rattle.psy_code.specs.Views.{View, nothing_done}
 use Rattle.psy_code.specs.Execution.{Machine, Copy, Run, RanTo, TrappedBy, copy_from, run_code}
 use Rattle.psy_code.specs.Execution as code
-use Rattle.psy_meaning.specs.States.{Store, State, Ended, Trapped, Outcome, Falls, Returns, Halts}
+use Rattle.psy_meaning.specs.States.{Store, State, Ended, Trapped, Outcome, Halts}
 use Rattle.psy_meaning.specs.Statements.{act}
 use Rattle.psy_meaning.specs.Rest.{rest}
 

@@ -1,5 +1,5 @@
 -- What is left of an agent's body behind each of its points.
-use Rattle.std.specs.Prelude.{ℕ, zero, suc, List, [], ◌∷◌, ◌++◌, map, Option, Some, None, slice_index_or}
+use Rattle.std.specs.Prelude.{ℕ, zero, suc, List, [], ◌∷◌, ◌++◌, map, Some, None, slice_index_or}
 use Rattle.psy_tree.specs.declared.unit.Stmt.{Stmt, para-Stmt, roll-Stmt}
 use Rattle.psy_tree.specs.declared.unit.Stmt.TheOpen.{Stmt-F}
 use Rattle.psy_meaning.specs.Statements.{Piece, Do, Hop}

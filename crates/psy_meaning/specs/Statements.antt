@@ -1,10 +1,9 @@
 -- What statements do, and functions.
-use Rattle.std.specs.Prelude.{ℕ, zero, suc, ◌+◌, Bool, true, false, ◌==◌, if◌then◌else◌, List, [], ◌∷◌, ◌++◌, map, length, Option, Some, None, ℤ, pos}
+use Rattle.std.specs.Prelude.{ℕ, zero, suc, ◌+◌, ◌==◌, if◌then◌else◌, List, [], ◌∷◌, ◌++◌, map, length, Option, Some, None, ℤ, pos}
 use Rattle.psy_arith.specs.declared.operators.Trap.TheVariants as trap
 use Rattle.psy_arith.specs.Operators.{is_zero}
 use Rattle.psy_code.specs.Views.{Send}
 use Rattle.psy_code.specs.Execution.{index_in}
-use Rattle.psy_tree.specs.declared.unit.Expr.{Expr}
 use Rattle.psy_tree.specs.declared.unit.FunctionDecl.{FunctionDecl}
 use Rattle.psy_tree.specs.declared.unit.Stmt.{Stmt, fold-Stmt}
 use Rattle.psy_tree.specs.declared.unit.Stmt.TheOpen.{Stmt-F}

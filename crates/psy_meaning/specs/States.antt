@@ -1,5 +1,5 @@
 -- What an action works on, and how expressions and statements end.
-use Rattle.std.specs.Prelude.{ℕ, zero, suc, ◌+◌, List, [], ◌∷◌, Option, Some, None, slice_get, slice_index_or, slice_set, ℤ, pos}
+use Rattle.std.specs.Prelude.{ℕ, List, [], Option, Some, None, slice_index_or, slice_set, ℤ, pos}
 use Rattle.psy_arith.specs.declared.operators.Trap.{Trap}
 use Rattle.psy_code.specs.Views.{View, Call, Deeds, tick, done, view_after}
 use Rattle.psy_code.specs.Execution.{Copy, copy_of, with_copy}

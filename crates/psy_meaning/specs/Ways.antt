@@ -1,5 +1,5 @@
 -- The ways of an action, whatever its values: each test goes either way.
-use Rattle.std.specs.Prelude.{◌≡◌, ℕ, zero, suc, ◌+◌, ◌==◌, Bool, true, false, List, [], ◌∷◌, ◌++◌, map, Option, Some, None, ◌⊎◌}
+use Rattle.std.specs.Prelude.{◌≡◌, ℕ, zero, suc, ◌+◌, List, [], ◌∷◌, ◌++◌, Option, Some, None, ◌⊎◌, ◌≢◌}
 use Rattle.psy_arith.specs.declared.operators.Op2.{Op2}
 use Rattle.psy_arith.specs.declared.operators.Op2.TheVariants as op
 use Rattle.psy_code.specs.Views.{Looked}
@@ -121,19 +121,16 @@ abbrev pub turning : ℕ → Way → Course → Course
 turning zero test body = falling (both test (both one one))
 turning (suc more) test body = or_else (falling (both test (both one one))) (behind (both test (both one one)) (and_on body (behind one (turning more test body))))
 
-abbrev pub branching : Course → Option Course → Course
-branching branch None = or_else branch (falling here)
-branching branch (Some other) = or_else (and_on branch (falling one)) other
-
-abbrev pub option_course : {X : Type 0} → (X → Course) → Option (List X) → Option Course
-option_course course None = None
-option_course course (Some stmts) = Some (courses_through course stmts)
+-- The ways of an `if` behind its test: a jump follows a first branch that has a second.
+abbrev pub branching : {X : Type 0} → (X → Course) → Course → Option (List X) → Course
+branching course branch None = or_else branch (falling here)
+branching course branch (Some other) = or_else (and_on branch (falling one)) (courses_through course other)
 
 abbrev pub course_step : (ℕ → Way) → (X : Type 0) → (X → Stmt) → (X → Course) → Stmt-F X → Course
 course_step callees X tree course (Stmt-F.Set slot value) = falling (both (expr_way callees value) one)
 course_step callees X tree course (Stmt-F.SetCopy variable value) = falling (both (expr_way callees value) one)
 course_step callees X tree course (Stmt-F.SetCell slot index value) = falling (both (expr_way callees index) (both (expr_way callees value) one))
-course_step callees X tree course (Stmt-F.If test branch other) = behind (both (expr_way callees test) one) (branching (courses_through course branch) (option_course course other))
+course_step callees X tree course (Stmt-F.If test branch other) = behind (both (expr_way callees test) one) (branching course (courses_through course branch) other)
 course_step callees X tree course (Stmt-F.Bounded test most body) = behind one (turning most (expr_way callees test) (courses_through course body))
 course_step callees X tree course (Stmt-F.Timed test body) = behind (both (expr_way callees test) one) (or_else (falling here) (courses_through course body))
 course_step callees X tree course (Stmt-F.Send value stream after clock) = falling (both (expr_way callees value) (sending stream))

@@ -1,0 +1,60 @@
+-- The bytes of the instructions, and how many operands each pops and pushes.
+use Rattle.std.specs.Prelude.{ℕ, List, [], ◌∷◌}
+use Rattle.psy_arith.specs.declared.operators.Op1.TheVariants as one
+use Rattle.psy_arith.specs.declared.table.Row.{Row}
+use Rattle.psy_code.specs.declared.instr.Binary.TheVariants as two
+use Rattle.psy_code.specs.declared.instr.Instr.{Instr}
+use Rattle.psy_code.specs.declared.instr.Instr.TheVariants as instr
+
+abbrev pub byte_of : Instr → ℕ
+byte_of (instr.Push number) = 1
+byte_of (instr.Load cell) = 2
+byte_of (instr.Store cell) = 3
+byte_of (instr.LoadCell base cells) = 4
+byte_of (instr.StoreCell base cells) = 5
+byte_of (instr.LoadCopy variable) = 6
+byte_of (instr.StoreCopy variable) = 7
+byte_of (instr.Past variable back) = 8
+byte_of (instr.Ready stream) = 9
+byte_of (instr.Take stream) = 10
+byte_of (instr.Send stream after clock) = 11
+byte_of (instr.Jump to) = 12
+byte_of (instr.JumpZero to) = 13
+byte_of (instr.AndTest to) = 14
+byte_of (instr.OrTest to) = 15
+byte_of instr.Truth = 16
+byte_of (instr.Zero counter) = 17
+byte_of (instr.Guard counter bound) = 18
+byte_of (instr.Call function) = 19
+byte_of instr.Return = 20
+byte_of (instr.Advance point) = 21
+byte_of (instr.Binary two.Mul) = 32
+byte_of (instr.Binary two.Div) = 33
+byte_of (instr.Binary two.Rem) = 34
+byte_of (instr.Binary two.Add) = 35
+byte_of (instr.Binary two.Sub) = 36
+byte_of (instr.Binary two.Shl) = 37
+byte_of (instr.Binary two.Shr) = 38
+byte_of (instr.Binary two.Lt) = 39
+byte_of (instr.Binary two.Le) = 40
+byte_of (instr.Binary two.Gt) = 41
+byte_of (instr.Binary two.Ge) = 42
+byte_of (instr.Binary two.Eq) = 43
+byte_of (instr.Binary two.Ne) = 44
+byte_of (instr.Binary two.And) = 45
+byte_of (instr.Binary two.Xor) = 46
+byte_of (instr.Binary two.Or) = 47
+byte_of (instr.Unary one.Neg) = 48
+byte_of (instr.Unary one.Flip) = 49
+byte_of (instr.Unary one.Not) = 50
+
+abbrev pub row : ℕ → ℕ → ℕ → Row
+row byte pops pushes = record { byte = byte; pops = pops; pushes = pushes }
+
+-- The table: by byte, the operands that an instruction pops and pushes.
+abbrev pub rows : List Row
+rows =
+    row 1 0 1 ∷ row 2 0 1 ∷ row 3 1 0 ∷ row 4 1 1 ∷ row 5 2 0 ∷ row 6 0 1 ∷ row 7 1 0 ∷ row 8 0 1 ∷ row 9 0 1 ∷ row 10 0 1
+    ∷ row 11 1 0 ∷ row 12 0 0 ∷ row 13 1 0 ∷ row 14 1 1 ∷ row 15 1 1 ∷ row 16 1 1 ∷ row 17 0 0 ∷ row 18 1 1 ∷ row 19 0 0 ∷ row 20 1 1
+    ∷ row 21 0 0 ∷ row 32 2 1 ∷ row 33 2 1 ∷ row 34 2 1 ∷ row 35 2 1 ∷ row 36 2 1 ∷ row 37 2 1 ∷ row 38 2 1 ∷ row 39 2 1 ∷ row 40 2 1
+    ∷ row 41 2 1 ∷ row 42 2 1 ∷ row 43 2 1 ∷ row 44 2 1 ∷ row 45 2 1 ∷ row 46 2 1 ∷ row 47 2 1 ∷ row 48 1 1 ∷ row 49 1 1 ∷ row 50 1 1 ∷ []
