@@ -1,6 +1,5 @@
-use psy_base::Items;
-
 use crate::instr::Instr;
+use psy_base::Items;
 
 /// Calls that may be open at one time.
 pub const OPEN_CALLS: u32 = 64;

@@ -4,8 +4,11 @@
 
 mod code;
 mod instr;
+pub mod laws;
 mod look;
 mod rows;
+#[cfg(test)]
+mod tests;
 
 pub use code::{AgentCode, Code, CopyInit, FunctionCode, OPEN_CALLS};
 pub use instr::{Binary, Instr};

@@ -1,0 +1,55 @@
+-- Each instruction of the loop leaves the machine as it stands at the next place.
+use Rattle.std.proofs.Common.{◌≡◌, arith}
+use Rattle.std.specs.Prelude.{nat_lt, ℕ, zero, suc, ◌+◌, ◌==◌, Bool, true, false, if◌then◌else◌, List, [], ◌∷◌, ℤ, pos, negsuc}
+use Rattle.psy_code.specs.Execution.{Machine, Next, next_of, within}
+use Rattle.psy_code.specs.Views.{View}
+use Rattle.psy_bench.specs.Loop.{Stands, GoesOn, Cells, loop_code, agent_code, at_0, at_1, at_2, at_3, at_4, at_5, at_6, at_7, at_8, at_9, at_10, at_11, at_12, at_13, at_14, at_15, at_16, at_17, at_18, at_19, at_20, at_21, at_22, at_23, at_24, at_25, at_26, at_27, at_28, at_29, at_30}
+
+either_way : (b : Bool) (x y : Next) → GoesOn (within agent_code x) → GoesOn (within agent_code y) → GoesOn (within agent_code (if b then x else y))
+either_way true x y p q = p
+either_way false x y p q = q
+
+too_great : (n : ℕ) → nat_lt (suc (suc (suc (suc n)))) 4 ≡ false
+too_great n = grind arith
+
+pub keeps : (view : View) (m : Machine) → Stands m → GoesOn (next_of loop_code agent_code view m)
+keeps view m at_0 = at_1
+keeps view m at_1 = at_2
+keeps view m at_2 = at_3
+keeps view m at_3 = at_4
+keeps view m (at_4 {x = pos zero}) = at_5
+keeps view m (at_4 {x = pos (suc n)} {k = k}) = either_way (k == 8) _ _ _ at_5
+keeps view m (at_4 {x = negsuc n} {k = k}) = either_way (k == 8) _ _ _ at_5
+keeps view m (at_5 {x = pos zero}) = at_21
+keeps view m (at_5 {x = pos (suc n)}) = at_6
+keeps view m (at_5 {x = negsuc n}) = at_6
+keeps view m at_6 = at_7
+keeps view m at_7 = at_8
+keeps view m at_8 = at_25
+keeps view m at_9 = at_10
+keeps view m at_10 = at_11
+keeps view m at_11 = at_12
+keeps view m at_12 = at_13
+keeps view m at_13 = at_14
+keeps view m at_14 = at_15
+keeps view m (at_15 {y = pos zero}) = at_16
+keeps view m (at_15 {y = pos (suc zero)}) = at_16
+keeps view m (at_15 {y = pos (suc (suc zero))}) = at_16
+keeps view m (at_15 {y = pos (suc (suc (suc zero)))}) = at_16
+keeps view m (at_15 {y = pos (suc (suc (suc (suc n))))}) = rw (too_great n) (tt {0})
+keeps view m (at_15 {y = negsuc n}) = tt {0}
+keeps view m at_16 = at_17
+keeps view m at_17 = at_18
+keeps view m at_18 = at_19
+keeps view m at_19 = at_20
+keeps view m at_20 = at_1
+keeps view m at_21 = at_22
+keeps view m at_22 = at_23
+keeps view m at_23 = at_24
+keeps view m at_24 = at_0
+keeps view m at_25 = at_26
+keeps view m at_26 = at_27
+keeps view m at_27 = at_28
+keeps view m at_28 = at_29
+keeps view m at_29 = at_30
+keeps view m at_30 = at_9

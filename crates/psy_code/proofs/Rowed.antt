@@ -1,0 +1,52 @@
+-- Each instruction has a row.
+use Rattle.std.specs.Prelude.{◌≡◌, Some}
+use Rattle.std.proofs.Common.{refl}
+use Rattle.psy_arith.specs.declared.operators.Op1.TheVariants as one
+use Rattle.psy_arith.specs.declared.table.Row.{Row}
+use Rattle.psy_arith.specs.Tables.{row_of}
+use Rattle.psy_code.specs.declared.instr.Binary.TheVariants as two
+use Rattle.psy_code.specs.declared.instr.Instr.{Instr}
+use Rattle.psy_code.specs.declared.instr.Instr.TheVariants as instr
+use Rattle.psy_code.specs.Rows.{byte_of, rows}
+
+pub has_row : (i : Instr) → (r : Row) × (row_of (byte_of i) rows ≡ Some r)
+has_row (instr.Push n) = (_, refl)
+has_row (instr.Load n) = (_, refl)
+has_row (instr.Store n) = (_, refl)
+has_row (instr.LoadCell b n) = (_, refl)
+has_row (instr.StoreCell b n) = (_, refl)
+has_row (instr.LoadCopy v) = (_, refl)
+has_row (instr.StoreCopy v) = (_, refl)
+has_row (instr.Past v b) = (_, refl)
+has_row (instr.Ready s) = (_, refl)
+has_row (instr.Take s) = (_, refl)
+has_row (instr.Send s a c) = (_, refl)
+has_row (instr.Jump t) = (_, refl)
+has_row (instr.JumpZero t) = (_, refl)
+has_row (instr.AndTest t) = (_, refl)
+has_row (instr.OrTest t) = (_, refl)
+has_row instr.Truth = (_, refl)
+has_row (instr.Zero c) = (_, refl)
+has_row (instr.Guard c b) = (_, refl)
+has_row (instr.Call f) = (_, refl)
+has_row instr.Return = (_, refl)
+has_row (instr.Advance p) = (_, refl)
+has_row (instr.Binary two.Mul) = (_, refl)
+has_row (instr.Binary two.Div) = (_, refl)
+has_row (instr.Binary two.Rem) = (_, refl)
+has_row (instr.Binary two.Add) = (_, refl)
+has_row (instr.Binary two.Sub) = (_, refl)
+has_row (instr.Binary two.Shl) = (_, refl)
+has_row (instr.Binary two.Shr) = (_, refl)
+has_row (instr.Binary two.Lt) = (_, refl)
+has_row (instr.Binary two.Le) = (_, refl)
+has_row (instr.Binary two.Gt) = (_, refl)
+has_row (instr.Binary two.Ge) = (_, refl)
+has_row (instr.Binary two.Eq) = (_, refl)
+has_row (instr.Binary two.Ne) = (_, refl)
+has_row (instr.Binary two.And) = (_, refl)
+has_row (instr.Binary two.Xor) = (_, refl)
+has_row (instr.Binary two.Or) = (_, refl)
+has_row (instr.Unary one.Neg) = (_, refl)
+has_row (instr.Unary one.Flip) = (_, refl)
+has_row (instr.Unary one.Not) = (_, refl)

@@ -1,0 +1,107 @@
+use crate::{Binary, Instr, instructions};
+use psy_arith::{Op1, Op2, Row};
+
+#[test]
+fn an_instruction_has_its_byte_and_its_row(rt: HostRuntime) {
+    let table = instructions();
+    for (instr, byte, pops, pushes) in [
+        (Instr::Push(-1), 0x01, 0, 1),
+        (Instr::Load(2), 0x02, 0, 1),
+        (Instr::Store(2), 0x03, 1, 0),
+        (Instr::LoadCell { base: 1, cells: 2 }, 0x04, 1, 1),
+        (Instr::StoreCell { base: 1, cells: 2 }, 0x05, 2, 0),
+        (Instr::LoadCopy(3), 0x06, 0, 1),
+        (Instr::StoreCopy(3), 0x07, 1, 0),
+        (
+            Instr::Past {
+                variable: 3,
+                back: 0,
+            },
+            0x08,
+            0,
+            1,
+        ),
+        (Instr::Ready(4), 0x09, 0, 1),
+        (Instr::Take(4), 0x0A, 0, 1),
+        (
+            Instr::Send {
+                stream: 4,
+                after: 0,
+                clock: 1,
+            },
+            0x0B,
+            1,
+            0,
+        ),
+        (Instr::Jump(5), 0x0C, 0, 0),
+        (Instr::JumpZero(5), 0x0D, 1, 0),
+        (Instr::AndTest(5), 0x0E, 1, 1),
+        (Instr::OrTest(5), 0x0F, 1, 1),
+        (Instr::Truth, 0x10, 1, 1),
+        (Instr::Zero(0), 0x11, 0, 0),
+        (
+            Instr::Guard {
+                counter: 0,
+                bound: 9,
+            },
+            0x12,
+            1,
+            1,
+        ),
+        (Instr::Call(6), 0x13, 0, 0),
+        (Instr::Return, 0x14, 1, 1),
+        (Instr::Advance(1), 0x15, 0, 0),
+        (Instr::Unary(Op1::Neg), 0x30, 1, 1),
+        (Instr::Unary(Op1::Flip), 0x31, 1, 1),
+        (Instr::Unary(Op1::Not), 0x32, 1, 1),
+    ] {
+        assert_eq!(rt; instr.byte(), byte, "byte of {instr:?}");
+        assert_eq!(rt;
+            table.find(byte),
+            Some(Row { byte, pops, pushes }),
+            "row of {instr:?}"
+        );
+    }
+    for byte in [0x00, 0x16, 0x1F, 0x33, 0xFF] {
+        assert_eq!(rt; table.find(byte), None, "no instruction has {byte}");
+    }
+}
+
+#[test]
+fn a_binary_operator_has_its_byte_and_its_name(rt: HostRuntime) {
+    let table = instructions();
+    for (operator, byte, op) in [
+        (Binary::Mul, 0x20, Op2::Mul),
+        (Binary::Div, 0x21, Op2::Div),
+        (Binary::Rem, 0x22, Op2::Rem),
+        (Binary::Add, 0x23, Op2::Add),
+        (Binary::Sub, 0x24, Op2::Sub),
+        (Binary::Shl, 0x25, Op2::Shl),
+        (Binary::Shr, 0x26, Op2::Shr),
+        (Binary::Lt, 0x27, Op2::Lt),
+        (Binary::Le, 0x28, Op2::Le),
+        (Binary::Gt, 0x29, Op2::Gt),
+        (Binary::Ge, 0x2A, Op2::Ge),
+        (Binary::Eq, 0x2B, Op2::Eq),
+        (Binary::Ne, 0x2C, Op2::Ne),
+        (Binary::And, 0x2D, Op2::And),
+        (Binary::Xor, 0x2E, Op2::Xor),
+        (Binary::Or, 0x2F, Op2::Or),
+    ] {
+        assert_eq!(rt;
+            Instr::Binary(operator).byte(),
+            byte,
+            "byte of {operator:?}"
+        );
+        assert_eq!(rt;
+            table.find(byte),
+            Some(Row {
+                byte,
+                pops: 2,
+                pushes: 1
+            }),
+            "row of {operator:?}"
+        );
+        assert_eq!(rt; operator.op(), op, "name of {operator:?}");
+    }
+}
