@@ -1,12 +1,14 @@
 -- The ways of an action, whatever its values: each test goes either way.
-use Rattle.std.specs.Prelude.{◌≡◌, ℕ, zero, suc, ◌+◌, List, [], ◌∷◌, ◌++◌, Option, Some, None, ◌⊎◌, ◌≢◌}
+use Rattle.std.specs.List.{All, list_any}
+use Rattle.std.specs.Prelude.{map, Bool, true, false, ◌||◌, ◌≡◌, ℕ, zero, suc, ◌+◌, List, [], ◌∷◌, ◌++◌, Option, Some, None, ◌⊎◌, ◌≢◌}
 use Rattle.psy_arith.specs.declared.operators.Op2.{Op2}
 use Rattle.psy_arith.specs.declared.operators.Op2.TheVariants as op
-use Rattle.psy_code.specs.Views.{Looked}
+use Rattle.psy_code.specs.declared.look.Sent.{Sent}
+use Rattle.psy_code.specs.Views.{Looked, Deeds}
 use Rattle.psy_tree.specs.declared.unit.Expr.{Expr, rec-Expr}
 use Rattle.psy_tree.specs.declared.unit.Expr.TheOpen.{Expr-F}
 use Rattle.psy_tree.specs.declared.unit.FunctionDecl.{FunctionDecl}
-use Rattle.psy_tree.specs.declared.unit.Stmt.{Stmt, rec-Stmt}
+use Rattle.psy_tree.specs.declared.unit.Stmt.{Stmt, fold-Stmt, rec-Stmt}
 use Rattle.psy_tree.specs.declared.unit.Stmt.TheOpen.{Stmt-F}
 use Rattle.psy_meaning.specs.Statements.{Piece, Do, Hop}
 
@@ -18,6 +20,13 @@ pub record Meter : Type 0 where
 
 abbrev pub unmetered : Meter
 unmetered = record { steps = 0; looks = []; sends = [] }
+
+abbrev pub streams_of : List Sent → List ℕ
+streams_of sends = map (λ s. s.stream) sends
+
+-- What an action met
+abbrev pub met_by : Deeds → Meter
+met_by deeds = record { steps = deeds.steps; looks = deeds.looks; sends = streams_of deeds.sends }
 
 -- From what was met before to what is met with it
 abbrev pub Way : Type 1
@@ -132,7 +141,7 @@ course_step callees X tree course (Stmt-F.SetCopy variable value) = falling (bot
 course_step callees X tree course (Stmt-F.SetCell slot index value) = falling (both (expr_way callees index) (both (expr_way callees value) one))
 course_step callees X tree course (Stmt-F.If test branch other) = behind (both (expr_way callees test) one) (branching course (courses_through course branch) other)
 course_step callees X tree course (Stmt-F.Bounded test most body) = behind one (turning most (expr_way callees test) (courses_through course body))
-course_step callees X tree course (Stmt-F.Timed test body) = behind (both (expr_way callees test) one) (or_else (falling here) (courses_through course body))
+course_step callees X tree course (Stmt-F.Timed test body) = behind (both (expr_way callees test) one) (or_else (courses_through course body) (falling here))
 course_step callees X tree course (Stmt-F.Send value stream after clock) = falling (both (expr_way callees value) (sending stream))
 course_step callees X tree course (Stmt-F.Advance point) = reaching point one
 course_step callees X tree course (Stmt-F.Return value) = returning (both (expr_way callees value) one)
@@ -140,15 +149,32 @@ course_step callees X tree course (Stmt-F.Return value) = returning (both (expr_
 abbrev pub course_by : (ℕ → Way) → Stmt → Course
 course_by callees = rec-Stmt Course (course_step callees)
 
+-- Whether a statement holds an `advance`
+abbrev pub holds_step : Stmt-F Bool → Bool
+holds_step (Stmt-F.Advance point) = true
+holds_step (Stmt-F.If test branch None) = list_any (λ b. b) branch
+holds_step (Stmt-F.If test branch (Some other)) = list_any (λ b. b) branch || list_any (λ b. b) other
+holds_step (Stmt-F.Bounded test most body) = list_any (λ b. b) body
+holds_step (Stmt-F.Timed test body) = list_any (λ b. b) body
+holds_step _ = false
+
+abbrev pub holds_advance : Stmt → Bool
+holds_advance = fold-Stmt Bool holds_step
+
+-- No function holds an `advance`.
+abbrev pub NoneAdvances : List FunctionDecl → Type 0
+NoneAdvances functions = All (λ f. list_any holds_advance f.stmts ≡ false) functions
+
 -- ---- functions
 
--- A function's way comes back by a `return`, or by falling through, which costs two instructions.
-abbrev pub callee_way : (ℕ → Way) → FunctionDecl → Way
-callee_way above function = either (course Back) (both (course Fell) (both one one))
-  where
-    course : Course
-    course = courses_through (course_by above) function.stmts
+-- Back in the caller by a `return`, or by falling through, which costs two instructions
+abbrev pub back_way : Course → Way
+back_way course = either (course Back) (both (course Fell) (both one one))
 
+abbrev pub callee_way : (ℕ → Way) → FunctionDecl → Way
+callee_way above function = back_way (courses_through (course_by above) function.stmts)
+
+-- One function more, of this number
 abbrev pub with_way : ℕ → Way → (ℕ → Way) → ℕ → Way
 with_way number last above function before now = ((function ≡ number) × last before now) ⊎ ((function ≢ number) × above function before now)
 

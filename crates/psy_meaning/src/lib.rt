@@ -1,6 +1,7 @@
 //! What programs mean.
 #![tactic(auto)]
 
+pub mod laws;
 ghost use Rattle.psy_meaning.specs.Alike.{ActsAlike};
 ghost use Rattle.psy_meaning.specs.Ways.{IsWay};
 

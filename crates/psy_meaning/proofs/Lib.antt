@@ -1,0 +1,3 @@
+mod CalleeRuns
+mod Runs
+mod StatementRuns
