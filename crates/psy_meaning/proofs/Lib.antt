@@ -1,3 +1,6 @@
 mod CalleeRuns
+mod Endings
+mod NoWays
+mod Rests
 mod Runs
 mod StatementRuns

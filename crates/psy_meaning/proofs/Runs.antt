@@ -1,6 +1,6 @@
 -- What an expression or a statement does is one of its ways.
-use Rattle.std.proofs.Common.{◌≡◌, refl, sym, ap, subst, ◌∙◌, inl, inr}
-use Rattle.std.specs.Prelude.{ℕ, zero, suc, ◌+◌, Bool, true, false, not, length, if◌then◌else◌, List, [], ◌∷◌, ◌++◌, map, Option, Some, None, ℤ, pos, negsuc, ⊤}
+use Rattle.std.proofs.Common.{◌≡◌, refl, sym, ap, subst, inl, inr}
+use Rattle.std.specs.Prelude.{ℕ, Bool, true, false, not, length, if◌then◌else◌, List, [], ◌∷◌, map, Option, Some, None, ℤ, pos, ⊤}
 use Rattle.psy_arith.specs.declared.operators.Op2.{Op2}
 use Rattle.psy_arith.specs.declared.operators.Op2.TheVariants as op
 use Rattle.psy_arith.specs.declared.operators.Trap.{Trap}
@@ -10,10 +10,10 @@ use Rattle.std.specs.Int.{w32}
 use Rattle.psy_code.specs.Execution.{index_in}
 use Rattle.psy_tree.specs.declared.unit.Expr.{Expr, roll-Expr, fold-roll-Expr, rec-roll-Expr, map-Expr, ind-Expr}
 use Rattle.psy_tree.specs.declared.unit.Expr.TheOpen.{Expr-F}
-use Rattle.psy_code.specs.Views.{Call, Take, next_in}
-use Rattle.psy_meaning.specs.States.{State, Final, Ended, Trapped, Got, Value, Stops, Outcome, Falls, Returns, Halts, Eval, Act, Callee, and_then, with_value, then_do, cost_1, asking, or_stop, cells_at, value_at}
-use Rattle.psy_meaning.specs.Expressions.{expr_step, eval, in_order, binary, truth_of, applied, element, take_from}
-use Rattle.psy_meaning.specs.Ways.{Meter, Way, Course, End, Fell, Back, To, met_by, one, both, either, here, ways_through, binary_way, expr_way_step, expr_way}
+use Rattle.psy_code.specs.Views.{Take, next_in}
+use Rattle.psy_meaning.specs.States.{State, Ended, Trapped, Got, Value, Stops, Eval, Callee, and_then, cost_1, asking, or_stop, cells_at, value_at}
+use Rattle.psy_meaning.specs.Expressions.{expr_step, eval, in_order, binary, truth_of, applied, element}
+use Rattle.psy_meaning.specs.Ways.{Meter, Way, met_by, one, both, either, here, ways_through, binary_way, expr_way_step, expr_way}
 
 abbrev pub met : State → Meter
 met s = met_by s.deeds
@@ -58,7 +58,6 @@ natural ways X v k (Expr-F.Binary operator left right) = refl
 natural ways X v k (Expr-F.Call function arguments) = ap (λ w. both w (both one (ways function))) (through-map v k arguments)
 
 module _ (callees : ℕ → Callee) (ways : ℕ → Way) (all : AllAlong callees ways) where
-
   abbrev P : Expr → Type 0
   P e = Along (eval callees e) (expr_way ways e)
 
@@ -150,4 +149,3 @@ module _ (callees : ℕ → Callee) (ways : ℕ → Way) (all : AllAlong callees
 
   pub along : (e : Expr) → P e
   along = ind-Expr P (λ x y is. subst (λ z. P (roll-Expr z)) is (layer y))
-

@@ -1,7 +1,7 @@
 -- What statements do is one of their ways.
 use Rattle.std.proofs.Common.{◌≡◌, refl, sym, ap, subst, ◌∙◌, inl, inr}
 use Rattle.std.proofs.lemmas.List.{map-append}
-use Rattle.std.specs.Prelude.{ℕ, zero, suc, ◌+◌, ◌++◌, length, Bool, true, false, if◌then◌else◌, List, [], ◌∷◌, map, Option, Some, None, ℤ, ⊤}
+use Rattle.std.specs.Prelude.{ℕ, zero, suc, ◌+◌, length, Bool, true, false, if◌then◌else◌, List, [], ◌∷◌, map, Option, Some, None, ℤ, ⊤}
 use Rattle.psy_arith.specs.declared.operators.Trap.{Trap}
 use Rattle.psy_arith.specs.declared.operators.Trap.TheVariants as trap
 use Rattle.psy_arith.specs.Operators.{is_zero}
@@ -11,10 +11,10 @@ use Rattle.psy_code.specs.Execution.{index_in}
 use Rattle.psy_tree.specs.declared.unit.Expr.{Expr}
 use Rattle.psy_tree.specs.declared.unit.Stmt.{Stmt, roll-Stmt, fold-roll-Stmt, rec-roll-Stmt, map-Stmt, ind-Stmt}
 use Rattle.psy_tree.specs.declared.unit.Stmt.TheOpen.{Stmt-F}
-use Rattle.psy_meaning.specs.States.{State, Final, Ended, Trapped, Got, Value, Stops, Outcome, Falls, Returns, Halts, Eval, Act, Callee, with_value, then_do, cost_1, asking, trapping, or_halt, cells_at, with_slot, with_copy_at}
+use Rattle.psy_meaning.specs.States.{State, Ended, Trapped, Got, Value, Stops, Outcome, Falls, Returns, Halts, Eval, Act, Callee, with_value, then_do, cost_1, asking, trapping, or_halt, cells_at, with_slot, with_copy_at}
 use Rattle.psy_meaning.specs.Expressions.{eval}
-use Rattle.psy_meaning.specs.Statements.{all_of, choose, hop, turns, branches, set_element, stmt_step, act_by, acts_by, Piece, Do, Hop, piece_by}
-use Rattle.psy_meaning.specs.Ways.{Meter, Way, Course, End, Fell, Back, To, no_way, here, one, both, either, sending, falling, returning, reaching, leaving, behind, and_on, or_else, courses_through, turning, branching, course_step, course_by, expr_way, piece_course}
+use Rattle.psy_meaning.specs.Statements.{all_of, choose, hop, turns, set_element, stmt_step, act_by, acts_by, Piece, Do, Hop, piece_by}
+use Rattle.psy_meaning.specs.Ways.{Meter, Way, Course, Fell, Back, To, here, one, both, sending, falling, returning, behind, and_on, or_else, courses_through, turning, course_step, course_by, expr_way, piece_course}
 use Rattle.psy_meaning.proofs.Runs.{met, GotBy, Along, AllAlong, along}
 
 -- The outcome was come to by a way of this course.
@@ -96,8 +96,8 @@ choose_along : (test : Eval) (way : Way) (holds fails : Act) (this that : Course
 choose_along test way holds fails this that p g h s =
     out_together way one (or_else this that) (met s) (choose test holds fails s)
     (out_value way (behind one (or_else this that)) (met s) (test s) _ (p s)
-      (λ v t. out_further one (met t) (met (cost_1 t)) (or_else this that) (if is_zero v then fails (cost_1 t) else holds (cost_1 t)) refl
-        (choice (is_zero v) this that (met (cost_1 t)) (fails (cost_1 t)) (holds (cost_1 t)) (h (cost_1 t)) (g (cost_1 t)))))
+    (λ v t. out_further one (met t) (met (cost_1 t)) (or_else this that) (if is_zero v then fails (cost_1 t) else holds (cost_1 t)) refl
+    (choice (is_zero v) this that (met (cost_1 t)) (fails (cost_1 t)) (holds (cost_1 t)) (h (cost_1 t)) (g (cost_1 t)))))
 
 abbrev two : Way
 two = both one one
@@ -121,7 +121,7 @@ test_along false way body course more m t go w g h =
     let o : Outcome = then_do (body (cost_2 t)) (λ u. go (cost_1 u)) in
     out_right (falling (both way two)) (behind (both way two) (and_on course (behind one more))) m o
     (out_further (both way two) m (met (cost_2 t)) (and_on course (behind one more)) o (met t, w, two_on t)
-      (out_then course (behind one more) (met (cost_2 t)) (body (cost_2 t)) (λ u. go (cost_1 u)) (g (cost_2 t)) (λ u. out_further one (met u) (met (cost_1 u)) more (go (cost_1 u)) refl (h (cost_1 u)))))
+    (out_then course (behind one more) (met (cost_2 t)) (body (cost_2 t)) (λ u. go (cost_1 u)) (g (cost_2 t)) (λ u. out_further one (met u) (met (cost_1 u)) more (go (cost_1 u)) refl (h (cost_1 u)))))
 
 turn_along : (way : Way) (body : Act) (course more : Course) (m : Meter) (got : Got) (go : Act) → GotBy way m got → ActsAlong body course → ActsAlong go more → OutBy (turn way course more) m (with_value got (λ v t. if is_zero v then Falls (cost_2 t) else then_do (body (cost_2 t)) (λ u. go (cost_1 u))))
 turn_along way body course more m (Value v t) go w g h = test_along (is_zero v) way body course more m t go w g h
@@ -153,7 +153,6 @@ natural ways X v k (Stmt-F.Advance point) = refl
 natural ways X v k (Stmt-F.Return value) = refl
 
 module _ (callees : ℕ → Callee) (ways : ℕ → Way) (all : AllAlong callees ways) where
-
   abbrev P : Stmt → Type 0
   P stmt = ActsAlong (act_by callees stmt) (course_by ways stmt)
 
@@ -181,7 +180,7 @@ module _ (callees : ℕ → Callee) (ways : ℕ → Way) (all : AllAlong callees
   set_cell_along slot index value s =
       out_falling (expr_way ways index) (both (expr_way ways value) one) (met s) _
       (out_value (expr_way ways index) (falling (both (expr_way ways value) one)) (met s) (eval callees index s) _ (known index s)
-        (λ i t. out_falling (expr_way ways value) one (met t) _ (out_value (expr_way ways value) (falling one) (met t) (eval callees value t) _ (known value t) (λ v u. set_element_along slot i v u))))
+      (λ i t. out_falling (expr_way ways value) one (met t) _ (out_value (expr_way ways value) (falling one) (met t) (eval callees value t) _ (known value t) (λ v u. set_element_along slot i v u))))
 
   sent_along : (sent : Sent) (s : State) → sending sent.stream (met s) (met (asking (Send sent) s))
   sent_along sent s = ap (λ streams. record { steps = s.deeds.steps + 1; looks = s.deeds.looks; sends = streams }) (map-append (λ (x : Sent). x.stream) s.deeds.sends (sent ∷ []))
@@ -193,7 +192,7 @@ module _ (callees : ℕ → Callee) (ways : ℕ → Way) (all : AllAlong callees
   step_along (Stmt-F.If test branch None) s = choose_along (eval callees test) (expr_way ways test) _ Falls (courses_through (course_by ways) (map tree branch)) (falling here) (known test) (all_along branch) (λ t. refl) s
   step_along (Stmt-F.If test branch (Some other)) s =
       choose_along (eval callees test) (expr_way ways test) _ _ (and_on (courses_through (course_by ways) (map tree branch)) (falling one)) (courses_through (course_by ways) (map tree other)) (known test)
-        (λ t. out_then (courses_through (course_by ways) (map tree branch)) (falling one) (met t) (all_of (map (act_by callees) (map tree branch)) t) hop (all_along branch t) (λ u. refl)) (all_along other) s
+      (λ t. out_then (courses_through (course_by ways) (map tree branch)) (falling one) (met t) (all_of (map (act_by callees) (map tree branch)) t) hop (all_along branch t) (λ u. refl)) (all_along other) s
   step_along (Stmt-F.Bounded test most body) s =
       out_further one (met s) (met (cost_1 s)) (turning most (expr_way ways test) (courses_through (course_by ways) (map tree body))) (turns most (eval callees test) (all_of (map (act_by callees) (map tree body))) (cost_1 s)) refl
       (turns_along most (eval callees test) (expr_way ways test) (all_of (map (act_by callees) (map tree body))) (courses_through (course_by ways) (map tree body)) (known test) (all_along body) (cost_1 s))

@@ -9,7 +9,7 @@ use Rattle.psy_code.specs.Views.{View, Past, Ready, Take, past_of, messages_of, 
 use Rattle.psy_code.specs.Execution.{index_in}
 use Rattle.psy_tree.specs.declared.unit.Expr.{Expr, fold-Expr}
 use Rattle.psy_tree.specs.declared.unit.Expr.TheOpen.{Expr-F}
-use Rattle.psy_meaning.specs.States.{State, Got, Value, Stops, Eval, Callee, and_then, cost_1, asking, or_stop, cells_at, value_at, copy_at, or_zero}
+use Rattle.psy_meaning.specs.States.{State, Got, Value, Eval, Callee, and_then, cost_1, asking, or_stop, cells_at, value_at, copy_at, or_zero}
 
 -- The cell of an array that an index names
 abbrev pub element : ℕ → ℤ → State → Got

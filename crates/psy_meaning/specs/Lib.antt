@@ -1,5 +1,6 @@
 pub mod Alike
 pub mod Expressions
+pub mod Paths
 pub mod Rest
 pub mod States
 pub mod Statements

@@ -1,6 +1,5 @@
 -- The ways of an action, whatever its values: each test goes either way.
-use Rattle.std.specs.List.{All, list_any}
-use Rattle.std.specs.Prelude.{map, Bool, true, false, ◌||◌, ◌≡◌, ℕ, zero, suc, ◌+◌, List, [], ◌∷◌, ◌++◌, Option, Some, None, ◌⊎◌, ◌≢◌}
+use Rattle.std.specs.Prelude.{map, ◌≡◌, ℕ, zero, suc, ◌+◌, List, [], ◌∷◌, ◌++◌, Option, Some, None, ◌⊎◌, ◌≢◌}
 use Rattle.psy_arith.specs.declared.operators.Op2.{Op2}
 use Rattle.psy_arith.specs.declared.operators.Op2.TheVariants as op
 use Rattle.psy_code.specs.declared.look.Sent.{Sent}
@@ -8,7 +7,7 @@ use Rattle.psy_code.specs.Views.{Looked, Deeds}
 use Rattle.psy_tree.specs.declared.unit.Expr.{Expr, rec-Expr}
 use Rattle.psy_tree.specs.declared.unit.Expr.TheOpen.{Expr-F}
 use Rattle.psy_tree.specs.declared.unit.FunctionDecl.{FunctionDecl}
-use Rattle.psy_tree.specs.declared.unit.Stmt.{Stmt, fold-Stmt, rec-Stmt}
+use Rattle.psy_tree.specs.declared.unit.Stmt.{Stmt, rec-Stmt}
 use Rattle.psy_tree.specs.declared.unit.Stmt.TheOpen.{Stmt-F}
 use Rattle.psy_meaning.specs.Statements.{Piece, Do, Hop}
 
@@ -148,22 +147,6 @@ course_step callees X tree course (Stmt-F.Return value) = returning (both (expr_
 
 abbrev pub course_by : (ℕ → Way) → Stmt → Course
 course_by callees = rec-Stmt Course (course_step callees)
-
--- Whether a statement holds an `advance`
-abbrev pub holds_step : Stmt-F Bool → Bool
-holds_step (Stmt-F.Advance point) = true
-holds_step (Stmt-F.If test branch None) = list_any (λ b. b) branch
-holds_step (Stmt-F.If test branch (Some other)) = list_any (λ b. b) branch || list_any (λ b. b) other
-holds_step (Stmt-F.Bounded test most body) = list_any (λ b. b) body
-holds_step (Stmt-F.Timed test body) = list_any (λ b. b) body
-holds_step _ = false
-
-abbrev pub holds_advance : Stmt → Bool
-holds_advance = fold-Stmt Bool holds_step
-
--- No function holds an `advance`.
-abbrev pub NoneAdvances : List FunctionDecl → Type 0
-NoneAdvances functions = All (λ f. list_any holds_advance f.stmts ≡ false) functions
 
 -- ---- functions
 

@@ -1,12 +1,5 @@
-//! What programs mean.
+//! What programs mean: the definitions of what expressions, statements and actions do and cost, of the
+//! ways that an action may take, and of code that acts alike; and their laws. Nothing runs here.
 #![tactic(auto)]
 
 pub mod laws;
-ghost use Rattle.psy_meaning.specs.Alike.{ActsAlike};
-ghost use Rattle.psy_meaning.specs.Ways.{IsWay};
-
-use psy_code::{Code, Sent};
-use psy_tree::Unit;
-pub fn nothing(unit: &Unit, code: &Code) 
-  requires { ActsAlike unit.now code.now}
-{}

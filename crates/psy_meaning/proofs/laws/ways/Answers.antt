@@ -1,5 +1,5 @@
 use Rattle.std.proofs.Common.{subst}
-use Rattle.psy_meaning.specs.Statements.{callees_of, act}
+use Rattle.psy_meaning.specs.Statements.{callees_of}
 use Rattle.psy_meaning.specs.Ways.{To, Course, met_by, courses_through, piece_course, callee_ways}
 use Rattle.psy_meaning.proofs.CalleeRuns.{callees_along}
 use Rattle.psy_meaning.proofs.StatementRuns.{OutBy, pieces_along}

@@ -1,0 +1,28 @@
+-- An action ends at an `advance` or traps.
+use Rattle.std.proofs.Common.{◌≡◌, refl}
+use Rattle.std.specs.Prelude.{ℕ, zero, suc, false, true, List, [], ◌∷◌, map, None, slice_index_or}
+use Rattle.psy_tree.specs.declared.unit.Stmt.{Stmt}
+use Rattle.psy_meaning.specs.States.{Final, Outcome, Falls, Returns, Halts}
+use Rattle.psy_meaning.specs.Statements.{Piece, Do, Hop}
+use Rattle.psy_meaning.specs.Paths.{quiet_list}
+use Rattle.psy_meaning.specs.Rest.{pieces_of, rests_in, with_rests, rest}
+use Rattle.psy_meaning.specs.Ways.{Meter, Way, Course, Fell, Back, here, one, falling, courses_through, course_by, piece_course}
+use Rattle.psy_meaning.proofs.NoWays.{NoWay, none, none_on, none_falling, no_fall_second, no_fall_through, no_fall_behind}
+use Rattle.psy_meaning.proofs.StatementRuns.{OutBy}
+use Rattle.psy_meaning.proofs.Rests.{AllFine}
+
+pub no_fall : (ways : ℕ → Way) (body : List Stmt) (point : ℕ) → quiet_list body ≡ false → NoWay Fell (courses_through (piece_course ways) (rest body point))
+no_fall ways body zero h = no_fall_through ways body h
+no_fall ways body (suc n) h =
+    no_fall_behind ways (slice_index_or (rests_in (map with_rests body)) n []) (Hop ∷ pieces_of body)
+    (no_fall_second (falling one) (courses_through (piece_course ways) (pieces_of body)) (no_fall_through ways body h))
+
+pub no_back : (ways : ℕ → Way) (pieces : List Piece) → AllFine pieces → NoWay Back (courses_through (piece_course ways) pieces)
+no_back ways [] p = none_falling None here
+no_back ways (Do stmt ∷ ps) p = none_on None (course_by ways stmt) (courses_through (piece_course ways) ps) (none ways false true None refl stmt p.0) (no_back ways ps p.1)
+no_back ways (Hop ∷ ps) p = none_on None (falling one) (courses_through (piece_course ways) ps) (none_falling None one) (no_back ways ps p.1)
+
+pub ended : (course : Course) (m : Meter) (o p : Outcome) → NoWay Fell course → NoWay Back course → OutBy course m o → p ≡ o → (final : Final) × (p ≡ Halts final)
+ended course m (Falls t) p f b g e = elim (f m _ g) [ ]
+ended course m (Returns v t) p f b g e = elim (b m _ g) [ ]
+ended course m (Halts final) p f b g e = (final, e)

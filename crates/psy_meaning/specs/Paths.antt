@@ -1,0 +1,49 @@
+-- What statements hold, and whether a path through them meets an `advance`.
+use Rattle.std.specs.Prelude.{◌≡◌, Bool, true, false, ◌||◌, List, Some, None}
+use Rattle.std.specs.List.{All, list_all, list_any}
+use Rattle.psy_tree.specs.declared.unit.FunctionDecl.{FunctionDecl}
+use Rattle.psy_tree.specs.declared.unit.Stmt.{Stmt, fold-Stmt}
+use Rattle.psy_tree.specs.declared.unit.Stmt.TheOpen.{Stmt-F}
+
+abbrev pub one_of : List Bool → Bool
+one_of bs = list_any (λ b. b) bs
+
+-- Whether a statement holds one that counts: an `advance`, or a `return`.
+abbrev pub holds_step : Bool → Bool → Stmt-F Bool → Bool
+holds_step advance back (Stmt-F.Advance point) = advance
+holds_step advance back (Stmt-F.Return value) = back
+holds_step advance back (Stmt-F.If test branch None) = one_of branch
+holds_step advance back (Stmt-F.If test branch (Some other)) = one_of branch || one_of other
+holds_step advance back (Stmt-F.Bounded test most body) = one_of body
+holds_step advance back (Stmt-F.Timed test body) = one_of body
+holds_step advance back _ = false
+
+abbrev pub holds : Bool → Bool → Stmt → Bool
+holds advance back = fold-Stmt Bool (holds_step advance back)
+
+abbrev pub holds_advance : List Stmt → Bool
+holds_advance stmts = list_any (holds true false) stmts
+
+abbrev pub holds_return : List Stmt → Bool
+holds_return stmts = list_any (holds false true) stmts
+
+-- No function holds an `advance`.
+abbrev pub NoneAdvances : List FunctionDecl → Type 0
+NoneAdvances functions = All (λ f. holds_advance f.stmts ≡ false) functions
+
+abbrev pub all_quiet : List Bool → Bool
+all_quiet bs = list_all (λ b. b) bs
+
+-- A path through a statement meets no `advance`: an `advance` isn't quiet, an `if` is where a branch is or there is no
+-- `else`, and all else is.
+abbrev pub quiet_step : Stmt-F Bool → Bool
+quiet_step (Stmt-F.Advance point) = false
+quiet_step (Stmt-F.If test branch (Some other)) = all_quiet branch || all_quiet other
+quiet_step _ = true
+
+abbrev pub quiet : Stmt → Bool
+quiet = fold-Stmt Bool quiet_step
+
+-- A list is quiet where each of its statements is.
+abbrev pub quiet_list : List Stmt → Bool
+quiet_list stmts = list_all quiet stmts
