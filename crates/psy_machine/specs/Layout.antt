@@ -1,5 +1,5 @@
 -- How the frames of an agent and of its open calls lie one behind the other.
-use Rattle.std.specs.Prelude.{◌≡◌, ℕ, ◌+◌, ◌-◌, ◌≤◌, min, List, [], ◌∷◌, take, drop, length, reverse, ℤ, vec_capacity}
+use Rattle.std.specs.Prelude.{◌≡◌, ℕ, ◌+◌, ◌≤◌, List, [], ◌∷◌, take, drop, length, reverse, ℤ, vec_capacity}
 use Rattle.psy_code.specs.Execution.{Frame, OpenCall}
 use Rattle.psy_machine.specs.declared.frames.Place.{Place}
 use Rattle.psy_machine.specs.declared.frames.Header.{Header}
@@ -28,10 +28,12 @@ abbrev pub frames_in : Inside → FrameStack
 frames_in f = record {
   home = home_in (reverse f.headers.items) f.present f.cells.items f.counters.items;
   calls = calls_in (reverse f.headers.items) f.present f.cells.items f.counters.items;
-  room = min (vec_capacity f.cells - f.home_end.cells) (vec_capacity f.counters - f.home_end.counters);
+  room = f.room;
 }
 
 pub record IsLaidOut (f : Inside) : Type 0 where
   pub cut : IsCut (reverse f.headers.items) f.present (length f.cells.items) (length f.counters.items) f.home_end
-  -- there is room for the frames of 64 calls
+  -- room is reserved behind the agent's own frame, and for 64 calls
+  pub cells : f.home_end.cells + f.room ≤ vec_capacity f.cells
+  pub counters : f.home_end.counters + f.room ≤ vec_capacity f.counters
   pub calls : 64 ≤ vec_capacity f.headers

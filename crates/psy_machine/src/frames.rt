@@ -29,6 +29,8 @@ pub struct Frames {
     present: Place,
     /// Where the agent's own frame ends.
     home_end: Place,
+    /// How many cells and counters of open calls there is room for.
+    room: u32,
 }
 
 impl Model for Frames {
@@ -72,6 +74,7 @@ impl Frames {
                 counters: 0,
             },
             home_end,
+            room,
         })
     }
 
@@ -119,8 +122,7 @@ impl Frames {
     pub fn open(&mut self, arguments: &[i32], locals: &[i32], counters: u32, back: usize)
         requires room { length arguments.now + length locals.now + counters + cells_of self.old.calls ≤ self.old.room }
         requires calls { length self.old.calls < 64 }
-        ensures { let frame = record { cells = arguments.now ++ locals.now; counters = replicate counters 0 } in
-            self.new ≡ record self.old { calls = record { frame = frame; back = back } ∷ self.old.calls } }
+        ensures { self.new ≡ record self.old { calls = record { frame = record { cells = arguments.now ++ locals.now; counters = replicate counters 0 }; back = back } ∷ self.old.calls } }
     {
         self.headers.push_reserved(Header {
             caller: self.present,
