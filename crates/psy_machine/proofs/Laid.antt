@@ -1,8 +1,8 @@
 -- Frames that lie one behind the other.
-use Rattle.std.proofs.Common.{◌≡◌, ℕ, ◌+◌, ◌-◌, ◌<◌, ◌≤◌, List, [], ◌∷◌, ◌++◌, length, take, drop, set, get_or, reverse, replicate, vec_capacity, Some, refl, sym, ap, subst, ◌∙◌, arith}
+use Rattle.std.proofs.Common.{◌≡◌, ℕ, ◌+◌, ◌-◌, ◌<◌, ◌≤◌, List, [], ◌∷◌, ◌++◌, length, take, drop, set, get_or, reverse, replicate, vec_capacity, Some, refl, sym, ap, ◌∙◌, arith}
 use Rattle.std.specs.Prelude.{ℤ, slice_get, slice_set}
 use Rattle.std.specs.Vec.{with_item}
-use Rattle.std.proofs.lemmas.List.{length-drop, length-reverse, length-take-le, length-set, length-append, take_at, drop_at, get_or-drop, take_all, take-take, take-set-le, drop-set-add}
+use Rattle.std.proofs.lemmas.List.{length-drop, length-reverse, length-take-le, take_at, drop_at, get_or-drop, take_all, take-take, take-set-le, drop-set-add}
 use Rattle.std.proofs.lemmas.Option.{slice_get-get_or}
 use Rattle.psy_code.specs.Execution.{Frame, OpenCall, frame_of, home_with, calls_with, cells_of, cleared}
 use Rattle.psy_machine.specs.declared.frames.Place.{Place}

@@ -1,6 +1,6 @@
 -- What an instruction that can be executed does to a machine.
-use Rattle.std.specs.Prelude.{◌≡◌, ℕ, ◌+◌, ◌<◌, ◌≤◌, ◌^◌, ⊤, length}
-use Rattle.psy_code.specs.Execution.{Machine, Next, Went, Ended, Trapped, Stuck, cells_of}
+use Rattle.std.specs.Prelude.{◌≡◌, ◌+◌, ◌<◌, ◌≤◌, ◌^◌, ⊤, length}
+use Rattle.psy_code.specs.Execution.{Next, Went, Ended, Trapped, Stuck, cells_of}
 use Rattle.psy_machine.specs.declared.machine.Step.{Step}
 use Rattle.psy_machine.specs.Stepping.{AgentMachine, Answers, machine_after}
 

@@ -1,5 +1,5 @@
 -- The working copies of variables, as entries with an index by variable.
-use Rattle.std.specs.Prelude.{◌≡◌, ◌≢◌, ℕ, zero, suc, List, [], ◌∷◌, Some, slice_get, ℤ}
+use Rattle.std.specs.Prelude.{◌≡◌, ◌≢◌, ℕ, zero, suc, List, [], ◌∷◌, Some, slice_get}
 use Rattle.psy_code.specs.declared.code.CopyInit.{CopyInit}
 use Rattle.psy_code.specs.Execution.{Copy}
 use Rattle.psy_machine.specs.declared.copies.Entry.{Entry}

@@ -1,4 +1,4 @@
-ghost use Rattle.std.specs.Prelude.{◌≡◌, ◌≢◌, ◌<◌, length, Some, IsSome, IfOk};
+ghost use Rattle.std.specs.Prelude.{◌≡◌, ◌≢◌, ◌<◌, length, slice_index_or, Some, IsSome, IfOk};
 ghost use Rattle.psy_code.specs.Execution.{Stuck, copy_of, call_of, call_by, does};
 ghost use Rattle.psy_machine.specs.Stepping.{IsOf, IsNew, PermitsAll, Answers, next_for, stepped, window_after};
 ghost use Rattle.psy_machine.specs.Acting.{CanDo, Did};
@@ -144,7 +144,9 @@ impl Machine {
 }
 
 /// Where an agent's first action begins.
-fn start_of(agent: &AgentCode) -> usize {
+fn start_of(agent: &AgentCode) -> usize
+    ensures { result ≡ slice_index_or agent.now.points 0 0 }
+{
     match agent.points.as_slice().first() {
         Some(place) => *place as usize,
         None => 0,

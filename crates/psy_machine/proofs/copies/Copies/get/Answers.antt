@@ -1,6 +1,5 @@
-use Rattle.std.proofs.Common.{◌≡◌, ◌<◌, Some, get_or, length, ap, ◌∙◌, sym, arith}
+use Rattle.std.proofs.Common.{ap, ◌∙◌, arith}
 use Rattle.std.proofs.lemmas.Int.{to_z-of_z}
-use Rattle.psy_code.specs.Execution.{copy_of}
 use Rattle.psy_machine.proofs.Entries.{reads}
 use Rattle.psy_machine.proofs.copies.Copies.get.Goals as goal
 

@@ -1,4 +1,4 @@
-use Rattle.std.proofs.Common.{◌≡◌, ℕ, ◌<◌, get_or, set, length, w32, to_z, of_z, ap, ◌∙◌, sym, arith}
+use Rattle.std.proofs.Common.{◌≡◌, ℕ, get_or, set, w32, to_z, of_z, ap, ◌∙◌, sym, arith}
 use Rattle.std.proofs.lemmas.Int.{to_z-of_z}
 use Rattle.psy_machine.specs.declared.copies.Entry.{Entry}
 use Rattle.psy_machine.specs.Copying.{copies_in}

@@ -1,4 +1,4 @@
-use Rattle.std.proofs.Common.{◌≡◌, ◌+◌, ◌-◌, ◌<◌, ◌≤◌, ◌++◌, List, ◌∷◌, [], length, replicate, ap, ◌∙◌, refl, arith, append_assoc}
+use Rattle.std.proofs.Common.{◌≡◌, ◌+◌, ◌++◌, length, replicate, ap, ◌∙◌, refl, arith, append_assoc}
 use Rattle.psy_machine.specs.declared.frames.Frames.TheInside.{Inside}
 use Rattle.psy_machine.proofs.Laid.{room_for, call_within, open_gives, grown_by}
 use Rattle.psy_machine.proofs.frames.Frames.open.Goals as goal

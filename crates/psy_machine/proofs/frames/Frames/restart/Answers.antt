@@ -1,5 +1,4 @@
-use Rattle.std.proofs.Common.{◌≡◌, ◌+◌, ◌-◌, ◌<◌, ◌≤◌, take, drop, reverse, ◌++◌, [], length, replicate, refl, ap, ◌∙◌, arith}
-use Rattle.psy_machine.specs.Layout.{home_in, calls_in, IsCut, frames_in, IsLaidOut}
+use Rattle.std.proofs.Common.{◌≡◌, ◌++◌, replicate, refl, ap, ◌∙◌, arith}
 use Rattle.psy_machine.specs.declared.frames.Frames.TheInside.{Inside}
 use Rattle.psy_machine.proofs.Laid.{restart_gives, restart_laid, grown_by}
 use Rattle.psy_machine.proofs.frames.Frames.restart.Goals as goal

@@ -1,4 +1,4 @@
-use Rattle.std.proofs.Common.{◌+◌, ◌<◌, arith}
+use Rattle.std.proofs.Common.{arith}
 use Rattle.psy_machine.proofs.Laid.{counter_within, set_counter_gives}
 use Rattle.psy_machine.proofs.frames.Frames.set_counter.Goals as goal
 
