@@ -1,0 +1,4 @@
+pub mod Entries
+pub mod Laid
+pub mod Reversed
+pub mod Steps

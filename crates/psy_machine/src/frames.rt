@@ -1,0 +1,166 @@
+ghost use Rattle.std.specs.Prelude.{◌≡◌, ◌+◌, ◌<◌, ◌≤◌, [], ◌∷◌, ◌++◌, length, replicate, slice_get, slice_set, Some, IfOk};
+ghost use Rattle.psy_code.specs.Execution.{OpenCall, frame_of, home_with, calls_with, cells_of, cleared};
+
+use psy_code::OPEN_CALLS;
+use std::alloc::{AllocError, Global};
+use std::marker::Model;
+
+/// Where the cells and the counters of a frame begin among those of all frames.
+#[derive(Clone, Copy, Debug)]
+struct Place {
+    cells: usize,
+    counters: usize,
+}
+
+/// An open call: where the frame of its caller begins, and where its caller goes on.
+#[derive(Clone, Copy, Debug)]
+struct Header {
+    caller: Place,
+    back: usize,
+}
+
+/// The frame of an agent and those of its open calls, one behind the other, in room that was reserved.
+#[derive(Debug, Drop)]
+pub struct Frames {
+    cells: Vec<i32>,
+    counters: Vec<u32>,
+    headers: Vec<Header>,
+    /// Where the innermost frame begins.
+    present: Place,
+    /// Where the agent's own frame ends.
+    home_end: Place,
+    /// How many cells and counters of open calls there is room for.
+    room: u32,
+}
+
+impl Model for Frames {
+    ghost use Rattle.psy_machine.specs.Parts.{FrameStack};
+
+    ghost Value = { FrameStack };
+
+    ghost use Rattle.psy_machine.specs.Layout.{frames_in, IsLaidOut};
+
+    ghost view = { frames_in };
+
+    ghost invariant = { IsLaidOut };
+}
+
+impl Frames {
+    /// The frame of an agent, with room for open calls with so many cells and counters together.
+    pub fn new(
+        alloc: Global,
+        cells: &[i32],
+        counters: u32,
+        room: u32,
+    ) -> Result<Frames, AllocError>
+        ensures home { IfOk result (λ f. f.home ≡ record { cells = cells.now; counters = replicate counters 0 }) }
+        ensures calls { IfOk result (λ f. f.calls ≡ []) }
+        ensures room { IfOk result (λ f. room ≤ f.room) }
+    {
+        let home_end = Place {
+            cells: cells.len(),
+            counters: counters as usize,
+        };
+        let mut all_cells = Vec::with_capacity(alloc, home_end.cells + room as usize)?;
+        all_cells.extend_from_slice(cells)?;
+        let mut all_counters = Vec::with_capacity(alloc, home_end.counters + room as usize)?;
+        all_counters.resize(home_end.counters, 0)?;
+        Ok(Frames {
+            cells: all_cells,
+            counters: all_counters,
+            headers: Vec::with_capacity(alloc, OPEN_CALLS as usize)?,
+            present: Place {
+                cells: 0,
+                counters: 0,
+            },
+            home_end,
+            room,
+        })
+    }
+
+    /// A cell of the innermost frame.
+    #[inline(always)]
+    pub fn cell(&self, number: usize) -> i32
+        requires { number < length (frame_of self.now.home self.now.calls).cells }
+        ensures { slice_get (frame_of self.now.home self.now.calls).cells number ≡ Some result }
+    {
+        self.cells[self.present.cells + number]
+    }
+
+    #[inline(always)]
+    pub fn set_cell(&mut self, number: usize, value: i32)
+        requires { number < length (frame_of self.old.home self.old.calls).cells }
+        ensures { let frame = frame_of self.old.home self.old.calls in
+            let changed = record frame { cells = slice_set frame.cells number value } in
+            self.new ≡ record self.old { home = home_with self.old.home self.old.calls changed; calls = calls_with self.old.calls changed } }
+    {
+        let place = self.present.cells + number;
+        self.cells[place] = value;
+    }
+
+    /// The counter of a loop of the innermost frame.
+    #[inline(always)]
+    pub fn counter(&self, number: usize) -> u32
+        requires { number < length (frame_of self.now.home self.now.calls).counters }
+        ensures { slice_get (frame_of self.now.home self.now.calls).counters number ≡ Some result }
+    {
+        self.counters[self.present.counters + number]
+    }
+
+    #[inline(always)]
+    pub fn set_counter(&mut self, number: usize, turns: u32)
+        requires { number < length (frame_of self.old.home self.old.calls).counters }
+        ensures { let frame = frame_of self.old.home self.old.calls in
+            let changed = record frame { counters = slice_set frame.counters number turns } in
+            self.new ≡ record self.old { home = home_with self.old.home self.old.calls changed; calls = calls_with self.old.calls changed } }
+    {
+        let place = self.present.counters + number;
+        self.counters[place] = turns;
+    }
+
+    /// Opens a call, with its arguments and locals as its cells.
+    pub fn open(&mut self, arguments: &[i32], locals: &[i32], counters: u32, back: usize)
+        requires room { length arguments.now + length locals.now + counters + cells_of self.old.calls ≤ self.old.room }
+        requires calls { length self.old.calls < 64 }
+        ensures { self.new ≡ record self.old { calls = record { frame = record { cells = arguments.now ++ locals.now; counters = replicate counters 0 }; back = back } ∷ self.old.calls } }
+    {
+        self.headers.push_reserved(Header {
+            caller: self.present,
+            back,
+        });
+        self.present = Place {
+            cells: self.cells.len(),
+            counters: self.counters.len(),
+        };
+        self.cells.extend_from_slice(arguments).unwrap();
+        self.cells.extend_from_slice(locals).unwrap();
+        let end = self.counters.len() + counters as usize;
+        self.counters.resize(end, 0).unwrap();
+    }
+
+    /// Closes the innermost call, and answers where its caller goes on.
+    pub fn close(&mut self) -> usize
+        requires { 0 < length self.old.calls }
+        ensures { (call : OpenCall) × (self.old.calls ≡ call ∷ self.new.calls) × (call.back ≡ result) × (self.new.home ≡ self.old.home) × (self.new.room ≡ self.old.room) }
+    {
+        let header = self.headers.take_last();
+        self.cells.truncate(self.present.cells);
+        self.counters.truncate(self.present.counters);
+        self.present = header.caller;
+        header.back
+    }
+
+    /// Leaves the agent's own frame alone, with its counters at 0.
+    pub fn restart(&mut self)
+        ensures { self.new ≡ record self.old { home = cleared self.old.home; calls = [] } }
+    {
+        self.headers.clear();
+        self.cells.truncate(self.home_end.cells);
+        self.counters.clear();
+        self.counters.resize(self.home_end.counters, 0).unwrap();
+        self.present = Place {
+            cells: 0,
+            counters: 0,
+        };
+    }
+}

@@ -1,0 +1,9 @@
+//! The machine of one agent, which executes one instruction a step.
+#![tactic(auto)]
+
+mod copies;
+mod frames;
+mod machine;
+mod operands;
+
+pub use machine::{Machine, Step};

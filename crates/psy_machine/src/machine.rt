@@ -1,0 +1,154 @@
+ghost use Rattle.std.specs.Prelude.{◌≡◌, ◌≢◌, ◌<◌, length, slice_index_or, Some, IsSome, IfOk};
+ghost use Rattle.psy_code.specs.Execution.{Stuck, copy_of, call_of, call_by, does};
+ghost use Rattle.psy_machine.specs.Stepping.{IsOf, IsNew, PermitsAll, Answers, next_for, stepped, window_after};
+ghost use Rattle.psy_machine.specs.Acting.{CanDo, Did};
+
+mod control;
+mod operators;
+mod values;
+
+use crate::copies::Copies;
+use crate::frames::Frames;
+use crate::operands::Operands;
+use psy_arith::Trap;
+use psy_base::Memory;
+use psy_code::{AgentCode, Code, Instr, Look};
+use std::alloc::Global;
+use std::marker::Model;
+
+/// What came of an instruction.
+#[derive(Clone, Copy, Debug, PartialEq, Eq)]
+pub enum Step {
+    Went,
+    /// The action ended; the agent goes on at this point.
+    Ended(u32),
+    Trapped(Trap),
+}
+
+/// The machine of one agent.
+#[derive(Debug, Drop)]
+pub struct Machine {
+    agent: u32,
+    /// Where the next instruction stands.
+    place: usize,
+    operands: Operands,
+    frames: Frames,
+    copies: Copies,
+}
+
+impl Model for Machine {
+    ghost use Rattle.psy_machine.specs.Stepping.{AgentMachine};
+
+    ghost Value = { AgentMachine };
+
+    ghost view = { λ m. record {
+        agent = m.agent;
+        machine = record { place = m.place; operands = m.operands.values; home = m.frames.home; calls = m.frames.calls; copies = m.copies };
+        stack = m.operands.room;
+        frames = m.frames.room
+    } };
+}
+
+impl Machine {
+    /// The machine of an agent that hasn't started. All the room that it ever needs is reserved here; the
+    /// only error is want of memory.
+    pub fn new(alloc: Global, code: &Code, agent: u32) -> Result<Machine, Memory>
+        requires { agent < length code.now.agents }
+        ensures new { IfOk result (IsNew code.now agent) }
+        ensures of { IfOk result (IsOf code.now) }
+    {
+        let of = &code.agents.as_slice()[agent as usize];
+        Ok(Machine {
+            agent,
+            place: start_of(of),
+            operands: Operands::new(alloc, of.stack)?,
+            frames: Frames::new(alloc, of.cells.as_slice(), of.counters, of.frames)?,
+            copies: Copies::new(alloc, of.copies.as_slice())?,
+        })
+    }
+
+    /// Executes one instruction. A trap leaves the machine as it was.
+    #[inline(always)]
+    pub fn step<L: Look>(&mut self, code: &Code, look: &mut L) -> Step
+        requires of { IsOf code.now self.old }
+        requires able { next_for code.now (L.window look.old).view self.old ≢ Stuck }
+        requires permitted { PermitsAll (L.window look.old) (call_of code.now self.old.machine) }
+        ensures answer { Answers (next_for code.now (L.window look.old).view self.old) result }
+        ensures machine { self.new ≡ stepped code.now (L.window look.old).view self.old }
+        ensures window { L.window look.new ≡ window_after (L.window look.old) (call_of code.now self.old.machine) }
+    {
+        let agent = &code.agents.as_slice()[self.agent as usize];
+        let instr = code.instrs.as_slice()[self.place];
+        self.act(code, agent, instr, look)
+    }
+
+    /// The working copy of a variable that the agent owns.
+    pub fn copy(&self, variable: u32) -> i32
+        requires { IsSome (copy_of variable self.now.machine.copies) }
+        ensures { copy_of variable self.now.machine.copies ≡ Some result }
+    {
+        self.copies.get(variable)
+    }
+
+    /// Executes an instruction of the agent.
+    #[inline(always)]
+    fn act<L: Look>(&mut self, code: &Code, agent: &AgentCode, instr: Instr, look: &mut L) -> Step
+        requires able { CanDo self.old (does code.now agent.now (L.window look.old).view instr self.old.machine) }
+        requires permitted { PermitsAll (L.window look.old) (call_by instr self.old.machine.operands) }
+        ensures did { Did (does code.now agent.now (L.window look.old).view instr self.old.machine) self.old self.new result }
+        ensures window { L.window look.new ≡ window_after (L.window look.old) (call_by instr self.old.machine.operands) }
+    {
+        match instr {
+            Instr::Push(number) => self.push(number),
+            Instr::Load(cell) => self.load(cell),
+            Instr::Store(cell) => self.store(cell),
+            Instr::LoadCell { base, cells } => self.load_cell(base, cells),
+            Instr::StoreCell { base, cells } => self.store_cell(base, cells),
+            Instr::LoadCopy(variable) => self.load_copy(variable),
+            Instr::StoreCopy(variable) => self.store_copy(variable),
+            Instr::Past { variable, back } => {
+                let value = look.past(variable, back);
+                self.push(value)
+            }
+            Instr::Ready(stream) => {
+                let count = look.ready(stream);
+                self.push(count.cast_signed())
+            }
+            Instr::Take(stream) => match look.take(stream) {
+                Some(value) => self.push(value),
+                None => Step::Trapped(Trap::Take),
+            },
+            Instr::Send {
+                stream,
+                after,
+                clock,
+            } => {
+                let value = self.operands.pop();
+                look.send(stream, value, after, clock);
+                self.go_on()
+            }
+            Instr::Jump(to) => self.jump(to),
+            Instr::JumpZero(to) => self.jump_zero(to),
+            Instr::AndTest(to) => self.and_test(to),
+            Instr::OrTest(to) => self.or_test(to),
+            Instr::Truth => self.truth(),
+            Instr::Zero(counter) => self.zero(counter),
+            Instr::Guard { counter, bound } => self.guard(counter, bound),
+            Instr::Call(number) => self.call(&code.functions.as_slice()[number as usize]),
+            Instr::Return => self.leave(),
+            Instr::Advance(point) => self.advance(agent, point),
+            Instr::Binary(operator) => self.binary(operator.op()),
+            Instr::Unary(operator) => self.unary(operator),
+        }
+    }
+}
+
+/// Where an agent's first action begins.
+fn start_of(agent: &AgentCode) -> usize
+    ensures { result ≡ slice_index_or agent.now.points 0 0 }
+{
+    match agent.points.as_slice().first() {
+        Some(place) => *place as usize,
+        None => 0,
+    }
+}

@@ -1,0 +1,104 @@
+ghost use Rattle.std.specs.Prelude.{◌≡◌, ◌+◌, ◌<◌, ◌^◌, ◌∷◌};
+ghost use Rattle.psy_code.specs.Execution.{with_top, need, copy_of, onward, push, load, store, load_cell, store_cell, store_copy, index_in};
+ghost use Rattle.psy_machine.specs.Acting.{CanDo, Did};
+ghost use Rattle.psy_machine.specs.declared.machine.Step.TheVariants as step;
+
+use super::{Machine, Step};
+use psy_arith::Trap;
+
+// Instructions that move values between the operands and the cells and copies.
+impl Machine {
+    #[inline(always)]
+    pub(super) fn push(&mut self, number: i32) -> Step
+        requires { CanDo self.old (push number self.old.machine) }
+        ensures { Did (push number self.old.machine) self.old self.new result }
+    {
+        self.operands.push(number);
+        self.go_on()
+    }
+
+    #[inline(always)]
+    pub(super) fn load(&mut self, cell: u32) -> Step
+        requires { CanDo self.old (load cell self.old.machine.operands self.old.machine) }
+        ensures { Did (load cell self.old.machine.operands self.old.machine) self.old self.new result }
+    {
+        let value = self.frames.cell(cell as usize);
+        self.push(value)
+    }
+
+    #[inline(always)]
+    pub(super) fn store(&mut self, cell: u32) -> Step
+        requires { CanDo self.old (with_top self.old.machine.operands (λ v rest. store cell v rest self.old.machine)) }
+        ensures { Did (with_top self.old.machine.operands (λ v rest. store cell v rest self.old.machine)) self.old self.new result }
+    {
+        let value = self.operands.pop();
+        self.frames.set_cell(cell as usize, value);
+        self.go_on()
+    }
+
+    #[inline(always)]
+    pub(super) fn load_cell(&mut self, base: u32, cells: u32) -> Step
+        requires { CanDo self.old (load_cell base cells self.old.machine) }
+        ensures { Did (load_cell base cells self.old.machine) self.old self.new result }
+    {
+        match index_within(self.operands.top(), cells) {
+            Some(index) => {
+                let value = self.frames.cell(base as usize + index);
+                self.operands.set_top(value);
+                self.go_on()
+            }
+            None => Step::Trapped(Trap::Index),
+        }
+    }
+
+    #[inline(always)]
+    pub(super) fn store_cell(&mut self, base: u32, cells: u32) -> Step
+        requires { CanDo self.old (store_cell base cells self.old.machine) }
+        ensures { Did (store_cell base cells self.old.machine) self.old self.new result }
+    {
+        match index_within(self.operands.below_top(), cells) {
+            Some(index) => {
+                let value = self.operands.pop();
+                self.operands.pop();
+                self.frames.set_cell(base as usize + index, value);
+                self.go_on()
+            }
+            None => Step::Trapped(Trap::Index),
+        }
+    }
+
+    #[inline(always)]
+    pub(super) fn load_copy(&mut self, variable: u32) -> Step
+        requires { CanDo self.old (need (copy_of variable self.old.machine.copies) (λ v. push v self.old.machine)) }
+        ensures { Did (need (copy_of variable self.old.machine.copies) (λ v. push v self.old.machine)) self.old self.new result }
+    {
+        let value = self.copies.get(variable);
+        self.push(value)
+    }
+
+    #[inline(always)]
+    pub(super) fn store_copy(&mut self, variable: u32) -> Step
+        requires { CanDo self.old (store_copy variable self.old.machine) }
+        ensures { Did (store_copy variable self.old.machine) self.old self.new result }
+    {
+        let value = self.operands.pop();
+        self.copies.set(variable, value);
+        self.go_on()
+    }
+}
+
+/// The cell that an index names, counted from the first one of its array; `None` outside the array.
+#[inline(always)]
+fn index_within(index: i32, cells: u32) -> Option<usize>
+    ensures { result ≡ index_in cells index }
+{
+    if index < 0 {
+        return None;
+    }
+    let index = index.cast_unsigned();
+    if index < cells {
+        Some(index as usize)
+    } else {
+        None
+    }
+}
