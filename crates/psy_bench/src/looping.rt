@@ -1,0 +1,84 @@
+ghost use Rattle.std.specs.Prelude.{◌≡◌, IfOk};
+ghost use Rattle.psy_bench.specs.Loop.{loop_code};
+
+use psy_base::{Items, Memory};
+use psy_code::{AgentCode, Binary, Code, CopyInit, FunctionCode, Instr};
+use std::alloc::Global;
+
+const INSTRS: [Instr; 33] = [
+    Instr::Zero(0),
+    // while (n < 8) max 8
+    Instr::Load(0),
+    Instr::Push(8),
+    Instr::Binary(Binary::Lt),
+    Instr::Guard {
+        counter: 0,
+        bound: 8,
+    },
+    Instr::JumpZero(21),
+    // total = total + f(n);
+    Instr::Load(1),
+    Instr::Load(0),
+    Instr::Call(0),
+    Instr::Binary(Binary::Add),
+    Instr::Store(1),
+    // a[n & 3] = total;
+    Instr::Load(0),
+    Instr::Push(3),
+    Instr::Binary(Binary::And),
+    Instr::Load(1),
+    Instr::StoreCell { base: 2, cells: 4 },
+    // n = n + 1;
+    Instr::Load(0),
+    Instr::Push(1),
+    Instr::Binary(Binary::Add),
+    Instr::Store(0),
+    Instr::Jump(1),
+    // n = 0; v = total; advance
+    Instr::Push(0),
+    Instr::Store(0),
+    Instr::Load(1),
+    Instr::StoreCopy(0),
+    Instr::Advance(1),
+    Instr::Jump(0),
+    // f(x) with `int c = 5;`: return x * 3 - c;
+    Instr::Load(0),
+    Instr::Push(3),
+    Instr::Binary(Binary::Mul),
+    Instr::Load(1),
+    Instr::Binary(Binary::Sub),
+    Instr::Return,
+];
+
+/// The code of an agent that adds up a function of 0 to 7 at each action.
+pub fn code(alloc: Global) -> Result<Code, Memory>
+    ensures { IfOk result (λ code. code ≡ loop_code) }
+{
+    let mut agents = Items::new(alloc);
+    agents.push(AgentCode {
+        points: Items::from_slice(alloc, &[0, 26])?,
+        cells: Items::from_slice(alloc, &[0, 0, 0, 0, 0, 0])?,
+        counters: 1,
+        copies: Items::from_slice(
+            alloc,
+            &[CopyInit {
+                variable: 0,
+                init: 0,
+            }],
+        )?,
+        stack: 3,
+        frames: 2,
+    })?;
+    let mut functions = Items::new(alloc);
+    functions.push(FunctionCode {
+        entry: 27,
+        params: 1,
+        locals: Items::from_slice(alloc, &[5])?,
+        counters: 0,
+    })?;
+    Ok(Code {
+        instrs: Items::from_slice(alloc, &INSTRS)?,
+        agents,
+        functions,
+    })
+}
