@@ -1,4 +1,5 @@
 mod CalleeRuns
+mod Counting
 mod Endings
 mod NoWays
 mod Rests

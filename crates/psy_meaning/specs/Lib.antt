@@ -1,4 +1,5 @@
 pub mod Alike
+pub mod Counter
 pub mod Expressions
 pub mod Paths
 pub mod Rest
