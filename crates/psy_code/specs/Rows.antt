@@ -1,5 +1,5 @@
 -- The bytes of the instructions, and how many operands each pops and pushes.
-use Rattle.std.specs.Prelude.{ℕ, List, [], ◌∷◌}
+use Rattle.std.specs.Prelude.{ℕ, Bool, true, false, List, [], ◌∷◌}
 use Rattle.psy_arith.specs.declared.operators.Op1.TheVariants as one
 use Rattle.psy_arith.specs.declared.table.Row.{Row}
 use Rattle.psy_code.specs.declared.instr.Binary.TheVariants as two
@@ -58,3 +58,11 @@ rows =
     ∷ row 11 1 0 ∷ row 12 0 0 ∷ row 13 1 0 ∷ row 14 1 1 ∷ row 15 1 1 ∷ row 16 1 1 ∷ row 17 0 0 ∷ row 18 1 1 ∷ row 19 0 0 ∷ row 20 1 1
     ∷ row 21 0 0 ∷ row 32 2 1 ∷ row 33 2 1 ∷ row 34 2 1 ∷ row 35 2 1 ∷ row 36 2 1 ∷ row 37 2 1 ∷ row 38 2 1 ∷ row 39 2 1 ∷ row 40 2 1
     ∷ row 41 2 1 ∷ row 42 2 1 ∷ row 43 2 1 ∷ row 44 2 1 ∷ row 45 2 1 ∷ row 46 2 1 ∷ row 47 2 1 ∷ row 48 1 1 ∷ row 49 1 1 ∷ row 50 1 1 ∷ []
+
+-- The instructions that pop and push what their row says wherever they go on: all but a call, whose arguments the
+-- function counts, and a test that pushes only where it jumps
+abbrev pub is_plain : Instr → Bool
+is_plain (instr.AndTest to) = false
+is_plain (instr.OrTest to) = false
+is_plain (instr.Call function) = false
+is_plain i = true
