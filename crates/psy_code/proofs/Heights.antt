@@ -1,6 +1,6 @@
 -- How many operands an instruction pops and pushes.
 use Rattle.std.proofs.Common.{◌≡◌, refl, sym, ap, subst, arith}
-use Rattle.std.specs.Prelude.{ℕ, zero, suc, ◌+◌, ◌%◌, ◌^◌, ◌==◌, nat_lt, Bool, true, false, T, not, if◌then◌else◌, List, [], ◌∷◌, length, Option, Some, None, slice_get, ℤ, pos, ⊤}
+use Rattle.std.specs.Prelude.{ℕ, ◌+◌, ◌==◌, nat_lt, Bool, true, false, T, not, if◌then◌else◌, List, [], ◌∷◌, length, Option, Some, None, slice_get, ℤ, ⊤}
 use Rattle.std.specs.Int.{w32}
 use Rattle.psy_arith.specs.declared.operators.Op1.TheVariants as one
 use Rattle.psy_arith.specs.declared.operators.Op2.{Op2}
@@ -11,12 +11,11 @@ use Rattle.psy_arith.specs.Operators.{is_zero, truth, value1, value2}
 use Rattle.psy_arith.specs.Tables.{row_of}
 use Rattle.psy_code.specs.declared.code.AgentCode.{AgentCode}
 use Rattle.psy_code.specs.declared.code.Code.{Code}
-use Rattle.psy_code.specs.declared.instr.Binary.{Binary}
 use Rattle.psy_code.specs.declared.instr.Binary.TheVariants as two
 use Rattle.psy_code.specs.declared.instr.Instr.{Instr}
 use Rattle.psy_code.specs.declared.instr.Instr.TheVariants as instr
-use Rattle.psy_code.specs.Views.{View, past_of, messages_of, number_of, first_of}
-use Rattle.psy_code.specs.Execution.{Machine, OpenCall, Next, Went, Ended, Trapped, Stuck, need, or_trap, with_top, with_two, onward, push, jump, in_code, index_in, load, store, load_cell, store_cell, store_copy, copy_of, take_first, jump_zero, guard, zero_counter, back_from, begun_at, op_of, binary, unary, does, present}
+use Rattle.psy_code.specs.Views.{View, past_of, messages_of, first_of}
+use Rattle.psy_code.specs.Execution.{Machine, OpenCall, Next, Went, Ended, Trapped, Stuck, need, or_trap, with_top, with_two, onward, jump, index_in, load, store, load_cell, store_cell, copy_of, jump_zero, guard, back_from, op_of, binary, does, present}
 use Rattle.psy_code.specs.Rows.{byte_of, rows, is_plain}
 
 -- Where it goes on, so many operands were popped and pushed.

@@ -34,6 +34,7 @@ pub record Copy : Type 0 where
   pub variable : ℕ
   pub value : ℤ
 
+-- The state of an agent's machine.
 pub record Machine : Type 0 where
   -- where the next instruction stands
   pub place : ℕ
@@ -50,13 +51,16 @@ abbrev pub frame_of : Frame → List OpenCall → Frame
 frame_of home [] = home
 frame_of home (call ∷ rest) = call.frame
 
+-- The frame of the innermost call, or the agent's own.
 abbrev pub present : Machine → Frame
 present m = frame_of m.home m.calls
 
+-- The agent's own frame, changed where no call is open.
 abbrev pub home_with : Frame → List OpenCall → Frame → Frame
 home_with home [] frame = frame
 home_with home (call ∷ rest) frame = home
 
+-- The open calls, the innermost with another frame.
 abbrev pub calls_with : List OpenCall → Frame → List OpenCall
 calls_with [] frame = []
 calls_with (call ∷ rest) frame = record call { frame = frame } ∷ rest
@@ -65,22 +69,27 @@ calls_with (call ∷ rest) frame = record call { frame = frame } ∷ rest
 abbrev pub with_frame : Frame → Machine → Machine
 with_frame frame m = record m { home = home_with m.home m.calls frame; calls = calls_with m.calls frame }
 
+-- The machine with another value in a cell of its present frame.
 abbrev pub with_cell : ℕ → ℤ → Machine → Machine
 with_cell cell v m = with_frame (record (present m) { cells = slice_set (present m).cells cell v }) m
 
+-- The machine with another number in a counter of its present frame.
 abbrev pub with_counter : ℕ → ℕ → Machine → Machine
 with_counter counter n m = with_frame (record (present m) { counters = slice_set (present m).counters counter n }) m
 
+-- The working copy of a variable: of two the first.
 abbrev pub copy_of : ℕ → List Copy → Option ℤ
 copy_of variable [] = None
 copy_of variable (c ∷ rest) = if c.variable == variable then Some c.value else copy_of variable rest
 
+-- The copies with another value of a variable.
 abbrev pub with_copy : ℕ → ℤ → List Copy → List Copy
 with_copy variable v [] = []
 with_copy variable v (c ∷ rest) = if c.variable == variable then record c { value = v } ∷ rest else c ∷ with_copy variable v rest
 
 -- ---- what comes of an instruction
 
+-- What comes of an instruction.
 pub data Next : Type 0 where
   -- it goes on
   Went : (machine : Machine) → Next
@@ -114,6 +123,7 @@ with_two operands go = with_top operands (λ b below. with_top below (λ a rest.
 abbrev pub onward : List ℤ → Machine → Next
 onward operands m = Went (record m { place = m.place + 1; operands = operands })
 
+-- On to the next instruction, with a value more on top
 abbrev pub push : ℤ → Machine → Next
 push v m = onward (v ∷ m.operands) m
 
@@ -132,24 +142,31 @@ abbrev pub index_in : ℕ → ℤ → Option ℕ
 index_in cells (pos i) = if nat_lt i cells then Some i else None
 index_in cells (negsuc i) = None
 
+-- A cell of the present frame, on these operands
 abbrev pub load : ℕ → List ℤ → Machine → Next
 load cell operands m = need (slice_get (present m).cells cell) (λ v. onward (v ∷ operands) m)
 
+-- A value into a cell of the present frame
 abbrev pub store : ℕ → ℤ → List ℤ → Machine → Next
 store cell v operands m = need (slice_get (present m).cells cell) (λ old. onward operands (with_cell cell v m))
 
+-- The cell of an array that the value on top names
 abbrev pub load_cell : ℕ → ℕ → Machine → Next
 load_cell base cells m = with_top m.operands (λ index rest. or_trap trap.Index (index_in cells index) (λ i. load (base + i) rest m))
 
+-- The value on top into the cell of an array that the value below it names
 abbrev pub store_cell : ℕ → ℕ → Machine → Next
 store_cell base cells m = with_two m.operands (λ index v rest. or_trap trap.Index (index_in cells index) (λ i. store (base + i) v rest m))
 
+-- The value on top into the working copy of a variable
 abbrev pub store_copy : ℕ → Machine → Next
 store_copy variable m = with_top m.operands (λ v rest. need (copy_of variable m.copies) (λ old. onward rest (record m { copies = with_copy variable v m.copies })))
 
+-- The first of a stream's messages
 abbrev pub take_first : List ℤ → Machine → Next
 take_first messages m = or_trap trap.Take (first_of messages) (λ v. push v m)
 
+-- On at another place where the value on top is 0
 abbrev pub jump_zero : Code → ℕ → Machine → Next
 jump_zero code to m = with_top m.operands (λ v rest. in_code code to (if is_zero v then jump to rest m else onward rest m))
 
@@ -157,6 +174,7 @@ jump_zero code to m = with_top m.operands (λ v rest. in_code code to (if is_zer
 abbrev pub and_test : Code → ℕ → Machine → Next
 and_test code to m = with_top m.operands (λ v rest. in_code code to (if is_zero v then jump to (pos 0 ∷ rest) m else onward rest m))
 
+-- `||` is decided where its left side isn't 0, and else left to its right side.
 abbrev pub or_test : Code → ℕ → Machine → Next
 or_test code to m = with_top m.operands (λ v rest. in_code code to (if is_zero v then onward rest m else jump to (pos 1 ∷ rest) m))
 
@@ -166,6 +184,7 @@ guard counter bound m = with_top m.operands (λ v rest. need (slice_get (present
     if is_zero v then onward m.operands m
     else (if turns == bound then Trapped trap.Loop else onward m.operands (with_counter counter ((turns + 1) % 2 ^ 32) m))))
 
+-- A counter begins at 0.
 abbrev pub zero_counter : ℕ → Machine → Next
 zero_counter counter m = need (slice_get (present m).counters counter) (λ turns. onward m.operands (with_counter counter 0 m))
 
@@ -173,6 +192,7 @@ zero_counter counter m = need (slice_get (present m).counters counter) (λ turns
 abbrev pub frame_for : FunctionCode → List ℤ → Frame
 frame_for function operands = record { cells = reverse (take function.params operands) ++ function.locals; counters = replicate function.counters 0 }
 
+-- Into a function, whose arguments are taken from the operands
 abbrev pub call : FunctionCode → Machine → Next
 call function m =
     if nat_le function.params (length m.operands)
@@ -188,6 +208,7 @@ abbrev pub back_from : List OpenCall → Machine → Next
 back_from [] m = Stuck
 back_from (call ∷ rest) m = Went (record m { place = call.back; calls = rest })
 
+-- The frame with all its counters at 0
 abbrev pub cleared : Frame → Frame
 cleared frame = record frame { counters = replicate (length frame.counters) 0 }
 
@@ -195,6 +216,7 @@ cleared frame = record frame { counters = replicate (length frame.counters) 0 }
 abbrev pub begun_at : ℕ → Machine → Machine
 begun_at place m = record m { place = place; operands = []; home = cleared m.home; calls = [] }
 
+-- The operator of the language that an instruction names.
 abbrev pub op_of : Binary → Op2
 op_of two.Mul = op.Mul
 op_of two.Div = op.Div
@@ -213,14 +235,17 @@ op_of two.And = op.And
 op_of two.Xor = op.Xor
 op_of two.Or = op.Or
 
+-- An operator on the two values on top, the lower one being its left side
 abbrev pub binary : Op2 → Machine → Next
 binary operator m = with_two m.operands (λ a b rest. or_trap trap.Divide (value2 w32 operator a b) (λ v. onward (v ∷ rest) m))
 
+-- An operator on the value on top
 abbrev pub unary : Op1 → Machine → Next
 unary operator m = with_top m.operands (λ a rest. onward (value1 w32 operator a ∷ rest) m)
 
 -- ---- one instruction
 
+-- What an instruction does, by its kind.
 abbrev pub does : Code → AgentCode → View → Instr → Machine → Next
 does code agent view (instr.Push number) m = push number m
 does code agent view (instr.Load cell) m = load cell m.operands m
@@ -255,10 +280,12 @@ cells_of (call ∷ rest) = length call.frame.cells + length call.frame.counters 
 abbrev pub has_room : AgentCode → Machine → Bool
 has_room agent m = nat_le (length m.operands) agent.stack && (nat_le (cells_of m.calls) agent.frames && nat_le (length m.calls) 64)
 
+-- It goes on only where there is room for all that the machine then holds.
 abbrev pub within : AgentCode → Next → Next
 within agent (Went m) = if has_room agent m then Went m else Stuck
 within agent next = next
 
+-- The instruction at the machine's place
 abbrev pub instr_at : Code → Machine → Option Instr
 instr_at code m = slice_get code.instrs m.place
 
@@ -274,11 +301,13 @@ call_by (instr.Take stream) operands = Some (Take stream)
 call_by (instr.Send stream after clock) (v ∷ below) = Some (Send (record { stream = stream; value = v; after = after; clock = clock }))
 call_by i operands = None
 
+-- What the next instruction asks of the world.
 abbrev pub call_of : Code → Machine → Option Call
 call_of code m = found_in (instr_at code m) (λ i. call_by i m.operands)
 
 -- ---- many instructions
 
+-- A machine with what its action sees and did so far.
 pub record State : Type 0 where
   pub machine : Machine
   pub view : View
@@ -291,26 +320,32 @@ pub data Run : Type 0 where
   TrappedBy : (kind : Trap) (state : State) → Run
   NoRun : Run
 
+-- The view after an instruction that asks this, or nothing.
 abbrev pub view_then : View → Option Call → View
 view_then view None = view
 view_then view (Some call) = view_after view call
 
+-- What was done after an instruction that asks this, or nothing.
 abbrev pub deeds_then : Deeds → Option Call → Deeds
 deeds_then deeds None = tick deeds
 deeds_then deeds (Some call) = done deeds call
 
+-- The state after an instruction, with the machine that comes of it.
 abbrev pub state_then : State → Option Call → Machine → State
 state_then s call m = record { machine = m; view = view_then s.view call; deeds = deeds_then s.deeds call }
 
+-- How a run stands after one instruction, by what comes of it.
 abbrev pub run_by : State → Option Call → Next → Run
 run_by s call (Went m) = Running (state_then s call m)
 run_by s call (Ended point m) = RanTo point (state_then s call m)
 run_by s call (Trapped kind) = TrappedBy kind (record s { deeds = tick s.deeds })
 run_by s call Stuck = NoRun
 
+-- How a run stands after the next instruction.
 abbrev pub run_one : Code → AgentCode → State → Run
 run_one code agent s = run_by s (call_of code s.machine) (next_of code agent s.view s.machine)
 
+-- On from a run that neither ended nor stopped.
 abbrev pub go_on : Run → (State → Run) → Run
 go_on (Running s) go = go s
 go_on run go = run
@@ -322,6 +357,7 @@ run_code code agent s (suc n) = go_on (run_one code agent s) (λ t. run_code cod
 
 -- ---- where a machine begins
 
+-- The working copy that a variable begins with
 abbrev pub copy_from : CopyInit → Copy
 copy_from c = record { variable = c.variable; value = c.init }
 

@@ -6,6 +6,7 @@ use Rattle.psy_code.specs.declared.instr.Binary.TheVariants as two
 use Rattle.psy_code.specs.declared.instr.Instr.{Instr}
 use Rattle.psy_code.specs.declared.instr.Instr.TheVariants as instr
 
+-- The byte of an instruction.
 abbrev pub byte_of : Instr → ℕ
 byte_of (instr.Push number) = 1
 byte_of (instr.Load cell) = 2
@@ -48,6 +49,7 @@ byte_of (instr.Unary one.Neg) = 48
 byte_of (instr.Unary one.Flip) = 49
 byte_of (instr.Unary one.Not) = 50
 
+-- A row of the table.
 abbrev pub row : ℕ → ℕ → ℕ → Row
 row byte pops pushes = record { byte = byte; pops = pops; pushes = pushes }
 

@@ -10,6 +10,7 @@ pub record View : Type 0 where
   -- by stream, the values of the messages not yet taken, in their order; none where the agent isn't its receiver
   pub messages : List (Option (List ℤ))
 
+-- What is found in what was found.
 abbrev pub found_in : {A B : Type 0} → Option A → (A → Option B) → Option B
 found_in None f = None
 found_in (Some x) f = f x
@@ -26,10 +27,12 @@ messages_of view stream = found_in (slice_get view.messages stream) (λ messages
 abbrev pub number_of : List ℤ → ℤ
 number_of messages = cast_signed w32 (length messages)
 
+-- The first of them, where there is one
 abbrev pub first_of : List ℤ → Option ℤ
 first_of [] = None
 first_of (m ∷ rest) = Some m
 
+-- All but the first, where there are any
 abbrev pub without_first : Option (List ℤ) → Option (List ℤ)
 without_first None = None
 without_first (Some messages) = Some (drop 1 messages)
@@ -66,6 +69,7 @@ pub record Looked : Type 0 where
   pub variable : ℕ
   pub back : ℕ
 
+-- What an action did so far.
 pub record Deeds : Type 0 where
   -- how many instructions it executed
   pub steps : ℕ
@@ -74,6 +78,7 @@ pub record Deeds : Type 0 where
   -- by number, the stream of each message that it took
   pub takes : List ℕ
 
+-- An action that has just begun.
 abbrev pub nothing_done : Deeds
 nothing_done = record { steps = 0; looks = []; sends = []; takes = [] }
 
@@ -90,6 +95,7 @@ done deeds (Send sent) = tick (record deeds { sends = deeds.sends ++ sent ∷ []
 
 -- ---- what serves the calls
 
+-- What serves the calls of an action.
 pub record Window : Type 0 where
   pub view : View
   -- how many streams and clocks there are to send by

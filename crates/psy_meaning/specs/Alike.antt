@@ -21,19 +21,20 @@ abbrev pub owned_copy : ℕ → ℕ → VarDecl → Option ℕ → List Copy
 owned_copy agent number v None = []
 owned_copy agent number v (Some owner) = if owner == agent then record { variable = number; value = v.init } ∷ [] else []
 
+-- Those of these variables, counted from a number on
 abbrev pub owned_from : ℕ → ℕ → List VarDecl → List Copy
 owned_from agent number [] = []
 owned_from agent number (v ∷ rest) = owned_copy agent number v v.owner ++ owned_from agent (number + 1) rest
 
+-- The working copies that an agent begins with.
 abbrev pub first_copies : Whole → ℕ → List Copy
 first_copies unit agent = owned_from agent 0 unit.variables
 
+-- The cells that an agent's variables and arrays begin with.
 abbrev pub first_slots : AgentDecl → List (List ℤ)
 first_slots agent = map (λ s. replicate s.cells s.init) agent.slots
 
-abbrev pub first_store : Whole → ℕ → AgentDecl → Store
-first_store unit number agent = record { slots = first_slots agent; copies = first_copies unit number }
-
+-- Numbers of 32 bits
 abbrev pub AllFit : List ℤ → Type 0
 AllFit values = All (FitsSigned w32) values
 
@@ -44,13 +45,12 @@ pub record IsStoreOf (unit : Whole) (number : ℕ) (agent : AgentDecl) (store : 
   pub variables : map (λ c. c.variable) store.copies ≡ map (λ c. c.variable) (first_copies unit number)
   pub copies : All (λ c. FitsSigned w32 c.value) store.copies
 
-abbrev pub receives : ℕ → ℕ → Bool
-receives agent receiver = receiver == agent
-
+-- There are messages to see, be they none.
 abbrev pub is_there : Option (List ℤ) → Bool
 is_there None = false
 is_there (Some messages) = true
 
+-- The messages, where there are any to see, have values of 32 bits.
 abbrev pub MessagesFit : Option (List ℤ) → Type 0
 MessagesFit None = ⊤
 MessagesFit (Some messages) = AllFit messages
@@ -88,12 +88,15 @@ machine_at its point store counters = record {
   copies = store.copies;
 }
 
+-- An action that has just begun, by the statements.
 abbrev pub begun : Store → View → State
 begun store view = record { store = store; view = view; deeds = nothing_done }
 
+-- An action that has just begun, by the code.
 abbrev pub started : Machine → View → code.State
 started machine view = record { machine = machine; view = view; deeds = nothing_done }
 
+-- An agent's code begins as the agent does, and acts as its statements from each point.
 pub record AgentAlike (unit : Whole) (whole : Code) (number : ℕ) (agent : AgentDecl) (its : AgentCode) : Type 0 where
   pub points : length its.points ≡ length agent.points
   pub cells : its.cells ≡ flat_map (λ cells. cells) (first_slots agent)
@@ -101,6 +104,7 @@ pub record AgentAlike (unit : Whole) (whole : Code) (number : ℕ) (agent : Agen
   -- From each point, with each store and view, and whatever the counters hold
   pub acts : (point : ℕ) (store : Store) (view : View) (counters : List ℕ) → point < length agent.points → IsStoreOf unit number agent store → IsViewOf unit number view → length counters ≡ its.counters → EndsAs (act unit.functions (rest agent.stmts point) (begun store view)) (run_code whole its (started (machine_at its point store counters) view))
 
+-- The code acts as the statements of the unit.
 pub record ActsAlike (unit : Whole) (whole : Code) : Type 0 where
   pub agents : length whole.agents ≡ length unit.agents
   pub each : (number : ℕ) (agent : AgentDecl) (its : AgentCode) → slice_get unit.agents number ≡ Some agent → slice_get whole.agents number ≡ Some its → AgentAlike unit whole number agent its

@@ -15,10 +15,12 @@ use Rattle.psy_meaning.specs.States.{State, Got, Value, Eval, Callee, and_then, 
 abbrev pub element : ℕ → ℤ → State → Got
 element slot index s = or_stop trap.Index (index_in (length (cells_at s.store slot)) index) s (λ i. Value (value_at s.store slot i) (cost_1 s))
 
+-- No messages, where there are none to see
 abbrev pub or_none : Option (List ℤ) → List ℤ
 or_none None = []
 or_none (Some messages) = messages
 
+-- The messages of a stream that aren't yet taken
 abbrev pub messages_at : View → ℕ → List ℤ
 messages_at view stream = or_none (messages_of view stream)
 
@@ -45,6 +47,7 @@ abbrev pub in_order : List Eval → State → (List ℤ → State → Got) → G
 in_order [] s go = go [] s
 in_order (e ∷ es) s go = and_then (e s) (λ v t. in_order es t (λ vs u. go (v ∷ vs) u))
 
+-- What an expression gives, once each of its parts is known to give something.
 abbrev pub expr_step : (ℕ → Callee) → Expr-F Eval → Eval
 expr_step callees (Expr-F.Number number) s = Value number (cost_1 s)
 expr_step callees (Expr-F.Slot slot) s = Value (value_at s.store slot 0) (cost_1 s)
@@ -57,5 +60,6 @@ expr_step callees (Expr-F.Unary operator operand) s = and_then (operand s) (λ a
 expr_step callees (Expr-F.Binary operator left right) s = binary operator left right s
 expr_step callees (Expr-F.Call function arguments) s = in_order arguments s (λ values t. callees function values (cost_1 t))
 
+-- What an expression gives in a state.
 abbrev pub eval : (ℕ → Callee) → Expr → Eval
 eval callees = fold-Expr Eval (expr_step callees)

@@ -5,6 +5,7 @@ use Rattle.psy_tree.specs.declared.unit.FunctionDecl.{FunctionDecl}
 use Rattle.psy_tree.specs.declared.unit.Stmt.{Stmt, fold-Stmt}
 use Rattle.psy_tree.specs.declared.unit.Stmt.TheOpen.{Stmt-F}
 
+-- One of them holds.
 abbrev pub one_of : List Bool → Bool
 one_of bs = list_any (λ b. b) bs
 
@@ -18,12 +19,15 @@ holds_step advance back (Stmt-F.Bounded test most body) = one_of body
 holds_step advance back (Stmt-F.Timed test body) = one_of body
 holds_step advance back _ = false
 
+-- A statement is one that counts, or holds one at any depth.
 abbrev pub holds : Bool → Bool → Stmt → Bool
 holds advance back = fold-Stmt Bool (holds_step advance back)
 
+-- One of the statements is or holds an `advance`.
 abbrev pub holds_advance : List Stmt → Bool
 holds_advance stmts = list_any (holds true false) stmts
 
+-- One of the statements is or holds a `return`.
 abbrev pub holds_return : List Stmt → Bool
 holds_return stmts = list_any (holds false true) stmts
 
@@ -31,6 +35,7 @@ holds_return stmts = list_any (holds false true) stmts
 abbrev pub NoneAdvances : List FunctionDecl → Type 0
 NoneAdvances functions = All (λ f. holds_advance f.stmts ≡ false) functions
 
+-- All of them hold.
 abbrev pub all_quiet : List Bool → Bool
 all_quiet bs = list_all (λ b. b) bs
 
@@ -41,6 +46,7 @@ quiet_step (Stmt-F.Advance point) = false
 quiet_step (Stmt-F.If test branch (Some other)) = all_quiet branch || all_quiet other
 quiet_step _ = true
 
+-- A path through a statement meets no `advance`.
 abbrev pub quiet : Stmt → Bool
 quiet = fold-Stmt Bool quiet_step
 

@@ -8,9 +8,11 @@ use Rattle.psy_meaning.specs.Statements.{Piece, Do, Hop}
 abbrev pub Rests : Type 0
 Rests = List (List Piece)
 
+-- Each of the rests, and these pieces behind it
 abbrev pub each_then : Rests → List Piece → Rests
 each_then rests pieces = map (λ r. r ++ pieces) rests
 
+-- The statements as pieces.
 abbrev pub pieces_of : List Stmt → List Piece
 pieces_of stmts = map Do stmts
 
@@ -18,6 +20,7 @@ pieces_of stmts = map Do stmts
 abbrev pub Part : Type 0
 Part = Stmt × Rests
 
+-- The statements of these parts.
 abbrev pub stmts_in : List Part → List Stmt
 stmts_in parts = map (λ p. p.0) parts
 
@@ -35,9 +38,11 @@ rests_step (Stmt-F.Timed test body) = each_then (rests_in body) (Hop ∷ Do (rol
 rests_step (Stmt-F.Bounded test most body) = rests_in body
 rests_step _ = []
 
+-- The rests behind the `advance` statements in a statement.
 abbrev pub rests_of : Stmt → Rests
 rests_of = para-Stmt Rests rests_step
 
+-- A statement beside its rests.
 abbrev pub with_rests : Stmt → Part
 with_rests stmt = (stmt, rests_of stmt)
 

@@ -37,6 +37,7 @@ abbrev pub turns : ℕ → Eval → Act → Act
 turns zero test body s = with_value (test s) (λ v t. if is_zero v then Falls (cost_1 (cost_1 t)) else Halts (trapping trap.Loop t))
 turns (suc more) test body s = with_value (test s) (λ v t. if is_zero v then Falls (cost_1 (cost_1 t)) else then_do (body (cost_1 (cost_1 t))) (λ u. turns more test body (cost_1 u)))
 
+-- What a statement does, once each of its parts is known to do something.
 abbrev pub stmt_step : (ℕ → Callee) → Stmt-F Act → Act
 stmt_step callees (Stmt-F.Set slot value) s = with_value (eval callees value s) (λ v t. Falls (with_slot slot 0 v (cost_1 t)))
 stmt_step callees (Stmt-F.SetCopy variable value) s = with_value (eval callees value s) (λ v t. Falls (with_copy_at variable v (cost_1 t)))
@@ -49,9 +50,11 @@ stmt_step callees (Stmt-F.Send value stream after clock) s =
 stmt_step callees (Stmt-F.Advance point) s = Halts (Ended point (cost_1 s))
 stmt_step callees (Stmt-F.Return value) s = with_value (eval callees value s) (λ v t. Returns v (cost_1 t))
 
+-- What a statement does in a state.
 abbrev pub act_by : (ℕ → Callee) → Stmt → Act
 act_by callees = fold-Stmt Act (stmt_step callees)
 
+-- What a list of statements does.
 abbrev pub acts_by : (ℕ → Callee) → List Stmt → Act
 acts_by callees stmts = all_of (map (act_by callees) stmts)
 
@@ -61,9 +64,11 @@ acts_by callees stmts = all_of (map (act_by callees) stmts)
 abbrev pub frame_of : FunctionDecl → List ℤ → Store
 frame_of function arguments = record { slots = map (λ v. v ∷ []) (arguments ++ function.locals); copies = [] }
 
+-- The state with another store.
 abbrev pub in_store : Store → State → State
 in_store store s = record s { store = store }
 
+-- The end of an action inside a function, in its caller's store.
 abbrev pub final_in : Store → Final → Final
 final_in store (Ended point s) = Ended point (in_store store s)
 final_in store (Trapped kind s) = Trapped kind (in_store store s)
@@ -74,6 +79,7 @@ back_in store (Falls s) = Value (pos 0) (cost_1 (cost_1 (in_store store s)))
 back_in store (Returns v s) = Value v (in_store store s)
 back_in store (Halts final) = Stops (final_in store final)
 
+-- What a function does with its arguments, where it calls these.
 abbrev pub callee : (ℕ → Callee) → FunctionDecl → Callee
 callee above function arguments s = back_in s.store (acts_by above function.stmts (in_store (frame_of function arguments) s))
 
@@ -90,6 +96,7 @@ abbrev pub callees_from : ℕ → (ℕ → Callee) → List FunctionDecl → ℕ
 callees_from number above [] = above
 callees_from number above (f ∷ rest) = callees_from (number + 1) (with_callee number (callee above f) above) rest
 
+-- The functions of a unit, by number.
 abbrev pub callees_of : List FunctionDecl → ℕ → Callee
 callees_of functions = callees_from 0 no_callee functions
 
@@ -100,6 +107,7 @@ pub data Piece : Type 0 where
   Do : (stmt : Stmt) → Piece
   Hop : Piece
 
+-- What a piece does.
 abbrev pub piece_by : (ℕ → Callee) → Piece → Act
 piece_by callees (Do stmt) = act_by callees stmt
 piece_by callees Hop = hop

@@ -17,9 +17,11 @@ pub record Meter : Type 0 where
   pub looks : List Looked
   pub sends : List ℕ
 
+-- Nothing met yet.
 abbrev pub unmetered : Meter
 unmetered = record { steps = 0; looks = []; sends = [] }
 
+-- The streams of these sends.
 abbrev pub streams_of : List Sent → List ℕ
 streams_of sends = map (λ s. s.stream) sends
 
@@ -33,9 +35,11 @@ Way = Meter → Meter → Type 0
 
 -- ---- words for ways
 
+-- There is none.
 abbrev pub no_way : Way
 no_way before now = ⊥
 
+-- Nothing is executed.
 abbrev pub here : Way
 here before now = now ≡ before
 
@@ -43,21 +47,26 @@ here before now = now ≡ before
 abbrev pub one : Way
 one before now = now ≡ record before { steps = before.steps + 1 }
 
+-- One instruction that looks at a variable
 abbrev pub looking : ℕ → ℕ → Way
 looking variable back before now =
     now ≡ record before { steps = before.steps + 1; looks = before.looks ++ record { number = before.steps; variable = variable; back = back } ∷ [] }
 
+-- One instruction that sends to a stream
 abbrev pub sending : ℕ → Way
 sending stream before now = now ≡ record before { steps = before.steps + 1; sends = before.sends ++ stream ∷ [] }
 
+-- One after the other
 abbrev pub both : Way → Way → Way
 both first second before now = (between : Meter) × first before between × second between now
 
+-- This or that
 abbrev pub either : Way → Way → Way
 either this that before now = this before now ⊎ that before now
 
 -- ---- expressions
 
+-- Through all of them, from left to right
 abbrev pub ways_through : {X : Type 0} → (X → Way) → List X → Way
 ways_through way [] = here
 ways_through way (x ∷ rest) = both (way x) (ways_through way rest)
@@ -68,6 +77,7 @@ binary_way op.AndAnd left right = both left (both one (either here (both right o
 binary_way op.OrOr left right = both left (both one (either here (both right one)))
 binary_way operator left right = both left (both right one)
 
+-- The ways of an expression, once those of its parts are known.
 abbrev pub expr_way_step : (ℕ → Way) → (X : Type 0) → (X → Expr) → (X → Way) → Expr-F X → Way
 expr_way_step callees X tree way (Expr-F.Number number) = one
 expr_way_step callees X tree way (Expr-F.Slot slot) = one
@@ -80,6 +90,7 @@ expr_way_step callees X tree way (Expr-F.Unary operator operand) = both (way ope
 expr_way_step callees X tree way (Expr-F.Binary operator left right) = binary_way operator (way left) (way right)
 expr_way_step callees X tree way (Expr-F.Call function arguments) = both (ways_through way arguments) (both one (callees function))
 
+-- The ways of an expression.
 abbrev pub expr_way : (ℕ → Way) → Expr → Way
 expr_way callees = rec-Expr Way (expr_way_step callees)
 
@@ -91,17 +102,21 @@ pub data End : Type 0 where
   Back : End
   To : (point : ℕ) → End
 
+-- The ways to each end
 abbrev pub Course : Type 1
 Course = End → Way
 
+-- Ways that fall through
 abbrev pub falling : Way → Course
 falling way Fell = way
 falling way _ = no_way
 
+-- Ways that end back in the caller
 abbrev pub returning : Way → Course
 returning way Back = way
 returning way _ = no_way
 
+-- Ways that end at a point
 abbrev pub reaching : ℕ → Way → Course
 reaching point way end before now = (end ≡ To point) × way before now
 
@@ -110,6 +125,7 @@ abbrev pub leaving : Course → Course
 leaving course Fell = no_way
 leaving course end = course end
 
+-- A course behind a way
 abbrev pub behind : Way → Course → Course
 behind way course end = both way (course end)
 
@@ -117,9 +133,11 @@ behind way course end = both way (course end)
 abbrev pub and_on : Course → Course → Course
 and_on first second end = either (both (first Fell) (second end)) (leaving first end)
 
+-- This course or that
 abbrev pub or_else : Course → Course → Course
 or_else this that end = either (this end) (that end)
 
+-- One after the other
 abbrev pub courses_through : {X : Type 0} → (X → Course) → List X → Course
 courses_through course [] = falling here
 courses_through course (x ∷ rest) = and_on (course x) (courses_through course rest)
@@ -134,6 +152,7 @@ abbrev pub branching : {X : Type 0} → (X → Course) → Course → Option (Li
 branching course branch None = or_else branch (falling here)
 branching course branch (Some other) = or_else (and_on branch (falling one)) (courses_through course other)
 
+-- The course of a statement, once those of its parts are known.
 abbrev pub course_step : (ℕ → Way) → (X : Type 0) → (X → Stmt) → (X → Course) → Stmt-F X → Course
 course_step callees X tree course (Stmt-F.Set slot value) = falling (both (expr_way callees value) one)
 course_step callees X tree course (Stmt-F.SetCopy variable value) = falling (both (expr_way callees value) one)
@@ -145,6 +164,7 @@ course_step callees X tree course (Stmt-F.Send value stream after clock) = falli
 course_step callees X tree course (Stmt-F.Advance point) = reaching point one
 course_step callees X tree course (Stmt-F.Return value) = returning (both (expr_way callees value) one)
 
+-- The course of a statement.
 abbrev pub course_by : (ℕ → Way) → Stmt → Course
 course_by callees = rec-Stmt Course (course_step callees)
 
@@ -154,6 +174,7 @@ course_by callees = rec-Stmt Course (course_step callees)
 abbrev pub back_way : Course → Way
 back_way course = either (course Back) (both (course Fell) (both one one))
 
+-- The ways of a function, where it calls these.
 abbrev pub callee_way : (ℕ → Way) → FunctionDecl → Way
 callee_way above function = back_way (courses_through (course_by above) function.stmts)
 
@@ -161,15 +182,18 @@ callee_way above function = back_way (courses_through (course_by above) function
 abbrev pub with_way : ℕ → Way → (ℕ → Way) → ℕ → Way
 with_way number last above function before now = ((function ≡ number) × last before now) ⊎ ((function ≢ number) × above function before now)
 
+-- The ways of these functions, counted from a number on
 abbrev pub callee_ways_from : ℕ → (ℕ → Way) → List FunctionDecl → ℕ → Way
 callee_ways_from number above [] = above
 callee_ways_from number above (f ∷ rest) = callee_ways_from (number + 1) (with_way number (callee_way above f) above) rest
 
+-- The ways of a unit's functions, by number.
 abbrev pub callee_ways : List FunctionDecl → ℕ → Way
 callee_ways functions = callee_ways_from 0 (λ function. here) functions
 
 -- ---- pieces of a body
 
+-- The course of a piece.
 abbrev pub piece_course : (ℕ → Way) → Piece → Course
 piece_course callees (Do stmt) = course_by callees stmt
 piece_course callees Hop = falling one

@@ -1,4 +1,3 @@
-use Rattle.std.proofs.Common.{refl}
 use Rattle.psy_code.proofs.Rowed.{has_row}
 use Rattle.psy_code.proofs.laws.rows.Goals as goal
 
