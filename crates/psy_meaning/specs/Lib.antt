@@ -1,8 +1,11 @@
 pub mod Alike
 pub mod Counter
+pub mod Depths
 pub mod Expressions
 pub mod Paths
 pub mod Rest
+pub mod Sizes
 pub mod States
 pub mod Statements
+pub mod Units
 pub mod Ways
