@@ -5,6 +5,7 @@ pub mod Expressions
 pub mod Paths
 pub mod Rest
 pub mod Sizes
+pub mod Sound
 pub mod States
 pub mod Statements
 pub mod Units

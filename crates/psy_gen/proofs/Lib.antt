@@ -1,0 +1,5 @@
+mod Contexts
+mod ExprRuns
+mod Leads
+mod Lookups
+mod Steps

@@ -1,0 +1,67 @@
+-- What expressions and statements may name where they stand.
+use Rattle.std.specs.Prelude.{◌≡◌, ℕ, ◌<◌, Bool, true, false, List, [], ◌∷◌, map, length, Option, Some, None, slice_get, ⊤}
+use Rattle.psy_tree.specs.declared.unit.FunctionDecl.{FunctionDecl}
+use Rattle.psy_tree.specs.declared.unit.Expr.{Expr, rec-Expr}
+use Rattle.psy_tree.specs.declared.unit.Expr.TheOpen.{Expr-F}
+use Rattle.psy_tree.specs.declared.unit.Stmt.{Stmt, rec-Stmt}
+use Rattle.psy_tree.specs.declared.unit.Stmt.TheOpen.{Stmt-F}
+use Rattle.psy_meaning.specs.Paths.{quiet_list}
+
+-- What can be named in an agent or a function.
+pub record Scope : Type 0 where
+  -- by slot, how many cells it has
+  pub layout : List ℕ
+  -- the temporal variables that the agent owns
+  pub copies : List ℕ
+  -- by variable, how many of its dates can be looked back
+  pub depths : List ℕ
+  -- by stream, whether the agent receives it
+  pub streams : List Bool
+  -- the functions that can be called
+  pub functions : List FunctionDecl
+  -- how many points the agent has
+  pub points : ℕ
+  -- whether a value may be returned
+  pub returns : Bool
+
+-- A slot with a cell
+abbrev pub HasSlot : Scope → ℕ → Type 0
+HasSlot scope slot = (cells : ℕ) × (slice_get scope.layout slot ≡ Some cells) × (0 < cells)
+
+-- A variable that the agent owns
+abbrev pub HasCopy : Scope → ℕ → Type 0
+HasCopy scope variable = (place : ℕ) × (slice_get scope.copies place ≡ Some variable)
+
+-- A look that isn't too deep
+abbrev pub HasPast : Scope → ℕ → ℕ → Type 0
+HasPast scope variable back = (depth : ℕ) × (slice_get scope.depths variable ≡ Some depth) × (back < depth)
+
+-- A stream that the agent receives
+abbrev pub HasStream : Scope → ℕ → Type 0
+HasStream scope stream = slice_get scope.streams stream ≡ Some true
+
+-- A function that can be called with so many arguments
+abbrev pub HasFunction : Scope → ℕ → ℕ → Type 0
+HasFunction scope function arguments = (decl : FunctionDecl) × (slice_get scope.functions function ≡ Some decl) × (arguments ≡ decl.params)
+
+-- Each of them is sound.
+abbrev pub Each : {X : Type 0} → (X → Type 0) → List X → Type 0
+Each sound [] = ⊤
+Each sound (x ∷ rest) = sound x × Each sound rest
+
+-- An expression is sound, once it is known which of its parts are.
+abbrev pub sound_expr_step : Scope → (X : Type 0) → (X → Expr) → (X → Type 0) → Expr-F X → Type 0
+sound_expr_step scope X tree sound (Expr-F.Number number) = ⊤
+sound_expr_step scope X tree sound (Expr-F.Slot slot) = HasSlot scope slot
+sound_expr_step scope X tree sound (Expr-F.Copy variable) = HasCopy scope variable
+sound_expr_step scope X tree sound (Expr-F.Cell slot index) = HasSlot scope slot × sound index
+sound_expr_step scope X tree sound (Expr-F.Past variable back) = HasPast scope variable back
+sound_expr_step scope X tree sound (Expr-F.Ready stream) = HasStream scope stream
+sound_expr_step scope X tree sound (Expr-F.Take stream) = HasStream scope stream
+sound_expr_step scope X tree sound (Expr-F.Unary operator operand) = sound operand
+sound_expr_step scope X tree sound (Expr-F.Binary operator left right) = sound left × sound right
+sound_expr_step scope X tree sound (Expr-F.Call function arguments) = HasFunction scope function (length arguments) × Each sound arguments
+
+-- All that an expression names can be named.
+abbrev pub IsSoundExpr : Scope → Expr → Type 0
+IsSoundExpr scope = rec-Expr (Type 0) (sound_expr_step scope)
