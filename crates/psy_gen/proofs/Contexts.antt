@@ -80,11 +80,14 @@ both_true : (a b : Bool) → a ≡ true → b ≡ true → (a && b) ≡ true
 both_true true b p q = q
 both_true false b p q = p
 
+pub has_room_by : (its : AgentCode) (m : Machine) → length m.operands ≤ its.stack → cells_of m.calls ≤ its.frames → length m.calls ≤ 64 → has_room its m ≡ true
+has_room_by its m operands cells calls =
+    both_true (nat_le (length m.operands) its.stack) _ (le_true (length m.operands) its.stack operands)
+    (both_true (nat_le (cells_of m.calls) its.frames) _ (le_true (cells_of m.calls) its.frames cells) (le_true (length m.calls) 64 calls))
+
 pub roomy : (its : AgentCode) (k : Context) (p : ℕ) (operands : List ℤ) (store : Store) (counters : List ℕ) (cells calls : ℕ) → Room its k (frame_size store counters) (length operands) cells calls → has_room its (machine_in k p operands store counters) ≡ true
 roomy its k p operands store counters cells calls r =
-    both_true (nat_le (length operands) its.stack) _ (le_true (length operands) its.stack r.stack)
-    (both_true (nat_le (cells_of (calls_in k store counters)) its.frames) _ (le_true (cells_of (calls_in k store counters)) its.frames (omega (arith, cells_used k store counters, r.frames)))
-      (le_true (length (calls_in k store counters)) 64 (omega (arith, depth_used k store counters, r.calls))))
+    has_room_by its (machine_in k p operands store counters) r.stack (omega (arith, cells_used k store counters, r.frames)) (omega (arith, depth_used k store counters, r.calls))
 
 -- ---- the code at its place
 

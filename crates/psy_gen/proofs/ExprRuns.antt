@@ -143,7 +143,7 @@ module _ (whole : Code) (its : AgentCode) (sc : Scope) (k : Context) (callees : 
 
   -- ---- one operand, and an instruction on it
 
-  len-one : (c : List Instr) (i : Instr) (n : ℕ) → length c ≡ n → length (c ++ i ∷ []) ≡ n + 1
+  pub len-one : (c : List Instr) (i : Instr) (n : ℕ) → length c ≡ n → length (c ++ i ∷ []) ≡ n + 1
   len-one c i n e = length-append c (i ∷ []) ∙ ap (λ x. x + 1) e
 
   -- the second part stands behind the first

@@ -2,7 +2,7 @@
 use Rattle.std.proofs.Common.{◌≡◌, refl, sym, ap, subst, ◌∙◌, arith}
 use Rattle.std.specs.Prelude.{ℕ, zero, suc, ◌+◌, ◌<◌, ◌==◌, Bool, true, false, T, if◌then◌else◌, List, [], ◌∷◌, ◌++◌, map, take, drop, length, slice_get, slice_set, slice_index_or, Option, Some, None, ℤ, pos, negsuc, nat_lt}
 use Rattle.psy_code.specs.Views.{View, found_in, past_of, messages_of, without_first, taken_from}
-use Rattle.psy_code.specs.Execution.{Copy, copy_of, index_in}
+use Rattle.psy_code.specs.Execution.{Copy, copy_of, with_copy, index_in}
 use Rattle.psy_meaning.specs.Sizes.{total}
 use Rattle.psy_meaning.specs.Sound.{Scope, HasSlot, HasCopy, HasPast, HasStream}
 use Rattle.psy_meaning.specs.Alike.{is_there}
@@ -123,3 +123,47 @@ index_small cells (pos j) i e = by (nat_lt j cells) refl e
     by true f g = grind (arith, f, some_is j i g)
     by false f g = no_some i g
 index_small cells (negsuc j) i e = no_some i e
+
+-- ---- a value into a cell
+
+set-front : (xs ys : List ℤ) (j : ℕ) (v : ℤ) → j < length xs → slice_set (xs ++ ys) j v ≡ slice_set xs j v ++ ys
+set-front [] ys j v h = absurd (omega (arith, h))
+set-front (x ∷ xs) ys zero v h = refl
+set-front (x ∷ xs) ys (suc j) v h = ap (λ l. x ∷ l) (set-front xs ys j v (omega (arith, h)))
+
+set-behind : (xs ys : List ℤ) (j : ℕ) (v : ℤ) → slice_set (xs ++ ys) (length xs + j) v ≡ xs ++ slice_set ys j v
+set-behind [] ys j v = let e : 0 + j ≡ j = omega arith in ap (λ i. slice_set ys i v) e
+set-behind (x ∷ xs) ys j v = let e : length (x ∷ xs) + j ≡ suc (length xs + j) = omega arith in ap (λ i. slice_set (x ∷ (xs ++ ys)) i v) e ∙ ap (λ l. x ∷ l) (set-behind xs ys j v)
+
+set_by : (slots : List (List ℤ)) (slot c j : ℕ) (v : ℤ) → slice_get (map length slots) slot ≡ Some c → j < c
+    → joined (slice_set slots slot (slice_set (slice_index_or slots slot []) j v)) ≡ slice_set (joined slots) (total (take slot (map length slots)) + j) v
+set_by [] slot c j v e h = no_some c e
+set_by (x ∷ xs) zero c j v e h = let z : 0 + j ≡ j = omega arith in sym (ap (λ i. slice_set (x ++ joined xs) i v) z ∙ set-front x (joined xs) j v (omega (arith, h, some_is (length x) c e)))
+set_by (x ∷ xs) (suc slot) c j v e h =
+    let z : length x + total (take slot (map length xs)) + j ≡ length x + (total (take slot (map length xs)) + j) = omega arith in
+    ap (λ l. x ++ l) (set_by xs slot c j v e h) ∙ sym (ap (λ i. slice_set (x ++ joined xs) i v) z ∙ set-behind x (joined xs) (total (take slot (map length xs)) + j) v)
+
+pub set_is : (layout : List ℕ) (store : Store) (slot c j : ℕ) (v : ℤ) → map length store.slots ≡ layout → slice_get layout slot ≡ Some c → j < c
+    → joined (slice_set store.slots slot (slice_set (cells_at store slot) j v)) ≡ slice_set (joined store.slots) (base_of layout slot + j) v
+set_is layout store slot c j v shape e h =
+    subst (λ l. joined (slice_set store.slots slot (slice_set (cells_at store slot) j v)) ≡ slice_set (joined store.slots) (total (take slot l) + j) v) shape
+    (set_by store.slots slot c j v (subst (λ l. slice_get l slot ≡ Some c) (sym shape) e) h)
+
+set-length : (xs : List ℤ) (j : ℕ) (v : ℤ) → length (slice_set xs j v) ≡ length xs
+set-length [] j v = refl
+set-length (x ∷ xs) zero v = refl
+set-length (x ∷ xs) (suc j) v = ap suc (set-length xs j v)
+
+pub lengths-set : (slots : List (List ℤ)) (slot j : ℕ) (v : ℤ) → map length (slice_set slots slot (slice_set (slice_index_or slots slot []) j v)) ≡ map length slots
+lengths-set [] slot j v = refl
+lengths-set (x ∷ xs) zero j v = ap (λ n. n ∷ map length xs) (set-length x j v)
+lengths-set (x ∷ xs) (suc slot) j v = ap (λ l. length x ∷ l) (lengths-set xs slot j v)
+
+pub variables-set : (copies : List Copy) (variable : ℕ) (v : ℤ) → map (λ (c : Copy). c.variable) (with_copy variable v copies) ≡ map (λ (c : Copy). c.variable) copies
+variables-set [] variable v = refl
+variables-set (c ∷ cs) variable v = by (c.variable == variable) (variables-set cs variable v)
+  where
+    by : (b : Bool) → map (λ (c : Copy). c.variable) (with_copy variable v cs) ≡ map (λ (c : Copy). c.variable) cs
+        → map (λ (c : Copy). c.variable) (if b then record c { value = v } ∷ cs else c ∷ with_copy variable v cs) ≡ map (λ (c : Copy). c.variable) (c ∷ cs)
+    by true e = refl
+    by false e = ap (λ l. c.variable ∷ l) e

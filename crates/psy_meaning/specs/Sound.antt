@@ -1,5 +1,5 @@
 -- What expressions and statements may name where they stand.
-use Rattle.std.specs.Prelude.{◌≡◌, ℕ, ◌<◌, Bool, true, false, List, [], ◌∷◌, map, length, Option, Some, None, slice_get, ⊤}
+use Rattle.std.specs.Prelude.{◌≡◌, ℕ, ◌<◌, ◌≤◌, Bool, true, false, List, [], ◌∷◌, map, length, Option, Some, None, slice_get, ⊤}
 use Rattle.psy_tree.specs.declared.unit.FunctionDecl.{FunctionDecl}
 use Rattle.psy_tree.specs.declared.unit.Expr.{Expr, rec-Expr}
 use Rattle.psy_tree.specs.declared.unit.Expr.TheOpen.{Expr-F}
@@ -65,3 +65,30 @@ sound_expr_step scope X tree sound (Expr-F.Call function arguments) = HasFunctio
 -- All that an expression names can be named.
 abbrev pub IsSoundExpr : Scope → Expr → Type 0
 IsSoundExpr scope = rec-Expr (Type 0) (sound_expr_step scope)
+
+-- ---- statements
+
+-- All of them are sound, or there are none.
+abbrev pub EachOr : {X : Type 0} → (X → Type 0) → Option (List X) → Type 0
+EachOr sound None = ⊤
+EachOr sound (Some xs) = Each sound xs
+
+-- A statement is sound, once it is known which of its parts are. A loop without bound ends the action in each turn.
+abbrev pub sound_stmt_step : Scope → (X : Type 0) → (X → Stmt) → (X → Type 0) → Stmt-F X → Type 0
+sound_stmt_step scope X tree sound (Stmt-F.Set slot value) = HasSlot scope slot × IsSoundExpr scope value
+sound_stmt_step scope X tree sound (Stmt-F.SetCopy variable value) = HasCopy scope variable × IsSoundExpr scope value
+sound_stmt_step scope X tree sound (Stmt-F.SetCell slot index value) = HasSlot scope slot × IsSoundExpr scope index × IsSoundExpr scope value
+sound_stmt_step scope X tree sound (Stmt-F.If test branch other) = IsSoundExpr scope test × Each sound branch × EachOr sound other
+sound_stmt_step scope X tree sound (Stmt-F.Bounded test most body) = IsSoundExpr scope test × (most ≤ 65536) × Each sound body
+sound_stmt_step scope X tree sound (Stmt-F.Timed test body) = IsSoundExpr scope test × (quiet_list (map tree body) ≡ false) × Each sound body
+sound_stmt_step scope X tree sound (Stmt-F.Send value stream after clock) = IsSoundExpr scope value
+sound_stmt_step scope X tree sound (Stmt-F.Advance point) = point < scope.points
+sound_stmt_step scope X tree sound (Stmt-F.Return value) = (scope.returns ≡ true) × IsSoundExpr scope value
+
+-- All that a statement names can be named.
+abbrev pub IsSoundStmt : Scope → Stmt → Type 0
+IsSoundStmt scope = rec-Stmt (Type 0) (sound_stmt_step scope)
+
+-- All that statements name can be named.
+abbrev pub AreSound : Scope → List Stmt → Type 0
+AreSound scope stmts = Each (IsSoundStmt scope) stmts
