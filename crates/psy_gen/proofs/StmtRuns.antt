@@ -1,7 +1,8 @@
 -- The code of statements acts as the statements.
 use Rattle.std.proofs.Common.{◌≡◌, refl, sym, ap, subst, ◌∙◌, arith}
-use Rattle.std.specs.Prelude.{ℕ, zero, suc, ◌+◌, ◌%◌, ◌^◌, ◌<◌, ◌≤◌, ◌==◌, max, nat_lt, Bool, true, false, not, if◌then◌else◌, List, [], ◌∷◌, ◌++◌, map, length, slice_get, slice_set, slice_index_or, Option, Some, None, ℤ, pos, negsuc, ⊤}
+use Rattle.std.specs.Prelude.{ℕ, zero, suc, ◌+◌, ◌-◌, ◌%◌, ◌^◌, ◌<◌, ◌≤◌, ◌==◌, max, nat_lt, Bool, true, false, not, if◌then◌else◌, List, [], ◌∷◌, ◌++◌, map, length, slice_get, slice_set, slice_index_or, Option, Some, None, ℤ, pos, negsuc, ⊤}
 use Rattle.std.proofs.lemmas.List.{length-append}
+use Rattle.std.proofs.Math.Nat.{mod-eq_of_lt}
 use Rattle.psy_arith.specs.declared.operators.Trap.TheVariants as trap
 use Rattle.psy_arith.specs.Operators.{truth, is_zero}
 use Rattle.psy_tree.specs.declared.unit.Expr.{Expr}
@@ -28,7 +29,7 @@ use Rattle.psy_gen.proofs.Lookups.{cells_are, copy_is, got_is, index_small, cell
 use Rattle.psy_gen.proofs.Loud.{all_loud}
 use Rattle.psy_gen.proofs.Steps.{traps}
 use Rattle.psy_gen.proofs.ExprRuns.{Runs, Sized, len-one}
-use Rattle.psy_gen.proofs.Outcomes.{Keeps, keeps_same, keeps_on, keeps_less, returned, LeadsTo, After, after_leads, after_at, after_keeps, after_any, value_after, then_after, then_down, step_to, size_is, counter_in, store_goes, zero_goes}
+use Rattle.psy_gen.proofs.Outcomes.{Keeps, keeps_same, keeps_on, keeps_less, returned, LeadsTo, After, after_leads, after_at, after_keeps, after_any, value_after, then_after, then_down, step_to, size_is, counter_in, store_goes, zero_goes, guard_is, keeps_set, get-set, got-within}
 
 module _ (whole : Code) (its : AgentCode) (sc : Scope) (k : Context) (callees : ℕ → Callee) (depths : List Depth) (more count : ℕ) where
 
@@ -362,3 +363,135 @@ module _ (whole : Code) (its : AgentCode) (sc : Scope) (k : Context) (callees : 
           after_any whole its sc k (first + b) end c operands counters (at k first operands t counters) (block_act ks t) (all_loud callees (map tree ks) loud t)
           (block_runs ks each c first operands counters t (has-first whole.instrs first (block_code (parts ks) c first) (instr.Jump p ∷ []) has) (omega (arith, small)) (omega (arith, enough)) len sh (less (length operands + all.operands) (length operands + (block_depth ks).operands) all.cells (block_depth ks).cells room (omega arith) (omega arith))))
         (λ t sh. falls_here end end c operands counters t refl sh))
+
+  -- ---- bounded loops
+
+  not_equal : (a b c : ℕ) → a + suc c ≡ b → (a == b) ≡ false
+  not_equal a b c e = grind (arith, e)
+
+  equal : (a b : ℕ) → a + 0 ≡ b → (a == b) ≡ true
+  equal a b e = grind (arith, e)
+
+  -- The guard of a value that is 0, and the jump behind the loop
+  done_after : (v : ℤ) (q end c most j : ℕ) (operands : List ℤ) (counters : List ℕ) (t : State) → is_zero v ≡ true → slice_get whole.instrs q ≡ Some (instr.Guard c most) → slice_get whole.instrs (q + 1) ≡ Some (instr.JumpZero end) → end < length whole.instrs
+      → slice_get counters c ≡ Some j → Shape sc t → length counters ≡ count → Room its k (total sc.layout + count) (length operands + 1) 0 more
+      → After whole its sc k end c operands counters (at k q (v ∷ operands) t counters) (Falls (cost_1 (cost_1 t)))
+  done_after v q end c most j operands counters t is_0 guard test small found sh len room =
+      let g = leads_step (instr.Guard c most) q (q + 1) (v ∷ operands) (v ∷ operands) counters t guard (guard_is k q c most j v operands t.store counters found ∙ rw is_0 refl) refl sh len (less (length operands + 1) (length (v ∷ operands)) 0 0 room (omega arith) (omega arith)) in
+      after_leads whole its sc k end c operands counters (at k q (v ∷ operands) t counters) (at k (q + 1) (v ∷ operands) (cost_1 t) counters) (Falls (cost_1 (cost_1 t))) g
+      (falls_step (instr.JumpZero end) (q + 1) end c (v ∷ operands) operands counters counters (cost_1 t) (cost_1 (cost_1 t)) test (in_code_is end _ small ∙ rw is_0 refl) refl (ticked (cost_1 t) (ticked t sh)) (keeps_same c counters) len (less (length operands + 1) (length operands) 0 0 room (omega arith) (omega arith)))
+
+  -- The guard of another value where the bound is reached
+  stopped_after : (v : ℤ) (q p c most j : ℕ) (operands : List ℤ) (counters : List ℕ) (t : State) → is_zero v ≡ false → (j == most) ≡ true → slice_get whole.instrs q ≡ Some (instr.Guard c most) → slice_get counters c ≡ Some j
+      → After whole its sc k p c operands counters (at k q (v ∷ operands) t counters) (Halts (trapping trap.Loop t))
+  stopped_after v q p c most j operands counters t more_turns reached guard found = traps whole its k sc q (v ∷ operands) counters t (instr.Guard c most) trap.Loop guard (guard_is k q c most j v operands t.store counters found ∙ rw (more_turns, reached) refl)
+
+  -- The guard of another value below the bound, and on to the body
+  turn_leads : (v : ℤ) (q end c most j : ℕ) (operands : List ℤ) (counters : List ℕ) (t : State) → is_zero v ≡ false → (j == most) ≡ false → j < 2 ^ 32 - 1 → slice_get whole.instrs q ≡ Some (instr.Guard c most) → slice_get whole.instrs (q + 1) ≡ Some (instr.JumpZero end) → end < length whole.instrs
+      → slice_get counters c ≡ Some j → Shape sc t → length counters ≡ count → Room its k (total sc.layout + count) (length operands + 1) 0 more
+      → Leads whole its (at k q (v ∷ operands) t counters) (at k (q + 1 + 1) operands (cost_1 (cost_1 t)) (slice_set counters c (j + 1)))
+  turn_leads v q end c most j operands counters t holds below few guard test small found sh len room =
+      let next = slice_set counters c (j + 1) in
+      let fits : (j + 1) % 2 ^ 32 ≡ j + 1 = mod-eq_of_lt (omega (arith, few)) in
+      let m = machine_in k q (v ∷ operands) t.store counters in
+      let goes : does whole its t.view (instr.Guard c most) m ≡ Went (machine_in k (q + 1) (v ∷ operands) t.store next) =
+          guard_is k q c most j v operands t.store counters found ∙ rw (holds, below, fits) (ap (code.onward (v ∷ operands)) (counter_in k q (v ∷ operands) t.store counters c (j + 1))) in
+      let g = step_to whole its sc k q (q + 1) (v ∷ operands) (v ∷ operands) counters next t (cost_1 t) (instr.Guard c most) (total sc.layout + count) 0 more guard goes refl
+          (size_is sc (cost_1 t) next count (ticked t sh) ((keeps_set counters c (j + 1)).count ∙ len)) (less (length operands + 1) (length (v ∷ operands)) 0 0 room (omega arith) (omega arith)) in
+      after whole its (at k q (v ∷ operands) t counters) (at k (q + 1) (v ∷ operands) (cost_1 t) next) (at k (q + 1 + 1) operands (cost_1 (cost_1 t)) next) g
+      (leads_step (instr.JumpZero end) (q + 1) (q + 1 + 1) (v ∷ operands) operands next (cost_1 t) test (in_code_is end _ small ∙ rw holds refl) refl (ticked t sh) ((keeps_set counters c (j + 1)).count ∙ len) (less (length operands + 1) (length operands) 0 0 room (omega arith) (omega arith)))
+
+  abbrev loop_depth : Expr → List Known → Depth
+  loop_depth e ks = deeper (expr_depth depths e) (block_depth ks)
+
+  -- The code of a loop behind its test
+  abbrev loop_tail : List Known → ℕ → ℕ → ℕ → ℕ → ℕ → List Instr
+  loop_tail ks c most again end first = instr.Guard c most ∷ (instr.JumpZero end ∷ (block_code (parts ks) (c + 1) first ++ instr.Jump again ∷ []))
+
+  -- The last test
+  last_after : (ks : List Known) (v : ℤ) (q c most j again end first : ℕ) (operands : List ℤ) (counters : List ℕ) (t : State) → HasAt whole.instrs q (loop_tail ks c most again end first) → end < length whole.instrs → j + 0 ≡ most
+      → slice_get counters c ≡ Some j → Shape sc t → length counters ≡ count → Room its k (total sc.layout + count) (length operands + 1) 0 more
+      → After whole its sc k end c operands counters (at k q (v ∷ operands) t counters) (if is_zero v then Falls (cost_1 (cost_1 t)) else Halts (trapping trap.Loop t))
+  last_after ks v q c most j again end first operands counters t h small sum found sh len room = from (is_zero v) refl
+    where
+      from : (b : Bool) → is_zero v ≡ b → After whole its sc k end c operands counters (at k q (v ∷ operands) t counters) (if b then Falls (cost_1 (cost_1 t)) else Halts (trapping trap.Loop t))
+      from true z = done_after v q end c most j operands counters t z h.0 h.1.0 small found sh len room
+      from false z = stopped_after v q end c most j operands counters t z (equal j most sum) h.0 found
+
+  -- A test before a further turn
+  one_after : (ks : List Known) → Each (IsSoundStmt sc) (map tree ks) → (v : ℤ) (q c most j left again end : ℕ) (operands : List ℤ) (counters : List ℕ) (t : State) (rest : Act)
+      → HasAt whole.instrs q (loop_tail ks c most again end (q + 1 + 1)) → q + 1 + 1 + block_size (parts ks) + 1 ≡ end → end < length whole.instrs → again < q + 1 → j + suc left ≡ most → most ≤ 65536 → c + 1 + block_loops (parts ks) ≤ count
+      → slice_get counters c ≡ Some j → Shape sc t → length counters ≡ count → Room its k (total sc.layout + count) (length operands + 1) 0 more → Room its k (total sc.layout + count) (length operands + (block_depth ks).operands) (block_depth ks).cells more
+      → ((now : List ℕ) (u : State) → slice_get now c ≡ Some (j + 1) → Shape sc u → length now ≡ count → After whole its sc k end c operands now (at k again operands u now) (rest u))
+      → After whole its sc k end c operands counters (at k q (v ∷ operands) t counters) (if is_zero v then Falls (cost_1 (cost_1 t)) else then_do (block_act ks (cost_1 (cost_1 t))) (λ u. rest (cost_1 u)))
+  one_after ks each v q c most j left again end operands counters t rest h ends small before sum bound enough found sh len room room_body next = from (is_zero v) refl
+    where
+      first : ℕ
+      first = q + 1 + 1
+      from : (b : Bool) → is_zero v ≡ b → After whole its sc k end c operands counters (at k q (v ∷ operands) t counters) (if b then Falls (cost_1 (cost_1 t)) else then_do (block_act ks (cost_1 (cost_1 t))) (λ u. rest (cost_1 u)))
+      from true z = done_after v q end c most j operands counters t z h.0 h.1.0 small found sh len room
+      from false z =
+          let changed = slice_set counters c (j + 1) in
+          let u : State = cost_1 (cost_1 t) in
+          let jump = instr.Jump again ∷ [] in
+          let kept = keeps_set counters c (j + 1) in
+          let has_jump = subst (λ y. HasAt whole.instrs (q + 1 + 1 + y) jump) (block_sized ks (c + 1) (q + 1 + 1)) (has-second whole.instrs (q + 1 + 1) (block_code (parts ks) (c + 1) (q + 1 + 1)) jump h.1.1) in
+          after_leads whole its sc k end c operands counters (at k q (v ∷ operands) t counters) (at k (q + 1 + 1) operands u changed) _
+          (turn_leads v q end c most j operands counters t z (not_equal j most left sum) (omega (arith, sum, bound)) h.0 h.1.0 small found sh len room)
+          (after_keeps whole its sc k end c c operands counters changed (at k (q + 1 + 1) operands u changed) _ (omega arith) kept
+            (then_down whole its sc k (q + 1 + 1 + block_size (parts ks)) end c (c + 1) operands changed (at k (q + 1 + 1) operands u changed) (block_act ks u) (λ x. rest (cost_1 x)) (omega arith)
+              (block_runs ks each (c + 1) (q + 1 + 1) operands changed u (has-first whole.instrs (q + 1 + 1) (block_code (parts ks) (c + 1) (q + 1 + 1)) jump h.1.1) (omega (arith, ends, small)) enough (kept.count ∙ len) (ticked (cost_1 t) (ticked t sh)) room_body)
+              (λ x now keeps sh'.
+                let len' = keeps.count ∙ kept.count ∙ len in
+                after_leads whole its sc k end c operands now (at k (q + 1 + 1 + block_size (parts ks)) operands x now) (at k again operands (cost_1 x) now) (rest (cost_1 x))
+                (leads_step (instr.Jump again) (q + 1 + 1 + block_size (parts ks)) again operands operands now x has_jump.0 (in_code_is again _ (omega (arith, before, ends, small))) refl sh' len' (less (length operands + 1) (length operands) 0 0 room (omega arith) (omega arith)))
+                (next now (cost_1 x) (keeps.below c (omega arith) ∙ get-set counters c (j + 1) (omega (arith, len, enough))) (ticked x sh') len'))))
+
+  -- The turns of a loop, from its test on
+  turns_after : (e : Expr) (ks : List Known) → ExprKnown e → IsSoundExpr sc e → Each (IsSoundStmt sc) (map tree ks) → (left j c most again end : ℕ) (operands : List ℤ) (counters : List ℕ) (s : State)
+      → HasAt whole.instrs again (expr_code sc.layout e again ++ loop_tail ks c most again end (again + expr_size e + 1 + 1)) → again + expr_size e + 1 + 1 + block_size (parts ks) + 1 ≡ end → end < length whole.instrs
+      → j + left ≡ most → most ≤ 65536 → c + 1 + block_loops (parts ks) ≤ count → slice_get counters c ≡ Some j → Shape sc s → length counters ≡ count
+      → Room its k (total sc.layout + count) (length operands + (loop_depth e ks).operands) (loop_depth e ks).cells more
+      → After whole its sc k end c operands counters (at k again operands s counters) (turns left (eval callees e) (block_act ks) s)
+  turns_after e ks known sound each zero j c most again end operands counters s h ends small sum bound enough found shape len room =
+      let n = expr_size e in
+      let d = loop_depth e ks in
+      let tail = loop_tail ks c most again end (again + n + 1 + 1) in
+      let there = behind (expr_code sc.layout e) n again tail known.0 h in
+      value_after whole its sc k end (again + n) c operands operands counters s (at k again operands s counters) (eval callees e s) _
+        (known.2 sound again operands counters s (has-first whole.instrs again (expr_code sc.layout e again) tail h) (omega (arith, small, ends)) shape (as_seen s counters (length operands + (expr_depth depths e).operands) (expr_depth depths e).cells shape len
+          (less (length operands + d.operands) (length operands + (expr_depth depths e).operands) d.cells (expr_depth depths e).cells room (omega arith) (omega arith))))
+        (λ v t same sh. last_after ks v (again + n) c most j again end (again + n + 1 + 1) operands counters t there small sum found sh len (less (length operands + d.operands) (length operands + 1) d.cells 0 room (omega (arith, known.1)) (omega arith)))
+  turns_after e ks known sound each (suc left) j c most again end operands counters s h ends small sum bound enough found shape len room =
+      let n = expr_size e in
+      let d = loop_depth e ks in
+      let tail = loop_tail ks c most again end (again + n + 1 + 1) in
+      let there = behind (expr_code sc.layout e) n again tail known.0 h in
+      value_after whole its sc k end (again + n) c operands operands counters s (at k again operands s counters) (eval callees e s) _
+        (known.2 sound again operands counters s (has-first whole.instrs again (expr_code sc.layout e again) tail h) (omega (arith, small, ends)) shape (as_seen s counters (length operands + (expr_depth depths e).operands) (expr_depth depths e).cells shape len
+          (less (length operands + d.operands) (length operands + (expr_depth depths e).operands) d.cells (expr_depth depths e).cells room (omega arith) (omega arith))))
+        (λ v t same sh.
+          one_after ks each v (again + n) c most j left again end operands counters t (turns left (eval callees e) (block_act ks)) there ends small (omega arith) sum bound enough found sh len
+          (less (length operands + d.operands) (length operands + 1) d.cells 0 room (omega (arith, known.1)) (omega arith)) (less (length operands + d.operands) (length operands + (block_depth ks).operands) d.cells (block_depth ks).cells room (omega arith) (omega arith))
+          (λ now u found' sh' len'. turns_after e ks known sound each left (j + 1) c most again end operands now u h ends small (omega (arith, sum)) bound enough found' sh' len' room))
+
+  bounded_runs : (e : Expr) (most : ℕ) (ks : List Known) → ExprKnown e → IsSoundExpr sc e → most ≤ 65536 → Each (IsSoundStmt sc) (map tree ks)
+      → StmtRuns (bounded_code sc.layout e most (parts ks)) (expr_size e + 4 + block_size (parts ks)) (block_loops (parts ks) + 1) (loop_depth e ks) (λ s. turns most (eval callees e) (block_act ks) (cost_1 s))
+  bounded_runs e most ks known sound bound each c p operands counters s h small enough len shape room =
+      let n = expr_size e in
+      let b = block_size (parts ks) in
+      let d = loop_depth e ks in
+      let again = p + 1 in
+      let end = again + n + 2 + b + 1 in
+      let next = slice_set counters c 0 in
+      let kept = keeps_set counters c 0 in
+      let now = got-within counters c (omega (arith, len, enough)) in
+      let start = step_to whole its sc k p again operands operands counters next s (cost_1 s) (instr.Zero c) (total sc.layout + count) 0 more h.0 (zero_goes k p c now.0 operands s.store counters now.1) refl (size_is sc (cost_1 s) next count (ticked s shape) (kept.count ∙ len))
+          (less (length operands + d.operands) (length operands) d.cells 0 room (omega arith) (omega arith)) in
+      let two : again + n + 2 ≡ again + n + 1 + 1 = omega arith in
+      let code_there = subst (λ f. HasAt whole.instrs again (expr_code sc.layout e again ++ (instr.Guard c most ∷ (instr.JumpZero end ∷ (block_code (parts ks) (c + 1) f ++ instr.Jump again ∷ []))))) two h.1 in
+      let place : end ≡ p + (n + 4 + b) = omega arith in
+      after_at whole its sc k end (p + (n + 4 + b)) c operands counters (at k p operands s counters) _ place
+      (after_leads whole its sc k end c operands counters (at k p operands s counters) (at k again operands (cost_1 s) next) _ start
+        (after_keeps whole its sc k end c c operands counters next (at k again operands (cost_1 s) next) _ (omega arith) kept
+          (turns_after e ks known sound each most 0 c most again end operands next (cost_1 s) code_there (omega arith) (omega (arith, small)) (omega arith) bound (omega (arith, enough)) (get-set counters c 0 (omega (arith, len, enough))) (ticked s shape) (kept.count ∙ len) room)))
