@@ -49,6 +49,9 @@ sound_natural sc X v f (Expr-F.Unary operator operand) = refl
 sound_natural sc X v f (Expr-F.Binary operator left right) = refl
 sound_natural sc X v f (Expr-F.Call function arguments) = ap (λ n. HasFunction sc function n × Each (λ x. f (v x)) arguments) (length-map v arguments) ∙ ap (λ t. HasFunction sc function (length (map v arguments)) × t) (each-map v f arguments)
 
+pub len-one : (c : List Instr) (i : Instr) (n : ℕ) → length c ≡ n → length (c ++ i ∷ []) ≡ n + 1
+len-one c i n e = length-append c (i ∷ []) ∙ ap (λ x. x + 1) e
+
 -- The operands once these values were pushed
 abbrev pub pushed : List ℤ → List ℤ → List ℤ
 pushed [] operands = operands
@@ -142,9 +145,6 @@ module _ (whole : Code) (its : AgentCode) (sc : Scope) (k : Context) (callees : 
           (record { slots = shape.slots; copies = shape.copies; pasts = shape.pasts; streams = taken_there sc s.view stream shape.streams has }) room (omega arith)
 
   -- ---- one operand, and an instruction on it
-
-  pub len-one : (c : List Instr) (i : Instr) (n : ℕ) → length c ≡ n → length (c ++ i ∷ []) ≡ n + 1
-  len-one c i n e = length-append c (i ∷ []) ∙ ap (λ x. x + 1) e
 
   -- the second part stands behind the first
   behind : (c : Emit) (n p : ℕ) (rest : List Instr) → Sized c n → HasAt whole.instrs p (c p ++ rest) → HasAt whole.instrs (p + n) rest

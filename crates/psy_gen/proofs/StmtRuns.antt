@@ -31,6 +31,28 @@ use Rattle.psy_gen.proofs.Steps.{traps}
 use Rattle.psy_gen.proofs.ExprRuns.{Runs, Sized, len-one}
 use Rattle.psy_gen.proofs.Outcomes.{Keeps, keeps_same, keeps_on, keeps_less, returned, LeadsTo, After, after_leads, after_at, after_keeps, after_any, value_after, then_after, then_down, step_to, size_is, counter_in, store_goes, zero_goes, guard_is, keeps_set, get-set, got-within}
 
+each-map : {X : Type 0} (v : X → Stmt) (f : Stmt → Type 0) (xs : List X) → Each (λ x. f (v x)) xs ≡ Each f (map v xs)
+each-map v f [] = refl
+each-map v f (x ∷ xs) = ap (λ t. f (v x) × t) (each-map v f xs)
+
+same-map : {X : Type 0} (v : X → Stmt) (xs : List X) → map v xs ≡ map (λ y. y) (map v xs)
+same-map v [] = refl
+same-map v (x ∷ xs) = ap (λ l. v x ∷ l) (same-map v xs)
+
+sound_natural : (sc : Scope) (X : Type 0) (v : X → Stmt) (f : Stmt → Type 0) (x : Stmt-F X) → sound_stmt_step sc X v (λ p. f (v p)) x ≡ sound_stmt_step sc Stmt (λ y. y) f (map-Stmt X Stmt v x)
+sound_natural sc X v f (Stmt-F.Set slot value) = refl
+sound_natural sc X v f (Stmt-F.SetCopy variable value) = refl
+sound_natural sc X v f (Stmt-F.SetCell slot index value) = refl
+sound_natural sc X v f (Stmt-F.If test branch None) = ap (λ t. IsSoundExpr sc test × t × ⊤) (each-map v f branch)
+sound_natural sc X v f (Stmt-F.If test branch (Some other)) =
+    ap (λ t. IsSoundExpr sc test × t × Each (λ x. f (v x)) other) (each-map v f branch) ∙ ap (λ t. IsSoundExpr sc test × Each f (map v branch) × t) (each-map v f other)
+sound_natural sc X v f (Stmt-F.Bounded test most body) = ap (λ t. IsSoundExpr sc test × (most ≤ 65536) × t) (each-map v f body)
+sound_natural sc X v f (Stmt-F.Timed test body) =
+    ap (λ l. IsSoundExpr sc test × (quiet_list l ≡ false) × Each (λ x. f (v x)) body) (same-map v body) ∙ ap (λ t. IsSoundExpr sc test × (quiet_list (map (λ y. y) (map v body)) ≡ false) × t) (each-map v f body)
+sound_natural sc X v f (Stmt-F.Send value stream after clock) = refl
+sound_natural sc X v f (Stmt-F.Advance point) = refl
+sound_natural sc X v f (Stmt-F.Return value) = refl
+
 module _ (whole : Code) (its : AgentCode) (sc : Scope) (k : Context) (callees : ℕ → Callee) (depths : List Depth) (more count : ℕ) where
 
   -- What is known of an expression's code
@@ -495,3 +517,115 @@ module _ (whole : Code) (its : AgentCode) (sc : Scope) (k : Context) (callees : 
       (after_leads whole its sc k end c operands counters (at k p operands s counters) (at k again operands (cost_1 s) next) _ start
         (after_keeps whole its sc k end c c operands counters next (at k again operands (cost_1 s) next) _ (omega arith) kept
           (turns_after e ks known sound each most 0 c most again end operands next (cost_1 s) code_there (omega arith) (omega (arith, small)) (omega arith) bound (omega (arith, enough)) (get-set counters c 0 (omega (arith, len, enough))) (ticked s shape) (kept.count ∙ len) room)))
+
+  -- ---- the end of an action
+
+  -- Each point that can be named has its place.
+  abbrev AllPoints : Type 0
+  AllPoints = (point : ℕ) → point < sc.points → (place : ℕ) × (slice_get its.points point ≡ Some place)
+
+  ended_here : (place p : ℕ) (operands : List ℤ) (s : State) (counters : List ℕ) (k : Context) → Holds k (cost_1 s) (code.state_then (at k p operands s counters) None (code.begun_at place (machine_in k p operands s.store counters)))
+  ended_here place p operands s counters Home = (refl, refl, refl)
+  ended_here place p operands s counters (Inside home copies back outer) = (refl, refl, refl)
+
+  advance_runs : AllPoints → (point : ℕ) → point < sc.points → StmtRuns (λ c p. instr.Advance point ∷ []) 1 0 shallow (λ s. Halts (Ended point (cost_1 s)))
+  advance_runs points point named c p operands counters s h small enough len shape room =
+      let place = points point named in
+      let m = machine_in k p operands s.store counters in
+      let t = code.state_then (at k p operands s counters) None (code.begun_at place.0 m) in
+      (1, t, ap (λ x. code.go_on x (λ y. code.Running y)) (ended whole its (at k p operands s counters) (instr.Advance point) point (code.begun_at place.0 m) h.0 (rw (place.1) refl)), ended_here place.0 p operands s counters k)
+
+  -- ---- all statements
+
+  -- What is known of a layer's code, once it is known of its parts
+  abbrev Layer : Stmt-F Stmt → Type 0
+  Layer x =
+      let c = stmt_code_step sc.layout (map-Stmt Stmt Part part_of x) in
+      let n = stmt_size_step (map-Stmt Stmt ℕ stmt_size x) in
+      let l = loops_step (map-Stmt Stmt ℕ loops x) in
+      let d = stmt_depth_step depths (map-Stmt Stmt Depth (stmt_depth depths) x) in
+      StmtSized c n × (sound_stmt_step sc Stmt (λ y. y) (IsSoundStmt sc) x → StmtRuns c n l d (stmt_step callees (map-Stmt Stmt Act (act_by callees) x)))
+
+  -- the same with other names for the numbers
+  recounted : (c : Coded) (n m l j : ℕ) (d : Depth) (act : Act) → n ≡ m → l ≡ j → StmtRuns c n l d act → StmtRuns c m j d act
+  recounted c n m l j d act e f g = subst (λ x. StmtRuns c x j d act) e (subst (λ x. StmtRuns c n x d act) f g)
+
+  module _ (exprs : (e : Expr) → ExprKnown e) (home : AtHome) (work : AtWork) (points : AllPoints) where
+
+    if_layer : (test : Expr) (ks : List Known) → Layer (Stmt-F.If test (map tree ks) None)
+    if_layer test ks =
+        (λ c p. length-append (expr_code sc.layout test p) _ ∙ omega (arith, (exprs test).0 p, block_sized ks c (p + expr_size test + 1), sizes_same ks),
+          λ sound. recounted (if_code sc.layout test (parts ks) None) _ _ _ _ _ _ (omega (arith, sizes_same ks)) (omega (arith, loops_same ks)) (if_runs test ks (exprs test) sound.0 sound.1))
+
+    if_else_layer : (test : Expr) (ks os : List Known) → Layer (Stmt-F.If test (map tree ks) (Some (map tree os)))
+    if_else_layer test ks os =
+        (λ c p.
+            let first = p + expr_size test + 1 in
+            let second = first + block_size (parts ks) + 1 in
+            let l = block_loops (parts ks) in
+            length-append (expr_code sc.layout test p) _
+            ∙ omega (arith, (exprs test).0 p, length-append (block_code (parts ks) c first) (instr.Jump (second + block_size (parts os)) ∷ block_code (parts os) (c + l) second), block_sized ks c first, block_sized os (c + l) second, sizes_same ks, sizes_same os),
+          λ sound. recounted (if_code sc.layout test (parts ks) (Some (parts os))) _ _ _ _ _ _ (omega (arith, sizes_same ks, sizes_same os)) (omega (arith, loops_same ks, loops_same os)) (if_else_runs test ks os (exprs test) sound.0 sound.1 sound.2))
+
+    bounded_layer : (test : Expr) (most : ℕ) (ks : List Known) → Layer (Stmt-F.Bounded test most (map tree ks))
+    bounded_layer test most ks =
+        (λ c p.
+            let again = p + 1 in
+            let first = again + expr_size test + 2 in
+            let body = block_code (parts ks) (c + 1) first in
+            let inner = instr.Guard c most ∷ (instr.JumpZero (first + block_size (parts ks) + 1) ∷ (body ++ instr.Jump again ∷ [])) in
+            omega (arith, length-append (expr_code sc.layout test again) inner, (exprs test).0 again, len-one body (instr.Jump again) (block_size (parts ks)) (block_sized ks (c + 1) first), sizes_same ks),
+          λ sound. recounted (bounded_code sc.layout test most (parts ks)) _ _ _ _ _ _ (omega (arith, sizes_same ks)) (omega (arith, loops_same ks)) (bounded_runs test most ks (exprs test) sound.0 sound.1 sound.2))
+
+    timed_layer : (test : Expr) (ks : List Known) → Layer (Stmt-F.Timed test (map tree ks))
+    timed_layer test ks =
+        (λ c p.
+            let first = p + expr_size test + 1 in
+            let body = block_code (parts ks) c first in
+            let inner = instr.JumpZero (first + block_size (parts ks) + 1) ∷ (body ++ instr.Jump p ∷ []) in
+            length-append (expr_code sc.layout test p) inner ∙ omega (arith, (exprs test).0 p, len-one body (instr.Jump p) (block_size (parts ks)) (block_sized ks c first), sizes_same ks),
+          λ sound. recounted (timed_code sc.layout test (parts ks)) _ _ _ _ _ _ (omega (arith, sizes_same ks)) (omega (arith, loops_same ks)) (timed_runs test ks (exprs test) sound.0 (subst (λ l. quiet_list l ≡ false) (map-id (map tree ks)) sound.1) sound.2))
+      where
+        map-id : (xs : List Stmt) → map (λ x. x) xs ≡ xs
+        map-id [] = refl
+        map-id (x ∷ xs) = ap (λ l. x ∷ l) (map-id xs)
+
+    layer_runs : (y : Stmt-F Known) → Layer (map-Stmt Known Stmt tree y)
+    layer_runs (Stmt-F.Set slot value) = (λ c p. len-one (expr_code sc.layout value p) (instr.Store (base_of sc.layout slot)) (expr_size value) ((exprs value).0 p), λ sound. set_runs slot value (exprs value) sound.0 sound.1)
+    layer_runs (Stmt-F.SetCopy variable value) = (λ c p. len-one (expr_code sc.layout value p) (instr.StoreCopy variable) (expr_size value) ((exprs value).0 p), λ sound. copy_runs home variable value (exprs value) sound.0 sound.1)
+    layer_runs (Stmt-F.SetCell slot index value) =
+        (λ c p. length-append (expr_code sc.layout index p) _ ∙ omega (arith, (exprs index).0 p, len-one (expr_code sc.layout value (p + expr_size index)) (instr.StoreCell (base_of sc.layout slot) (cells_of sc.layout slot)) (expr_size value) ((exprs value).0 (p + expr_size index))),
+          λ sound. set_cell_runs slot index value (exprs index) (exprs value) sound.0 sound.1 sound.2)
+    layer_runs (Stmt-F.If test branch None) = if_layer test branch
+    layer_runs (Stmt-F.If test branch (Some other)) = if_else_layer test branch other
+    layer_runs (Stmt-F.Bounded test most body) = bounded_layer test most body
+    layer_runs (Stmt-F.Timed test body) = timed_layer test body
+    layer_runs (Stmt-F.Send value stream after clock) = (λ c p. len-one (expr_code sc.layout value p) (instr.Send stream after clock) (expr_size value) ((exprs value).0 p), λ sound. send_runs stream after clock value (exprs value) sound)
+    layer_runs (Stmt-F.Advance point) = (λ c p. refl, λ sound. advance_runs points point sound)
+    layer_runs (Stmt-F.Return value) = (λ c p. len-one (expr_code sc.layout value p) instr.Return (expr_size value) ((exprs value).0 p), λ sound. return_runs work value (exprs value) sound.0 sound.1)
+
+    layer : (y : Stmt-F Known) → PS (roll-Stmt (map-Stmt Known Stmt tree y))
+    layer y =
+        let x : Stmt-F Stmt = map-Stmt Known Stmt tree y in
+        let z : Stmt = roll-Stmt x in
+        let ec = sym (para-roll-Stmt Coded (stmt_code_step sc.layout) x) in
+        let en = sym (fold-roll-Stmt ℕ stmt_size_step x) in
+        let el = sym (fold-roll-Stmt ℕ loops_step x) in
+        let ed = sym (fold-roll-Stmt Depth (stmt_depth_step depths) x) in
+        let ea = sym (fold-roll-Stmt Act (stmt_step callees) x) in
+        let es = sym (rec-roll-Stmt (Type 0) (sound_stmt_step sc) (sound_natural sc) x) in
+        let c = stmt_code_step sc.layout (map-Stmt Stmt Part part_of x) in
+        let n = stmt_size_step (map-Stmt Stmt ℕ stmt_size x) in
+        let l = loops_step (map-Stmt Stmt ℕ loops x) in
+        let d = stmt_depth_step depths (map-Stmt Stmt Depth (stmt_depth depths) x) in
+        let a : Act = stmt_step callees (map-Stmt Stmt Act (act_by callees) x) in
+        subst (λ b. StmtSized b (stmt_size z) × (IsSoundStmt sc z → StmtRuns b (stmt_size z) (loops z) (stmt_depth depths z) (act_by callees z))) ec
+        (subst (λ b. StmtSized c b × (IsSoundStmt sc z → StmtRuns c b (loops z) (stmt_depth depths z) (act_by callees z))) en
+        (subst (λ b. StmtSized c n × (IsSoundStmt sc z → StmtRuns c n b (stmt_depth depths z) (act_by callees z))) el
+        (subst (λ b. StmtSized c n × (IsSoundStmt sc z → StmtRuns c n l b (act_by callees z))) ed
+        (subst (λ b. StmtSized c n × (IsSoundStmt sc z → StmtRuns c n l d b)) ea
+        (subst (λ b. StmtSized c n × (b → StmtRuns c n l d a)) es
+        (layer_runs y))))))
+
+    pub stmt_runs : (stmt : Stmt) → PS stmt
+    stmt_runs = ind-Stmt PS (λ x y is. subst (λ z. PS (roll-Stmt z)) is (layer y))
