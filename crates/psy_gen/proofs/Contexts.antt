@@ -68,11 +68,11 @@ pub record Room (its : AgentCode) (k : Context) (size held cells more : ℕ) : T
 le_true : (a b : ℕ) → a ≤ b → nat_le a b ≡ true
 le_true a b h = grind (arith, h)
 
-cells_used : (k : Context) (store : Store) (counters : List ℕ) → cells_of (calls_in k store counters) ≡ used k (frame_size store counters)
+pub cells_used : (k : Context) (store : Store) (counters : List ℕ) → cells_of (calls_in k store counters) ≡ used k (frame_size store counters)
 cells_used Home store counters = refl
 cells_used (Inside home copies back outer) store counters = refl
 
-depth_used : (k : Context) (store : Store) (counters : List ℕ) → length (calls_in k store counters) ≡ depth_in k
+pub depth_used : (k : Context) (store : Store) (counters : List ℕ) → length (calls_in k store counters) ≡ depth_in k
 depth_used Home store counters = refl
 depth_used (Inside home copies back outer) store counters = omega arith
 

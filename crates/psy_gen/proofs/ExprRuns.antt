@@ -301,7 +301,7 @@ module _ (whole : Code) (its : AgentCode) (sc : Scope) (k : Context) (callees : 
 
   -- ---- all expressions
 
-  abbrev PE : Expr → Type 0
+  abbrev pub PE : Expr → Type 0
   PE e = Sized (expr_code sc.layout e) (expr_size e) × (1 ≤ (expr_depth depths e).operands) × (IsSoundExpr sc e → Runs (expr_code sc.layout e) (expr_size e) (expr_depth depths e) (eval callees e))
 
   abbrev Known : Type 0

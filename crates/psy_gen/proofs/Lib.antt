@@ -1,3 +1,4 @@
+mod Calls
 mod Contexts
 mod ExprRuns
 mod Leads

@@ -15,14 +15,14 @@ use Rattle.psy_code.specs.declared.instr.Instr.TheVariants as instr
 use Rattle.psy_code.specs.Views.{View, Send}
 use Rattle.psy_code.specs.Execution.{index_in, copy_of, with_copy, present, does, Went, Trapped, op_of}
 use Rattle.psy_code.specs.Execution as code
-use Rattle.psy_meaning.specs.Sizes.{expr_size, stmt_size, stmt_size_step, total}
-use Rattle.psy_meaning.specs.Depths.{Depth, shallow, deeper, deepest, on_top_of, expr_depth, stmt_depth, stmt_depth_step, loops, loops_step}
-use Rattle.psy_meaning.specs.Sound.{Scope, HasSlot, HasCopy, Each, IsSoundExpr, IsSoundStmt, sound_stmt_step}
+use Rattle.psy_meaning.specs.Sizes.{expr_size, stmt_size, stmts_size, stmt_size_step, total}
+use Rattle.psy_meaning.specs.Depths.{Depth, shallow, deeper, deepest, on_top_of, expr_depth, stmt_depth, stmts_depth, stmt_depth_step, loops, loops_in, loops_step}
+use Rattle.psy_meaning.specs.Sound.{Scope, HasSlot, HasCopy, Each, IsSoundExpr, IsSoundStmt, AreSound, sound_stmt_step}
 use Rattle.psy_meaning.specs.States.{Store, State, Final, Ended, Got, Value, Stops, Outcome, Falls, Returns, Halts, Eval, Act, Callee, with_value, then_do, cost_1, asking, trapping, or_halt, cells_at, copy_at, with_slot, with_copy_at}
 use Rattle.psy_meaning.specs.Paths.{quiet_list}
 use Rattle.psy_meaning.specs.Expressions.{eval}
-use Rattle.psy_meaning.specs.Statements.{set_element, all_of, choose, hop, branches, turns, stmt_step, act_by}
-use Rattle.psy_gen.specs.Emission.{Emit, Coded, Part, Layout, base_of, cells_of, expr_code, block_code, block_size, block_loops, if_code, bounded_code, timed_code, stmt_code_step, stmt_code}
+use Rattle.psy_meaning.specs.Statements.{set_element, all_of, choose, hop, branches, turns, stmt_step, act_by, acts_by}
+use Rattle.psy_gen.specs.Emission.{Emit, Coded, Part, Layout, base_of, cells_of, expr_code, block_code, block_size, block_loops, if_code, bounded_code, timed_code, stmt_code_step, stmt_code, stmts_code}
 use Rattle.psy_gen.proofs.Leads.{Leads, here, after, by_one, went, ended}
 use Rattle.psy_gen.proofs.Contexts.{Context, Home, Inside, Room, has_room_by, joined, machine_in, at, frame_size, present_in, copies_in, HasAt, has-first, has-second, Shape, Holds, HaltsAt, halts_leads, GotAfter}
 use Rattle.psy_gen.proofs.Lookups.{cells_are, copy_is, got_is, index_small, cell_is, set_is, lengths-set, variables-set}
@@ -56,7 +56,7 @@ sound_natural sc X v f (Stmt-F.Return value) = refl
 module _ (whole : Code) (its : AgentCode) (sc : Scope) (k : Context) (callees : ℕ → Callee) (depths : List Depth) (more count : ℕ) where
 
   -- What is known of an expression's code
-  abbrev ExprKnown : Expr → Type 0
+  abbrev pub ExprKnown : Expr → Type 0
   ExprKnown e = Sized whole its sc k callees depths more (expr_code sc.layout e) (expr_size e) × (1 ≤ (expr_depth depths e).operands)
       × (IsSoundExpr sc e → Runs whole its sc k callees depths more (expr_code sc.layout e) (expr_size e) (expr_depth depths e) (eval callees e))
 
@@ -64,7 +64,7 @@ module _ (whole : Code) (its : AgentCode) (sc : Scope) (k : Context) (callees : 
   StmtSized code size = (c p : ℕ) → length (code c p) ≡ size
 
   -- The code, of so many instructions and loops and so deep, does what a statement does.
-  abbrev StmtRuns : Coded → ℕ → ℕ → Depth → Act → Type 0
+  abbrev pub StmtRuns : Coded → ℕ → ℕ → Depth → Act → Type 0
   StmtRuns code size loops d act = (c p : ℕ) (operands : List ℤ) (counters : List ℕ) (s : State) → HasAt whole.instrs p (code c p) → p + size < length whole.instrs → c + loops ≤ count → length counters ≡ count → Shape sc s
       → Room its k (total sc.layout + count) (length operands + d.operands) d.cells more
       → After whole its sc k (p + size) c operands counters (at k p operands s counters) (act s)
@@ -118,7 +118,7 @@ module _ (whole : Code) (its : AgentCode) (sc : Scope) (k : Context) (callees : 
         refl (shape_of_slot t slot 0 v sh) (keeps_same c counters) len (less (length operands + 1) (length operands) 0 0 room (omega arith) (omega arith)))
 
   -- Copies are named in an agent's body alone.
-  abbrev AtHome : Type 0
+  abbrev pub AtHome : Type 0
   AtHome = (variable : ℕ) → HasCopy sc variable → k ≡ Home
 
   copy_goes : (variable : ℕ) (v : ℤ) (q c : ℕ) (operands : List ℤ) (counters : List ℕ) (t : State) → (k : Context) → k ≡ Home → copy_of variable t.store.copies ≡ Some (copy_at t.store variable)
@@ -151,7 +151,7 @@ module _ (whole : Code) (its : AgentCode) (sc : Scope) (k : Context) (callees : 
         (record { slots = sh.slots; copies = sh.copies; pasts = sh.pasts; streams = sh.streams }) (keeps_same c counters) len (less (length operands + 1) (length operands) 0 0 room (omega arith) (omega arith)))
 
   -- Values are returned from functions alone.
-  abbrev AtWork : Type 0
+  abbrev pub AtWork : Type 0
   AtWork = sc.returns ≡ true → (home : code.Frame) × (copies : List code.Copy) × (back : ℕ) × (outer : List code.OpenCall) × (k ≡ Inside home copies back outer)
 
   return_leads : (v : ℤ) (q : ℕ) (operands : List ℤ) (counters : List ℕ) (t : State) (k : Context) (home : code.Frame) (copies : List code.Copy) (back : ℕ) (outer : List code.OpenCall) → k ≡ Inside home copies back outer
@@ -521,7 +521,7 @@ module _ (whole : Code) (its : AgentCode) (sc : Scope) (k : Context) (callees : 
   -- ---- the end of an action
 
   -- Each point that can be named has its place.
-  abbrev AllPoints : Type 0
+  abbrev pub AllPoints : Type 0
   AllPoints = (point : ℕ) → point < sc.points → (place : ℕ) × (slice_get its.points point ≡ Some place)
 
   ended_here : (place p : ℕ) (operands : List ℤ) (s : State) (counters : List ℕ) (k : Context) → Holds k (cost_1 s) (code.state_then (at k p operands s counters) None (code.begun_at place (machine_in k p operands s.store counters)))
@@ -629,3 +629,29 @@ module _ (whole : Code) (its : AgentCode) (sc : Scope) (k : Context) (callees : 
 
     pub stmt_runs : (stmt : Stmt) → PS stmt
     stmt_runs = ind-Stmt PS (λ x y is. subst (λ z. PS (roll-Stmt z)) is (layer y))
+
+    -- ---- a list of statements
+
+    abbrev known_of : Stmt → Known
+    known_of stmt = (stmt, stmt_runs stmt)
+
+    trees : (stmts : List Stmt) → map tree (map known_of stmts) ≡ stmts
+    trees [] = refl
+    trees (x ∷ xs) = ap (λ l. x ∷ l) (trees xs)
+
+    sizes_are : (stmts : List Stmt) → block_size (map part_of stmts) ≡ stmts_size stmts
+    sizes_are [] = refl
+    sizes_are (x ∷ xs) = ap (λ n. stmt_size x + n) (sizes_are xs)
+
+    loops_are : (stmts : List Stmt) → block_loops (map part_of stmts) ≡ loops_in stmts
+    loops_are [] = refl
+    loops_are (x ∷ xs) = ap (λ n. loops x + n) (loops_are xs)
+
+    pub all_runs : (stmts : List Stmt) → AreSound sc stmts → StmtRuns (stmts_code sc.layout stmts) (stmts_size stmts) (loops_in stmts) (stmts_depth depths stmts) (acts_by callees stmts)
+    all_runs stmts sound =
+        recounted (stmts_code sc.layout stmts) _ _ _ _ _ _ (sizes_are stmts) (loops_are stmts)
+        (subst (λ l. Each (IsSoundStmt sc) l → StmtRuns (block_code (map part_of l)) (block_size (map part_of l)) (block_loops (map part_of l)) (deepest (map (stmt_depth depths) l)) (all_of (map (act_by callees) l))) (trees stmts) (block_runs (map known_of stmts)) sound)
+
+    pub all_sized : (stmts : List Stmt) (c p : ℕ) → length (stmts_code sc.layout stmts c p) ≡ stmts_size stmts
+    all_sized [] c p = refl
+    all_sized (x ∷ xs) c p = length-append (stmt_code sc.layout x c p) (stmts_code sc.layout xs (c + loops x) (p + stmt_size x)) ∙ omega (arith, (stmt_runs x).0 c p, all_sized xs (c + loops x) (p + stmt_size x))

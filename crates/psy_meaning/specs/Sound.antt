@@ -1,5 +1,5 @@
 -- What expressions and statements may name where they stand.
-use Rattle.std.specs.Prelude.{◌≡◌, ℕ, ◌<◌, ◌≤◌, Bool, true, false, List, [], ◌∷◌, map, length, Option, Some, None, slice_get, ⊤}
+use Rattle.std.specs.Prelude.{◌≡◌, ℕ, ◌<◌, ◌≤◌, Bool, true, false, List, [], ◌∷◌, ◌+◌, map, replicate, length, Option, Some, None, slice_get, ⊤}
 use Rattle.psy_tree.specs.declared.unit.FunctionDecl.{FunctionDecl}
 use Rattle.psy_tree.specs.declared.unit.Expr.{Expr, rec-Expr}
 use Rattle.psy_tree.specs.declared.unit.Expr.TheOpen.{Expr-F}
@@ -92,3 +92,8 @@ IsSoundStmt scope = rec-Stmt (Type 0) (sound_stmt_step scope)
 -- All that statements name can be named.
 abbrev pub AreSound : Scope → List Stmt → Type 0
 AreSound scope stmts = Each (IsSoundStmt scope) stmts
+
+-- What can be named in a function: its own slots, and the functions above it
+abbrev pub function_scope : List FunctionDecl → List ℕ → List Bool → FunctionDecl → Scope
+function_scope above depths streams f =
+    record { layout = replicate (f.params + length f.locals) 1; copies = []; depths = depths; streams = streams; functions = above; points = 0; returns = true }
