@@ -4,6 +4,8 @@ mod ExprRuns
 mod Leads
 mod Lookups
 mod Loud
+mod NoRests
 mod Outcomes
+mod RestRuns
 mod Steps
 mod StmtRuns

@@ -19,7 +19,7 @@ use Rattle.psy_meaning.specs.Sizes.{expr_size, stmt_size, stmts_size, stmt_size_
 use Rattle.psy_meaning.specs.Depths.{Depth, shallow, deeper, deepest, on_top_of, expr_depth, stmt_depth, stmts_depth, stmt_depth_step, loops, loops_in, loops_step}
 use Rattle.psy_meaning.specs.Sound.{Scope, HasSlot, HasCopy, Each, IsSoundExpr, IsSoundStmt, AreSound, sound_stmt_step}
 use Rattle.psy_meaning.specs.States.{Store, State, Final, Ended, Got, Value, Stops, Outcome, Falls, Returns, Halts, Eval, Act, Callee, with_value, then_do, cost_1, asking, trapping, or_halt, cells_at, copy_at, with_slot, with_copy_at}
-use Rattle.psy_meaning.specs.Paths.{quiet_list}
+use Rattle.psy_meaning.specs.Paths.{holds_advance, quiet_list}
 use Rattle.psy_meaning.specs.Expressions.{eval}
 use Rattle.psy_meaning.specs.Statements.{set_element, all_of, choose, hop, branches, turns, stmt_step, act_by, acts_by}
 use Rattle.psy_gen.specs.Emission.{Emit, Coded, Part, Layout, base_of, cells_of, expr_code, block_code, block_size, block_loops, if_code, bounded_code, timed_code, stmt_code_step, stmt_code, stmts_code}
@@ -39,14 +39,15 @@ same-map : {X : Type 0} (v : X → Stmt) (xs : List X) → map v xs ≡ map (λ 
 same-map v [] = refl
 same-map v (x ∷ xs) = ap (λ l. v x ∷ l) (same-map v xs)
 
-sound_natural : (sc : Scope) (X : Type 0) (v : X → Stmt) (f : Stmt → Type 0) (x : Stmt-F X) → sound_stmt_step sc X v (λ p. f (v p)) x ≡ sound_stmt_step sc Stmt (λ y. y) f (map-Stmt X Stmt v x)
+pub sound_natural : (sc : Scope) (X : Type 0) (v : X → Stmt) (f : Stmt → Type 0) (x : Stmt-F X) → sound_stmt_step sc X v (λ p. f (v p)) x ≡ sound_stmt_step sc Stmt (λ y. y) f (map-Stmt X Stmt v x)
 sound_natural sc X v f (Stmt-F.Set slot value) = refl
 sound_natural sc X v f (Stmt-F.SetCopy variable value) = refl
 sound_natural sc X v f (Stmt-F.SetCell slot index value) = refl
 sound_natural sc X v f (Stmt-F.If test branch None) = ap (λ t. IsSoundExpr sc test × t × ⊤) (each-map v f branch)
 sound_natural sc X v f (Stmt-F.If test branch (Some other)) =
     ap (λ t. IsSoundExpr sc test × t × Each (λ x. f (v x)) other) (each-map v f branch) ∙ ap (λ t. IsSoundExpr sc test × Each f (map v branch) × t) (each-map v f other)
-sound_natural sc X v f (Stmt-F.Bounded test most body) = ap (λ t. IsSoundExpr sc test × (most ≤ 65536) × t) (each-map v f body)
+sound_natural sc X v f (Stmt-F.Bounded test most body) =
+    ap (λ l. IsSoundExpr sc test × (most ≤ 65536) × Each (λ x. f (v x)) body × (holds_advance l ≡ false)) (same-map v body) ∙ ap (λ t. IsSoundExpr sc test × (most ≤ 65536) × t × (holds_advance (map (λ y. y) (map v body)) ≡ false)) (each-map v f body)
 sound_natural sc X v f (Stmt-F.Timed test body) =
     ap (λ l. IsSoundExpr sc test × (quiet_list l ≡ false) × Each (λ x. f (v x)) body) (same-map v body) ∙ ap (λ t. IsSoundExpr sc test × (quiet_list (map (λ y. y) (map v body)) ≡ false) × t) (each-map v f body)
 sound_natural sc X v f (Stmt-F.Send value stream after clock) = refl
@@ -333,7 +334,7 @@ module _ (whole : Code) (its : AgentCode) (sc : Scope) (k : Context) (callees : 
         (λ t sh has. block_runs ks each c first operands counters t has (omega (arith, small)) (omega (arith, enough)) len sh (less (length operands + all.operands) (length operands + (block_depth ks).operands) all.cells (block_depth ks).cells room (omega arith) (omega arith)))
         (λ t sh. falls_here (first + b) (first + b) c operands counters t refl sh))
 
-  hop_after : (p to c : ℕ) (operands : List ℤ) (counters : List ℕ) (s : State) → slice_get whole.instrs p ≡ Some (instr.Jump to) → to < length whole.instrs → Shape sc s → length counters ≡ count → Room its k (total sc.layout + count) (length operands) 0 more
+  pub hop_after : (p to c : ℕ) (operands : List ℤ) (counters : List ℕ) (s : State) → slice_get whole.instrs p ≡ Some (instr.Jump to) → to < length whole.instrs → Shape sc s → length counters ≡ count → Room its k (total sc.layout + count) (length operands) 0 more
       → After whole its sc k to c operands counters (at k p operands s counters) (hop s)
   hop_after p to c operands counters s has small sh len room =
       falls_step (instr.Jump to) p to c operands operands counters counters s (cost_1 s) has (in_code_is to _ small) refl (ticked s sh) (keeps_same c counters) len room

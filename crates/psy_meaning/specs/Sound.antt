@@ -5,7 +5,7 @@ use Rattle.psy_tree.specs.declared.unit.Expr.{Expr, rec-Expr}
 use Rattle.psy_tree.specs.declared.unit.Expr.TheOpen.{Expr-F}
 use Rattle.psy_tree.specs.declared.unit.Stmt.{Stmt, rec-Stmt}
 use Rattle.psy_tree.specs.declared.unit.Stmt.TheOpen.{Stmt-F}
-use Rattle.psy_meaning.specs.Paths.{quiet_list}
+use Rattle.psy_meaning.specs.Paths.{holds_advance, quiet_list}
 
 -- What can be named in an agent or a function.
 pub record Scope : Type 0 where
@@ -73,13 +73,14 @@ abbrev pub EachOr : {X : Type 0} → (X → Type 0) → Option (List X) → Type
 EachOr sound None = ⊤
 EachOr sound (Some xs) = Each sound xs
 
--- A statement is sound, once it is known which of its parts are. A loop without bound ends the action in each turn.
+-- A statement is sound, once it is known which of its parts are. A loop without bound ends the action in each turn, and a
+-- bounded one in none.
 abbrev pub sound_stmt_step : Scope → (X : Type 0) → (X → Stmt) → (X → Type 0) → Stmt-F X → Type 0
 sound_stmt_step scope X tree sound (Stmt-F.Set slot value) = HasSlot scope slot × IsSoundExpr scope value
 sound_stmt_step scope X tree sound (Stmt-F.SetCopy variable value) = HasCopy scope variable × IsSoundExpr scope value
 sound_stmt_step scope X tree sound (Stmt-F.SetCell slot index value) = HasSlot scope slot × IsSoundExpr scope index × IsSoundExpr scope value
 sound_stmt_step scope X tree sound (Stmt-F.If test branch other) = IsSoundExpr scope test × Each sound branch × EachOr sound other
-sound_stmt_step scope X tree sound (Stmt-F.Bounded test most body) = IsSoundExpr scope test × (most ≤ 65536) × Each sound body
+sound_stmt_step scope X tree sound (Stmt-F.Bounded test most body) = IsSoundExpr scope test × (most ≤ 65536) × Each sound body × (holds_advance (map tree body) ≡ false)
 sound_stmt_step scope X tree sound (Stmt-F.Timed test body) = IsSoundExpr scope test × (quiet_list (map tree body) ≡ false) × Each sound body
 sound_stmt_step scope X tree sound (Stmt-F.Send value stream after clock) = IsSoundExpr scope value
 sound_stmt_step scope X tree sound (Stmt-F.Advance point) = point < scope.points
