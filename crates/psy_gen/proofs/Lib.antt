@@ -2,6 +2,7 @@ mod Calls
 mod Contexts
 mod ExprRuns
 mod Leads
+mod Lengths
 mod Lookups
 mod Loud
 mod NoRests

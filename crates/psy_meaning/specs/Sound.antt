@@ -1,10 +1,14 @@
 -- What expressions and statements may name where they stand.
-use Rattle.std.specs.Prelude.{◌≡◌, ℕ, ◌<◌, ◌≤◌, Bool, true, false, List, [], ◌∷◌, ◌+◌, map, replicate, length, Option, Some, None, slice_get, ⊤}
+use Rattle.std.specs.Prelude.{◌≡◌, ℕ, ◌<◌, ◌≤◌, Bool, true, false, ◌==◌, List, [], ◌∷◌, ◌++◌, ◌+◌, map, replicate, length, Option, Some, None, slice_get, ⊤}
+use Rattle.psy_tree.specs.declared.unit.Unit.{Unit as Whole}
+use Rattle.psy_tree.specs.declared.unit.AgentDecl.{AgentDecl}
 use Rattle.psy_tree.specs.declared.unit.FunctionDecl.{FunctionDecl}
 use Rattle.psy_tree.specs.declared.unit.Expr.{Expr, rec-Expr}
 use Rattle.psy_tree.specs.declared.unit.Expr.TheOpen.{Expr-F}
 use Rattle.psy_tree.specs.declared.unit.Stmt.{Stmt, rec-Stmt}
 use Rattle.psy_tree.specs.declared.unit.Stmt.TheOpen.{Stmt-F}
+use Rattle.psy_meaning.specs.Alike.{first_copies}
+use Rattle.psy_meaning.specs.Rest.{rests_in, with_rests}
 use Rattle.psy_meaning.specs.Paths.{holds_advance, quiet_list}
 
 -- What can be named in an agent or a function.
@@ -98,3 +102,35 @@ AreSound scope stmts = Each (IsSoundStmt scope) stmts
 abbrev pub function_scope : List FunctionDecl → List ℕ → List Bool → FunctionDecl → Scope
 function_scope above depths streams f =
     record { layout = replicate (f.params + length f.locals) 1; copies = []; depths = depths; streams = streams; functions = above; points = 0; returns = true }
+
+-- ---- units
+
+-- Functions are sound, whatever the variables and streams, where each calls those above it.
+abbrev pub AreSoundFunctions : List FunctionDecl → List FunctionDecl → Type 0
+AreSoundFunctions above [] = ⊤
+AreSoundFunctions above (f ∷ rest) = ((depths : List ℕ) (streams : List Bool) → AreSound (function_scope above depths streams f) f.stmts) × AreSoundFunctions (above ++ f ∷ []) rest
+
+-- What can be named in an agent
+abbrev pub agent_scope : Whole → ℕ → AgentDecl → Scope
+agent_scope unit number agent = record {
+  layout = map (λ s. s.cells) agent.slots;
+  copies = map (λ c. c.variable) (first_copies unit number);
+  depths = map (λ v. v.depth) unit.variables;
+  streams = map (λ s. s.receiver == number) unit.streams;
+  functions = unit.functions;
+  points = length agent.points;
+  returns = false;
+}
+
+-- An agent's statements name what it can name, each path through its body meets an `advance`, and it has a point for each
+-- `advance` beside the head of its body.
+pub record IsSoundAgent (unit : Whole) (number : ℕ) (agent : AgentDecl) : Type 0 where
+  pub stmts : AreSound (agent_scope unit number agent) agent.stmts
+  pub ends : quiet_list agent.stmts ≡ false
+  pub points : length agent.points ≡ length (rests_in (map with_rests agent.stmts)) + 1
+
+-- A unit whose statements name what they can name
+pub record IsSoundUnit (unit : Whole) : Type 0 where
+  pub functions : AreSoundFunctions [] unit.functions
+  pub few : length unit.functions ≤ 64
+  pub agents : (number : ℕ) (agent : AgentDecl) → slice_get unit.agents number ≡ Some agent → IsSoundAgent unit number agent
