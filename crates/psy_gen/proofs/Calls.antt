@@ -269,7 +269,7 @@ module _ (whole : Code) (its : AgentCode) where
   SoundFrom fs [] = ⊤
   SoundFrom fs (f ∷ rest) = ((depths' : List ℕ) (streams : List Bool) → AreSound (function_scope fs depths' streams f) f.stmts) × SoundFrom (fs ++ f ∷ []) rest
 
-  abbrev StandFrom : ℕ → List FunctionDecl → Type 0
+  abbrev pub StandFrom : ℕ → List FunctionDecl → Type 0
   StandFrom n [] = ⊤
   StandFrom n (f ∷ rest) = Stands n f × StandFrom (n + 1) rest
 

@@ -1,4 +1,6 @@
+mod Alikes
 mod Calls
+mod Counts
 mod Contexts
 mod ExprRuns
 mod Leads
@@ -7,6 +9,7 @@ mod Lookups
 mod Loud
 mod NoRests
 mod Outcomes
+mod PlaceCounts
 mod RestRuns
 mod Steps
 mod StmtRuns

@@ -28,7 +28,7 @@ value_loud : (got : Got) (go : ℤ → State → Outcome) → ((v : ℤ) (s t : 
 value_loud (Value v s) go h t e = h v s t e
 value_loud (Stops final) go h t e = not_halts final t e
 
-then_loud : (o : Outcome) (go : Act) → Loud go → (t : State) → then_do o go ≡ Falls t → ⊥
+pub then_loud : (o : Outcome) (go : Act) → Loud go → (t : State) → then_do o go ≡ Falls t → ⊥
 then_loud (Falls s) go h t e = h s t e
 then_loud (Returns v s) go h t e = not_returns v s t e
 then_loud (Halts final) go h t e = not_halts final t e

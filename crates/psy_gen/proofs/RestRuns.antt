@@ -33,7 +33,7 @@ after_first xs bs (Falls t) h = h t
 after_first xs bs (Returns v t) h = refl
 after_first xs bs (Halts final) h = refl
 
-all_of-append : (xs bs : List Act) (s : State) → all_of (xs ++ bs) s ≡ then_do (all_of xs s) (all_of bs)
+pub all_of-append : (xs bs : List Act) (s : State) → all_of (xs ++ bs) s ≡ then_do (all_of xs s) (all_of bs)
 all_of-append [] bs s = refl
 all_of-append (a ∷ xs) bs s = after_first xs bs (a s) (all_of-append xs bs)
 
@@ -41,11 +41,11 @@ stmts_are : (stmts : List Stmt) → stmts_in (map with_rests stmts) ≡ stmts
 stmts_are [] = refl
 stmts_are (x ∷ xs) = ap (λ l. x ∷ l) (stmts_are xs)
 
-pieces_are : (callees : ℕ → Callee) (stmts : List Stmt) → map (piece_by callees) (pieces_of stmts) ≡ map (act_by callees) stmts
+pub pieces_are : (callees : ℕ → Callee) (stmts : List Stmt) → map (piece_by callees) (pieces_of stmts) ≡ map (act_by callees) stmts
 pieces_are callees [] = refl
 pieces_are callees (x ∷ xs) = ap (λ l. act_by callees x ∷ l) (pieces_are callees xs)
 
-map-append : (callees : ℕ → Callee) (a b : List Piece) → map (piece_by callees) (a ++ b) ≡ map (piece_by callees) a ++ map (piece_by callees) b
+pub map-append : (callees : ℕ → Callee) (a b : List Piece) → map (piece_by callees) (a ++ b) ≡ map (piece_by callees) a ++ map (piece_by callees) b
 map-append callees [] b = refl
 map-append callees (x ∷ a) b = ap (λ l. piece_by callees x ∷ l) (map-append callees a b)
 

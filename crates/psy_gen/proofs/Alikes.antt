@@ -1,0 +1,215 @@
+-- The code of a sound unit acts as its statements.
+use Rattle.std.proofs.Common.{◌≡◌, refl, sym, ap, subst, ◌∙◌, arith}
+use Rattle.std.specs.Prelude.{ℕ, zero, suc, ◌+◌, ◌<◌, ◌≤◌, ◌==◌, max, Bool, true, false, T, List, [], ◌∷◌, ◌++◌, map, replicate, length, slice_get, slice_index_or, Option, Some, None, ℤ, ⊤}
+use Rattle.std.specs.List.{flat_map}
+use Rattle.std.proofs.lemmas.List.{length-append, append_assoc}
+use Rattle.psy_tree.specs.declared.unit.Unit.{Unit as Whole}
+use Rattle.psy_tree.specs.declared.unit.AgentDecl.{AgentDecl}
+use Rattle.psy_tree.specs.declared.unit.FunctionDecl.{FunctionDecl}
+use Rattle.psy_tree.specs.declared.unit.Slots.{Slots}
+use Rattle.psy_tree.specs.declared.unit.Stmt.{Stmt}
+use Rattle.psy_code.specs.declared.code.Code.{Code}
+use Rattle.psy_code.specs.declared.code.AgentCode.{AgentCode}
+use Rattle.psy_code.specs.declared.code.CopyInit.{CopyInit}
+use Rattle.psy_code.specs.declared.code.FunctionCode.{FunctionCode}
+use Rattle.psy_code.specs.declared.instr.Instr.{Instr}
+use Rattle.psy_code.specs.declared.instr.Instr.TheVariants as instr
+use Rattle.psy_code.specs.Views.{View}
+use Rattle.psy_code.specs.Execution.{Copy, Run, RanTo, TrappedBy, copy_from, run_code}
+use Rattle.psy_code.specs.Execution as code
+use Rattle.psy_meaning.specs.Sizes.{stmts_size, total}
+use Rattle.psy_meaning.specs.Depths.{Depth, stmts_depth, call_depths, loops_in, agent_depth}
+use Rattle.psy_meaning.specs.Sound.{Scope, HasCopy, AreSoundFunctions, agent_scope, IsSoundAgent, IsSoundUnit}
+use Rattle.psy_meaning.specs.States.{Store, State, Final, Ended, Trapped, Outcome, Falls, Returns, Halts, cost_1}
+use Rattle.psy_meaning.specs.Statements.{act, callees_of, Piece, Hop, piece_by, all_of, hop}
+use Rattle.psy_meaning.specs.Paths.{quiet_list}
+use Rattle.psy_meaning.specs.Rest.{pieces_of, rests_in, with_rests, rest}
+use Rattle.psy_meaning.specs.Alike.{first_slots, first_copies, IsStoreOf, IsViewOf, SameAs, EndsAs, machine_at, begun, started, AgentAlike, ActsAlike}
+use Rattle.psy_gen.specs.Emission.{codes_from, function_code, function_size, functions_size, function_entry, function_entries, agent_code, agent_size, agent_entry, agent_entries, agent_layout, stmts_code, code_of, places_in}
+use Rattle.psy_gen.proofs.Contexts.{Context, Home, Inside, Room, at, HasAt, has-first, has-second, Shape, Holds, HaltsAt}
+use Rattle.psy_gen.proofs.Counts.{over_with_last}
+use Rattle.psy_gen.proofs.Lengths.{function_length, agent_length}
+use Rattle.psy_gen.proofs.NoRests.{placed}
+use Rattle.psy_gen.proofs.Outcomes.{After}
+use Rattle.psy_gen.proofs.PlaceCounts.{places_count}
+use Rattle.psy_gen.proofs.ExprRuns.{expr_runs}
+use Rattle.psy_gen.proofs.Calls.{Ready, Stands, StandFrom, all_ready}
+use Rattle.psy_gen.proofs.Loud.{Loud, then_loud, all_loud}
+use Rattle.psy_gen.proofs.RestRuns.{body_runs, all_of-append, map-append, pieces_are}
+
+-- ---- no action falls through its body
+
+rest_loud : (unit : Whole) (stmts : List Stmt) (point : ℕ) → quiet_list stmts ≡ false → (s t : State) → act unit.functions (rest stmts point) s ≡ Falls t → ⊥
+rest_loud unit stmts zero h s t e = all_loud (callees_of unit.functions) stmts h s t (ap (λ l. all_of l s) (sym (pieces_are (callees_of unit.functions) stmts)) ∙ e)
+rest_loud unit stmts (suc n) h s t e =
+    let callees = callees_of unit.functions in
+    let r = slice_index_or (rests_in (map with_rests stmts)) n [] in
+    let split = ap (λ l. all_of l s) (map-append callees r (Hop ∷ pieces_of stmts)) ∙ all_of-append (map (piece_by callees) r) (map (piece_by callees) (Hop ∷ pieces_of stmts)) s in
+    then_loud (all_of (map (piece_by callees) r) s) (all_of (map (piece_by callees) (Hop ∷ pieces_of stmts)))
+    (λ u v f. all_loud callees stmts h (cost_1 u) v (ap (λ l. all_of l (cost_1 u)) (sym (pieces_are callees stmts)) ∙ f)) t (sym split ∙ e)
+
+-- ---- where the code stands
+
+abbrev how_many : {A : Type 0} → Option A → ℕ
+how_many None = 0
+how_many (Some x) = 1
+
+whole_has : (before is : List Instr) → HasAt (before ++ is) (length before) is
+whole_has before [] = tt {0}
+whole_has before (i ∷ is) =
+    (here before i is, subst (λ n. HasAt (before ++ i ∷ is) n is) (length-append before (i ∷ [])) (subst (λ l. HasAt l (length (before ++ i ∷ [])) is) (append_assoc before (i ∷ []) is) (whole_has (before ++ i ∷ []) is)))
+  where
+    here : (before : List Instr) (i : Instr) (is : List Instr) → slice_get (before ++ i ∷ is) (length before) ≡ Some i
+    here [] i is = refl
+    here (x ∷ before) i is = here before i is
+
+functions_length : (fs : List FunctionDecl) (p : ℕ) → length (codes_from function_code function_size fs p) ≡ functions_size fs
+functions_length [] p = refl
+functions_length (f ∷ fs) p = length-append (function_code f p) (codes_from function_code function_size fs (p + function_size f)) ∙ omega (arith, function_length f p, functions_length fs (p + function_size f))
+
+module _ (whole : Code) (its : AgentCode) where
+
+  stand_from : (fs : List FunctionDecl) (n p : ℕ) → HasAt whole.instrs p (codes_from function_code function_size fs p) → p + functions_size fs ≤ length whole.instrs
+      → ((i : ℕ) → slice_get whole.functions (n + i) ≡ slice_get (function_entries fs p) i) → StandFrom whole its n fs
+  stand_from [] n p h small entries = tt {0}
+  stand_from (f ∷ fs) n p h small entries =
+      let rest_code = codes_from function_code function_size fs (p + function_size f) in
+      let z : n ≡ n + 0 = omega arith in
+      (record { place = p; entry = ap (slice_get whole.functions) z ∙ entries 0; has = has-first whole.instrs p (function_code f p) rest_code h; small = omega (arith, small) },
+        stand_from fs (n + 1) (p + function_size f) (subst (λ y. HasAt whole.instrs (p + y) rest_code) (function_length f p) (has-second whole.instrs p (function_code f p) rest_code h)) (omega (arith, small))
+          (λ i. let e : n + 1 + i ≡ n + suc i = omega arith in ap (slice_get whole.functions) e ∙ entries (suc i)))
+
+-- the code of one agent
+record AgentAt (unit : Whole) (whole : Code) (number : ℕ) (agent : AgentDecl) (its : AgentCode) : Type 0 where
+  place : ℕ
+  entry : its ≡ agent_entry unit number agent place
+  has : HasAt whole.instrs place (agent_code agent place)
+  small : place + agent_size agent ≤ length whole.instrs
+
+agent_at : (unit : Whole) (whole : Code) (agents : List AgentDecl) (first p number : ℕ) (agent : AgentDecl) (its : AgentCode) → HasAt whole.instrs p (codes_from agent_code agent_size agents p) → p + total (map agent_size agents) ≤ length whole.instrs
+    → slice_get agents number ≡ Some agent → slice_get (agent_entries unit first agents p) number ≡ Some its → AgentAt unit whole (first + number) agent its
+agent_at unit whole [] first p number agent its h small e f = absurd (omega (arith, ap how_many e))
+agent_at unit whole (a ∷ rest) first p zero agent its h small e f =
+    let same : a ≡ agent = ap (default a) e in
+    let z : first + 0 ≡ first = omega arith in
+    subst (λ x. AgentAt unit whole (first + 0) x its) same
+    (record { place = p; entry = sym (ap (default (agent_entry unit first a p)) f) ∙ ap (λ n. agent_entry unit n a p) (sym z); has = has-first whole.instrs p (agent_code a p) (codes_from agent_code agent_size rest (p + agent_size a)) h; small = omega (arith, small) })
+  where
+    default : {A : Type 0} → A → Option A → A
+    default d None = d
+    default d (Some x) = x
+agent_at unit whole (a ∷ rest) first p (suc number) agent its h small e f =
+    let n : first + 1 + number ≡ first + suc number = omega arith in
+    let rest_code = codes_from agent_code agent_size rest (p + agent_size a) in
+    subst (λ x. AgentAt unit whole x agent its) n
+    (agent_at unit whole rest (first + 1) (p + agent_size a) number agent its (subst (λ y. HasAt whole.instrs (p + y) rest_code) (agent_length a p) (has-second whole.instrs p (agent_code a p) rest_code h)) (omega (arith, small)) e f)
+
+-- ---- an agent
+
+slots_shape : (slots : List Slots) → map length (map (λ (s : Slots). replicate s.cells s.init) slots) ≡ map (λ (s : Slots). s.cells) slots
+slots_shape [] = refl
+slots_shape (s ∷ rest) = ap (λ n. n ∷ map length (map (λ (s : Slots). replicate s.cells s.init) rest)) (length-replicate s.cells s.init) ∙ ap (λ l. s.cells ∷ l) (slots_shape rest)
+  where
+    length-replicate : (n : ℕ) (x : ℤ) → length (replicate n x) ≡ n
+    length-replicate zero x = refl
+    length-replicate (suc n) x = ap suc (length-replicate n x)
+
+copies_same : (copies : List Copy) → map copy_from (map (λ (c : Copy). record { variable = c.variable; init = c.value }) copies) ≡ copies
+copies_same [] = refl
+copies_same (c ∷ rest) = ap (λ l. c ∷ l) (copies_same rest)
+
+got-within : (xs : List ℕ) (i : ℕ) → i < length xs → (x : ℕ) × (slice_get xs i ≡ Some x)
+got-within [] i h = absurd (omega (arith, h))
+got-within (y ∷ ys) zero h = (y, refl)
+got-within (y ∷ ys) (suc i) h = got-within ys i (omega (arith, h))
+
+module _ (unit : Whole) (whole : Code) (number : ℕ) (agent : AgentDecl) (its : AgentCode) (sound : IsSoundUnit unit) (here : AgentAt unit whole number agent its) (stand : StandFrom whole its 0 unit.functions) (own : IsSoundAgent unit number agent) where
+
+  abbrev sc : Scope
+  sc = agent_scope unit number agent
+
+  abbrev depth : Depth
+  depth = agent_depth unit agent
+
+  abbrev count : ℕ
+  count = loops_in agent.stmts
+
+  its_is : its ≡ agent_entry unit number agent here.place
+  its_is = here.entry
+
+  room : Room its Home (total sc.layout + count) depth.operands depth.cells (length unit.functions)
+  room = subst (λ x. Room x Home (total sc.layout + count) depth.operands depth.cells (length unit.functions)) (sym its_is) (record { stack = omega arith; frames = omega arith; calls = omega (arith, sound.few) })
+
+  shape : (store : Store) (view : View) → IsStoreOf unit number agent store → IsViewOf unit number view → Shape sc (begun store view)
+  shape store view is seen = record { slots = is.slots ∙ slots_shape agent.slots; copies = is.variables; pasts = seen.depths; streams = seen.streams }
+
+  -- the number of its points
+  points_are : length its.points ≡ length agent.points
+  points_are = ap (λ (a : AgentCode). length a.points) its_is ∙ omega (arith, places_count agent.stmts here.place, own.points)
+
+  same_as : (s : State) (t : code.State) → Holds Home s t → SameAs s t
+  same_as s t h = record { cells = h.0; copies = h.1; deeds = h.2 }
+
+  ends_as : (start : code.State) (end : ℕ) (counters : List ℕ) (o : Outcome) → start.deeds.steps ≡ 0 → ((t : State) → o ≡ Falls t → ⊥) → After whole its sc Home end 0 [] counters start o → EndsAs o (run_code whole its start)
+  ends_as start end counters (Falls t) zero_steps loud g = loud t refl
+  ends_as start end counters (Returns v t) zero_steps loud g = g.1
+  ends_as start end counters (Halts (Ended point s)) zero_steps loud (n, t, e, h) =
+      let over = over_with_last whole its n start (RanTo point t) (tt {0}) e in
+      let m : s.deeds.steps ≡ over.0 = sym (ap (λ d. d.steps) h.2) ∙ omega (arith, over.1, zero_steps) in
+      (t, subst (λ x. run_code whole its start x ≡ RanTo point t) (sym m) over.2, same_as s t h)
+  ends_as start end counters (Halts (Trapped kind s)) zero_steps loud (n, t, e, h) =
+      let over = over_with_last whole its n start (TrappedBy kind t) (tt {0}) e in
+      let m : s.deeds.steps ≡ over.0 = sym (ap (λ d. d.steps) h.2) ∙ omega (arith, over.1, zero_steps) in
+      (t, subst (λ x. run_code whole its start x ≡ TrappedBy kind t) (sym m) over.2, same_as s t h)
+
+  named : (point : ℕ) → point < sc.points → (place : ℕ) × (slice_get its.points point ≡ Some place)
+  named point less = got-within its.points point (omega (arith, less, points_are))
+
+  acts : (point : ℕ) (store : Store) (view : View) (counters : List ℕ) → point < length agent.points → IsStoreOf unit number agent store → IsViewOf unit number view → length counters ≡ its.counters
+      → EndsAs (act unit.functions (rest agent.stmts point) (begun store view)) (run_code whole its (started (machine_at its point store counters) view))
+  acts point store view counters less is seen len =
+      let p = here.place in
+      let has : HasAt whole.instrs p (stmts_code sc.layout agent.stmts 0 p ++ instr.Jump p ∷ []) = here.has in
+      let kept : length counters ≡ count = len ∙ ap (λ (a : AgentCode). a.counters) its_is in
+      let at_point = ap (λ (a : AgentCode). slice_index_or a.points point 0) its_is in
+      let runs = body_runs whole its sc (callees_of unit.functions) (call_depths unit.functions) (length unit.functions) count depth
+          (expr_runs whole its sc Home (callees_of unit.functions) (call_depths unit.functions) (length unit.functions) (all_ready whole its unit.functions sound.functions stand Home sc refl) (λ variable has. refl))
+          (λ variable has. refl) (λ e. elim (subst T (sym e) (tt {0})) [ ]) named room
+          agent.stmts p point has (omega (arith, here.small)) (omega arith) own.stmts (omega arith, omega arith) (omega (arith, less, own.points, places_count agent.stmts p)) counters (begun store view) kept (shape store view is seen) in
+      ends_as (started (machine_at its point store counters) view) (p + stmts_size agent.stmts) counters (act unit.functions (rest agent.stmts point) (begun store view)) refl (rest_loud unit agent.stmts point own.ends (begun store view))
+      (subst (λ q. After whole its sc Home (p + stmts_size agent.stmts) 0 [] counters (at Home q [] (begun store view) counters) (act unit.functions (rest agent.stmts point) (begun store view))) (sym at_point) runs)
+
+  agent_alike : AgentAlike unit whole number agent its
+  agent_alike = record {
+    points = points_are;
+    cells = ap (λ (a : AgentCode). a.cells) its_is;
+    copies = ap (λ (a : AgentCode). map copy_from a.copies) its_is ∙ copies_same (first_copies unit number);
+    acts = acts;
+  }
+
+-- ---- the whole
+
+agents_length : (unit : Whole) (agents : List AgentDecl) (n p : ℕ) → length (agent_entries unit n agents p) ≡ length agents
+agents_length unit [] n p = refl
+agents_length unit (a ∷ rest) n p = ap suc (agents_length unit rest (n + 1) (p + agent_size a))
+
+agents_size : (agents : List AgentDecl) (p : ℕ) → length (codes_from agent_code agent_size agents p) ≡ total (map agent_size agents)
+agents_size [] p = refl
+agents_size (a ∷ rest) p = length-append (agent_code a p) (codes_from agent_code agent_size rest (p + agent_size a)) ∙ omega (arith, agent_length a p, agents_size rest (p + agent_size a))
+
+pub code_alike : (unit : Whole) → IsSoundUnit unit → ActsAlike unit (code_of unit)
+code_alike unit sound =
+    let start = functions_size unit.functions in
+    let first = codes_from function_code function_size unit.functions 0 in
+    let second = codes_from agent_code agent_size unit.agents start in
+    let len = length-append first second ∙ omega (arith, functions_length unit.functions 0, agents_size unit.agents start) in
+    let all_first = has-first (first ++ second) 0 first second (whole_has [] (first ++ second)) in
+    let all_second = subst (λ n. HasAt (first ++ second) n second) (functions_length unit.functions 0) (whole_has first second) in
+    record {
+      agents = agents_length unit unit.agents 0 start;
+      each = λ number agent its e f.
+        agent_alike unit (code_of unit) number agent its sound
+        (agent_at unit (code_of unit) unit.agents 0 start number agent its all_second (omega (arith, len)) e f)
+        (stand_from (code_of unit) its unit.functions 0 0 all_first (omega (arith, len)) (λ i. let z : 0 + i ≡ i = omega arith in ap (slice_get (function_entries unit.functions 0)) z))
+        (sound.agents number agent e);
+    }
