@@ -1,7 +1,6 @@
 -- The code of a sound unit acts as its statements.
 use Rattle.std.proofs.Common.{◌≡◌, refl, sym, ap, subst, ◌∙◌, arith}
-use Rattle.std.specs.Prelude.{ℕ, zero, suc, ◌+◌, ◌<◌, ◌≤◌, ◌==◌, max, Bool, true, false, T, List, [], ◌∷◌, ◌++◌, map, replicate, length, slice_get, slice_index_or, Option, Some, None, ℤ, ⊤}
-use Rattle.std.specs.List.{flat_map}
+use Rattle.std.specs.Prelude.{ℕ, zero, suc, ◌+◌, ◌<◌, ◌≤◌, false, T, List, [], ◌∷◌, ◌++◌, map, replicate, length, slice_get, slice_index_or, Option, Some, None, ℤ}
 use Rattle.std.proofs.lemmas.List.{length-append, append_assoc}
 use Rattle.psy_tree.specs.declared.unit.Unit.{Unit as Whole}
 use Rattle.psy_tree.specs.declared.unit.AgentDecl.{AgentDecl}
@@ -10,31 +9,28 @@ use Rattle.psy_tree.specs.declared.unit.Slots.{Slots}
 use Rattle.psy_tree.specs.declared.unit.Stmt.{Stmt}
 use Rattle.psy_code.specs.declared.code.Code.{Code}
 use Rattle.psy_code.specs.declared.code.AgentCode.{AgentCode}
-use Rattle.psy_code.specs.declared.code.CopyInit.{CopyInit}
-use Rattle.psy_code.specs.declared.code.FunctionCode.{FunctionCode}
 use Rattle.psy_code.specs.declared.instr.Instr.{Instr}
 use Rattle.psy_code.specs.declared.instr.Instr.TheVariants as instr
 use Rattle.psy_code.specs.Views.{View}
 use Rattle.psy_code.specs.Execution.{Copy, Run, RanTo, TrappedBy, copy_from, run_code}
 use Rattle.psy_code.specs.Execution as code
 use Rattle.psy_meaning.specs.Sizes.{stmts_size, total}
-use Rattle.psy_meaning.specs.Depths.{Depth, stmts_depth, call_depths, loops_in, agent_depth}
-use Rattle.psy_meaning.specs.Sound.{Scope, HasCopy, AreSoundFunctions, agent_scope, IsSoundAgent, IsSoundUnit}
-use Rattle.psy_meaning.specs.States.{Store, State, Final, Ended, Trapped, Outcome, Falls, Returns, Halts, cost_1}
-use Rattle.psy_meaning.specs.Statements.{act, callees_of, Piece, Hop, piece_by, all_of, hop}
+use Rattle.psy_meaning.specs.Depths.{Depth, call_depths, loops_in, agent_depth}
+use Rattle.psy_meaning.specs.Sound.{Scope, agent_scope, IsSoundAgent, IsSoundUnit}
+use Rattle.psy_meaning.specs.States.{Store, State, Ended, Trapped, Outcome, Falls, Returns, Halts, cost_1}
+use Rattle.psy_meaning.specs.Statements.{act, callees_of, Hop, piece_by, all_of}
 use Rattle.psy_meaning.specs.Paths.{quiet_list}
 use Rattle.psy_meaning.specs.Rest.{pieces_of, rests_in, with_rests, rest}
-use Rattle.psy_meaning.specs.Alike.{first_slots, first_copies, IsStoreOf, IsViewOf, SameAs, EndsAs, machine_at, begun, started, AgentAlike, ActsAlike}
-use Rattle.psy_gen.specs.Emission.{codes_from, function_code, function_size, functions_size, function_entry, function_entries, agent_code, agent_size, agent_entry, agent_entries, agent_layout, stmts_code, code_of, places_in}
-use Rattle.psy_gen.proofs.Contexts.{Context, Home, Inside, Room, at, HasAt, has-first, has-second, Shape, Holds, HaltsAt}
+use Rattle.psy_meaning.specs.Alike.{first_copies, IsStoreOf, IsViewOf, SameAs, EndsAs, machine_at, begun, started, AgentAlike, ActsAlike}
+use Rattle.psy_gen.specs.Emission.{codes_from, function_code, function_size, functions_size, function_entries, agent_code, agent_size, agent_entry, agent_entries, stmts_code, code_of}
+use Rattle.psy_gen.proofs.Contexts.{Home, Room, at, HasAt, has-first, has-second, Shape, Holds}
 use Rattle.psy_gen.proofs.Counts.{over_with_last}
 use Rattle.psy_gen.proofs.Lengths.{function_length, agent_length}
-use Rattle.psy_gen.proofs.NoRests.{placed}
 use Rattle.psy_gen.proofs.Outcomes.{After}
 use Rattle.psy_gen.proofs.PlaceCounts.{places_count}
 use Rattle.psy_gen.proofs.ExprRuns.{expr_runs}
-use Rattle.psy_gen.proofs.Calls.{Ready, Stands, StandFrom, all_ready}
-use Rattle.psy_gen.proofs.Loud.{Loud, then_loud, all_loud}
+use Rattle.psy_gen.proofs.Calls.{StandFrom, all_ready}
+use Rattle.psy_gen.proofs.Loud.{then_loud, all_loud}
 use Rattle.psy_gen.proofs.RestRuns.{body_runs, all_of-append, map-append, pieces_are}
 
 -- ---- no action falls through its body
@@ -68,16 +64,16 @@ functions_length [] p = refl
 functions_length (f ∷ fs) p = length-append (function_code f p) (codes_from function_code function_size fs (p + function_size f)) ∙ omega (arith, function_length f p, functions_length fs (p + function_size f))
 
 module _ (whole : Code) (its : AgentCode) where
-
   stand_from : (fs : List FunctionDecl) (n p : ℕ) → HasAt whole.instrs p (codes_from function_code function_size fs p) → p + functions_size fs ≤ length whole.instrs
       → ((i : ℕ) → slice_get whole.functions (n + i) ≡ slice_get (function_entries fs p) i) → StandFrom whole its n fs
   stand_from [] n p h small entries = tt {0}
   stand_from (f ∷ fs) n p h small entries =
       let rest_code = codes_from function_code function_size fs (p + function_size f) in
-      let z : n ≡ n + 0 = omega arith in
-      (record { place = p; entry = ap (slice_get whole.functions) z ∙ entries 0; has = has-first whole.instrs p (function_code f p) rest_code h; small = omega (arith, small) },
+      let z : n ≡ n + 0 = omega arith in (
+        record { place = p; entry = ap (slice_get whole.functions) z ∙ entries 0; has = has-first whole.instrs p (function_code f p) rest_code h; small = omega (arith, small) },
         stand_from fs (n + 1) (p + function_size f) (subst (λ y. HasAt whole.instrs (p + y) rest_code) (function_length f p) (has-second whole.instrs p (function_code f p) rest_code h)) (omega (arith, small))
-          (λ i. let e : n + 1 + i ≡ n + suc i = omega arith in ap (slice_get whole.functions) e ∙ entries (suc i)))
+            (λ i. let e : n + 1 + i ≡ n + suc i = omega arith in ap (slice_get whole.functions) e ∙ entries (suc i)),
+      )
 
 -- the code of one agent
 record AgentAt (unit : Whole) (whole : Code) (number : ℕ) (agent : AgentDecl) (its : AgentCode) : Type 0 where
@@ -124,7 +120,6 @@ got-within (y ∷ ys) zero h = (y, refl)
 got-within (y ∷ ys) (suc i) h = got-within ys i (omega (arith, h))
 
 module _ (unit : Whole) (whole : Code) (number : ℕ) (agent : AgentDecl) (its : AgentCode) (sound : IsSoundUnit unit) (here : AgentAt unit whole number agent its) (stand : StandFrom whole its 0 unit.functions) (own : IsSoundAgent unit number agent) where
-
   abbrev sc : Scope
   sc = agent_scope unit number agent
 
@@ -173,9 +168,9 @@ module _ (unit : Whole) (whole : Code) (number : ℕ) (agent : AgentDecl) (its :
       let kept : length counters ≡ count = len ∙ ap (λ (a : AgentCode). a.counters) its_is in
       let at_point = ap (λ (a : AgentCode). slice_index_or a.points point 0) its_is in
       let runs = body_runs whole its sc (callees_of unit.functions) (call_depths unit.functions) (length unit.functions) count depth
-          (expr_runs whole its sc Home (callees_of unit.functions) (call_depths unit.functions) (length unit.functions) (all_ready whole its unit.functions sound.functions stand Home sc refl) (λ variable has. refl))
-          (λ variable has. refl) (λ e. elim (subst T (sym e) (tt {0})) [ ]) named room
-          agent.stmts p point has (omega (arith, here.small)) (omega arith) own.stmts (omega arith, omega arith) (omega (arith, less, own.points, places_count agent.stmts p)) counters (begun store view) kept (shape store view is seen) in
+      (expr_runs whole its sc Home (callees_of unit.functions) (call_depths unit.functions) (length unit.functions) (all_ready whole its unit.functions sound.functions stand Home sc refl) (λ variable has. refl))
+      (λ variable has. refl) (λ e. elim (subst T (sym e) (tt {0})) [ ]) named room
+      agent.stmts p point has (omega (arith, here.small)) (omega arith) own.stmts (omega arith, omega arith) (omega (arith, less, own.points, places_count agent.stmts p)) counters (begun store view) kept (shape store view is seen) in
       ends_as (started (machine_at its point store counters) view) (p + stmts_size agent.stmts) counters (act unit.functions (rest agent.stmts point) (begun store view)) refl (rest_loud unit agent.stmts point own.ends (begun store view))
       (subst (λ q. After whole its sc Home (p + stmts_size agent.stmts) 0 [] counters (at Home q [] (begun store view) counters) (act unit.functions (rest agent.stmts point) (begun store view))) (sym at_point) runs)
 
@@ -202,14 +197,14 @@ code_alike unit sound =
     let start = functions_size unit.functions in
     let first = codes_from function_code function_size unit.functions 0 in
     let second = codes_from agent_code agent_size unit.agents start in
-    let len = length-append first second ∙ omega (arith, functions_length unit.functions 0, agents_size unit.agents start) in
+    let len : length (first ++ second) ≡ start + total (map agent_size unit.agents) = omega (arith, length-append first second, functions_length unit.functions 0, agents_size unit.agents start) in
     let all_first = has-first (first ++ second) 0 first second (whole_has [] (first ++ second)) in
     let all_second = subst (λ n. HasAt (first ++ second) n second) (functions_length unit.functions 0) (whole_has first second) in
     record {
       agents = agents_length unit unit.agents 0 start;
       each = λ number agent its e f.
-        agent_alike unit (code_of unit) number agent its sound
-        (agent_at unit (code_of unit) unit.agents 0 start number agent its all_second (omega (arith, len)) e f)
-        (stand_from (code_of unit) its unit.functions 0 0 all_first (omega (arith, len)) (λ i. let z : 0 + i ≡ i = omega arith in ap (slice_get (function_entries unit.functions 0)) z))
-        (sound.agents number agent e);
+          agent_alike unit (code_of unit) number agent its sound
+          (let z : 0 + number ≡ number = omega arith in subst (λ n. AgentAt unit (code_of unit) n agent its) z (agent_at unit (code_of unit) unit.agents 0 start number agent its all_second (omega (arith, len)) e f))
+          (stand_from (code_of unit) its unit.functions 0 0 all_first (omega (arith, len)) (λ i. let y : 0 + i ≡ i = omega arith in ap (slice_get (function_entries unit.functions 0)) y))
+          (sound.agents number agent e);
     }

@@ -1,6 +1,6 @@
 -- How a machine stands for a state of the statements: in the agent's body, or in the innermost of some open calls.
-use Rattle.std.proofs.Common.{◌≡◌, refl, sym, ap, subst, ◌∙◌, arith}
-use Rattle.std.specs.Prelude.{ℕ, zero, suc, ◌+◌, ◌<◌, ◌≤◌, ◌&&◌, nat_le, Bool, true, false, List, [], ◌∷◌, ◌++◌, map, length, slice_get, slice_set, slice_index_or, Option, Some, None, ℤ, ⊤}
+use Rattle.std.proofs.Common.{◌≡◌, refl, subst, ◌∙◌, arith}
+use Rattle.std.specs.Prelude.{ℕ, ◌+◌, ◌≤◌, ◌&&◌, nat_le, Bool, true, false, List, [], ◌∷◌, ◌++◌, map, length, slice_get, Some, ℤ, ⊤}
 use Rattle.std.specs.List.{flat_map}
 use Rattle.psy_code.specs.declared.code.Code.{Code}
 use Rattle.psy_code.specs.declared.code.AgentCode.{AgentCode}
@@ -10,7 +10,7 @@ use Rattle.psy_code.specs.Execution as code
 use Rattle.psy_meaning.specs.Sound.{Scope}
 use Rattle.psy_meaning.specs.Alike.{is_there}
 use Rattle.psy_meaning.specs.States.{Store, State, Final, Ended, Trapped, Got, Value, Stops, and_then}
-use Rattle.psy_gen.proofs.Leads.{Leads, after, by_one}
+use Rattle.psy_gen.proofs.Leads.{Leads, after}
 
 -- Where statements are executed
 pub data Context : Type 0 where
@@ -121,7 +121,6 @@ Holds Home s t = (t.machine.home.cells ≡ joined s.store.slots) × (t.machine.c
 Holds (Inside home copies back outer) s t = (t.machine.home.cells ≡ home.cells) × (t.machine.copies ≡ copies) × (t.deeds ≡ s.deeds)
 
 module _ (whole : Code) (its : AgentCode) (sc : Scope) (k : Context) where
-
   abbrev pub HaltsAt : code.State → Final → Type 0
   HaltsAt start (Trapped kind s) = (n : ℕ) × (t : code.State) × (run_code whole its start n ≡ TrappedBy kind t) × Holds k s t
   HaltsAt start (Ended point s) = (n : ℕ) × (t : code.State) × (run_code whole its start n ≡ RanTo point t) × Holds k s t

@@ -3,7 +3,7 @@ use Rattle.std.proofs.Common.{◌≡◌, refl, sym, ap, subst, ◌∙◌, arith}
 use Rattle.std.specs.Prelude.{ℕ, zero, suc, ◌+◌, Option, Some, None, ⊤}
 use Rattle.psy_code.specs.declared.code.Code.{Code}
 use Rattle.psy_code.specs.declared.code.AgentCode.{AgentCode}
-use Rattle.psy_code.specs.Views.{Call, Past, Ready, Take, Send, Deeds, done}
+use Rattle.psy_code.specs.Views.{Call, Past, Ready, Take, Send, Deeds}
 use Rattle.psy_code.specs.Execution.{State, Run, Running, RanTo, TrappedBy, NoRun, Next, Went, Ended, Trapped, Stuck, call_of, next_of, deeds_then, run_by, run_one, run_code, go_on}
 use Rattle.psy_gen.proofs.Leads.{Over}
 
@@ -33,7 +33,6 @@ one_more s call (Trapped kind) = refl
 one_more s call Stuck = tt {0}
 
 module _ (whole : Code) (its : AgentCode) where
-
   abbrev Counted : State → Run → Type 0
   Counted s r = (m : ℕ) × (steps_of r ≡ s.deeds.steps + m) × (run_code whole its s m ≡ r)
 

@@ -1,6 +1,6 @@
 -- The code of an expression acts as the expression.
 use Rattle.std.proofs.Common.{◌≡◌, refl, sym, ap, subst, ◌∙◌, arith}
-use Rattle.std.specs.Prelude.{ℕ, zero, suc, ◌+◌, ◌<◌, ◌≤◌, max, nat_lt, Bool, true, false, not, if◌then◌else◌, List, [], ◌∷◌, ◌++◌, map, length, slice_get, slice_index_or, Option, Some, None, ℤ, pos, negsuc, ⊤}
+use Rattle.std.specs.Prelude.{ℕ, suc, ◌+◌, ◌<◌, ◌≤◌, max, nat_lt, Bool, true, false, not, if◌then◌else◌, List, [], ◌∷◌, ◌++◌, map, length, slice_get, slice_index_or, Option, Some, None, ℤ, pos}
 use Rattle.std.proofs.lemmas.List.{length-append}
 use Rattle.std.specs.Int.{w32}
 use Rattle.psy_arith.specs.declared.operators.Op1.{Op1}
@@ -15,17 +15,16 @@ use Rattle.psy_code.specs.declared.code.Code.{Code}
 use Rattle.psy_code.specs.declared.code.AgentCode.{AgentCode}
 use Rattle.psy_code.specs.declared.instr.Instr.{Instr}
 use Rattle.psy_code.specs.declared.instr.Instr.TheVariants as instr
-use Rattle.psy_code.specs.Views.{View, Past, Ready, Take, past_of, messages_of, number_of, next_in, first_of, found_in}
+use Rattle.psy_code.specs.Views.{Past, Ready, Take, past_of, messages_of, number_of, first_of, found_in}
 use Rattle.psy_code.specs.Execution.{index_in, copy_of, op_of, present, does, Went, Trapped}
 use Rattle.psy_code.specs.Execution as code
 use Rattle.psy_meaning.specs.Sizes.{expr_size, expr_size_step, total}
-use Rattle.psy_meaning.specs.Depths.{Depth, shallow, one_deep, deeper, on_top_of, stacked, binary_depth, expr_depth, expr_depth_step}
+use Rattle.psy_meaning.specs.Depths.{Depth, shallow, one_deep, deeper, on_top_of, stacked, expr_depth, expr_depth_step}
 use Rattle.psy_meaning.specs.Sound.{Scope, HasSlot, HasCopy, HasPast, HasStream, HasFunction, Each, sound_expr_step, IsSoundExpr}
-use Rattle.psy_meaning.specs.States.{Store, State, Got, Value, Stops, Eval, Callee, and_then, cost_1, asking, trapping, or_stop, cells_at, value_at, copy_at, or_zero}
-use Rattle.psy_meaning.specs.Expressions.{eval, expr_step, element, messages_at, take_from, applied, truth_of, binary, in_order}
-use Rattle.psy_gen.specs.Emission.{Emit, Operand, Layout, base_of, cells_of, named, lazy_code, binary_code, arguments_code, expr_code_step, expr_code}
-use Rattle.psy_gen.proofs.Leads.{Leads}
-use Rattle.psy_gen.proofs.Contexts.{Context, Home, Inside, Room, joined, machine_in, at, frame_size, present_in, copies_in, HasAt, has-first, has-second, Shape, HaltsAt, GotAfter, got_leads, got_bind, got_before}
+use Rattle.psy_meaning.specs.States.{Store, State, Got, Value, Eval, Callee, and_then, cost_1, asking, or_stop, value_at, copy_at, or_zero}
+use Rattle.psy_meaning.specs.Expressions.{eval, expr_step, element, messages_at, take_from, applied, truth_of, in_order}
+use Rattle.psy_gen.specs.Emission.{Emit, Operand, base_of, cells_of, named, arguments_code, expr_code_step, expr_code}
+use Rattle.psy_gen.proofs.Contexts.{Context, Home, Room, joined, machine_in, at, frame_size, present_in, copies_in, HasAt, has-first, has-second, Shape, GotAfter, got_leads, got_bind, got_before}
 use Rattle.psy_gen.proofs.Lookups.{cell_is, cells_are, copy_is, past_is, messages_are, taken_there, got_is, index_small}
 use Rattle.psy_gen.proofs.Steps.{step, traps}
 
@@ -58,7 +57,6 @@ pushed [] operands = operands
 pushed (v ∷ vs) operands = pushed vs (v ∷ operands)
 
 module _ (whole : Code) (its : AgentCode) (sc : Scope) (k : Context) (callees : ℕ → Callee) (depths : List Depth) (more : ℕ) where
-
   abbrev pub depth_at : ℕ → Depth
   depth_at function = slice_index_or depths function shallow
 
@@ -101,9 +99,12 @@ module _ (whole : Code) (its : AgentCode) (sc : Scope) (k : Context) (callees : 
       → code.state_then (at k p now t counters) (code.call_by i now) (machine_in k (p + 1) (v ∷ operands) u.store counters) ≡ at k (p + 1) (v ∷ operands) u counters
       → u.store ≡ before.store → Shape sc u → Room its k (frame_size before.store counters) room 0 more → length operands + 1 ≤ room
       → GotAfter whole its sc k (p + 1) operands counters before (at k p now t counters) (Value v u)
-  value_step i v before t u p operands now counters room here goes same store shape r fits =
-      (store, shape, step whole its k p (p + 1) now (v ∷ operands) counters t u i 0 more here goes same
-        (room_in before.store u.store counters (length (v ∷ operands)) 0 store (fewer (frame_size before.store counters) room (length (v ∷ operands)) 0 0 r (omega (arith, fits)) (omega arith))))
+  value_step i v before t u p operands now counters room here goes same store shape r fits = (
+    store,
+    shape,
+    step whole its k p (p + 1) now (v ∷ operands) counters t u i 0 more here goes same
+        (room_in before.store u.store counters (length (v ∷ operands)) 0 store (fewer (frame_size before.store counters) room (length (v ∷ operands)) 0 0 r (omega (arith, fits)) (omega arith))),
+  )
 
   no_cells : (size a c : ℕ) → Room its k size a c more → Room its k size a 0 more
   no_cells size a c r = fewer size a a c 0 r (omega arith) (omega arith)
@@ -156,15 +157,15 @@ module _ (whole : Code) (its : AgentCode) (sc : Scope) (k : Context) (callees : 
   -- One operand, and an instruction that goes on from it
   operand_runs : (c : Emit) (n : ℕ) (d : Depth) (ev : Eval) (i : Instr) (go : ℤ → State → Got) → Goes c n d ev
       → ((v : ℤ) (q : ℕ) (operands : List ℤ) (counters : List ℕ) (before t : State) → slice_get whole.instrs q ≡ Some i → t.store ≡ before.store → Shape sc t
-          → Room its k (frame_size before.store counters) (length operands + 1) 0 more → GotAfter whole its sc k (q + 1) operands counters before (at k q (v ∷ operands) t counters) (go v t))
+      → Room its k (frame_size before.store counters) (length operands + 1) 0 more → GotAfter whole its sc k (q + 1) operands counters before (at k q (v ∷ operands) t counters) (go v t))
       → Runs (λ p. c p ++ i ∷ []) (n + 1) d (λ s. and_then (ev s) go)
   operand_runs c n d ev i go (sized, deep, runs) next p operands counters s h small shape room =
       let r = fewer (frame_size s.store counters) (length operands + d.operands) (length operands + 1) d.cells 0 room (omega (arith, deep)) (omega arith) in
       let e : p + n + 1 ≡ p + (n + 1) = omega arith in
       got_at (p + n + 1) (p + (n + 1)) operands counters s (at k p operands s counters) (and_then (ev s) go) e
       (got_bind whole its sc k (p + n) (p + n + 1) operands operands counters s (at k p operands s counters) (ev s) go
-        (runs p operands counters s (has-first whole.instrs p (c p) (i ∷ []) h) (omega (arith, small)) shape room)
-        (λ v t same sh. next v (p + n) operands counters s t (behind c n p (i ∷ []) sized h).0 same sh r))
+      (runs p operands counters s (has-first whole.instrs p (c p) (i ∷ []) h) (omega (arith, small)) shape room)
+      (λ v t same sh. next v (p + n) operands counters s t (behind c n p (i ∷ []) sized h).0 same sh r))
 
   unary_runs : (operator : Op1) (c : Emit) (n : ℕ) (d : Depth) (ev : Eval) → Goes c n d ev → Runs (λ p. c p ++ instr.Unary operator ∷ []) (n + 1) d (λ s. and_then (ev s) (λ a t. Value (value1 w32 operator a) (cost_1 t)))
   unary_runs operator c n d ev goes =
@@ -215,12 +216,12 @@ module _ (whole : Code) (its : AgentCode) (sc : Scope) (k : Context) (callees : 
       let e : p + nl + nr + 1 ≡ p + (nl + (nr + 1)) = omega arith in
       got_at (p + nl + nr + 1) (p + (nl + (nr + 1))) operands counters s (at k p operands s counters) _ e
       (got_bind whole its sc k (p + nl) (p + nl + nr + 1) operands operands counters s (at k p operands s counters) (el s) _ (lruns p operands counters s left (omega (arith, small)) shape rl)
-        (λ a t same sh.
-          got_bind whole its sc k (p + nl + nr) (p + nl + nr + 1) (a ∷ operands) operands counters s (at k (p + nl) (a ∷ operands) t counters) (er t) _
-          (got_before whole its sc k (p + nl + nr) (a ∷ operands) counters s t (at k (p + nl) (a ∷ operands) t counters) (er t) same
-            (rruns (p + nl) (a ∷ operands) counters t (has-first whole.instrs (p + nl) (cr (p + nl)) (i ∷ []) right) (omega (arith, small)) sh
-              (room_in s.store t.store counters (length (a ∷ operands) + dr.operands) dr.cells same (fewer (frame_size s.store counters) (length operands + d.operands) (length (a ∷ operands) + dr.operands) d.cells dr.cells room (omega arith) (omega arith)))))
-          (λ b u same' sh'. applied_step operator i refl same_op a b (p + nl + nr) operands counters s u last.0 same' sh' r1)))
+      (λ a t same sh.
+      got_bind whole its sc k (p + nl + nr) (p + nl + nr + 1) (a ∷ operands) operands counters s (at k (p + nl) (a ∷ operands) t counters) (er t) _
+      (got_before whole its sc k (p + nl + nr) (a ∷ operands) counters s t (at k (p + nl) (a ∷ operands) t counters) (er t) same
+      (rruns (p + nl) (a ∷ operands) counters t (has-first whole.instrs (p + nl) (cr (p + nl)) (i ∷ []) right) (omega (arith, small)) sh
+      (room_in s.store t.store counters (length (a ∷ operands) + dr.operands) dr.cells same (fewer (frame_size s.store counters) (length operands + d.operands) (length (a ∷ operands) + dr.operands) d.cells dr.cells room (omega arith) (omega arith)))))
+      (λ b u same' sh'. applied_step operator i refl same_op a b (p + nl + nr) operands counters s u last.0 same' sh' r1)))
 
   -- `&&` and `||`
   abbrev end_of : ℕ → ℕ → ℕ → ℕ
@@ -255,9 +256,9 @@ module _ (whole : Code) (its : AgentCode) (sc : Scope) (k : Context) (callees : 
       let first = step whole its k q (q + 1) (v ∷ operands) operands counters t (cost_1 t) i 0 more here goes same_state (room_in before.store t.store counters (length operands) 0 same r0) in
       got_leads whole its sc k (q + 1 + nr + 1) operands counters before (at k q (v ∷ operands) t counters) (at k (q + 1) operands (cost_1 t) counters) (truth_of (er (cost_1 t))) first
       (got_bind whole its sc k (q + 1 + nr) (q + 1 + nr + 1) operands operands counters before (at k (q + 1) operands (cost_1 t) counters) (er (cost_1 t)) _
-        (got_before whole its sc k (q + 1 + nr) operands counters before (cost_1 t) (at k (q + 1) operands (cost_1 t) counters) (er (cost_1 t)) same
-          (runs (q + 1) operands counters (cost_1 t) (has-first whole.instrs (q + 1) (cr (q + 1)) (instr.Truth ∷ []) h) (omega (arith, small)) (ticked t sh) (room_in before.store t.store counters (length operands + dr.operands) dr.cells same r)))
-        (λ b u same' sh'. truth_step b (q + 1 + nr) operands counters before u (behind cr nr (q + 1) (instr.Truth ∷ []) sized h).0 same' sh' r1))
+      (got_before whole its sc k (q + 1 + nr) operands counters before (cost_1 t) (at k (q + 1) operands (cost_1 t) counters) (er (cost_1 t)) same
+      (runs (q + 1) operands counters (cost_1 t) (has-first whole.instrs (q + 1) (cr (q + 1)) (instr.Truth ∷ []) h) (omega (arith, small)) (ticked t sh) (room_in before.store t.store counters (length operands + dr.operands) dr.cells same r)))
+      (λ b u same' sh'. truth_step b (q + 1 + nr) operands counters before u (behind cr nr (q + 1) (instr.Truth ∷ []) sized h).0 same' sh' r1))
 
   and_choice : (cr : Emit) (nr : ℕ) (dr : Depth) (er : Eval) → Goes cr nr dr er → (v : ℤ) (q : ℕ) (operands : List ℤ) (counters : List ℕ) (before t : State) → slice_get whole.instrs q ≡ Some (instr.AndTest (q + 1 + nr + 1))
       → HasAt whole.instrs (q + 1) (cr (q + 1) ++ instr.Truth ∷ []) → q + 1 + nr + 1 < length whole.instrs
@@ -286,8 +287,8 @@ module _ (whole : Code) (its : AgentCode) (sc : Scope) (k : Context) (callees : 
   -- A left side, and what its test makes of the right one
   lazy_runs : (test : ℕ → Instr) (cl cr : Emit) (nl nr : ℕ) (dl dr : Depth) (el er : Eval) (go : ℤ → State → Got) → Goes cl nl dl el → Goes cr nr dr er
       → ((v : ℤ) (q : ℕ) (operands : List ℤ) (counters : List ℕ) (before t : State) → slice_get whole.instrs q ≡ Some (test (q + 1 + nr + 1)) → HasAt whole.instrs (q + 1) (cr (q + 1) ++ instr.Truth ∷ []) → q + 1 + nr + 1 < length whole.instrs
-          → t.store ≡ before.store → Shape sc t → Room its k (frame_size before.store counters) (length operands + dr.operands) dr.cells more
-          → GotAfter whole its sc k (q + 1 + nr + 1) operands counters before (at k q (v ∷ operands) t counters) (go v t))
+      → t.store ≡ before.store → Shape sc t → Room its k (frame_size before.store counters) (length operands + dr.operands) dr.cells more
+      → GotAfter whole its sc k (q + 1 + nr + 1) operands counters before (at k q (v ∷ operands) t counters) (go v t))
       → Runs (λ p. cl p ++ (test (p + nl + 1 + nr + 1) ∷ (cr (p + nl + 1) ++ instr.Truth ∷ []))) (nl + (nr + 2)) (deeper dl dr) (λ s. and_then (el s) go)
   lazy_runs test cl cr nl nr dl dr el er go (lsized, ldeep, lruns) right next p operands counters s h small shape room =
       let d = deeper dl dr in
@@ -296,8 +297,8 @@ module _ (whole : Code) (its : AgentCode) (sc : Scope) (k : Context) (callees : 
       let e : p + nl + 1 + nr + 1 ≡ p + (nl + (nr + 2)) = omega arith in
       got_at (p + nl + 1 + nr + 1) (p + (nl + (nr + 2))) operands counters s (at k p operands s counters) _ e
       (got_bind whole its sc k (p + nl) (p + nl + 1 + nr + 1) operands operands counters s (at k p operands s counters) (el s) go
-        (lruns p operands counters s (has-first whole.instrs p (cl p) rest h) (omega (arith, small)) shape (fewer (frame_size s.store counters) (length operands + d.operands) (length operands + dl.operands) d.cells dl.cells room (omega arith) (omega arith)))
-        (λ v t same sh. next v (p + nl) operands counters s t there.0 there.1 (omega (arith, small)) same sh (fewer (frame_size s.store counters) (length operands + d.operands) (length operands + dr.operands) d.cells dr.cells room (omega arith) (omega arith))))
+      (lruns p operands counters s (has-first whole.instrs p (cl p) rest h) (omega (arith, small)) shape (fewer (frame_size s.store counters) (length operands + d.operands) (length operands + dl.operands) d.cells dl.cells room (omega arith) (omega arith)))
+      (λ v t same sh. next v (p + nl) operands counters s t there.0 there.1 (omega (arith, small)) same sh (fewer (frame_size s.store counters) (length operands + d.operands) (length operands + dr.operands) d.cells dr.cells room (omega arith) (omega arith))))
 
   -- ---- all expressions
 
@@ -339,15 +340,15 @@ module _ (whole : Code) (its : AgentCode) (sc : Scope) (k : Context) (callees : 
       let rest = arguments_code (map operand_of (map tree xs)) last (p + n) in
       let e : p + n + args_size xs ≡ p + args_size (x ∷ xs) = omega arith in
       got_bind whole its sc k (p + n) q operands result counters before (at k p operands s counters) (eval callees x.0 s) _
-        (got_before whole its sc k (p + n) operands counters before s (at k p operands s counters) (eval callees x.0 s) same
-          (x.1.2 sound.0 p operands counters s (has-first whole.instrs p (c p) rest h) (omega (arith, small)) shape
-            (room_in before.store s.store counters (length operands + d.operands) d.cells same (fewer (frame_size before.store counters) (base + all.operands) (length operands + d.operands) all.cells d.cells room (omega (arith, len)) (omega arith)))))
-        (λ v t same' sh.
-          arguments_run xs last (λ vs u. go (v ∷ vs) u) (p + n) q base (held + 1) (v ∷ operands) result counters before t (behind c n p rest x.1.0 h) (omega (arith, small)) sound.1 same' sh (omega (arith, len))
-            (fewer (frame_size before.store counters) (base + all.operands) (base + (args_depth (held + 1) xs).operands) all.cells (args_depth (held + 1) xs).cells room (omega arith) (omega arith))
-            (λ vs u lengths same'' sh'' has.
-              subst (λ y. GotAfter whole its sc k q result counters before (at k y (pushed vs (v ∷ operands)) u counters) (go (v ∷ vs) u)) (sym e)
-              (next (v ∷ vs) u (omega (arith, lengths)) same'' sh'' (subst (λ y. HasAt whole.instrs y last) e has))))
+      (got_before whole its sc k (p + n) operands counters before s (at k p operands s counters) (eval callees x.0 s) same
+      (x.1.2 sound.0 p operands counters s (has-first whole.instrs p (c p) rest h) (omega (arith, small)) shape
+      (room_in before.store s.store counters (length operands + d.operands) d.cells same (fewer (frame_size before.store counters) (base + all.operands) (length operands + d.operands) all.cells d.cells room (omega (arith, len)) (omega arith)))))
+      (λ v t same' sh.
+      arguments_run xs last (λ vs u. go (v ∷ vs) u) (p + n) q base (held + 1) (v ∷ operands) result counters before t (behind c n p rest x.1.0 h) (omega (arith, small)) sound.1 same' sh (omega (arith, len))
+      (fewer (frame_size before.store counters) (base + all.operands) (base + (args_depth (held + 1) xs).operands) all.cells (args_depth (held + 1) xs).cells room (omega arith) (omega arith))
+      (λ vs u lengths same'' sh'' has.
+      subst (λ y. GotAfter whole its sc k q result counters before (at k y (pushed vs (v ∷ operands)) u counters) (go (v ∷ vs) u)) (sym e)
+      (next (v ∷ vs) u (omega (arith, lengths)) same'' sh'' (subst (λ y. HasAt whole.instrs y last) e has))))
 
   args_deep : (ks : List Known) (held : ℕ) → held + length ks ≤ max held (args_depth held ks).operands
   args_deep [] held = omega arith
@@ -370,12 +371,12 @@ module _ (whole : Code) (its : AgentCode) (sc : Scope) (k : Context) (callees : 
       let place : p + size + 1 ≡ p + (size + 1) = omega arith in
       got_at (p + size + 1) (p + (size + 1)) operands counters s (at k p operands s counters) _ place
       (arguments_run ks (instr.Call function ∷ []) (λ values t. callees function values (cost_1 t)) p (p + size + 1) (length operands) 0 operands operands counters s s h (omega (arith, small)) sound refl shape (omega arith)
-        (fewer (frame_size s.store counters) (length operands + d.operands) (length operands + (args_depth 0 ks).operands) d.cells (args_depth 0 ks).cells room (omega arith) (omega arith))
-        (λ vs t len same sh has.
-          got_before whole its sc k (p + size + 1) operands counters s t (at k (p + size) (pushed vs operands) t counters) (callees function vs (cost_1 t)) same
-          (calls function decl e vs operands (omega (arith, len, params, lengths-map ks)) (p + size) counters t has.0 sh
-            (room_in s.store t.store counters (length operands + max (length vs) f.operands) f.cells same
-              (fewer (frame_size s.store counters) (length operands + d.operands) (length operands + max (length vs) f.operands) d.cells f.cells room (omega (arith, len, args_deep ks 0)) (omega arith))))))
+      (fewer (frame_size s.store counters) (length operands + d.operands) (length operands + (args_depth 0 ks).operands) d.cells (args_depth 0 ks).cells room (omega arith) (omega arith))
+      (λ vs t len same sh has.
+      got_before whole its sc k (p + size + 1) operands counters s t (at k (p + size) (pushed vs operands) t counters) (callees function vs (cost_1 t)) same
+      (calls function decl e vs operands (omega (arith, len, params, lengths-map ks)) (p + size) counters t has.0 sh
+      (room_in s.store t.store counters (length operands + max (length vs) f.operands) f.cells same
+      (fewer (frame_size s.store counters) (length operands + d.operands) (length operands + max (length vs) f.operands) d.cells f.cells room (omega (arith, len, args_deep ks 0)) (omega arith))))))
 
   -- What is known of a layer's code, once it is known of its parts
   abbrev Layer : Expr-F Expr → Type 0
@@ -386,28 +387,32 @@ module _ (whole : Code) (its : AgentCode) (sc : Scope) (k : Context) (callees : 
       Sized c n × (1 ≤ d.operands) × (sound_expr_step sc Expr (λ e. e) (IsSoundExpr sc) x → Runs c n d (expr_step callees (map-Expr Expr Eval (eval callees) x)))
 
   module _ (calls : CallsRun) (home : AtHome) where
-
     both_layer : (operator : Op2) → op_of (named operator) ≡ operator → (l r : Known) → let n = expr_size l.0 + (expr_size r.0 + 1) in let c : Emit = (λ p. expr_code sc.layout l.0 p ++ (expr_code sc.layout r.0 (p + expr_size l.0) ++ instr.Binary (named operator) ∷ [])) in
         let d = deeper (expr_depth depths l.0) (on_top_of 1 (expr_depth depths r.0)) in
         Sized c n × (1 ≤ d.operands) × (IsSoundExpr sc l.0 × IsSoundExpr sc r.0 → Runs c n d (λ s. and_then (eval callees l.0 s) (λ a t. and_then (eval callees r.0 t) (λ b u. applied operator a b u))))
-    both_layer operator same l r =
-        (λ p. length-append (expr_code sc.layout l.0 p) _ ∙ omega (arith, l.1.0 p, len-one (expr_code sc.layout r.0 (p + expr_size l.0)) (instr.Binary (named operator)) (expr_size r.0) (r.1.0 (p + expr_size l.0))),
-          omega (arith, l.1.1),
-          λ sound. both_runs operator same (expr_code sc.layout l.0) (expr_code sc.layout r.0) (expr_size l.0) (expr_size r.0) (expr_depth depths l.0) (expr_depth depths r.0) (eval callees l.0) (eval callees r.0) (goes_of l sound.0) (goes_of r sound.1))
+    both_layer operator same l r = (
+      λ p. length-append (expr_code sc.layout l.0 p) _ ∙ omega (arith, l.1.0 p, len-one (expr_code sc.layout r.0 (p + expr_size l.0)) (instr.Binary (named operator)) (expr_size r.0) (r.1.0 (p + expr_size l.0))),
+      omega (arith, l.1.1),
+      λ sound. both_runs operator same (expr_code sc.layout l.0) (expr_code sc.layout r.0) (expr_size l.0) (expr_size r.0) (expr_depth depths l.0) (expr_depth depths r.0) (eval callees l.0) (eval callees r.0) (goes_of l sound.0) (goes_of r sound.1),
+    )
 
     lazy_sized : (test : ℕ → Instr) (l r : Known) → Sized (λ p. expr_code sc.layout l.0 p ++ (test (p + expr_size l.0 + 1 + expr_size r.0 + 1) ∷ (expr_code sc.layout r.0 (p + expr_size l.0 + 1) ++ instr.Truth ∷ []))) (expr_size l.0 + (expr_size r.0 + 2))
     lazy_sized test l r p =
         length-append (expr_code sc.layout l.0 p) _ ∙ omega (arith, l.1.0 p, len-one (expr_code sc.layout r.0 (p + expr_size l.0 + 1)) instr.Truth (expr_size r.0) (r.1.0 (p + expr_size l.0 + 1)))
 
     binary_layer : (operator : Op2) (l r : Known) → Layer (Expr-F.Binary operator l.0 r.0)
-    binary_layer op.AndAnd l r =
-        (lazy_sized instr.AndTest l r, omega (arith, l.1.1),
-          λ sound. lazy_runs instr.AndTest (expr_code sc.layout l.0) (expr_code sc.layout r.0) (expr_size l.0) (expr_size r.0) (expr_depth depths l.0) (expr_depth depths r.0) (eval callees l.0) (eval callees r.0) _ (goes_of l sound.0) (goes_of r sound.1)
-            (λ v q operands counters before t here h small same sh room. and_choice (expr_code sc.layout r.0) (expr_size r.0) (expr_depth depths r.0) (eval callees r.0) (goes_of r sound.1) v q operands counters before t here h small same sh room))
-    binary_layer op.OrOr l r =
-        (lazy_sized instr.OrTest l r, omega (arith, l.1.1),
-          λ sound. lazy_runs instr.OrTest (expr_code sc.layout l.0) (expr_code sc.layout r.0) (expr_size l.0) (expr_size r.0) (expr_depth depths l.0) (expr_depth depths r.0) (eval callees l.0) (eval callees r.0) _ (goes_of l sound.0) (goes_of r sound.1)
-            (λ v q operands counters before t here h small same sh room. or_choice (expr_code sc.layout r.0) (expr_size r.0) (expr_depth depths r.0) (eval callees r.0) (goes_of r sound.1) v q operands counters before t here h small same sh room))
+    binary_layer op.AndAnd l r = (
+      lazy_sized instr.AndTest l r,
+      omega (arith, l.1.1),
+      λ sound. lazy_runs instr.AndTest (expr_code sc.layout l.0) (expr_code sc.layout r.0) (expr_size l.0) (expr_size r.0) (expr_depth depths l.0) (expr_depth depths r.0) (eval callees l.0) (eval callees r.0) _ (goes_of l sound.0) (goes_of r sound.1)
+          (λ v q operands counters before t here h small same sh room. and_choice (expr_code sc.layout r.0) (expr_size r.0) (expr_depth depths r.0) (eval callees r.0) (goes_of r sound.1) v q operands counters before t here h small same sh room),
+    )
+    binary_layer op.OrOr l r = (
+      lazy_sized instr.OrTest l r,
+      omega (arith, l.1.1),
+      λ sound. lazy_runs instr.OrTest (expr_code sc.layout l.0) (expr_code sc.layout r.0) (expr_size l.0) (expr_size r.0) (expr_depth depths l.0) (expr_depth depths r.0) (eval callees l.0) (eval callees r.0) _ (goes_of l sound.0) (goes_of r sound.1)
+          (λ v q operands counters before t here h small same sh room. or_choice (expr_code sc.layout r.0) (expr_size r.0) (expr_depth depths r.0) (eval callees r.0) (goes_of r sound.1) v q operands counters before t here h small same sh room),
+    )
     binary_layer op.Mul l r = both_layer op.Mul refl l r
     binary_layer op.Div l r = both_layer op.Div refl l r
     binary_layer op.Rem l r = both_layer op.Rem refl l r
@@ -429,15 +434,19 @@ module _ (whole : Code) (its : AgentCode) (sc : Scope) (k : Context) (callees : 
     layer_runs (Expr-F.Number number) = (λ p. refl, omega arith, λ sound. number_runs number)
     layer_runs (Expr-F.Slot slot) = (λ p. refl, omega arith, λ sound. slot_runs slot sound)
     layer_runs (Expr-F.Copy variable) = (λ p. refl, omega arith, λ sound. copy_runs home variable sound)
-    layer_runs (Expr-F.Cell slot index) =
-        (λ p. len-one (expr_code sc.layout index.0 p) (instr.LoadCell (base_of sc.layout slot) (cells_of sc.layout slot)) (expr_size index.0) (index.1.0 p), index.1.1,
-          λ sound. cell_runs slot sound.0 (expr_code sc.layout index.0) (expr_size index.0) (expr_depth depths index.0) (eval callees index.0) (goes_of index sound.1))
+    layer_runs (Expr-F.Cell slot index) = (
+      λ p. len-one (expr_code sc.layout index.0 p) (instr.LoadCell (base_of sc.layout slot) (cells_of sc.layout slot)) (expr_size index.0) (index.1.0 p),
+      index.1.1,
+      λ sound. cell_runs slot sound.0 (expr_code sc.layout index.0) (expr_size index.0) (expr_depth depths index.0) (eval callees index.0) (goes_of index sound.1),
+    )
     layer_runs (Expr-F.Past variable back) = (λ p. refl, omega arith, λ sound. past_runs variable back sound)
     layer_runs (Expr-F.Ready stream) = (λ p. refl, omega arith, λ sound. ready_runs stream sound)
     layer_runs (Expr-F.Take stream) = (λ p. refl, omega arith, λ sound. take_runs stream sound)
-    layer_runs (Expr-F.Unary operator operand) =
-        (λ p. len-one (expr_code sc.layout operand.0 p) (instr.Unary operator) (expr_size operand.0) (operand.1.0 p), operand.1.1,
-          λ sound. unary_runs operator (expr_code sc.layout operand.0) (expr_size operand.0) (expr_depth depths operand.0) (eval callees operand.0) (goes_of operand sound))
+    layer_runs (Expr-F.Unary operator operand) = (
+      λ p. len-one (expr_code sc.layout operand.0 p) (instr.Unary operator) (expr_size operand.0) (operand.1.0 p),
+      operand.1.1,
+      λ sound. unary_runs operator (expr_code sc.layout operand.0) (expr_size operand.0) (expr_depth depths operand.0) (eval callees operand.0) (goes_of operand sound),
+    )
     layer_runs (Expr-F.Binary operator left right) = binary_layer operator left right
     layer_runs (Expr-F.Call function arguments) =
         (λ p. args_sized arguments (instr.Call function ∷ []) p, omega arith, λ sound. call_runs calls function arguments sound.0 sound.1)

@@ -1,12 +1,12 @@
 -- Where a run leads: each way that a later state's run ends is one that an earlier state's run ends.
-use Rattle.std.proofs.Common.{◌≡◌, refl, sym, ap, subst, ◌∙◌, arith}
-use Rattle.std.specs.Prelude.{ℕ, zero, suc, ◌+◌, ◌≤◌, Bool, true, false, if◌then◌else◌, List, Option, Some, None, ⊤}
+use Rattle.std.proofs.Common.{◌≡◌, refl, ap, ◌∙◌}
+use Rattle.std.specs.Prelude.{ℕ, suc, true, Some, ⊤}
 use Rattle.psy_code.specs.declared.code.Code.{Code}
 use Rattle.psy_code.specs.declared.code.AgentCode.{AgentCode}
 use Rattle.psy_code.specs.declared.instr.Instr.{Instr}
 use Rattle.psy_arith.specs.declared.operators.Trap.{Trap}
-use Rattle.psy_code.specs.Views.{View, tick}
-use Rattle.psy_code.specs.Execution.{Machine, State, Run, Running, RanTo, TrappedBy, NoRun, Next, Went, Ended, Trapped, Stuck, need, within, has_room, does, instr_at, call_by, call_of, next_of, run_by, run_one, run_code, go_on, state_then}
+use Rattle.psy_code.specs.Views.{tick}
+use Rattle.psy_code.specs.Execution.{Machine, State, Run, Running, RanTo, TrappedBy, NoRun, Went, Ended, Trapped, has_room, does, instr_at, call_by, run_one, run_code, go_on, state_then}
 
 -- The run is over: it ended or trapped.
 abbrev pub Over : Run → Type 0
@@ -16,7 +16,6 @@ Over (Running t) = ⊥
 Over NoRun = ⊥
 
 module _ (code : Code) (its : AgentCode) where
-
   abbrev pub Leads : State → State → Type 0
   Leads t u = (n : ℕ) (r : Run) → Over r → run_code code its u n ≡ r → (m : ℕ) × (run_code code its t m ≡ r)
 
@@ -39,4 +38,3 @@ module _ (code : Code) (its : AgentCode) where
 
   pub ended : (s : State) (i : Instr) (point : ℕ) (m : Machine) → instr_at code s.machine ≡ Some i → does code its s.view i s.machine ≡ Ended point m → run_one code its s ≡ RanTo point (state_then s (call_by i s.machine.operands) m)
   ended s i point m at d = rw (at, d) refl
-

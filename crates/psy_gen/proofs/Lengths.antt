@@ -1,6 +1,6 @@
 -- The code of a construct has as many instructions as its size says.
 use Rattle.std.proofs.Common.{◌≡◌, refl, sym, ap, subst, ◌∙◌, arith}
-use Rattle.std.specs.Prelude.{ℕ, ◌+◌, List, [], ◌∷◌, ◌++◌, map, length, Option, Some, None, pos}
+use Rattle.std.specs.Prelude.{ℕ, ◌+◌, List, [], ◌∷◌, ◌++◌, map, length, Some, None, pos}
 use Rattle.std.proofs.lemmas.List.{length-append}
 use Rattle.psy_arith.specs.declared.operators.Op2.{Op2}
 use Rattle.psy_arith.specs.declared.operators.Op2.TheVariants as op
@@ -18,7 +18,6 @@ use Rattle.psy_gen.specs.Emission.{Emit, Layout, Operand, Coded, Part, base_of, 
 use Rattle.psy_gen.proofs.ExprRuns.{len-one}
 
 module _ (layout : Layout) where
-
   abbrev operand_of : Expr → Operand
   operand_of e = (e, expr_code layout e)
 

@@ -1,15 +1,15 @@
 -- What is found in a store and a view of the right shape.
 use Rattle.std.proofs.Common.{◌≡◌, refl, sym, ap, subst, ◌∙◌, arith}
-use Rattle.std.specs.Prelude.{ℕ, zero, suc, ◌+◌, ◌<◌, ◌==◌, Bool, true, false, T, if◌then◌else◌, List, [], ◌∷◌, ◌++◌, map, take, drop, length, slice_get, slice_set, slice_index_or, Option, Some, None, ℤ, pos, negsuc, nat_lt}
+use Rattle.std.specs.Prelude.{ℕ, zero, suc, ◌+◌, ◌<◌, ◌==◌, Bool, true, false, T, if◌then◌else◌, List, [], ◌∷◌, ◌++◌, map, take, length, slice_get, slice_set, slice_index_or, Option, Some, None, ℤ, pos, negsuc, nat_lt}
 use Rattle.psy_code.specs.Views.{View, found_in, past_of, messages_of, without_first, taken_from}
 use Rattle.psy_code.specs.Execution.{Copy, copy_of, with_copy, index_in}
 use Rattle.psy_meaning.specs.Sizes.{total}
-use Rattle.psy_meaning.specs.Sound.{Scope, HasSlot, HasCopy, HasPast, HasStream}
+use Rattle.psy_meaning.specs.Sound.{Scope, HasCopy, HasPast, HasStream}
 use Rattle.psy_meaning.specs.Alike.{is_there}
-use Rattle.psy_meaning.specs.States.{Store, State, cells_at, value_at, copy_at, or_zero}
+use Rattle.psy_meaning.specs.States.{Store, cells_at, value_at, copy_at, or_zero}
 use Rattle.psy_meaning.specs.Expressions.{or_none, messages_at}
 use Rattle.psy_gen.specs.Emission.{base_of}
-use Rattle.psy_gen.proofs.Contexts.{joined, Shape}
+use Rattle.psy_gen.proofs.Contexts.{joined}
 
 abbrev default : {A : Type 0} → A → Option A → A
 default d None = d
@@ -65,6 +65,7 @@ copy_by (c ∷ cs) place variable e = from (c.variable == variable) refl (λ f. 
     later : (place : ℕ) → (c.variable == variable) ≡ false → slice_get (map (λ (c : Copy). c.variable) (c ∷ cs)) place ≡ Some variable → (n : ℕ) × (slice_get (map (λ (c : Copy). c.variable) cs) n ≡ Some variable)
     later zero f e = absurd (grind (arith, f, some_is c.variable variable e))
     later (suc n) f e = (n, e)
+
     from : (b : Bool) → (c.variable == variable) ≡ b → ((c.variable == variable) ≡ false → copy_of variable cs ≡ Some (or_zero (copy_of variable cs)))
         → (if b then Some c.value else copy_of variable cs) ≡ Some (or_zero (if b then Some c.value else copy_of variable cs))
     from true f rest = refl

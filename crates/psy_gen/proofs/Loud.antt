@@ -1,7 +1,6 @@
 -- Statements of which no path is quiet don't fall through.
-use Rattle.std.proofs.Common.{◌≡◌, refl, sym, ap, subst, ◌∙◌}
-use Rattle.std.specs.Prelude.{ℕ, Bool, true, false, ◌&&◌, ◌||◌, T, if◌then◌else◌, List, [], ◌∷◌, map, Option, Some, None, ℤ, ⊤}
-use Rattle.std.specs.List.{list_all}
+use Rattle.std.proofs.Common.{◌≡◌, refl, sym, subst, ◌∙◌}
+use Rattle.std.specs.Prelude.{ℕ, Bool, true, false, ◌&&◌, ◌||◌, T, if◌then◌else◌, List, [], ◌∷◌, map, Some, None, ℤ, ⊤}
 use Rattle.psy_arith.specs.Operators.{is_zero}
 use Rattle.psy_tree.specs.declared.unit.Stmt.{Stmt, roll-Stmt, fold-roll-Stmt, map-Stmt, ind-Stmt}
 use Rattle.psy_tree.specs.declared.unit.Stmt.TheOpen.{Stmt-F}
@@ -58,7 +57,6 @@ on_loud true b first rest p q h s t e = then_loud (first s) rest (q h) t e
 on_loud false b first rest p q h s t e = first_loud (first s) rest (p refl s) t e
 
 module _ (callees : ℕ → Callee) where
-
   abbrev R : Stmt → Type 0
   R stmt = quiet stmt ≡ false → Loud (act_by callees stmt)
 

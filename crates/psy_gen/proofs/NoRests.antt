@@ -1,12 +1,12 @@
 -- Statements without an `advance` have no rests and no places behind one.
 use Rattle.std.proofs.Common.{◌≡◌, refl, sym, ap, subst, ◌∙◌}
-use Rattle.std.specs.Prelude.{ℕ, ◌+◌, Bool, true, false, ◌||◌, T, List, [], ◌∷◌, ◌++◌, map, Option, Some, None}
+use Rattle.std.specs.Prelude.{ℕ, ◌+◌, Bool, true, false, ◌||◌, T, List, [], ◌∷◌, ◌++◌, map, Some, None}
 use Rattle.std.specs.List.{list_any}
 use Rattle.psy_tree.specs.declared.unit.Stmt.{Stmt, roll-Stmt, fold-roll-Stmt, para-roll-Stmt, map-Stmt, ind-Stmt}
 use Rattle.psy_tree.specs.declared.unit.Stmt.TheOpen.{Stmt-F}
 use Rattle.psy_meaning.specs.Sizes.{expr_size, stmt_size}
 use Rattle.psy_meaning.specs.Paths.{one_of, holds_step, holds, holds_advance}
-use Rattle.psy_meaning.specs.Statements.{Piece, Do, Hop}
+use Rattle.psy_meaning.specs.Statements.{Do, Hop}
 use Rattle.psy_meaning.specs.Rest.{Rests, Part, each_then, pieces_of, stmts_in, rests_in, rests_step, rests_of, with_rests}
 use Rattle.psy_gen.specs.Emission.{Places, Placed, places_in, placed_size, places_step, places_of}
 
@@ -48,9 +48,10 @@ step_none (Stmt-F.SetCopy variable value) h = (refl, λ p. refl)
 step_none (Stmt-F.SetCell slot index value) h = (refl, λ p. refl)
 step_none (Stmt-F.If test branch None) h = (no_rests branch h, λ p. no_places branch h (p + expr_size test + 1))
 step_none (Stmt-F.If test branch (Some other)) h =
-    let both = or_false (one_of (map (holds true false) (map tree branch))) (one_of (map (holds true false) (map tree other))) h in
-    (ap (λ rs. each_then rs (Hop ∷ []) ++ rests_in (map with_rests (map tree other))) (no_rests branch both.0) ∙ no_rests other both.1,
-      λ p. let first = p + expr_size test + 1 in let second = first + placed_size (map placed (map tree branch)) + 1 in ap (λ l. l ++ places_in (map placed (map tree other)) second) (no_places branch both.0 first) ∙ no_places other both.1 second)
+    let both = or_false (one_of (map (holds true false) (map tree branch))) (one_of (map (holds true false) (map tree other))) h in (
+      ap (λ rs. each_then rs (Hop ∷ []) ++ rests_in (map with_rests (map tree other))) (no_rests branch both.0) ∙ no_rests other both.1,
+      λ p. let first = p + expr_size test + 1 in let second = first + placed_size (map placed (map tree branch)) + 1 in ap (λ l. l ++ places_in (map placed (map tree other)) second) (no_places branch both.0 first) ∙ no_places other both.1 second,
+    )
 step_none (Stmt-F.Bounded test most body) h = (no_rests body h, λ p. no_places body h (p + 1 + expr_size test + 2))
 step_none (Stmt-F.Timed test body) h = (ap (λ rs. each_then rs (Hop ∷ Do (roll-Stmt (Stmt-F.Timed test (stmts_in (map with_rests (map tree body))))) ∷ [])) (no_rests body h), λ p. no_places body h (p + expr_size test + 1))
 step_none (Stmt-F.Send value stream after clock) h = (refl, λ p. refl)
@@ -71,6 +72,7 @@ all_none [] h = (refl, λ p. refl)
 all_none (x ∷ xs) h =
     let both = or_false (holds true false x) (list_any (holds true false) xs) h in
     let first = none x both.0 in
-    let rest = all_none xs both.1 in
-    (ap (λ rs. each_then rs (pieces_of (stmts_in (map with_rests xs))) ++ rests_in (map with_rests xs)) first.0 ∙ rest.0,
-      λ p. ap (λ l. l ++ places_in (map placed xs) (p + stmt_size x)) (first.1 p) ∙ rest.1 (p + stmt_size x))
+    let rest = all_none xs both.1 in (
+      ap (λ rs. each_then rs (pieces_of (stmts_in (map with_rests xs))) ++ rests_in (map with_rests xs)) first.0 ∙ rest.0,
+      λ p. ap (λ l. l ++ places_in (map placed xs) (p + stmt_size x)) (first.1 p) ∙ rest.1 (p + stmt_size x),
+    )

@@ -1,20 +1,19 @@
 -- How a machine stands behind the code of statements.
 use Rattle.std.proofs.Common.{◌≡◌, refl, sym, ap, subst, ◌∙◌, arith}
-use Rattle.std.specs.Prelude.{ℕ, zero, suc, ◌+◌, ◌<◌, ◌≤◌, ◌%◌, ◌^◌, ◌==◌, if◌then◌else◌, Bool, true, false, List, [], ◌∷◌, ◌++◌, map, length, slice_get, slice_set, slice_index_or, Option, Some, None, ℤ, pos, ⊤}
+use Rattle.std.specs.Prelude.{ℕ, zero, suc, ◌+◌, ◌<◌, ◌≤◌, ◌%◌, ◌^◌, ◌==◌, if◌then◌else◌, List, [], ◌∷◌, map, length, slice_get, slice_set, Option, Some, None, ℤ}
 use Rattle.std.proofs.lemmas.List.{length-append}
 use Rattle.psy_arith.specs.declared.operators.Trap.TheVariants as trap
 use Rattle.psy_arith.specs.Operators.{is_zero}
 use Rattle.psy_code.specs.declared.code.Code.{Code}
 use Rattle.psy_code.specs.declared.code.AgentCode.{AgentCode}
 use Rattle.psy_code.specs.declared.instr.Instr.{Instr}
-use Rattle.psy_code.specs.Views.{View}
 use Rattle.psy_code.specs.Execution.{Machine, Frame, OpenCall, Copy, Went, does, call_by, state_then, with_cell, with_counter, with_frame}
 use Rattle.psy_code.specs.Execution as code
 use Rattle.psy_meaning.specs.Sizes.{total}
 use Rattle.psy_meaning.specs.Sound.{Scope}
-use Rattle.psy_meaning.specs.States.{Store, State, Final, Ended, Trapped, Got, Value, Stops, Outcome, Falls, Returns, Halts, Act, with_value, then_do}
+use Rattle.psy_meaning.specs.States.{Store, State, Got, Value, Stops, Outcome, Falls, Returns, Halts, Act, with_value, then_do}
 use Rattle.psy_gen.proofs.Leads.{Leads, after, by_one, went}
-use Rattle.psy_gen.proofs.Contexts.{Context, Home, Inside, Room, roomy, machine_in, at, joined, frame, frame_size, present_in, home_in, calls_in, copies_in, Shape, HaltsAt, halts_leads, GotAfter}
+use Rattle.psy_gen.proofs.Contexts.{Context, Home, Inside, Room, roomy, machine_in, at, joined, frame_size, present_in, Shape, HaltsAt, halts_leads, GotAfter}
 
 joined_size : (slots : List (List ℤ)) → length (joined slots) ≡ total (map length slots)
 joined_size [] = refl
@@ -40,7 +39,6 @@ returned Home v operands s = None
 returned (Inside home copies back outer) v operands s = Some (record { machine = record { place = back; operands = v ∷ operands; home = home; calls = outer; copies = copies }; view = s.view; deeds = s.deeds })
 
 module _ (whole : Code) (its : AgentCode) (sc : Scope) (k : Context) where
-
   abbrev pub LeadsTo : code.State → Option code.State → Type 0
   LeadsTo start None = ⊥
   LeadsTo start (Some t) = Leads whole its start t

@@ -1,6 +1,6 @@
 -- There are as many places behind an `advance` as rests.
 use Rattle.std.proofs.Common.{◌≡◌, refl, sym, ap, subst, ◌∙◌, arith}
-use Rattle.std.specs.Prelude.{ℕ, suc, ◌+◌, List, [], ◌∷◌, ◌++◌, map, length, Option, Some, None}
+use Rattle.std.specs.Prelude.{ℕ, suc, ◌+◌, List, [], ◌∷◌, map, length, Some, None}
 use Rattle.std.proofs.lemmas.List.{length-append}
 use Rattle.psy_tree.specs.declared.unit.Stmt.{Stmt, roll-Stmt, para-roll-Stmt, map-Stmt, ind-Stmt}
 use Rattle.psy_tree.specs.declared.unit.Stmt.TheOpen.{Stmt-F}
@@ -26,8 +26,14 @@ tree x = x.0
 in_list : (ks : List Known) (p : ℕ) → length (places_in (map placed (map tree ks)) p) ≡ length (rests_in (map with_rests (map tree ks)))
 in_list [] p = refl
 in_list (x ∷ xs) p =
-    omega (arith, length-append (places_of x.0 p) (places_in (map placed (map tree xs)) (p + stmt_size x.0)), length-append (each_then (rests_of x.0) (pieces_of (stmts_in (map with_rests (map tree xs))))) (rests_in (map with_rests (map tree xs))),
-      each-length (rests_of x.0) (pieces_of (stmts_in (map with_rests (map tree xs)))), x.1 p, in_list xs (p + stmt_size x.0))
+    omega (
+      arith,
+      length-append (places_of x.0 p) (places_in (map placed (map tree xs)) (p + stmt_size x.0)),
+      length-append (each_then (rests_of x.0) (pieces_of (stmts_in (map with_rests (map tree xs))))) (rests_in (map with_rests (map tree xs))),
+      each-length (rests_of x.0) (pieces_of (stmts_in (map with_rests (map tree xs)))),
+      x.1 p,
+      in_list xs (p + stmt_size x.0),
+    )
 
 step_count : (y : Stmt-F Known) (p : ℕ) → let x = map-Stmt Known Stmt tree y in length (places_step (map-Stmt Stmt Placed placed x) p) ≡ length (rests_step (map-Stmt Stmt Part with_rests x))
 step_count (Stmt-F.Set slot value) p = refl
@@ -37,8 +43,14 @@ step_count (Stmt-F.If test branch None) p = in_list branch (p + expr_size test +
 step_count (Stmt-F.If test branch (Some other)) p =
     let first = p + expr_size test + 1 in
     let second = first + placed_size (map placed (map tree branch)) + 1 in
-    omega (arith, length-append (places_in (map placed (map tree branch)) first) (places_in (map placed (map tree other)) second), length-append (each_then (rests_in (map with_rests (map tree branch))) (Hop ∷ [])) (rests_in (map with_rests (map tree other))),
-      each-length (rests_in (map with_rests (map tree branch))) (Hop ∷ []), in_list branch first, in_list other second)
+    omega (
+      arith,
+      length-append (places_in (map placed (map tree branch)) first) (places_in (map placed (map tree other)) second),
+      length-append (each_then (rests_in (map with_rests (map tree branch))) (Hop ∷ [])) (rests_in (map with_rests (map tree other))),
+      each-length (rests_in (map with_rests (map tree branch))) (Hop ∷ []),
+      in_list branch first,
+      in_list other second,
+    )
 step_count (Stmt-F.Bounded test most body) p = in_list body (p + 1 + expr_size test + 2)
 step_count (Stmt-F.Timed test body) p =
     in_list body (p + expr_size test + 1) ∙ sym (each-length (rests_in (map with_rests (map tree body))) (Hop ∷ Do (roll-Stmt (Stmt-F.Timed test (stmts_in (map with_rests (map tree body))))) ∷ []))

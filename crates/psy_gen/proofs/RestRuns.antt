@@ -1,6 +1,6 @@
 -- The code behind an `advance` acts as the rest of the body.
 use Rattle.std.proofs.Common.{◌≡◌, refl, sym, ap, subst, ◌∙◌, arith}
-use Rattle.std.specs.Prelude.{ℕ, zero, suc, ◌+◌, ◌<◌, ◌≤◌, max, Bool, true, false, List, [], ◌∷◌, ◌++◌, map, length, slice_get, slice_index_or, Option, Some, None, ℤ, ⊤}
+use Rattle.std.specs.Prelude.{ℕ, zero, suc, ◌+◌, ◌<◌, ◌≤◌, max, false, List, [], ◌∷◌, ◌++◌, map, length, slice_get, slice_index_or, Some, None, ⊤}
 use Rattle.std.proofs.lemmas.List.{append-nil}
 use Rattle.psy_tree.specs.declared.unit.Expr.{Expr}
 use Rattle.psy_tree.specs.declared.unit.Stmt.{Stmt, roll-Stmt, fold-roll-Stmt, para-roll-Stmt, rec-roll-Stmt, map-Stmt, ind-Stmt}
@@ -9,22 +9,21 @@ use Rattle.psy_code.specs.declared.code.Code.{Code}
 use Rattle.psy_code.specs.declared.code.AgentCode.{AgentCode}
 use Rattle.psy_code.specs.declared.instr.Instr.{Instr}
 use Rattle.psy_code.specs.declared.instr.Instr.TheVariants as instr
-use Rattle.psy_code.specs.Execution as code
 use Rattle.psy_meaning.specs.Sizes.{expr_size, stmt_size, stmts_size, stmt_size_step, total}
-use Rattle.psy_meaning.specs.Depths.{Depth, shallow, deeper, deepest, expr_depth, stmt_depth, stmts_depth, stmt_depth_step, loops, loops_in, loops_step}
-use Rattle.psy_meaning.specs.Sound.{Scope, HasCopy, Each, IsSoundExpr, IsSoundStmt, AreSound, sound_stmt_step}
-use Rattle.psy_meaning.specs.States.{Store, State, Outcome, Falls, Returns, Halts, Act, Callee, then_do, cost_1}
+use Rattle.psy_meaning.specs.Depths.{Depth, shallow, deeper, stmt_depth, stmts_depth, stmt_depth_step, loops, loops_in, loops_step}
+use Rattle.psy_meaning.specs.Sound.{Scope, IsSoundStmt, AreSound, sound_stmt_step}
+use Rattle.psy_meaning.specs.States.{State, Outcome, Falls, Returns, Halts, Act, Callee, then_do}
 use Rattle.psy_meaning.specs.Statements.{all_of, hop, act_by, acts_by, Piece, Do, Hop, piece_by}
 use Rattle.psy_meaning.specs.Rest.{Rests, each_then, pieces_of, stmts_in, rests_in, rests_step, rests_of, with_rests}
 use Rattle.psy_meaning.specs.Rest as rest
 use Rattle.psy_meaning.specs.Paths.{holds_advance}
 use Rattle.psy_gen.specs.Emission.{Coded, Places, Placed, expr_code, block_code, block_size, block_loops, placed_size, stmt_code_step, stmt_code, stmts_code, places_in, places_step, places_of}
 use Rattle.psy_gen.specs.Emission as emission
-use Rattle.psy_gen.proofs.Contexts.{Context, Home, Inside, Room, at, HasAt, has-first, has-second, Shape}
+use Rattle.psy_gen.proofs.Contexts.{Home, Room, at, HasAt, has-first, has-second, Shape}
 use Rattle.psy_gen.proofs.Leads.{here}
 use Rattle.psy_gen.proofs.NoRests.{placed, all_none}
-use Rattle.psy_gen.proofs.StmtRuns.{StmtRuns, ExprKnown, AtHome, AtWork, AllPoints, stmt_runs, all_runs, all_sized, hop_after, sound_natural}
-use Rattle.psy_gen.proofs.Outcomes.{Keeps, keeps_same, After, after_at, after_keeps, then_after}
+use Rattle.psy_gen.proofs.StmtRuns.{ExprKnown, AtHome, AtWork, AllPoints, stmt_runs, all_runs, all_sized, hop_after, sound_natural}
+use Rattle.psy_gen.proofs.Outcomes.{keeps_same, After, after_keeps, then_after}
 
 -- ---- lists of pieces
 
@@ -74,7 +73,6 @@ deeper_shallow d = let a : max d.operands 0 ≡ d.operands = omega arith in let 
 module _ (whole : Code) (its : AgentCode) (sc : Scope) (callees : ℕ → Callee) (depths : List Depth) (more count : ℕ) (deepest_of : Depth)
     (exprs : (e : Expr) → ExprKnown whole its sc Home callees depths more count e) (home : AtHome whole its sc Home callees depths more count) (work : AtWork whole its sc Home callees depths more count)
     (points : AllPoints whole its sc Home callees depths more count) (room : Room its Home (total sc.layout + count) deepest_of.operands deepest_of.cells more) where
-
   -- No deeper than the agent's machine may be
   abbrev pub Fits : Depth → Type 0
   Fits d = (d.operands ≤ deepest_of.operands) × (d.cells ≤ deepest_of.cells)
@@ -126,8 +124,8 @@ module _ (whole : Code) (its : AgentCode) (sc : Scope) (callees : ℕ → Callee
   stmts_run stmts c p sound h small enough fits counters s len shape =
       subst (λ l. After whole its sc Home (p + stmts_size stmts) 0 [] counters (at Home p [] s counters) (all_of l s)) (sym (pieces_are callees stmts))
       (after_keeps whole its sc Home (p + stmts_size stmts) 0 c [] counters counters (at Home p [] s counters) (acts_by callees stmts s) (omega arith) (keeps_same 0 counters)
-        (all_runs whole its sc Home callees depths more count exprs home work points stmts sound c p [] counters s h small enough len shape
-          (record { stack = omega (arith, room.stack, fits.0); frames = omega (arith, room.frames, fits.1); calls = room.calls })))
+      (all_runs whole its sc Home callees depths more count exprs home work points stmts sound c p [] counters s h small enough len shape
+      (record { stack = omega (arith, room.stack, fits.0); frames = omega (arith, room.frames, fits.1); calls = room.calls })))
 
   abbrev RS : Stmt → Type 0
   RS stmt = (c p : ℕ) → HasAt whole.instrs p (stmt_code sc.layout stmt c p) → p + stmt_size stmt < length whole.instrs → c + loops stmt ≤ count → IsSoundStmt sc stmt → Fits (stmt_depth depths stmt) → EachRuns (rests_of stmt) (places_of stmt p) (p + stmt_size stmt)
@@ -153,10 +151,10 @@ module _ (whole : Code) (its : AgentCode) (sc : Scope) (callees : ℕ → Callee
       let behind = subst (λ y. HasAt whole.instrs (p + y) (stmts_code sc.layout others (c + l) (p + n))) (sized x.0 c p) (has-second whole.instrs p (stmt_code sc.layout x.0 c p) (stmts_code sc.layout others (c + l) (p + n)) h) in
       each_at _ _ (p + n + stmts_size others) (p + stmts_size (map tree (x ∷ xs))) place
       (each-append (each_then (rests_of x.0) (pieces_of (stmts_in (map with_rests others)))) (rests_in (map with_rests others)) (places_of x.0 p) (places_in (map placed others) (p + n)) (p + n + stmts_size others)
-        (each_on (rests_of x.0) (pieces_of (stmts_in (map with_rests others))) (places_of x.0 p) (p + n) (p + n + stmts_size others)
-          (x.1 c p (has-first whole.instrs p (stmt_code sc.layout x.0 c p) (stmts_code sc.layout others (c + l) (p + n)) h) (omega (arith, small)) (omega (arith, enough)) sound.0 (omega (arith, fits.0), omega (arith, fits.1)))
-          (subst (λ ss. PiecesRun (pieces_of ss) (p + n) (p + n + stmts_size others)) (sym (stmts_are others)) (stmts_run others (c + l) (p + n) sound.1 behind (omega (arith, small)) (omega (arith, enough)) (omega (arith, fits.0), omega (arith, fits.1)))))
-        (list_rests xs (c + l) (p + n) behind (omega (arith, small)) (omega (arith, enough)) sound.1 (omega (arith, fits.0), omega (arith, fits.1))))
+      (each_on (rests_of x.0) (pieces_of (stmts_in (map with_rests others))) (places_of x.0 p) (p + n) (p + n + stmts_size others)
+      (x.1 c p (has-first whole.instrs p (stmt_code sc.layout x.0 c p) (stmts_code sc.layout others (c + l) (p + n)) h) (omega (arith, small)) (omega (arith, enough)) sound.0 (omega (arith, fits.0), omega (arith, fits.1)))
+      (subst (λ ss. PiecesRun (pieces_of ss) (p + n) (p + n + stmts_size others)) (sym (stmts_are others)) (stmts_run others (c + l) (p + n) sound.1 behind (omega (arith, small)) (omega (arith, enough)) (omega (arith, fits.0), omega (arith, fits.1)))))
+      (list_rests xs (c + l) (p + n) behind (omega (arith, small)) (omega (arith, enough)) sound.1 (omega (arith, fits.0), omega (arith, fits.1))))
 
   list_sized : (stmts : List Stmt) (c p : ℕ) → length (stmts_code sc.layout stmts c p) ≡ stmts_size stmts
   list_sized stmts c p = all_sized whole its sc Home callees depths more count exprs home work points stmts c p
@@ -209,12 +207,12 @@ module _ (whole : Code) (its : AgentCode) (sc : Scope) (callees : ℕ → Callee
       let others_end : second + o ≡ end = omega (arith, os') in
       each_at _ _ end (p + (expr_size test + 1 + (b + (o + 1)))) ends
       (each-append (each_then (rests_in (map with_rests (map tree ks))) (Hop ∷ [])) (rests_in (map with_rests (map tree os))) (places_in (map placed (map tree ks)) first) (places_in (map placed (map tree os)) (first + placed_size (map placed (map tree ks)) + 1)) end
-        (each_on (rests_in (map with_rests (map tree ks))) (Hop ∷ []) (places_in (map placed (map tree ks)) first) (first + b) end
-          (list_rests ks c first (has-first whole.instrs first (stmts_code sc.layout (map tree ks) c first) jump there) (omega (arith, small)) (omega (arith, enough)) sound.1 (omega (arith, fits.0), omega (arith, fits.1)))
-          (hop_runs (first + b) end has_jump.0 (omega (arith, small, ends))))
-        (subst (λ y. EachRuns (rests_in (map with_rests (map tree os))) (places_in (map placed (map tree os)) y) end) places_from
-          (each_at _ _ (second + o) end others_end
-            (list_rests os (c + l) second (subst (λ y. HasAt whole.instrs y (stmts_code sc.layout (map tree os) (c + l) second)) (sym from_second) has_jump.1) (omega (arith, small, from_second)) (omega (arith, enough, ls)) sound.2 (omega (arith, fits.0), omega (arith, fits.1))))))
+      (each_on (rests_in (map with_rests (map tree ks))) (Hop ∷ []) (places_in (map placed (map tree ks)) first) (first + b) end
+      (list_rests ks c first (has-first whole.instrs first (stmts_code sc.layout (map tree ks) c first) jump there) (omega (arith, small)) (omega (arith, enough)) sound.1 (omega (arith, fits.0), omega (arith, fits.1)))
+      (hop_runs (first + b) end has_jump.0 (omega (arith, small, ends))))
+      (subst (λ y. EachRuns (rests_in (map with_rests (map tree os))) (places_in (map placed (map tree os)) y) end) places_from
+      (each_at _ _ (second + o) end others_end
+      (list_rests os (c + l) second (subst (λ y. HasAt whole.instrs y (stmts_code sc.layout (map tree os) (c + l) second)) (sym from_second) has_jump.1) (omega (arith, small, from_second)) (omega (arith, enough, ls)) sound.2 (omega (arith, fits.0), omega (arith, fits.1))))))
 
   timed_layer : (test : Expr) (ks : List Known) → Layer (Stmt-F.Timed test (map tree ks))
   timed_layer test ks c p h small enough sound fits self =
@@ -226,8 +224,8 @@ module _ (whole : Code) (its : AgentCode) (sc : Scope) (callees : ℕ → Callee
       let has_jump = subst (λ y. HasAt whole.instrs (first + y) (instr.Jump p ∷ [])) (list_sized (map tree ks) c first) (has-second whole.instrs first (stmts_code sc.layout (map tree ks) c first) (instr.Jump p ∷ []) there) in
       let again = pieces_then (Hop ∷ []) (Do (roll-Stmt (Stmt-F.Timed test (map tree ks))) ∷ []) (first + b) p (p + size) (hop_runs (first + b) p has_jump.0 (omega (arith, small))) self in
       each_on (rests_in (map with_rests (map tree ks))) (Hop ∷ Do (roll-Stmt (Stmt-F.Timed test (stmts_in (map with_rests (map tree ks))))) ∷ []) (places_in (map placed (map tree ks)) first) (first + b) (p + size)
-        (list_rests ks c first (has-first whole.instrs first (stmts_code sc.layout (map tree ks) c first) (instr.Jump p ∷ []) there) (omega (arith, small)) (omega (arith, enough)) sound.2 (omega (arith, fits.0), omega (arith, fits.1)))
-        (subst (λ l. PiecesRun (Hop ∷ Do (roll-Stmt (Stmt-F.Timed test l)) ∷ []) (first + b) (p + size)) (sym (stmts_are (map tree ks))) again)
+      (list_rests ks c first (has-first whole.instrs first (stmts_code sc.layout (map tree ks) c first) (instr.Jump p ∷ []) there) (omega (arith, small)) (omega (arith, enough)) sound.2 (omega (arith, fits.0), omega (arith, fits.1)))
+      (subst (λ l. PiecesRun (Hop ∷ Do (roll-Stmt (Stmt-F.Timed test l)) ∷ []) (first + b) (p + size)) (sym (stmts_are (map tree ks))) again)
 
   bounded_layer : (test : Expr) (most : ℕ) (ks : List Known) → Layer (Stmt-F.Bounded test most (map tree ks))
   bounded_layer test most ks c p h small enough sound fits self =
@@ -259,7 +257,7 @@ module _ (whole : Code) (its : AgentCode) (sc : Scope) (callees : ℕ → Callee
       let alone : stmts_depth depths (z ∷ []) ≡ stmt_depth depths z = deeper_shallow (stmt_depth depths z) in
       let one_size : p + (stmt_size z + 0) ≡ p + size_step x = omega (arith, size) in
       let self = subst (PiecesRun (Do z ∷ []) p) one_size
-          (stmts_run (z ∷ []) c p (sound, tt {0}) (subst (HasAt whole.instrs p) (sym (append-nil (stmt_code sc.layout z c p))) h) (omega (arith, small)) (omega (arith, enough)) (subst Fits (sym alone) fits)) in
+      (stmts_run (z ∷ []) c p (sound, tt {0}) (subst (HasAt whole.instrs p) (sym (append-nil (stmt_code sc.layout z c p))) h) (omega (arith, small)) (omega (arith, enough)) (subst Fits (sym alone) fits)) in
       let done = layer_rests y c p (subst (HasAt whole.instrs p) coded h) (omega (arith, small, size)) (omega (arith, enough, looped)) (subst (λ (t : Type 0). t) (rec-roll-Stmt (Type 0) (sound_stmt_step sc) (sound_natural sc) x) sound) (subst Fits deep fits) self in
       subst (λ r. EachRuns r (places_of z p) (p + stmt_size z)) (sym (para-roll-Stmt Rests rests_step x))
       (subst (λ (f : Places). EachRuns (rests_step (map-Stmt Stmt rest.Part with_rests x)) (f p) (p + stmt_size z)) (sym (para-roll-Stmt Places places_step x))
@@ -298,5 +296,5 @@ module _ (whole : Code) (its : AgentCode) (sc : Scope) (callees : ℕ → Callee
       let jump = subst (λ y. HasAt whole.instrs (p + y) (instr.Jump p ∷ [])) (list_sized stmts 0 p) (has-second whole.instrs p (stmts_code sc.layout stmts 0 p) (instr.Jump p ∷ []) h) in
       let code = has-first whole.instrs p (stmts_code sc.layout stmts 0 p) (instr.Jump p ∷ []) h in
       pieces_then (slice_index_or (rests_in (map with_rests stmts)) n []) (Hop ∷ pieces_of stmts) (slice_index_or (places_in (map placed stmts) p) n 0) end end
-        (pick (rests_in (map with_rests stmts)) (places_in (map placed stmts) p) end n (all_rests stmts 0 p code small (omega (arith, enough)) sound fits) (omega (arith, named)))
-        (pieces_then (Hop ∷ []) (pieces_of stmts) end p end (hop_runs end p jump.0 (omega (arith, small))) (stmts_run stmts 0 p sound code small (omega (arith, enough)) fits))
+      (pick (rests_in (map with_rests stmts)) (places_in (map placed stmts) p) end n (all_rests stmts 0 p code small (omega (arith, enough)) sound fits) (omega (arith, named)))
+      (pieces_then (Hop ∷ []) (pieces_of stmts) end p end (hop_runs end p jump.0 (omega (arith, small))) (stmts_run stmts 0 p sound code small (omega (arith, enough)) fits))

@@ -1,28 +1,19 @@
 -- One instruction of the code of expressions.
-use Rattle.std.proofs.Common.{◌≡◌, refl, sym, ap, subst, ◌∙◌, arith}
-use Rattle.std.specs.Prelude.{ℕ, zero, suc, ◌+◌, ◌<◌, ◌≤◌, nat_lt, Bool, true, false, not, if◌then◌else◌, List, [], ◌∷◌, ◌++◌, map, length, slice_get, Option, Some, None, ℤ, pos, negsuc}
-use Rattle.std.specs.Int.{w32}
-use Rattle.psy_arith.specs.declared.operators.Op1.{Op1}
-use Rattle.psy_arith.specs.declared.operators.Op2.{Op2}
+use Rattle.std.proofs.Common.{◌≡◌, refl, ap, ◌∙◌}
+use Rattle.std.specs.Prelude.{ℕ, List, length, slice_get, Some, ℤ}
 use Rattle.psy_arith.specs.declared.operators.Trap.{Trap}
-use Rattle.psy_arith.specs.declared.operators.Trap.TheVariants as trap
-use Rattle.psy_arith.specs.Operators.{truth, is_zero, value1, value2}
 use Rattle.psy_code.specs.declared.code.Code.{Code}
 use Rattle.psy_code.specs.declared.code.AgentCode.{AgentCode}
-use Rattle.psy_code.specs.declared.instr.Binary.{Binary}
 use Rattle.psy_code.specs.declared.instr.Instr.{Instr}
-use Rattle.psy_code.specs.declared.instr.Instr.TheVariants as instr
-use Rattle.psy_code.specs.Views.{View, past_of, messages_of, number_of, next_in, tick}
+use Rattle.psy_code.specs.Views.{tick}
 use Rattle.psy_code.specs.Execution.{Machine, Next, Went, Trapped, TrappedBy, does, run_one, run_code, present, index_in, copy_of, op_of, call_by, state_then}
 use Rattle.psy_code.specs.Execution as code
 use Rattle.psy_meaning.specs.Sound.{Scope}
-use Rattle.psy_meaning.specs.States.{Store, State, Final, Value, Stops, Got, cost_1, asking, trapping}
-use Rattle.psy_meaning.specs.States as states
+use Rattle.psy_meaning.specs.States.{State, cost_1, trapping}
 use Rattle.psy_gen.proofs.Leads.{Leads, by_one, went, trapped}
-use Rattle.psy_gen.proofs.Contexts.{Context, Home, Inside, Room, roomy, machine_in, at, joined, frame, frame_size, present_in, copies_in, Holds, HaltsAt}
+use Rattle.psy_gen.proofs.Contexts.{Context, Home, Inside, Room, roomy, machine_in, at, frame_size, Holds, HaltsAt}
 
 module _ (whole : Code) (its : AgentCode) (k : Context) where
-
   -- An instruction that goes on to other operands
   pub step : (p q : ℕ) (operands more : List ℤ) (counters : List ℕ) (s t : State) (i : Instr) (cells calls : ℕ) → slice_get whole.instrs p ≡ Some i
       → does whole its s.view i (machine_in k p operands s.store counters) ≡ Went (machine_in k q more t.store counters)

@@ -1,10 +1,10 @@
 -- The code of statements acts as the statements.
 use Rattle.std.proofs.Common.{◌≡◌, refl, sym, ap, subst, ◌∙◌, arith}
-use Rattle.std.specs.Prelude.{ℕ, zero, suc, ◌+◌, ◌-◌, ◌%◌, ◌^◌, ◌<◌, ◌≤◌, ◌==◌, max, nat_lt, Bool, true, false, not, if◌then◌else◌, List, [], ◌∷◌, ◌++◌, map, length, slice_get, slice_set, slice_index_or, Option, Some, None, ℤ, pos, negsuc, ⊤}
+use Rattle.std.specs.Prelude.{ℕ, zero, suc, ◌+◌, ◌-◌, ◌%◌, ◌^◌, ◌<◌, ◌≤◌, ◌==◌, nat_lt, Bool, true, false, if◌then◌else◌, List, [], ◌∷◌, ◌++◌, map, length, slice_get, slice_set, Option, Some, None, ℤ, ⊤}
 use Rattle.std.proofs.lemmas.List.{length-append}
 use Rattle.std.proofs.Math.Nat.{mod-eq_of_lt}
 use Rattle.psy_arith.specs.declared.operators.Trap.TheVariants as trap
-use Rattle.psy_arith.specs.Operators.{truth, is_zero}
+use Rattle.psy_arith.specs.Operators.{is_zero}
 use Rattle.psy_tree.specs.declared.unit.Expr.{Expr}
 use Rattle.psy_tree.specs.declared.unit.Stmt.{Stmt, roll-Stmt, fold-roll-Stmt, para-roll-Stmt, rec-roll-Stmt, map-Stmt, ind-Stmt}
 use Rattle.psy_tree.specs.declared.unit.Stmt.TheOpen.{Stmt-F}
@@ -12,24 +12,24 @@ use Rattle.psy_code.specs.declared.code.Code.{Code}
 use Rattle.psy_code.specs.declared.code.AgentCode.{AgentCode}
 use Rattle.psy_code.specs.declared.instr.Instr.{Instr}
 use Rattle.psy_code.specs.declared.instr.Instr.TheVariants as instr
-use Rattle.psy_code.specs.Views.{View, Send}
+use Rattle.psy_code.specs.Views.{Send}
 use Rattle.psy_code.specs.Execution.{index_in, copy_of, with_copy, present, does, Went, Trapped, op_of}
 use Rattle.psy_code.specs.Execution as code
 use Rattle.psy_meaning.specs.Sizes.{expr_size, stmt_size, stmts_size, stmt_size_step, total}
 use Rattle.psy_meaning.specs.Depths.{Depth, shallow, deeper, deepest, on_top_of, expr_depth, stmt_depth, stmts_depth, stmt_depth_step, loops, loops_in, loops_step}
 use Rattle.psy_meaning.specs.Sound.{Scope, HasSlot, HasCopy, Each, IsSoundExpr, IsSoundStmt, AreSound, sound_stmt_step}
-use Rattle.psy_meaning.specs.States.{Store, State, Final, Ended, Got, Value, Stops, Outcome, Falls, Returns, Halts, Eval, Act, Callee, with_value, then_do, cost_1, asking, trapping, or_halt, cells_at, copy_at, with_slot, with_copy_at}
+use Rattle.psy_meaning.specs.States.{State, Ended, Outcome, Falls, Returns, Halts, Act, Callee, with_value, then_do, cost_1, asking, trapping, or_halt, copy_at, with_slot, with_copy_at}
 use Rattle.psy_meaning.specs.Paths.{holds_advance, quiet_list}
 use Rattle.psy_meaning.specs.Expressions.{eval}
 use Rattle.psy_meaning.specs.Statements.{set_element, all_of, choose, hop, branches, turns, stmt_step, act_by, acts_by}
-use Rattle.psy_gen.specs.Emission.{Emit, Coded, Part, Layout, base_of, cells_of, expr_code, block_code, block_size, block_loops, if_code, bounded_code, timed_code, stmt_code_step, stmt_code, stmts_code}
+use Rattle.psy_gen.specs.Emission.{Emit, Coded, Part, base_of, cells_of, expr_code, block_code, block_size, block_loops, if_code, bounded_code, timed_code, stmt_code_step, stmt_code, stmts_code}
 use Rattle.psy_gen.proofs.Leads.{Leads, here, after, by_one, went, ended}
-use Rattle.psy_gen.proofs.Contexts.{Context, Home, Inside, Room, has_room_by, joined, machine_in, at, frame_size, present_in, copies_in, HasAt, has-first, has-second, Shape, Holds, HaltsAt, halts_leads, GotAfter}
+use Rattle.psy_gen.proofs.Contexts.{Context, Home, Inside, Room, has_room_by, joined, machine_in, at, frame_size, HasAt, has-first, has-second, Shape, Holds}
 use Rattle.psy_gen.proofs.Lookups.{cells_are, copy_is, got_is, index_small, cell_is, set_is, lengths-set, variables-set}
 use Rattle.psy_gen.proofs.Loud.{all_loud}
 use Rattle.psy_gen.proofs.Steps.{traps}
 use Rattle.psy_gen.proofs.ExprRuns.{Runs, Sized, len-one}
-use Rattle.psy_gen.proofs.Outcomes.{Keeps, keeps_same, keeps_on, keeps_less, returned, LeadsTo, After, after_leads, after_at, after_keeps, after_any, value_after, then_after, then_down, step_to, size_is, counter_in, store_goes, zero_goes, guard_is, keeps_set, get-set, got-within}
+use Rattle.psy_gen.proofs.Outcomes.{Keeps, keeps_same, returned, LeadsTo, After, after_leads, after_at, after_keeps, after_any, value_after, then_after, then_down, step_to, size_is, counter_in, store_goes, zero_goes, guard_is, keeps_set, get-set, got-within}
 
 each-map : {X : Type 0} (v : X → Stmt) (f : Stmt → Type 0) (xs : List X) → Each (λ x. f (v x)) xs ≡ Each f (map v xs)
 each-map v f [] = refl
@@ -55,7 +55,6 @@ sound_natural sc X v f (Stmt-F.Advance point) = refl
 sound_natural sc X v f (Stmt-F.Return value) = refl
 
 module _ (whole : Code) (its : AgentCode) (sc : Scope) (k : Context) (callees : ℕ → Callee) (depths : List Depth) (more count : ℕ) where
-
   -- What is known of an expression's code
   abbrev pub ExprKnown : Expr → Type 0
   ExprKnown e = Sized whole its sc k callees depths more (expr_code sc.layout e) (expr_size e) × (1 ≤ (expr_depth depths e).operands)
@@ -83,7 +82,7 @@ module _ (whole : Code) (its : AgentCode) (sc : Scope) (k : Context) (callees : 
   -- A value, and an instruction that goes on from it
   valued_runs : (e : Expr) (i : Instr) (go : ℤ → State → Outcome) → ExprKnown e → IsSoundExpr sc e
       → ((v : ℤ) (q c : ℕ) (operands : List ℤ) (counters : List ℕ) (t : State) → slice_get whole.instrs q ≡ Some i → Shape sc t → length counters ≡ count → Room its k (total sc.layout + count) (length operands + 1) 0 more
-          → After whole its sc k (q + 1) c operands counters (at k q (v ∷ operands) t counters) (go v t))
+      → After whole its sc k (q + 1) c operands counters (at k q (v ∷ operands) t counters) (go v t))
       → StmtRuns (λ c p. expr_code sc.layout e p ++ i ∷ []) (expr_size e + 1) 0 (expr_depth depths e) (λ s. with_value (eval callees e s) go)
   valued_runs e i go (sized, deep, runs) sound next c p operands counters s h small loops len shape room =
       let n = expr_size e in
@@ -91,8 +90,8 @@ module _ (whole : Code) (its : AgentCode) (sc : Scope) (k : Context) (callees : 
       let place : p + n + 1 ≡ p + (n + 1) = omega arith in
       after_at whole its sc k (p + n + 1) (p + (n + 1)) c operands counters (at k p operands s counters) _ place
       (value_after whole its sc k (p + n + 1) (p + n) c operands operands counters s (at k p operands s counters) (eval callees e s) go
-        (runs sound p operands counters s (has-first whole.instrs p (expr_code sc.layout e p) (i ∷ []) h) (omega (arith, small)) shape (as_seen s counters (length operands + d.operands) d.cells shape len room))
-        (λ v t same sh. next v (p + n) c operands counters t (behind (expr_code sc.layout e) n p (i ∷ []) sized h).0 sh len (less (length operands + d.operands) (length operands + 1) d.cells 0 room (omega (arith, deep)) (omega arith))))
+      (runs sound p operands counters s (has-first whole.instrs p (expr_code sc.layout e p) (i ∷ []) h) (omega (arith, small)) shape (as_seen s counters (length operands + d.operands) d.cells shape len room))
+      (λ v t same sh. next v (p + n) c operands counters t (behind (expr_code sc.layout e) n p (i ∷ []) sized h).0 sh len (less (length operands + d.operands) (length operands + 1) d.cells 0 room (omega (arith, deep)) (omega arith))))
 
   -- One instruction behind which statements go on
   falls_step : (i : Instr) (p q c : ℕ) (now operands : List ℤ) (counters next : List ℕ) (s t : State) → slice_get whole.instrs p ≡ Some i
@@ -111,12 +110,12 @@ module _ (whole : Code) (its : AgentCode) (sc : Scope) (k : Context) (callees : 
   set_runs slot e known (cells, found, some) sound =
       valued_runs e (instr.Store (base_of sc.layout slot)) (λ v t. Falls (with_slot slot 0 v (cost_1 t))) known sound
       (λ v q c operands counters t here sh len room.
-        let u : State = with_slot slot 0 v (cost_1 t) in
-        let z : base_of sc.layout slot + 0 ≡ base_of sc.layout slot = omega arith in
-        let at_cell = ap (slice_get (joined t.store.slots)) (sym z) ∙ cell_is sc.layout t.store slot cells 0 sh.slots found some in
-        let changed = set_is sc.layout t.store slot cells 0 v sh.slots found some ∙ ap (λ x. slice_set (joined t.store.slots) x v) z in
-        falls_step (instr.Store (base_of sc.layout slot)) q (q + 1) c (v ∷ operands) operands counters counters t u here (store_goes k q (base_of sc.layout slot) v _ (v ∷ operands) operands t.store counters u.store.slots at_cell changed)
-        refl (shape_of_slot t slot 0 v sh) (keeps_same c counters) len (less (length operands + 1) (length operands) 0 0 room (omega arith) (omega arith)))
+      let u : State = with_slot slot 0 v (cost_1 t) in
+      let z : base_of sc.layout slot + 0 ≡ base_of sc.layout slot = omega arith in
+      let at_cell = ap (slice_get (joined t.store.slots)) (sym z) ∙ cell_is sc.layout t.store slot cells 0 sh.slots found some in
+      let changed = set_is sc.layout t.store slot cells 0 v sh.slots found some ∙ ap (λ x. slice_set (joined t.store.slots) x v) z in
+      falls_step (instr.Store (base_of sc.layout slot)) q (q + 1) c (v ∷ operands) operands counters counters t u here (store_goes k q (base_of sc.layout slot) v _ (v ∷ operands) operands t.store counters u.store.slots at_cell changed)
+      refl (shape_of_slot t slot 0 v sh) (keeps_same c counters) len (less (length operands + 1) (length operands) 0 0 room (omega arith) (omega arith)))
 
   -- Copies are named in an agent's body alone.
   abbrev pub AtHome : Type 0
@@ -130,6 +129,7 @@ module _ (whole : Code) (its : AgentCode) (sc : Scope) (k : Context) (callees : 
       is_home : Context → ℕ
       is_home Home = 1
       is_home (Inside home copies back outer) = 0
+
       not_home : {A : Type 0} (home : code.Frame) (copies : List code.Copy) (back : ℕ) (outer : List code.OpenCall) → Inside home copies back outer ≡ Home → A
       not_home home copies back outer e = absurd (omega (arith, ap is_home e))
 
@@ -138,18 +138,18 @@ module _ (whole : Code) (its : AgentCode) (sc : Scope) (k : Context) (callees : 
   copy_runs home variable e known has sound =
       valued_runs e (instr.StoreCopy variable) (λ v t. Falls (with_copy_at variable v (cost_1 t))) known sound
       (λ v q c operands counters t here sh len room.
-        falls_step (instr.StoreCopy variable) q (q + 1) c (v ∷ operands) operands counters counters t (with_copy_at variable v (cost_1 t)) here
-        (copy_goes variable v q c operands counters t k (home variable has) (copy_is sc t.store variable sh.copies has)) refl
-        (record { slots = sh.slots; copies = variables-set t.store.copies variable v ∙ sh.copies; pasts = sh.pasts; streams = sh.streams }) (keeps_same c counters) len (less (length operands + 1) (length operands) 0 0 room (omega arith) (omega arith)))
+      falls_step (instr.StoreCopy variable) q (q + 1) c (v ∷ operands) operands counters counters t (with_copy_at variable v (cost_1 t)) here
+      (copy_goes variable v q c operands counters t k (home variable has) (copy_is sc t.store variable sh.copies has)) refl
+      (record { slots = sh.slots; copies = variables-set t.store.copies variable v ∙ sh.copies; pasts = sh.pasts; streams = sh.streams }) (keeps_same c counters) len (less (length operands + 1) (length operands) 0 0 room (omega arith) (omega arith)))
 
   send_runs : (stream after clock : ℕ) (e : Expr) → ExprKnown e → IsSoundExpr sc e
       → StmtRuns (λ c p. expr_code sc.layout e p ++ instr.Send stream after clock ∷ []) (expr_size e + 1) 0 (expr_depth depths e)
-          (λ s. with_value (eval callees e s) (λ v t. Falls (asking (Send (record { stream = stream; value = v; after = after; clock = clock })) t)))
+      (λ s. with_value (eval callees e s) (λ v t. Falls (asking (Send (record { stream = stream; value = v; after = after; clock = clock })) t)))
   send_runs stream after clock e known sound =
       valued_runs e (instr.Send stream after clock) _ known sound
       (λ v q c operands counters t here sh len room.
-        falls_step (instr.Send stream after clock) q (q + 1) c (v ∷ operands) operands counters counters t (asking (Send (record { stream = stream; value = v; after = after; clock = clock })) t) here refl refl
-        (record { slots = sh.slots; copies = sh.copies; pasts = sh.pasts; streams = sh.streams }) (keeps_same c counters) len (less (length operands + 1) (length operands) 0 0 room (omega arith) (omega arith)))
+      falls_step (instr.Send stream after clock) q (q + 1) c (v ∷ operands) operands counters counters t (asking (Send (record { stream = stream; value = v; after = after; clock = clock })) t) here refl refl
+      (record { slots = sh.slots; copies = sh.copies; pasts = sh.pasts; streams = sh.streams }) (keeps_same c counters) len (less (length operands + 1) (length operands) 0 0 room (omega arith) (omega arith)))
 
   -- Values are returned from functions alone.
   abbrev pub AtWork : Type 0
@@ -165,15 +165,15 @@ module _ (whole : Code) (its : AgentCode) (sc : Scope) (k : Context) (callees : 
   return_leads v q operands counters t (Inside home copies back outer) a b c d e here room =
       by_one whole its (at (Inside home copies back outer) q (v ∷ operands) t counters) _
       (went whole its (at (Inside home copies back outer) q (v ∷ operands) t counters) instr.Return (record { place = back; operands = v ∷ operands; home = home; calls = outer; copies = copies }) here refl
-        (has_room_by its (record { place = back; operands = v ∷ operands; home = home; calls = outer; copies = copies }) (omega (arith, room.stack)) (omega (arith, room.frames)) (omega (arith, room.calls))))
+      (has_room_by its (record { place = back; operands = v ∷ operands; home = home; calls = outer; copies = copies }) (omega (arith, room.stack)) (omega (arith, room.frames)) (omega (arith, room.calls))))
 
   return_runs : AtWork → (e : Expr) → ExprKnown e → sc.returns ≡ true → IsSoundExpr sc e
       → StmtRuns (λ c p. expr_code sc.layout e p ++ instr.Return ∷ []) (expr_size e + 1) 0 (expr_depth depths e) (λ s. with_value (eval callees e s) (λ v t. Returns v (cost_1 t)))
   return_runs work e known allowed sound =
       valued_runs e instr.Return (λ v t. Returns v (cost_1 t)) known sound
       (λ v q c operands counters t here sh len room.
-        let w = work allowed in
-        (record { slots = sh.slots; copies = sh.copies; pasts = sh.pasts; streams = sh.streams }, return_leads v q operands counters t k w.0 w.1 w.2 w.3 w.4 here room))
+      let w = work allowed in
+      (record { slots = sh.slots; copies = sh.copies; pasts = sh.pasts; streams = sh.streams }, return_leads v q operands counters t k w.0 w.1 w.2 w.3 w.4 here room))
 
   -- ---- an array's cell
 
@@ -186,17 +186,18 @@ module _ (whole : Code) (its : AgentCode) (sc : Scope) (k : Context) (callees : 
     where
       i : Instr
       i = instr.StoreCell (base_of sc.layout slot) (cells_of sc.layout slot)
+
       from : (o : Option ℕ) → index_in cells index ≡ o → After whole its sc k (q + 1) c operands counters (at k q (v ∷ (index ∷ operands)) t counters) (or_halt trap.Index o t (λ i. Falls (with_slot slot i v (cost_1 t))))
       from None f = traps whole its k sc q (v ∷ (index ∷ operands)) counters t (instr.StoreCell (base_of sc.layout slot) (cells_of sc.layout slot)) trap.Index here (rw (got_is sc.layout slot cells e, f) refl)
       from (Some j) f =
           falls_step (instr.StoreCell (base_of sc.layout slot) (cells_of sc.layout slot)) q (q + 1) c (v ∷ (index ∷ operands)) operands counters counters t (with_slot slot j v (cost_1 t)) here
           (rw (got_is sc.layout slot cells e, f)
-            (store_goes k q (base_of sc.layout slot + j) v _ (v ∷ (index ∷ operands)) operands t.store counters (with_slot slot j v (cost_1 t)).store.slots (cell_is sc.layout t.store slot cells j sh.slots e (index_small cells index j f)) (set_is sc.layout t.store slot cells j v sh.slots e (index_small cells index j f))))
+          (store_goes k q (base_of sc.layout slot + j) v _ (v ∷ (index ∷ operands)) operands t.store counters (with_slot slot j v (cost_1 t)).store.slots (cell_is sc.layout t.store slot cells j sh.slots e (index_small cells index j f)) (set_is sc.layout t.store slot cells j v sh.slots e (index_small cells index j f))))
           refl (shape_of_slot t slot j v sh) (keeps_same c counters) len (less (length operands + 1) (length operands) 0 0 room (omega arith) (omega arith))
 
   set_cell_runs : (slot : ℕ) (a b : Expr) → ExprKnown a → ExprKnown b → HasSlot sc slot → IsSoundExpr sc a → IsSoundExpr sc b
       → StmtRuns (λ c p. expr_code sc.layout a p ++ (expr_code sc.layout b (p + expr_size a) ++ instr.StoreCell (base_of sc.layout slot) (cells_of sc.layout slot) ∷ [])) (expr_size a + (expr_size b + 1)) 0 (deeper (expr_depth depths a) (on_top_of 1 (expr_depth depths b)))
-          (λ s. with_value (eval callees a s) (λ i t. with_value (eval callees b t) (λ v u. set_element slot i v u)))
+      (λ s. with_value (eval callees a s) (λ i t. with_value (eval callees b t) (λ v u. set_element slot i v u)))
   set_cell_runs slot a b (asized, adeep, aruns) (bsized, bdeep, bruns) (cells, found, some) asound bsound c p operands counters s h small loops len shape room =
       let i = instr.StoreCell (base_of sc.layout slot) (cells_of sc.layout slot) in
       let na = expr_size a in
@@ -209,13 +210,13 @@ module _ (whole : Code) (its : AgentCode) (sc : Scope) (k : Context) (callees : 
       let place : p + na + nb + 1 ≡ p + (na + (nb + 1)) = omega arith in
       after_at whole its sc k (p + na + nb + 1) (p + (na + (nb + 1))) c operands counters (at k p operands s counters) _ place
       (value_after whole its sc k (p + na + nb + 1) (p + na) c operands operands counters s (at k p operands s counters) (eval callees a s) _
-        (aruns asound p operands counters s (has-first whole.instrs p (expr_code sc.layout a p) rest h) (omega (arith, small)) shape
-          (as_seen s counters (length operands + da.operands) da.cells shape len (less (length operands + d.operands) (length operands + da.operands) d.cells da.cells room (omega arith) (omega arith))))
-        (λ index t same sh.
-          value_after whole its sc k (p + na + nb + 1) (p + na + nb) c operands (index ∷ operands) counters t (at k (p + na) (index ∷ operands) t counters) (eval callees b t) _
-          (bruns bsound (p + na) (index ∷ operands) counters t (has-first whole.instrs (p + na) (expr_code sc.layout b (p + na)) (i ∷ []) second) (omega (arith, small)) sh
-            (as_seen t counters (length (index ∷ operands) + db.operands) db.cells sh len (less (length operands + d.operands) (length (index ∷ operands) + db.operands) d.cells db.cells room (omega arith) (omega arith))))
-          (λ v u same' sh'. element_after slot cells found index v (p + na + nb) c operands counters u (behind (expr_code sc.layout b) nb (p + na) (i ∷ []) bsized second).0 sh' len (less (length operands + d.operands) (length operands + 1) d.cells 0 room (omega (arith, adeep)) (omega arith)))))
+      (aruns asound p operands counters s (has-first whole.instrs p (expr_code sc.layout a p) rest h) (omega (arith, small)) shape
+      (as_seen s counters (length operands + da.operands) da.cells shape len (less (length operands + d.operands) (length operands + da.operands) d.cells da.cells room (omega arith) (omega arith))))
+      (λ index t same sh.
+      value_after whole its sc k (p + na + nb + 1) (p + na + nb) c operands (index ∷ operands) counters t (at k (p + na) (index ∷ operands) t counters) (eval callees b t) _
+      (bruns bsound (p + na) (index ∷ operands) counters t (has-first whole.instrs (p + na) (expr_code sc.layout b (p + na)) (i ∷ []) second) (omega (arith, small)) sh
+      (as_seen t counters (length (index ∷ operands) + db.operands) db.cells sh len (less (length operands + d.operands) (length (index ∷ operands) + db.operands) d.cells db.cells room (omega arith) (omega arith))))
+      (λ v u same' sh'. element_after slot cells found index v (p + na + nb) c operands counters u (behind (expr_code sc.layout b) nb (p + na) (i ∷ []) bsized second).0 sh' len (less (length operands + d.operands) (length operands + 1) d.cells 0 room (omega (arith, adeep)) (omega arith)))))
 
   -- ---- tests
 
@@ -260,8 +261,8 @@ module _ (whole : Code) (its : AgentCode) (sc : Scope) (k : Context) (callees : 
       let d = expr_depth depths e in
       let there = behind (expr_code sc.layout e) n p (instr.JumpZero to ∷ rest) sized h in
       value_after whole its sc k q (p + n) c operands operands counters s (at k p operands s counters) (eval callees e s) _
-        (runs sound p operands counters s (has-first whole.instrs p (expr_code sc.layout e p) (instr.JumpZero to ∷ rest) h) small shape (as_seen s counters (length operands + d.operands) d.cells shape len room))
-        (λ v t same sh. test_after v (p + n) q to c operands counters t holds fails there.0 target sh len (less (length operands + d.operands) (length operands) d.cells 0 room (omega arith) (omega arith)) (holds_after (cost_1 t) (ticked t sh) there.1) (fails_after (cost_1 t) (ticked t sh)))
+      (runs sound p operands counters s (has-first whole.instrs p (expr_code sc.layout e p) (instr.JumpZero to ∷ rest) h) small shape (as_seen s counters (length operands + d.operands) d.cells shape len room))
+      (λ v t same sh. test_after v (p + n) q to c operands counters t holds fails there.0 target sh len (less (length operands + d.operands) (length operands) d.cells 0 room (omega arith) (omega arith)) (holds_after (cost_1 t) (ticked t sh) there.1) (fails_after (cost_1 t) (ticked t sh)))
 
   -- ---- statements one after the other
 
@@ -312,10 +313,10 @@ module _ (whole : Code) (its : AgentCode) (sc : Scope) (k : Context) (callees : 
       let place : p + n + block_size (parts xs) ≡ p + (n + block_size (parts xs)) = omega arith in
       after_at whole its sc k (p + n + block_size (parts xs)) (p + (n + block_size (parts xs))) c operands counters (at k p operands s counters) _ place
       (then_after whole its sc k (p + n) (p + n + block_size (parts xs)) c (c + l) operands counters (at k p operands s counters) (act_by callees x.0 s) (block_act xs) (omega arith)
-        (x.1.1 sound.0 c p operands counters s (has-first whole.instrs p (stmt_code sc.layout x.0 c p) rest h) (omega (arith, small)) (omega (arith, enough)) len shape (less (length operands + all.operands) (length operands + d.operands) all.cells d.cells room (omega arith) (omega arith)))
-        (λ t now keeps sh.
-          block_runs xs sound.1 (c + l) (p + n) operands now t (subst (λ y. HasAt whole.instrs (p + y) rest) (x.1.0 c p) (has-second whole.instrs p (stmt_code sc.layout x.0 c p) rest h)) (omega (arith, small)) (omega (arith, enough)) (keeps.count ∙ len) sh
-          (less (length operands + all.operands) (length operands + (block_depth xs).operands) all.cells (block_depth xs).cells room (omega arith) (omega arith))))
+      (x.1.1 sound.0 c p operands counters s (has-first whole.instrs p (stmt_code sc.layout x.0 c p) rest h) (omega (arith, small)) (omega (arith, enough)) len shape (less (length operands + all.operands) (length operands + d.operands) all.cells d.cells room (omega arith) (omega arith)))
+      (λ t now keeps sh.
+      block_runs xs sound.1 (c + l) (p + n) operands now t (subst (λ y. HasAt whole.instrs (p + y) rest) (x.1.0 c p) (has-second whole.instrs p (stmt_code sc.layout x.0 c p) rest h)) (omega (arith, small)) (omega (arith, enough)) (keeps.count ∙ len) sh
+      (less (length operands + all.operands) (length operands + (block_depth xs).operands) all.cells (block_depth xs).cells room (omega arith) (omega arith))))
 
   -- ---- choices
 
@@ -330,9 +331,9 @@ module _ (whole : Code) (its : AgentCode) (sc : Scope) (k : Context) (callees : 
       let place : first + b ≡ p + (n + 1 + (b + 0)) = omega arith in
       after_at whole its sc k (first + b) (p + (n + 1 + (b + 0))) c operands counters (at k p operands s counters) _ place
       (choose_after e known sound p (first + b) (first + b) c operands counters s (block_code (parts ks) c first) (block_act ks) Falls h (omega (arith, small)) (omega (arith, small)) shape len
-        (less (length operands + all.operands) (length operands + d.operands) all.cells d.cells room (omega arith) (omega arith))
-        (λ t sh has. block_runs ks each c first operands counters t has (omega (arith, small)) (omega (arith, enough)) len sh (less (length operands + all.operands) (length operands + (block_depth ks).operands) all.cells (block_depth ks).cells room (omega arith) (omega arith)))
-        (λ t sh. falls_here (first + b) (first + b) c operands counters t refl sh))
+      (less (length operands + all.operands) (length operands + d.operands) all.cells d.cells room (omega arith) (omega arith))
+      (λ t sh has. block_runs ks each c first operands counters t has (omega (arith, small)) (omega (arith, enough)) len sh (less (length operands + all.operands) (length operands + (block_depth ks).operands) all.cells (block_depth ks).cells room (omega arith) (omega arith)))
+      (λ t sh. falls_here (first + b) (first + b) c operands counters t refl sh))
 
   pub hop_after : (p to c : ℕ) (operands : List ℤ) (counters : List ℕ) (s : State) → slice_get whole.instrs p ≡ Some (instr.Jump to) → to < length whole.instrs → Shape sc s → length counters ≡ count → Room its k (total sc.layout + count) (length operands) 0 more
       → After whole its sc k to c operands counters (at k p operands s counters) (hop s)
@@ -341,7 +342,7 @@ module _ (whole : Code) (its : AgentCode) (sc : Scope) (k : Context) (callees : 
 
   if_else_runs : (e : Expr) (ks os : List Known) → ExprKnown e → IsSoundExpr sc e → Each (IsSoundStmt sc) (map tree ks) → Each (IsSoundStmt sc) (map tree os)
       → StmtRuns (if_code sc.layout e (parts ks) (Some (parts os))) (expr_size e + 1 + (block_size (parts ks) + (block_size (parts os) + 1))) (block_loops (parts ks) + block_loops (parts os)) (deeper (expr_depth depths e) (deeper (block_depth ks) (block_depth os)))
-          (branches (eval callees e) (block_act ks) (Some (map (act_by callees) (map tree os))))
+      (branches (eval callees e) (block_act ks) (Some (map (act_by callees) (map tree os))))
   if_else_runs e ks os known sound each others c p operands counters s h small enough len shape room =
       let n = expr_size e in
       let b = block_size (parts ks) in
@@ -358,14 +359,14 @@ module _ (whole : Code) (its : AgentCode) (sc : Scope) (k : Context) (callees : 
       let has_jump = subst (λ y. HasAt whole.instrs (first + y) jump) (block_sized ks c first) (has-second whole.instrs first (block_code (parts ks) c first) jump has_rest) in
       after_at whole its sc k (second + o) (p + (n + 1 + (b + (o + 1)))) c operands counters (at k p operands s counters) _ place
       (choose_after e known sound p (second + o) second c operands counters s rest (λ t. then_do (block_act ks t) hop) (block_act os) h (omega (arith, small)) (omega (arith, small)) shape len
-        (less (length operands + all.operands) (length operands + d.operands) all.cells d.cells room (omega arith) (omega arith))
-        (λ t sh has.
-          then_after whole its sc k (first + b) (second + o) c c operands counters (at k first operands t counters) (block_act ks t) hop (omega arith)
-          (block_runs ks each c first operands counters t (has-first whole.instrs first (block_code (parts ks) c first) jump has) (omega (arith, small)) (omega (arith, enough)) len sh (less (length operands + all.operands) (length operands + (block_depth ks).operands) all.cells (block_depth ks).cells room (omega arith) (omega arith)))
-          (λ u now keeps sh'. hop_after (first + b) (second + o) c operands now u has_jump.0 (omega (arith, small)) sh' (keeps.count ∙ len) (less (length operands + all.operands) (length operands) all.cells 0 room (omega arith) (omega arith))))
-        (λ t sh.
-          after_keeps whole its sc k (second + o) c (c + l) operands counters counters (at k second operands t counters) (block_act os t) (omega arith) (keeps_same c counters)
-          (block_runs os others (c + l) second operands counters t has_jump.1 (omega (arith, small)) (omega (arith, enough)) len sh (less (length operands + all.operands) (length operands + (block_depth os).operands) all.cells (block_depth os).cells room (omega arith) (omega arith)))))
+      (less (length operands + all.operands) (length operands + d.operands) all.cells d.cells room (omega arith) (omega arith))
+      (λ t sh has.
+      then_after whole its sc k (first + b) (second + o) c c operands counters (at k first operands t counters) (block_act ks t) hop (omega arith)
+      (block_runs ks each c first operands counters t (has-first whole.instrs first (block_code (parts ks) c first) jump has) (omega (arith, small)) (omega (arith, enough)) len sh (less (length operands + all.operands) (length operands + (block_depth ks).operands) all.cells (block_depth ks).cells room (omega arith) (omega arith)))
+      (λ u now keeps sh'. hop_after (first + b) (second + o) c operands now u has_jump.0 (omega (arith, small)) sh' (keeps.count ∙ len) (less (length operands + all.operands) (length operands) all.cells 0 room (omega arith) (omega arith))))
+      (λ t sh.
+      after_keeps whole its sc k (second + o) c (c + l) operands counters counters (at k second operands t counters) (block_act os t) (omega arith) (keeps_same c counters)
+      (block_runs os others (c + l) second operands counters t has_jump.1 (omega (arith, small)) (omega (arith, enough)) len sh (less (length operands + all.operands) (length operands + (block_depth os).operands) all.cells (block_depth os).cells room (omega arith) (omega arith)))))
 
   -- A loop without bound: its body doesn't fall through.
   timed_runs : (e : Expr) (ks : List Known) → ExprKnown e → IsSoundExpr sc e → quiet_list (map tree ks) ≡ false → Each (IsSoundStmt sc) (map tree ks)
@@ -381,11 +382,11 @@ module _ (whole : Code) (its : AgentCode) (sc : Scope) (k : Context) (callees : 
       let rest = block_code (parts ks) c first ++ instr.Jump p ∷ [] in
       after_at whole its sc k end (p + (n + 2 + b)) c operands counters (at k p operands s counters) _ place
       (choose_after e known sound p end end c operands counters s rest (block_act ks) Falls h (omega (arith, small)) (omega (arith, small)) shape len
-        (less (length operands + all.operands) (length operands + d.operands) all.cells d.cells room (omega arith) (omega arith))
-        (λ t sh has.
-          after_any whole its sc k (first + b) end c operands counters (at k first operands t counters) (block_act ks t) (all_loud callees (map tree ks) loud t)
-          (block_runs ks each c first operands counters t (has-first whole.instrs first (block_code (parts ks) c first) (instr.Jump p ∷ []) has) (omega (arith, small)) (omega (arith, enough)) len sh (less (length operands + all.operands) (length operands + (block_depth ks).operands) all.cells (block_depth ks).cells room (omega arith) (omega arith))))
-        (λ t sh. falls_here end end c operands counters t refl sh))
+      (less (length operands + all.operands) (length operands + d.operands) all.cells d.cells room (omega arith) (omega arith))
+      (λ t sh has.
+      after_any whole its sc k (first + b) end c operands counters (at k first operands t counters) (block_act ks t) (all_loud callees (map tree ks) loud t)
+      (block_runs ks each c first operands counters t (has-first whole.instrs first (block_code (parts ks) c first) (instr.Jump p ∷ []) has) (omega (arith, small)) (omega (arith, enough)) len sh (less (length operands + all.operands) (length operands + (block_depth ks).operands) all.cells (block_depth ks).cells room (omega arith) (omega arith))))
+      (λ t sh. falls_here end end c operands counters t refl sh))
 
   -- ---- bounded loops
 
@@ -418,9 +419,9 @@ module _ (whole : Code) (its : AgentCode) (sc : Scope) (k : Context) (callees : 
       let fits : (j + 1) % 2 ^ 32 ≡ j + 1 = mod-eq_of_lt (omega (arith, few)) in
       let m = machine_in k q (v ∷ operands) t.store counters in
       let goes : does whole its t.view (instr.Guard c most) m ≡ Went (machine_in k (q + 1) (v ∷ operands) t.store next) =
-          guard_is k q c most j v operands t.store counters found ∙ rw (holds, below, fits) (ap (code.onward (v ∷ operands)) (counter_in k q (v ∷ operands) t.store counters c (j + 1))) in
+      guard_is k q c most j v operands t.store counters found ∙ rw (holds, below, fits) (ap (code.onward (v ∷ operands)) (counter_in k q (v ∷ operands) t.store counters c (j + 1))) in
       let g = step_to whole its sc k q (q + 1) (v ∷ operands) (v ∷ operands) counters next t (cost_1 t) (instr.Guard c most) (total sc.layout + count) 0 more guard goes refl
-          (size_is sc (cost_1 t) next count (ticked t sh) ((keeps_set counters c (j + 1)).count ∙ len)) (less (length operands + 1) (length (v ∷ operands)) 0 0 room (omega arith) (omega arith)) in
+      (size_is sc (cost_1 t) next count (ticked t sh) ((keeps_set counters c (j + 1)).count ∙ len)) (less (length operands + 1) (length (v ∷ operands)) 0 0 room (omega arith) (omega arith)) in
       after whole its (at k q (v ∷ operands) t counters) (at k (q + 1) (v ∷ operands) (cost_1 t) next) (at k (q + 1 + 1) operands (cost_1 (cost_1 t)) next) g
       (leads_step (instr.JumpZero end) (q + 1) (q + 1 + 1) (v ∷ operands) operands next (cost_1 t) test (in_code_is end _ small ∙ rw holds refl) refl (ticked t sh) ((keeps_set counters c (j + 1)).count ∙ len) (less (length operands + 1) (length operands) 0 0 room (omega arith) (omega arith)))
 
@@ -451,6 +452,7 @@ module _ (whole : Code) (its : AgentCode) (sc : Scope) (k : Context) (callees : 
     where
       first : ℕ
       first = q + 1 + 1
+
       from : (b : Bool) → is_zero v ≡ b → After whole its sc k end c operands counters (at k q (v ∷ operands) t counters) (if b then Falls (cost_1 (cost_1 t)) else then_do (block_act ks (cost_1 (cost_1 t))) (λ u. rest (cost_1 u)))
       from true z = done_after v q end c most j operands counters t z h.0 h.1.0 small found sh len room
       from false z =
@@ -462,13 +464,13 @@ module _ (whole : Code) (its : AgentCode) (sc : Scope) (k : Context) (callees : 
           after_leads whole its sc k end c operands counters (at k q (v ∷ operands) t counters) (at k (q + 1 + 1) operands u changed) _
           (turn_leads v q end c most j operands counters t z (not_equal j most left sum) (omega (arith, sum, bound)) h.0 h.1.0 small found sh len room)
           (after_keeps whole its sc k end c c operands counters changed (at k (q + 1 + 1) operands u changed) _ (omega arith) kept
-            (then_down whole its sc k (q + 1 + 1 + block_size (parts ks)) end c (c + 1) operands changed (at k (q + 1 + 1) operands u changed) (block_act ks u) (λ x. rest (cost_1 x)) (omega arith)
-              (block_runs ks each (c + 1) (q + 1 + 1) operands changed u (has-first whole.instrs (q + 1 + 1) (block_code (parts ks) (c + 1) (q + 1 + 1)) jump h.1.1) (omega (arith, ends, small)) enough (kept.count ∙ len) (ticked (cost_1 t) (ticked t sh)) room_body)
-              (λ x now keeps sh'.
-                let len' = keeps.count ∙ kept.count ∙ len in
-                after_leads whole its sc k end c operands now (at k (q + 1 + 1 + block_size (parts ks)) operands x now) (at k again operands (cost_1 x) now) (rest (cost_1 x))
-                (leads_step (instr.Jump again) (q + 1 + 1 + block_size (parts ks)) again operands operands now x has_jump.0 (in_code_is again _ (omega (arith, before, ends, small))) refl sh' len' (less (length operands + 1) (length operands) 0 0 room (omega arith) (omega arith)))
-                (next now (cost_1 x) (keeps.below c (omega arith) ∙ get-set counters c (j + 1) (omega (arith, len, enough))) (ticked x sh') len'))))
+          (then_down whole its sc k (q + 1 + 1 + block_size (parts ks)) end c (c + 1) operands changed (at k (q + 1 + 1) operands u changed) (block_act ks u) (λ x. rest (cost_1 x)) (omega arith)
+          (block_runs ks each (c + 1) (q + 1 + 1) operands changed u (has-first whole.instrs (q + 1 + 1) (block_code (parts ks) (c + 1) (q + 1 + 1)) jump h.1.1) (omega (arith, ends, small)) enough (kept.count ∙ len) (ticked (cost_1 t) (ticked t sh)) room_body)
+          (λ x now keeps sh'.
+          let len' = keeps.count ∙ kept.count ∙ len in
+          after_leads whole its sc k end c operands now (at k (q + 1 + 1 + block_size (parts ks)) operands x now) (at k again operands (cost_1 x) now) (rest (cost_1 x))
+          (leads_step (instr.Jump again) (q + 1 + 1 + block_size (parts ks)) again operands operands now x has_jump.0 (in_code_is again _ (omega (arith, before, ends, small))) refl sh' len' (less (length operands + 1) (length operands) 0 0 room (omega arith) (omega arith)))
+          (next now (cost_1 x) (keeps.below c (omega arith) ∙ get-set counters c (j + 1) (omega (arith, len, enough))) (ticked x sh') len'))))
 
   -- The turns of a loop, from its test on
   turns_after : (e : Expr) (ks : List Known) → ExprKnown e → IsSoundExpr sc e → Each (IsSoundStmt sc) (map tree ks) → (left j c most again end : ℕ) (operands : List ℤ) (counters : List ℕ) (s : State)
@@ -482,21 +484,21 @@ module _ (whole : Code) (its : AgentCode) (sc : Scope) (k : Context) (callees : 
       let tail = loop_tail ks c most again end (again + n + 1 + 1) in
       let there = behind (expr_code sc.layout e) n again tail known.0 h in
       value_after whole its sc k end (again + n) c operands operands counters s (at k again operands s counters) (eval callees e s) _
-        (known.2 sound again operands counters s (has-first whole.instrs again (expr_code sc.layout e again) tail h) (omega (arith, small, ends)) shape (as_seen s counters (length operands + (expr_depth depths e).operands) (expr_depth depths e).cells shape len
-          (less (length operands + d.operands) (length operands + (expr_depth depths e).operands) d.cells (expr_depth depths e).cells room (omega arith) (omega arith))))
-        (λ v t same sh. last_after ks v (again + n) c most j again end (again + n + 1 + 1) operands counters t there small sum found sh len (less (length operands + d.operands) (length operands + 1) d.cells 0 room (omega (arith, known.1)) (omega arith)))
+      (known.2 sound again operands counters s (has-first whole.instrs again (expr_code sc.layout e again) tail h) (omega (arith, small, ends)) shape (as_seen s counters (length operands + (expr_depth depths e).operands) (expr_depth depths e).cells shape len
+      (less (length operands + d.operands) (length operands + (expr_depth depths e).operands) d.cells (expr_depth depths e).cells room (omega arith) (omega arith))))
+      (λ v t same sh. last_after ks v (again + n) c most j again end (again + n + 1 + 1) operands counters t there small sum found sh len (less (length operands + d.operands) (length operands + 1) d.cells 0 room (omega (arith, known.1)) (omega arith)))
   turns_after e ks known sound each (suc left) j c most again end operands counters s h ends small sum bound enough found shape len room =
       let n = expr_size e in
       let d = loop_depth e ks in
       let tail = loop_tail ks c most again end (again + n + 1 + 1) in
       let there = behind (expr_code sc.layout e) n again tail known.0 h in
       value_after whole its sc k end (again + n) c operands operands counters s (at k again operands s counters) (eval callees e s) _
-        (known.2 sound again operands counters s (has-first whole.instrs again (expr_code sc.layout e again) tail h) (omega (arith, small, ends)) shape (as_seen s counters (length operands + (expr_depth depths e).operands) (expr_depth depths e).cells shape len
-          (less (length operands + d.operands) (length operands + (expr_depth depths e).operands) d.cells (expr_depth depths e).cells room (omega arith) (omega arith))))
-        (λ v t same sh.
-          one_after ks each v (again + n) c most j left again end operands counters t (turns left (eval callees e) (block_act ks)) there ends small (omega arith) sum bound enough found sh len
-          (less (length operands + d.operands) (length operands + 1) d.cells 0 room (omega (arith, known.1)) (omega arith)) (less (length operands + d.operands) (length operands + (block_depth ks).operands) d.cells (block_depth ks).cells room (omega arith) (omega arith))
-          (λ now u found' sh' len'. turns_after e ks known sound each left (j + 1) c most again end operands now u h ends small (omega (arith, sum)) bound enough found' sh' len' room))
+      (known.2 sound again operands counters s (has-first whole.instrs again (expr_code sc.layout e again) tail h) (omega (arith, small, ends)) shape (as_seen s counters (length operands + (expr_depth depths e).operands) (expr_depth depths e).cells shape len
+      (less (length operands + d.operands) (length operands + (expr_depth depths e).operands) d.cells (expr_depth depths e).cells room (omega arith) (omega arith))))
+      (λ v t same sh.
+      one_after ks each v (again + n) c most j left again end operands counters t (turns left (eval callees e) (block_act ks)) there ends small (omega arith) sum bound enough found sh len
+      (less (length operands + d.operands) (length operands + 1) d.cells 0 room (omega (arith, known.1)) (omega arith)) (less (length operands + d.operands) (length operands + (block_depth ks).operands) d.cells (block_depth ks).cells room (omega arith) (omega arith))
+      (λ now u found' sh' len'. turns_after e ks known sound each left (j + 1) c most again end operands now u h ends small (omega (arith, sum)) bound enough found' sh' len' room))
 
   bounded_runs : (e : Expr) (most : ℕ) (ks : List Known) → ExprKnown e → IsSoundExpr sc e → most ≤ 65536 → Each (IsSoundStmt sc) (map tree ks)
       → StmtRuns (bounded_code sc.layout e most (parts ks)) (expr_size e + 4 + block_size (parts ks)) (block_loops (parts ks) + 1) (loop_depth e ks) (λ s. turns most (eval callees e) (block_act ks) (cost_1 s))
@@ -510,14 +512,14 @@ module _ (whole : Code) (its : AgentCode) (sc : Scope) (k : Context) (callees : 
       let kept = keeps_set counters c 0 in
       let now = got-within counters c (omega (arith, len, enough)) in
       let start = step_to whole its sc k p again operands operands counters next s (cost_1 s) (instr.Zero c) (total sc.layout + count) 0 more h.0 (zero_goes k p c now.0 operands s.store counters now.1) refl (size_is sc (cost_1 s) next count (ticked s shape) (kept.count ∙ len))
-          (less (length operands + d.operands) (length operands) d.cells 0 room (omega arith) (omega arith)) in
+      (less (length operands + d.operands) (length operands) d.cells 0 room (omega arith) (omega arith)) in
       let two : again + n + 2 ≡ again + n + 1 + 1 = omega arith in
       let code_there = subst (λ f. HasAt whole.instrs again (expr_code sc.layout e again ++ (instr.Guard c most ∷ (instr.JumpZero end ∷ (block_code (parts ks) (c + 1) f ++ instr.Jump again ∷ []))))) two h.1 in
       let place : end ≡ p + (n + 4 + b) = omega arith in
       after_at whole its sc k end (p + (n + 4 + b)) c operands counters (at k p operands s counters) _ place
       (after_leads whole its sc k end c operands counters (at k p operands s counters) (at k again operands (cost_1 s) next) _ start
-        (after_keeps whole its sc k end c c operands counters next (at k again operands (cost_1 s) next) _ (omega arith) kept
-          (turns_after e ks known sound each most 0 c most again end operands next (cost_1 s) code_there (omega arith) (omega (arith, small)) (omega arith) bound (omega (arith, enough)) (get-set counters c 0 (omega (arith, len, enough))) (ticked s shape) (kept.count ∙ len) room)))
+      (after_keeps whole its sc k end c c operands counters next (at k again operands (cost_1 s) next) _ (omega arith) kept
+      (turns_after e ks known sound each most 0 c most again end operands next (cost_1 s) code_there (omega arith) (omega (arith, small)) (omega arith) bound (omega (arith, enough)) (get-set counters c 0 (omega (arith, len, enough))) (ticked s shape) (kept.count ∙ len) room)))
 
   -- ---- the end of an action
 
@@ -552,40 +554,43 @@ module _ (whole : Code) (its : AgentCode) (sc : Scope) (k : Context) (callees : 
   recounted c n m l j d act e f g = subst (λ x. StmtRuns c x j d act) e (subst (λ x. StmtRuns c n x d act) f g)
 
   module _ (exprs : (e : Expr) → ExprKnown e) (home : AtHome) (work : AtWork) (points : AllPoints) where
-
     if_layer : (test : Expr) (ks : List Known) → Layer (Stmt-F.If test (map tree ks) None)
-    if_layer test ks =
-        (λ c p. length-append (expr_code sc.layout test p) _ ∙ omega (arith, (exprs test).0 p, block_sized ks c (p + expr_size test + 1), sizes_same ks),
-          λ sound. recounted (if_code sc.layout test (parts ks) None) _ _ _ _ _ _ (omega (arith, sizes_same ks)) (omega (arith, loops_same ks)) (if_runs test ks (exprs test) sound.0 sound.1))
+    if_layer test ks = (
+      λ c p. length-append (expr_code sc.layout test p) _ ∙ omega (arith, (exprs test).0 p, block_sized ks c (p + expr_size test + 1), sizes_same ks),
+      λ sound. recounted (if_code sc.layout test (parts ks) None) _ _ _ _ _ _ (omega (arith, sizes_same ks)) (omega (arith, loops_same ks)) (if_runs test ks (exprs test) sound.0 sound.1),
+    )
 
     if_else_layer : (test : Expr) (ks os : List Known) → Layer (Stmt-F.If test (map tree ks) (Some (map tree os)))
-    if_else_layer test ks os =
-        (λ c p.
-            let first = p + expr_size test + 1 in
-            let second = first + block_size (parts ks) + 1 in
-            let l = block_loops (parts ks) in
-            length-append (expr_code sc.layout test p) _
-            ∙ omega (arith, (exprs test).0 p, length-append (block_code (parts ks) c first) (instr.Jump (second + block_size (parts os)) ∷ block_code (parts os) (c + l) second), block_sized ks c first, block_sized os (c + l) second, sizes_same ks, sizes_same os),
-          λ sound. recounted (if_code sc.layout test (parts ks) (Some (parts os))) _ _ _ _ _ _ (omega (arith, sizes_same ks, sizes_same os)) (omega (arith, loops_same ks, loops_same os)) (if_else_runs test ks os (exprs test) sound.0 sound.1 sound.2))
+    if_else_layer test ks os = (
+      λ c p.
+          let first = p + expr_size test + 1 in
+          let second = first + block_size (parts ks) + 1 in
+          let l = block_loops (parts ks) in
+          length-append (expr_code sc.layout test p) _
+          ∙ omega (arith, (exprs test).0 p, length-append (block_code (parts ks) c first) (instr.Jump (second + block_size (parts os)) ∷ block_code (parts os) (c + l) second), block_sized ks c first, block_sized os (c + l) second, sizes_same ks, sizes_same os),
+      λ sound. recounted (if_code sc.layout test (parts ks) (Some (parts os))) _ _ _ _ _ _ (omega (arith, sizes_same ks, sizes_same os)) (omega (arith, loops_same ks, loops_same os)) (if_else_runs test ks os (exprs test) sound.0 sound.1 sound.2),
+    )
 
     bounded_layer : (test : Expr) (most : ℕ) (ks : List Known) → Layer (Stmt-F.Bounded test most (map tree ks))
-    bounded_layer test most ks =
-        (λ c p.
-            let again = p + 1 in
-            let first = again + expr_size test + 2 in
-            let body = block_code (parts ks) (c + 1) first in
-            let inner = instr.Guard c most ∷ (instr.JumpZero (first + block_size (parts ks) + 1) ∷ (body ++ instr.Jump again ∷ [])) in
-            omega (arith, length-append (expr_code sc.layout test again) inner, (exprs test).0 again, len-one body (instr.Jump again) (block_size (parts ks)) (block_sized ks (c + 1) first), sizes_same ks),
-          λ sound. recounted (bounded_code sc.layout test most (parts ks)) _ _ _ _ _ _ (omega (arith, sizes_same ks)) (omega (arith, loops_same ks)) (bounded_runs test most ks (exprs test) sound.0 sound.1 sound.2))
+    bounded_layer test most ks = (
+      λ c p.
+          let again = p + 1 in
+          let first = again + expr_size test + 2 in
+          let body = block_code (parts ks) (c + 1) first in
+          let inner = instr.Guard c most ∷ (instr.JumpZero (first + block_size (parts ks) + 1) ∷ (body ++ instr.Jump again ∷ [])) in
+          omega (arith, length-append (expr_code sc.layout test again) inner, (exprs test).0 again, len-one body (instr.Jump again) (block_size (parts ks)) (block_sized ks (c + 1) first), sizes_same ks),
+      λ sound. recounted (bounded_code sc.layout test most (parts ks)) _ _ _ _ _ _ (omega (arith, sizes_same ks)) (omega (arith, loops_same ks)) (bounded_runs test most ks (exprs test) sound.0 sound.1 sound.2),
+    )
 
     timed_layer : (test : Expr) (ks : List Known) → Layer (Stmt-F.Timed test (map tree ks))
-    timed_layer test ks =
-        (λ c p.
-            let first = p + expr_size test + 1 in
-            let body = block_code (parts ks) c first in
-            let inner = instr.JumpZero (first + block_size (parts ks) + 1) ∷ (body ++ instr.Jump p ∷ []) in
-            length-append (expr_code sc.layout test p) inner ∙ omega (arith, (exprs test).0 p, len-one body (instr.Jump p) (block_size (parts ks)) (block_sized ks c first), sizes_same ks),
-          λ sound. recounted (timed_code sc.layout test (parts ks)) _ _ _ _ _ _ (omega (arith, sizes_same ks)) (omega (arith, loops_same ks)) (timed_runs test ks (exprs test) sound.0 (subst (λ l. quiet_list l ≡ false) (map-id (map tree ks)) sound.1) sound.2))
+    timed_layer test ks = (
+      λ c p.
+          let first = p + expr_size test + 1 in
+          let body = block_code (parts ks) c first in
+          let inner = instr.JumpZero (first + block_size (parts ks) + 1) ∷ (body ++ instr.Jump p ∷ []) in
+          length-append (expr_code sc.layout test p) inner ∙ omega (arith, (exprs test).0 p, len-one body (instr.Jump p) (block_size (parts ks)) (block_sized ks c first), sizes_same ks),
+      λ sound. recounted (timed_code sc.layout test (parts ks)) _ _ _ _ _ _ (omega (arith, sizes_same ks)) (omega (arith, loops_same ks)) (timed_runs test ks (exprs test) sound.0 (subst (λ l. quiet_list l ≡ false) (map-id (map tree ks)) sound.1) sound.2),
+    )
       where
         map-id : (xs : List Stmt) → map (λ x. x) xs ≡ xs
         map-id [] = refl
@@ -594,9 +599,10 @@ module _ (whole : Code) (its : AgentCode) (sc : Scope) (k : Context) (callees : 
     layer_runs : (y : Stmt-F Known) → Layer (map-Stmt Known Stmt tree y)
     layer_runs (Stmt-F.Set slot value) = (λ c p. len-one (expr_code sc.layout value p) (instr.Store (base_of sc.layout slot)) (expr_size value) ((exprs value).0 p), λ sound. set_runs slot value (exprs value) sound.0 sound.1)
     layer_runs (Stmt-F.SetCopy variable value) = (λ c p. len-one (expr_code sc.layout value p) (instr.StoreCopy variable) (expr_size value) ((exprs value).0 p), λ sound. copy_runs home variable value (exprs value) sound.0 sound.1)
-    layer_runs (Stmt-F.SetCell slot index value) =
-        (λ c p. length-append (expr_code sc.layout index p) _ ∙ omega (arith, (exprs index).0 p, len-one (expr_code sc.layout value (p + expr_size index)) (instr.StoreCell (base_of sc.layout slot) (cells_of sc.layout slot)) (expr_size value) ((exprs value).0 (p + expr_size index))),
-          λ sound. set_cell_runs slot index value (exprs index) (exprs value) sound.0 sound.1 sound.2)
+    layer_runs (Stmt-F.SetCell slot index value) = (
+      λ c p. length-append (expr_code sc.layout index p) _ ∙ omega (arith, (exprs index).0 p, len-one (expr_code sc.layout value (p + expr_size index)) (instr.StoreCell (base_of sc.layout slot) (cells_of sc.layout slot)) (expr_size value) ((exprs value).0 (p + expr_size index))),
+      λ sound. set_cell_runs slot index value (exprs index) (exprs value) sound.0 sound.1 sound.2,
+    )
     layer_runs (Stmt-F.If test branch None) = if_layer test branch
     layer_runs (Stmt-F.If test branch (Some other)) = if_else_layer test branch other
     layer_runs (Stmt-F.Bounded test most body) = bounded_layer test most body

@@ -1,6 +1,6 @@
 -- The code of a unit. The instructions of each construct are a function of the place of the first one; their number is
 -- the construct's size.
-use Rattle.std.specs.Prelude.{ℕ, zero, suc, ◌+◌, List, [], ◌∷◌, ◌++◌, map, length, take, replicate, Option, Some, None, slice_index_or, ℤ, pos}
+use Rattle.std.specs.Prelude.{ℕ, ◌+◌, List, [], ◌∷◌, ◌++◌, map, length, take, replicate, Option, Some, None, slice_index_or, pos}
 use Rattle.std.specs.List.{flat_map}
 use Rattle.psy_arith.specs.declared.operators.Op2.{Op2}
 use Rattle.psy_arith.specs.declared.operators.Op2.TheVariants as op
@@ -13,14 +13,13 @@ use Rattle.psy_tree.specs.declared.unit.Stmt.{Stmt, para-Stmt}
 use Rattle.psy_tree.specs.declared.unit.Stmt.TheOpen.{Stmt-F}
 use Rattle.psy_code.specs.declared.code.Code.{Code}
 use Rattle.psy_code.specs.declared.code.AgentCode.{AgentCode}
-use Rattle.psy_code.specs.declared.code.CopyInit.{CopyInit}
 use Rattle.psy_code.specs.declared.code.FunctionCode.{FunctionCode}
 use Rattle.psy_code.specs.declared.instr.Binary.{Binary}
 use Rattle.psy_code.specs.declared.instr.Binary.TheVariants as two
 use Rattle.psy_code.specs.declared.instr.Instr.{Instr}
 use Rattle.psy_code.specs.declared.instr.Instr.TheVariants as instr
 use Rattle.psy_meaning.specs.Sizes.{total, expr_size, stmt_size, stmts_size}
-use Rattle.psy_meaning.specs.Depths.{Depth, loops, loops_in, agent_depth}
+use Rattle.psy_meaning.specs.Depths.{loops, loops_in, agent_depth}
 use Rattle.psy_meaning.specs.Alike.{first_slots, first_copies}
 
 -- Instructions, by the place of the first one
