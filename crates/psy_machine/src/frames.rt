@@ -47,12 +47,7 @@ impl Model for Frames {
 
 impl Frames {
     /// The frame of an agent, with room for open calls with so many cells and counters together.
-    pub fn new(
-        alloc: Global,
-        cells: &[i32],
-        counters: u32,
-        room: u32,
-    ) -> Result<Frames, AllocError>
+    pub fn new(alloc: Global, cells: &[i32], counters: u32, room: u32) -> Result<Frames, AllocError>
         ensures home { IfOk result (λ f. f.home ≡ record { cells = cells.now; counters = replicate counters 0 }) }
         ensures calls { IfOk result (λ f. f.calls ≡ []) }
         ensures room { IfOk result (λ f. room ≤ f.room) }

@@ -42,10 +42,10 @@ impl Model for Machine {
     ghost Value = { AgentMachine };
 
     ghost view = { λ m. record {
-        agent = m.agent;
-        machine = record { place = m.place; operands = m.operands.values; home = m.frames.home; calls = m.frames.calls; copies = m.copies };
-        stack = m.operands.room;
-        frames = m.frames.room
+      agent = m.agent;
+      machine = record { place = m.place; operands = m.operands.values; home = m.frames.home; calls = m.frames.calls; copies = m.copies };
+      stack = m.operands.room;
+      frames = m.frames.room;
     } };
 }
 

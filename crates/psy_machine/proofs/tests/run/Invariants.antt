@@ -15,5 +15,5 @@ invariant-loop-left l =
     let window : Window = record { view = record { pasts = l.look.past ∷ []; messages = Some l.look.messages ∷ [] }; streams = 1; clocks = 2; room = vec_capacity l.look.sends; sends = l.look.sends.items; noted = l.look.noted } in
     record {
       of : IsOf l.code l.machine;
-      goes : (agent : AgentCode) × (slice_get l.code.agents l.machine.agent ≡ Some agent) × IsTrue (goes_for l.code agent l.left (record { machine = l.machine.machine; window = window }))
+      goes : (agent : AgentCode) × (slice_get l.code.agents l.machine.agent ≡ Some agent) × IsTrue (goes_for l.code agent l.left (record { machine = l.machine.machine; window = window }));
     }
