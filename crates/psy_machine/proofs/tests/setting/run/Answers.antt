@@ -1,11 +1,11 @@
 use Rattle.std.proofs.Common.{◌≡◌, ◌<◌, ◌-◌, ◌∷◌, [], Some, IsTrue, slice_get, vec_capacity, arith}
 use Rattle.psy_code.specs.declared.code.AgentCode.{AgentCode}
 use Rattle.psy_code.specs.Views.{Window}
-use Rattle.psy_machine.specs.declared.tests.TestLook.{TestLook}
+use Rattle.psy_machine.specs.declared.tests.setting.TestLook.{TestLook}
 use Rattle.psy_machine.specs.Stepping.{IsOf}
 use Rattle.psy_machine.specs.Running.{goes_for}
 use Rattle.psy_machine.proofs.Trials.{going}
-use Rattle.psy_machine.proofs.tests.run.Goals as goal
+use Rattle.psy_machine.proofs.tests.setting.run.Goals as goal
 
 -- what a look serves
 abbrev seen : TestLook → Window
@@ -32,6 +32,7 @@ loop-left-preserved c =
     let goes = c.loop-left.invariant.goes in
     let going = going c.args.code.now goes.0 c.loop-left.machine (seen c.loop-left.look) c.loop-left.left (omega arith) goes.1 goes.2 in
     record {
+      within = omega arith;
       of = rw c.step-answer.ensures.machine c.loop-left.invariant.of;
       goes = (goes.0, rw c.step-answer.ensures.machine goes.1, rw (c.step-answer.ensures.machine, c.step-answer.ensures.window) going.rest);
     }
