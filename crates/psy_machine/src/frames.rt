@@ -29,7 +29,7 @@ pub struct Frames {
     present: Place,
     /// Where the agent's own frame ends.
     home_end: Place,
-    /// How many cells and counters of open calls there is room for.
+    /// How many cells and counters of open calls there is room for. Contracts name it; no call reads it.
     room: u32,
 }
 

@@ -1,9 +1,6 @@
-use Rattle.std.proofs.Common.{◌≡◌, ◌<◌, ◌-◌, ◌∷◌, [], Some, IsTrue, slice_get, vec_capacity, arith}
-use Rattle.psy_code.specs.declared.code.AgentCode.{AgentCode}
+use Rattle.std.proofs.Common.{◌∷◌, [], Some, vec_capacity, arith}
 use Rattle.psy_code.specs.Views.{Window}
 use Rattle.psy_machine.specs.declared.tests.setting.TestLook.{TestLook}
-use Rattle.psy_machine.specs.Stepping.{IsOf}
-use Rattle.psy_machine.specs.Running.{goes_for}
 use Rattle.psy_machine.proofs.Trials.{going}
 use Rattle.psy_machine.proofs.tests.setting.run.Goals as goal
 

@@ -3,7 +3,6 @@ use Rattle.psy_code.specs.declared.code.AgentCode.{AgentCode}
 use Rattle.psy_code.specs.Views.{Window}
 use Rattle.psy_machine.specs.Stepping.{IsOf}
 use Rattle.psy_machine.specs.Running.{goes_for}
-use Rattle.psy_machine.proofs.Trials.{going}
 use Rattle.psy_machine.proofs.tests.setting.run.Given as goal
 
 abbrev pub decreases-loop-left : goal.decreases-loop-left
