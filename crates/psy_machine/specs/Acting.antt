@@ -38,6 +38,10 @@ advance_to agent point m = need (slice_get agent.points point) (λ place. Ended 
 
 -- ---- what it takes, and what it does
 
+-- the machine at another place
+abbrev pub with_place : ℕ → AgentMachine → AgentMachine
+with_place place m = record m { machine = record (m.machine) { place = place } }
+
 -- What comes of it finds room in the machine.
 abbrev pub Finds : AgentMachine → Next → Type 0
 Finds m (Went machine) = (length machine.operands ≤ m.stack) × (cells_of machine.calls ≤ m.frames) × (length machine.calls ≤ 64)

@@ -1,6 +1,6 @@
 ghost use Rattle.std.specs.Prelude.{◌≡◌, ◌+◌, ◌<◌, ◌^◌};
 ghost use Rattle.psy_code.specs.Execution.{jump, guard, zero_counter, call};
-ghost use Rattle.psy_machine.specs.Acting.{CanDo, Did, jump_at_zero, leave_zero, leave_one, leave_call, advance_to};
+ghost use Rattle.psy_machine.specs.Acting.{CanDo, Did, with_place, jump_at_zero, leave_zero, leave_one, leave_call, advance_to};
 ghost use Rattle.psy_machine.specs.declared.machine.Step.TheVariants as step;
 
 use super::{Machine, Step};
@@ -14,7 +14,7 @@ impl Machine {
     pub(super) fn go_on(&mut self) -> Step
         requires { self.old.machine.place + 1 < 2 ^ 64 }
         ensures answer { result ≡ step.Went }
-        ensures machine { self.new ≡ record self.old { machine = record (self.old.machine) { place = self.old.machine.place + 1 } } }
+        ensures machine { self.new ≡ with_place (self.old.machine.place + 1) self.old }
     {
         self.place += 1;
         Step::Went
@@ -24,7 +24,7 @@ impl Machine {
     #[inline(always)]
     fn go_to(&mut self, to: u32) -> Step
         ensures answer { result ≡ step.Went }
-        ensures machine { self.new ≡ record self.old { machine = record (self.old.machine) { place = to } } }
+        ensures machine { self.new ≡ with_place to self.old }
     {
         self.place = to as usize;
         Step::Went

@@ -98,7 +98,12 @@ pub const NONE: Function<'static> = Function {
 };
 
 fn function_of(alloc: Global, function: Function) -> Result<FunctionCode, AllocError>
-    ensures { IfOk result (λ f. f ≡ record { entry = function.entry.entry; params = function.entry.params; locals = function.entry.locals.now; counters = function.entry.counters }) }
+    ensures { IfOk result (λ f. f ≡ record {
+      entry = function.entry.entry;
+      params = function.entry.params;
+      locals = function.entry.locals.now;
+      counters = function.entry.counters;
+    }) }
 {
     Ok(FunctionCode {
         entry: function.entry,
@@ -109,7 +114,14 @@ fn function_of(alloc: Global, function: Function) -> Result<FunctionCode, AllocE
 }
 
 fn agent_of(alloc: Global, case: &Case) -> Result<AgentCode, AllocError>
-    ensures { IfOk result (λ agent. agent ≡ record { points = case.now.points.now; cells = case.now.cells.now; counters = case.now.counters; copies = case.now.copies.now; stack = case.now.stack; frames = case.now.frames }) }
+    ensures { IfOk result (λ agent. agent ≡ record {
+      points = case.now.points.now;
+      cells = case.now.cells.now;
+      counters = case.now.counters;
+      copies = case.now.copies.now;
+      stack = case.now.stack;
+      frames = case.now.frames;
+    }) }
 {
     Ok(AgentCode {
         points: Items::from_slice(alloc, case.points)?,
@@ -124,12 +136,30 @@ fn agent_of(alloc: Global, case: &Case) -> Result<AgentCode, AllocError>
 /// Executes so many instructions.
 pub fn attempt(alloc: Global, case: &Case, steps: u32) -> Result<Outcome, Memory>
     requires few { length case.now.messages.now < 2 ^ 32 }
-    requires goes { let agent : AgentCode = record { points = case.now.points.now; cells = case.now.cells.now; counters = case.now.counters; copies = case.now.copies.now; stack = case.now.stack; frames = case.now.frames } in
-        let outer : FunctionCode = record { entry = case.now.functions.0.entry; params = case.now.functions.0.params; locals = case.now.functions.0.locals.now; counters = case.now.functions.0.counters } in
-        let inner : FunctionCode = record { entry = case.now.functions.1.entry; params = case.now.functions.1.params; locals = case.now.functions.1.locals.now; counters = case.now.functions.1.counters } in
+    requires goes { let agent : AgentCode = record {
+      points = case.now.points.now;
+      cells = case.now.cells.now;
+      counters = case.now.counters;
+      copies = case.now.copies.now;
+      stack = case.now.stack;
+      frames = case.now.frames;
+    } in
+        let outer : FunctionCode = record {
+          entry = case.now.functions.0.entry;
+          params = case.now.functions.0.params;
+          locals = case.now.functions.0.locals.now;
+          counters = case.now.functions.0.counters;
+        } in
+        let inner : FunctionCode = record {
+          entry = case.now.functions.1.entry;
+          params = case.now.functions.1.params;
+          locals = case.now.functions.1.locals.now;
+          counters = case.now.functions.1.counters;
+        } in
         let code : Code = record { instrs = case.now.instrs.now; agents = agent ∷ []; functions = outer ∷ inner ∷ [] } in
         let view : View = record { pasts = case.now.past.now ∷ []; messages = Some case.now.messages.now ∷ [] } in
-        IsTrue (goes_for code agent steps (record { machine = new_machine agent; window = record { view = view; streams = 1; clocks = 2; room = 4; sends = []; noted = None } })) }
+        let window : Window = record { view = view; streams = 1; clocks = 2; room = 4; sends = []; noted = None } in
+        IsTrue (goes_for code agent steps (record { machine = new_machine agent; window = window })) }
 {
     let mut agents = Items::new(alloc);
     agents.push(agent_of(alloc, case)?)?;
@@ -159,7 +189,9 @@ fn run(
     steps: u32,
 ) -> Result<Outcome, Memory>
     requires of { IsOf code.now machine }
-    requires goes { (agent : AgentCode) × (slice_get code.now.agents machine.agent ≡ Some agent) × IsTrue (goes_for code.now agent steps (record { machine = machine.machine; window = ⟦<TestLook as Look>⟧.window look })) }
+    requires goes { let window : Window = ⟦<TestLook as Look>⟧.window look in
+        (agent : AgentCode) × (slice_get code.now.agents machine.agent ≡ Some agent)
+        × IsTrue (goes_for code.now agent steps (record { machine = machine.machine; window = window })) }
 {
     let mut machine = machine;
     let mut look = look;
