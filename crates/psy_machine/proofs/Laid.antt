@@ -12,7 +12,6 @@ use Rattle.psy_machine.specs.Layout.{home_in, calls_in, IsCut, frames_in, IsLaid
 use Rattle.psy_machine.specs.Parts.{FrameStack}
 use Rattle.psy_machine.proofs.Reversed.{reverse-push}
 
-
 -- the present frame is what lies behind its beginning
 pub present-cut : (hs : List Header) (at : Place) (cells : List ℤ) (counters : List ℕ) (end : Place) → IsCut hs at (length cells) (length counters) end → frame_of (home_in hs at cells counters) (calls_in hs at cells counters) ≡ record { cells = drop at.cells cells; counters = drop at.counters counters }
 present-cut [] at cells counters end h = rw (h.0, h.1)

@@ -2,3 +2,4 @@ pub mod Entries
 pub mod Laid
 pub mod Reversed
 pub mod Steps
+pub mod Trials

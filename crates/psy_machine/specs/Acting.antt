@@ -1,8 +1,46 @@
 -- What an instruction that can be executed does to a machine.
-use Rattle.std.specs.Prelude.{◌≡◌, ◌+◌, ◌<◌, ◌≤◌, ◌^◌, ⊤, length}
-use Rattle.psy_code.specs.Execution.{Next, Went, Ended, Trapped, Stuck, cells_of}
+use Rattle.std.specs.Prelude.{◌≡◌, ℕ, ◌+◌, ◌<◌, ◌≤◌, ◌^◌, not, if◌then◌else◌, ◌∷◌, pos, ⊤, length, slice_get}
+use Rattle.psy_arith.specs.Operators.{truth, is_zero}
+use Rattle.psy_code.specs.declared.code.AgentCode.{AgentCode}
+use Rattle.psy_code.specs.Execution.{Machine, Next, Went, Ended, Trapped, Stuck, need, with_top, onward, push, jump, store, copy_of, back_from, begun_at, cells_of}
 use Rattle.psy_machine.specs.declared.machine.Step.{Step}
 use Rattle.psy_machine.specs.Stepping.{AgentMachine, Answers, machine_after}
+
+-- ---- some instructions, where what they name is there
+
+-- pops a value into a cell
+abbrev pub store_top : ℕ → Machine → Next
+store_top cell m = with_top m.operands (λ v rest. store cell v rest m)
+
+abbrev pub push_copy : ℕ → Machine → Next
+push_copy variable m = need (copy_of variable m.copies) (λ v. push v m)
+
+abbrev pub truth_of_top : Machine → Next
+truth_of_top m = with_top m.operands (λ v rest. onward (truth (not (is_zero v)) ∷ rest) m)
+
+-- goes on at a place where the value on top is 0
+abbrev pub jump_at_zero : ℕ → Machine → Next
+jump_at_zero to m = with_top m.operands (λ v rest. if is_zero v then jump to rest m else onward rest m)
+
+-- the same, and leaves the 0
+abbrev pub leave_zero : ℕ → Machine → Next
+leave_zero to m = with_top m.operands (λ v rest. if is_zero v then jump to (pos 0 ∷ rest) m else onward rest m)
+
+-- goes on at a place where the value on top isn't 0, and leaves 1
+abbrev pub leave_one : ℕ → Machine → Next
+leave_one to m = with_top m.operands (λ v rest. if is_zero v then onward rest m else jump to (pos 1 ∷ rest) m)
+
+abbrev pub leave_call : Machine → Next
+leave_call m = with_top m.operands (λ v rest. back_from m.calls m)
+
+abbrev pub advance_to : AgentCode → ℕ → Machine → Next
+advance_to agent point m = need (slice_get agent.points point) (λ place. Ended point (begun_at place m))
+
+-- ---- what it takes, and what it does
+
+-- the machine at another place
+abbrev pub with_place : ℕ → AgentMachine → AgentMachine
+with_place place m = record m { machine = record (m.machine) { place = place } }
 
 -- What comes of it finds room in the machine.
 abbrev pub Finds : AgentMachine → Next → Type 0

@@ -1,6 +1,6 @@
 -- The parts of a machine: its operands, and the frames of the agent and of its open calls.
 use Rattle.std.specs.Prelude.{ℕ, List, ℤ}
-use Rattle.psy_code.specs.Execution.{Frame, OpenCall}
+use Rattle.psy_code.specs.Execution.{Frame, OpenCall, frame_of, home_with, calls_with}
 
 pub record OperandStack : Type 0 where
   -- the top first
@@ -15,3 +15,11 @@ pub record FrameStack : Type 0 where
   pub calls : List OpenCall
   -- how many cells and counters of open calls there is room for
   pub room : ℕ
+
+-- the innermost frame
+abbrev pub present_in : FrameStack → Frame
+present_in f = frame_of f.home f.calls
+
+-- the frames with another innermost one
+abbrev pub with_present : Frame → FrameStack → FrameStack
+with_present frame f = record f { home = home_with f.home f.calls frame; calls = calls_with f.calls frame }

@@ -90,7 +90,8 @@ fn index_of(alloc: Global, entries: &[Entry]) -> Result<Vec<usize>, AllocError>
 fn put(places: &mut Vec<usize>, variable: usize, place: usize) -> Result<(), AllocError>
     requires { variable < 2 ^ 32 }
     ensures here { OnOk result (slice_get places.new.items variable ≡ Some place) }
-    ensures elsewhere { OnOk result ((k at : ℕ) → k ≢ variable → slice_get places.old.items k ≡ Some at → slice_get places.new.items k ≡ Some at) }
+    ensures elsewhere { OnOk result ((k at : ℕ) → k ≢ variable
+        → slice_get places.old.items k ≡ Some at → slice_get places.new.items k ≡ Some at) }
 {
     if places.len() <= variable {
         places.resize(variable + 1, 0)?;

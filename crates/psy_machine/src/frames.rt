@@ -1,5 +1,6 @@
 ghost use Rattle.std.specs.Prelude.{◌≡◌, ◌+◌, ◌<◌, ◌≤◌, [], ◌∷◌, ◌++◌, length, replicate, slice_get, slice_set, Some, IfOk};
-ghost use Rattle.psy_code.specs.Execution.{OpenCall, frame_of, home_with, calls_with, cells_of, cleared};
+ghost use Rattle.psy_code.specs.Execution.{OpenCall, cells_of, cleared};
+ghost use Rattle.psy_machine.specs.Parts.{present_in, with_present};
 
 use psy_code::OPEN_CALLS;
 use std::alloc::{AllocError, Global};
@@ -29,7 +30,7 @@ pub struct Frames {
     present: Place,
     /// Where the agent's own frame ends.
     home_end: Place,
-    /// How many cells and counters of open calls there is room for.
+    /// How many cells and counters of open calls there is room for. Contracts name it; no call reads it.
     room: u32,
 }
 
@@ -47,13 +48,9 @@ impl Model for Frames {
 
 impl Frames {
     /// The frame of an agent, with room for open calls with so many cells and counters together.
-    pub fn new(
-        alloc: Global,
-        cells: &[i32],
-        counters: u32,
-        room: u32,
-    ) -> Result<Frames, AllocError>
-        ensures home { IfOk result (λ f. f.home ≡ record { cells = cells.now; counters = replicate counters 0 }) }
+    pub fn new(alloc: Global, cells: &[i32], counters: u32, room: u32) -> Result<Frames, AllocError>
+        ensures home { IfOk result (λ f.
+            f.home ≡ record { cells = cells.now; counters = replicate counters 0 }) }
         ensures calls { IfOk result (λ f. f.calls ≡ []) }
         ensures room { IfOk result (λ f. room ≤ f.room) }
     {
@@ -81,18 +78,17 @@ impl Frames {
     /// A cell of the innermost frame.
     #[inline(always)]
     pub fn cell(&self, number: usize) -> i32
-        requires { number < length (frame_of self.now.home self.now.calls).cells }
-        ensures { slice_get (frame_of self.now.home self.now.calls).cells number ≡ Some result }
+        requires { number < length (present_in self.now).cells }
+        ensures { slice_get (present_in self.now).cells number ≡ Some result }
     {
         self.cells[self.present.cells + number]
     }
 
     #[inline(always)]
     pub fn set_cell(&mut self, number: usize, value: i32)
-        requires { number < length (frame_of self.old.home self.old.calls).cells }
-        ensures { let frame = frame_of self.old.home self.old.calls in
-            let changed = record frame { cells = slice_set frame.cells number value } in
-            self.new ≡ record self.old { home = home_with self.old.home self.old.calls changed; calls = calls_with self.old.calls changed } }
+        requires { number < length (present_in self.old).cells }
+        ensures { let frame = present_in self.old in
+            self.new ≡ with_present (record frame { cells = slice_set frame.cells number value }) self.old }
     {
         let place = self.present.cells + number;
         self.cells[place] = value;
@@ -101,18 +97,17 @@ impl Frames {
     /// The counter of a loop of the innermost frame.
     #[inline(always)]
     pub fn counter(&self, number: usize) -> u32
-        requires { number < length (frame_of self.now.home self.now.calls).counters }
-        ensures { slice_get (frame_of self.now.home self.now.calls).counters number ≡ Some result }
+        requires { number < length (present_in self.now).counters }
+        ensures { slice_get (present_in self.now).counters number ≡ Some result }
     {
         self.counters[self.present.counters + number]
     }
 
     #[inline(always)]
     pub fn set_counter(&mut self, number: usize, turns: u32)
-        requires { number < length (frame_of self.old.home self.old.calls).counters }
-        ensures { let frame = frame_of self.old.home self.old.calls in
-            let changed = record frame { counters = slice_set frame.counters number turns } in
-            self.new ≡ record self.old { home = home_with self.old.home self.old.calls changed; calls = calls_with self.old.calls changed } }
+        requires { number < length (present_in self.old).counters }
+        ensures { let frame = present_in self.old in
+            self.new ≡ with_present (record frame { counters = slice_set frame.counters number turns }) self.old }
     {
         let place = self.present.counters + number;
         self.counters[place] = turns;
@@ -122,7 +117,12 @@ impl Frames {
     pub fn open(&mut self, arguments: &[i32], locals: &[i32], counters: u32, back: usize)
         requires room { length arguments.now + length locals.now + counters + cells_of self.old.calls ≤ self.old.room }
         requires calls { length self.old.calls < 64 }
-        ensures { self.new ≡ record self.old { calls = record { frame = record { cells = arguments.now ++ locals.now; counters = replicate counters 0 }; back = back } ∷ self.old.calls } }
+        ensures { self.new ≡ record self.old {
+          calls = record {
+            frame = record { cells = arguments.now ++ locals.now; counters = replicate counters 0 };
+            back = back;
+          } ∷ self.old.calls;
+        } }
     {
         self.headers.push_reserved(Header {
             caller: self.present,
@@ -141,7 +141,8 @@ impl Frames {
     /// Closes the innermost call, and answers where its caller goes on.
     pub fn close(&mut self) -> usize
         requires { 0 < length self.old.calls }
-        ensures { (call : OpenCall) × (self.old.calls ≡ call ∷ self.new.calls) × (call.back ≡ result) × (self.new.home ≡ self.old.home) × (self.new.room ≡ self.old.room) }
+        ensures { (call : OpenCall) × (self.old.calls ≡ call ∷ self.new.calls) × (call.back ≡ result)
+            × (self.new.home ≡ self.old.home) × (self.new.room ≡ self.old.room) }
     {
         let header = self.headers.take_last();
         self.cells.truncate(self.present.cells);

@@ -7,3 +7,6 @@ mod machine;
 mod operands;
 
 pub use machine::{Machine, Step};
+
+#[cfg(test)]
+mod tests;

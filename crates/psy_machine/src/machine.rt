@@ -42,10 +42,16 @@ impl Model for Machine {
     ghost Value = { AgentMachine };
 
     ghost view = { λ m. record {
-        agent = m.agent;
-        machine = record { place = m.place; operands = m.operands.values; home = m.frames.home; calls = m.frames.calls; copies = m.copies };
-        stack = m.operands.room;
-        frames = m.frames.room
+      agent = m.agent;
+      machine = record {
+        place = m.place;
+        operands = m.operands.values;
+        home = m.frames.home;
+        calls = m.frames.calls;
+        copies = m.copies;
+      };
+      stack = m.operands.room;
+      frames = m.frames.room;
     } };
 }
 
@@ -75,7 +81,8 @@ impl Machine {
         requires permitted { PermitsAll (L.window look.old) (call_of code.now self.old.machine) }
         ensures answer { Answers (next_for code.now (L.window look.old).view self.old) result }
         ensures machine { self.new ≡ stepped code.now (L.window look.old).view self.old }
-        ensures window { L.window look.new ≡ window_after (L.window look.old) (call_of code.now self.old.machine) }
+        ensures window { L.window look.new
+            ≡ window_after (L.window look.old) (call_of code.now self.old.machine) }
     {
         let agent = &code.agents.as_slice()[self.agent as usize];
         let instr = code.instrs.as_slice()[self.place];
@@ -93,10 +100,13 @@ impl Machine {
     /// Executes an instruction of the agent.
     #[inline(always)]
     fn act<L: Look>(&mut self, code: &Code, agent: &AgentCode, instr: Instr, look: &mut L) -> Step
-        requires able { CanDo self.old (does code.now agent.now (L.window look.old).view instr self.old.machine) }
+        requires able { CanDo self.old
+            (does code.now agent.now (L.window look.old).view instr self.old.machine) }
         requires permitted { PermitsAll (L.window look.old) (call_by instr self.old.machine.operands) }
-        ensures did { Did (does code.now agent.now (L.window look.old).view instr self.old.machine) self.old self.new result }
-        ensures window { L.window look.new ≡ window_after (L.window look.old) (call_by instr self.old.machine.operands) }
+        ensures did { Did (does code.now agent.now (L.window look.old).view instr self.old.machine)
+            self.old self.new result }
+        ensures window { L.window look.new
+            ≡ window_after (L.window look.old) (call_by instr self.old.machine.operands) }
     {
         match instr {
             Instr::Push(number) => self.push(number),

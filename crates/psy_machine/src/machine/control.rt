@@ -1,7 +1,6 @@
-ghost use Rattle.std.specs.Prelude.{◌≡◌, ◌+◌, ◌<◌, ◌^◌, ◌∷◌, [], pos, slice_get, if◌then◌else◌};
-ghost use Rattle.psy_arith.specs.Operators.{is_zero};
-ghost use Rattle.psy_code.specs.Execution.{with_top, need, onward, jump, guard, zero_counter, call, back_from, begun_at, Ended};
-ghost use Rattle.psy_machine.specs.Acting.{CanDo, Did};
+ghost use Rattle.std.specs.Prelude.{◌≡◌, ◌+◌, ◌<◌, ◌^◌};
+ghost use Rattle.psy_code.specs.Execution.{jump, guard, zero_counter, call};
+ghost use Rattle.psy_machine.specs.Acting.{CanDo, Did, with_place, jump_at_zero, leave_zero, leave_one, leave_call, advance_to};
 ghost use Rattle.psy_machine.specs.declared.machine.Step.TheVariants as step;
 
 use super::{Machine, Step};
@@ -15,7 +14,7 @@ impl Machine {
     pub(super) fn go_on(&mut self) -> Step
         requires { self.old.machine.place + 1 < 2 ^ 64 }
         ensures answer { result ≡ step.Went }
-        ensures machine { self.new ≡ record self.old { machine = record (self.old.machine) { place = self.old.machine.place + 1 } } }
+        ensures machine { self.new ≡ with_place (self.old.machine.place + 1) self.old }
     {
         self.place += 1;
         Step::Went
@@ -25,7 +24,7 @@ impl Machine {
     #[inline(always)]
     fn go_to(&mut self, to: u32) -> Step
         ensures answer { result ≡ step.Went }
-        ensures machine { self.new ≡ record self.old { machine = record (self.old.machine) { place = to } } }
+        ensures machine { self.new ≡ with_place to self.old }
     {
         self.place = to as usize;
         Step::Went
@@ -41,8 +40,8 @@ impl Machine {
 
     #[inline(always)]
     pub(super) fn jump_zero(&mut self, to: u32) -> Step
-        requires { CanDo self.old (with_top self.old.machine.operands (λ v rest. if is_zero v then jump to rest self.old.machine else onward rest self.old.machine)) }
-        ensures { Did (with_top self.old.machine.operands (λ v rest. if is_zero v then jump to rest self.old.machine else onward rest self.old.machine)) self.old self.new result }
+        requires { CanDo self.old (jump_at_zero to self.old.machine) }
+        ensures { Did (jump_at_zero to self.old.machine) self.old self.new result }
     {
         if self.operands.pop() == 0 {
             self.go_to(to)
@@ -53,8 +52,8 @@ impl Machine {
 
     #[inline(always)]
     pub(super) fn and_test(&mut self, to: u32) -> Step
-        requires { CanDo self.old (with_top self.old.machine.operands (λ v rest. if is_zero v then jump to (pos 0 ∷ rest) self.old.machine else onward rest self.old.machine)) }
-        ensures { Did (with_top self.old.machine.operands (λ v rest. if is_zero v then jump to (pos 0 ∷ rest) self.old.machine else onward rest self.old.machine)) self.old self.new result }
+        requires { CanDo self.old (leave_zero to self.old.machine) }
+        ensures { Did (leave_zero to self.old.machine) self.old self.new result }
     {
         if self.operands.top() == 0 {
             return self.go_to(to);
@@ -65,8 +64,8 @@ impl Machine {
 
     #[inline(always)]
     pub(super) fn or_test(&mut self, to: u32) -> Step
-        requires { CanDo self.old (with_top self.old.machine.operands (λ v rest. if is_zero v then onward rest self.old.machine else jump to (pos 1 ∷ rest) self.old.machine)) }
-        ensures { Did (with_top self.old.machine.operands (λ v rest. if is_zero v then onward rest self.old.machine else jump to (pos 1 ∷ rest) self.old.machine)) self.old self.new result }
+        requires { CanDo self.old (leave_one to self.old.machine) }
+        ensures { Did (leave_one to self.old.machine) self.old self.new result }
     {
         if self.operands.top() == 0 {
             self.operands.pop();
@@ -118,16 +117,16 @@ impl Machine {
     }
 
     pub(super) fn leave(&mut self) -> Step
-        requires { CanDo self.old (with_top self.old.machine.operands (λ v rest. back_from self.old.machine.calls self.old.machine)) }
-        ensures { Did (with_top self.old.machine.operands (λ v rest. back_from self.old.machine.calls self.old.machine)) self.old self.new result }
+        requires { CanDo self.old (leave_call self.old.machine) }
+        ensures { Did (leave_call self.old.machine) self.old self.new result }
     {
         self.place = self.frames.close();
         Step::Went
     }
 
     pub(super) fn advance(&mut self, agent: &AgentCode, point: u32) -> Step
-        requires { CanDo self.old (need (slice_get agent.now.points point) (λ place. Ended point (begun_at place self.old.machine))) }
-        ensures { Did (need (slice_get agent.now.points point) (λ place. Ended point (begun_at place self.old.machine))) self.old self.new result }
+        requires { CanDo self.old (advance_to agent.now point self.old.machine) }
+        ensures { Did (advance_to agent.now point self.old.machine) self.old self.new result }
     {
         self.place = agent.points.as_slice()[point as usize] as usize;
         self.operands.clear();

@@ -1,7 +1,5 @@
-ghost use Rattle.std.specs.Prelude.{◌≡◌, ◌∷◌, not};
-ghost use Rattle.psy_arith.specs.Operators.{truth, is_zero};
-ghost use Rattle.psy_code.specs.Execution.{with_top, onward, binary, unary};
-ghost use Rattle.psy_machine.specs.Acting.{CanDo, Did};
+ghost use Rattle.psy_code.specs.Execution.{binary, unary};
+ghost use Rattle.psy_machine.specs.Acting.{CanDo, Did, truth_of_top};
 
 use super::{Machine, Step};
 use psy_arith::{Op1, Op2, apply1, apply2};
@@ -35,8 +33,8 @@ impl Machine {
 
     #[inline(always)]
     pub(super) fn truth(&mut self) -> Step
-        requires { CanDo self.old (with_top self.old.machine.operands (λ v rest. onward (truth (not (is_zero v)) ∷ rest) self.old.machine)) }
-        ensures { Did (with_top self.old.machine.operands (λ v rest. onward (truth (not (is_zero v)) ∷ rest) self.old.machine)) self.old self.new result }
+        requires { CanDo self.old (truth_of_top self.old.machine) }
+        ensures { Did (truth_of_top self.old.machine) self.old self.new result }
     {
         let holds = self.operands.top() != 0;
         self.operands.set_top(i32::from(holds));

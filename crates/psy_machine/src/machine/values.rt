@@ -1,7 +1,6 @@
-ghost use Rattle.std.specs.Prelude.{◌≡◌, ◌+◌, ◌<◌, ◌^◌, ◌∷◌};
-ghost use Rattle.psy_code.specs.Execution.{with_top, need, copy_of, onward, push, load, store, load_cell, store_cell, store_copy, index_in};
-ghost use Rattle.psy_machine.specs.Acting.{CanDo, Did};
-ghost use Rattle.psy_machine.specs.declared.machine.Step.TheVariants as step;
+ghost use Rattle.std.specs.Prelude.{◌≡◌};
+ghost use Rattle.psy_code.specs.Execution.{push, load, load_cell, store_cell, store_copy, index_in};
+ghost use Rattle.psy_machine.specs.Acting.{CanDo, Did, store_top, push_copy};
 
 use super::{Machine, Step};
 use psy_arith::Trap;
@@ -28,8 +27,8 @@ impl Machine {
 
     #[inline(always)]
     pub(super) fn store(&mut self, cell: u32) -> Step
-        requires { CanDo self.old (with_top self.old.machine.operands (λ v rest. store cell v rest self.old.machine)) }
-        ensures { Did (with_top self.old.machine.operands (λ v rest. store cell v rest self.old.machine)) self.old self.new result }
+        requires { CanDo self.old (store_top cell self.old.machine) }
+        ensures { Did (store_top cell self.old.machine) self.old self.new result }
     {
         let value = self.operands.pop();
         self.frames.set_cell(cell as usize, value);
@@ -69,8 +68,8 @@ impl Machine {
 
     #[inline(always)]
     pub(super) fn load_copy(&mut self, variable: u32) -> Step
-        requires { CanDo self.old (need (copy_of variable self.old.machine.copies) (λ v. push v self.old.machine)) }
-        ensures { Did (need (copy_of variable self.old.machine.copies) (λ v. push v self.old.machine)) self.old self.new result }
+        requires { CanDo self.old (push_copy variable self.old.machine) }
+        ensures { Did (push_copy variable self.old.machine) self.old self.new result }
     {
         let value = self.copies.get(variable);
         self.push(value)

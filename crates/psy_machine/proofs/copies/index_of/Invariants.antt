@@ -7,7 +7,7 @@ use Rattle.psy_machine.proofs.copies.index_of.Given as goal
 abbrev pub invariant-loop-place : goal.invariant-loop-place
 invariant-loop-place l = record {
   within : l.place ≤ length l.entries;
-  index : (variable i : ℕ) → IsFirst variable (drop l.place l.entries) i → slice_get l.places.items variable ≡ Some (l.place + i)
+  index : (variable i : ℕ) → IsFirst variable (drop l.place l.entries) i → slice_get l.places.items variable ≡ Some (l.place + i);
 }
 
 abbrev pub decreases-loop-place : goal.decreases-loop-place
