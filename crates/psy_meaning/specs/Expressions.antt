@@ -9,38 +9,26 @@ use Rattle.psy_code.specs.Views.{View, Past, Ready, Take, past_of, messages_of, 
 use Rattle.psy_code.specs.Execution.{index_in}
 use Rattle.psy_tree.specs.declared.unit.Expr.{Expr, fold-Expr}
 use Rattle.psy_tree.specs.declared.unit.Expr.TheOpen.{Expr-F}
-use Rattle.psy_meaning.specs.States.{State, Got, Value, Stops, Eval, Callee, and_then, cost_1, asking, trapping, cells_at, value_at, copy_at, or_zero}
+use Rattle.psy_meaning.specs.States.{State, Got, Value, Stops, Eval, Callee, and_then, cost_1, asking, or_stop, cells_at, value_at, copy_at, or_zero}
 
 -- The cell of an array that an index names
 abbrev pub element : ℕ → ℤ → State → Got
-element slot index s = at (index_in (length (cells_at s.store slot)) index)
-  where
-    at : Option ℕ → Got
-    at None = Stops (trapping trap.Index s)
-    at (Some i) = Value (value_at s.store slot i) (cost_1 s)
+element slot index s = or_stop trap.Index (index_in (length (cells_at s.store slot)) index) s (λ i. Value (value_at s.store slot i) (cost_1 s))
+
+abbrev pub or_none : Option (List ℤ) → List ℤ
+or_none None = []
+or_none (Some messages) = messages
 
 abbrev pub messages_at : View → ℕ → List ℤ
-messages_at view stream = listed (messages_of view stream)
-  where
-    listed : Option (List ℤ) → List ℤ
-    listed None = []
-    listed (Some messages) = messages
+messages_at view stream = or_none (messages_of view stream)
 
 -- The first message of a stream
 abbrev pub take_from : ℕ → State → Got
-take_from stream s = first (next_in s.view stream)
-  where
-    first : Option ℤ → Got
-    first None = Stops (trapping trap.Take s)
-    first (Some v) = Value v (asking (Take stream) s)
+take_from stream s = or_stop trap.Take (next_in s.view stream) s (λ v. Value v (asking (Take stream) s))
 
 -- An operator that has both its operands
 abbrev pub applied : Op2 → ℤ → ℤ → State → Got
-applied operator a b s = value (value2 w32 operator a b)
-  where
-    value : Option ℤ → Got
-    value None = Stops (trapping trap.Divide s)
-    value (Some v) = Value v (cost_1 s)
+applied operator a b s = or_stop trap.Divide (value2 w32 operator a b) s (λ v. Value v (cost_1 s))
 
 -- 1 where the value isn't 0
 abbrev pub truth_of : Got → Got

@@ -7,16 +7,12 @@ use Rattle.psy_code.specs.Execution.{index_in}
 use Rattle.psy_tree.specs.declared.unit.FunctionDecl.{FunctionDecl}
 use Rattle.psy_tree.specs.declared.unit.Stmt.{Stmt, fold-Stmt}
 use Rattle.psy_tree.specs.declared.unit.Stmt.TheOpen.{Stmt-F}
-use Rattle.psy_meaning.specs.States.{Store, State, Final, Ended, Trapped, Got, Value, Stops, Outcome, Falls, Returns, Halts, Eval, Act, Callee, with_value, then_do, cost_1, asking, trapping, cells_at, with_slot, with_copy_at}
+use Rattle.psy_meaning.specs.States.{Store, State, Final, Ended, Trapped, Got, Value, Stops, Outcome, Falls, Returns, Halts, Eval, Act, Callee, with_value, then_do, cost_1, asking, trapping, or_halt, cells_at, with_slot, with_copy_at}
 use Rattle.psy_meaning.specs.Expressions.{eval}
 
 -- A value into the cell of an array that an index names
 abbrev pub set_element : ℕ → ℤ → ℤ → State → Outcome
-set_element slot index v s = at (index_in (length (cells_at s.store slot)) index)
-  where
-    at : Option ℕ → Outcome
-    at None = Halts (trapping trap.Index s)
-    at (Some i) = Falls (with_slot slot i v (cost_1 s))
+set_element slot index v s = or_halt trap.Index (index_in (length (cells_at s.store slot)) index) s (λ i. Falls (with_slot slot i v (cost_1 s)))
 
 -- One after the other, as long as they fall through
 abbrev pub all_of : List Act → Act

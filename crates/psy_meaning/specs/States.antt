@@ -69,6 +69,15 @@ asking call s = record s { view = view_after s.view call; deeds = done s.deeds c
 abbrev pub trapping : Trap → State → Final
 trapping kind s = Trapped kind (cost_1 s)
 
+-- Goes on with what is there, and traps where it isn't.
+abbrev pub or_stop : {A : Type 0} → Trap → Option A → State → (A → Got) → Got
+or_stop kind None s go = Stops (trapping kind s)
+or_stop kind (Some x) s go = go x
+
+abbrev pub or_halt : {A : Type 0} → Trap → Option A → State → (A → Outcome) → Outcome
+or_halt kind None s go = Halts (trapping kind s)
+or_halt kind (Some x) s go = go x
+
 -- ---- the store
 
 -- The cells of a slot
