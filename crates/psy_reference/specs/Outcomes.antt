@@ -1,0 +1,17 @@
+-- What the evaluator gives, in the words of the meaning.
+use Rattle.psy_meaning.specs.States.{Got, Value, Stops, Outcome, Falls, Returns, Halts, Ended, Trapped}
+use Rattle.psy_reference.specs.declared.outcome.Got.TheVariants as got
+use Rattle.psy_reference.specs.declared.outcome.Outcome.TheVariants as outcome
+use Rattle.psy_reference.specs.declared.outcome.Got as a
+use Rattle.psy_reference.specs.declared.outcome.Outcome as the
+
+abbrev pub got_of : a.Got → Got
+got_of (got.Value v s) = Value v s
+got_of (got.Ended point s) = Stops (Ended point s)
+got_of (got.Trapped kind s) = Stops (Trapped kind s)
+
+abbrev pub outcome_of : the.Outcome → Outcome
+outcome_of (outcome.Falls s) = Falls s
+outcome_of (outcome.Returns v s) = Returns v s
+outcome_of (outcome.Ended point s) = Halts (Ended point s)
+outcome_of (outcome.Trapped kind s) = Halts (Trapped kind s)

@@ -1,0 +1,14 @@
+//! What one action of an agent does, by walking the tree: a plain evaluator, for tests of the definition.
+#![tactic(auto)]
+
+mod deeds;
+mod outcome;
+mod state;
+mod store;
+mod view;
+
+pub use deeds::{Deeds, Looked};
+pub use outcome::{Got, Outcome};
+pub use state::State;
+pub use store::{Store, WorkingCopy};
+pub use view::View;
