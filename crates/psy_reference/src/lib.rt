@@ -2,6 +2,7 @@
 #![tactic(auto)]
 
 mod deeds;
+mod expressions;
 mod outcome;
 mod state;
 mod store;
