@@ -1,5 +1,7 @@
 -- What the evaluator gives, in the words of the meaning.
-use Rattle.psy_meaning.specs.States.{Got, Value, Stops, Outcome, Falls, Returns, Halts, Ended, Trapped}
+use Rattle.psy_meaning.specs.States.{Act, Got, Value, Stops, Outcome, Falls, Returns, Halts, Ended, Trapped}
+use Rattle.psy_reference.specs.declared.statements.Choice.{Choice}
+use Rattle.psy_reference.specs.declared.statements.Choice.TheVariants as choice
 use Rattle.psy_reference.specs.declared.outcome.Got.TheVariants as got
 use Rattle.psy_reference.specs.declared.outcome.Outcome.TheVariants as outcome
 use Rattle.psy_reference.specs.declared.outcome.Got as a
@@ -15,3 +17,9 @@ outcome_of (outcome.Falls s) = Falls s
 outcome_of (outcome.Returns v s) = Returns v s
 outcome_of (outcome.Ended point s) = Halts (Ended point s)
 outcome_of (outcome.Trapped kind s) = Halts (Trapped kind s)
+
+-- What a test chooses of two ways to go on
+abbrev pub chosen : Choice → Act → Act → Outcome
+chosen (choice.Holds s) holds fails = holds s
+chosen (choice.Fails s) holds fails = fails s
+chosen (choice.Stops o) holds fails = outcome_of o

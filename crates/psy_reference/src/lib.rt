@@ -1,10 +1,12 @@
 //! What one action of an agent does, by walking the tree: a plain evaluator, for tests of the definition.
 #![tactic(auto)]
 
+mod calls;
 mod deeds;
 mod expressions;
 mod outcome;
 mod state;
+mod statements;
 mod store;
 mod view;
 
