@@ -1,2 +1,5 @@
 pub mod Stores
 pub mod Sides
+pub mod Weights
+pub mod Walks
+pub mod Equations

@@ -1,7 +1,10 @@
 -- What the evaluator gives, in the words of the meaning.
-use Rattle.psy_meaning.specs.States.{Act, Got, Value, Stops, Outcome, Falls, Returns, Halts, Ended, Trapped}
+use Rattle.std.specs.Prelude.{List, ℤ}
+use Rattle.psy_meaning.specs.States.{State, Act, Got, Value, Stops, Outcome, Falls, Returns, Halts, Ended, Trapped}
 use Rattle.psy_reference.specs.declared.statements.Choice.{Choice}
 use Rattle.psy_reference.specs.declared.statements.Choice.TheVariants as choice
+use Rattle.psy_reference.specs.declared.walk.Arguments.{Arguments}
+use Rattle.psy_reference.specs.declared.walk.Arguments.TheVariants as arguments
 use Rattle.psy_reference.specs.declared.outcome.Got.TheVariants as got
 use Rattle.psy_reference.specs.declared.outcome.Outcome.TheVariants as outcome
 use Rattle.psy_reference.specs.declared.outcome.Got as a
@@ -23,3 +26,11 @@ abbrev pub chosen : Choice → Act → Act → Outcome
 chosen (choice.Holds s) holds fails = holds s
 chosen (choice.Fails s) holds fails = fails s
 chosen (choice.Stops o) holds fails = outcome_of o
+
+-- What goes on with the values of all arguments
+abbrev pub Onward : Type 0
+Onward = List ℤ → State → Got
+
+abbrev pub given : Arguments → Onward → Got
+given (arguments.Values values s) go = go values s
+given (arguments.Stop g) go = got_of g

@@ -9,9 +9,11 @@ mod state;
 mod statements;
 mod store;
 mod view;
+mod walk;
 
 pub use deeds::{Deeds, Looked};
 pub use outcome::{Got, Outcome};
 pub use state::State;
 pub use store::{Store, WorkingCopy};
 pub use view::View;
+pub use walk::evaluate;
