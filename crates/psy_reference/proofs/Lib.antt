@@ -3,3 +3,4 @@ pub mod Sides
 pub mod Weights
 pub mod Walks
 pub mod Equations
+pub mod Rests

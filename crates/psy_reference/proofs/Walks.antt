@@ -34,7 +34,7 @@ gathered_none es s go = gathered_behind [] es s go
 
 -- ---- one part further
 
-dropped : {X : Type 0} (xs : List X) (i : ℕ) (x : X) → i < length xs → x ≡ get_or xs i x → drop i xs ≡ x ∷ drop (i + 1) xs
+pub dropped : {X : Type 0} (xs : List X) (i : ℕ) (x : X) → i < length xs → x ≡ get_or xs i x → drop i xs ≡ x ∷ drop (i + 1) xs
 dropped xs i x h e =
     let next : suc i ≡ i + 1 = omega arith in
     drop-cons xs i x h ∙ ap (λ n. get_or xs i x ∷ drop n xs) next ∙ ap (λ y. y ∷ drop (i + 1) xs) (sym e)

@@ -5,6 +5,7 @@ mod calls;
 mod deeds;
 mod expressions;
 mod outcome;
+mod points;
 mod state;
 mod statements;
 mod store;
@@ -13,6 +14,7 @@ mod walk;
 
 pub use deeds::{Deeds, Looked};
 pub use outcome::{Got, Outcome};
+pub use points::act;
 pub use state::State;
 pub use store::{Store, WorkingCopy};
 pub use view::View;
