@@ -110,21 +110,19 @@ found_first o fs xs ys n s h =
 
 pub found_each : (o p : the.Outcome) (fs : List FunctionDecl) (xs : Rests) (ps : List Piece) (n : ℕ) (s : State) → IsBehind (search.Found o) fs xs n s → outcome_of p ≡ then_do (outcome_of o) (act fs ps) →
     IsBehind (search.Found p) fs (each_then xs ps) n s
-found_each o p fs xs ps n s h e =
-    (
-      omega (arith, h.0, length-map xs (λ r. r ++ ps)),
-      e ∙ ap (λ r. then_do r (act fs ps)) h.1 ∙ sym (act-append fs (get_or xs n []) ps s) ∙ sym (ap (λ r. act fs r s) (get_or-each_then xs ps n h.0)),
-    )
+found_each o p fs xs ps n s h e = (
+  omega (arith, h.0, length-map xs (λ r. r ++ ps)),
+  e ∙ ap (λ r. then_do r (act fs ps)) h.1 ∙ sym (act-append fs (get_or xs n []) ps s) ∙ sym (ap (λ r. act fs r s) (get_or-each_then xs ps n h.0)),
+)
 
 pub further_each : (left : ℕ) (t : State) (fs : List FunctionDecl) (xs : Rests) (ps : List Piece) (n : ℕ) (s : State) → IsBehind (search.Further left t) fs xs n s → IsBehind (search.Further left t) fs (each_then xs ps) n s
 further_each left t fs xs ps n s h = (omega (arith, h.0, length-map xs (λ r. r ++ ps)), h.1)
 
 pub behind_second : (r : Search) (fs : List FunctionDecl) (xs ys : Rests) (n left : ℕ) (s t : State) → IsBehind (search.Further left t) fs xs n s → IsBehind r fs ys left t → IsBehind r fs (xs ++ ys) n s
-behind_second (search.Found o) fs xs ys n left s t passed h =
-    (
-      omega (arith, passed.0, h.0, length-append xs ys),
-      h.1 ∙ ap (act fs (get_or ys left [])) passed.1 ∙ sym (ap (λ ps. act fs ps s) (get_or-append_second xs ys n left passed.0)),
-    )
+behind_second (search.Found o) fs xs ys n left s t passed h = (
+  omega (arith, passed.0, h.0, length-append xs ys),
+  h.1 ∙ ap (act fs (get_or ys left [])) passed.1 ∙ sym (ap (λ ps. act fs ps s) (get_or-append_second xs ys n left passed.0)),
+)
 behind_second (search.Further m u) fs xs ys n left s t passed h = (omega (arith, passed.0, h.0, length-append xs ys), h.1 ∙ passed.1)
 
 -- ---- one statement further

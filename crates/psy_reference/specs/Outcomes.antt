@@ -31,6 +31,7 @@ chosen (choice.Stops o) holds fails = outcome_of o
 abbrev pub Onward : Type 0
 Onward = List ℤ → State → Got
 
+-- On with the values of the arguments, or the stop that they came to
 abbrev pub given : Arguments → Onward → Got
 given (arguments.Values values s) go = go values s
 given (arguments.Stop g) go = got_of g

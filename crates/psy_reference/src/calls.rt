@@ -11,11 +11,7 @@ use psy_base::{Items, Memory};
 use psy_tree::FunctionDecl;
 use std::alloc::Global;
 
-fn push_cells(
-    alloc: Global,
-    slots: &mut Items<Items<i32>>,
-    values: &[i32],
-) -> Result<(), Memory>
+fn push_cells(alloc: Global, slots: &mut Items<Items<i32>>, values: &[i32]) -> Result<(), Memory>
     ensures { OnOk result (slots.new ≡ slots.old ++ map (λ v. v ∷ []) values.now) }
 {
     for value in values {
@@ -25,11 +21,7 @@ fn push_cells(
 }
 
 /// A function's parameters and locals, each a slot of one cell.
-pub fn frame_of(
-    alloc: Global,
-    function: &FunctionDecl,
-    arguments: &[i32],
-) -> Result<Store, Memory>
+pub fn frame_of(alloc: Global, function: &FunctionDecl, arguments: &[i32]) -> Result<Store, Memory>
     ensures { IfOk result (λ s. s ≡ meaning.frame_of function.now arguments.now) }
 {
     let mut slots = Items::new(alloc);

@@ -9,6 +9,10 @@ mod points;
 mod state;
 mod statements;
 mod store;
+#[cfg(test)]
+mod tests;
+#[cfg(test)]
+mod trials;
 mod view;
 mod walk;
 

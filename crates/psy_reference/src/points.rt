@@ -16,7 +16,7 @@ use psy_base::Memory;
 use psy_tree::{FunctionDecl, Stmt, Unit};
 use std::alloc::Global;
 
-/// What comes of going to an `advance` by its number.
+/// What comes of going to an `advance` by its number, counted from 0 in the order of the text.
 #[derive(Debug, Drop)]
 enum Search {
     /// What the statements behind it did.
@@ -25,6 +25,7 @@ enum Search {
     Further(u32, State),
 }
 
+/// Behind the first statements, the others.
 fn then_all(
     alloc: Global,
     functions: &[FunctionDecl],
@@ -39,7 +40,7 @@ fn then_all(
     }
 }
 
-/// A turn's end, a jump, and the loop itself.
+/// Behind a turn, a jump and the loop itself.
 fn then_loop(
     alloc: Global,
     functions: &[FunctionDecl],
@@ -128,6 +129,7 @@ fn behind(
     Ok(Search::Further(left, state))
 }
 
+// There is nothing to do behind an `advance` that isn't there.
 fn behind_number(
     alloc: Global,
     functions: &[FunctionDecl],
@@ -143,7 +145,8 @@ fn behind_number(
     }
 }
 
-/// What the agent's action does from a point of its body. The only error is want of memory.
+/// What the agent's action does from a point of its body. The only error is want of memory, also to count
+/// more instructions than 64 bits hold.
 pub fn act(
     alloc: Global,
     unit: &Unit,

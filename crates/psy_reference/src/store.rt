@@ -112,7 +112,10 @@ fn replace(copies: &mut Items<WorkingCopy>, variable: u32, value: i32)
 fn find(copies: &[WorkingCopy], variable: u32) -> Option<WorkingCopy>
     ensures { result ≡ list.find (λ c. c.variable == variable) copies.now }
 {
-    copies.iter().copied().find(|copy| copy.variable == variable)
+    copies
+        .iter()
+        .copied()
+        .find(|copy| copy.variable == variable)
 }
 
 fn position(copies: &[WorkingCopy], variable: u32) -> Option<usize>

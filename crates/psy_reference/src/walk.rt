@@ -18,7 +18,7 @@ use psy_base::{Items, Memory};
 use psy_tree::{Expr, FunctionDecl, Stmt};
 use std::alloc::Global;
 
-/// The arguments of a call.
+/// What comes of the arguments of a call.
 #[derive(Debug, Drop)]
 pub enum Arguments {
     Values(Items<i32>, State),
@@ -26,7 +26,8 @@ pub enum Arguments {
     Stop(Got),
 }
 
-/// What the expression gives, where these functions can be called. The only error is want of memory.
+/// What the expression gives, where these functions can be called. The only error is want of memory, also
+/// to count more instructions than 64 bits hold.
 #[cycle(walk)]
 pub fn evaluate(
     alloc: Global,
@@ -102,6 +103,7 @@ fn evaluate_all(
     Ok(Arguments::Values(values, state))
 }
 
+// A function calls those above it alone, so that they are fewer at each call.
 #[cycle(walk)]
 fn call(
     alloc: Global,
@@ -124,6 +126,7 @@ fn call(
     back_in(store, outcome)
 }
 
+/// What the statement does.
 #[cycle(walk)]
 pub fn act_one(
     alloc: Global,
@@ -198,6 +201,7 @@ pub fn act_one(
     }
 }
 
+/// What the statements do, one after the other.
 #[cycle(walk)]
 pub fn act_all(
     alloc: Global,
@@ -218,6 +222,7 @@ pub fn act_all(
     Ok(Outcome::Falls(state))
 }
 
+// The turns of a bounded loop.
 #[cycle(walk)]
 fn turns(
     alloc: Global,

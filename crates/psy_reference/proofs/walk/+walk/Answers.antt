@@ -21,11 +21,10 @@ pub call-returns-then-number-functions : goal.call-returns-then-number-functions
 call-returns-then-number-functions t c = no_function c.args.functions.now c.args.number c.args.arguments.now c.args.state c.if-number-functions.true
 
 pub call-act_all-requires : goal.call-act_all-requires
-call-act_all-requires t c =
-    (
-      omega (arith, ap stmts_weight c.as_slice-2.ensures, function_at c.args.functions.now c.args.number c.index-functions-number.result c.if-number-functions.false c.index-functions-number.is),
-      tt,
-    )
+call-act_all-requires t c = (
+  omega (arith, ap stmts_weight c.as_slice-2.ensures, function_at c.args.functions.now c.args.number c.index-functions-number.result c.if-number-functions.false c.index-functions-number.is),
+  tt,
+)
 
 pub call-returns : goal.call-returns
 call-returns t c =
@@ -74,9 +73,10 @@ pub evaluate-returns-in-Stop : goal.evaluate-returns-in-Stop
 evaluate-returns-in-Stop t c =
     let callees = callees_of c.args.functions.now in
     let go : Onward = λ values t. callees c.in-Call.function values (cost_1 t) in
-    rw (c.in-Call.is, eval_call)
-    (ap (λ r. given r go) (sym c.in-Stop.is) ∙ c.in_ok-values-in-Call.ensures go
-    ∙ ap (λ es. in_order (map (eval callees) es) c.args.state go) c.as_slice.ensures)
+    let e : got_of c.in-Stop.got ≡ in_order (map (eval callees) c.in-Call.arguments) c.args.state go =
+    ap (λ r. given r go) (sym c.in-Stop.is) ∙ c.in_ok-values-in-Call.ensures go
+    ∙ ap (λ es. in_order (map (eval callees) es) c.args.state go) c.as_slice.ensures in
+    rw (c.in-Call.is, eval_call) e
 
 pub evaluate_all-loop-expr-init : goal.evaluate_all-loop-expr-init
 evaluate_all-loop-expr-init t c go =
