@@ -26,7 +26,6 @@ Grows pops pushes before (Trapped kind) = ⊤
 Grows pops pushes before Stuck = ⊤
 
 module _ (p q b : ℕ) where
-
   g_need : {A : Type 0} (found : Option A) (go : A → Next) → ((x : A) → Grows p q b (go x)) → Grows p q b (need found go)
   g_need None go h = tt {0}
   g_need (Some x) go h = h x
@@ -47,7 +46,6 @@ g_top p q [] go h = tt {0}
 g_top p q (v ∷ below) go h = h v below (omega arith)
 
 module _ (code : Code) (agent : AgentCode) (view : View) (m : Machine) where
-
   g_load : (cell : ℕ) (operands : List ℤ) (p q b : ℕ) → length operands + 1 + p ≡ b + q → Grows p q b (load cell operands m)
   g_load cell operands p q b e = g_need p q b (slice_get (present m).cells cell) _ (λ v. omega (arith, e))
 
@@ -74,12 +72,12 @@ module _ (code : Code) (agent : AgentCode) (view : View) (m : Machine) where
   g_jump_zero : (to : ℕ) → Grows 1 0 (length m.operands) (jump_zero code to m)
   g_jump_zero to =
       g_top 1 0 m.operands _ (λ v below e. g_if 1 0 (length m.operands) (nat_lt to (length code.instrs)) _ Stuck
-        (g_if 1 0 (length m.operands) (is_zero v) (jump to below m) (onward below m) (omega (arith, e)) (omega (arith, e))) (tt {0}))
+      (g_if 1 0 (length m.operands) (is_zero v) (jump to below m) (onward below m) (omega (arith, e)) (omega (arith, e))) (tt {0}))
 
   g_guard : (counter bound : ℕ) → Grows 1 1 (length m.operands) (guard counter bound m)
   g_guard counter bound =
       g_top 1 1 m.operands _ (λ v below e. g_need 1 1 (length m.operands) (slice_get (present m).counters counter) _ (λ turns.
-        g_if 1 1 (length m.operands) (is_zero v) _ _ refl (g_if 1 1 (length m.operands) (turns == bound) _ _ (tt {0}) refl)))
+      g_if 1 1 (length m.operands) (is_zero v) _ _ refl (g_if 1 1 (length m.operands) (turns == bound) _ _ (tt {0}) refl)))
 
   g_return : Grows 1 1 (length m.operands) (with_top m.operands (λ v rest. back_from m.calls m))
   g_return = g_top 1 1 m.operands _ (λ v below e. from m.calls)
