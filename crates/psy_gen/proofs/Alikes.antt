@@ -1,6 +1,6 @@
 -- The code of a sound unit acts as its statements.
 use Rattle.std.proofs.Common.{◌≡◌, refl, sym, ap, subst, ◌∙◌, arith}
-use Rattle.std.specs.Prelude.{ℕ, zero, suc, ◌+◌, ◌<◌, ◌≤◌, false, T, List, [], ◌∷◌, ◌++◌, map, replicate, length, slice_get, slice_index_or, Option, Some, None, ℤ}
+use Rattle.std.specs.Prelude.{ℕ, zero, suc, ◌+◌, ◌<◌, ◌≤◌, false, T, List, [], ◌∷◌, ◌++◌, map, replicate, length, slice_get, slice_index_or, Some}
 use Rattle.std.proofs.lemmas.List.{length-append, append_assoc}
 use Rattle.psy_tree.specs.declared.unit.Unit.{Unit as Whole}
 use Rattle.psy_tree.specs.declared.unit.AgentDecl.{AgentDecl}
@@ -32,6 +32,7 @@ use Rattle.psy_gen.proofs.ExprRuns.{expr_runs}
 use Rattle.psy_gen.proofs.Calls.{StandFrom, all_ready}
 use Rattle.psy_gen.proofs.Loud.{then_loud, all_loud}
 use Rattle.psy_gen.proofs.RestRuns.{body_runs, all_of-append, map-append, pieces_are}
+use Rattle.psy_gen.proofs.Basics.{default, how_many, length-replicate, got-within}
 
 -- ---- no action falls through its body
 
@@ -45,10 +46,6 @@ rest_loud unit stmts (suc n) h s t e =
     (λ u v f. all_loud callees stmts h (cost_1 u) v (ap (λ l. all_of l (cost_1 u)) (sym (pieces_are callees stmts)) ∙ f)) t (sym split ∙ e)
 
 -- ---- where the code stands
-
-abbrev how_many : {A : Type 0} → Option A → ℕ
-how_many None = 0
-how_many (Some x) = 1
 
 whole_has : (before is : List Instr) → HasAt (before ++ is) (length before) is
 whole_has before [] = tt {0}
@@ -90,10 +87,6 @@ agent_at unit whole (a ∷ rest) first p zero agent its h small e f =
     let z : first + 0 ≡ first = omega arith in
     subst (λ x. AgentAt unit whole (first + 0) x its) same
     (record { place = p; entry = sym (ap (default (agent_entry unit first a p)) f) ∙ ap (λ n. agent_entry unit n a p) (sym z); has = has-first whole.instrs p (agent_code a p) (codes_from agent_code agent_size rest (p + agent_size a)) h; small = omega (arith, small) })
-  where
-    default : {A : Type 0} → A → Option A → A
-    default d None = d
-    default d (Some x) = x
 agent_at unit whole (a ∷ rest) first p (suc number) agent its h small e f =
     let n : first + 1 + number ≡ first + suc number = omega arith in
     let rest_code = codes_from agent_code agent_size rest (p + agent_size a) in
@@ -105,19 +98,10 @@ agent_at unit whole (a ∷ rest) first p (suc number) agent its h small e f =
 slots_shape : (slots : List Slots) → map length (map (λ (s : Slots). replicate s.cells s.init) slots) ≡ map (λ (s : Slots). s.cells) slots
 slots_shape [] = refl
 slots_shape (s ∷ rest) = ap (λ n. n ∷ map length (map (λ (s : Slots). replicate s.cells s.init) rest)) (length-replicate s.cells s.init) ∙ ap (λ l. s.cells ∷ l) (slots_shape rest)
-  where
-    length-replicate : (n : ℕ) (x : ℤ) → length (replicate n x) ≡ n
-    length-replicate zero x = refl
-    length-replicate (suc n) x = ap suc (length-replicate n x)
 
 copies_same : (copies : List Copy) → map copy_from (map (λ (c : Copy). record { variable = c.variable; init = c.value }) copies) ≡ copies
 copies_same [] = refl
 copies_same (c ∷ rest) = ap (λ l. c ∷ l) (copies_same rest)
-
-got-within : (xs : List ℕ) (i : ℕ) → i < length xs → (x : ℕ) × (slice_get xs i ≡ Some x)
-got-within [] i h = absurd (omega (arith, h))
-got-within (y ∷ ys) zero h = (y, refl)
-got-within (y ∷ ys) (suc i) h = got-within ys i (omega (arith, h))
 
 module _ (unit : Whole) (whole : Code) (number : ℕ) (agent : AgentDecl) (its : AgentCode) (sound : IsSoundUnit unit) (here : AgentAt unit whole number agent its) (stand : StandFrom whole its 0 unit.functions) (own : IsSoundAgent unit number agent) where
   abbrev sc : Scope

@@ -1,7 +1,7 @@
 -- The code of a function acts as the function.
 use Rattle.std.proofs.Common.{◌≡◌, refl, sym, ap, subst, ◌∙◌, inl, inr, arith}
 use mathlib.Core.Logic.{⊎_elim}
-use Rattle.std.specs.Prelude.{ℕ, zero, suc, ◌+◌, ◌<◌, ◌≤◌, ◌==◌, max, nat_le, Bool, true, false, List, [], ◌∷◌, ◌++◌, map, reverse, take, drop, replicate, length, slice_get, slice_index_or, Option, Some, None, ℤ, pos, ⊤, ◌⊎◌}
+use Rattle.std.specs.Prelude.{ℕ, zero, suc, ◌+◌, ◌<◌, ◌≤◌, ◌==◌, max, nat_le, Bool, true, false, List, [], ◌∷◌, ◌++◌, map, reverse, take, drop, replicate, length, slice_get, slice_index_or, Option, Some, ℤ, pos, ⊤, ◌⊎◌}
 use Rattle.std.proofs.lemmas.List.{length-append, append-nil, append_assoc}
 use Rattle.std.proofs.Math.Seq.{take-append_seam, drop-append_seam}
 use Rattle.psy_tree.specs.declared.unit.FunctionDecl.{FunctionDecl}
@@ -22,6 +22,7 @@ use Rattle.psy_gen.proofs.Contexts.{Context, Home, Inside, Room, roomy, has_room
 use Rattle.psy_gen.proofs.ExprRuns.{pushed, CallsRun, expr_runs}
 use Rattle.psy_gen.proofs.StmtRuns.{all_runs, all_sized}
 use Rattle.psy_gen.proofs.Outcomes.{After, size_is}
+use Rattle.psy_gen.proofs.Basics.{some_is, no_some, length-replicate}
 
 -- ---- arguments on the stack
 
@@ -37,14 +38,10 @@ twice : (vs a b : List ℤ) → pushed (pushed vs a) b ≡ pushed a (vs ++ b)
 twice [] a b = refl
 twice (v ∷ vs) a b = twice vs (v ∷ a) b
 
-nil : (vs : List ℤ) → vs ++ [] ≡ vs
-nil [] = refl
-nil (v ∷ vs) = ap (λ l. v ∷ l) (nil vs)
-
 front : (vs operands : List ℤ) → reverse (take (length vs) (pushed vs operands)) ≡ vs
 front vs operands =
     let e : length vs ≡ length (pushed vs []) = omega (arith, pushed_length vs []) in
-    ap (λ n. reverse (take n (pushed vs operands))) e ∙ ap (λ l. reverse (take (length (pushed vs [])) l)) (pushed_onto vs [] operands) ∙ ap reverse (take-append_seam (pushed vs []) operands) ∙ twice vs [] [] ∙ nil vs
+    ap (λ n. reverse (take n (pushed vs operands))) e ∙ ap (λ l. reverse (take (length (pushed vs [])) l)) (pushed_onto vs [] operands) ∙ ap reverse (take-append_seam (pushed vs []) operands) ∙ twice vs [] [] ∙ append-nil vs
 
 rest : (vs operands : List ℤ) → drop (length vs) (pushed vs operands) ≡ operands
 rest vs operands =
@@ -59,27 +56,9 @@ lengths_single : (xs : List ℤ) → map length (map (λ v. v ∷ []) xs) ≡ re
 lengths_single [] = refl
 lengths_single (x ∷ xs) = ap (λ l. 1 ∷ l) (lengths_single xs)
 
-length-replicate : (n x : ℕ) → length (replicate n x) ≡ n
-length-replicate zero x = refl
-length-replicate (suc n) x = ap suc (length-replicate n x)
-
 total-replicate : (n : ℕ) → total (replicate n 1) ≡ n
 total-replicate zero = refl
 total-replicate (suc n) = omega (arith, total-replicate n)
-
-abbrev default : {A : Type 0} → A → Option A → A
-default d None = d
-default d (Some x) = x
-
-some_is : {A : Type 0} (x y : A) → Some x ≡ Some y → x ≡ y
-some_is x y e = ap (default x) e
-
-no_some : {A B : Type 0} (x : A) → None ≡ Some x → B
-no_some {A} x e = absurd (omega (arith, ap counted e))
-  where
-    counted : Option A → ℕ
-    counted None = 0
-    counted (Some y) = 1
 
 module _ (whole : Code) (its : AgentCode) where
   -- The functions that are known so far do what they mean, in each context.
@@ -115,7 +94,7 @@ module _ (whole : Code) (its : AgentCode) where
         (expr_runs whole its (scope_of sc) (inner k s counters p) callees depths (length fs) (ready (inner k s counters p) (scope_of sc) refl) (λ variable has. no_some variable has.1))
         (λ variable has. no_some variable has.1) (λ e. (home_in k s.store counters, copies_in k s.store, p + 1, calls_in k s.store counters, refl)) (λ point less. absurd (omega (arith, less)))
         decl.stmts (sound sc.depths sc.streams) 0 place operands first_counters (begun arguments s) (has-first whole.instrs place (stmts_code (function_layout decl) decl.stmts 0 place) (instr.Push (pos 0) ∷ (instr.Return ∷ [])) h)
-        (omega (arith, small)) (omega arith) (length-replicate (loops_in decl.stmts) 0)
+        (omega (arith, small)) (omega arith) (length-replicate {A = ℕ} (loops_in decl.stmts) 0)
         (record { slots = lengths_single (arguments ++ decl.locals) ∙ ap (λ n. replicate n 1) (length-append arguments decl.locals ∙ omega (arith, params)); copies = refl; pasts = shape.pasts; streams = shape.streams }) room
 
     -- ---- back in the caller
@@ -154,7 +133,7 @@ module _ (whole : Code) (its : AgentCode) where
       refl,
       (let b = back_shape sc s t shape inside in record { slots = b.slots; copies = b.copies; pasts = b.pasts; streams = b.streams }),
       after whole its start (at (inner k s counters p) q operands t now) (at k (p + 1) (pos 0 ∷ operands) (cost_1 (cost_1 (in_store s.store t))) counters) leads
-          (zero_leads k sc s t counters now p q operands push back inside (keeps.count ∙ length-replicate (loops_in decl.stmts) 0) room outside),
+          (zero_leads k sc s t counters now p q operands push back inside (keeps.count ∙ length-replicate {A = ℕ} (loops_in decl.stmts) 0) room outside),
     )
     back_got k sc s counters p q operands start (Returns v t) push back shape room outside (inside, leads) = (refl, back_shape sc s t shape inside, leads)
     back_got k sc s counters p q operands start (Halts final) push back shape room outside g = halts_back k sc s counters p start final g
@@ -200,7 +179,7 @@ module _ (whole : Code) (its : AgentCode) where
         let first = by_one whole its (at k p (pushed arguments operands) s counters) start
         (went whole its (at k p (pushed arguments operands) s counters) (instr.Call number) (machine_in j place operands (frame_of decl arguments) first_counters) here (call_goes k s counters number p place arguments operands stands.entry params)
         (has_room_by its (machine_in j place operands (frame_of decl arguments) first_counters) (omega (arith, inside.stack))
-        (omega (arith, room.frames, cells_used k s.store counters, ap length (joined_single (arguments ++ decl.locals)), length-append arguments decl.locals, params, length-replicate (loops_in decl.stmts) 0)) (omega (arith, room.calls, depth_used k s.store counters)))) in
+        (omega (arith, room.frames, cells_used k s.store counters, ap length (joined_single (arguments ++ decl.locals)), length-append arguments decl.locals, params, length-replicate {A = ℕ} (loops_in decl.stmts) 0)) (omega (arith, room.calls, depth_used k s.store counters)))) in
         got_leads whole its sc k (p + 1) operands counters s (at k p (pushed arguments operands) s counters) start (callee callees decl arguments (cost_1 s)) first
         (back_got k sc s counters p q operands start (acts_by callees decl.stmts (begun arguments s)) body.0 body.1.0 shape
         (record { stack = omega (arith, inside.stack); frames = omega (arith, inside.frames); calls = inside.calls })

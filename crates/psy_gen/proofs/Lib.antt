@@ -1,7 +1,8 @@
 mod Alikes
+mod Basics
 mod Calls
-mod Counts
 mod Contexts
+mod Counts
 mod ExprRuns
 mod Leads
 mod Lengths

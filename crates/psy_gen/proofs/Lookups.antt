@@ -10,20 +10,7 @@ use Rattle.psy_meaning.specs.States.{Store, cells_at, value_at, copy_at, or_zero
 use Rattle.psy_meaning.specs.Expressions.{or_none, messages_at}
 use Rattle.psy_gen.specs.Emission.{base_of}
 use Rattle.psy_gen.proofs.Contexts.{joined}
-
-abbrev default : {A : Type 0} → A → Option A → A
-default d None = d
-default d (Some x) = x
-
-some_is : {A : Type 0} (x y : A) → Some x ≡ Some y → x ≡ y
-some_is x y e = ap (default x) e
-
-no_some : {A B : Type 0} (x : A) → None ≡ Some x → B
-no_some {A} x e = absurd (omega (arith, ap counted e))
-  where
-    counted : Option A → ℕ
-    counted None = 0
-    counted (Some y) = 1
+use Rattle.psy_gen.proofs.Basics.{some_is, no_some}
 
 -- an element in front of others, and behind them
 get-front : (xs ys : List ℤ) (j : ℕ) → j < length xs → slice_get (xs ++ ys) j ≡ Some (slice_index_or xs j (pos 0))

@@ -1,6 +1,6 @@
 -- Statements of which no path is quiet don't fall through.
 use Rattle.std.proofs.Common.{◌≡◌, refl, sym, subst, ◌∙◌}
-use Rattle.std.specs.Prelude.{ℕ, Bool, true, false, ◌&&◌, ◌||◌, T, if◌then◌else◌, List, [], ◌∷◌, map, Some, None, ℤ, ⊤}
+use Rattle.std.specs.Prelude.{ℕ, Bool, true, false, ◌&&◌, if◌then◌else◌, List, [], ◌∷◌, map, Some, None, ℤ, ⊤}
 use Rattle.psy_arith.specs.Operators.{is_zero}
 use Rattle.psy_tree.specs.declared.unit.Stmt.{Stmt, roll-Stmt, fold-roll-Stmt, map-Stmt, ind-Stmt}
 use Rattle.psy_tree.specs.declared.unit.Stmt.TheOpen.{Stmt-F}
@@ -8,6 +8,7 @@ use Rattle.psy_meaning.specs.States.{State, Final, Got, Value, Stops, Outcome, F
 use Rattle.psy_meaning.specs.Expressions.{eval}
 use Rattle.psy_meaning.specs.Statements.{all_of, choose, hop, stmt_step, act_by}
 use Rattle.psy_meaning.specs.Paths.{all_quiet, quiet_step, quiet, quiet_list}
+use Rattle.psy_gen.proofs.Basics.{differ, or_false}
 
 abbrev falls : Outcome → Type 0
 falls (Falls s) = ⊤
@@ -43,14 +44,6 @@ choice_loud false o p g h t e = h t e
 
 choose_loud : (test : Eval) (holds fails : Act) → Loud holds → Loud fails → Loud (choose test holds fails)
 choose_loud test holds fails g h s t e = value_loud (test s) _ (λ v u. choice_loud (is_zero v) (fails (cost_1 u)) (holds (cost_1 u)) (h (cost_1 u)) (g (cost_1 u))) t e
-
-differ : {A : Type 0} → true ≡ false → A
-differ h = elim (subst T h (tt {0})) [ ]
-
-or_false : (a b : Bool) → (a || b) ≡ false → (a ≡ false) × (b ≡ false)
-or_false false false h = (refl, refl)
-or_false false true h = differ h
-or_false true b h = differ h
 
 on_loud : (a b : Bool) (first rest : Act) → (a ≡ false → Loud first) → (b ≡ false → Loud rest) → (a && b) ≡ false → Loud (λ s. then_do (first s) rest)
 on_loud true b first rest p q h s t e = then_loud (first s) rest (q h) t e

@@ -1,6 +1,6 @@
 -- Statements without an `advance` have no rests and no places behind one.
 use Rattle.std.proofs.Common.{◌≡◌, refl, sym, ap, subst, ◌∙◌}
-use Rattle.std.specs.Prelude.{ℕ, ◌+◌, Bool, true, false, ◌||◌, T, List, [], ◌∷◌, ◌++◌, map, Some, None}
+use Rattle.std.specs.Prelude.{ℕ, ◌+◌, Bool, true, false, List, [], ◌∷◌, ◌++◌, map, Some, None}
 use Rattle.std.specs.List.{list_any}
 use Rattle.psy_tree.specs.declared.unit.Stmt.{Stmt, roll-Stmt, fold-roll-Stmt, para-roll-Stmt, map-Stmt, ind-Stmt}
 use Rattle.psy_tree.specs.declared.unit.Stmt.TheOpen.{Stmt-F}
@@ -9,14 +9,7 @@ use Rattle.psy_meaning.specs.Paths.{one_of, holds_step, holds, holds_advance}
 use Rattle.psy_meaning.specs.Statements.{Do, Hop}
 use Rattle.psy_meaning.specs.Rest.{Rests, Part, each_then, pieces_of, stmts_in, rests_in, rests_step, rests_of, with_rests}
 use Rattle.psy_gen.specs.Emission.{Places, Placed, places_in, placed_size, places_step, places_of}
-
-differ : {A : Type 0} → true ≡ false → A
-differ h = elim (subst T h (tt {0})) [ ]
-
-or_false : (a b : Bool) → (a || b) ≡ false → (a ≡ false) × (b ≡ false)
-or_false false false h = (refl, refl)
-or_false false true h = differ h
-or_false true b h = differ h
+use Rattle.psy_gen.proofs.Basics.{differ, or_false}
 
 abbrev Q : Stmt → Type 0
 Q stmt = holds true false stmt ≡ false → (rests_of stmt ≡ []) × ((p : ℕ) → places_of stmt p ≡ [])

@@ -29,7 +29,8 @@ use Rattle.psy_gen.proofs.Lookups.{cells_are, copy_is, got_is, index_small, cell
 use Rattle.psy_gen.proofs.Loud.{all_loud}
 use Rattle.psy_gen.proofs.Steps.{traps}
 use Rattle.psy_gen.proofs.ExprRuns.{Runs, Sized, len-one}
-use Rattle.psy_gen.proofs.Outcomes.{Keeps, keeps_same, returned, LeadsTo, After, after_leads, after_at, after_keeps, after_any, value_after, then_after, then_down, step_to, size_is, counter_in, store_goes, zero_goes, guard_is, keeps_set, get-set, got-within}
+use Rattle.psy_gen.proofs.Outcomes.{Keeps, keeps_same, returned, LeadsTo, After, after_leads, after_at, after_keeps, after_any, value_after, then_after, then_down, step_to, size_is, counter_in, store_goes, zero_goes, guard_is, keeps_set, get-set}
+use Rattle.psy_gen.proofs.Basics.{got-within}
 
 each-map : {X : Type 0} (v : X → Stmt) (f : Stmt → Type 0) (xs : List X) → Each (λ x. f (v x)) xs ≡ Each f (map v xs)
 each-map v f [] = refl
