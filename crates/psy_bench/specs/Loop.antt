@@ -1,5 +1,5 @@
 -- The code of a loop, and how its machine stands at each of its places.
-use Rattle.std.specs.Prelude.{◌≡◌, ℕ, ◌≤◌, List, [], ◌∷◌, None, ℤ, pos, ⊤}
+use Rattle.std.specs.Prelude.{◌≡◌, ℕ, ◌≤◌, List, [], ◌∷◌, Option, Some, None, ℤ, pos, ⊤}
 use Rattle.psy_code.specs.declared.code.Code.{Code}
 use Rattle.psy_code.specs.declared.code.AgentCode.{AgentCode}
 use Rattle.psy_code.specs.declared.code.CopyInit.{CopyInit}
@@ -9,7 +9,9 @@ use Rattle.psy_code.specs.declared.instr.Instr.{Instr}
 use Rattle.psy_code.specs.declared.instr.Instr.TheVariants as instr
 use Rattle.psy_code.specs.Execution.{Machine, OpenCall, Next, Went, Ended, Trapped, Stuck}
 use Rattle.psy_code.specs.Views.{Window}
+use Rattle.psy_code.specs.declared.look.Sent.{Sent}
 use Rattle.psy_machine.specs.Stepping.{AgentMachine}
+use Rattle.psy_bench.specs.declared.still.Still.{Still}
 
 abbrev pub instrs : List Instr
 instrs =
@@ -39,9 +41,21 @@ function_code = record { entry = 27; params = 1; locals = pos 5 ∷ []; counters
 abbrev pub loop_code : Code
 loop_code = record { instrs = instrs; agents = agent_code ∷ []; functions = function_code ∷ [] }
 
--- Nothing is visible, and nothing can be sent.
-abbrev pub dark : Window
-dark = record { view = record { pasts = []; messages = [] }; streams = 0; clocks = 0; room = 0; sends = []; noted = None }
+-- One send, where there is one.
+abbrev pub all_sent : Option Sent → List Sent
+all_sent None = []
+all_sent (Some sent) = sent ∷ []
+
+-- One variable with one value, and one stream without a message; one send finds room.
+abbrev pub seen : Still → Window
+seen still = record {
+  view = record { pasts = (still.published ∷ []) ∷ []; messages = Some [] ∷ [] };
+  streams = 1;
+  clocks = 1;
+  room = 1;
+  sends = all_sent still.sent;
+  noted = still.noted;
+}
 
 -- ---- the machine at each place
 

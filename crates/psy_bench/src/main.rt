@@ -5,20 +5,20 @@
 ghost use Rattle.std.specs.Prelude.{◌≡◌};
 ghost use Rattle.psy_bench.specs.Loop.{IsLoop, loop_code};
 
-mod dark;
 mod looping;
+mod still;
 
-use dark::Dark;
 use psy_base::Memory;
 use psy_code::Code;
 use psy_machine::{Machine, Step};
 use std::env;
 use std::process::ExitCode;
 use std::rt::Env;
+use still::Still;
 
 /// One instruction of the loop.
 #[inline(always)]
-fn step(machine: &mut Machine, code: &Code, look: &mut Dark) -> Step
+fn step(machine: &mut Machine, code: &Code, look: &mut Still) -> Step
     requires code { code.now ≡ loop_code }
     requires stands { IsLoop machine.old }
     ensures { IsLoop machine.new }
@@ -33,7 +33,11 @@ fn actions_within(steps: u64, machine: &mut Machine, code: &Code) -> u64
     requires stands { IsLoop machine.old }
     ensures { IsLoop machine.new }
 {
-    let mut look = Dark;
+    let mut look = Still {
+        published: 0,
+        noted: None,
+        sent: None,
+    };
     let mut actions: u64 = 0;
     for _ in 0..steps {
         if let Step::Ended(_) = step(machine, code, &mut look) {

@@ -1,5 +1,5 @@
 use Rattle.std.proofs.Common.{subst, sym}
-use Rattle.psy_bench.specs.Loop.{IsLoop, dark}
+use Rattle.psy_bench.specs.Loop.{IsLoop, seen}
 use Rattle.psy_bench.proofs.Stepping.{is_of, able, kept}
 use Rattle.psy_bench.proofs.step.Goals as goal
 
@@ -7,7 +7,7 @@ pub step-requires-clause-of : goal.step-requires-clause-of
 step-requires-clause-of c = is_of _ _ c.requires.code c.requires.stands
 
 pub step-requires-clause-able : goal.step-requires-clause-able
-step-requires-clause-able c = able _ dark.view _ c.requires.code c.requires.stands
+step-requires-clause-able c = able _ (seen c.args.look.old).view _ c.requires.code c.requires.stands
 
 pub returns : goal.returns
-returns c = subst IsLoop (sym c.step.ensures.machine) (kept _ dark.view _ c.requires.code c.requires.stands)
+returns c = subst IsLoop (sym c.step.ensures.machine) (kept _ (seen c.args.look.old).view _ c.requires.code c.requires.stands)
