@@ -7,7 +7,7 @@ pub step-requires-clause-of : goal.step-requires-clause-of
 step-requires-clause-of c = is_of _ _ c.requires.code c.requires.stands
 
 pub step-requires-clause-able : goal.step-requires-clause-able
-step-requires-clause-able c = able _ (seen c.args.look.old).view _ c.requires.code c.requires.stands
+step-requires-clause-able c = able _ (seen c.args.look.now).view _ c.requires.code c.requires.stands
 
 pub returns : goal.returns
-returns c = subst IsLoop (sym c.step.ensures.machine) (kept _ (seen c.args.look.old).view _ c.requires.code c.requires.stands)
+returns c = subst IsLoop (sym c.step.ensures.machine) (kept _ (seen c.args.look.now).view _ c.requires.code c.requires.stands)
