@@ -1,0 +1,5 @@
+mod Capped
+mod Lists
+mod Rows
+mod Sizes
+mod Uncapped
