@@ -12,6 +12,7 @@ use Rattle.psy_arith.specs.declared.operators.Op2.TheVariants as two
 abbrev pub truth : Bool → ℤ
 truth b = if b then pos 1 else pos 0
 
+-- The value is 0.
 abbrev pub is_zero : ℤ → Bool
 is_zero (pos zero) = true
 is_zero _ = false

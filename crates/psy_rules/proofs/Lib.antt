@@ -6,6 +6,7 @@ pub mod Twice
 pub mod Items
 pub mod Program
 pub mod LeastFaults
+pub mod Verdicts
 pub mod Reach
 pub mod Lowering
 pub mod Counting

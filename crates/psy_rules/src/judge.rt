@@ -1,9 +1,9 @@
 //! The faults of a program's declarations.
 
-ghost use Rattle.std.specs.Prelude.{◌≡◌, ◌+◌, ◌≤◌, ◌^◌, ◌||◌, ◌++◌, ◌∷◌, [], ℕ, Bool, List, Some, None, map, take, length, slice_get, IfOk, OnOk, is_some};
+ghost use Rattle.std.specs.Prelude.{◌≡◌, ◌+◌, ◌≤◌, ◌^◌, ◌||◌, ◌++◌, ◌∷◌, [], ℕ, Bool, false, List, Some, None, map, take, length, slice_get, IfOk, OnOk, is_some};
 ghost use Rattle.std.specs.List.{list_any};
 ghost use Rattle.std.specs.Str.{bytes_eq};
-ghost use Rattle.psy_tree.specs.Scope.{Site, slots_of, own_slots, own_item, item_entries, first_named};
+ghost use Rattle.psy_tree.specs.Scope.{Site, slots_of, own_slots, own_item, item_entries, first_named, stands_globally};
 ghost use Rattle.psy_tree.specs.Places as places;
 ghost use Rattle.psy_tree.specs.Rules as rules;
 ghost use Rattle.psy_rules.specs.Tables.{StandsFor, HasInner, is_inner, slot_names as names_of};
@@ -12,12 +12,13 @@ ghost use Rattle.psy_rules.specs.Judged.{judged, judged_all, judged_sited};
 ghost use Rattle.psy_rules.specs.Finding as finding;
 ghost use Rattle.psy_rules.specs.Clocks.{AreClocks};
 ghost use Rattle.psy_rules.specs.Slots.{locals_in};
+ghost use Rattle.psy_rules.specs.Verdict.{Verdict};
 ghost use Rattle.psy_rules.specs.Heads.{after_name, name_places};
 
 use crate::clocks::{is_bad_clock, sound};
 use crate::least::Least;
 use crate::names::Names;
-use crate::scope::Scope;
+use crate::scope::{Scope, is_up_to};
 use crate::slots::{item_name, slot_names, slot_table};
 use crate::uses::{judge_range, judge_use};
 use crate::walk::walk_stmts;
@@ -32,15 +33,6 @@ fn item_below(found: Option<Found>, limit: usize) -> bool
 {
     match found {
         Some(Found::Item(k)) => k < limit,
-        _ => false,
-    }
-}
-
-fn item_up_to(found: Option<Found>, limit: usize) -> bool
-    ensures { result ≡ finding.up_to limit found }
-{
-    match found {
-        Some(Found::Item(k)) => k <= limit,
         _ => false,
     }
 }
@@ -139,13 +131,19 @@ fn judge_slots(scope: &Scope<'_>, names: &[&Name], least: &mut Least)
     }
 }
 
+/// A declaration up to this one has the name, or one of the first `k` inside it.
+fn is_slot_twice(scope: &Scope<'_>, k: usize, name: &Name) -> bool
+    requires { IsScope scope.now }
+    ensures { result ≡ (finding.up_to scope.now.at (stands_globally scope.now.items.now name.now.text) || finding.slot_below k (first_named name.now.text scope.now.slots.now)) }
+{
+    is_up_to(scope.global(&name.text), scope.at) || slot_below(scope.slots.first(&name.text), k)
+}
+
 fn judge_slot(scope: &Scope<'_>, k: usize, name: &Name, least: &mut Least)
     requires scope { IsScope scope.now }
     ensures { least.new.fault ≡ judged (site_of scope.now) (places.NamesSlot k name.now) least.old.fault }
 {
-    let above = item_up_to(scope.global(&name.text), scope.at);
-    let earlier = slot_below(scope.slots.first(&name.text), k);
-    least.note(either(above, earlier), RuleKind::Twice, name.token);
+    least.note(is_slot_twice(scope, k, name), RuleKind::Twice, name.token);
 }
 
 fn judge_cells(locals: &[Local], least: &mut Least)
@@ -206,67 +204,53 @@ fn add_inner(alloc: Global, inner: &mut Names, names: &[&Name]) -> Result<(), Me
     Ok(())
 }
 
-/// Notes a name that stands for something else already.
-fn judge_name(
-    items: &[Item],
-    globals: &Names,
-    inner: &Names,
-    at: usize,
-    name: &Name,
-    least: &mut Least,
-)
-    requires table { StandsFor globals.now (item_entries 0 items.now) }
-    requires inner { HasInner inner.now (take at items.now) }
-    ensures { (inside : Bool) → least.new.fault ≡ judged (record { items = items.now; at = at; inside = inside }) (places.NamesItem name.now) least.old.fault }
+/// A declaration above has the name, or one inside those above.
+fn is_item_twice(scope: &Scope<'_>, inner: &Names, name: &Name) -> bool
+    ensures { result ≡ (finding.item_below scope.now.at (first_named name.now.text scope.now.globals.now) || is_some (first_named name.now.text inner.now)) }
 {
-    let above = item_below(globals.first(&name.text), at);
-    let inside = inner.first(&name.text).is_some();
-    least.note(either(above, inside), RuleKind::Twice, name.token);
+    item_below(scope.globals.first(&name.text), scope.at) || inner.first(&name.text).is_some()
 }
 
-fn either(a: bool, b: bool) -> bool
-    ensures { result ≡ (a || b) }
+/// Notes a declaration's name that stands for something else already.
+fn judge_name(scope: &Scope<'_>, inner: &Names, name: &Name, least: &mut Least)
+    requires scope { IsScope scope.now }
+    requires inner { HasInner inner.now (take scope.now.at scope.now.items.now) }
+    ensures { least.new.fault ≡ judged (site_of scope.now) (places.NamesItem name.now) least.old.fault }
 {
-    a || b
+    least.note(
+        is_item_twice(scope, inner, name),
+        RuleKind::Twice,
+        name.token,
+    );
 }
 
-/// Notes what is wrong with a declaration, given the sound clocks above and the names inside those above.
+/// Notes what is wrong with a declaration, given the scope of its head, the sound clocks above it and the
+/// names inside those above it.
 fn judge_item(
     alloc: Global,
-    items: &[Item],
-    globals: &Names,
+    head: &Scope<'_>,
     known: &[Option<Clock>],
     inner: &mut Names,
-    at: usize,
     item: &Item,
     least: &mut Least,
 ) -> Result<(), Memory>
-    requires table { StandsFor globals.now (item_entries 0 items.now) }
-    requires known { known.now ≡ rules.sound_clocks items.now at }
+    requires scope { IsScope head.now }
+    requires outside { head.now.inside ≡ false }
+    requires known { known.now ≡ rules.sound_clocks head.now.items.now head.now.at }
     requires clocks { AreClocks known.now }
-    requires own { slice_get items.now at ≡ Some item.now }
-    requires inner { HasInner inner.old (take at items.now) }
-    ensures least { OnOk result (least.new.fault ≡ judged_sited (places.item_places items.now at item.now) least.old.fault) }
-    ensures inner { OnOk result (HasInner inner.new (take (at + 1) items.now)) }
+    requires own { slice_get head.now.items.now head.now.at ≡ Some item.now }
+    requires inner { HasInner inner.old (take head.now.at head.now.items.now) }
+    ensures least { OnOk result (least.new.fault ≡ judged_sited (places.item_places head.now.items.now head.now.at item.now) least.old.fault) }
+    ensures inner { OnOk result (HasInner inner.new (take (head.now.at + 1) head.now.items.now)) }
 {
-    judge_name(items, globals, inner, at, item_name(item), least);
-    let none = Names::new(alloc);
-    let head = Scope {
-        items,
-        at,
-        inside: false,
-        globals,
-        slots: &none,
-    };
-    judge_head(&head, known, item, least);
+    judge_name(head, inner, item_name(item), least);
+    judge_head(head, known, item, least);
     let names = slot_names(alloc, item)?;
     let table = slot_table(alloc, names.as_slice())?;
     let body = Scope {
-        items,
-        at,
         inside: true,
-        globals,
         slots: &table,
+        ..*head
     };
     judge_slots(&body, names.as_slice(), least);
     judge_body(&body, item, least);
@@ -284,7 +268,7 @@ pub struct Judged {
 /// Judges a whole program.
 pub fn judge(alloc: Global, raw: &Raw, globals: &Names) -> Result<Judged, Memory>
     requires { StandsFor globals.now (item_entries 0 raw.now.items) }
-    ensures least { IfOk result (λ j. j.least.fault ≡ judged_sited (places.places raw.now) None) }
+    ensures least { IfOk result (λ j. Verdict raw.now j.least.fault) }
     ensures clocks { IfOk result (λ j. j.clocks.items ≡ rules.sound_clocks raw.now.items (length raw.now.items)) }
 {
     let items = raw.items.as_slice();
@@ -292,14 +276,20 @@ pub fn judge(alloc: Global, raw: &Raw, globals: &Names) -> Result<Judged, Memory
     judge_range(raw.quantum, 1, 1_000_000, &mut least);
     let mut clocks: Vec<Option<Clock>> = Vec::new(alloc);
     let mut inner = Names::new(alloc);
+    let none = Names::new(alloc);
     for (at, item) in items.iter().enumerate() {
+        let head = Scope {
+            items,
+            at,
+            inside: false,
+            globals,
+            slots: &none,
+        };
         judge_item(
             alloc,
-            items,
-            globals,
+            &head,
             clocks.as_slice(),
             &mut inner,
-            at,
             item,
             &mut least,
         )?;

@@ -1,5 +1,4 @@
 ghost use Rattle.std.specs.Prelude.{◌≡◌};
-ghost use Rattle.psy_tree.specs.Rules.{number_of};
 ghost use Rattle.psy_rules.specs.Judged.{is_before, noted};
 
 use psy_tree::RuleKind;
@@ -9,26 +8,6 @@ use psy_tree::RuleKind;
 pub struct Fault {
     pub kind: RuleKind,
     pub token: u32,
-}
-
-/// The number of a kind, from 1 to 12.
-fn number(kind: RuleKind) -> u32
-    ensures { result ≡ number_of kind }
-{
-    match kind {
-        RuleKind::Twice => 1,
-        RuleKind::Unknown => 2,
-        RuleKind::WrongKind => 3,
-        RuleKind::NotOwner => 4,
-        RuleKind::NotReceiver => 5,
-        RuleKind::TooDeep => 6,
-        RuleKind::NoMax => 7,
-        RuleKind::MixedLoop => 8,
-        RuleKind::NoAdvance => 9,
-        RuleKind::CallsDown => 10,
-        RuleKind::BadClock => 11,
-        RuleKind::BadNumber => 12,
-    }
 }
 
 /// The least of the faults that were noted, by token and then by number.
@@ -55,7 +34,7 @@ impl Least {
         match self.fault {
             None => true,
             Some(least) => {
-                token < least.token || (token == least.token && number(kind) < number(least.kind))
+                token < least.token || (token == least.token && kind.number() < least.kind.number())
             }
         }
     }

@@ -6,6 +6,7 @@ mod counts;
 mod declarations;
 mod expressions;
 mod judge;
+mod law;
 mod least;
 mod names;
 mod numbers;
@@ -18,4 +19,5 @@ mod tests;
 mod uses;
 mod walk;
 
+pub use law::one_verdict;
 pub use resolution::{RuleFault, resolve};

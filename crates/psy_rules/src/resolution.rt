@@ -1,22 +1,18 @@
 ghost use Rattle.std.specs.Prelude.{◌≡◌, None, length, option_to_list, IfOk, IfErr};
 ghost use Rattle.std.specs.List.{flat_map};
-ghost use Rattle.psy_tree.specs.Places.{places};
-ghost use Rattle.psy_rules.specs.Judged.{judged_sited};
 ghost use Rattle.psy_tree.specs.Scope.{item_entries};
 ghost use Rattle.psy_tree.specs.Rules.{NoFault, sound_clocks};
 ghost use Rattle.psy_tree.specs.Stands.{Stands, unit_of, first_passed as first_passed_of};
 ghost use Rattle.psy_rules.specs.Tables.{StandsFor};
 ghost use Rattle.psy_rules.specs.Numbering.{AreNumbers};
 ghost use Rattle.psy_rules.specs.Lowered.{IsProgram};
-ghost use Rattle.psy_rules.specs.Verdict.{Verdict};
 ghost use Rattle.psy_rules.specs.Cause.{IsCause};
 ghost use Rattle.psy_rules.specs.declared.resolution.RuleFault.TheVariants as fault;
 ghost use Rattle.psy_tree.specs.declared.unit.Unit.{Unit as Whole};
 
 use crate::counts::first_passed;
 use crate::declarations::{Program, agents, clock_names, functions, streams, variables};
-use crate::judge::{Judged, judge};
-use crate::least::Fault;
+use crate::judge::judge;
 use crate::names::Names;
 use crate::numbers::{Before, numbers};
 use crate::slots::item_table;
@@ -62,15 +58,6 @@ fn clocks(alloc: Global, known: &[Option<Clock>]) -> Result<Items<Clock>, Memory
         }
     }
     Ok(clocks)
-}
-
-/// The least fault of a program that was judged.
-fn verdict(raw: &Raw, judged: &Judged) -> Option<Fault>
-    requires { judged.now.least.fault ≡ judged_sited (places raw.now) None }
-    ensures { Verdict raw.now result }
-{
-    let _raw = raw;
-    judged.least.fault
 }
 
 /// The declarations of a program without a fault that keeps the limits.
@@ -126,7 +113,7 @@ pub fn resolve(alloc: Global, raw: &Raw) -> Result<Unit, RuleFault>
     let items = raw.items.as_slice();
     let globals = item_table(alloc, items)?;
     let judged = judge(alloc, raw, &globals)?;
-    if let Some(fault) = verdict(raw, &judged) {
+    if let Some(fault) = judged.least.fault {
         return Err(RuleFault::Rule {
             kind: fault.kind,
             token: fault.token,

@@ -88,15 +88,12 @@ impl Scope<'_> {
     pub fn slot_is_array(&self, array: bool, k: usize) -> bool
         ensures { result ≡ rules.slot_is_array array (slice_get (own_slots (site_of self.now)) k) }
     {
-        match self.slot_array(k) {
-            None => false,
-            Some(found) => { if found { array } else { !array } }
-        }
+        self.slot_array(k) == Some(array)
     }
 }
 
 /// A declaration of the program up to number `at`.
-fn is_up_to(found: Option<Found>, at: usize) -> bool
+pub fn is_up_to(found: Option<Found>, at: usize) -> bool
     ensures { result ≡ up_to at found }
 {
     match found {

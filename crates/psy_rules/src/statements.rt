@@ -1,7 +1,8 @@
 //! Statements with numbers for names.
 
-ghost use Rattle.std.specs.Prelude.{◌≡◌, ◌+◌, ◌≤◌, length, IfOk, OnOk};
+ghost use Rattle.std.specs.Prelude.{◌≡◌, ◌+◌, ◌≤◌, ◌++◌, ◌∷◌, [], length, IfOk, OnOk};
 ghost use Rattle.psy_tree.specs.Scope.{stands_for};
+ghost use Rattle.psy_tree.specs.Rules.{is_clock};
 ghost use Rattle.psy_tree.specs.Paths as paths;
 ghost use Rattle.psy_tree.specs.Stands as stands;
 ghost use Rattle.psy_rules.specs.Lowered.{site, IsNumbered};
@@ -38,6 +39,28 @@ fn budget_of(numbered: &Numbered<'_>, budget: Option<Lit>) -> u32
         None => numbered.budget,
         Some(budget) => budget.value,
     }
+}
+
+/// An `advance`; its point is added.
+fn advance_stmt(
+    numbered: &Numbered<'_>,
+    count: Lit,
+    clock: &Name,
+    budget: Option<Lit>,
+    points: &mut Items<Point>,
+) -> Result<Stmt, Memory>
+    requires numbered { IsNumbered numbered.now }
+    requires room { length points.old ≤ 256 }
+    ensures stmt { IfOk result (λ s. s ≡ Stmt.Advance (length points.old)) }
+    ensures points { OnOk result (points.new ≡ points.old ++ record { count = count.value; clock = stands.number_at is_clock (site numbered.now) clock.now; budget = stands.budget_of (site numbered.now) budget } ∷ []) }
+{
+    let number = points.len() as u32;
+    points.push(Point {
+        count: count.value,
+        clock: numbered.clock(clock),
+        budget: budget_of(numbered, budget),
+    })?;
+    Ok(Stmt::Advance(number))
 }
 
 #[cycle(lower_stmt)]
@@ -101,15 +124,7 @@ fn lower_stmt(
             clock,
             budget,
             ..
-        } => {
-            let number = points.len() as u32;
-            points.push(Point {
-                count: count.value,
-                clock: numbered.clock(clock),
-                budget: budget_of(numbered, *budget),
-            })?;
-            Ok(Stmt::Advance(number))
-        }
+        } => advance_stmt(numbered, *count, clock, *budget, points),
         RawStmt::Return { value, .. } => Ok(Stmt::Return(lower_expr(alloc, numbered, value)?)),
     }
 }

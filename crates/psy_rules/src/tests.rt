@@ -1,4 +1,4 @@
-use crate::{RuleFault, resolve};
+use crate::{RuleFault, one_verdict, resolve};
 use psy_base::{Items, Memory, Text};
 use psy_clock::Clock;
 use psy_tree::{Count, Item, Lit, Name, Raw, RuleKind};
@@ -39,6 +39,7 @@ fn two_clocks(alloc: Global, parent: &str) -> Result<Raw, Memory> {
 
 #[test]
 fn a_unit_has_its_clocks(rt: HostRuntime) -> Result<(), Fail> {
+    one_verdict();
     let raw = two_clocks(rt.alloc(), "c")?;
     let unit = match resolve(rt.alloc(), &raw) {
         Ok(unit) => unit,
@@ -95,4 +96,25 @@ fn a_count_has_its_limit(rt: HostRuntime) -> Result<(), Fail> {
         Some(RuleFault::Many(Count::Clocks))
     );
     Ok(())
+}
+
+#[test]
+fn each_kind_has_its_number(rt: HostRuntime) {
+    let kinds = [
+        (RuleKind::Twice, 1),
+        (RuleKind::Unknown, 2),
+        (RuleKind::WrongKind, 3),
+        (RuleKind::NotOwner, 4),
+        (RuleKind::NotReceiver, 5),
+        (RuleKind::TooDeep, 6),
+        (RuleKind::NoMax, 7),
+        (RuleKind::MixedLoop, 8),
+        (RuleKind::NoAdvance, 9),
+        (RuleKind::CallsDown, 10),
+        (RuleKind::BadClock, 11),
+        (RuleKind::BadNumber, 12),
+    ];
+    for (kind, number) in kinds {
+        assert_eq!(rt; kind.number(), number);
+    }
 }

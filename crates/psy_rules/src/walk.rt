@@ -10,7 +10,7 @@ ghost use Rattle.psy_rules.specs.Judged.{judged, judged_all};
 use crate::least::Least;
 use crate::scope::Scope;
 use crate::uses::{judge_act, judge_back, judge_range, judge_return, judge_use};
-use psy_tree::{Asks, Lit, RawExpr, RawStmt, RuleKind};
+use psy_tree::{Asks, Lit, Name, RawExpr, RawStmt, RuleKind};
 
 /// What is known of the paths through statements.
 #[derive(Clone, Copy, Debug, PartialEq, Eq)]
@@ -128,6 +128,25 @@ fn judge_loop(token: u32, bounded: bool, body: Paths, least: &mut Least)
     );
 }
 
+/// Notes what is wrong with an `advance`.
+#[tactic(auto, using(crate::proofs::Equations::places_advance))]
+fn judge_advance(
+    scope: &Scope<'_>,
+    token: u32,
+    count: Lit,
+    clock: &Name,
+    budget: Option<Lit>,
+    least: &mut Least,
+)
+    requires { IsScope scope.now }
+    ensures { least.new.fault ≡ judged_all (site_of scope.now) (stmt_places (RawStmt.Advance token count clock.now budget)) least.old.fault }
+{
+    judge_act(scope, token, least);
+    judge_range(count, 1, 1_024, least);
+    judge_use(scope, clock, Asks::Clock, least);
+    judge_budget(budget, least);
+}
+
 #[cycle(stmt)]
 #[tactic(auto, using(crate::proofs::Judging::judged_all_append, crate::proofs::Judging::map_firsts, crate::proofs::Judging::map_seconds, crate::proofs::Judging::positive_sum))]
 fn walk_stmt(scope: &Scope<'_>, stmt: &RawStmt, least: &mut Least) -> Paths
@@ -197,10 +216,7 @@ fn walk_stmt(scope: &Scope<'_>, stmt: &RawStmt, least: &mut Least) -> Paths
             clock,
             budget,
         } => {
-            judge_act(scope, *token, least);
-            judge_range(*count, 1, 1_024, least);
-            judge_use(scope, clock, Asks::Clock, least);
-            judge_budget(*budget, least);
+            judge_advance(scope, *token, *count, clock, *budget, least);
             Paths {
                 quiet: false,
                 advances: true,

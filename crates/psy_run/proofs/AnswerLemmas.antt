@@ -1,5 +1,5 @@
 -- Words and the bytes of the file that they name have one answer at most.
-use Rattle.std.proofs.Common.{◌≡◌, ◌∙◌, sym, subst, ap, refl, ℕ, ◌*◌, ◌<◌, ◌≤◌, List, [], ◌∷◌, length, codes, arith, Some, None, slice_get, inl, inr, ◌==◌, if◌then◌else◌}
+use Rattle.std.proofs.Common.{◌≡◌, ◌∙◌, sym, subst, ap, refl, ℕ, ◌*◌, ◌<◌, ◌≤◌, List, [], ◌∷◌, length, codes, arith, Some, None, slice_get}
 use Rattle.psy_base.specs.declared.limits.TheConstants.{FILE_BYTES}
 use Rattle.psy_tree.specs.declared.token.Token.{Token}
 use Rattle.psy_tree.specs.declared.raw.Raw.{Raw}
@@ -11,11 +11,10 @@ use Rattle.psy_tree.specs.Grammar.{Spells}
 use Rattle.psy_tree.specs.Deep as deep
 use Rattle.psy_token.proofs.Texts.{TokensOf-once, FirstFault-once, not_both}
 use Rattle.psy_parse.proofs.AgainItems.{Spells-unique}
+use Rattle.psy_rules.proofs.Verdicts.{Stands-once, LeastFault-once, count-once, stands_or_fault, stands_or_count, fault_or_none}
 use Rattle.psy_tree.specs.declared.unit.Unit.{Unit as Whole}
 use Rattle.psy_tree.specs.declared.rules.Count.{Count}
 use Rattle.psy_tree.specs.declared.rules.RuleKind.{RuleKind}
-use Rattle.psy_tree.specs.declared.rules.RuleKind.TheVariants as kind
-use Rattle.psy_tree.specs.Rules as rules
 use Rattle.psy_tree.specs.Rules.{LeastFault, NoFault}
 use Rattle.psy_tree.specs.Stands.{Stands, first_passed}
 use Rattle.psy_kernel.specs.Meaning.{IsFeasible}
@@ -59,49 +58,6 @@ Deep-unique tokens n m a b =
 
 Deep-not_shallow : (tokens : List Token) (n : ℕ) → deep.Deep tokens n → deep.Shallow tokens → ⊥
 Deep-not_shallow tokens n a shallow = shallow n a.stands a.reached
-
-kind_at : ℕ → RuleKind
-kind_at n =
-    if n == 1 then kind.Twice
-    else (if n == 2 then kind.Unknown
-    else (if n == 3 then kind.WrongKind
-    else (if n == 4 then kind.NotOwner
-    else (if n == 5 then kind.NotReceiver
-    else (if n == 6 then kind.TooDeep
-    else (if n == 7 then kind.NoMax
-    else (if n == 8 then kind.MixedLoop
-    else (if n == 9 then kind.NoAdvance
-    else (if n == 10 then kind.CallsDown
-    else (if n == 11 then kind.BadClock
-    else kind.BadNumber))))))))))
-
-kind_at-number_of : (k : RuleKind) → kind_at (rules.number_of k) ≡ k
-unfolding kind_at
-kind_at-number_of kind.Twice = refl
-kind_at-number_of kind.Unknown = refl
-kind_at-number_of kind.WrongKind = refl
-kind_at-number_of kind.NotOwner = refl
-kind_at-number_of kind.NotReceiver = refl
-kind_at-number_of kind.TooDeep = refl
-kind_at-number_of kind.NoMax = refl
-kind_at-number_of kind.MixedLoop = refl
-kind_at-number_of kind.NoAdvance = refl
-kind_at-number_of kind.CallsDown = refl
-kind_at-number_of kind.BadClock = refl
-kind_at-number_of kind.BadNumber = refl
-
-number_of-injective : (k l : RuleKind) → rules.number_of k ≡ rules.number_of l → k ≡ l
-number_of-injective k l e = sym (kind_at-number_of k) ∙ ap kind_at e ∙ kind_at-number_of l
-
--- a program has one least fault at most
-LeastFault-unique : (raw : Raw) (k l : RuleKind) (n m : ℕ) → LeastFault raw k n → LeastFault raw l m → (k ≡ l) × (n ≡ m)
-LeastFault-unique raw k l n m a b = elim (a.least l m b.present) [
-  | inl before ↦ elim (b.least k n a.present) [ inl behind ↦ absurd (omega arith) | inr also ↦ absurd (let e = also.0 in omega arith) ]
-  | inr at ↦ elim (b.least k n a.present) [
-    | inl behind ↦ absurd (let e = at.0 in omega arith)
-    | inr also ↦ (number_of-injective k l (let p = at.1 in let q = also.1 in omega arith), at.0)
-  ]
-]
 
 -- The steps that judge a file, the last first: each stops with a status and a text, or goes on to the one above it.
 
@@ -199,24 +155,21 @@ of_unit until unit s s' t t' (OfUnit.goes_on program form more) (OfUnit.goes_on 
     let same = IsForm-unique unit until program program' form form' in
     of_program program' s s' t t' (subst (λ p. OfProgram p s t) same more) more'
 
-not_passed : (raw : Raw) (unit : Whole) (count : Count) → Stands unit raw → first_passed raw ≡ Some count → ⊥
-not_passed raw unit count stands passed = absurd (let e : Some count ≡ None = sym passed ∙ stands.within_limits in cc)
-
 of_tree : (until : ℕ) (raw : Raw) (s s' : ℕ) (t t' : List ℕ) → OfTree until raw s t → OfTree until raw s' t' → Same s s' t t'
 of_tree until raw s s' t t' (OfTree.breaks k n least) (OfTree.breaks l m again) =
-    let same = LeastFault-unique raw k l n m least again in
+    let same = LeastFault-once raw k l n m least again in
     (refl, λ i. line_of (Rule (same.0 i) (same.1 i)))
-of_tree until raw s s' t t' (OfTree.breaks k n least) (OfTree.passes count none passed) = absurd (none k n least.present)
-of_tree until raw s s' t t' (OfTree.breaks k n least) (OfTree.goes_on unit stands more) = absurd (stands.no_fault k n least.present)
-of_tree until raw s s' t t' (OfTree.passes count none passed) (OfTree.breaks k n least) = absurd (none k n least.present)
+of_tree until raw s s' t t' (OfTree.breaks k n least) (OfTree.passes count none passed) = absurd (fault_or_none raw k n least none)
+of_tree until raw s s' t t' (OfTree.breaks k n least) (OfTree.goes_on unit stands more) = absurd (stands_or_fault raw unit k n stands least)
+of_tree until raw s s' t t' (OfTree.passes count none passed) (OfTree.breaks k n least) = absurd (fault_or_none raw k n least none)
 of_tree until raw s s' t t' (OfTree.passes count none passed) (OfTree.passes other again passed') =
-    let same : count ≡ other = let e : Some count ≡ Some other = sym passed ∙ passed' in cc in
+    let same = count-once raw count other passed passed' in
     (refl, ap limit_line same)
-of_tree until raw s s' t t' (OfTree.passes count none passed) (OfTree.goes_on unit stands more) = absurd (not_passed raw unit count stands passed)
-of_tree until raw s s' t t' (OfTree.goes_on unit stands more) (OfTree.breaks k n least) = absurd (stands.no_fault k n least.present)
-of_tree until raw s s' t t' (OfTree.goes_on unit stands more) (OfTree.passes count none passed) = absurd (not_passed raw unit count stands passed)
+of_tree until raw s s' t t' (OfTree.passes count none passed) (OfTree.goes_on unit stands more) = absurd (stands_or_count raw unit count stands passed)
+of_tree until raw s s' t t' (OfTree.goes_on unit stands more) (OfTree.breaks k n least) = absurd (stands_or_fault raw unit k n stands least)
+of_tree until raw s s' t t' (OfTree.goes_on unit stands more) (OfTree.passes count none passed) = absurd (stands_or_count raw unit count stands passed)
 of_tree until raw s s' t t' (OfTree.goes_on unit stands more) (OfTree.goes_on unit' stands' more') =
-    let same = stands.numbered ∙ sym stands'.numbered in
+    let same = Stands-once raw unit unit' stands stands' in
     of_unit until unit' s s' t t' (subst (λ u. OfUnit until u s t) same more) more'
 
 of_shallow : (until : ℕ) (tokens : List Token) (s s' : ℕ) (t t' : List ℕ) → OfShallow until tokens s t → OfShallow until tokens s' t' → Same s s' t t'

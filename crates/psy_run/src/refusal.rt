@@ -1,6 +1,5 @@
 ghost use Rattle.std.specs.Prelude.{◌≡◌, ◌≤◌, length};
 ghost use Rattle.psy_run.specs.Answer.{status_of, line_of, lex_line, limit_line};
-ghost use Rattle.psy_tree.specs.Rules.{number_of};
 
 use crate::line::Line;
 use psy_tree::{Count, RuleKind};
@@ -133,31 +132,11 @@ fn infeasible(length: u32, demand: u32, supply: u32) -> Line
     line
 }
 
-// The number by which a refusal names the kind of fault.
-fn number_of(kind: RuleKind) -> u64
-    ensures { result ≡ number_of kind }
-{
-    match kind {
-        RuleKind::Twice => 1,
-        RuleKind::Unknown => 2,
-        RuleKind::WrongKind => 3,
-        RuleKind::NotOwner => 4,
-        RuleKind::NotReceiver => 5,
-        RuleKind::TooDeep => 6,
-        RuleKind::NoMax => 7,
-        RuleKind::MixedLoop => 8,
-        RuleKind::NoAdvance => 9,
-        RuleKind::CallsDown => 10,
-        RuleKind::BadClock => 11,
-        RuleKind::BadNumber => 12,
-    }
-}
-
 fn rule(kind: RuleKind, token: u32) -> Line
     ensures { result ≡ line_of (Refusal.Rule kind token) }
 {
     let mut line = text(b"refused rule ");
-    line.add_number(number_of(kind));
+    line.add_number(u64::from(kind.number()));
     line.add(b" at ");
     line.add_number(u64::from(token));
     line.add(b"\n");

@@ -1,5 +1,8 @@
 //! What may be wrong with a program that is a tree.
 
+ghost use Rattle.std.specs.Prelude.{◌≡◌};
+ghost use Rattle.psy_tree.specs.Rules.{number_of};
+
 /// The kinds of fault that names and rules can have, in the order of their numbers.
 #[derive(Clone, Copy, Debug, PartialEq, Eq)]
 pub enum RuleKind {
@@ -27,6 +30,29 @@ pub enum RuleKind {
     BadClock,
     /// 12: a number is out of its range.
     BadNumber,
+}
+
+impl RuleKind {
+    /// The number of the kind, from 1 to 12. Of two faults at one token the one with the lesser number comes
+    /// first, and a refusal names the kind by it.
+    pub fn number(self) -> u32
+        ensures { result ≡ number_of self }
+    {
+        match self {
+            RuleKind::Twice => 1,
+            RuleKind::Unknown => 2,
+            RuleKind::WrongKind => 3,
+            RuleKind::NotOwner => 4,
+            RuleKind::NotReceiver => 5,
+            RuleKind::TooDeep => 6,
+            RuleKind::NoMax => 7,
+            RuleKind::MixedLoop => 8,
+            RuleKind::NoAdvance => 9,
+            RuleKind::CallsDown => 10,
+            RuleKind::BadClock => 11,
+            RuleKind::BadNumber => 12,
+        }
+    }
 }
 
 /// What is counted of a program's declarations, in the order in which the limits are judged.

@@ -7,6 +7,7 @@ use Rattle.psy_tree.specs.Rules.{sound}
 use Rattle.psy_rules.specs.Tables.{is_inner}
 use Rattle.psy_rules.specs.Judged.{judged_sited}
 use Rattle.psy_rules.proofs.Program.{least_more, least_all, clocks_more, lawful_more, no_clocks}
+use Rattle.psy_rules.proofs.LeastFaults.{best_of}
 use Rattle.psy_rules.proofs.Twice.{clock_same}
 use Rattle.psy_rules.proofs.judge.judge.Goals as goal
 
@@ -41,4 +42,4 @@ loop-at-preserved c =
 pub returns-clause-least : goal.returns-clause-least
 returns-clause-least c =
     let past : length c.args.raw.now.items ≤ c.loop-at.at = omega (arith, ap length c.as_slice-items.ensures) in
-    c.loop-at.invariant.least ∙ least_all c.args.raw.now c.loop-at.at past
+    best_of c.args.raw.now c.loop-at.least.fault (c.loop-at.invariant.least ∙ least_all c.args.raw.now c.loop-at.at past)

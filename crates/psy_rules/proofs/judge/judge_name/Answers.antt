@@ -6,7 +6,6 @@ use Rattle.psy_rules.proofs.judge.judge_name.Goals as goal
 
 pub returns : goal.returns
 unfolding judged
-returns c inside =
+returns c =
     c.note.ensures ∙ ap (λ b. noted b Twice c.args.name.now.token c.args.least.now.fault)
-    (rw (c.either.ensures, c.item_below-above.ensures, c.first.ensures, c.is_some-inside.ensures, c.first-2.ensures)
-    (name_twice c.args.items.now c.args.at c.args.name.now.text c.args.globals.now c.args.inner.now c.requires.table c.requires.inner))
+    (c.is_item_twice.ensures ∙ name_twice c.args.scope.now.items.now c.args.scope.now.at c.args.name.now.text c.args.scope.now.globals.now c.args.inner.now c.requires.scope.globals c.requires.inner)

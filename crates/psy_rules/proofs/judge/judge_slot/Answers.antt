@@ -1,4 +1,4 @@
-use Rattle.std.proofs.Common.{ap, ◌∙◌}
+use Rattle.std.proofs.Common.{ap, refl, ◌∙◌}
 use Rattle.psy_tree.specs.declared.rules.RuleKind.TheVariants.{Twice}
 use Rattle.psy_rules.specs.Sites.{site_of}
 use Rattle.psy_rules.specs.Judged.{judged, noted}
@@ -9,5 +9,4 @@ pub returns : goal.returns
 unfolding judged
 returns c =
     c.note.ensures ∙ ap (λ b. noted b Twice c.args.name.now.token c.args.least.now.fault)
-    (rw (c.either.ensures, c.item_up_to-above.ensures, c.slot_below-earlier.ensures)
-    (slot_twice (site_of c.args.scope.now) c.args.k c.args.name.now.text c.global.result c.first.result c.global.ensures (c.first.ensures ∙ c.requires.scope.slots c.args.name.now.text)))
+    (c.is_slot_twice.ensures ∙ slot_twice (site_of c.args.scope.now) c.args.k c.args.name.now.text _ _ refl (c.requires.scope.slots c.args.name.now.text))

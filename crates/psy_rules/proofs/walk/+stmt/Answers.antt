@@ -3,7 +3,7 @@ use Rattle.std.specs.Prelude.{nat_lt}
 use Rattle.psy_tree.specs.Places.{stmt_places}
 use Rattle.psy_rules.specs.Sites.{site_of}
 use Rattle.psy_rules.proofs.Judging.{judged_more, quiet_more, advances_more, positive_sum, judged_all_append}
-use Rattle.psy_rules.proofs.Equations.{places_set, places_set_cell, places_send, places_advance, places_return, places_if, places_if_else, places_while}
+use Rattle.psy_rules.proofs.Equations.{places_set, places_set_cell, places_send, places_return, places_if, places_if_else, places_while}
 use Rattle.psy_rules.proofs.walk.+stmt.Goals as goal
 
 pub walk_stmts-loop-stmt-preserved : goal.walk_stmts-loop-stmt-preserved
@@ -27,8 +27,7 @@ walk_stmt-returns-in-Send-clause-least t c =
     simp (c.in-Send.is, places_send, judged_all_append) (rw (c.judge_use-in-Send-2.ensures, c.judge_range.ensures (site_of c.args.scope.now), c.judge_use-in-Send.ensures, c.walk_expr-in-Send.ensures, c.judge_act.ensures))
 
 pub walk_stmt-returns-in-Advance-clause-least : goal.walk_stmt-returns-in-Advance-clause-least
-walk_stmt-returns-in-Advance-clause-least t c =
-    simp (c.in-Advance.is, places_advance, judged_all_append) (rw (c.judge_budget.ensures (site_of c.args.scope.now), c.judge_use-in-Advance.ensures, c.judge_range-in-Advance.ensures (site_of c.args.scope.now), c.judge_act-in-Advance.ensures))
+walk_stmt-returns-in-Advance-clause-least t c = rw (c.in-Advance.is) (c.judge_advance.ensures)
 
 pub walk_stmt-returns-in-While-clause-least : goal.walk_stmt-returns-in-While-clause-least
 walk_stmt-returns-in-While-clause-least t c =
