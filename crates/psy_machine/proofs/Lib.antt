@@ -2,4 +2,3 @@ pub mod Entries
 pub mod Laid
 pub mod Reversed
 pub mod Steps
-pub mod Trials

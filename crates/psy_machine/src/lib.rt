@@ -7,6 +7,3 @@ mod machine;
 mod operands;
 
 pub use machine::{Machine, Step};
-
-#[cfg(test)]
-mod tests;

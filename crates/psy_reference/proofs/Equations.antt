@@ -9,7 +9,7 @@ use Rattle.psy_tree.specs.declared.unit.Expr.TheOpen.{Expr-F}
 use Rattle.psy_tree.specs.declared.unit.Stmt.{Stmt, fold-roll-Stmt}
 use Rattle.psy_tree.specs.declared.unit.Stmt.TheVariants as stmt
 use Rattle.psy_tree.specs.declared.unit.Stmt.TheOpen.{Stmt-F}
-use Rattle.psy_meaning.specs.States.{Store, State, Got, Value, Outcome, Eval, Act, Callee, cost_1}
+use Rattle.psy_meaning.specs.States.{Store, State, Value, Outcome, Eval, Act, Callee, cost_1}
 use Rattle.psy_meaning.specs.Expressions.{eval, expr_step, in_order}
 use Rattle.psy_meaning.specs.Statements.{act_by, acts_by, stmt_step, turns, frame_of, in_store, back_in, callee, no_callee, with_callee, callees_from, callees_of}
 use Rattle.psy_reference.specs.Sides.{from_left}

@@ -1,5 +1,5 @@
 -- The rests of statements, and what they do.
-use Rattle.std.proofs.Common.{◌≡◌, ℕ, zero, suc, ◌+◌, ◌-◌, ◌<◌, ◌≤◌, ◌≢◌, List, [], ◌∷◌, ◌++◌, map, take, drop, length, get_or, Option, Some, None, Result, Ok, Err, inl, inr, refl, sym, ap, subst, ◌∙◌, arith}
+use Rattle.std.proofs.Common.{◌≡◌, ℕ, zero, suc, ◌+◌, ◌-◌, ◌<◌, ◌≤◌, ◌≢◌, List, [], ◌∷◌, ◌++◌, map, take, drop, length, get_or, Some, None, Result, Ok, Err, inl, inr, refl, sym, ap, subst, ◌∙◌, arith}
 use Rattle.std.proofs.lemmas.List.{map-append, length-append, length-map, length-drop, drop_all, take_all}
 use Rattle.std.specs.Prelude.{IfOk, ◌⊎◌}
 use Rattle.std.proofs.lemmas.Option.{slice_get-get_or}
@@ -12,7 +12,7 @@ use Rattle.psy_tree.specs.declared.unit.Stmt.TheVariants as stmt
 use Rattle.psy_tree.specs.declared.unit.Stmt.TheOpen.{Stmt-F}
 use Rattle.psy_meaning.specs.States.{State, Outcome, Falls, Returns, Halts, Act, then_do, cost_1}
 use Rattle.psy_meaning.specs.Statements.{Piece, Do, Hop, piece_by, act, act_by, acts_by, all_of, hop, callees_of}
-use Rattle.psy_meaning.specs.Rest.{Rests, Part, each_then, pieces_of, stmts_in, rests_in, rests_step, rests_of, with_rests, rest}
+use Rattle.psy_meaning.specs.Rest.{Rests, each_then, pieces_of, stmts_in, rests_step, rests_of, with_rests, rest}
 use Rattle.psy_reference.specs.declared.outcome.Outcome as the
 use Rattle.psy_reference.specs.declared.points.Search.{Search}
 use Rattle.psy_reference.specs.declared.points.Search.TheVariants as search

@@ -1,6 +1,4 @@
-use Rattle.std.proofs.Common.{◌≡◌, ◌∙◌, sym, ap, arith, refl, ◌-◌, get_or, [], ◌<◌, length}
-use Rattle.psy_tree.specs.declared.unit.AgentDecl.{AgentDecl}
-use Rattle.psy_tree.specs.declared.unit.Stmt.{Stmt}
+use Rattle.std.proofs.Common.{◌≡◌, ◌∙◌, ap, ◌-◌, get_or, []}
 use Rattle.psy_meaning.specs.States.{then_do}
 use Rattle.psy_meaning.specs.Statements.{acts_by, act, callees_of, hop}
 use Rattle.psy_meaning.specs.Rest.{rest}

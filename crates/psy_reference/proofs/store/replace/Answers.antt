@@ -1,7 +1,6 @@
 use Rattle.std.proofs.Common.{sym, ap, ◌∙◌, w32, set}
 use Rattle.std.specs.List.{position}
 use Rattle.std.proofs.lemmas.Int.{to_z-of_z}
-use Rattle.psy_code.specs.Execution.{Copy}
 use Rattle.psy_reference.proofs.Stores.{named, copied, with_copy_some, with_copy_none}
 use Rattle.psy_reference.proofs.store.replace.Goals as goal
 

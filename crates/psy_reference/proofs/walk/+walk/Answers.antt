@@ -1,7 +1,7 @@
-use Rattle.std.proofs.Common.{◌≡◌, ◌∙◌, sym, ap, arith, refl, rules, map, drop, take, List, [], ◌∷◌, ◌++◌, ◌+◌, ◌-◌, to_z, of_z, w32}
-use Rattle.psy_meaning.specs.States.{Act, Got, Outcome, Falls, then_do, cost_1}
+use Rattle.std.proofs.Common.{◌≡◌, ◌∙◌, sym, ap, arith, rules, map, drop, take, [], ◌∷◌, ◌++◌, ◌+◌, ◌-◌, to_z, of_z, w32}
+use Rattle.psy_meaning.specs.States.{Act, Falls, then_do, cost_1}
 use Rattle.psy_meaning.specs.Expressions.{eval, in_order}
-use Rattle.psy_meaning.specs.Statements.{callees_of, act_by, acts_by, turns, all_of, back_in}
+use Rattle.psy_meaning.specs.Statements.{callees_of, act_by, acts_by, turns, back_in}
 use Rattle.psy_reference.specs.Outcomes.{Onward, got_of, outcome_of, given, chosen}
 use Rattle.psy_reference.specs.Sides.{from_side, from_left, joined}
 use Rattle.psy_reference.proofs.Equations.{eval_binary, eval_call, act_bounded, no_function, own_function, called}

@@ -2,8 +2,8 @@ use Rattle.std.proofs.Common.{◌≡◌, ◌≤◌, ◌∷◌, [], Some, IsTrue,
 use Rattle.psy_code.specs.declared.code.AgentCode.{AgentCode}
 use Rattle.psy_code.specs.Views.{Window}
 use Rattle.psy_machine.specs.Stepping.{IsOf}
-use Rattle.psy_machine.specs.Running.{goes_for}
-use Rattle.psy_machine.proofs.tests.setting.run.Given as goal
+use Rattle.psy_trials.specs.Running.{goes_for}
+use Rattle.psy_trials.proofs.code.run.Given as goal
 
 abbrev pub decreases-loop-left : goal.decreases-loop-left
 decreases-loop-left l = l.left

@@ -8,7 +8,7 @@ use Rattle.psy_code.specs.declared.code.AgentCode.{AgentCode}
 use Rattle.psy_code.specs.Views.{Window, Call, Past, Ready, Take, Send}
 use Rattle.psy_code.specs.Execution.{Machine, Next, Went, Ended, Trapped, Stuck, next_of, call_of, copy_of}
 use Rattle.psy_machine.specs.Stepping.{AgentMachine, PermitsAll, next_for, stepped, machine_after, window_after}
-use Rattle.psy_machine.specs.Running.{Trial, serves, goes_on, goes_by, goes_for}
+use Rattle.psy_trials.specs.Running.{Trial, serves, goes_on, goes_by, goes_for}
 
 both_true : (a b : Bool) → (a && b) ≡ true → (a ≡ true) × (b ≡ true)
 both_true true b h = (refl, h)

@@ -5,11 +5,11 @@ ghost use Rattle.psy_code.specs.declared.code.Code.{Code};
 ghost use Rattle.psy_code.specs.declared.code.AgentCode.{AgentCode};
 ghost use Rattle.psy_code.specs.declared.code.FunctionCode.{FunctionCode};
 ghost use Rattle.psy_machine.specs.Stepping.{IsOf};
-ghost use Rattle.psy_machine.specs.Running.{goes_for};
+ghost use Rattle.psy_trials.specs.Running.{goes_for};
 
-use crate::{Machine, Step};
 use psy_base::{Items, Memory};
 use psy_code::{AgentCode, Code, CopyInit, FunctionCode, Instr, Look, Sent};
+use psy_machine::{Machine, Step};
 use std::alloc::{AllocError, Global};
 use std::process::Abort;
 
@@ -85,7 +85,7 @@ pub struct Case<'a> {
 /// The number of each step, counted from 1, what came of it, and the copy of variable 0 after it.
 #[derive(Drop)]
 pub struct Outcome {
-    pub trace: Vec<(u32, Step, i32)>,
+    pub trace: Vec<(u64, Step, i32)>,
     pub look: TestLook,
 }
 
@@ -95,6 +95,23 @@ pub const NONE: Function<'static> = Function {
     params: 0,
     locals: &[],
     counters: 0,
+};
+
+/// An agent with a variable n, an array a of two cells behind it, and a temporal variable v.
+pub const AGENT: Case<'static> = Case {
+    instrs: &[],
+    points: &[0, 0],
+    cells: &[0, 3, 4],
+    counters: 1,
+    copies: &[CopyInit {
+        variable: 0,
+        init: 0,
+    }],
+    stack: 2,
+    frames: 0,
+    functions: (NONE, NONE),
+    past: &[],
+    messages: &[],
 };
 
 fn function_of(alloc: Global, function: Function) -> Result<FunctionCode, AllocError>
@@ -200,13 +217,13 @@ fn run(
     while left > 0 {
         left -= 1;
         let answer = machine.step(code, &mut look);
-        trace.push((steps - left, answer, machine.copy(0)))?;
+        trace.push((u64::from(steps - left), answer, machine.copy(0)))?;
     }
     Ok(Outcome { trace, look })
 }
 
 /// Each step went on, but for those with these numbers, after which the copy has this value.
-pub fn expect_stops(rt: &impl Abort, outcome: &Outcome, stops: &[(u32, Step, i32)]) {
+pub fn expect_stops(rt: &impl Abort, outcome: &Outcome, stops: &[(u64, Step, i32)]) {
     for (number, answer, copy) in outcome.trace.iter() {
         match stops.iter().find(|stop| stop.0 == *number) {
             Some((_, step, value)) => {

@@ -1,7 +1,7 @@
 -- The run computes, sums and products among its numbers.
 use Rattle.std.proofs.Common.{refl}
 use Rattle.std.specs.Int.{int_wrap}
-use Rattle.psy_machine.proofs.tests.a_call_ends_inside_a_loop.Goals as goal
+use Rattle.psy_trials.proofs.tests.agreement.a_loop_may_reach_its_bound.Goals as goal
 
 pub attempt-requires-clause-goes : goal.attempt-requires-clause-goes
 unfolding int_wrap

@@ -1,29 +1,9 @@
-mod setting;
-
-use crate::Step;
+use crate::code::{AGENT, Case, Function, NONE, attempt, expect_stops};
+use crate::statements::{BARE, Program, expect_acts};
 use psy_arith::{Op1, Trap};
 use psy_code::{Binary, CopyInit, Instr, Sent};
-use setting::{Case, Function, NONE, attempt, expect_stops};
+use psy_machine::Step;
 use std::test::Fail;
-
-/// An agent with a variable n, an array a of two cells behind it, and a temporal variable v.
-const AGENT: Case<'static> = Case {
-    instrs: &[],
-    points: &[0, 0],
-    cells: &[0, 3, 4],
-    counters: 1,
-    copies: &[CopyInit {
-        variable: 0,
-        init: 0,
-    }],
-    stack: 2,
-    frames: 0,
-    functions: (NONE, NONE),
-    past: &[],
-    messages: &[],
-};
-
-const TRUE: Instr = Instr::Push(1);
 
 #[test]
 fn a_variable_counts_actions(rt: HostRuntime) -> Result<(), Fail> {
@@ -41,13 +21,14 @@ fn a_variable_counts_actions(rt: HostRuntime) -> Result<(), Fail> {
         points: &[0, 7],
         ..AGENT
     };
+    let stops = [(7, Step::Ended(1), 1), (15, Step::Ended(1), 2)];
     let outcome = attempt(rt.alloc(), &case, 15)?;
-    expect_stops(
-        &rt,
-        &outcome,
-        &[(7, Step::Ended(1), 1), (15, Step::Ended(1), 2)],
-    );
-    Ok(())
+    expect_stops(&rt, &outcome, &stops);
+    let program = Program {
+        stmts: "n = n + 1; v = n; advance 1 on c;",
+        ..BARE
+    };
+    expect_acts(&rt, &program, &stops)
 }
 
 #[test]
@@ -56,10 +37,14 @@ fn a_take_of_no_message_traps(rt: HostRuntime) -> Result<(), Fail> {
         instrs: &[Instr::Take(0), Instr::StoreCopy(0), Instr::Advance(1)],
         ..AGENT
     };
-    let outcome = attempt(rt.alloc(), &case, 2)?;
-    let trap = Step::Trapped(Trap::Take);
-    expect_stops(&rt, &outcome, &[(1, trap, 0), (2, trap, 0)]);
-    Ok(())
+    let stops = [(1, Step::Trapped(Trap::Take), 0)];
+    let outcome = attempt(rt.alloc(), &case, 1)?;
+    expect_stops(&rt, &outcome, &stops);
+    let program = Program {
+        stmts: "v = take(s); advance 1 on c;",
+        ..BARE
+    };
+    expect_acts(&rt, &program, &stops)
 }
 
 #[test]
@@ -73,9 +58,14 @@ fn a_division_by_zero_traps(rt: HostRuntime) -> Result<(), Fail> {
         ],
         ..AGENT
     };
+    let stops = [(3, Step::Trapped(Trap::Divide), 0)];
     let outcome = attempt(rt.alloc(), &case, 3)?;
-    expect_stops(&rt, &outcome, &[(3, Step::Trapped(Trap::Divide), 0)]);
-    Ok(())
+    expect_stops(&rt, &outcome, &stops);
+    let program = Program {
+        stmts: "v = 1 / n; advance 1 on c;",
+        ..BARE
+    };
+    expect_acts(&rt, &program, &stops)
 }
 
 #[test]
@@ -88,31 +78,23 @@ fn an_index_behind_the_array_traps(rt: HostRuntime) -> Result<(), Fail> {
         ],
         ..AGENT
     };
+    let stops = [(2, Step::Trapped(Trap::Index), 0)];
     let outcome = attempt(rt.alloc(), &case, 2)?;
-    expect_stops(&rt, &outcome, &[(2, Step::Trapped(Trap::Index), 0)]);
-    Ok(())
-}
-
-#[test]
-fn an_index_below_zero_traps(rt: HostRuntime) -> Result<(), Fail> {
-    let case = Case {
-        instrs: &[
-            Instr::Push(-1),
-            Instr::Push(5),
-            Instr::StoreCell { base: 1, cells: 2 },
-        ],
-        ..AGENT
+    expect_stops(&rt, &outcome, &stops);
+    let program = Program {
+        stmts: "v = a[2]; advance 1 on c;",
+        ..BARE
     };
-    let outcome = attempt(rt.alloc(), &case, 4)?;
-    let trap = Step::Trapped(Trap::Index);
-    expect_stops(&rt, &outcome, &[(3, trap, 0), (4, trap, 0)]);
-    Ok(())
+    expect_acts(&rt, &program, &stops)
 }
 
 #[test]
 fn a_cell_of_an_array_is_stored_and_loaded(rt: HostRuntime) -> Result<(), Fail> {
     let case = Case {
         instrs: &[
+            Instr::Push(0),
+            Instr::Push(3),
+            Instr::StoreCell { base: 1, cells: 2 },
             Instr::Push(1),
             Instr::Push(8),
             Instr::StoreCell { base: 1, cells: 2 },
@@ -129,9 +111,14 @@ fn a_cell_of_an_array_is_stored_and_loaded(rt: HostRuntime) -> Result<(), Fail> 
         ],
         ..AGENT
     };
-    let outcome = attempt(rt.alloc(), &case, 13)?;
-    expect_stops(&rt, &outcome, &[(13, Step::Ended(1), -5)]);
-    Ok(())
+    let stops = [(16, Step::Ended(1), -5)];
+    let outcome = attempt(rt.alloc(), &case, 16)?;
+    expect_stops(&rt, &outcome, &stops);
+    let program = Program {
+        stmts: "a[0] = 3; a[1] = 8; v = a[1] - a[0]; v = -v; advance 1 on c;",
+        ..BARE
+    };
+    expect_acts(&rt, &program, &stops)
 }
 
 /// `while (n < 3) max BOUND { n = n + 1; } v = n; advance 1 on c;`
@@ -167,9 +154,14 @@ fn a_loop_that_passes_its_bound_traps(rt: HostRuntime) -> Result<(), Fail> {
         points: &[0, 14],
         ..AGENT
     };
+    let stops = [(25, Step::Trapped(Trap::Loop), 0)];
     let outcome = attempt(rt.alloc(), &case, 25)?;
-    expect_stops(&rt, &outcome, &[(25, Step::Trapped(Trap::Loop), 0)]);
-    Ok(())
+    expect_stops(&rt, &outcome, &stops);
+    let program = Program {
+        stmts: "while (n < 3) max 2 { n = n + 1; } v = n; advance 1 on c;",
+        ..BARE
+    };
+    expect_acts(&rt, &program, &stops)
 }
 
 #[test]
@@ -179,38 +171,14 @@ fn a_loop_may_reach_its_bound(rt: HostRuntime) -> Result<(), Fail> {
         points: &[0, 14],
         ..AGENT
     };
+    let stops = [(39, Step::Ended(1), 3), (49, Step::Ended(1), 3)];
     let outcome = attempt(rt.alloc(), &case, 49)?;
-    expect_stops(
-        &rt,
-        &outcome,
-        &[(39, Step::Ended(1), 3), (49, Step::Ended(1), 3)],
-    );
-    Ok(())
-}
-
-#[test]
-fn counters_begin_at_zero_in_each_action(rt: HostRuntime) -> Result<(), Fail> {
-    let case = Case {
-        instrs: &[
-            TRUE,
-            Instr::Guard {
-                counter: 0,
-                bound: 1,
-            },
-            Instr::JumpZero(0),
-            Instr::Advance(1),
-            Instr::Jump(0),
-        ],
-        points: &[0, 4],
-        ..AGENT
+    expect_stops(&rt, &outcome, &stops);
+    let program = Program {
+        stmts: "while (n < 3) max 3 { n = n + 1; } v = n; advance 1 on c;",
+        ..BARE
     };
-    let outcome = attempt(rt.alloc(), &case, 9)?;
-    expect_stops(
-        &rt,
-        &outcome,
-        &[(4, Step::Ended(1), 0), (9, Step::Ended(1), 0)],
-    );
-    Ok(())
+    expect_acts(&rt, &program, &stops)
 }
 
 #[test]
@@ -233,7 +201,7 @@ fn an_action_looks_takes_and_sends(rt: HostRuntime) -> Result<(), Fail> {
             Instr::Send {
                 stream: 0,
                 after: 2,
-                clock: 1,
+                clock: 0,
             },
             Instr::Advance(4),
         ],
@@ -242,13 +210,13 @@ fn an_action_looks_takes_and_sends(rt: HostRuntime) -> Result<(), Fail> {
         messages: &[7, 8],
         ..AGENT
     };
-    let outcome = attempt(rt.alloc(), &case, 12)?;
     let stops = [
         (3, Step::Ended(1), 7),
         (6, Step::Ended(2), 1),
         (9, Step::Ended(3), 40),
         (12, Step::Ended(4), 40),
     ];
+    let outcome = attempt(rt.alloc(), &case, 12)?;
     expect_stops(&rt, &outcome, &stops);
     let look = &outcome.look;
     assert_eq!(rt; look.messages.as_slice(), [8].as_slice());
@@ -257,10 +225,16 @@ fn an_action_looks_takes_and_sends(rt: HostRuntime) -> Result<(), Fail> {
         stream: 0,
         value: 6,
         after: 2,
-        clock: 1,
+        clock: 0,
     };
     assert_eq!(rt; look.sends.as_slice(), [sent].as_slice());
-    Ok(())
+    let program = Program {
+        stmts: "v = take(s); advance 1 on c; v = ready(s); advance 1 on c; v = past(v, 1); advance 1 on c; send 6 to s after 2 on c; advance 1 on c;",
+        past: &[30, 40],
+        messages: &[7, 8],
+        ..BARE
+    };
+    expect_acts(&rt, &program, &stops)
 }
 
 #[test]
@@ -303,71 +277,19 @@ fn the_right_side_may_be_left_out(rt: HostRuntime) -> Result<(), Fail> {
         }],
         ..AGENT
     };
-    let outcome = attempt(rt.alloc(), &case, 20)?;
     let stops = [
         (4, Step::Ended(1), 0),
         (10, Step::Ended(2), 1),
         (14, Step::Ended(3), 1),
         (20, Step::Ended(4), 0),
     ];
+    let outcome = attempt(rt.alloc(), &case, 20)?;
     expect_stops(&rt, &outcome, &stops);
-    Ok(())
-}
-
-#[test]
-fn a_call_ends_inside_a_loop(rt: HostRuntime) -> Result<(), Fail> {
-    // f(k) counts i in a loop of at most two turns, and returns it once it is k. It doesn't set its
-    // counter to 0: each call begins with it at 0.
-    let case = Case {
-        instrs: &[
-            Instr::Push(2),
-            Instr::Call(0),
-            Instr::StoreCopy(0),
-            Instr::Advance(1),
-            Instr::Push(1),
-            Instr::Call(0),
-            Instr::StoreCopy(0),
-            Instr::Advance(1),
-            Instr::Jump(0),
-            TRUE,
-            Instr::Guard {
-                counter: 0,
-                bound: 2,
-            },
-            Instr::JumpZero(22),
-            Instr::Load(1),
-            Instr::Push(1),
-            Instr::Binary(Binary::Add),
-            Instr::Store(1),
-            Instr::Load(1),
-            Instr::Load(0),
-            Instr::Binary(Binary::Eq),
-            Instr::JumpZero(9),
-            Instr::Load(1),
-            Instr::Return,
-            Instr::Push(0),
-            Instr::Return,
-        ],
-        points: &[0, 4],
-        frames: 3,
-        functions: (
-            Function {
-                entry: 9,
-                params: 1,
-                locals: &[0],
-                counters: 1,
-            },
-            NONE,
-        ),
-        ..AGENT
+    let program = Program {
+        stmts: "v = 0 && 9; advance 1 on c; v = 3 && 9; advance 1 on c; v = 3 || 0; advance 1 on c; v = 0 || 0; advance 1 on c;",
+        ..BARE
     };
-    let outcome = attempt(rt.alloc(), &case, 45)?;
-    expect_stops(
-        &rt,
-        &outcome,
-        &[(28, Step::Ended(1), 2), (45, Step::Ended(1), 1)],
-    );
-    Ok(())
+    expect_acts(&rt, &program, &stops)
 }
 
 #[test]
@@ -407,7 +329,13 @@ fn a_function_calls_another(rt: HostRuntime) -> Result<(), Fail> {
         ),
         ..AGENT
     };
+    let stops = [(14, Step::Ended(1), 47)];
     let outcome = attempt(rt.alloc(), &case, 14)?;
-    expect_stops(&rt, &outcome, &[(14, Step::Ended(1), 47)]);
-    Ok(())
+    expect_stops(&rt, &outcome, &stops);
+    let program = Program {
+        functions: "int g(int x) { return x * x; } int f(int a, int b) { return g(a) - b; } ",
+        stmts: "v = f(7, 2); advance 1 on c;",
+        ..BARE
+    };
+    expect_acts(&rt, &program, &stops)
 }

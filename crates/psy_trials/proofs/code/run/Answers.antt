@@ -1,8 +1,8 @@
 use Rattle.std.proofs.Common.{◌∷◌, [], Some, vec_capacity, arith}
 use Rattle.psy_code.specs.Views.{Window}
-use Rattle.psy_machine.specs.declared.tests.setting.TestLook.{TestLook}
-use Rattle.psy_machine.proofs.Trials.{going}
-use Rattle.psy_machine.proofs.tests.setting.run.Goals as goal
+use Rattle.psy_trials.specs.declared.code.TestLook.{TestLook}
+use Rattle.psy_trials.proofs.Running.{going}
+use Rattle.psy_trials.proofs.code.run.Goals as goal
 
 -- what a look serves
 abbrev seen : TestLook → Window
