@@ -13,6 +13,7 @@ use Rattle.psy_code.specs.declared.look.Sent.{Sent}
 use Rattle.psy_machine.specs.Stepping.{AgentMachine}
 use Rattle.psy_bench.specs.declared.still.Still.{Still}
 
+-- The instructions of the agent, and behind them those of the function
 abbrev pub instrs : List Instr
 instrs =
     instr.Zero 0 ∷ instr.Load 0 ∷ instr.Push (pos 8) ∷ instr.Binary two.Lt ∷ instr.Guard 0 8 ∷ instr.JumpZero 21 ∷
@@ -22,9 +23,11 @@ instrs =
     instr.Store 0 ∷ instr.Load 1 ∷ instr.StoreCopy 0 ∷ instr.Advance 1 ∷ instr.Jump 0 ∷ instr.Load 0 ∷
     instr.Push (pos 3) ∷ instr.Binary two.Mul ∷ instr.Load 1 ∷ instr.Binary two.Sub ∷ instr.Return ∷ []
 
+-- The agent's one working copy, 0 at first
 abbrev pub first_copy : CopyInit
 first_copy = record { variable = 0; init = pos 0 }
 
+-- The agent: six cells, of which four are an array, and one counter
 abbrev pub agent_code : AgentCode
 agent_code = record {
   points = 0 ∷ 26 ∷ [];
@@ -35,9 +38,11 @@ agent_code = record {
   frames = 2;
 }
 
+-- The function: one parameter, and a local that is 5 at first
 abbrev pub function_code : FunctionCode
 function_code = record { entry = 27; params = 1; locals = pos 5 ∷ []; counters = 0 }
 
+-- The code of the loop
 abbrev pub loop_code : Code
 loop_code = record { instrs = instrs; agents = agent_code ∷ []; functions = function_code ∷ [] }
 
@@ -70,6 +75,7 @@ pub record Held : Type 0 where
   pub turns : ℕ
   pub copy : ℤ
 
+-- The machine at a place, with these operands and open calls
 abbrev pub machine_at : ℕ → List ℤ → Held → List OpenCall → Machine
 machine_at place operands held calls = record {
   place = place;

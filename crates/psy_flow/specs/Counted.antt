@@ -17,5 +17,6 @@ abbrev pub counted_calls_from : List Depth → List FunctionDecl → List Depth
 counted_calls_from above [] = above
 counted_calls_from above (f ∷ rest) = counted_calls_from (above ++ capped (call_depth above f) ∷ []) rest
 
+-- Those of all functions of a unit
 abbrev pub counted_calls : List FunctionDecl → List Depth
 counted_calls functions = counted_calls_from [] functions

@@ -22,10 +22,10 @@ use Rattle.psy_meaning.specs.Statements.{act, callees_of, Hop, piece_by, all_of}
 use Rattle.psy_meaning.specs.Paths.{quiet_list}
 use Rattle.psy_meaning.specs.Rest.{pieces_of, rests_in, with_rests, rest}
 use Rattle.psy_meaning.specs.Alike.{first_copies, IsStoreOf, IsViewOf, SameAs, EndsAs, machine_at, begun, started, AgentAlike, ActsAlike}
-use Rattle.psy_gen.specs.Emission.{codes_from, function_code, function_size, functions_size, function_entries, agent_code, agent_size, agent_entry, agent_entries, stmts_code, code_of}
+use Rattle.psy_gen.specs.Emission.{codes_from, function_code, function_size, functions_size, function_entries, agent_code, agent_size, agent_entry, agent_entries, stmts_code, code_of, copy_init}
 use Rattle.psy_gen.proofs.Contexts.{Home, Room, at, HasAt, has-first, has-second, Shape, Holds}
 use Rattle.psy_gen.proofs.Counts.{over_with_last}
-use Rattle.psy_gen.proofs.Lengths.{function_length, agent_length}
+use Rattle.psy_gen.proofs.Wholes.{function_length, agent_length}
 use Rattle.psy_gen.proofs.Outcomes.{After}
 use Rattle.psy_gen.proofs.PlaceCounts.{places_count}
 use Rattle.psy_gen.proofs.ExprRuns.{expr_runs}
@@ -99,7 +99,7 @@ slots_shape : (slots : List Slots) → map length (map (λ (s : Slots). replicat
 slots_shape [] = refl
 slots_shape (s ∷ rest) = ap (λ n. n ∷ map length (map (λ (s : Slots). replicate s.cells s.init) rest)) (length-replicate s.cells s.init) ∙ ap (λ l. s.cells ∷ l) (slots_shape rest)
 
-copies_same : (copies : List Copy) → map copy_from (map (λ (c : Copy). record { variable = c.variable; init = c.value }) copies) ≡ copies
+copies_same : (copies : List Copy) → map copy_from (map copy_init copies) ≡ copies
 copies_same [] = refl
 copies_same (c ∷ rest) = ap (λ l. c ∷ l) (copies_same rest)
 

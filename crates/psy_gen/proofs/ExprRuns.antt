@@ -1,6 +1,6 @@
 -- The code of an expression acts as the expression.
 use Rattle.std.proofs.Common.{◌≡◌, refl, sym, ap, subst, ◌∙◌, arith}
-use Rattle.std.specs.Prelude.{ℕ, suc, ◌+◌, ◌<◌, ◌≤◌, max, nat_lt, Bool, true, false, not, if◌then◌else◌, List, [], ◌∷◌, ◌++◌, map, length, slice_get, slice_index_or, Option, Some, None, ℤ, pos}
+use Rattle.std.specs.Prelude.{ℕ, ◌+◌, ◌<◌, ◌≤◌, max, nat_lt, Bool, true, false, not, if◌then◌else◌, List, [], ◌∷◌, ◌++◌, map, length, slice_get, slice_index_or, Option, Some, None, ℤ, pos}
 use Rattle.std.proofs.lemmas.List.{length-append}
 use Rattle.std.specs.Int.{w32}
 use Rattle.psy_arith.specs.declared.operators.Op1.{Op1}
@@ -23,30 +23,11 @@ use Rattle.psy_meaning.specs.Depths.{Depth, shallow, one_deep, deeper, on_top_of
 use Rattle.psy_meaning.specs.Sound.{Scope, HasSlot, HasCopy, HasPast, HasStream, HasFunction, Each, sound_expr_step, IsSoundExpr}
 use Rattle.psy_meaning.specs.States.{Store, State, Got, Value, Eval, Callee, and_then, cost_1, asking, or_stop, value_at, copy_at, or_zero}
 use Rattle.psy_meaning.specs.Expressions.{eval, expr_step, element, messages_at, take_from, applied, truth_of, in_order}
+use Rattle.psy_lawful.proofs.SoundParts.{exprs_natural}
 use Rattle.psy_gen.specs.Emission.{Emit, Operand, base_of, cells_of, named, arguments_code, expr_code_step, expr_code}
 use Rattle.psy_gen.proofs.Contexts.{Context, Home, Room, joined, machine_in, at, frame_size, present_in, copies_in, HasAt, has-first, has-second, Shape, GotAfter, got_leads, got_bind, got_before}
 use Rattle.psy_gen.proofs.Lookups.{cell_is, cells_are, copy_is, past_is, messages_are, taken_there, got_is, index_small}
 use Rattle.psy_gen.proofs.Steps.{step, traps}
-
-each-map : {X : Type 0} (v : X → Expr) (f : Expr → Type 0) (xs : List X) → Each (λ x. f (v x)) xs ≡ Each f (map v xs)
-each-map v f [] = refl
-each-map v f (x ∷ xs) = ap (λ t. f (v x) × t) (each-map v f xs)
-
-length-map : {X : Type 0} (v : X → Expr) (xs : List X) → length xs ≡ length (map v xs)
-length-map v [] = refl
-length-map v (x ∷ xs) = ap suc (length-map v xs)
-
-sound_natural : (sc : Scope) (X : Type 0) (v : X → Expr) (f : Expr → Type 0) (x : Expr-F X) → sound_expr_step sc X v (λ p. f (v p)) x ≡ sound_expr_step sc Expr (λ y. y) f (map-Expr X Expr v x)
-sound_natural sc X v f (Expr-F.Number number) = refl
-sound_natural sc X v f (Expr-F.Slot slot) = refl
-sound_natural sc X v f (Expr-F.Copy variable) = refl
-sound_natural sc X v f (Expr-F.Cell slot index) = refl
-sound_natural sc X v f (Expr-F.Past variable back) = refl
-sound_natural sc X v f (Expr-F.Ready stream) = refl
-sound_natural sc X v f (Expr-F.Take stream) = refl
-sound_natural sc X v f (Expr-F.Unary operator operand) = refl
-sound_natural sc X v f (Expr-F.Binary operator left right) = refl
-sound_natural sc X v f (Expr-F.Call function arguments) = ap (λ n. HasFunction sc function n × Each (λ x. f (v x)) arguments) (length-map v arguments) ∙ ap (λ t. HasFunction sc function (length (map v arguments)) × t) (each-map v f arguments)
 
 pub len-one : (c : List Instr) (i : Instr) (n : ℕ) → length c ≡ n → length (c ++ i ∷ []) ≡ n + 1
 len-one c i n e = length-append c (i ∷ []) ∙ ap (λ x. x + 1) e
@@ -458,7 +439,7 @@ module _ (whole : Code) (its : AgentCode) (sc : Scope) (k : Context) (callees : 
         let n = sym (fold-roll-Expr ℕ expr_size_step x) in
         let d = sym (fold-roll-Expr Depth (expr_depth_step depths) x) in
         let e = sym (fold-roll-Expr Eval (expr_step callees) x) in
-        let t = sym (rec-roll-Expr (Type 0) (sound_expr_step sc) (sound_natural sc) x) in
+        let t = sym (rec-roll-Expr (Type 0) (sound_expr_step sc) (exprs_natural sc) x) in
         subst (λ a. Sized a (expr_size (roll-Expr x)) × (1 ≤ (expr_depth depths (roll-Expr x)).operands) × (IsSoundExpr sc (roll-Expr x) → Runs a (expr_size (roll-Expr x)) (expr_depth depths (roll-Expr x)) (eval callees (roll-Expr x)))) c
         (subst (λ a. Sized (expr_code_step sc.layout (map-Expr Expr Operand operand_of x)) a × (1 ≤ (expr_depth depths (roll-Expr x)).operands) × (IsSoundExpr sc (roll-Expr x) → Runs (expr_code_step sc.layout (map-Expr Expr Operand operand_of x)) a (expr_depth depths (roll-Expr x)) (eval callees (roll-Expr x)))) n
         (subst (λ a. Sized (expr_code_step sc.layout (map-Expr Expr Operand operand_of x)) (expr_size_step (map-Expr Expr ℕ expr_size x)) × (1 ≤ a.operands) × (IsSoundExpr sc (roll-Expr x) → Runs (expr_code_step sc.layout (map-Expr Expr Operand operand_of x)) (expr_size_step (map-Expr Expr ℕ expr_size x)) a (eval callees (roll-Expr x)))) d

@@ -3,14 +3,18 @@ mod Basics
 mod Calls
 mod Contexts
 mod Counts
+pub mod Equations
 mod ExprRuns
 mod Leads
-mod Lengths
+pub mod Lengths
 mod Lookups
 mod Loud
 mod NoRests
 mod Outcomes
+pub mod Patches
 mod PlaceCounts
 mod RestRuns
+pub mod Spans
 mod Steps
 mod StmtRuns
+pub mod Wholes

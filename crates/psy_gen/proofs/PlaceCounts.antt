@@ -1,18 +1,15 @@
 -- There are as many places behind an `advance` as rests.
 use Rattle.std.proofs.Common.{◌≡◌, refl, sym, ap, subst, ◌∙◌, arith}
-use Rattle.std.specs.Prelude.{ℕ, suc, ◌+◌, List, [], ◌∷◌, map, length, Some, None}
+use Rattle.std.specs.Prelude.{ℕ, ◌+◌, List, [], ◌∷◌, map, length, Some, None}
 use Rattle.std.proofs.lemmas.List.{length-append}
 use Rattle.psy_tree.specs.declared.unit.Stmt.{Stmt, roll-Stmt, para-roll-Stmt, map-Stmt, ind-Stmt}
 use Rattle.psy_tree.specs.declared.unit.Stmt.TheOpen.{Stmt-F}
 use Rattle.psy_meaning.specs.Sizes.{expr_size, stmt_size}
-use Rattle.psy_meaning.specs.Statements.{Piece, Do, Hop}
+use Rattle.psy_meaning.specs.Statements.{Do, Hop}
 use Rattle.psy_meaning.specs.Rest.{Rests, Part, each_then, pieces_of, stmts_in, rests_in, rests_step, rests_of, with_rests}
+use Rattle.psy_lawful.proofs.PathsOf.{each-length}
 use Rattle.psy_gen.specs.Emission.{Places, Placed, places_in, placed_size, places_step, places_of}
 use Rattle.psy_gen.proofs.NoRests.{placed}
-
-each-length : (rs : Rests) (pieces : List Piece) → length (each_then rs pieces) ≡ length rs
-each-length [] pieces = refl
-each-length (r ∷ rs) pieces = ap suc (each-length rs pieces)
 
 abbrev Q : Stmt → Type 0
 Q stmt = (p : ℕ) → length (places_of stmt p) ≡ length (rests_of stmt)

@@ -17,12 +17,13 @@ use Rattle.psy_meaning.specs.Statements.{all_of, hop, act_by, acts_by, Piece, Do
 use Rattle.psy_meaning.specs.Rest.{Rests, each_then, pieces_of, stmts_in, rests_in, rests_step, rests_of, with_rests}
 use Rattle.psy_meaning.specs.Rest as rest
 use Rattle.psy_meaning.specs.Paths.{holds_advance}
+use Rattle.psy_lawful.proofs.SoundParts.{stmts_natural}
 use Rattle.psy_gen.specs.Emission.{Coded, Places, Placed, expr_code, block_code, block_size, block_loops, placed_size, stmt_code_step, stmt_code, stmts_code, places_in, places_step, places_of}
 use Rattle.psy_gen.specs.Emission as emission
 use Rattle.psy_gen.proofs.Contexts.{Home, Room, at, HasAt, has-first, has-second, Shape}
 use Rattle.psy_gen.proofs.Leads.{here}
 use Rattle.psy_gen.proofs.NoRests.{placed, all_none}
-use Rattle.psy_gen.proofs.StmtRuns.{ExprKnown, AtHome, AtWork, AllPoints, stmt_runs, all_runs, all_sized, hop_after, sound_natural}
+use Rattle.psy_gen.proofs.StmtRuns.{ExprKnown, AtHome, AtWork, AllPoints, stmt_runs, all_runs, all_sized, hop_after}
 use Rattle.psy_gen.proofs.Outcomes.{keeps_same, After, after_keeps, then_after}
 
 -- ---- lists of pieces
@@ -258,7 +259,7 @@ module _ (whole : Code) (its : AgentCode) (sc : Scope) (callees : ℕ → Callee
       let one_size : p + (stmt_size z + 0) ≡ p + size_step x = omega (arith, size) in
       let self = subst (PiecesRun (Do z ∷ []) p) one_size
       (stmts_run (z ∷ []) c p (sound, tt {0}) (subst (HasAt whole.instrs p) (sym (append-nil (stmt_code sc.layout z c p))) h) (omega (arith, small)) (omega (arith, enough)) (subst Fits (sym alone) fits)) in
-      let done = layer_rests y c p (subst (HasAt whole.instrs p) coded h) (omega (arith, small, size)) (omega (arith, enough, looped)) (subst (λ (t : Type 0). t) (rec-roll-Stmt (Type 0) (sound_stmt_step sc) (sound_natural sc) x) sound) (subst Fits deep fits) self in
+      let done = layer_rests y c p (subst (HasAt whole.instrs p) coded h) (omega (arith, small, size)) (omega (arith, enough, looped)) (subst (λ (t : Type 0). t) (rec-roll-Stmt (Type 0) (sound_stmt_step sc) (stmts_natural sc) x) sound) (subst Fits deep fits) self in
       subst (λ r. EachRuns r (places_of z p) (p + stmt_size z)) (sym (para-roll-Stmt Rests rests_step x))
       (subst (λ (f : Places). EachRuns (rests_step (map-Stmt Stmt rest.Part with_rests x)) (f p) (p + stmt_size z)) (sym (para-roll-Stmt Places places_step x))
       (subst (λ n. EachRuns (rests_step (map-Stmt Stmt rest.Part with_rests x)) (places_step (map-Stmt Stmt Placed placed x) p) (p + n)) (sym size) done))

@@ -19,9 +19,10 @@ use Rattle.psy_meaning.specs.Sizes.{expr_size, stmt_size, stmts_size, stmt_size_
 use Rattle.psy_meaning.specs.Depths.{Depth, shallow, deeper, deepest, on_top_of, expr_depth, stmt_depth, stmts_depth, stmt_depth_step, loops, loops_in, loops_step}
 use Rattle.psy_meaning.specs.Sound.{Scope, HasSlot, HasCopy, Each, IsSoundExpr, IsSoundStmt, AreSound, sound_stmt_step}
 use Rattle.psy_meaning.specs.States.{State, Ended, Outcome, Falls, Returns, Halts, Act, Callee, with_value, then_do, cost_1, asking, trapping, or_halt, copy_at, with_slot, with_copy_at}
-use Rattle.psy_meaning.specs.Paths.{holds_advance, quiet_list}
+use Rattle.psy_meaning.specs.Paths.{quiet_list}
 use Rattle.psy_meaning.specs.Expressions.{eval}
 use Rattle.psy_meaning.specs.Statements.{set_element, all_of, choose, hop, branches, turns, stmt_step, act_by, acts_by}
+use Rattle.psy_lawful.proofs.SoundParts.{stmts_natural}
 use Rattle.psy_gen.specs.Emission.{Emit, Coded, Part, base_of, cells_of, expr_code, block_code, block_size, block_loops, if_code, bounded_code, timed_code, stmt_code_step, stmt_code, stmts_code}
 use Rattle.psy_gen.proofs.Leads.{Leads, here, after, by_one, went, ended}
 use Rattle.psy_gen.proofs.Contexts.{Context, Home, Inside, Room, has_room_by, joined, machine_in, at, frame_size, HasAt, has-first, has-second, Shape, Holds}
@@ -31,29 +32,6 @@ use Rattle.psy_gen.proofs.Steps.{traps}
 use Rattle.psy_gen.proofs.ExprRuns.{Runs, Sized, len-one}
 use Rattle.psy_gen.proofs.Outcomes.{Keeps, keeps_same, returned, LeadsTo, After, after_leads, after_at, after_keeps, after_any, value_after, then_after, then_down, step_to, size_is, counter_in, store_goes, zero_goes, guard_is, keeps_set, get-set}
 use Rattle.psy_gen.proofs.Basics.{got-within}
-
-each-map : {X : Type 0} (v : X → Stmt) (f : Stmt → Type 0) (xs : List X) → Each (λ x. f (v x)) xs ≡ Each f (map v xs)
-each-map v f [] = refl
-each-map v f (x ∷ xs) = ap (λ t. f (v x) × t) (each-map v f xs)
-
-same-map : {X : Type 0} (v : X → Stmt) (xs : List X) → map v xs ≡ map (λ y. y) (map v xs)
-same-map v [] = refl
-same-map v (x ∷ xs) = ap (λ l. v x ∷ l) (same-map v xs)
-
-pub sound_natural : (sc : Scope) (X : Type 0) (v : X → Stmt) (f : Stmt → Type 0) (x : Stmt-F X) → sound_stmt_step sc X v (λ p. f (v p)) x ≡ sound_stmt_step sc Stmt (λ y. y) f (map-Stmt X Stmt v x)
-sound_natural sc X v f (Stmt-F.Set slot value) = refl
-sound_natural sc X v f (Stmt-F.SetCopy variable value) = refl
-sound_natural sc X v f (Stmt-F.SetCell slot index value) = refl
-sound_natural sc X v f (Stmt-F.If test branch None) = ap (λ t. IsSoundExpr sc test × t × ⊤) (each-map v f branch)
-sound_natural sc X v f (Stmt-F.If test branch (Some other)) =
-    ap (λ t. IsSoundExpr sc test × t × Each (λ x. f (v x)) other) (each-map v f branch) ∙ ap (λ t. IsSoundExpr sc test × Each f (map v branch) × t) (each-map v f other)
-sound_natural sc X v f (Stmt-F.Bounded test most body) =
-    ap (λ l. IsSoundExpr sc test × (most ≤ 65536) × Each (λ x. f (v x)) body × (holds_advance l ≡ false)) (same-map v body) ∙ ap (λ t. IsSoundExpr sc test × (most ≤ 65536) × t × (holds_advance (map (λ y. y) (map v body)) ≡ false)) (each-map v f body)
-sound_natural sc X v f (Stmt-F.Timed test body) =
-    ap (λ l. IsSoundExpr sc test × (quiet_list l ≡ false) × Each (λ x. f (v x)) body) (same-map v body) ∙ ap (λ t. IsSoundExpr sc test × (quiet_list (map (λ y. y) (map v body)) ≡ false) × t) (each-map v f body)
-sound_natural sc X v f (Stmt-F.Send value stream after clock) = refl
-sound_natural sc X v f (Stmt-F.Advance point) = refl
-sound_natural sc X v f (Stmt-F.Return value) = refl
 
 module _ (whole : Code) (its : AgentCode) (sc : Scope) (k : Context) (callees : ℕ → Callee) (depths : List Depth) (more count : ℕ) where
   -- What is known of an expression's code
@@ -621,7 +599,7 @@ module _ (whole : Code) (its : AgentCode) (sc : Scope) (k : Context) (callees : 
         let el = sym (fold-roll-Stmt ℕ loops_step x) in
         let ed = sym (fold-roll-Stmt Depth (stmt_depth_step depths) x) in
         let ea = sym (fold-roll-Stmt Act (stmt_step callees) x) in
-        let es = sym (rec-roll-Stmt (Type 0) (sound_stmt_step sc) (sound_natural sc) x) in
+        let es = sym (rec-roll-Stmt (Type 0) (sound_stmt_step sc) (stmts_natural sc) x) in
         let c = stmt_code_step sc.layout (map-Stmt Stmt Part part_of x) in
         let n = stmt_size_step (map-Stmt Stmt ℕ stmt_size x) in
         let l = loops_step (map-Stmt Stmt ℕ loops x) in

@@ -13,11 +13,13 @@ use Rattle.psy_tree.specs.declared.unit.Stmt.{Stmt, para-Stmt}
 use Rattle.psy_tree.specs.declared.unit.Stmt.TheOpen.{Stmt-F}
 use Rattle.psy_code.specs.declared.code.Code.{Code}
 use Rattle.psy_code.specs.declared.code.AgentCode.{AgentCode}
+use Rattle.psy_code.specs.declared.code.CopyInit.{CopyInit}
 use Rattle.psy_code.specs.declared.code.FunctionCode.{FunctionCode}
 use Rattle.psy_code.specs.declared.instr.Binary.{Binary}
 use Rattle.psy_code.specs.declared.instr.Binary.TheVariants as two
 use Rattle.psy_code.specs.declared.instr.Instr.{Instr}
 use Rattle.psy_code.specs.declared.instr.Instr.TheVariants as instr
+use Rattle.psy_code.specs.Execution.{Copy}
 use Rattle.psy_meaning.specs.Sizes.{total, expr_size, stmt_size, stmts_size}
 use Rattle.psy_meaning.specs.Depths.{loops, loops_in, agent_depth}
 use Rattle.psy_meaning.specs.Alike.{first_slots, first_copies}
@@ -99,6 +101,10 @@ expr_code_step layout (Expr-F.Call function arguments) p = arguments_code argume
 abbrev pub expr_code : Layout → Expr → Emit
 expr_code layout = para-Expr Emit (expr_code_step layout)
 
+-- The code of expressions, from left to right
+abbrev pub exprs_code : Layout → List Expr → Emit
+exprs_code layout exprs = arguments_code (map (λ e. (e, expr_code layout e)) exprs) []
+
 -- ---- statements
 
 -- Instructions, by the number of the first bounded loop and the place of the first instruction
@@ -114,10 +120,11 @@ abbrev pub block_code : List Part → Coded
 block_code [] counter p = []
 block_code (s ∷ rest) counter p = s.1 counter p ++ block_code rest (counter + loops s.0) (p + stmt_size s.0)
 
--- The size of a block, and its number of bounded loops
+-- The size of a block
 abbrev pub block_size : List Part → ℕ
 block_size parts = total (map (λ s. stmt_size s.0) parts)
 
+-- Its number of bounded loops
 abbrev pub block_loops : List Part → ℕ
 block_loops parts = total (map (λ s. loops s.0) parts)
 
@@ -175,6 +182,7 @@ Places = ℕ → List ℕ
 abbrev pub Placed : Type 0
 Placed = Stmt × Places
 
+-- Those of statements one after the other
 abbrev pub places_in : List Placed → Places
 places_in [] p = []
 places_in (s ∷ rest) p = s.1 p ++ places_in rest (p + stmt_size s.0)
@@ -183,6 +191,7 @@ places_in (s ∷ rest) p = s.1 p ++ places_in rest (p + stmt_size s.0)
 abbrev pub placed_size : List Placed → ℕ
 placed_size placed = total (map (λ s. stmt_size s.0) placed)
 
+-- The places behind the `advance` statements of a statement, once those of its parts are known
 abbrev pub places_step : Stmt-F Placed → Places
 places_step (Stmt-F.Advance point) p = (p + 1) ∷ []
 places_step (Stmt-F.If test branch None) p = places_in branch (p + expr_size test + 1)
@@ -213,9 +222,11 @@ function_code f p = stmts_code (function_layout f) f.stmts 0 p ++ (instr.Push (p
 abbrev pub function_size : FunctionDecl → ℕ
 function_size f = stmts_size f.stmts + 2
 
+-- What a call begins with, where the function's code begins at a place
 abbrev pub function_entry : FunctionDecl → ℕ → FunctionCode
 function_entry f p = record { entry = p; params = f.params; locals = f.locals; counters = loops_in f.stmts }
 
+-- By slot of an agent, how many cells it has
 abbrev pub agent_layout : AgentDecl → Layout
 agent_layout agent = map (λ s. s.cells) agent.slots
 
@@ -227,6 +238,10 @@ agent_code agent p = stmts_code (agent_layout agent) agent.stmts 0 p ++ instr.Ju
 abbrev pub agent_size : AgentDecl → ℕ
 agent_size agent = stmts_size agent.stmts + 1
 
+-- The variable and the value of a working copy
+abbrev pub copy_init : Copy → CopyInit
+copy_init c = record { variable = c.variable; init = c.value }
+
 -- What the agent's machine is made from, where its code begins at a place
 abbrev pub agent_entry : Whole → ℕ → AgentDecl → ℕ → AgentCode
 agent_entry unit number agent p =
@@ -235,7 +250,7 @@ agent_entry unit number agent p =
       points = p ∷ stmts_places agent.stmts p;
       cells = flat_map (λ cells. cells) (first_slots agent);
       counters = loops_in agent.stmts;
-      copies = map (λ c. record { variable = c.variable; init = c.value }) (first_copies unit number);
+      copies = map copy_init (first_copies unit number);
       stack = depth.operands;
       frames = depth.cells;
     }
@@ -247,10 +262,12 @@ abbrev pub codes_from : {X : Type 0} → (X → Emit) → (X → ℕ) → List X
 codes_from code size [] p = []
 codes_from code size (x ∷ rest) p = code x p ++ codes_from code size rest (p + size x)
 
+-- What calls of these functions begin with, where their codes stand one after the other from a place on
 abbrev pub function_entries : List FunctionDecl → ℕ → List FunctionCode
 function_entries [] p = []
 function_entries (f ∷ rest) p = function_entry f p ∷ function_entries rest (p + function_size f)
 
+-- What the machines of these agents are made from, counted from a number on, and where their codes stand one after the other
 abbrev pub agent_entries : Whole → ℕ → List AgentDecl → ℕ → List AgentCode
 agent_entries unit number [] p = []
 agent_entries unit number (a ∷ rest) p = agent_entry unit number a p ∷ agent_entries unit (number + 1) rest (p + agent_size a)

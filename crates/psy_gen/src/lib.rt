@@ -1,4 +1,16 @@
-//! The compiler: the code of a unit.
+//! The compiler: from a unit to the code that acts as its statements.
 #![tactic(auto)]
 
+mod agents;
+mod expressions;
+mod functions;
+mod instrs;
 pub mod laws;
+mod layout;
+mod limits;
+mod statements;
+#[cfg(test)]
+mod tests;
+mod whole;
+
+pub use whole::generate;

@@ -12,9 +12,11 @@ use Rattle.psy_machine.specs.Stepping.{AgentMachine, Answers, machine_after}
 abbrev pub store_top : ℕ → Machine → Next
 store_top cell m = with_top m.operands (λ v rest. store cell v rest m)
 
+-- pushes the working copy of a variable
 abbrev pub push_copy : ℕ → Machine → Next
 push_copy variable m = need (copy_of variable m.copies) (λ v. push v m)
 
+-- 1 in the place of a value that isn't 0
 abbrev pub truth_of_top : Machine → Next
 truth_of_top m = with_top m.operands (λ v rest. onward (truth (not (is_zero v)) ∷ rest) m)
 
@@ -30,9 +32,11 @@ leave_zero to m = with_top m.operands (λ v rest. if is_zero v then jump to (pos
 abbrev pub leave_one : ℕ → Machine → Next
 leave_one to m = with_top m.operands (λ v rest. if is_zero v then onward rest m else jump to (pos 1 ∷ rest) m)
 
+-- ends the innermost call, with the value on top
 abbrev pub leave_call : Machine → Next
 leave_call m = with_top m.operands (λ v rest. back_from m.calls m)
 
+-- ends the action; the machine goes on behind the point
 abbrev pub advance_to : AgentCode → ℕ → Machine → Next
 advance_to agent point m = need (slice_get agent.points point) (λ place. Ended point (begun_at place m))
 

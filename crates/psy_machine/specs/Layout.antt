@@ -24,6 +24,7 @@ abbrev pub IsCut : List Header → Place → ℕ → ℕ → Place → Type 0
 IsCut [] at cells counters end = (at.cells ≡ 0) × (at.counters ≡ 0) × (cells ≡ end.cells) × (counters ≡ end.counters)
 IsCut (h ∷ hs) at cells counters end = (at.cells ≤ cells) × (at.counters ≤ counters) × IsCut hs h.caller at.cells at.counters end
 
+-- The frames as they are cut out of the cells and counters
 abbrev pub frames_in : Inside → FrameStack
 frames_in f = record {
   home = home_in (reverse f.headers.items) f.present f.cells.items f.counters.items;
@@ -31,6 +32,7 @@ frames_in f = record {
   room = f.room;
 }
 
+-- The frames lie one behind the other, and there is room for what may still be called.
 pub record IsLaidOut (f : Inside) : Type 0 where
   pub cut : IsCut (reverse f.headers.items) f.present (length f.cells.items) (length f.counters.items) f.home_end
   -- room is reserved behind the agent's own frame, and for 64 calls

@@ -2,12 +2,14 @@
 use Rattle.std.specs.Prelude.{ℕ, List, ℤ}
 use Rattle.psy_code.specs.Execution.{Frame, OpenCall, frame_of, home_with, calls_with}
 
+-- The operands, and how many there may be
 pub record OperandStack : Type 0 where
   -- the top first
   pub values : List ℤ
   -- how many operands there is room for
   pub room : ℕ
 
+-- The frames of the agent and of its open calls, and how much these may hold
 pub record FrameStack : Type 0 where
   -- the agent's own frame
   pub home : Frame

@@ -21,6 +21,7 @@ pub record AgentMachine : Type 0 where
 abbrev pub IsOf : Code → AgentMachine → Type 0
 IsOf code m = (agent : AgentCode) × (slice_get code.agents m.agent ≡ Some agent) × (agent.stack ≤ m.stack) × (agent.frames ≤ m.frames)
 
+-- A new machine of this agent stands at point 0 with the first values.
 abbrev pub IsNew : Code → ℕ → AgentMachine → Type 0
 IsNew code number m = (agent : AgentCode) × (slice_get code.agents number ≡ Some agent) × (m.agent ≡ number) × (m.machine ≡ new_machine agent)
 
@@ -41,6 +42,7 @@ machine_after (Went machine) m = machine
 machine_after (Ended point machine) m = machine
 machine_after _ m = m
 
+-- The machine after its next instruction
 abbrev pub stepped : Code → View → AgentMachine → AgentMachine
 stepped code view m = record m { machine = machine_after (next_for code view m) m.machine }
 
@@ -50,6 +52,7 @@ abbrev pub PermitsAll : Window → Option Call → Type 0
 PermitsAll window None = ⊤
 PermitsAll window (Some call) = Permits window call
 
+-- What the world serves once it was asked
 abbrev pub window_after : Window → Option Call → Window
 window_after window None = window
 window_after window (Some call) = answered window call

@@ -1,4 +1,4 @@
--- An action ends at an `advance` or traps.
+-- An action ends at an `advance` or traps on a way to one.
 use Rattle.std.proofs.Common.{◌≡◌, refl}
 use Rattle.std.specs.Prelude.{ℕ, zero, suc, false, true, List, [], ◌∷◌, map, None, slice_index_or}
 use Rattle.psy_tree.specs.declared.unit.Stmt.{Stmt}
@@ -6,7 +6,8 @@ use Rattle.psy_meaning.specs.States.{Final, Outcome, Falls, Returns, Halts}
 use Rattle.psy_meaning.specs.Statements.{Piece, Do, Hop}
 use Rattle.psy_meaning.specs.Paths.{quiet_list}
 use Rattle.psy_meaning.specs.Rest.{pieces_of, rests_in, with_rests, rest}
-use Rattle.psy_meaning.specs.Ways.{Meter, Way, Course, Fell, Back, here, one, falling, courses_through, course_by, piece_course}
+use Rattle.psy_meaning.specs.Ways.{Meter, Way, Course, Fell, Back, To, IsFrontOf, here, one, falling, courses_through, course_by, piece_course}
+use Rattle.psy_meaning.proofs.Fronts.{FrontIn}
 use Rattle.psy_meaning.proofs.NoWays.{NoWay, none, none_on, none_falling, no_fall_second, no_fall_through, no_fall_behind}
 use Rattle.psy_meaning.proofs.StatementRuns.{OutBy}
 use Rattle.psy_meaning.proofs.Rests.{AllFine}
@@ -26,3 +27,8 @@ pub ended : (course : Course) (m : Meter) (o p : Outcome) → NoWay Fell course 
 ended course m (Falls t) p f b g e = elim (f m _ g) [ ]
 ended course m (Returns v t) p f b g e = elim (b m _ g) [ ]
 ended course m (Halts final) p f b g e = (final, e)
+
+pub to_point : (course : Course) (m k : Meter) → NoWay Fell course → NoWay Back course → FrontIn course m k → (point : ℕ) × (n : Meter) × course (To point) m n × IsFrontOf k n
+to_point course m k f b (Fell, n, w, front) = elim (f m n w) [ ]
+to_point course m k f b (Back, n, w, front) = elim (b m n w) [ ]
+to_point course m k f b (To point, n, w, front) = (point, n, w, front)

@@ -1,7 +1,10 @@
 mod CalleeRuns
 mod Counting
 mod Endings
+mod Fronts
+mod Layers
 mod NoWays
+mod OpenWays
 mod Rests
 mod Runs
 mod StatementRuns

@@ -8,7 +8,7 @@ use Rattle.psy_meaning.specs.Statements.{Piece}
 use Rattle.psy_meaning.specs.Paths.{one_of, holds_step, holds, all_quiet, quiet_step, quiet, quiet_list}
 use Rattle.psy_meaning.specs.Ways.{Meter, Way, Course, End, Fell, Back, To, here, one, both, sending, falling, returning, reaching, behind, and_on, or_else, courses_through, turning, course_step, course_by, expr_way, piece_course}
 use Rattle.psy_meaning.specs.Rest.{pieces_of}
-use Rattle.psy_meaning.proofs.StatementRuns.{natural}
+use Rattle.psy_meaning.proofs.Layers.{natural_stmt}
 
 abbrev pub NoWay : End → Course → Type 0
 NoWay end course = (m n : Meter) → course end m n → ⊥
@@ -109,7 +109,7 @@ module _ (ways : ℕ → Way) (advance back : Bool) (left : Option ℕ) (fits : 
   layer : (y : Stmt-F Known) → Q (roll-Stmt (map-Stmt Known Stmt tree y))
   layer y h =
       let x : Stmt-F Stmt = map-Stmt Known Stmt tree y in
-      subst (NoWay (out left)) (sym (rec-roll-Stmt Course (course_step ways) (natural ways) x)) (step_none y (sym (fold-roll-Stmt Bool (holds_step advance back) x) ∙ h))
+      subst (NoWay (out left)) (sym (rec-roll-Stmt Course (course_step ways) (natural_stmt ways) x)) (step_none y (sym (fold-roll-Stmt Bool (holds_step advance back) x) ∙ h))
 
   pub none : (stmt : Stmt) → Q stmt
   none = ind-Stmt Q (λ x y is. subst (λ z. Q (roll-Stmt z)) is (layer y))
@@ -176,7 +176,7 @@ module _ (ways : ℕ → Way) where
   loud_layer : (y : Stmt-F Loud) → R (roll-Stmt (map-Stmt Loud Stmt loud_tree y))
   loud_layer y h =
       let x : Stmt-F Stmt = map-Stmt Loud Stmt loud_tree y in
-      subst (NoWay Fell) (sym (rec-roll-Stmt Course (course_step ways) (natural ways) x)) (step_loud y (sym (fold-roll-Stmt Bool quiet_step x) ∙ h))
+      subst (NoWay Fell) (sym (rec-roll-Stmt Course (course_step ways) (natural_stmt ways) x)) (step_loud y (sym (fold-roll-Stmt Bool quiet_step x) ∙ h))
 
   loud : (stmt : Stmt) → R stmt
   loud = ind-Stmt R (λ x y is. subst (λ z. R (roll-Stmt z)) is (loud_layer y))

@@ -85,20 +85,23 @@ stmt_depth functions = fold-Stmt Depth (stmt_depth_step functions)
 abbrev pub stmts_depth : List Depth → List Stmt → Depth
 stmts_depth functions stmts = deepest (map (stmt_depth functions) stmts)
 
--- How many bounded loops a statement is or holds
+-- What the second branch counts, where there is one
 abbrev pub some_of : Option (List ℕ) → ℕ
 some_of None = 0
 some_of (Some ns) = total ns
 
+-- How many bounded loops a statement is or holds, once those of its parts are known
 abbrev pub loops_step : Stmt-F ℕ → ℕ
 loops_step (Stmt-F.If test branch other) = total branch + some_of other
 loops_step (Stmt-F.Bounded test most body) = total body + 1
 loops_step (Stmt-F.Timed test body) = total body
 loops_step _ = 0
 
+-- How many bounded loops a statement is or holds
 abbrev pub loops : Stmt → ℕ
 loops = fold-Stmt ℕ loops_step
 
+-- How many stand in statements
 abbrev pub loops_in : List Stmt → ℕ
 loops_in stmts = total (map loops stmts)
 
@@ -112,6 +115,7 @@ abbrev pub call_depths_from : List Depth → List FunctionDecl → List Depth
 call_depths_from above [] = above
 call_depths_from above (f ∷ rest) = call_depths_from (above ++ call_depth above f ∷ []) rest
 
+-- The depths of the calls of a unit's functions, by number
 abbrev pub call_depths : List FunctionDecl → List Depth
 call_depths functions = call_depths_from [] functions
 

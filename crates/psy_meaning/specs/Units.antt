@@ -27,22 +27,26 @@ abbrev pub OwnedWithin : ℕ → Option ℕ → Type 0
 OwnedWithin agents None = ⊤
 OwnedWithin agents (Some owner) = owner < agents
 
+-- A temporal variable or input names what exists, and keeps its ranges.
 pub record IsBareVariable (unit : Whole) (v : VarDecl) : Type 0 where
   pub name : IsName v.name
   pub owner : OwnedWithin (length unit.agents) v.owner
   pub clock : v.clock < length unit.clocks
   pub depth : Within 1 1024 v.depth
 
+-- A stream names what exists, and keeps its ranges.
 pub record IsBareStream (unit : Whole) (s : StreamDecl) : Type 0 where
   pub name : IsName s.name
   pub receiver : s.receiver < length unit.agents
   pub clock : s.clock < length unit.clocks
   pub keep : Within 1 1024 s.keep
 
+-- A function has at most 64 parameters and locals.
 pub record IsBareFunction (f : FunctionDecl) : Type 0 where
   pub name : IsName f.name
   pub slots : f.params + length f.locals ≤ 64
 
+-- A variable or array of an agent has 1 to 256 cells.
 pub record IsBareSlot (s : Slots) : Type 0 where
   pub name : IsName s.name
   pub cells : Within 1 256 s.cells
@@ -58,6 +62,7 @@ abbrev pub HasHead : AgentDecl → List Point → (Point → Type 0) → Type 0
 HasHead a [] lawful = ⊥
 HasHead a (head ∷ rest) lawful = (head ≡ record { count = 0; clock = a.clock; budget = a.budget }) × All lawful rest
 
+-- An agent names what exists, and keeps its ranges and limits.
 pub record IsBareAgent (unit : Whole) (a : AgentDecl) : Type 0 where
   pub name : IsName a.name
   pub clock : a.clock < length unit.clocks

@@ -1,5 +1,5 @@
 -- The ways of an action, whatever its values: each test goes either way.
-use Rattle.std.specs.Prelude.{map, ◌≡◌, ℕ, zero, suc, ◌+◌, List, [], ◌∷◌, ◌++◌, Option, Some, None, ◌⊎◌, ◌≢◌}
+use Rattle.std.specs.Prelude.{map, ◌≡◌, ℕ, zero, suc, ◌+◌, ◌≤◌, List, [], ◌∷◌, ◌++◌, Option, Some, None, ◌⊎◌, ◌≢◌}
 use Rattle.psy_arith.specs.declared.operators.Op2.{Op2}
 use Rattle.psy_arith.specs.declared.operators.Op2.TheVariants as op
 use Rattle.psy_code.specs.declared.look.Sent.{Sent}
@@ -201,3 +201,9 @@ piece_course callees Hop = falling one
 -- A way through the pieces to the first `advance`, that of the point
 abbrev pub IsWay : List FunctionDecl → List Piece → ℕ → Meter → Type 0
 IsWay functions pieces point met = courses_through (piece_course (callee_ways functions)) pieces (To point) unmetered met
+
+-- What was met is the front of what a way meets: no more instructions, and the first of its looks and sends.
+pub record IsFrontOf (some whole : Meter) : Type 0 where
+  pub steps : some.steps ≤ whole.steps
+  pub looks : (more : List Looked) × (whole.looks ≡ some.looks ++ more)
+  pub sends : (more : List ℕ) × (whole.sends ≡ some.sends ++ more)

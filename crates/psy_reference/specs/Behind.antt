@@ -16,9 +16,11 @@ abbrev pub own_stmts : Option AgentDecl → List Stmt
 own_stmts None = []
 own_stmts (Some a) = a.stmts
 
+-- The statements of an agent by its number
 abbrev pub stmts_of : Whole → ℕ → List Stmt
 stmts_of unit agent = own_stmts (slice_get unit.agents agent)
 
+-- The rests behind each `advance` of statements
 abbrev pub rests_of_list : List Stmt → Rests
 rests_of_list stmts = rests_in (map with_rests stmts)
 

@@ -10,11 +10,13 @@ use Rattle.psy_reference.specs.declared.outcome.Outcome.TheVariants as outcome
 use Rattle.psy_reference.specs.declared.outcome.Got as a
 use Rattle.psy_reference.specs.declared.outcome.Outcome as the
 
+-- What an expression gave
 abbrev pub got_of : a.Got → Got
 got_of (got.Value v s) = Value v s
 got_of (got.Ended point s) = Stops (Ended point s)
 got_of (got.Trapped kind s) = Stops (Trapped kind s)
 
+-- What statements came to
 abbrev pub outcome_of : the.Outcome → Outcome
 outcome_of (outcome.Falls s) = Falls s
 outcome_of (outcome.Returns v s) = Returns v s

@@ -9,6 +9,7 @@ use Rattle.psy_reference.specs.declared.expressions.Left.{Left}
 use Rattle.psy_reference.specs.declared.expressions.Left.TheVariants as left
 use Rattle.psy_reference.specs.Outcomes.{got_of}
 
+-- An operator, from what its left side gave and the right side
 abbrev pub from_left : Op2 → Got → Eval → Got
 from_left op.AndAnd l right = and_then l (λ a t. if is_zero a then Value (pos 0) (cost_1 t) else truth_of (right (cost_1 t)))
 from_left op.OrOr l right = and_then l (λ a t. if is_zero a then truth_of (right (cost_1 t)) else Value (pos 1) (cost_1 t))
@@ -20,6 +21,7 @@ joined op.AndAnd a right = truth_of right
 joined op.OrOr a right = truth_of right
 joined operator a right = and_then right (λ b u. applied operator a b u)
 
+-- An operator, once the left side has decided it or given its value
 abbrev pub from_side : Left → Op2 → Eval → Got
 from_side (left.Decides got) operator right = got_of got
 from_side (left.Value a s) operator right = joined operator a (right s)

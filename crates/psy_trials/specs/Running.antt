@@ -11,6 +11,7 @@ pub record Trial : Type 0 where
   pub machine : Machine
   pub window : Window
 
+-- What an instruction asks of the world is served, or it asks nothing.
 abbrev pub serves : Window → Option Call → Bool
 serves window None = true
 serves window (Some (Past variable back)) = is_some (past_of window.view variable back)
@@ -22,6 +23,7 @@ serves window (Some (Send sent)) = nat_lt sent.stream window.streams && (nat_lt 
 abbrev pub goes_on : Machine → Option Call → Window → (Trial → Bool) → Bool
 goes_on m call window rest = serves window call && (is_some (copy_of 0 m.copies) && rest (record { machine = m; window = window_after window call }))
 
+-- The next instruction can be executed, and the rest behind it.
 abbrev pub goes_by : Next → Option Call → Trial → (Trial → Bool) → Bool
 goes_by (Went m) call t rest = goes_on m call t.window rest
 goes_by (Ended point m) call t rest = goes_on m call t.window rest

@@ -1,0 +1,60 @@
+use Rattle.std.proofs.Common.{rules, ◌+◌, ◌++◌, drop, length, ap, sym, ◌∙◌}
+use Rattle.std.proofs.lemmas.Result.{on_ok_weaker}
+use Rattle.psy_code.specs.declared.instr.Instr.TheVariants as instr
+use Rattle.psy_gen.specs.Emission.{exprs_code}
+use Rattle.psy_gen.proofs.Equations.{operand, code_number, code_slot, code_copy, code_cell, code_past, code_ready, code_take, code_unary, code_binary, code_call, arguments_behind, binary_eager}
+use Rattle.psy_gen.proofs.Patches.{then_one, patch_lazy, then_operator, exprs_more, drop_read}
+use Rattle.psy_gen.proofs.expressions.+emit_expr.Goals as goal
+
+pub emit_expr-returns-in-Number : goal.emit_expr-returns-in-Number
+emit_expr-returns-in-Number t c = rw (c.in-Number.is, code_number) (search rules)
+
+pub emit_expr-returns-in-Slot : goal.emit_expr-returns-in-Slot
+emit_expr-returns-in-Slot t c = rw (c.in-Slot.is, code_slot, ← c.base.ensures) c.push-in-Slot.ensures
+
+pub emit_expr-returns-in-Copy : goal.emit_expr-returns-in-Copy
+emit_expr-returns-in-Copy t c = rw (c.in-Copy.is, code_copy) c.push-in-Copy.ensures
+
+pub emit_expr-returns-in_ok-emit_expr-in-Cell : goal.emit_expr-returns-in_ok-emit_expr-in-Cell
+emit_expr-returns-in_ok-emit_expr-in-Cell t c =
+    rw (c.in-Cell.is, code_cell, ← c.get.ensures, ← c.base-in-Cell.ensures, ← c.cells.ensures) (on_ok_weaker c.push-in-Cell.result (then_one _ _ _ _ _ c.in_ok-emit_expr-in-Cell.ensures) c.push-in-Cell.ensures)
+
+pub emit_expr-returns-in-Past : goal.emit_expr-returns-in-Past
+emit_expr-returns-in-Past t c = rw (c.in-Past.is, code_past) c.push-in-Past.ensures
+
+pub emit_expr-returns-in-Ready : goal.emit_expr-returns-in-Ready
+emit_expr-returns-in-Ready t c = rw (c.in-Ready.is, code_ready) c.push-in-Ready.ensures
+
+pub emit_expr-returns-in-Take : goal.emit_expr-returns-in-Take
+emit_expr-returns-in-Take t c = rw (c.in-Take.is, code_take) c.push-in-Take.ensures
+
+pub emit_expr-returns-in_ok-emit_expr-in-Unary : goal.emit_expr-returns-in_ok-emit_expr-in-Unary
+emit_expr-returns-in_ok-emit_expr-in-Unary t c =
+    rw (c.in-Unary.is, code_unary, ← c.get-in-Unary.ensures) (on_ok_weaker c.push-in-Unary.result (then_one _ _ _ _ _ c.in_ok-emit_expr-in-Unary.ensures) c.push-in-Unary.ensures)
+
+pub emit_expr-returns-in_ok-emit_exprs-in-Call : goal.emit_expr-returns-in_ok-emit_exprs-in-Call
+emit_expr-returns-in_ok-emit_exprs-in-Call t c =
+    rw (c.in-Call.is, code_call, arguments_behind, ← c.as_slice.ensures) (on_ok_weaker c.push-in-Call.result (then_one _ _ _ _ _ c.in_ok-emit_exprs-in-Call.ensures) c.push-in-Call.ensures)
+
+pub emit_exprs-loop-expr-preserved : goal.emit_exprs-loop-expr-preserved
+emit_exprs-loop-expr-preserved t c =
+    let next = exprs_more c.args.layout.now c.expr-item.result (drop (c.loop-expr.expr-index + 1) c.args.exprs.now) c.loop-expr.code c.emit_expr.new.code c.in_ok-emit_expr.ensures in
+    next ∙ ap (λ es. c.loop-expr.code ++ exprs_code c.args.layout.now es (length c.loop-expr.code)) (sym (drop_read c.args.exprs.now c.loop-expr.expr-index c.expr-item.result c.loop-expr-test.true c.expr-item.is)) ∙ c.loop-expr.invariant
+
+pub emit_expr-returns-in_ok-push-in-AndAnd : goal.emit_expr-returns-in_ok-push-in-AndAnd
+emit_expr-returns-in_ok-push-in-AndAnd t c =
+    rw (c.set.ensures, c.place.ensures, c.in-Binary.is, code_binary, c.in-AndAnd.is, ← c.get-in-Binary.ensures, ← c.get-in-AndAnd.ensures)
+    (patch_lazy c.args.layout.now instr.AndTest _ _ _ _ _ _ _ _ c.in_ok-emit_expr-in-Binary.ensures c.in_ok-test-in-AndAnd.ensures.place c.in_ok-test-in-AndAnd.ensures.held c.in_ok-emit_expr-in-AndAnd.ensures c.in_ok-push-in-AndAnd.ensures)
+
+pub emit_expr-returns-in_ok-push-in-OrOr : goal.emit_expr-returns-in_ok-push-in-OrOr
+emit_expr-returns-in_ok-push-in-OrOr t c =
+    rw (c.set-in-OrOr.ensures, c.place-in-OrOr.ensures, c.in-Binary.is, code_binary, c.in-OrOr.is, ← c.get-in-Binary.ensures, ← c.get-in-OrOr.ensures)
+    (patch_lazy c.args.layout.now instr.OrTest _ _ _ _ _ _ _ _ c.in_ok-emit_expr-in-Binary.ensures c.in_ok-test-in-OrOr.ensures.place c.in_ok-test-in-OrOr.ensures.held c.in_ok-emit_expr-in-OrOr.ensures c.in_ok-push-in-OrOr.ensures)
+
+pub emit_expr-returns-in_ok-emit_expr-in_default : goal.emit_expr-returns-in_ok-emit_expr-in_default
+emit_expr-returns-in_ok-emit_expr-in_default t c =
+    let layout = c.args.layout.now in
+    let p = length c.args.code.now in
+    let eager = binary_eager c.in-Binary.op (operand layout c.in-Binary.left) (operand layout c.in-Binary.right) p c.in_default.not-AndAnd c.in_default.not-OrOr in
+    rw (c.in-Binary.is, code_binary, eager, ← c.get-in-Binary.ensures, ← c.get-in_default.ensures, ← c.binary_of.ensures)
+    (on_ok_weaker c.push-in_default.result (then_operator layout _ _ _ _ _ _ _ c.in_ok-emit_expr-in-Binary.ensures c.in_ok-emit_expr-in_default.ensures) c.push-in_default.ensures)

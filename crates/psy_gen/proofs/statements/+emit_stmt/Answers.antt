@@ -1,0 +1,109 @@
+use Rattle.std.proofs.Common.{◌+◌, ◌++◌, drop, length, sym, ap, ◌∙◌, append-nil, append_assoc}
+use Rattle.std.proofs.lemmas.Result.{on_ok_weaker}
+use Rattle.psy_meaning.specs.Depths.{loops_in}
+use Rattle.psy_gen.specs.Emission.{stmts_code, stmts_places}
+use Rattle.psy_gen.proofs.Equations.{code_set, code_set_copy, code_set_cell, code_send, code_advance, code_return, places_set, places_set_copy, places_set_cell, places_send, places_advance, places_return, places_if, places_if_else, places_bounded, places_timed}
+use Rattle.psy_gen.proofs.Patches.{then_one, then_operator, drop_read, stmts_more, places_more, loops_more, to_first, to_second, to_turn, behind_one, patch_if, patch_if_else, patch_bounded, patch_timed}
+use Rattle.psy_gen.proofs.statements.+emit_stmt.Goals as goal
+
+pub emit_stmt-returns-in_ok-emit_expr-in-Set-clause-code : goal.emit_stmt-returns-in_ok-emit_expr-in-Set-clause-code
+emit_stmt-returns-in_ok-emit_expr-in-Set-clause-code t c =
+    rw (c.in-Set.is, code_set, ← c.base.ensures) (on_ok_weaker c.push.result (then_one _ _ _ _ _ c.in_ok-emit_expr-in-Set.ensures) c.push.ensures)
+
+pub emit_stmt-returns-in_ok-emit_expr-in-Set-clause-places : goal.emit_stmt-returns-in_ok-emit_expr-in-Set-clause-places
+emit_stmt-returns-in_ok-emit_expr-in-Set-clause-places t c = rw (c.in-Set.is, places_set) (on_ok_weaker c.push.result (λ _. sym (append-nil c.args.body.now.places)) c.push.ensures)
+
+pub emit_stmt-returns-in_ok-emit_expr-in-SetCopy-clause-code : goal.emit_stmt-returns-in_ok-emit_expr-in-SetCopy-clause-code
+emit_stmt-returns-in_ok-emit_expr-in-SetCopy-clause-code t c =
+    rw (c.in-SetCopy.is, code_set_copy) (on_ok_weaker c.push-in-SetCopy.result (then_one _ _ _ _ _ c.in_ok-emit_expr-in-SetCopy.ensures) c.push-in-SetCopy.ensures)
+
+pub emit_stmt-returns-in_ok-emit_expr-in-SetCopy-clause-places : goal.emit_stmt-returns-in_ok-emit_expr-in-SetCopy-clause-places
+emit_stmt-returns-in_ok-emit_expr-in-SetCopy-clause-places t c = rw (c.in-SetCopy.is, places_set_copy) (on_ok_weaker c.push-in-SetCopy.result (λ _. sym (append-nil c.args.body.now.places)) c.push-in-SetCopy.ensures)
+
+pub emit_stmt-returns-in_ok-emit_expr-in-SetCell-2-clause-code : goal.emit_stmt-returns-in_ok-emit_expr-in-SetCell-2-clause-code
+emit_stmt-returns-in_ok-emit_expr-in-SetCell-2-clause-code t c =
+    rw (c.in-SetCell.is, code_set_cell, ← c.base-in-SetCell.ensures, ← c.cells.ensures)
+    (on_ok_weaker c.push-in-SetCell.result (then_operator c.args.layout.now _ _ _ _ _ _ _ c.in_ok-emit_expr-in-SetCell.ensures c.in_ok-emit_expr-in-SetCell-2.ensures) c.push-in-SetCell.ensures)
+
+pub emit_stmt-returns-in_ok-emit_expr-in-SetCell-2-clause-places : goal.emit_stmt-returns-in_ok-emit_expr-in-SetCell-2-clause-places
+emit_stmt-returns-in_ok-emit_expr-in-SetCell-2-clause-places t c = rw (c.in-SetCell.is, places_set_cell) (on_ok_weaker c.push-in-SetCell.result (λ _. sym (append-nil c.args.body.now.places)) c.push-in-SetCell.ensures)
+
+pub emit_stmt-returns-in_ok-emit_expr-in-Send-clause-code : goal.emit_stmt-returns-in_ok-emit_expr-in-Send-clause-code
+emit_stmt-returns-in_ok-emit_expr-in-Send-clause-code t c =
+    rw (c.in-Send.is, code_send) (on_ok_weaker c.push-in-Send.result (then_one _ _ _ _ _ c.in_ok-emit_expr-in-Send.ensures) c.push-in-Send.ensures)
+
+pub emit_stmt-returns-in_ok-emit_expr-in-Send-clause-places : goal.emit_stmt-returns-in_ok-emit_expr-in-Send-clause-places
+emit_stmt-returns-in_ok-emit_expr-in-Send-clause-places t c = rw (c.in-Send.is, places_send) (on_ok_weaker c.push-in-Send.result (λ _. sym (append-nil c.args.body.now.places)) c.push-in-Send.ensures)
+
+pub emit_stmt-returns-in_ok-emit_expr-in-Return-clause-code : goal.emit_stmt-returns-in_ok-emit_expr-in-Return-clause-code
+emit_stmt-returns-in_ok-emit_expr-in-Return-clause-code t c =
+    rw (c.in-Return.is, code_return) (on_ok_weaker c.push-in-Return.result (then_one _ _ _ _ _ c.in_ok-emit_expr-in-Return.ensures) c.push-in-Return.ensures)
+
+pub emit_stmt-returns-in_ok-emit_expr-in-Return-clause-places : goal.emit_stmt-returns-in_ok-emit_expr-in-Return-clause-places
+emit_stmt-returns-in_ok-emit_expr-in-Return-clause-places t c = rw (c.in-Return.is, places_return) (on_ok_weaker c.push-in-Return.result (λ _. sym (append-nil c.args.body.now.places)) c.push-in-Return.ensures)
+
+pub emit_stmt-returns-in_ok-push-in-Advance-2-clause-code : goal.emit_stmt-returns-in_ok-push-in-Advance-2-clause-code
+emit_stmt-returns-in_ok-push-in-Advance-2-clause-code t c = rw (c.in-Advance.is, code_advance) c.in_ok-push-in-Advance.ensures
+
+pub emit_stmt-returns-in_ok-push-in-Advance-2-clause-places : goal.emit_stmt-returns-in_ok-push-in-Advance-2-clause-places
+emit_stmt-returns-in_ok-push-in-Advance-2-clause-places t c =
+    let behind = c.place-in-Advance.ensures ∙ behind_one _ _ _ c.in_ok-push-in-Advance.ensures in
+    rw (c.in-Advance.is, places_advance, ← behind) c.in_ok-push-in-Advance-2.ensures.ok
+
+pub emit_stmt-returns-in_ok-push-in-Timed-clause-code : goal.emit_stmt-returns-in_ok-push-in-Timed-clause-code
+emit_stmt-returns-in_ok-push-in-Timed-clause-code t c =
+    rw (c.set-in-Timed.ensures, c.place-in-Timed.ensures, c.in-Timed.is, ← c.as_slice-in-Timed.ensures)
+    (patch_timed c.args.layout.now _ _ _ _ _ _ _ _ _ _ c.place-again-in-Timed.ensures c.in_ok-emit_expr-in-Timed.ensures c.in_ok-out-in-Timed.ensures.place c.in_ok-out-in-Timed.ensures.held c.in_ok-emit_stmts-in-Timed.ensures.code c.in_ok-push-in-Timed.ensures)
+
+pub emit_stmt-returns-in_ok-push-in-Timed-clause-places : goal.emit_stmt-returns-in_ok-push-in-Timed-clause-places
+emit_stmt-returns-in_ok-push-in-Timed-clause-places t c =
+    let first = to_first c.args.layout.now c.in-Timed.test _ _ _ c.in_ok-emit_expr-in-Timed.ensures c.in_ok-out-in-Timed.ensures.held in
+    rw (c.in-Timed.is, places_timed, ← first, ← c.as_slice-in-Timed.ensures) c.in_ok-emit_stmts-in-Timed.ensures.places
+
+pub emit_stmt-returns-in_ok-push-in-Bounded-3-clause-code : goal.emit_stmt-returns-in_ok-push-in-Bounded-3-clause-code
+emit_stmt-returns-in_ok-push-in-Bounded-3-clause-code t c =
+    rw (c.set-in-Bounded.ensures, c.place-in-Bounded.ensures, c.in-Bounded.is, ← c.as_slice-in-Bounded.ensures)
+    (patch_bounded c.args.layout.now c.in-Bounded.test c.in-Bounded.most _ _ _ _ _ _ _ _ _ _ _ _ c.in_ok-push-in-Bounded.ensures c.place-again.ensures c.in_ok-emit_expr-in-Bounded.ensures c.in_ok-push-in-Bounded-2.ensures c.in_ok-out-in-Bounded.ensures.place c.in_ok-out-in-Bounded.ensures.held c.in_ok-body-in-Bounded.ensures c.in_ok-emit_stmts-in-Bounded.ensures.code c.in_ok-push-in-Bounded-3.ensures)
+
+pub emit_stmt-returns-in_ok-push-in-Bounded-3-clause-places : goal.emit_stmt-returns-in_ok-push-in-Bounded-3-clause-places
+emit_stmt-returns-in_ok-push-in-Bounded-3-clause-places t c =
+    let first = to_turn c.args.layout.now c.in-Bounded.test c.args.body.now.loops c.in-Bounded.most _ _ _ _ _ c.in_ok-push-in-Bounded.ensures c.in_ok-emit_expr-in-Bounded.ensures c.in_ok-push-in-Bounded-2.ensures c.in_ok-out-in-Bounded.ensures.held in
+    rw (c.in-Bounded.is, places_bounded, ← first, ← c.as_slice-in-Bounded.ensures) c.in_ok-emit_stmts-in-Bounded.ensures.places
+
+pub emit_stmts-loop-stmt-preserved : goal.emit_stmts-loop-stmt-preserved
+emit_stmts-loop-stmt-preserved t c =
+    let layout = c.args.layout.now in
+    let s = c.stmt-item.result in
+    let rest = drop (c.loop-stmt.stmt-index + 1) c.args.stmts.now in
+    let here = drop_read c.args.stmts.now c.loop-stmt.stmt-index s c.loop-stmt-test.true c.stmt-item.is in
+    let code = c.in_ok-emit_stmt.ensures.code in
+    let at = length c.loop-stmt.code in
+    record {
+      code = stmts_more layout s rest _ _ _ _ code c.in_ok-emit_stmt.ensures.loops ∙ ap (λ ss. c.loop-stmt.code ++ stmts_code layout ss c.loop-stmt.body.loops at) (sym here) ∙ c.loop-stmt.invariant.code;
+      places = places_more layout s rest _ _ _ _ _ code c.in_ok-emit_stmt.ensures.places ∙ ap (λ ss. c.loop-stmt.body.places ++ stmts_places ss at) (sym here) ∙ c.loop-stmt.invariant.places;
+      loops = loops_more s rest _ _ c.in_ok-emit_stmt.ensures.loops ∙ ap (λ ss. c.loop-stmt.body.loops + loops_in ss) (sym here) ∙ c.loop-stmt.invariant.loops;
+    }
+
+pub emit_stmt-returns-in-None-clause-code : goal.emit_stmt-returns-in-None-clause-code
+emit_stmt-returns-in-None-clause-code t c =
+    rw (c.set.ensures, c.place.ensures, c.in-If.is, c.in-None.is, ← c.as_slice.ensures)
+    (patch_if c.args.layout.now _ _ _ _ _ _ _ _ c.in_ok-emit_expr-in-If.ensures c.in_ok-over-in-If.ensures.place c.in_ok-over-in-If.ensures.held c.in_ok-emit_stmts-in-If.ensures.code)
+
+pub emit_stmt-returns-in-None-clause-places : goal.emit_stmt-returns-in-None-clause-places
+emit_stmt-returns-in-None-clause-places t c =
+    let first = to_first c.args.layout.now c.in-If.test _ _ _ c.in_ok-emit_expr-in-If.ensures c.in_ok-over-in-If.ensures.held in
+    rw (c.in-If.is, c.in-None.is, places_if, ← first, ← c.as_slice.ensures) c.in_ok-emit_stmts-in-If.ensures.places
+
+pub emit_stmt-returns-in_ok-emit_stmts-in-Some-clause-code : goal.emit_stmt-returns-in_ok-emit_stmts-in-Some-clause-code
+emit_stmt-returns-in_ok-emit_stmts-in-Some-clause-code t c =
+    let over = rw c.place-in-Some.ensures at c.set-in-Some.ensures in
+    rw (c.set-in-Some-2.ensures, c.place-in-Some-2.ensures, c.in-If.is, c.in-Some.is, ← c.as_slice.ensures, ← c.as_slice-in-Some.ensures)
+    (patch_if_else c.args.layout.now _ _ _ _ _ _ _ _ _ _ _ _ _ _ c.in_ok-emit_expr-in-If.ensures c.in_ok-over-in-If.ensures.place c.in_ok-over-in-If.ensures.held c.in_ok-emit_stmts-in-If.ensures.code c.in_ok-behind-in-Some.ensures.place c.in_ok-behind-in-Some.ensures.held over c.in_ok-emit_stmts-in-If.ensures.loops c.in_ok-emit_stmts-in-Some.ensures.code)
+
+pub emit_stmt-returns-in_ok-emit_stmts-in-Some-clause-places : goal.emit_stmt-returns-in_ok-emit_stmts-in-Some-clause-places
+emit_stmt-returns-in_ok-emit_stmts-in-Some-clause-places t c =
+    let layout = c.args.layout.now in
+    let first = to_first layout c.in-If.test _ _ _ c.in_ok-emit_expr-in-If.ensures c.in_ok-over-in-If.ensures.held in
+    let second = to_second layout c.in-If.test c.as_slice.result.now _ _ _ _ _ _ _ _ _ c.in_ok-emit_expr-in-If.ensures c.in_ok-over-in-If.ensures.held c.in_ok-emit_stmts-in-If.ensures.code c.in_ok-behind-in-Some.ensures.held c.set-in-Some.ensures in
+    rw (c.in-If.is, c.in-Some.is, places_if_else, ← c.as_slice.ensures, ← c.as_slice-in-Some.ensures, ← second, ← first, ← append_assoc, ← c.in_ok-emit_stmts-in-If.ensures.places)
+    c.in_ok-emit_stmts-in-Some.ensures.places

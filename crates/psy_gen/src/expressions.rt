@@ -1,0 +1,93 @@
+//! The code of expressions.
+
+ghost use Rattle.std.specs.Prelude.{◌≡◌, [], ◌++◌, map, length, OnOk};
+ghost use Rattle.psy_gen.specs.Emission.{named, expr_code, exprs_code};
+
+use crate::instrs::Instrs;
+use crate::layout::Layout;
+use psy_arith::Op2;
+use psy_base::Memory;
+use psy_code::{Binary, Instr};
+use psy_tree::Expr;
+
+/// The operator that an instruction names; `&&` and `||` have none.
+fn binary_of(op: Op2) -> Binary
+    ensures { result ≡ named op }
+{
+    macro_rules! same_name {
+        ($($name:ident)*) => {
+            match op {
+                $(Op2::$name => Binary::$name,)*
+                Op2::AndAnd => Binary::And,
+                Op2::OrOr => Binary::Or,
+            }
+        };
+    }
+    same_name!(Mul Div Rem Add Sub Shl Shr Lt Le Gt Ge Eq Ne And Xor Or)
+}
+
+#[cycle(emit_expr)]
+pub fn emit_expr(code: &mut Instrs, layout: &Layout, expr: &Expr) -> Result<(), Memory>
+    ensures { OnOk result (code.new ≡ code.old ++ expr_code layout.now expr.now (length code.old)) }
+{
+    match expr {
+        Expr::Number(number) => code.push(Instr::Push(*number)),
+        Expr::Slot(slot) => code.push(Instr::Load(layout.base(*slot))),
+        Expr::Copy(variable) => code.push(Instr::LoadCopy(*variable)),
+        Expr::Cell(slot, index) => {
+            emit_expr(code, layout, index.get())?;
+            code.push(Instr::LoadCell {
+                base: layout.base(*slot),
+                cells: layout.cells(*slot),
+            })
+        }
+        Expr::Past(variable, back) => code.push(Instr::Past {
+            variable: *variable,
+            back: *back,
+        }),
+        Expr::Ready(stream) => code.push(Instr::Ready(*stream)),
+        Expr::Take(stream) => code.push(Instr::Take(*stream)),
+        Expr::Unary(op, operand) => {
+            emit_expr(code, layout, operand.get())?;
+            code.push(Instr::Unary(*op))
+        }
+        Expr::Binary(op, left, right) => {
+            emit_expr(code, layout, left.get())?;
+            match op {
+                Op2::AndAnd => {
+                    let test = code.hold()?;
+                    emit_expr(code, layout, right.get())?;
+                    code.push(Instr::Truth)?;
+                    code.set(test, Instr::AndTest(code.place()));
+                    Ok(())
+                }
+                Op2::OrOr => {
+                    let test = code.hold()?;
+                    emit_expr(code, layout, right.get())?;
+                    code.push(Instr::Truth)?;
+                    code.set(test, Instr::OrTest(code.place()));
+                    Ok(())
+                }
+                _ => {
+                    emit_expr(code, layout, right.get())?;
+                    code.push(Instr::Binary(binary_of(*op)))
+                }
+            }
+        }
+        Expr::Call(function, arguments) => {
+            emit_exprs(code, layout, arguments.as_slice())?;
+            code.push(Instr::Call(*function))
+        }
+    }
+}
+
+/// From left to right.
+#[cycle(emit_expr)]
+fn emit_exprs(code: &mut Instrs, layout: &Layout, exprs: &[Expr]) -> Result<(), Memory>
+    ensures { OnOk result (code.new ≡ code.old ++ exprs_code layout.now exprs.now (length code.old)) }
+{
+    for expr in exprs {
+        emit_expr(code, layout, expr)?;
+    }
+    Ok(())
+}
