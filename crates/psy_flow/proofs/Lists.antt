@@ -5,7 +5,7 @@ use Rattle.psy_meaning.specs.Depths.{Depth, shallow, deeper, on_top_of, deepest,
 use Rattle.psy_meaning.specs.Sizes.{total}
 use Rattle.psy_flow.proofs.Capped.{same}
 
-map_more : {X Y : Type 0} (f : X → Y) (xs : List X) (i : ℕ) (x : X) → i < length xs → get_or xs i x ≡ x → map f (take (i + 1) xs) ≡ map f (take i xs) ++ f x ∷ []
+pub map_more : {X Y : Type 0} (f : X → Y) (xs : List X) (i : ℕ) (x : X) → i < length xs → get_or xs i x ≡ x → map f (take (i + 1) xs) ≡ map f (take i xs) ++ f x ∷ []
 map_more f xs i x h e = ap (map f) (take_more xs i x h ∙ ap (λ y. take i xs ++ y ∷ []) e) ∙ map-append f (take i xs) (x ∷ [])
 
 -- ---- the greatest of depths

@@ -1,1 +1,5 @@
 pub mod Counted
+pub mod Tops
+pub mod Flow
+pub mod Behind
+pub mod Reach

@@ -1,14 +1,24 @@
-//! How deep a unit's machines get: the operands that an agent's statements and calls hold at most, and
-//! the cells and counters of its open calls.
+//! What can be said of an agent's actions before they run: the points that follow each point, what an action
+//! costs, sends and looks at on the way, and how deep the agent's machine gets.
 #![tactic(auto)]
 
 mod calls;
+mod costs;
 mod depths;
 mod expressions;
+mod flow;
+mod gauge;
+mod next;
+mod points;
+mod reach;
 mod stack;
 mod statements;
 #[cfg(test)]
 mod tests;
+mod tops;
+mod ways;
 
 pub use depths::Depths;
+pub use flow::{looks, most_sends, worst};
+pub use next::next_points;
 pub use stack::depth_of_stack;

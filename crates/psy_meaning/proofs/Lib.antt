@@ -1,10 +1,10 @@
-mod CalleeRuns
+pub mod CalleeRuns
 mod Counting
-mod Endings
-mod Fronts
-mod Layers
-mod NoWays
-mod OpenWays
-mod Rests
+pub mod Endings
+pub mod Fronts
+pub mod Layers
+pub mod NoWays
+pub mod OpenWays
+pub mod Rests
 mod Runs
 mod StatementRuns

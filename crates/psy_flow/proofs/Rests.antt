@@ -1,0 +1,76 @@
+-- The rests of statements, by number.
+use Rattle.std.proofs.Common.{◌≡◌, ℕ, zero, suc, ◌+◌, ◌-◌, ◌<◌, List, [], ◌∷◌, ◌++◌, map, take, drop, length, get_or, Some, None, ◌⊎◌, inl, inr, refl, sym, ap, ◌∙◌, arith}
+use Rattle.std.proofs.Math.Seq.{drop-cons}
+use Rattle.std.proofs.lemmas.List.{length-drop, take_all, get_or-append-add}
+use Rattle.psy_tree.specs.declared.unit.Expr.{Expr}
+use Rattle.psy_tree.specs.declared.unit.Stmt.{Stmt, para-roll-Stmt, roll-Stmt}
+use Rattle.psy_tree.specs.declared.unit.Stmt.TheVariants as stmt
+use Rattle.psy_tree.specs.declared.unit.Stmt.TheOpen.{Stmt-F}
+use Rattle.psy_meaning.specs.Statements.{Piece, Do, Hop}
+use Rattle.psy_meaning.specs.Rest.{Rests, each_then, pieces_of, stmts_in, rests_step, rests_of, with_rests}
+use Rattle.psy_flow.specs.Behind.{rests_of_list}
+
+pub dropped : {X : Type 0} (xs : List X) (i : ℕ) (x : X) → i < length xs → x ≡ get_or xs i x → drop i xs ≡ x ∷ drop (i + 1) xs
+dropped xs i x h e =
+    let next : suc i ≡ i + 1 = omega arith in
+    drop-cons xs i x h ∙ ap (λ n. get_or xs i x ∷ drop n xs) next ∙ ap (λ y. y ∷ drop (i + 1) xs) (sym e)
+
+-- ---- the rests of each statement
+
+firsts : (stmts : List Stmt) → stmts_in (map with_rests stmts) ≡ stmts
+firsts [] = refl
+firsts (x ∷ xs) = ap (λ r. x ∷ r) (firsts xs)
+
+pub rests_advance : (point : ℕ) → rests_of (stmt.Advance point) ≡ [] ∷ []
+rests_advance point = ap rests_of (sym (stmt.rolls-Advance point)) ∙ para-roll-Stmt Rests rests_step (Stmt-F.Advance point)
+
+pub rests_if : (test : Expr) (branch : List Stmt) → rests_of (stmt.If test branch None) ≡ rests_of_list branch
+rests_if test branch = ap rests_of (sym (stmt.rolls-If test branch None)) ∙ para-roll-Stmt Rests rests_step (Stmt-F.If test branch None)
+
+pub rests_if_else : (test : Expr) (branch other : List Stmt) → rests_of (stmt.If test branch (Some other)) ≡ each_then (rests_of_list branch) (Hop ∷ []) ++ rests_of_list other
+rests_if_else test branch other = ap rests_of (sym (stmt.rolls-If test branch (Some other))) ∙ para-roll-Stmt Rests rests_step (Stmt-F.If test branch (Some other))
+
+pub rests_bounded : (test : Expr) (most : ℕ) (body : List Stmt) → rests_of (stmt.Bounded test most body) ≡ rests_of_list body
+rests_bounded test most body = ap rests_of (sym (stmt.rolls-Bounded test most body)) ∙ para-roll-Stmt Rests rests_step (Stmt-F.Bounded test most body)
+
+pub rests_timed : (test : Expr) (body : List Stmt) → rests_of (stmt.Timed test body) ≡ each_then (rests_of_list body) (Hop ∷ Do (stmt.Timed test body) ∷ [])
+rests_timed test body =
+    ap rests_of (sym (stmt.rolls-Timed test body)) ∙ para-roll-Stmt Rests rests_step (Stmt-F.Timed test body)
+    ∙ ap (λ ss. each_then (rests_of_list body) (Hop ∷ Do (roll-Stmt (Stmt-F.Timed test ss)) ∷ [])) (firsts body)
+    ∙ ap (λ t. each_then (rests_of_list body) (Hop ∷ Do t ∷ [])) (stmt.rolls-Timed test body)
+
+pub whole_rest : {X : Type 0} (xs : List X) (k : ℕ) → take (length xs - k) (drop k xs) ≡ drop k xs
+whole_rest xs k = take_all (length xs - k) (drop k xs) (omega (arith, length-drop k xs))
+
+pub rests_dropped : (stmts : List Stmt) (i : ℕ) (x : Stmt) → i < length stmts → x ≡ get_or stmts i x →
+    rests_of_list (drop i stmts) ≡ each_then (rests_of x) (pieces_of (drop (i + 1) stmts)) ++ rests_of_list (drop (i + 1) stmts)
+rests_dropped stmts i x h e =
+    ap rests_of_list (dropped stmts i x h e)
+    ∙ ap (λ ss. each_then (rests_of x) (pieces_of ss) ++ rests_of_list (drop (i + 1) stmts)) (firsts (drop (i + 1) stmts))
+
+-- ---- a rest by its number
+
+pub get_or-append_second : (xs ys : Rests) (n k : ℕ) → n ≡ length xs + k → get_or (xs ++ ys) n [] ≡ get_or ys k []
+get_or-append_second xs ys n k e = ap (λ m. get_or (xs ++ ys) m []) e ∙ get_or-append-add xs ys k []
+
+pub get_or-each_then : (xs : Rests) (ps : List Piece) (n : ℕ) → n < length xs → get_or (each_then xs ps) n [] ≡ get_or xs n [] ++ ps
+get_or-each_then [] ps n h = absurd (omega arith)
+get_or-each_then (x ∷ xs) ps zero h = refl
+get_or-each_then (x ∷ xs) ps (suc n) h = get_or-each_then xs ps n (omega arith)
+
+-- ---- statements without an `advance`
+
+abbrev one_of : Stmt → Type 0
+one_of t =
+    ((slot : ℕ) × (value : Expr) × (t ≡ stmt.Set slot value))
+    ⊎ (((variable : ℕ) × (value : Expr) × (t ≡ stmt.SetCopy variable value))
+    ⊎ (((slot : ℕ) × (index : Expr) × (value : Expr) × (t ≡ stmt.SetCell slot index value))
+    ⊎ (((value : Expr) × (stream : ℕ) × (after : ℕ) × (clock : ℕ) × (t ≡ stmt.Send value stream after clock))
+    ⊎ ((value : Expr) × (t ≡ stmt.Return value)))))
+
+pub rests_none : (t : Stmt) → one_of t → rests_of t ≡ []
+rests_none t (inl h) = ap rests_of (h.2 ∙ sym (stmt.rolls-Set h.0 h.1)) ∙ para-roll-Stmt Rests rests_step (Stmt-F.Set h.0 h.1)
+rests_none t (inr (inl h)) = ap rests_of (h.2 ∙ sym (stmt.rolls-SetCopy h.0 h.1)) ∙ para-roll-Stmt Rests rests_step (Stmt-F.SetCopy h.0 h.1)
+rests_none t (inr (inr (inl h))) = ap rests_of (h.3 ∙ sym (stmt.rolls-SetCell h.0 h.1 h.2)) ∙ para-roll-Stmt Rests rests_step (Stmt-F.SetCell h.0 h.1 h.2)
+rests_none t (inr (inr (inr (inl h)))) = ap rests_of (h.4 ∙ sym (stmt.rolls-Send h.0 h.1 h.2 h.3)) ∙ para-roll-Stmt Rests rests_step (Stmt-F.Send h.0 h.1 h.2 h.3)
+rests_none t (inr (inr (inr (inr h)))) = ap rests_of (h.1 ∙ sym (stmt.rolls-Return h.0)) ∙ para-roll-Stmt Rests rests_step (Stmt-F.Return h.0)

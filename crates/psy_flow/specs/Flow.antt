@@ -1,0 +1,56 @@
+-- What follows each point of an agent's body, on all ways.
+use Rattle.std.specs.Prelude.{◌≡◌, ◌⊎◌, ℕ, ◌<◌, ◌≤◌, min, ◌==◌, List, Some, slice_get}
+use Rattle.std.specs.List.{count_by, Contains}
+use Rattle.psy_code.specs.Views.{Looked}
+use Rattle.psy_tree.specs.declared.unit.AgentDecl.{AgentDecl}
+use Rattle.psy_tree.specs.declared.unit.FunctionDecl.{FunctionDecl}
+use Rattle.psy_tree.specs.declared.unit.Unit.{Unit as Whole}
+use Rattle.psy_meaning.specs.Rest.{rest}
+use Rattle.psy_meaning.specs.Units.{IsOfText}
+use Rattle.psy_meaning.specs.Ways.{Meter, IsWay}
+
+-- The agent is one of a unit of a text, by its number.
+abbrev pub IsAgentOf : Whole → ℕ → AgentDecl → Type 0
+IsAgentOf unit number agent = IsOfText unit × (slice_get unit.agents number ≡ Some agent)
+
+-- Some unit of a text has the agent.
+abbrev pub IsOfSome : AgentDecl → Type 0
+IsOfSome agent = (unit : Whole) × (number : ℕ) × IsAgentOf unit number agent
+
+-- A way from a point of an agent to the next one, and what it meets
+abbrev pub IsWayFrom : List FunctionDecl → AgentDecl → ℕ → ℕ → Meter → Type 0
+IsWayFrom functions agent from to met = IsWay functions (rest agent.stmts from) to met
+
+-- The code behind a point may reach this one first.
+abbrev pub IsNext : List FunctionDecl → AgentDecl → ℕ → ℕ → Type 0
+IsNext functions agent from to = (met : Meter) × IsWayFrom functions agent from to met
+
+-- A way from a point has this cost.
+abbrev pub HasCost : List FunctionDecl → AgentDecl → ℕ → ℕ → Type 0
+HasCost functions agent from cost = (to : ℕ) × (met : Meter) × IsWayFrom functions agent from to met × (met.steps ≡ cost)
+
+-- A way from one point to another has so many sends to a stream.
+abbrev pub HasSends : List FunctionDecl → AgentDecl → ℕ → ℕ → ℕ → ℕ → Type 0
+HasSends functions agent from to stream sends = (met : Meter) × IsWayFrom functions agent from to met × (count_by (λ s. s == stream) met.sends ≡ sends)
+
+-- A way from a point looks at a variable.
+abbrev pub MayLook : List FunctionDecl → AgentDecl → ℕ → ℕ → Type 0
+MayLook functions agent from variable = (to : ℕ) × (met : Meter) × IsWayFrom functions agent from to met × (look : Looked) × Contains met.looks look × (look.variable ≡ variable)
+
+-- One of these numbers is the greatest.
+pub record IsGreatest (Has : ℕ → Type 0) (n : ℕ) : Type 0 where
+  pub one : Has n
+  pub most : (m : ℕ) → Has m → m ≤ n
+
+-- The greatest of these numbers, cut at a limit
+abbrev pub IsCut : (ℕ → Type 0) → ℕ → ℕ → Type 0
+IsCut Has limit result = (n : ℕ) × IsGreatest Has n × (result ≡ min n limit)
+
+-- The greatest number of sends on a way from one point to another, cut at 65,537; 0 where there is none
+abbrev pub IsMostSends : List FunctionDecl → AgentDecl → ℕ → ℕ → ℕ → ℕ → Type 0
+IsMostSends functions agent from to stream result =
+    ((IsNext functions agent from to → ⊥) × (result ≡ 0)) ⊎ IsCut (HasSends functions agent from to stream) 65537 result
+
+-- The numbers rise.
+abbrev pub Rises : List ℕ → Type 0
+Rises xs = (i j m n : ℕ) → i < j → slice_get xs i ≡ Some m → slice_get xs j ≡ Some n → m < n
