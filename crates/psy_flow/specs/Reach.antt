@@ -16,17 +16,19 @@ falls stmt = is_some (stmt_tops gauge.Steps None (called []) stmt).fell
 abbrev pub reaches : Stmt → ℕ → Bool
 reaches stmt point = is_some (stmt_tops gauge.Steps (Some point) (called []) stmt).to
 
--- The same of statements
+-- A way falls through the statements.
 abbrev pub all_fall : List Stmt → Bool
 all_fall stmts = is_some (stmts_tops gauge.Steps None (called []) stmts).fell
 
+-- A way through the statements goes to the point.
 abbrev pub some_reaches : List Stmt → ℕ → Bool
 some_reaches stmts point = is_some (stmts_tops gauge.Steps (Some point) (called []) stmts).to
 
--- The same of pieces
+-- A way falls through the pieces.
 abbrev pub pieces_fall : List Piece → Bool
 pieces_fall pieces = is_some (pieces_tops gauge.Steps None (called []) pieces).fell
 
+-- A way through the pieces goes to the point.
 abbrev pub pieces_reach : List Piece → ℕ → Bool
 pieces_reach pieces point = is_some (pieces_tops gauge.Steps (Some point) (called []) pieces).to
 
@@ -35,6 +37,7 @@ abbrev pub marked_from : ℕ → List Bool → (ℕ → Bool) → List Bool
 marked_from n [] also = []
 marked_from n (m ∷ marks) also = (m || also n) ∷ marked_from (n + 1) marks also
 
+-- Marks with these beside
 abbrev pub marked : List Bool → (ℕ → Bool) → List Bool
 marked marks also = marked_from 0 marks also
 
@@ -43,6 +46,7 @@ abbrev pub numbers_from : ℕ → List Bool → List ℕ
 numbers_from n [] = []
 numbers_from n (m ∷ marks) = if m then n ∷ numbers_from (n + 1) marks else numbers_from (n + 1) marks
 
+-- The numbers of marks that are set
 abbrev pub numbers_of : List Bool → List ℕ
 numbers_of marks = numbers_from 0 marks
 

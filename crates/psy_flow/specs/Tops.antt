@@ -197,6 +197,7 @@ calls_most g functions = calls_from g [] functions
 
 -- ---- as far as is counted
 
+-- A count as far as is counted
 abbrev pub capped_count : Gauge → Option ℕ → Option ℕ
 capped_count g None = None
 capped_count g (Some n) = Some (min n (limit_of g))

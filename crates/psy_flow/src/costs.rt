@@ -1,8 +1,7 @@
 //! The greatest costs of the functions' calls.
 
-ghost use Rattle.std.specs.Prelude.{◌≡◌, ◌≤◌, [], min, take, length};
+ghost use Rattle.std.specs.Prelude.{◌≡◌, ◌≤◌, [], None, min, take, length};
 ghost use Rattle.psy_flow.specs.Tops.{limit_of, called, call_most, stmts_tops, capped_from};
-ghost use Rattle.std.specs.Prelude.{None};
 
 use crate::gauge::Gauge;
 use crate::ways::tops_of_stmts;

@@ -1,11 +1,10 @@
 //! What follows each point of an agent's body.
 
-ghost use Rattle.std.specs.Prelude.{◌≡◌, ◌<◌, ◌↔◌, true, length, slice_get, Some};
+ghost use Rattle.std.specs.Prelude.{◌≡◌, ◌<◌, ◌↔◌, ℕ, true, length, slice_get, Some};
 ghost use Rattle.psy_tree.specs.declared.unit.AgentDecl.{AgentDecl};
 ghost use Rattle.psy_tree.specs.declared.unit.Unit.{Unit as Whole};
 ghost use Rattle.psy_meaning.specs.Units.{IsOfText};
 ghost use Rattle.psy_flow.specs.Flow.{IsOfSome, IsAgentOf, HasCost, IsCut, IsMostSends, MayLook};
-ghost use Rattle.std.specs.Prelude.{ℕ};
 
 use crate::costs::costs_of_calls;
 use crate::gauge::Gauge;

@@ -1,6 +1,6 @@
 //! The points that may follow a point.
 
-ghost use Rattle.std.specs.Prelude.{◌≡◌, ◌<◌, ◌↔◌, ℕ, List, false, length, replicate, IfOk};
+ghost use Rattle.std.specs.Prelude.{◌≡◌, ◌<◌, ◌≤◌, ◌↔◌, ℕ, List, false, length, replicate, IfOk};
 ghost use Rattle.std.specs.List.{Contains};
 ghost use Rattle.psy_tree.specs.declared.unit.FunctionDecl.{FunctionDecl};
 ghost use Rattle.psy_meaning.specs.Paths.{NoneAdvances};
@@ -24,7 +24,7 @@ fn no_marks(alloc: Global, count: usize) -> Result<Items<bool>, Memory>
 
 // The numbers that are marked, of which there are at most 256.
 fn marked_numbers(alloc: Global, marks: &[bool]) -> Result<Items<u32>, Memory>
-    requires { length marks.now < 1000 }
+    requires { length marks.now ≤ 256 }
     ensures { IfOk result (λ numbers. numbers ≡ numbers_of marks.now) }
 {
     let mut numbers = Items::new(alloc);

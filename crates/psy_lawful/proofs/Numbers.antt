@@ -109,11 +109,6 @@ function_at raw k i f own gives =
     let e : 0 + k ≡ k = omega arith in
     each_at is_function (functions raw.items) (gives_functions raw.items) 0 raw.items k i f own (ap (λ j. functions raw.items j i) e ∙ gives)
 
-pub agent_at : (raw : Raw) (k : ℕ) (i : Item) (a : AgentDecl) → slice_get raw.items k ≡ Some i → agents raw.items k i ≡ a ∷ [] → slice_get (unit_of raw).agents (counting is_agent (take k raw.items)) ≡ Some a
-agent_at raw k i a own gives =
-    let e : 0 + k ≡ k = omega arith in
-    each_at is_agent (agents raw.items) (gives_agents raw.items) 0 raw.items k i a own (ap (λ j. agents raw.items j i) e ∙ gives)
-
 -- An agent of the unit is that of a declaration.
 pub agent_from : (raw : Raw) (n : ℕ) (a : AgentDecl) → slice_get (unit_of raw).agents n ≡ Some a → (k : ℕ) × (i : Item) × (slice_get raw.items k ≡ Some i) × (agents raw.items k i ≡ a ∷ []) × (n ≡ counting is_agent (take k raw.items))
 agent_from raw n a own =
