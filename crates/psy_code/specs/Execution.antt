@@ -7,6 +7,7 @@ use Rattle.psy_arith.specs.declared.operators.Op2.TheVariants as op
 use Rattle.psy_arith.specs.declared.operators.Trap.{Trap}
 use Rattle.psy_arith.specs.declared.operators.Trap.TheVariants as trap
 use Rattle.psy_arith.specs.Operators.{truth, is_zero, value1, value2}
+use Rattle.psy_base.specs.declared.limits.TheConstants.{OPEN_CALLS}
 use Rattle.psy_code.specs.declared.code.Code.{Code}
 use Rattle.psy_code.specs.declared.code.AgentCode.{AgentCode}
 use Rattle.psy_code.specs.declared.code.CopyInit.{CopyInit}
@@ -15,7 +16,7 @@ use Rattle.psy_code.specs.declared.instr.Binary.{Binary}
 use Rattle.psy_code.specs.declared.instr.Binary.TheVariants as two
 use Rattle.psy_code.specs.declared.instr.Instr.{Instr}
 use Rattle.psy_code.specs.declared.instr.Instr.TheVariants as instr
-use Rattle.psy_code.specs.Views.{View, Call, Past, Ready, Take, Send, Deeds, past_of, messages_of, number_of, first_of, view_after, tick, done, found_in}
+use Rattle.psy_code.specs.Views.{View, Call, Past, Ready, Take, Send, Deeds, past_of, messages_of, count_as_value, first_of, view_after, tick, done, found_in}
 
 -- ---- the state of a machine
 
@@ -47,13 +48,13 @@ pub record Machine : Type 0 where
   pub copies : List Copy
 
 -- The frame that instructions name: that of the innermost call, or the agent's own.
-abbrev pub frame_of : Frame → List OpenCall → Frame
-frame_of home [] = home
-frame_of home (call ∷ rest) = call.frame
+abbrev pub innermost_frame : Frame → List OpenCall → Frame
+innermost_frame home [] = home
+innermost_frame home (call ∷ rest) = call.frame
 
 -- The frame of the innermost call, or the agent's own.
 abbrev pub present : Machine → Frame
-present m = frame_of m.home m.calls
+present m = innermost_frame m.home m.calls
 
 -- The agent's own frame, changed where no call is open.
 abbrev pub home_with : Frame → List OpenCall → Frame → Frame
@@ -255,7 +256,7 @@ does code agent view (instr.StoreCell base cells) m = store_cell base cells m
 does code agent view (instr.LoadCopy variable) m = need (copy_of variable m.copies) (λ v. push v m)
 does code agent view (instr.StoreCopy variable) m = store_copy variable m
 does code agent view (instr.Past variable back) m = need (past_of view variable back) (λ v. push v m)
-does code agent view (instr.Ready stream) m = need (messages_of view stream) (λ messages. push (number_of messages) m)
+does code agent view (instr.Ready stream) m = need (messages_of view stream) (λ messages. push (count_as_value messages) m)
 does code agent view (instr.Take stream) m = need (messages_of view stream) (λ messages. take_first messages m)
 does code agent view (instr.Send stream after clock) m = with_top m.operands (λ v rest. onward rest m)
 does code agent view (instr.Jump to) m = in_code code to (jump to m.operands m)
@@ -272,13 +273,13 @@ does code agent view (instr.Binary operator) m = binary (op_of operator) m
 does code agent view (instr.Unary operator) m = unary operator m
 
 -- How many cells and counters the open calls have.
-abbrev pub cells_of : List OpenCall → ℕ
-cells_of [] = 0
-cells_of (call ∷ rest) = length call.frame.cells + length call.frame.counters + cells_of rest
+abbrev pub cells_in_calls : List OpenCall → ℕ
+cells_in_calls [] = 0
+cells_in_calls (call ∷ rest) = length call.frame.cells + length call.frame.counters + cells_in_calls rest
 
 -- It holds no more operands, cells of open calls and open calls than there is room for.
 abbrev pub has_room : AgentCode → Machine → Bool
-has_room agent m = nat_le (length m.operands) agent.stack && (nat_le (cells_of m.calls) agent.frames && nat_le (length m.calls) 64)
+has_room agent m = nat_le (length m.operands) agent.stack && (nat_le (cells_in_calls m.calls) agent.frames && nat_le (length m.calls) OPEN_CALLS)
 
 -- It goes on only where there is room for all that the machine then holds.
 abbrev pub within : AgentCode → Next → Next
@@ -308,16 +309,16 @@ call_of code m = found_in (instr_at code m) (λ i. call_by i m.operands)
 -- ---- many instructions
 
 -- A machine with what its action sees and did so far.
-pub record State : Type 0 where
+pub record RunState : Type 0 where
   pub machine : Machine
   pub view : View
   pub deeds : Deeds
 
 -- How a run stands after some instructions. A trap leaves the machine as it was, and is counted.
 pub data Run : Type 0 where
-  Running : (state : State) → Run
-  RanTo : (point : ℕ) (state : State) → Run
-  TrappedBy : (kind : Trap) (state : State) → Run
+  Running : (state : RunState) → Run
+  RanTo : (point : ℕ) (state : RunState) → Run
+  TrappedBy : (kind : Trap) (state : RunState) → Run
   NoRun : Run
 
 -- The view after an instruction that asks this, or nothing.
@@ -331,27 +332,27 @@ deeds_then deeds None = tick deeds
 deeds_then deeds (Some call) = done deeds call
 
 -- The state after an instruction, with the machine that comes of it.
-abbrev pub state_then : State → Option Call → Machine → State
+abbrev pub state_then : RunState → Option Call → Machine → RunState
 state_then s call m = record { machine = m; view = view_then s.view call; deeds = deeds_then s.deeds call }
 
 -- How a run stands after one instruction, by what comes of it.
-abbrev pub run_by : State → Option Call → Next → Run
+abbrev pub run_by : RunState → Option Call → Next → Run
 run_by s call (Went m) = Running (state_then s call m)
 run_by s call (Ended point m) = RanTo point (state_then s call m)
 run_by s call (Trapped kind) = TrappedBy kind (record s { deeds = tick s.deeds })
 run_by s call Stuck = NoRun
 
 -- How a run stands after the next instruction.
-abbrev pub run_one : Code → AgentCode → State → Run
+abbrev pub run_one : Code → AgentCode → RunState → Run
 run_one code agent s = run_by s (call_of code s.machine) (next_of code agent s.view s.machine)
 
 -- On from a run that neither ended nor stopped.
-abbrev pub go_on : Run → (State → Run) → Run
+abbrev pub go_on : Run → (RunState → Run) → Run
 go_on (Running s) go = go s
 go_on run go = run
 
 -- The run after n instructions, or where it ended, trapped or stuck at an earlier one
-abbrev pub run_code : Code → AgentCode → State → ℕ → Run
+abbrev pub run_code : Code → AgentCode → RunState → ℕ → Run
 run_code code agent s zero = Running s
 run_code code agent s (suc n) = go_on (run_one code agent s) (λ t. run_code code agent t n)
 
@@ -361,12 +362,10 @@ run_code code agent s (suc n) = go_on (run_one code agent s) (λ t. run_code cod
 abbrev pub copy_from : CopyInit → Copy
 copy_from c = record { variable = c.variable; value = c.init }
 
--- The machine of an agent that hasn't started: at point 0, with the first values of its cells and copies
+-- The machine of an agent at the place of a point: no operands and no open call
+abbrev pub standing : AgentCode → ℕ → Frame → List Copy → Machine
+standing agent point home copies = record { place = slice_index_or agent.points point 0; operands = []; home = home; calls = []; copies = copies }
+
+-- The machine of an agent that hasn't started: at point 0, with the first values of its cells and copies, and its counters 0
 abbrev pub new_machine : AgentCode → Machine
-new_machine agent = record {
-  place = slice_index_or agent.points 0 0;
-  operands = [];
-  home = record { cells = agent.cells; counters = replicate agent.counters 0 };
-  calls = [];
-  copies = map copy_from agent.copies;
-}
+new_machine agent = standing agent 0 (record { cells = agent.cells; counters = replicate agent.counters 0 }) (map copy_from agent.copies)

@@ -1,3 +1,4 @@
 pub mod Execution
+pub mod Lasting
 pub mod Rows
 pub mod Views

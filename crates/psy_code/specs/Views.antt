@@ -1,5 +1,5 @@
 -- What an action sees, what it asks, and what it did (OASIS: only what was visible at its start date).
-use Rattle.std.specs.Prelude.{ℕ, ◌+◌, ◌<◌, List, [], ◌∷◌, ◌++◌, drop, length, Option, Some, None, IsSome, slice_get, slice_set, ℤ}
+use Rattle.std.specs.Prelude.{ℕ, ◌+◌, ◌<◌, List, [], ◌∷◌, ◌++◌, drop, length, Option, Some, None, IsSome, slice_get, slice_set, ⊤, ℤ}
 use Rattle.std.specs.Int.{w32, cast_signed}
 use Rattle.psy_code.specs.declared.look.Sent.{Sent}
 
@@ -24,8 +24,8 @@ abbrev pub messages_of : View → ℕ → Option (List ℤ)
 messages_of view stream = found_in (slice_get view.messages stream) (λ messages. messages)
 
 -- how many messages, as a number of 32 bits
-abbrev pub number_of : List ℤ → ℤ
-number_of messages = cast_signed w32 (length messages)
+abbrev pub count_as_value : List ℤ → ℤ
+count_as_value messages = cast_signed w32 (length messages)
 
 -- The first of them, where there is one
 abbrev pub first_of : List ℤ → Option ℤ
@@ -107,12 +107,31 @@ pub record Window : Type 0 where
   -- the variable and the `back` of the last look
   pub noted : Option (ℕ × ℕ)
 
+-- What a call asks for is there to see.
+abbrev pub Serves : View → Call → Type 0
+Serves view (Past variable back) = IsSome (past_of view variable back)
+Serves view (Ready stream) = IsSome (messages_of view stream)
+Serves view (Take stream) = IsSome (messages_of view stream)
+Serves view (Send sent) = ⊤
+
+-- A send finds its stream, its clock and room.
+abbrev pub Admits : Window → Call → Type 0
+Admits window (Send sent) = (sent.stream < window.streams) × (sent.clock < window.clocks) × (length window.sends < window.room)
+Admits window call = ⊤
+
 -- What a call asks for is served, and a send finds room.
 abbrev pub Permits : Window → Call → Type 0
-Permits window (Past variable back) = IsSome (past_of window.view variable back)
-Permits window (Ready stream) = IsSome (messages_of window.view stream)
-Permits window (Take stream) = IsSome (messages_of window.view stream)
-Permits window (Send sent) = (sent.stream < window.streams) × (sent.clock < window.clocks) × (length window.sends < window.room)
+Permits window call = Serves window.view call × Admits window call
+
+-- The same of what an instruction asks, where it asks anything
+abbrev pub PermitsAll : Window → Option Call → Type 0
+PermitsAll window None = ⊤
+PermitsAll window (Some call) = Permits window call
+
+-- What an instruction asks, where it asks anything, is there to see.
+abbrev pub ServesAll : View → Option Call → Type 0
+ServesAll view None = ⊤
+ServesAll view (Some call) = Serves view call
 
 -- What a call leaves: a look is noted, a message is taken, a send is added; all else stays.
 abbrev pub answered : Window → Call → Window

@@ -11,7 +11,7 @@ use Rattle.psy_flow.specs.declared.gauge.Gauge.{Gauge}
 use Rattle.psy_flow.specs.declared.tops.Tops.{Tops}
 use Rattle.psy_flow.specs.declared.points.Search.{Search}
 use Rattle.psy_flow.specs.declared.points.Search.TheVariants as search
-use Rattle.psy_flow.specs.Tops.{in_step, falling, behind, or_else, on_from, leaving, stmt_tops, stmts_tops, pieces_tops, capped}
+use Rattle.psy_flow.specs.Tops.{in_step, falling, behind, or_else, on_from, leaving, stmt_tops, stmts_tops, pieces_tops, capped_tops}
 use Rattle.psy_flow.specs.Behind.{rests_of_list, IsBehind}
 use Rattle.psy_flow.proofs.Rests.{rests_advance, rests_if_else, rests_timed, rests_dropped, get_or-append_second, get_or-each_then}
 use Rattle.psy_flow.proofs.PointTops.{capped-falling_zero, capped-more, capped-hop, capped-hop_stmt, capped-hop_stmts, capped-pieces_of}
@@ -49,17 +49,17 @@ module _ (g : Gauge) (wanted : Option ℕ) (calls : ℕ → ℕ) where
 
   -- What the program answers for two tops one after the other
   abbrev joined : Tops → Tops → Tops
-  joined first second = or_else (capped g (on_from first.fell second)) (leaving first)
+  joined first second = or_else (capped_tops g (on_from first.fell second)) (leaving first)
 
   -- ---- found, and further on
 
   found_first : (t : Tops) (xs ys : Rests) (n : ℕ) → Here xs n (search.Found t) → Here (xs ++ ys) n (search.Found t)
-  found_first t xs ys n h = (omega (arith, h.0, length-append xs ys), h.1 ∙ sym (ap (λ ps. capped g (pieces_tops g wanted calls ps)) (get_or-append_first xs ys n h.0)))
+  found_first t xs ys n h = (omega (arith, h.0, length-append xs ys), h.1 ∙ sym (ap (λ ps. capped_tops g (pieces_tops g wanted calls ps)) (get_or-append_first xs ys n h.0)))
 
-  found_each : (t second both : Tops) (xs : Rests) (ps : List Piece) (n : ℕ) → Here xs n (search.Found t) → second ≡ capped g (pieces_tops g wanted calls ps) → both ≡ joined t second → Here (each_then xs ps) n (search.Found both)
+  found_each : (t second both : Tops) (xs : Rests) (ps : List Piece) (n : ℕ) → Here xs n (search.Found t) → second ≡ capped_tops g (pieces_tops g wanted calls ps) → both ≡ joined t second → Here (each_then xs ps) n (search.Found both)
   found_each t second both xs ps n h q e = (
     omega (arith, h.0, length-map xs (λ r. r ++ ps)),
-    capped-more g wanted calls (get_or xs n []) ps t second both h.1 q e ∙ sym (ap (λ r. capped g (pieces_tops g wanted calls r)) (get_or-each_then xs ps n h.0)),
+    capped-more g wanted calls (get_or xs n []) ps t second both h.1 q e ∙ sym (ap (λ r. capped_tops g (pieces_tops g wanted calls r)) (get_or-each_then xs ps n h.0)),
   )
 
   further_each : (left : ℕ) (xs : Rests) (ps : List Piece) (n : ℕ) → Here xs n (search.Further left) → Here (each_then xs ps) n (search.Further left)
@@ -68,14 +68,14 @@ module _ (g : Gauge) (wanted : Option ℕ) (calls : ℕ → ℕ) where
   behind_second : (r : Search) (xs ys : Rests) (n left : ℕ) → Here xs n (search.Further left) → Here ys left r → Here (xs ++ ys) n r
   behind_second (search.Found t) xs ys n left passed h = (
     omega (arith, passed, h.0, length-append xs ys),
-    h.1 ∙ sym (ap (λ ps. capped g (pieces_tops g wanted calls ps)) (get_or-append_second xs ys n left passed)),
+    h.1 ∙ sym (ap (λ ps. capped_tops g (pieces_tops g wanted calls ps)) (get_or-append_second xs ys n left passed)),
   )
   behind_second (search.Further m) xs ys n left passed h = omega (arith, passed, h, length-append xs ys)
 
   -- ---- one statement further
 
   pub found_here : (t second both : Tops) (stmts : List Stmt) (i : ℕ) (x : Stmt) (n : ℕ) → i < length stmts → x ≡ get_or stmts i x → Here (rests_of x) n (search.Found t) →
-      second ≡ capped g (stmts_tops g wanted calls (drop (i + 1) stmts)) → both ≡ joined t second → Here (rests_of_list (drop i stmts)) n (search.Found both)
+      second ≡ capped_tops g (stmts_tops g wanted calls (drop (i + 1) stmts)) → both ≡ joined t second → Here (rests_of_list (drop i stmts)) n (search.Found both)
   found_here t second both stmts i x n h e here q is =
       let P : Rests → Type 0 = λ rests. Here rests n (search.Found both) in
       let after : List Stmt = drop (i + 1) stmts in
@@ -119,7 +119,7 @@ module _ (g : Gauge) (wanted : Option ℕ) (calls : ℕ → ℕ) where
       subst P (sym (rests_if_else test branch other))
       (behind_second r (each_then (rests_of_list branch) (Hop ∷ [])) (rests_of_list other) n left (further_each left (rests_of_list branch) (Hop ∷ []) n passed) after)
 
-  pub timed_found : (t second both : Tops) (test : Expr) (body : List Stmt) (n : ℕ) → Here (rests_of_list body) n (search.Found t) → second ≡ capped g (behind (in_step g) (capped g (stmt_tops g wanted calls (stmt.Timed test body)))) →
+  pub timed_found : (t second both : Tops) (test : Expr) (body : List Stmt) (n : ℕ) → Here (rests_of_list body) n (search.Found t) → second ≡ capped_tops g (behind (in_step g) (capped_tops g (stmt_tops g wanted calls (stmt.Timed test body)))) →
       both ≡ joined t second → Here (rests_of (stmt.Timed test body)) n (search.Found both)
   timed_found t second both test body n here q is =
       let P : Rests → Type 0 = λ rests. Here rests n (search.Found both) in
@@ -133,14 +133,14 @@ module _ (g : Gauge) (wanted : Option ℕ) (calls : ℕ → ℕ) where
 
   -- ---- from a point
 
-  pub from_head : (t : Tops) (stmts : List Stmt) (point : ℕ) → point ≡ 0 → t ≡ capped g (stmts_tops g wanted calls stmts) → t ≡ capped g (pieces_tops g wanted calls (rest stmts point))
+  pub from_head : (t : Tops) (stmts : List Stmt) (point : ℕ) → point ≡ 0 → t ≡ capped_tops g (stmts_tops g wanted calls stmts) → t ≡ capped_tops g (pieces_tops g wanted calls (rest stmts point))
   from_head t stmts zero e is = is ∙ capped-pieces_of g wanted calls stmts
   from_head t stmts (suc n) e is = absurd (omega arith)
 
   pub from_point : (t second both : Tops) (stmts : List Stmt) (point : ℕ) → point ≢ 0 → Here (rests_of_list stmts) (point - 1) (search.Found t) →
-      second ≡ capped g (behind (in_step g) (capped g (stmts_tops g wanted calls stmts))) → both ≡ joined t second → both ≡ capped g (pieces_tops g wanted calls (rest stmts point))
+      second ≡ capped_tops g (behind (in_step g) (capped_tops g (stmts_tops g wanted calls stmts))) → both ≡ joined t second → both ≡ capped_tops g (pieces_tops g wanted calls (rest stmts point))
   from_point t second both stmts zero h here q is = absurd (h refl)
   from_point t second both stmts (suc n) h here q is =
       let e : suc n - 1 ≡ n = omega arith in
-      let first : t ≡ capped g (pieces_tops g wanted calls (get_or (rests_of_list stmts) n [])) = here.1 ∙ ap (λ m. capped g (pieces_tops g wanted calls (get_or (rests_of_list stmts) m []))) e in
+      let first : t ≡ capped_tops g (pieces_tops g wanted calls (get_or (rests_of_list stmts) n [])) = here.1 ∙ ap (λ m. capped_tops g (pieces_tops g wanted calls (get_or (rests_of_list stmts) m []))) e in
       capped-more g wanted calls (get_or (rests_of_list stmts) n []) (Hop ∷ pieces_of stmts) t second both first (q ∙ capped-hop_stmts g wanted calls stmts) is

@@ -7,14 +7,14 @@ use Rattle.psy_meaning.specs.Paths.{holds_advance, NoneAdvances}
 use Rattle.psy_meaning.specs.Ways.{Way, Course, Fell, Back, here, one, both, courses_through, course_by, back_way, callee_way, with_way, callee_ways_from, callee_ways}
 use Rattle.psy_flow.specs.declared.gauge.Gauge.{Gauge}
 use Rattle.psy_flow.specs.declared.tops.Tops.{Tops}
-use Rattle.psy_flow.specs.Tops.{in_step, plus, greater, stmts_tops, or_zero, call_most, called, calls_from, calls_most}
+use Rattle.psy_flow.specs.Tops.{in_step, plus, greater, stmts_tops, count_or_zero, call_most, called, calls_from, calls_most}
 use Rattle.psy_flow.proofs.MostWays.{IsMost, most_here, most_one, most_both}
 use Rattle.psy_flow.proofs.TopsOf.{IsTop, AreTops, top_same, top_either, fits_stmts}
 use Rattle.psy_flow.proofs.Homes.{IsThere, IsHome, there_left, there_right, there_plus, home_stmts}
 
 -- ---- one call
 
-most_there : (g : Gauge) (way : Way) (o : Option ℕ) → IsTop g way o → IsThere o → IsMost g way (or_zero o)
+most_there : (g : Gauge) (way : Way) (o : Option ℕ) → IsTop g way o → IsThere o → IsMost g way (count_or_zero o)
 most_there g way None p (n, e) = absurd (cc)
 most_there g way (Some n) p q = p
 

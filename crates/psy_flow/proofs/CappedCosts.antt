@@ -9,7 +9,7 @@ use Rattle.psy_flow.specs.declared.gauge.Gauge.{Gauge}
 use Rattle.psy_flow.specs.declared.gauge.Gauge.TheVariants as gauge
 use Rattle.psy_flow.specs.declared.tops.Tops.{Tops}
 use Rattle.psy_flow.specs.Flow.{HasCost, IsCut}
-use Rattle.psy_flow.specs.Tops.{limit_of, called, call_most, stmts_tops, pieces_tops, calls_from, calls_most, capped_count, capped, capped_from}
+use Rattle.psy_flow.specs.Tops.{limit_of, called, call_most, stmts_tops, pieces_tops, calls_from, calls_most, capped_count, capped_tops, capped_from}
 use Rattle.psy_flow.proofs.Agents.{Kept, way_on}
 use Rattle.psy_flow.proofs.Greatest.{IsTopTo, top_to, row_of}
 use Rattle.psy_flow.proofs.Related.{Either, Related, Rows, call_related, rows_more, row_related, stmts_related, pieces_related}
@@ -33,7 +33,7 @@ same_count g (Some a) (Some b) h = ap Some h
 abbrev tops : Option ℕ → Option ℕ → Option ℕ → Tops
 tops fell back to = record { fell = fell; back = back; to = to }
 
-same_tops : (g : Gauge) (t u : Tops) → Related (Same (limit_of g)) (λ n. refl) (sums (limit_of g)) (maxima (limit_of g)) t u → capped g t ≡ capped g u
+same_tops : (g : Gauge) (t u : Tops) → Related (Same (limit_of g)) (λ n. refl) (sums (limit_of g)) (maxima (limit_of g)) t u → capped_tops g t ≡ capped_tops g u
 same_tops g t u h =
     ap (λ o. tops o (capped_count g t.back) (capped_count g t.to)) (same_count g t.fell u.fell h.fell)
     ∙ ap (λ o. tops (capped_count g u.fell) o (capped_count g t.to)) (same_count g t.back u.back h.back)
@@ -59,7 +59,7 @@ module _ (g : Gauge) where
       same_from (xs ++ min a limit ∷ []) (ys ++ b ∷ []) fs (rows_more (Same limit) (λ n. refl) (sums limit) (maxima limit) xs ys (min a limit) b h cut)
 
   -- Capping the counts of calls changes no capped count.
-  pub capped_calls : (wanted : Option ℕ) (functions : List FunctionDecl) (pieces : List Piece) → capped g (pieces_tops g wanted (called (capped_from g [] functions)) pieces) ≡ capped g (pieces_tops g wanted (called (calls_most g functions)) pieces)
+  pub capped_calls : (wanted : Option ℕ) (functions : List FunctionDecl) (pieces : List Piece) → capped_tops g (pieces_tops g wanted (called (capped_from g [] functions)) pieces) ≡ capped_tops g (pieces_tops g wanted (called (calls_most g functions)) pieces)
   capped_calls wanted functions pieces =
       same_tops g _ _ (pieces_related (Same limit) (λ n. refl) (sums limit) (maxima limit) g (called (capped_from g [] functions)) (called (calls_most g functions)) (same_calls _ _ (same_from [] [] functions (tt {0}))) wanted pieces)
 
@@ -71,10 +71,10 @@ cut_of functions agent point (Some n) k ((to, met, asked, way, same), most) = (
   refl,
 )
 
-pub worst_cut : (functions : List FunctionDecl) (agent : AgentDecl) (point : ℕ) (t : Tops) (row : List ℕ) → Kept functions agent → row ≡ capped_from gauge.Steps [] functions → t ≡ capped gauge.Steps (pieces_tops gauge.Steps None (called row) (rest agent.stmts point)) → IsCut (HasCost functions agent point) 1000000000 (unwrap_or t.to 0)
+pub worst_cut : (functions : List FunctionDecl) (agent : AgentDecl) (point : ℕ) (t : Tops) (row : List ℕ) → Kept functions agent → row ≡ capped_from gauge.Steps [] functions → t ≡ capped_tops gauge.Steps (pieces_tops gauge.Steps None (called row) (rest agent.stmts point)) → IsCut (HasCost functions agent point) 1000000000 (unwrap_or t.to 0)
 worst_cut functions agent point t row k e h =
     let pieces = rest agent.stmts point in
     let calls = called (calls_most gauge.Steps functions) in
-    let there : t ≡ capped gauge.Steps (pieces_tops gauge.Steps None calls pieces) = h ∙ ap (λ r. capped gauge.Steps (pieces_tops gauge.Steps None (called r) pieces)) e ∙ capped_calls gauge.Steps None functions pieces in
+    let there : t ≡ capped_tops gauge.Steps (pieces_tops gauge.Steps None calls pieces) = h ∙ ap (λ r. capped_tops gauge.Steps (pieces_tops gauge.Steps None (called r) pieces)) e ∙ capped_calls gauge.Steps None functions pieces in
     subst (λ o. IsCut (HasCost functions agent point) 1000000000 (unwrap_or o 0)) (sym (ap (λ (u : Tops). u.to) there))
     (cut_of functions agent point (pieces_tops gauge.Steps None calls pieces).to k (top_to gauge.Steps None functions calls pieces k.none (row_of gauge.Steps functions k.none)))

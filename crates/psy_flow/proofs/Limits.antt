@@ -3,7 +3,7 @@ use Rattle.std.proofs.Common.{◌≡◌, ℕ, zero, suc, ◌+◌, ◌*◌, min, 
 use Rattle.psy_flow.specs.declared.gauge.Gauge.{Gauge}
 use Rattle.psy_flow.specs.declared.gauge.Gauge.TheVariants as gauge
 use Rattle.psy_flow.specs.declared.tops.Tops.{Tops}
-use Rattle.psy_flow.specs.Tops.{limit_of, in_step, falling, plus, greater, behind, or_else, leaving, on_from, and_on, capped_count, capped}
+use Rattle.psy_flow.specs.Tops.{limit_of, in_step, falling, plus, greater, behind, or_else, leaving, on_from, and_on, capped_count, capped_tops}
 
 -- Tops by their counts
 abbrev pub tops : Option ℕ → Option ℕ → Option ℕ → Tops
@@ -45,35 +45,35 @@ count-plus g n (Some a) = ap Some (min-add-min n a (limit_of g))
 
 -- ---- tops
 
-pub capped-capped : (g : Gauge) (t : Tops) → capped g (capped g t) ≡ capped g t
-capped-capped g t = same_tops (capped g (capped g t)) (capped g t) (count-count g t.fell) (count-count g t.back) (count-count g t.to)
+pub capped-capped : (g : Gauge) (t : Tops) → capped_tops g (capped_tops g t) ≡ capped_tops g t
+capped-capped g t = same_tops (capped_tops g (capped_tops g t)) (capped_tops g t) (count-count g t.fell) (count-count g t.back) (count-count g t.to)
 
-pub capped-or_else : (g : Gauge) (a b : Tops) → capped g (or_else a b) ≡ or_else (capped g a) (capped g b)
-capped-or_else g a b = same_tops (capped g (or_else a b)) (or_else (capped g a) (capped g b)) (count-greater g a.fell b.fell) (count-greater g a.back b.back) (count-greater g a.to b.to)
+pub capped-or_else : (g : Gauge) (a b : Tops) → capped_tops g (or_else a b) ≡ or_else (capped_tops g a) (capped_tops g b)
+capped-or_else g a b = same_tops (capped_tops g (or_else a b)) (or_else (capped_tops g a) (capped_tops g b)) (count-greater g a.fell b.fell) (count-greater g a.back b.back) (count-greater g a.to b.to)
 
-pub capped-behind : (g : Gauge) (n : ℕ) (t : Tops) → capped g (behind (min n (limit_of g)) (capped g t)) ≡ capped g (behind n t)
-capped-behind g n t = same_tops (capped g (behind (min n (limit_of g)) (capped g t))) (capped g (behind n t)) (count-plus g n t.fell) (count-plus g n t.back) (count-plus g n t.to)
+pub capped-behind : (g : Gauge) (n : ℕ) (t : Tops) → capped_tops g (behind (min n (limit_of g)) (capped_tops g t)) ≡ capped_tops g (behind n t)
+capped-behind g n t = same_tops (capped_tops g (behind (min n (limit_of g)) (capped_tops g t))) (capped_tops g (behind n t)) (count-plus g n t.fell) (count-plus g n t.back) (count-plus g n t.to)
 
-pub capped-on_from : (g : Gauge) (f : Option ℕ) (t : Tops) → capped g (on_from (capped_count g f) (capped g t)) ≡ capped g (on_from f t)
+pub capped-on_from : (g : Gauge) (f : Option ℕ) (t : Tops) → capped_tops g (on_from (capped_count g f) (capped_tops g t)) ≡ capped_tops g (on_from f t)
 capped-on_from g None t = refl
 capped-on_from g (Some n) t = capped-behind g n t
 
-pub capped-and_on : (g : Gauge) (a b : Tops) → or_else (capped g (on_from (capped_count g a.fell) (capped g b))) (leaving (capped g a)) ≡ capped g (and_on a b)
-capped-and_on g a b = ap (λ t. or_else t (leaving (capped g a))) (capped-on_from g a.fell b) ∙ sym (capped-or_else g (on_from a.fell b) (leaving a))
+pub capped-and_on : (g : Gauge) (a b : Tops) → or_else (capped_tops g (on_from (capped_count g a.fell) (capped_tops g b))) (leaving (capped_tops g a)) ≡ capped_tops g (and_on a b)
+capped-and_on g a b = ap (λ t. or_else t (leaving (capped_tops g a))) (capped-on_from g a.fell b) ∙ sym (capped-or_else g (on_from a.fell b) (leaving a))
 
 -- ---- tops that are the same as far as is counted
 
-pub or_else_like : (g : Gauge) (a b c d : Tops) → capped g a ≡ capped g c → capped g b ≡ capped g d → capped g (or_else a b) ≡ capped g (or_else c d)
-or_else_like g a b c d h k = capped-or_else g a b ∙ ap (λ t. or_else t (capped g b)) h ∙ ap (or_else (capped g c)) k ∙ sym (capped-or_else g c d)
+pub or_else_like : (g : Gauge) (a b c d : Tops) → capped_tops g a ≡ capped_tops g c → capped_tops g b ≡ capped_tops g d → capped_tops g (or_else a b) ≡ capped_tops g (or_else c d)
+or_else_like g a b c d h k = capped-or_else g a b ∙ ap (λ t. or_else t (capped_tops g b)) h ∙ ap (or_else (capped_tops g c)) k ∙ sym (capped-or_else g c d)
 
-pub behind_like : (g : Gauge) (n m : ℕ) (a b : Tops) → min n (limit_of g) ≡ min m (limit_of g) → capped g a ≡ capped g b → capped g (behind n a) ≡ capped g (behind m b)
+pub behind_like : (g : Gauge) (n m : ℕ) (a b : Tops) → min n (limit_of g) ≡ min m (limit_of g) → capped_tops g a ≡ capped_tops g b → capped_tops g (behind n a) ≡ capped_tops g (behind m b)
 behind_like g n m a b h k =
-    sym (capped-behind g n a) ∙ ap (λ x. capped g (behind x (capped g a))) h ∙ ap (λ t. capped g (behind (min m (limit_of g)) t)) k ∙ capped-behind g m b
+    sym (capped-behind g n a) ∙ ap (λ x. capped_tops g (behind x (capped_tops g a))) h ∙ ap (λ t. capped_tops g (behind (min m (limit_of g)) t)) k ∙ capped-behind g m b
 
-pub and_on_like : (g : Gauge) (a b c d : Tops) → capped g a ≡ capped g c → capped g b ≡ capped g d → capped g (and_on a b) ≡ capped g (and_on c d)
+pub and_on_like : (g : Gauge) (a b c d : Tops) → capped_tops g a ≡ capped_tops g c → capped_tops g b ≡ capped_tops g d → capped_tops g (and_on a b) ≡ capped_tops g (and_on c d)
 and_on_like g a b c d h k =
-    sym (capped-and_on g a b) ∙ ap (λ t. or_else (capped g (on_from t.fell (capped g b))) (leaving t)) h
-    ∙ ap (λ t. or_else (capped g (on_from (capped_count g c.fell) t)) (leaving (capped g c))) k ∙ capped-and_on g c d
+    sym (capped-and_on g a b) ∙ ap (λ t. or_else (capped_tops g (on_from t.fell (capped_tops g b))) (leaving t)) h
+    ∙ ap (λ t. or_else (capped_tops g (on_from (capped_count g c.fell) t)) (leaving (capped_tops g c))) k ∙ capped-and_on g c d
 
 -- ---- what the calls give for counts and tops that are as far as is counted
 
@@ -82,7 +82,7 @@ step_is gauge.Steps = refl
 step_is (gauge.Sends stream) = refl
 step_is (gauge.Looks variable) = refl
 
-pub falling_step_is : (g : Gauge) (r : Tops) (n : ℕ) → r ≡ falling n → n ≡ in_step g → r ≡ capped g (falling (in_step g))
+pub falling_step_is : (g : Gauge) (r : Tops) (n : ℕ) → r ≡ falling n → n ≡ in_step g → r ≡ capped_tops g (falling (in_step g))
 falling_step_is g r n e h = e ∙ ap falling (h ∙ step_is g)
 
 pub sum_is : (r a b p q m : ℕ) → r ≡ min (a + b) m → a ≡ min p m → b ≡ min q m → r ≡ min (p + q) m
@@ -96,13 +96,13 @@ sum_step_is g r a s p e h k = omega (arith, e, h, k)
 pub sum_steps_is : (g : Gauge) (r a s two : ℕ) → r ≡ min (a + two) (limit_of g) → two ≡ min (s + s) (limit_of g) → s ≡ in_step g → r ≡ min (a + (in_step g + in_step g)) (limit_of g)
 sum_steps_is g r a s two e h k = omega (arith, e, h, k)
 
-pub or_else_is : (g : Gauge) (r a b c d : Tops) → r ≡ or_else a b → a ≡ capped g c → b ≡ capped g d → r ≡ capped g (or_else c d)
-or_else_is g r a b c d e h k = e ∙ ap (λ t. or_else t b) h ∙ ap (or_else (capped g c)) k ∙ sym (capped-or_else g c d)
+pub or_else_is : (g : Gauge) (r a b c d : Tops) → r ≡ or_else a b → a ≡ capped_tops g c → b ≡ capped_tops g d → r ≡ capped_tops g (or_else c d)
+or_else_is g r a b c d e h k = e ∙ ap (λ t. or_else t b) h ∙ ap (or_else (capped_tops g c)) k ∙ sym (capped-or_else g c d)
 
-pub behind_is : (g : Gauge) (r : Tops) (n m : ℕ) (a b : Tops) → r ≡ capped g (behind n a) → n ≡ min m (limit_of g) → a ≡ capped g b → r ≡ capped g (behind m b)
-behind_is g r n m a b e h k = e ∙ ap (λ x. capped g (behind x a)) h ∙ ap (λ t. capped g (behind (min m (limit_of g)) t)) k ∙ capped-behind g m b
+pub behind_is : (g : Gauge) (r : Tops) (n m : ℕ) (a b : Tops) → r ≡ capped_tops g (behind n a) → n ≡ min m (limit_of g) → a ≡ capped_tops g b → r ≡ capped_tops g (behind m b)
+behind_is g r n m a b e h k = e ∙ ap (λ x. capped_tops g (behind x a)) h ∙ ap (λ t. capped_tops g (behind (min m (limit_of g)) t)) k ∙ capped-behind g m b
 
-pub and_on_is : (g : Gauge) (r a b c d : Tops) → r ≡ or_else (capped g (on_from a.fell b)) (leaving a) → a ≡ capped g c → b ≡ capped g d → r ≡ capped g (and_on c d)
+pub and_on_is : (g : Gauge) (r a b c d : Tops) → r ≡ or_else (capped_tops g (on_from a.fell b)) (leaving a) → a ≡ capped_tops g c → b ≡ capped_tops g d → r ≡ capped_tops g (and_on c d)
 and_on_is g r a b c d e h k =
-    e ∙ ap (λ t. or_else (capped g (on_from t.fell b)) (leaving t)) h
-    ∙ ap (λ t. or_else (capped g (on_from (capped_count g c.fell) t)) (leaving (capped g c))) k ∙ capped-and_on g c d
+    e ∙ ap (λ t. or_else (capped_tops g (on_from t.fell b)) (leaving t)) h
+    ∙ ap (λ t. or_else (capped_tops g (on_from (capped_count g c.fell) t)) (leaving (capped_tops g c))) k ∙ capped-and_on g c d

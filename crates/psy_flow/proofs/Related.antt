@@ -11,7 +11,7 @@ use Rattle.psy_meaning.specs.Sizes.{total}
 use Rattle.psy_meaning.specs.Statements.{Piece, Do, Hop}
 use Rattle.psy_flow.specs.declared.gauge.Gauge.{Gauge}
 use Rattle.psy_flow.specs.declared.tops.Tops.{Tops}
-use Rattle.psy_flow.specs.Tops.{in_step, in_send, in_look, binary_most, expr_most_step, expr_most, nowhere, falling, returning, reaching, plus, greater, behind, or_else, leaving, on_from, and_on, tops_through, turning, meets, stmt_tops_step, stmt_tops, stmts_tops, piece_tops, pieces_tops, or_zero, call_most, called}
+use Rattle.psy_flow.specs.Tops.{in_step, in_send, in_look, binary_most, expr_most_step, expr_most, nowhere, falling, returning, reaching, plus, greater, behind, or_else, leaving, on_from, and_on, tops_through, turning, meets, stmt_tops_step, stmt_tops, stmts_tops, piece_tops, pieces_tops, count_or_zero, call_most, called}
 
 module _ (R : ℕ → ℕ → Type 0) (same : (n : ℕ) → R n n) (sums : (a b c d : ℕ) → R a b → R c d → R (a + c) (b + d)) (maxima : (a b c d : ℕ) → R a b → R c d → R (max a c) (max b d)) where
   abbrev pub Either : Option ℕ → Option ℕ → Type 0
@@ -79,7 +79,7 @@ module _ (R : ℕ → ℕ → Type 0) (same : (n : ℕ) → R n n) (sums : (a b 
       (falling_related (m + two) (n + two) tested)
       (behind_related (m + two) (n + two) _ _ tested (on_related t u (behind (in_step g) (turning g more m t)) (behind (in_step g) (turning g more n u)) h next))
 
-  zero_related : (a b : Option ℕ) → Either a b → R (or_zero a) (or_zero b)
+  zero_related : (a b : Option ℕ) → Either a b → R (count_or_zero a) (count_or_zero b)
   zero_related None None h = same 0
   zero_related None (Some b) h = absurd h
   zero_related (Some a) None h = absurd h

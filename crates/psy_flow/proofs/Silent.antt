@@ -16,7 +16,7 @@ use Rattle.psy_flow.specs.declared.gauge.Gauge.{Gauge}
 use Rattle.psy_flow.specs.declared.gauge.Gauge.TheVariants as gauge
 use Rattle.psy_flow.specs.declared.tops.Tops.{Tops}
 use Rattle.psy_flow.specs.Flow.{IsAgentOf, IsMostSends, MayLook}
-use Rattle.psy_flow.specs.Tops.{count_of, called, capped_count, capped, pieces_tops}
+use Rattle.psy_flow.specs.Tops.{count_of, called, capped_count, capped_tops, pieces_tops}
 use Rattle.psy_flow.proofs.Agents.{Kept, kept, open_calls}
 use Rattle.psy_flow.proofs.Greatest.{IsRow, IsTopTo, top_to}
 use Rattle.psy_flow.proofs.Sendless.{unit_sendless}
@@ -81,7 +81,7 @@ module _ (unit : Whole) (number : ℕ) (agent : AgentDecl) (its : IsAgentOf unit
         refl,
       )
 
-  pub most_of_tops : (to stream : ℕ) (t : Tops) → t ≡ capped (gauge.Sends stream) (pieces_tops (gauge.Sends stream) (Some to) (called []) (rest agent.stmts point)) → IsMostSends unit.functions agent point to stream (unwrap_or t.to 0)
+  pub most_of_tops : (to stream : ℕ) (t : Tops) → t ≡ capped_tops (gauge.Sends stream) (pieces_tops (gauge.Sends stream) (Some to) (called []) (rest agent.stmts point)) → IsMostSends unit.functions agent point to stream (unwrap_or t.to 0)
   most_of_tops to stream t h =
       let g = gauge.Sends stream in
       subst (λ o. IsMostSends unit.functions agent point to stream (unwrap_or o 0)) (sym (ap (λ (u : Tops). u.to) h))
@@ -101,7 +101,7 @@ module _ (unit : Whole) (number : ℕ) (agent : AgentDecl) (its : IsAgentOf unit
         grind (arith, some)),
   )
 
-  pub looks_of_tops : (variable : ℕ) (t : Tops) → t ≡ capped (gauge.Looks variable) (pieces_tops (gauge.Looks variable) None (called []) (rest agent.stmts point)) → (nat_lt 0 (unwrap_or t.to 0) ≡ true) ↔ MayLook unit.functions agent point variable
+  pub looks_of_tops : (variable : ℕ) (t : Tops) → t ≡ capped_tops (gauge.Looks variable) (pieces_tops (gauge.Looks variable) None (called []) (rest agent.stmts point)) → (nat_lt 0 (unwrap_or t.to 0) ≡ true) ↔ MayLook unit.functions agent point variable
   looks_of_tops variable t h =
       let g = gauge.Looks variable in
       subst (λ o. (nat_lt 0 (unwrap_or o 0) ≡ true) ↔ MayLook unit.functions agent point variable) (sym (ap (λ (u : Tops). u.to) h))

@@ -8,7 +8,7 @@ use Rattle.psy_tree.specs.declared.unit.FunctionDecl.{FunctionDecl}
 use Rattle.psy_meaning.specs.Sizes.{total, stmts_size, unit_size}
 use Rattle.psy_meaning.specs.Depths.{Depth, deepest, stmts_depth, call_depth, call_depths_from, call_depths, agent_depth}
 use Rattle.psy_meaning.specs.Units.{IsBareFunction, IsOfText}
-use Rattle.psy_flow.specs.Counted.{capped, counted_calls_from, counted_calls}
+use Rattle.psy_flow.specs.Counted.{capped_depth, counted_calls_from, counted_calls}
 use Rattle.psy_flow.proofs.Capped.{same}
 use Rattle.psy_flow.proofs.Lists.{deepest-append}
 use Rattle.psy_flow.proofs.Sizes.{Below, stmts_bounded, loops-le_size}
@@ -18,8 +18,8 @@ abbrev room : List FunctionDecl → ℕ
 room [] = 0
 room (f ∷ fs) = stmts_size f.stmts + 66 + room fs
 
-whole : (d : Depth) → Below (2 ^ 64 - 1) d → capped d ≡ d
-whole d b = same (capped d) d (omega arith) (omega arith)
+whole : (d : Depth) → Below (2 ^ 64 - 1) d → capped_depth d ≡ d
+whole d b = same (capped_depth d) d (omega arith) (omega arith)
 
 call_below : (above : List Depth) (most : ℕ) (f : FunctionDecl) → Below most (deepest above) → IsBareFunction f → Below (most + (stmts_size f.stmts + 66)) (call_depth above f)
 call_below above most f b bare =
@@ -38,7 +38,7 @@ exact above most (f ∷ fs) b bare small =
     let call : Depth = call_depth above f in
     let more : ℕ = most + (stmts_size f.stmts + 66) in
     let here : Below more call = call_below above most f b (bare 0 f (omega arith)) in
-    let is_whole : capped call ≡ call = whole call (record { operands = omega (arith, here.operands); cells = omega (arith, here.cells) }) in
+    let is_whole : capped_depth call ≡ call = whole call (record { operands = omega (arith, here.operands); cells = omega (arith, here.cells) }) in
     let next : List Depth = above ++ call ∷ [] in
     let b' : Below more (deepest next) = subst (Below more) (sym (deepest-append above call)) (record { operands = omega (arith, here.operands, b.operands); cells = omega (arith, here.cells, b.cells) }) in
     let rest : Exact next more fs = exact next more fs b' (λ k d less. bare (suc k) d (omega (arith, less))) (omega arith) in
@@ -58,7 +58,7 @@ agent-le (x ∷ agents) zero a e =
     omega (arith, ap (λ (b : AgentDecl). stmts_size b.stmts) is)
 agent-le (x ∷ agents) (suc i) a e = omega (arith, agent-le agents i a e)
 
-pub counted_is : (unit : Whole) (i : ℕ) (a : AgentDecl) → IsOfText unit → slice_get unit.agents i ≡ Some a → capped (stmts_depth (counted_calls unit.functions) a.stmts) ≡ agent_depth unit a
+pub counted_is : (unit : Whole) (i : ℕ) (a : AgentDecl) → IsOfText unit → slice_get unit.agents i ≡ Some a → capped_depth (stmts_depth (counted_calls unit.functions) a.stmts) ≡ agent_depth unit a
 counted_is unit i a text e =
     let fs : List FunctionDecl = unit.functions in
     let few : length fs ≤ 64 = text.bare.function_limit in
@@ -68,5 +68,5 @@ counted_is unit i a text e =
     let all : Exact [] 0 fs = exact [] 0 fs (record { operands = omega arith; cells = omega arith }) text.bare.functions (omega arith) in
     let below : Below (room fs) (deepest (call_depths fs)) = record { operands = omega (arith, all.below.operands); cells = omega (arith, all.below.cells) } in
     let inside = stmts_bounded (call_depths fs) (room fs) below a.stmts in
-    ap (λ ds. capped (stmts_depth ds a.stmts)) all.counted
+    ap (λ ds. capped_depth (stmts_depth ds a.stmts)) all.counted
     ∙ whole (agent_depth unit a) (record { operands = omega (arith, inside.operands); cells = omega (arith, inside.cells) })

@@ -5,7 +5,7 @@ use Rattle.psy_meaning.specs.Rest.{Rests, rests_in, with_rests}
 use Rattle.psy_flow.specs.declared.gauge.Gauge.{Gauge}
 use Rattle.psy_flow.specs.declared.points.Search.{Search}
 use Rattle.psy_flow.specs.declared.points.Search.TheVariants as search
-use Rattle.psy_flow.specs.Tops.{capped, pieces_tops}
+use Rattle.psy_flow.specs.Tops.{capped_tops, pieces_tops}
 
 -- The rests behind each `advance` of statements
 abbrev pub rests_of_list : List Stmt → Rests
@@ -13,5 +13,5 @@ rests_of_list stmts = rests_in (map with_rests stmts)
 
 -- Found are the greatest counts of the rest of this number. Further on there is what these rests leave of the number.
 abbrev pub IsBehind : Gauge → Option ℕ → (ℕ → ℕ) → Rests → ℕ → Search → Type 0
-IsBehind g wanted calls rests number (search.Found t) = (number < length rests) × (t ≡ capped g (pieces_tops g wanted calls (slice_index_or rests number [])))
+IsBehind g wanted calls rests number (search.Found t) = (number < length rests) × (t ≡ capped_tops g (pieces_tops g wanted calls (slice_index_or rests number [])))
 IsBehind g wanted calls rests number (search.Further left) = number ≡ length rests + left

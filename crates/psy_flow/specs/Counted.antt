@@ -9,13 +9,13 @@ abbrev pub held : Depths → Depth
 held d = record { operands = d.operands; cells = d.cells }
 
 -- A depth as far as it can be counted
-abbrev pub capped : Depth → Depth
-capped d = record { operands = min d.operands (2 ^ 64 - 1); cells = min d.cells (2 ^ 64 - 1) }
+abbrev pub capped_depth : Depth → Depth
+capped_depth d = record { operands = min d.operands (2 ^ 64 - 1); cells = min d.cells (2 ^ 64 - 1) }
 
 -- The depths of the functions' calls, in order, each as far as it can be counted
 abbrev pub counted_calls_from : List Depth → List FunctionDecl → List Depth
 counted_calls_from above [] = above
-counted_calls_from above (f ∷ rest) = counted_calls_from (above ++ capped (call_depth above f) ∷ []) rest
+counted_calls_from above (f ∷ rest) = counted_calls_from (above ++ capped_depth (call_depth above f) ∷ []) rest
 
 -- Those of all functions of a unit
 abbrev pub counted_calls : List FunctionDecl → List Depth

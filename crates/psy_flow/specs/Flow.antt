@@ -1,6 +1,7 @@
 -- What follows each point of an agent's body, on all ways.
 use Rattle.std.specs.Prelude.{◌≡◌, ◌⊎◌, ℕ, ◌<◌, ◌≤◌, min, ◌==◌, List, Some, slice_get}
 use Rattle.std.specs.List.{count_by, Contains}
+use Rattle.psy_base.specs.declared.limits.TheConstants.{SENDS}
 use Rattle.psy_code.specs.Views.{Looked}
 use Rattle.psy_tree.specs.declared.unit.AgentDecl.{AgentDecl}
 use Rattle.psy_tree.specs.declared.unit.FunctionDecl.{FunctionDecl}
@@ -31,7 +32,7 @@ HasCost functions agent from cost = (to : ℕ) × (met : Meter) × IsWayFrom fun
 
 -- A way from one point to another has so many sends to a stream.
 abbrev pub HasSends : List FunctionDecl → AgentDecl → ℕ → ℕ → ℕ → ℕ → Type 0
-HasSends functions agent from to stream sends = (met : Meter) × IsWayFrom functions agent from to met × (count_by (λ s. s == stream) met.sends ≡ sends)
+HasSends functions agent from to stream sends = (met : Meter) × IsWayFrom functions agent from to met × (count_by (λ s. s.stream == stream) met.sends ≡ sends)
 
 -- A way from a point looks at a variable.
 abbrev pub MayLook : List FunctionDecl → AgentDecl → ℕ → ℕ → Type 0
@@ -49,7 +50,7 @@ IsCut Has limit result = (n : ℕ) × IsGreatest Has n × (result ≡ min n limi
 -- The greatest number of sends on a way from one point to another, cut at 65,537; 0 where there is none
 abbrev pub IsMostSends : List FunctionDecl → AgentDecl → ℕ → ℕ → ℕ → ℕ → Type 0
 IsMostSends functions agent from to stream result =
-    ((IsNext functions agent from to → ⊥) × (result ≡ 0)) ⊎ IsCut (HasSends functions agent from to stream) 65537 result
+    ((IsNext functions agent from to → ⊥) × (result ≡ 0)) ⊎ IsCut (HasSends functions agent from to stream) SENDS result
 
 -- The numbers rise.
 abbrev pub Rises : List ℕ → Type 0

@@ -1,6 +1,7 @@
 -- The greatest counts of the ways of statements, by how these end.
 use Rattle.std.specs.Prelude.{ℕ, zero, suc, ◌+◌, min, max, Bool, true, ◌==◌, if◌then◌else◌, List, [], ◌∷◌, ◌++◌, map, Option, Some, None, slice_index_or}
 use Rattle.std.specs.List.{count_by}
+use Rattle.psy_base.specs.declared.limits.TheConstants.{COST, SENDS}
 use Rattle.psy_arith.specs.declared.operators.Op2.{Op2}
 use Rattle.psy_arith.specs.declared.operators.Op2.TheVariants as op
 use Rattle.psy_tree.specs.declared.unit.Expr.{Expr, fold-Expr}
@@ -19,8 +20,8 @@ use Rattle.psy_flow.specs.declared.tops.Tops.{Tops}
 
 -- How far is counted
 abbrev pub limit_of : Gauge → ℕ
-limit_of gauge.Steps = 1000000000
-limit_of (gauge.Sends stream) = 65537
+limit_of gauge.Steps = COST
+limit_of (gauge.Sends stream) = SENDS
 limit_of (gauge.Looks variable) = 1
 
 -- What an instruction counts that neither looks nor sends
@@ -44,7 +45,7 @@ in_send (gauge.Looks variable) stream = 0
 -- What is counted of all that a way met
 abbrev pub count_of : Gauge → Meter → ℕ
 count_of gauge.Steps met = met.steps
-count_of (gauge.Sends stream) met = count_by (λ s. s == stream) met.sends
+count_of (gauge.Sends stream) met = count_by (λ s. s.stream == stream) met.sends
 count_of (gauge.Looks variable) met = count_by (λ l. l.variable == variable) met.looks
 
 -- ---- expressions
@@ -174,13 +175,13 @@ pieces_tops g wanted calls pieces = tops_through (map (piece_tops g wanted calls
 -- ---- functions
 
 -- 0 where there is none
-abbrev pub or_zero : Option ℕ → ℕ
-or_zero None = 0
-or_zero (Some n) = n
+abbrev pub count_or_zero : Option ℕ → ℕ
+count_or_zero None = 0
+count_or_zero (Some n) = n
 
 -- The greatest count of a call, from the tops of its function's statements: falling through counts two instructions more.
 abbrev pub call_most : Gauge → Tops → ℕ
-call_most g t = or_zero (greater t.back (plus (in_step g + in_step g) t.fell))
+call_most g t = count_or_zero (greater t.back (plus (in_step g + in_step g) t.fell))
 
 -- The entry of a function; 0 where there is none
 abbrev pub called : List ℕ → ℕ → ℕ
@@ -203,8 +204,8 @@ capped_count g None = None
 capped_count g (Some n) = Some (min n (limit_of g))
 
 -- Each count as far as is counted
-abbrev pub capped : Gauge → Tops → Tops
-capped g t = record { fell = capped_count g t.fell; back = capped_count g t.back; to = capped_count g t.to }
+abbrev pub capped_tops : Gauge → Tops → Tops
+capped_tops g t = record { fell = capped_count g t.fell; back = capped_count g t.back; to = capped_count g t.to }
 
 -- The greatest counts of the functions' calls, each as far as is counted
 abbrev pub capped_from : Gauge → List ℕ → List FunctionDecl → List ℕ

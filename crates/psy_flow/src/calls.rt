@@ -3,7 +3,7 @@
 ghost use Rattle.std.specs.Prelude.{◌≡◌, ◌-◌, ◌^◌, ◌≤◌, min, map, take, length};
 ghost use Rattle.psy_meaning.specs.Depths as depths;
 ghost use Rattle.psy_meaning.specs.Depths.{call_depth};
-ghost use Rattle.psy_flow.specs.Counted.{held, capped, counted_calls};
+ghost use Rattle.psy_flow.specs.Counted.{held, capped_depth, counted_calls};
 
 use crate::depths::{Depths, SHALLOW};
 use crate::statements::depth_of_stmts;
@@ -42,7 +42,7 @@ fn loops_in(stmts: &[Stmt]) -> u64
 
 // The depth of a call, where `above` has the depths of the functions above this one.
 fn depth_of_function(above: &[Depths], function: &FunctionDecl) -> Depths
-    ensures { held result ≡ capped (call_depth (map held above.now) function.now) }
+    ensures { held result ≡ capped_depth (call_depth (map held above.now) function.now) }
 {
     let inside = depth_of_stmts(above, function.stmts.as_slice());
     let slots = (function.params as u64).saturating_add(function.locals.len() as u64);

@@ -1,6 +1,6 @@
 ghost use Rattle.std.specs.Prelude.{◌≡◌};
 ghost use Rattle.psy_meaning.specs.Depths as depths;
-ghost use Rattle.psy_flow.specs.Counted.{held, capped};
+ghost use Rattle.psy_flow.specs.Counted.{held, capped_depth};
 
 /// How much an agent's machine holds at most.
 #[derive(Clone, Copy, Debug, PartialEq, Eq)]
@@ -35,7 +35,7 @@ impl Depths {
 
     /// The same on top of so many operands, as far as they can be counted.
     pub(super) fn on_top_of(self, operands: u64) -> Depths
-        ensures { held result ≡ capped (depths.on_top_of operands (held self)) }
+        ensures { held result ≡ capped_depth (depths.on_top_of operands (held self)) }
     {
         Depths {
             operands: operands.saturating_add(self.operands),

@@ -2,7 +2,7 @@
 
 ghost use Rattle.std.specs.Prelude.{◌≡◌, map, slice_index_or};
 ghost use Rattle.psy_meaning.specs.Depths.{binary_depth, deeper, stacked, expr_depth, shallow, one_deep};
-ghost use Rattle.psy_flow.specs.Counted.{held, capped};
+ghost use Rattle.psy_flow.specs.Counted.{held, capped_depth};
 
 use crate::depths::{Depths, ONE_DEEP, SHALLOW};
 use psy_arith::Op2;
@@ -20,14 +20,14 @@ fn depth_of_callee(functions: &[Depths], function: u32) -> Depths
 
 // The arguments are gone when the callee begins, and its value takes their place.
 fn depth_of_call(arguments: Depths, callee: Depths) -> Depths
-    ensures { held result ≡ capped (deeper one_deep (deeper (held arguments) (held callee))) }
+    ensures { held result ≡ capped_depth (deeper one_deep (deeper (held arguments) (held callee))) }
 {
     ONE_DEEP.or(arguments.or(callee))
 }
 
 // The right side of `&&` and `||` finds nothing of the left one.
 fn depth_of_binary(operator: Op2, left: Depths, right: Depths) -> Depths
-    ensures { held result ≡ capped (binary_depth operator (held left) (held right)) }
+    ensures { held result ≡ capped_depth (binary_depth operator (held left) (held right)) }
 {
     match operator {
         Op2::AndAnd | Op2::OrOr => left.or(right),
@@ -38,7 +38,7 @@ fn depth_of_binary(operator: Op2, left: Depths, right: Depths) -> Depths
 /// The depth of an expression, where `functions` has the depths of the functions that it may call.
 #[cycle(expr)]
 pub fn depth_of_expr(functions: &[Depths], expr: &Expr) -> Depths
-    ensures { held result ≡ capped (expr_depth (map held functions.now) expr.now) }
+    ensures { held result ≡ capped_depth (expr_depth (map held functions.now) expr.now) }
 {
     match expr {
         Expr::Cell(_, index) => depth_of_expr(functions, index.get()),
@@ -60,7 +60,7 @@ pub fn depth_of_expr(functions: &[Depths], expr: &Expr) -> Depths
 // Each argument is on top of the values of those before it.
 #[cycle(expr)]
 fn depth_of_arguments(functions: &[Depths], arguments: &[Expr]) -> Depths
-    ensures { held result ≡ capped (stacked 0 (map (expr_depth (map held functions.now)) arguments.now)) }
+    ensures { held result ≡ capped_depth (stacked 0 (map (expr_depth (map held functions.now)) arguments.now)) }
 {
     let mut depths = SHALLOW;
     let mut before: u64 = 0;

@@ -2,7 +2,7 @@
 
 ghost use Rattle.std.specs.Prelude.{◌≡◌, ◌<◌, ◌≤◌, length};
 ghost use Rattle.psy_meaning.specs.Rest.{rest, rests_in, rests_of, with_rests};
-ghost use Rattle.psy_flow.specs.Tops.{called, capped, pieces_tops};
+ghost use Rattle.psy_flow.specs.Tops.{called, capped_tops, pieces_tops};
 ghost use Rattle.psy_flow.specs.Behind.{IsBehind, rests_of_list};
 
 use crate::gauge::Gauge;
@@ -75,7 +75,7 @@ fn behind(gauge: Gauge, wanted: Option<u32>, row: &[u64], stmts: &[Stmt], number
 /// `advance`, a jump, and the body again.
 pub fn tops_from(gauge: Gauge, wanted: Option<u32>, row: &[u64], stmts: &[Stmt], point: u32) -> Tops
     requires { point ≤ length (rests_of_list stmts.now) }
-    ensures { result ≡ capped gauge (pieces_tops gauge wanted (called row.now) (rest stmts.now point)) }
+    ensures { result ≡ capped_tops gauge (pieces_tops gauge wanted (called row.now) (rest stmts.now point)) }
 {
     let body = tops_of_stmts(gauge, wanted, row, stmts);
     if point == 0 {

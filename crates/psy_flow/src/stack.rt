@@ -2,7 +2,7 @@ ghost use Rattle.std.specs.Prelude.{◌≡◌, ◌<◌, ◌≤◌, length, slice
 ghost use Rattle.psy_tree.specs.declared.unit.AgentDecl.{AgentDecl};
 ghost use Rattle.psy_meaning.specs.Depths.{stmts_depth, agent_depth};
 ghost use Rattle.psy_meaning.specs.Units.{IsOfText};
-ghost use Rattle.psy_flow.specs.Counted.{held, capped, counted_calls};
+ghost use Rattle.psy_flow.specs.Counted.{held, capped_depth, counted_calls};
 
 use crate::calls::depths_of_calls;
 use crate::depths::Depths;
@@ -22,7 +22,7 @@ pub fn depth_of_stack(unit: &Unit, agent: u32) -> Depths
 pub fn counted_depth(unit: &Unit, agent: u32) -> Depths
     requires functions { length unit.now.functions ≤ 64 }
     requires agent { agent < length unit.now.agents }
-    ensures { (a : AgentDecl) → slice_get unit.now.agents agent ≡ Some a → held result ≡ capped (stmts_depth (counted_calls unit.now.functions) a.stmts) }
+    ensures { (a : AgentDecl) → slice_get unit.now.agents agent ≡ Some a → held result ≡ capped_depth (stmts_depth (counted_calls unit.now.functions) a.stmts) }
 {
     let functions = unit.functions.as_slice();
     let row = depths_of_calls(functions);

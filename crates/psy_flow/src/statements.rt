@@ -2,7 +2,7 @@
 
 ghost use Rattle.std.specs.Prelude.{◌≡◌, map};
 ghost use Rattle.psy_meaning.specs.Depths.{stmt_depth, stmts_depth};
-ghost use Rattle.psy_flow.specs.Counted.{held, capped};
+ghost use Rattle.psy_flow.specs.Counted.{held, capped_depth};
 
 use crate::depths::{Depths, SHALLOW};
 use crate::expressions::depth_of_expr;
@@ -10,7 +10,7 @@ use psy_tree::Stmt;
 
 #[cycle(stmt)]
 fn depth_of_stmt(functions: &[Depths], stmt: &Stmt) -> Depths
-    ensures { held result ≡ capped (stmt_depth (map held functions.now) stmt.now) }
+    ensures { held result ≡ capped_depth (stmt_depth (map held functions.now) stmt.now) }
 {
     match stmt {
         Stmt::Set(_, value) => depth_of_expr(functions, value),
@@ -50,7 +50,7 @@ fn depth_of_stmt(functions: &[Depths], stmt: &Stmt) -> Depths
 /// The depth of statements, where `functions` has the depths of the functions that they may call.
 #[cycle(stmt)]
 pub fn depth_of_stmts(functions: &[Depths], stmts: &[Stmt]) -> Depths
-    ensures { held result ≡ capped (stmts_depth (map held functions.now) stmts.now) }
+    ensures { held result ≡ capped_depth (stmts_depth (map held functions.now) stmts.now) }
 {
     let mut depths = SHALLOW;
     for stmt in stmts {

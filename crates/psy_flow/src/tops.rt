@@ -2,7 +2,7 @@
 
 ghost use Rattle.std.specs.Prelude.{◌≡◌, None, Some};
 ghost use Rattle.psy_flow.specs.Tops as tops;
-ghost use Rattle.psy_flow.specs.Tops.{capped, capped_count};
+ghost use Rattle.psy_flow.specs.Tops.{capped_tops, capped_count};
 
 use crate::gauge::Gauge;
 
@@ -73,7 +73,7 @@ impl Tops {
 
     /// Behind a way with a count.
     pub fn behind(self, gauge: Gauge, count: u64) -> Tops
-        ensures { result ≡ capped gauge (tops.behind count self) }
+        ensures { result ≡ capped_tops gauge (tops.behind count self) }
     {
         Tops {
             fell: plus(gauge, count, self.fell),
@@ -95,7 +95,7 @@ impl Tops {
 
     /// These ways, and where they fall through the others behind them.
     pub fn and_on(self, gauge: Gauge, second: Tops) -> Tops
-        ensures { result ≡ tops.or_else (capped gauge (tops.on_from self.fell second)) (tops.leaving self) }
+        ensures { result ≡ tops.or_else (capped_tops gauge (tops.on_from self.fell second)) (tops.leaving self) }
     {
         let leaving = Tops { fell: None, ..self };
         match self.fell {

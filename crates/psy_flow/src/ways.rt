@@ -2,7 +2,7 @@
 
 ghost use Rattle.std.specs.Prelude.{◌≡◌, min, map, if◌then◌else◌};
 ghost use Rattle.psy_meaning.specs.Sizes.{total};
-ghost use Rattle.psy_flow.specs.Tops.{limit_of, called, capped, expr_most, binary_most, turning as turns, reaching, nowhere, meets, stmt_tops, stmts_tops, tops_through};
+ghost use Rattle.psy_flow.specs.Tops.{limit_of, called, capped_tops, expr_most, binary_most, turning as turns, reaching, nowhere, meets, stmt_tops, stmts_tops, tops_through};
 ghost use Rattle.psy_flow.specs.Tops as tops;
 
 use crate::gauge::Gauge;
@@ -75,8 +75,8 @@ fn most_of_exprs(gauge: Gauge, row: &[u64], exprs: &[Expr]) -> u64
 // At most so many turns of a bounded loop: falling through counts most after all of them, and leaving it in
 // the last.
 fn turning(gauge: Gauge, most: u32, test: u64, body: Tops) -> Tops
-    requires { body ≡ capped gauge body }
-    ensures { result ≡ capped gauge (turns gauge most test body) }
+    requires { body ≡ capped_tops gauge body }
+    ensures { result ≡ capped_tops gauge (turns gauge most test body) }
 {
     let step = gauge.step();
     let tested = gauge.sum(test, gauge.sum(step, step));
@@ -99,7 +99,7 @@ fn turning(gauge: Gauge, most: u32, test: u64, body: Tops) -> Tops
 
 #[cycle(stmt)]
 pub fn tops_of_stmt(gauge: Gauge, wanted: Option<u32>, row: &[u64], stmt: &Stmt) -> Tops
-    ensures { result ≡ capped gauge (stmt_tops gauge wanted (called row.now) stmt.now) }
+    ensures { result ≡ capped_tops gauge (stmt_tops gauge wanted (called row.now) stmt.now) }
 {
     let step = gauge.step();
     match stmt {
@@ -141,7 +141,7 @@ pub fn tops_of_stmt(gauge: Gauge, wanted: Option<u32>, row: &[u64], stmt: &Stmt)
 }
 
 fn tops_of_advance(gauge: Gauge, wanted: Option<u32>, point: u32) -> Tops
-    ensures { result ≡ capped gauge (if meets wanted point then reaching (tops.in_step gauge) else nowhere) }
+    ensures { result ≡ capped_tops gauge (if meets wanted point then reaching (tops.in_step gauge) else nowhere) }
 {
     let meets = match wanted {
         None => true,
@@ -156,7 +156,7 @@ fn tops_of_advance(gauge: Gauge, wanted: Option<u32>, point: u32) -> Tops
 /// The greatest counts of statements one after the other.
 #[cycle(stmt)]
 pub fn tops_of_stmts(gauge: Gauge, wanted: Option<u32>, row: &[u64], stmts: &[Stmt]) -> Tops
-    ensures { result ≡ capped gauge (stmts_tops gauge wanted (called row.now) stmts.now) }
+    ensures { result ≡ capped_tops gauge (stmts_tops gauge wanted (called row.now) stmts.now) }
 {
     let mut tops = Tops::falling(0);
     for stmt in stmts {

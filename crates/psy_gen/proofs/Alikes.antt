@@ -126,10 +126,10 @@ module _ (unit : Whole) (whole : Code) (number : ℕ) (agent : AgentDecl) (its :
   points_are : length its.points ≡ length agent.points
   points_are = ap (λ (a : AgentCode). length a.points) its_is ∙ omega (arith, places_count agent.stmts here.place, own.points)
 
-  same_as : (s : State) (t : code.State) → Holds Home s t → SameAs s t
+  same_as : (s : State) (t : code.RunState) → Holds Home s t → SameAs s t
   same_as s t h = record { cells = h.0; copies = h.1; deeds = h.2 }
 
-  ends_as : (start : code.State) (end : ℕ) (counters : List ℕ) (o : Outcome) → start.deeds.steps ≡ 0 → ((t : State) → o ≡ Falls t → ⊥) → After whole its sc Home end 0 [] counters start o → EndsAs o (run_code whole its start)
+  ends_as : (start : code.RunState) (end : ℕ) (counters : List ℕ) (o : Outcome) → start.deeds.steps ≡ 0 → ((t : State) → o ≡ Falls t → ⊥) → After whole its sc Home end 0 [] counters start o → EndsAs o (run_code whole its start)
   ends_as start end counters (Falls t) zero_steps loud g = loud t refl
   ends_as start end counters (Returns v t) zero_steps loud g = g.1
   ends_as start end counters (Halts (Ended point s)) zero_steps loud (n, t, e, h) =

@@ -15,7 +15,7 @@ use Rattle.psy_meaning.specs.Sizes.{stmts_size, total}
 use Rattle.psy_meaning.specs.Depths.{Depth, shallow, stmts_depth, call_depth, call_depths_from, call_depths, loops_in}
 use Rattle.psy_meaning.specs.Sound.{Scope, AreSound, function_scope}
 use Rattle.psy_meaning.specs.States.{State, Final, Ended, Trapped, Got, Value, Stops, Outcome, Falls, Returns, Halts, Callee, cost_1}
-use Rattle.psy_meaning.specs.Statements.{acts_by, frame_of, in_store, final_in, back_in, callee, with_callee, callees_from, callees_of, no_callee}
+use Rattle.psy_meaning.specs.Statements.{acts_by, function_frame, in_store, final_in, back_in, callee, with_callee, callees_from, callees_of, no_callee}
 use Rattle.psy_gen.specs.Emission.{stmts_code, function_code, function_layout, function_entry, function_size}
 use Rattle.psy_gen.proofs.Leads.{Leads, after, by_one, went}
 use Rattle.psy_gen.proofs.Contexts.{Context, Home, Inside, Room, roomy, has_room_by, joined, machine_in, home_in, calls_in, copies_in, cells_used, depth_used, at, frame_size, HasAt, has-first, has-second, Shape, Holds, HaltsAt, GotAfter, got_leads}
@@ -83,7 +83,7 @@ module _ (whole : Code) (its : AgentCode) where
     first_counters = replicate (loops_in decl.stmts) 0
 
     abbrev begun : List ℤ → State → State
-    begun arguments s = in_store (frame_of decl arguments) (cost_1 s)
+    begun arguments s = in_store (function_frame decl arguments) (cost_1 s)
 
     body_runs : (k : Context) (sc : Scope) (s : State) (counters : List ℕ) (p place : ℕ) (arguments operands : List ℤ) → ((depths' : List ℕ) (streams : List Bool) → AreSound (function_scope fs depths' streams decl) decl.stmts)
         → HasAt whole.instrs place (function_code decl place) → place + function_size decl ≤ length whole.instrs → Shape sc s → length arguments ≡ decl.params
@@ -99,11 +99,11 @@ module _ (whole : Code) (its : AgentCode) where
 
     -- ---- back in the caller
 
-    holds_back : (k : Context) (s t : State) (counters : List ℕ) (p : ℕ) (u : code.State) → Holds (inner k s counters p) t u → Holds k (in_store s.store t) u
+    holds_back : (k : Context) (s t : State) (counters : List ℕ) (p : ℕ) (u : code.RunState) → Holds (inner k s counters p) t u → Holds k (in_store s.store t) u
     holds_back Home s t counters p u h = h
     holds_back (Inside home copies back outer) s t counters p u h = h
 
-    halts_back : (k : Context) (sc : Scope) (s : State) (counters : List ℕ) (p : ℕ) (start : code.State) (f : Final) → HaltsAt whole its (scope_of sc) (inner k s counters p) start f → HaltsAt whole its sc k start (final_in s.store f)
+    halts_back : (k : Context) (sc : Scope) (s : State) (counters : List ℕ) (p : ℕ) (start : code.RunState) (f : Final) → HaltsAt whole its (scope_of sc) (inner k s counters p) start f → HaltsAt whole its sc k start (final_in s.store f)
     halts_back k sc s counters p start (Ended point t) (n, u, e, h) = (n, u, e, holds_back k s t counters p u h)
     halts_back k sc s counters p start (Trapped kind t) (n, u, e, h) = (n, u, e, holds_back k s t counters p u h)
 
@@ -126,7 +126,7 @@ module _ (whole : Code) (its : AgentCode) where
         (by_one whole its (at j (q + 1) (pos 0 ∷ operands) (cost_1 t) now) (at k (p + 1) (pos 0 ∷ operands) (cost_1 (cost_1 (in_store s.store t))) counters)
         (went whole its (at j (q + 1) (pos 0 ∷ operands) (cost_1 t) now) instr.Return (machine_in k (p + 1) (pos 0 ∷ operands) s.store counters) back refl (roomy its k (p + 1) (pos 0 ∷ operands) s.store counters 0 0 (record { stack = omega (arith, outside.stack); frames = outside.frames; calls = outside.calls }))))
 
-    back_got : (k : Context) (sc : Scope) (s : State) (counters : List ℕ) (p q : ℕ) (operands : List ℤ) (start : code.State) (o : Outcome) → slice_get whole.instrs q ≡ Some (instr.Push (pos 0)) → slice_get whole.instrs (q + 1) ≡ Some instr.Return → Shape sc s
+    back_got : (k : Context) (sc : Scope) (s : State) (counters : List ℕ) (p q : ℕ) (operands : List ℤ) (start : code.RunState) (o : Outcome) → slice_get whole.instrs q ≡ Some (instr.Push (pos 0)) → slice_get whole.instrs (q + 1) ≡ Some instr.Return → Shape sc s
         → Room its (inner k s counters p) (total (function_layout decl) + loops_in decl.stmts) (length operands + 1) 0 (length fs) → Room its k (frame_size s.store counters) (length operands + 1) 0 0
         → After whole its (scope_of sc) (inner k s counters p) q 0 operands first_counters start o → GotAfter whole its sc k (p + 1) operands counters s start (back_in s.store o)
     back_got k sc s counters p q operands start (Falls t) push back shape room outside (now, keeps, inside, leads) = (
@@ -141,7 +141,7 @@ module _ (whole : Code) (its : AgentCode) where
     -- ---- the call
 
     call_goes : (k : Context) (s : State) (counters : List ℕ) (number p place : ℕ) (arguments operands : List ℤ) → slice_get whole.functions number ≡ Some (function_entry decl place) → length arguments ≡ decl.params
-        → does whole its s.view (instr.Call number) (machine_in k p (pushed arguments operands) s.store counters) ≡ Went (machine_in (inner k s counters p) place operands (frame_of decl arguments) first_counters)
+        → does whole its s.view (instr.Call number) (machine_in k p (pushed arguments operands) s.store counters) ≡ Went (machine_in (inner k s counters p) place operands (function_frame decl arguments) first_counters)
     call_goes k s counters number p place arguments operands entry params =
         let m = machine_in k p (pushed arguments operands) s.store counters in
         let fits : nat_le decl.params (length (pushed arguments operands)) ≡ true = grind (arith, params, pushed_length arguments operands) in
@@ -177,8 +177,8 @@ module _ (whole : Code) (its : AgentCode) where
         (expr_runs whole its (scope_of sc) j callees depths (length fs) (ready j (scope_of sc) refl) (λ variable has. no_some variable has.1)) (λ variable has. no_some variable has.1) (λ e. (home_in k s.store counters, copies_in k s.store, p + 1, calls_in k s.store counters, refl))
         (λ point less. absurd (omega (arith, less))) decl.stmts 0 place) (has-second whole.instrs place (stmts_code (function_layout decl) decl.stmts 0 place) (instr.Push (pos 0) ∷ (instr.Return ∷ [])) stands.has) in
         let first = by_one whole its (at k p (pushed arguments operands) s counters) start
-        (went whole its (at k p (pushed arguments operands) s counters) (instr.Call number) (machine_in j place operands (frame_of decl arguments) first_counters) here (call_goes k s counters number p place arguments operands stands.entry params)
-        (has_room_by its (machine_in j place operands (frame_of decl arguments) first_counters) (omega (arith, inside.stack))
+        (went whole its (at k p (pushed arguments operands) s counters) (instr.Call number) (machine_in j place operands (function_frame decl arguments) first_counters) here (call_goes k s counters number p place arguments operands stands.entry params)
+        (has_room_by its (machine_in j place operands (function_frame decl arguments) first_counters) (omega (arith, inside.stack))
         (omega (arith, room.frames, cells_used k s.store counters, ap length (joined_single (arguments ++ decl.locals)), length-append arguments decl.locals, params, length-replicate {A = ℕ} (loops_in decl.stmts) 0)) (omega (arith, room.calls, depth_used k s.store counters)))) in
         got_leads whole its sc k (p + 1) operands counters s (at k p (pushed arguments operands) s counters) start (callee callees decl arguments (cost_1 s)) first
         (back_got k sc s counters p q operands start (acts_by callees decl.stmts (begun arguments s)) body.0 body.1.0 shape
@@ -196,7 +196,7 @@ module _ (whole : Code) (its : AgentCode) where
     get-more (z ∷ xs) y zero x e = inl (omega arith, e)
     get-more (z ∷ xs) y (suc i) x e = ⊎_elim (λ l. inl (omega (arith, l.0), l.1)) (λ r. inr (ap suc r.0, r.1)) (get-more xs y i x e)
 
-    rescoped : (sc : Scope) (k : Context) (p : ℕ) (operands : List ℤ) (counters : List ℕ) (before : State) (start : code.State) (got : Got) → GotAfter whole its (record sc { functions = fs }) k p operands counters before start got → GotAfter whole its sc k p operands counters before start got
+    rescoped : (sc : Scope) (k : Context) (p : ℕ) (operands : List ℤ) (counters : List ℕ) (before : State) (start : code.RunState) (got : Got) → GotAfter whole its (record sc { functions = fs }) k p operands counters before start got → GotAfter whole its sc k p operands counters before start got
     rescoped sc k p operands counters before start (Value v t) (same, shape, leads) = (same, record { slots = shape.slots; copies = shape.copies; pasts = shape.pasts; streams = shape.streams }, leads)
     rescoped sc k p operands counters before start (Stops (Ended point t)) g = g
     rescoped sc k p operands counters before start (Stops (Trapped kind t)) g = g

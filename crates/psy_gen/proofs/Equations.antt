@@ -14,7 +14,7 @@ use Rattle.psy_tree.specs.declared.unit.Stmt.TheVariants as stmt
 use Rattle.psy_tree.specs.declared.unit.Stmt.TheOpen.{Stmt-F}
 use Rattle.psy_meaning.specs.Sizes.{expr_size, expr_size_step, stmt_size, stmt_size_step, stmts_size}
 use Rattle.psy_meaning.specs.Depths.{loops, loops_in}
-use Rattle.psy_gen.specs.Emission.{Layout, Emit, Operand, Coded, Part, Places, Placed, base_of, cells_of, named, expr_code, expr_code_step, binary_code, arguments_code, stmt_code, stmt_code_step, stmts_code, block_size, block_loops, places_of, places_step, stmts_places, placed_size}
+use Rattle.psy_gen.specs.Emission.{Layout, Emit, Operand, Coded, Part, Places, Placed, base_of, cells_in_slot, named, expr_code, expr_code_step, binary_code, arguments_code, stmt_code, stmt_code_step, stmts_code, block_size, block_loops, places_of, places_step, stmts_places, placed_size}
 
 -- ---- expressions
 
@@ -37,7 +37,7 @@ code_slot layout slot p = code_rolled layout (expr.Slot slot) (Expr-F.Slot slot)
 pub code_copy : (layout : Layout) (variable p : ℕ) → expr_code layout (expr.Copy variable) p ≡ instr.LoadCopy variable ∷ []
 code_copy layout variable p = code_rolled layout (expr.Copy variable) (Expr-F.Copy variable) p (expr.rolls-Copy variable)
 
-pub code_cell : (layout : Layout) (slot : ℕ) (index : Expr) (p : ℕ) → expr_code layout (expr.Cell slot index) p ≡ expr_code layout index p ++ instr.LoadCell (base_of layout slot) (cells_of layout slot) ∷ []
+pub code_cell : (layout : Layout) (slot : ℕ) (index : Expr) (p : ℕ) → expr_code layout (expr.Cell slot index) p ≡ expr_code layout index p ++ instr.LoadCell (base_of layout slot) (cells_in_slot layout slot) ∷ []
 code_cell layout slot index p = code_rolled layout (expr.Cell slot index) (Expr-F.Cell slot index) p (expr.rolls-Cell slot index)
 
 pub code_past : (layout : Layout) (variable back p : ℕ) → expr_code layout (expr.Past variable back) p ≡ instr.Past variable back ∷ []
@@ -108,7 +108,7 @@ pub code_set_copy : (layout : Layout) (variable : ℕ) (value : Expr) (counter p
 code_set_copy layout variable value counter p = stmt_rolled layout (stmt.SetCopy variable value) (Stmt-F.SetCopy variable value) counter p (stmt.rolls-SetCopy variable value)
 
 pub code_set_cell : (layout : Layout) (slot : ℕ) (index value : Expr) (counter p : ℕ) →
-    stmt_code layout (stmt.SetCell slot index value) counter p ≡ expr_code layout index p ++ (expr_code layout value (p + expr_size index) ++ instr.StoreCell (base_of layout slot) (cells_of layout slot) ∷ [])
+    stmt_code layout (stmt.SetCell slot index value) counter p ≡ expr_code layout index p ++ (expr_code layout value (p + expr_size index) ++ instr.StoreCell (base_of layout slot) (cells_in_slot layout slot) ∷ [])
 code_set_cell layout slot index value counter p = stmt_rolled layout (stmt.SetCell slot index value) (Stmt-F.SetCell slot index value) counter p (stmt.rolls-SetCell slot index value)
 
 pub code_send : (layout : Layout) (value : Expr) (stream after clock counter p : ℕ) → stmt_code layout (stmt.Send value stream after clock) counter p ≡ expr_code layout value p ++ instr.Send stream after clock ∷ []

@@ -15,16 +15,16 @@ use Rattle.psy_code.specs.declared.code.Code.{Code}
 use Rattle.psy_code.specs.declared.code.AgentCode.{AgentCode}
 use Rattle.psy_code.specs.declared.instr.Instr.{Instr}
 use Rattle.psy_code.specs.declared.instr.Instr.TheVariants as instr
-use Rattle.psy_code.specs.Views.{Past, Ready, Take, past_of, messages_of, number_of, first_of, found_in}
+use Rattle.psy_code.specs.Views.{Past, Ready, Take, past_of, messages_of, count_as_value, first_of, found_in}
 use Rattle.psy_code.specs.Execution.{index_in, copy_of, op_of, present, does, Went, Trapped}
 use Rattle.psy_code.specs.Execution as code
 use Rattle.psy_meaning.specs.Sizes.{expr_size, expr_size_step, total}
 use Rattle.psy_meaning.specs.Depths.{Depth, shallow, one_deep, deeper, on_top_of, stacked, expr_depth, expr_depth_step}
 use Rattle.psy_meaning.specs.Sound.{Scope, HasSlot, HasCopy, HasPast, HasStream, HasFunction, Each, sound_expr_step, IsSoundExpr}
-use Rattle.psy_meaning.specs.States.{Store, State, Got, Value, Eval, Callee, and_then, cost_1, asking, or_stop, value_at, copy_at, or_zero}
+use Rattle.psy_meaning.specs.States.{Store, State, Got, Value, Eval, Callee, and_then, cost_1, asking, or_stop, value_at, copy_at, value_or_zero}
 use Rattle.psy_meaning.specs.Expressions.{eval, expr_step, element, messages_at, take_from, applied, truth_of, in_order}
 use Rattle.psy_lawful.proofs.SoundParts.{exprs_natural}
-use Rattle.psy_gen.specs.Emission.{Emit, Operand, base_of, cells_of, named, arguments_code, expr_code_step, expr_code}
+use Rattle.psy_gen.specs.Emission.{Emit, Operand, base_of, cells_in_slot, named, arguments_code, expr_code_step, expr_code}
 use Rattle.psy_gen.proofs.Contexts.{Context, Home, Room, joined, machine_in, at, frame_size, present_in, copies_in, HasAt, has-first, has-second, Shape, GotAfter, got_leads, got_bind, got_before}
 use Rattle.psy_gen.proofs.Lookups.{cell_is, cells_are, copy_is, past_is, messages_are, taken_there, got_is, index_small}
 use Rattle.psy_gen.proofs.Steps.{step, traps}
@@ -71,7 +71,7 @@ module _ (whole : Code) (its : AgentCode) (sc : Scope) (k : Context) (callees : 
   room_in : (s t : Store) (counters : List ℕ) (a c : ℕ) → t ≡ s → Room its k (frame_size s counters) a c more → Room its k (frame_size t counters) a c more
   room_in s t counters a c same r = subst (λ x. Room its k (frame_size x counters) a c more) (sym same) r
 
-  got_at : (p q : ℕ) (operands : List ℤ) (counters : List ℕ) (before : State) (start : code.State) (got : Got) → p ≡ q → GotAfter whole its sc k p operands counters before start got → GotAfter whole its sc k q operands counters before start got
+  got_at : (p q : ℕ) (operands : List ℤ) (counters : List ℕ) (before : State) (start : code.RunState) (got : Got) → p ≡ q → GotAfter whole its sc k p operands counters before start got → GotAfter whole its sc k q operands counters before start got
   got_at p q operands counters before start got e g = subst (λ x. GotAfter whole its sc k x operands counters before start got) e g
 
   -- One instruction that leaves a value
@@ -105,14 +105,14 @@ module _ (whole : Code) (its : AgentCode) (sc : Scope) (k : Context) (callees : 
       let found = ap (λ x. copy_of variable (copies_in x s.store)) (home variable has) ∙ copy_is sc s.store variable shape.copies has in
       value_step (instr.LoadCopy variable) (copy_at s.store variable) s s (cost_1 s) p operands operands counters (length operands + 1) h.0 (rw found refl) refl refl (ticked s shape) room (omega arith)
 
-  past_runs : (variable back : ℕ) → HasPast sc variable back → Runs (λ p. instr.Past variable back ∷ []) 1 one_deep (λ s. Value (or_zero (past_of s.view variable back)) (asking (Past variable back) s))
+  past_runs : (variable back : ℕ) → HasPast sc variable back → Runs (λ p. instr.Past variable back ∷ []) 1 one_deep (λ s. Value (value_or_zero (past_of s.view variable back)) (asking (Past variable back) s))
   past_runs variable back has p operands counters s h small shape room =
-      value_step (instr.Past variable back) (or_zero (past_of s.view variable back)) s s (asking (Past variable back) s) p operands operands counters (length operands + 1) h.0
+      value_step (instr.Past variable back) (value_or_zero (past_of s.view variable back)) s s (asking (Past variable back) s) p operands operands counters (length operands + 1) h.0
       (rw (past_is sc s.view variable back shape.pasts has) refl) refl refl (record { slots = shape.slots; copies = shape.copies; pasts = shape.pasts; streams = shape.streams }) room (omega arith)
 
-  ready_runs : (stream : ℕ) → HasStream sc stream → Runs (λ p. instr.Ready stream ∷ []) 1 one_deep (λ s. Value (number_of (messages_at s.view stream)) (asking (Ready stream) s))
+  ready_runs : (stream : ℕ) → HasStream sc stream → Runs (λ p. instr.Ready stream ∷ []) 1 one_deep (λ s. Value (count_as_value (messages_at s.view stream)) (asking (Ready stream) s))
   ready_runs stream has p operands counters s h small shape room =
-      value_step (instr.Ready stream) (number_of (messages_at s.view stream)) s s (asking (Ready stream) s) p operands operands counters (length operands + 1) h.0
+      value_step (instr.Ready stream) (count_as_value (messages_at s.view stream)) s s (asking (Ready stream) s) p operands operands counters (length operands + 1) h.0
       (rw (messages_are sc s.view stream shape.streams has) refl) refl refl (record { slots = shape.slots; copies = shape.copies; pasts = shape.pasts; streams = shape.streams }) room (omega arith)
 
   take_runs : (stream : ℕ) → HasStream sc stream → Runs (λ p. instr.Take stream ∷ []) 1 one_deep (take_from stream)
@@ -154,22 +154,22 @@ module _ (whole : Code) (its : AgentCode) (sc : Scope) (k : Context) (callees : 
       (λ a q operands counters before t here same sh r. value_step (instr.Unary operator) (value1 w32 operator a) before t (cost_1 t) q operands (a ∷ operands) counters (length operands + 1) here refl refl same (ticked t sh) r (omega arith))
 
   element_step : (slot cells : ℕ) → slice_get sc.layout slot ≡ Some cells → (index : ℤ) (q : ℕ) (operands : List ℤ) (counters : List ℕ) (before t : State)
-      → slice_get whole.instrs q ≡ Some (instr.LoadCell (base_of sc.layout slot) (cells_of sc.layout slot)) → t.store ≡ before.store → Shape sc t
+      → slice_get whole.instrs q ≡ Some (instr.LoadCell (base_of sc.layout slot) (cells_in_slot sc.layout slot)) → t.store ≡ before.store → Shape sc t
       → Room its k (frame_size before.store counters) (length operands + 1) 0 more → GotAfter whole its sc k (q + 1) operands counters before (at k q (index ∷ operands) t counters) (element slot index t)
   element_step slot cells e index q operands counters before t here same sh r =
       subst (λ n. GotAfter whole its sc k (q + 1) operands counters before (at k q (index ∷ operands) t counters) (or_stop trap.Index (index_in n index) t (λ i. Value (value_at t.store slot i) (cost_1 t))))
       (sym (cells_are sc.layout t.store slot cells sh.slots e)) (from (index_in cells index) refl)
     where
       from : (o : Option ℕ) → index_in cells index ≡ o → GotAfter whole its sc k (q + 1) operands counters before (at k q (index ∷ operands) t counters) (or_stop trap.Index o t (λ i. Value (value_at t.store slot i) (cost_1 t)))
-      from None f = traps whole its k sc q (index ∷ operands) counters t (instr.LoadCell (base_of sc.layout slot) (cells_of sc.layout slot)) trap.Index here (rw (got_is sc.layout slot cells e, f) refl)
+      from None f = traps whole its k sc q (index ∷ operands) counters t (instr.LoadCell (base_of sc.layout slot) (cells_in_slot sc.layout slot)) trap.Index here (rw (got_is sc.layout slot cells e, f) refl)
       from (Some i) f =
-          value_step (instr.LoadCell (base_of sc.layout slot) (cells_of sc.layout slot)) (value_at t.store slot i) before t (cost_1 t) q operands (index ∷ operands) counters (length operands + 1) here
+          value_step (instr.LoadCell (base_of sc.layout slot) (cells_in_slot sc.layout slot)) (value_at t.store slot i) before t (cost_1 t) q operands (index ∷ operands) counters (length operands + 1) here
           (rw (got_is sc.layout slot cells e, f, present_in k q (index ∷ operands) t.store counters, cell_is sc.layout t.store slot cells i sh.slots e (index_small cells index i f)) refl) refl same (ticked t sh) r (omega arith)
 
   cell_runs : (slot : ℕ) → HasSlot sc slot → (c : Emit) (n : ℕ) (d : Depth) (ev : Eval) → Goes c n d ev
-      → Runs (λ p. c p ++ instr.LoadCell (base_of sc.layout slot) (cells_of sc.layout slot) ∷ []) (n + 1) d (λ s. and_then (ev s) (λ index t. element slot index t))
+      → Runs (λ p. c p ++ instr.LoadCell (base_of sc.layout slot) (cells_in_slot sc.layout slot) ∷ []) (n + 1) d (λ s. and_then (ev s) (λ index t. element slot index t))
   cell_runs slot (cells, e, some) c n d ev goes =
-      operand_runs c n d ev (instr.LoadCell (base_of sc.layout slot) (cells_of sc.layout slot)) (λ index t. element slot index t) goes
+      operand_runs c n d ev (instr.LoadCell (base_of sc.layout slot) (cells_in_slot sc.layout slot)) (λ index t. element slot index t) goes
       (λ index q operands counters before t here same sh r. element_step slot cells e index q operands counters before t here same sh r)
 
   -- ---- two operands
@@ -416,7 +416,7 @@ module _ (whole : Code) (its : AgentCode) (sc : Scope) (k : Context) (callees : 
     layer_runs (Expr-F.Slot slot) = (λ p. refl, omega arith, λ sound. slot_runs slot sound)
     layer_runs (Expr-F.Copy variable) = (λ p. refl, omega arith, λ sound. copy_runs home variable sound)
     layer_runs (Expr-F.Cell slot index) = (
-      λ p. len-one (expr_code sc.layout index.0 p) (instr.LoadCell (base_of sc.layout slot) (cells_of sc.layout slot)) (expr_size index.0) (index.1.0 p),
+      λ p. len-one (expr_code sc.layout index.0 p) (instr.LoadCell (base_of sc.layout slot) (cells_in_slot sc.layout slot)) (expr_size index.0) (index.1.0 p),
       index.1.1,
       λ sound. cell_runs slot sound.0 (expr_code sc.layout index.0) (expr_size index.0) (expr_depth depths index.0) (eval callees index.0) (goes_of index sound.1),
     )

@@ -6,7 +6,7 @@ use Rattle.psy_code.specs.Execution.{Copy, copy_of, with_copy, index_in}
 use Rattle.psy_meaning.specs.Sizes.{total}
 use Rattle.psy_meaning.specs.Sound.{Scope, HasCopy, HasPast, HasStream}
 use Rattle.psy_meaning.specs.Alike.{is_there}
-use Rattle.psy_meaning.specs.States.{Store, cells_at, value_at, copy_at, or_zero}
+use Rattle.psy_meaning.specs.States.{Store, cells_at, value_at, copy_at, value_or_zero}
 use Rattle.psy_meaning.specs.Expressions.{or_none, messages_at}
 use Rattle.psy_gen.specs.Emission.{base_of}
 use Rattle.psy_gen.proofs.Contexts.{joined}
@@ -45,7 +45,7 @@ cells_are layout store slot c shape e = length_by store.slots slot c (subst (λ 
 
 -- ---- copies
 
-copy_by : (copies : List Copy) (place variable : ℕ) → slice_get (map (λ (c : Copy). c.variable) copies) place ≡ Some variable → copy_of variable copies ≡ Some (or_zero (copy_of variable copies))
+copy_by : (copies : List Copy) (place variable : ℕ) → slice_get (map (λ (c : Copy). c.variable) copies) place ≡ Some variable → copy_of variable copies ≡ Some (value_or_zero (copy_of variable copies))
 copy_by [] place variable e = no_some variable e
 copy_by (c ∷ cs) place variable e = from (c.variable == variable) refl (λ f. let l = later place f e in copy_by cs l.0 variable l.1)
   where
@@ -53,8 +53,8 @@ copy_by (c ∷ cs) place variable e = from (c.variable == variable) refl (λ f. 
     later zero f e = absurd (grind (arith, f, some_is c.variable variable e))
     later (suc n) f e = (n, e)
 
-    from : (b : Bool) → (c.variable == variable) ≡ b → ((c.variable == variable) ≡ false → copy_of variable cs ≡ Some (or_zero (copy_of variable cs)))
-        → (if b then Some c.value else copy_of variable cs) ≡ Some (or_zero (if b then Some c.value else copy_of variable cs))
+    from : (b : Bool) → (c.variable == variable) ≡ b → ((c.variable == variable) ≡ false → copy_of variable cs ≡ Some (value_or_zero (copy_of variable cs)))
+        → (if b then Some c.value else copy_of variable cs) ≡ Some (value_or_zero (if b then Some c.value else copy_of variable cs))
     from true f rest = refl
     from false f rest = rest f
 
@@ -63,18 +63,18 @@ copy_is sc store variable shape (place, e) = copy_by store.copies place variable
 
 -- ---- views
 
-get-within : (xs : List ℤ) (j : ℕ) → j < length xs → slice_get xs j ≡ Some (or_zero (slice_get xs j))
+get-within : (xs : List ℤ) (j : ℕ) → j < length xs → slice_get xs j ≡ Some (value_or_zero (slice_get xs j))
 get-within [] j h = absurd (omega (arith, h))
 get-within (x ∷ xs) zero h = refl
 get-within (x ∷ xs) (suc j) h = get-within xs j (omega (arith, h))
 
 past_by : (pasts : List (List ℤ)) (variable back depth : ℕ) → slice_get (map length pasts) variable ≡ Some depth → back < depth
-    → found_in (slice_get pasts variable) (λ values. slice_get values back) ≡ Some (or_zero (found_in (slice_get pasts variable) (λ values. slice_get values back)))
+    → found_in (slice_get pasts variable) (λ values. slice_get values back) ≡ Some (value_or_zero (found_in (slice_get pasts variable) (λ values. slice_get values back)))
 past_by [] variable back depth e h = no_some depth e
 past_by (x ∷ xs) zero back depth e h = get-within x back (omega (arith, h, some_is (length x) depth e))
 past_by (x ∷ xs) (suc variable) back depth e h = past_by xs variable back depth e h
 
-pub past_is : (sc : Scope) (view : View) (variable back : ℕ) → map length view.pasts ≡ sc.depths → HasPast sc variable back → past_of view variable back ≡ Some (or_zero (past_of view variable back))
+pub past_is : (sc : Scope) (view : View) (variable back : ℕ) → map length view.pasts ≡ sc.depths → HasPast sc variable back → past_of view variable back ≡ Some (value_or_zero (past_of view variable back))
 past_is sc view variable back shape (depth, e, h) = past_by view.pasts variable back depth (subst (λ l. slice_get l variable ≡ Some depth) (sym shape) e) h
 
 messages_by : (all : List (Option (List ℤ))) (stream : ℕ) → slice_get (map is_there all) stream ≡ Some true → found_in (slice_get all stream) (λ m. m) ≡ Some (or_none (found_in (slice_get all stream) (λ m. m)))

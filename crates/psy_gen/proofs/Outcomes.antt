@@ -34,44 +34,44 @@ pub keeps_less : (b c : ℕ) (before now : List ℕ) → b ≤ c → Keeps c bef
 keeps_less b c before now h k = record { count = k.count; below = λ i l. k.below i (omega (arith, l, h)) }
 
 -- A function has returned.
-abbrev pub returned : Context → ℤ → List ℤ → State → Option code.State
+abbrev pub returned : Context → ℤ → List ℤ → State → Option code.RunState
 returned Home v operands s = None
 returned (Inside home copies back outer) v operands s = Some (record { machine = record { place = back; operands = v ∷ operands; home = home; calls = outer; copies = copies }; view = s.view; deeds = s.deeds })
 
 module _ (whole : Code) (its : AgentCode) (sc : Scope) (k : Context) where
-  abbrev pub LeadsTo : code.State → Option code.State → Type 0
+  abbrev pub LeadsTo : code.RunState → Option code.RunState → Type 0
   LeadsTo start None = ⊥
   LeadsTo start (Some t) = Leads whole its start t
 
-  leads_to : (start mid : code.State) (o : Option code.State) → Leads whole its start mid → LeadsTo mid o → LeadsTo start o
+  leads_to : (start mid : code.RunState) (o : Option code.RunState) → Leads whole its start mid → LeadsTo mid o → LeadsTo start o
   leads_to start mid None l g = g
   leads_to start mid (Some t) l g = after whole its start mid t l g
 
-  abbrev pub After : ℕ → ℕ → List ℤ → List ℕ → code.State → Outcome → Type 0
+  abbrev pub After : ℕ → ℕ → List ℤ → List ℕ → code.RunState → Outcome → Type 0
   After p c operands before start (Falls s) = (now : List ℕ) × Keeps c before now × Shape sc s × Leads whole its start (at k p operands s now)
   After p c operands before start (Returns v s) = Shape sc s × LeadsTo start (returned k v operands s)
   After p c operands before start (Halts final) = HaltsAt whole its sc k start final
 
-  pub after_leads : (p c : ℕ) (operands : List ℤ) (before : List ℕ) (start mid : code.State) (o : Outcome) → Leads whole its start mid → After p c operands before mid o → After p c operands before start o
+  pub after_leads : (p c : ℕ) (operands : List ℤ) (before : List ℕ) (start mid : code.RunState) (o : Outcome) → Leads whole its start mid → After p c operands before mid o → After p c operands before start o
   after_leads p c operands before start mid (Falls s) l (now, keeps, shape, g) = (now, keeps, shape, after whole its start mid (at k p operands s now) l g)
   after_leads p c operands before start mid (Returns v s) l g = (g.0, leads_to start mid (returned k v operands s) l g.1)
   after_leads p c operands before start mid (Halts final) l g = halts_leads whole its sc k start mid final l g
 
-  pub after_at : (p q c : ℕ) (operands : List ℤ) (before : List ℕ) (start : code.State) (o : Outcome) → p ≡ q → After p c operands before start o → After q c operands before start o
+  pub after_at : (p q c : ℕ) (operands : List ℤ) (before : List ℕ) (start : code.RunState) (o : Outcome) → p ≡ q → After p c operands before start o → After q c operands before start o
   after_at p q c operands before start o e g = subst (λ x. After x c operands before start o) e g
 
   -- fewer counters are promised, from other ones
-  pub after_keeps : (p b c : ℕ) (operands : List ℤ) (first before : List ℕ) (start : code.State) (o : Outcome) → b ≤ c → Keeps b first before → After p c operands before start o → After p b operands first start o
+  pub after_keeps : (p b c : ℕ) (operands : List ℤ) (first before : List ℕ) (start : code.RunState) (o : Outcome) → b ≤ c → Keeps b first before → After p c operands before start o → After p b operands first start o
   after_keeps p b c operands first before start (Falls s) h kept (now, keeps, shape, g) = (now, keeps_on b first before now kept (keeps_less b c before now h keeps), shape, g)
   after_keeps p b c operands first before start (Returns v s) h kept g = g
   after_keeps p b c operands first before start (Halts final) h kept g = g
 
-  pub value_after : (p q c : ℕ) (operands now : List ℤ) (counters : List ℕ) (before : State) (start : code.State) (got : Got) (go : ℤ → State → Outcome) → GotAfter whole its sc k q now counters before start got
+  pub value_after : (p q c : ℕ) (operands now : List ℤ) (counters : List ℕ) (before : State) (start : code.RunState) (got : Got) (go : ℤ → State → Outcome) → GotAfter whole its sc k q now counters before start got
       → ((v : ℤ) (t : State) → t.store ≡ before.store → Shape sc t → After p c operands counters (at k q (v ∷ now) t counters) (go v t)) → After p c operands counters start (with_value got go)
   value_after p q c operands now counters before start (Value v t) go g h = after_leads p c operands counters start (at k q (v ∷ now) t counters) (go v t) g.2 (h v t g.0 g.1)
   value_after p q c operands now counters before start (Stops final) go g h = g
 
-  pub then_after : (p q c d : ℕ) (operands : List ℤ) (counters : List ℕ) (start : code.State) (o : Outcome) (go : Act) → c ≤ d → After p c operands counters start o
+  pub then_after : (p q c d : ℕ) (operands : List ℤ) (counters : List ℕ) (start : code.RunState) (o : Outcome) (go : Act) → c ≤ d → After p c operands counters start o
       → ((t : State) (now : List ℕ) → Keeps c counters now → Shape sc t → After q d operands now (at k p operands t now) (go t)) → After q c operands counters start (then_do o go)
   then_after p q c d operands counters start (Falls t) go le (now, keeps, shape, g) h =
       after_leads q c operands counters start (at k p operands t now) (go t) g (after_keeps q c d operands counters now (at k p operands t now) (go t) le keeps (h t now keeps shape))
@@ -79,7 +79,7 @@ module _ (whole : Code) (its : AgentCode) (sc : Scope) (k : Context) where
   then_after p q c d operands counters start (Halts final) go le g h = g
 
   -- the same, where the first promises more counters than the second
-  pub then_down : (p q c d : ℕ) (operands : List ℤ) (counters : List ℕ) (start : code.State) (o : Outcome) (go : Act) → c ≤ d → After p d operands counters start o
+  pub then_down : (p q c d : ℕ) (operands : List ℤ) (counters : List ℕ) (start : code.RunState) (o : Outcome) (go : Act) → c ≤ d → After p d operands counters start o
       → ((t : State) (now : List ℕ) → Keeps d counters now → Shape sc t → After q c operands now (at k p operands t now) (go t)) → After q c operands counters start (then_do o go)
   then_down p q c d operands counters start (Falls t) go le (now, keeps, shape, g) h =
       after_leads q c operands counters start (at k p operands t now) (go t) g (after_keeps q c c operands counters now (at k p operands t now) (go t) (omega arith) (keeps_less c d counters now le keeps) (h t now keeps shape))
@@ -87,7 +87,7 @@ module _ (whole : Code) (its : AgentCode) (sc : Scope) (k : Context) where
   then_down p q c d operands counters start (Halts final) go le g h = g
 
   -- what doesn't fall through ends wherever it would go on
-  pub after_any : (p q c : ℕ) (operands : List ℤ) (counters : List ℕ) (start : code.State) (o : Outcome) → ((t : State) → o ≡ Falls t → ⊥) → After p c operands counters start o → After q c operands counters start o
+  pub after_any : (p q c : ℕ) (operands : List ℤ) (counters : List ℕ) (start : code.RunState) (o : Outcome) → ((t : State) → o ≡ Falls t → ⊥) → After p c operands counters start o → After q c operands counters start o
   after_any p q c operands counters start (Falls t) loud g = elim (loud t refl) [ ]
   after_any p q c operands counters start (Returns v t) loud g = g
   after_any p q c operands counters start (Halts final) loud g = g

@@ -23,7 +23,7 @@ use Rattle.psy_meaning.specs.Paths.{quiet_list}
 use Rattle.psy_meaning.specs.Expressions.{eval}
 use Rattle.psy_meaning.specs.Statements.{set_element, all_of, choose, hop, branches, turns, stmt_step, act_by, acts_by}
 use Rattle.psy_lawful.proofs.SoundParts.{stmts_natural}
-use Rattle.psy_gen.specs.Emission.{Emit, Coded, Part, base_of, cells_of, expr_code, block_code, block_size, block_loops, if_code, bounded_code, timed_code, stmt_code_step, stmt_code, stmts_code}
+use Rattle.psy_gen.specs.Emission.{Emit, Coded, Part, base_of, cells_in_slot, expr_code, block_code, block_size, block_loops, if_code, bounded_code, timed_code, stmt_code_step, stmt_code, stmts_code}
 use Rattle.psy_gen.proofs.Leads.{Leads, here, after, by_one, went, ended}
 use Rattle.psy_gen.proofs.Contexts.{Context, Home, Inside, Room, has_room_by, joined, machine_in, at, frame_size, HasAt, has-first, has-second, Shape, Holds}
 use Rattle.psy_gen.proofs.Lookups.{cells_are, copy_is, got_is, index_small, cell_is, set_is, lengths-set, variables-set}
@@ -157,28 +157,28 @@ module _ (whole : Code) (its : AgentCode) (sc : Scope) (k : Context) (callees : 
   -- ---- an array's cell
 
   element_after : (slot cells : ℕ) → slice_get sc.layout slot ≡ Some cells → (index v : ℤ) (q c : ℕ) (operands : List ℤ) (counters : List ℕ) (t : State)
-      → slice_get whole.instrs q ≡ Some (instr.StoreCell (base_of sc.layout slot) (cells_of sc.layout slot)) → Shape sc t → length counters ≡ count → Room its k (total sc.layout + count) (length operands + 1) 0 more
+      → slice_get whole.instrs q ≡ Some (instr.StoreCell (base_of sc.layout slot) (cells_in_slot sc.layout slot)) → Shape sc t → length counters ≡ count → Room its k (total sc.layout + count) (length operands + 1) 0 more
       → After whole its sc k (q + 1) c operands counters (at k q (v ∷ (index ∷ operands)) t counters) (set_element slot index v t)
   element_after slot cells e index v q c operands counters t here sh len room =
       subst (λ n. After whole its sc k (q + 1) c operands counters (at k q (v ∷ (index ∷ operands)) t counters) (or_halt trap.Index (index_in n index) t (λ i. Falls (with_slot slot i v (cost_1 t)))))
       (sym (cells_are sc.layout t.store slot cells sh.slots e)) (from (index_in cells index) refl)
     where
       i : Instr
-      i = instr.StoreCell (base_of sc.layout slot) (cells_of sc.layout slot)
+      i = instr.StoreCell (base_of sc.layout slot) (cells_in_slot sc.layout slot)
 
       from : (o : Option ℕ) → index_in cells index ≡ o → After whole its sc k (q + 1) c operands counters (at k q (v ∷ (index ∷ operands)) t counters) (or_halt trap.Index o t (λ i. Falls (with_slot slot i v (cost_1 t))))
-      from None f = traps whole its k sc q (v ∷ (index ∷ operands)) counters t (instr.StoreCell (base_of sc.layout slot) (cells_of sc.layout slot)) trap.Index here (rw (got_is sc.layout slot cells e, f) refl)
+      from None f = traps whole its k sc q (v ∷ (index ∷ operands)) counters t (instr.StoreCell (base_of sc.layout slot) (cells_in_slot sc.layout slot)) trap.Index here (rw (got_is sc.layout slot cells e, f) refl)
       from (Some j) f =
-          falls_step (instr.StoreCell (base_of sc.layout slot) (cells_of sc.layout slot)) q (q + 1) c (v ∷ (index ∷ operands)) operands counters counters t (with_slot slot j v (cost_1 t)) here
+          falls_step (instr.StoreCell (base_of sc.layout slot) (cells_in_slot sc.layout slot)) q (q + 1) c (v ∷ (index ∷ operands)) operands counters counters t (with_slot slot j v (cost_1 t)) here
           (rw (got_is sc.layout slot cells e, f)
           (store_goes k q (base_of sc.layout slot + j) v _ (v ∷ (index ∷ operands)) operands t.store counters (with_slot slot j v (cost_1 t)).store.slots (cell_is sc.layout t.store slot cells j sh.slots e (index_small cells index j f)) (set_is sc.layout t.store slot cells j v sh.slots e (index_small cells index j f))))
           refl (shape_of_slot t slot j v sh) (keeps_same c counters) len (less (length operands + 1) (length operands) 0 0 room (omega arith) (omega arith))
 
   set_cell_runs : (slot : ℕ) (a b : Expr) → ExprKnown a → ExprKnown b → HasSlot sc slot → IsSoundExpr sc a → IsSoundExpr sc b
-      → StmtRuns (λ c p. expr_code sc.layout a p ++ (expr_code sc.layout b (p + expr_size a) ++ instr.StoreCell (base_of sc.layout slot) (cells_of sc.layout slot) ∷ [])) (expr_size a + (expr_size b + 1)) 0 (deeper (expr_depth depths a) (on_top_of 1 (expr_depth depths b)))
+      → StmtRuns (λ c p. expr_code sc.layout a p ++ (expr_code sc.layout b (p + expr_size a) ++ instr.StoreCell (base_of sc.layout slot) (cells_in_slot sc.layout slot) ∷ [])) (expr_size a + (expr_size b + 1)) 0 (deeper (expr_depth depths a) (on_top_of 1 (expr_depth depths b)))
       (λ s. with_value (eval callees a s) (λ i t. with_value (eval callees b t) (λ v u. set_element slot i v u)))
   set_cell_runs slot a b (asized, adeep, aruns) (bsized, bdeep, bruns) (cells, found, some) asound bsound c p operands counters s h small loops len shape room =
-      let i = instr.StoreCell (base_of sc.layout slot) (cells_of sc.layout slot) in
+      let i = instr.StoreCell (base_of sc.layout slot) (cells_in_slot sc.layout slot) in
       let na = expr_size a in
       let nb = expr_size b in
       let da = expr_depth depths a in
@@ -579,7 +579,7 @@ module _ (whole : Code) (its : AgentCode) (sc : Scope) (k : Context) (callees : 
     layer_runs (Stmt-F.Set slot value) = (λ c p. len-one (expr_code sc.layout value p) (instr.Store (base_of sc.layout slot)) (expr_size value) ((exprs value).0 p), λ sound. set_runs slot value (exprs value) sound.0 sound.1)
     layer_runs (Stmt-F.SetCopy variable value) = (λ c p. len-one (expr_code sc.layout value p) (instr.StoreCopy variable) (expr_size value) ((exprs value).0 p), λ sound. copy_runs home variable value (exprs value) sound.0 sound.1)
     layer_runs (Stmt-F.SetCell slot index value) = (
-      λ c p. length-append (expr_code sc.layout index p) _ ∙ omega (arith, (exprs index).0 p, len-one (expr_code sc.layout value (p + expr_size index)) (instr.StoreCell (base_of sc.layout slot) (cells_of sc.layout slot)) (expr_size value) ((exprs value).0 (p + expr_size index))),
+      λ c p. length-append (expr_code sc.layout index p) _ ∙ omega (arith, (exprs index).0 p, len-one (expr_code sc.layout value (p + expr_size index)) (instr.StoreCell (base_of sc.layout slot) (cells_in_slot sc.layout slot)) (expr_size value) ((exprs value).0 (p + expr_size index))),
       λ sound. set_cell_runs slot index value (exprs index) (exprs value) sound.0 sound.1 sound.2,
     )
     layer_runs (Stmt-F.If test branch None) = if_layer test branch

@@ -37,8 +37,8 @@ abbrev pub base_of : Layout → ℕ → ℕ
 base_of layout slot = total (take slot layout)
 
 -- How many cells a slot has
-abbrev pub cells_of : Layout → ℕ → ℕ
-cells_of layout slot = slice_index_or layout slot 0
+abbrev pub cells_in_slot : Layout → ℕ → ℕ
+cells_in_slot layout slot = slice_index_or layout slot 0
 
 -- ---- expressions
 
@@ -89,7 +89,7 @@ abbrev pub expr_code_step : Layout → Expr-F Operand → Emit
 expr_code_step layout (Expr-F.Number number) p = instr.Push number ∷ []
 expr_code_step layout (Expr-F.Slot slot) p = instr.Load (base_of layout slot) ∷ []
 expr_code_step layout (Expr-F.Copy variable) p = instr.LoadCopy variable ∷ []
-expr_code_step layout (Expr-F.Cell slot index) p = index.1 p ++ instr.LoadCell (base_of layout slot) (cells_of layout slot) ∷ []
+expr_code_step layout (Expr-F.Cell slot index) p = index.1 p ++ instr.LoadCell (base_of layout slot) (cells_in_slot layout slot) ∷ []
 expr_code_step layout (Expr-F.Past variable back) p = instr.Past variable back ∷ []
 expr_code_step layout (Expr-F.Ready stream) p = instr.Ready stream ∷ []
 expr_code_step layout (Expr-F.Take stream) p = instr.Take stream ∷ []
@@ -156,7 +156,7 @@ abbrev pub stmt_code_step : Layout → Stmt-F Part → Coded
 stmt_code_step layout (Stmt-F.Set slot value) counter p = expr_code layout value p ++ instr.Store (base_of layout slot) ∷ []
 stmt_code_step layout (Stmt-F.SetCopy variable value) counter p = expr_code layout value p ++ instr.StoreCopy variable ∷ []
 stmt_code_step layout (Stmt-F.SetCell slot index value) counter p =
-    expr_code layout index p ++ (expr_code layout value (p + expr_size index) ++ instr.StoreCell (base_of layout slot) (cells_of layout slot) ∷ [])
+    expr_code layout index p ++ (expr_code layout value (p + expr_size index) ++ instr.StoreCell (base_of layout slot) (cells_in_slot layout slot) ∷ [])
 stmt_code_step layout (Stmt-F.If test branch other) counter p = if_code layout test branch other counter p
 stmt_code_step layout (Stmt-F.Bounded test most body) counter p = bounded_code layout test most body counter p
 stmt_code_step layout (Stmt-F.Timed test body) counter p = timed_code layout test body counter p

@@ -1,7 +1,7 @@
 //! Where the cells of slots stand.
 
 ghost use Rattle.std.specs.Prelude.{◌≡◌, [], ◌∷◌, ◌++◌, OnOk};
-ghost use Rattle.psy_gen.specs.Emission.{base_of, cells_of};
+ghost use Rattle.psy_gen.specs.Emission.{base_of, cells_in_slot};
 
 use psy_base::{Items, Memory};
 use std::alloc::Global;
@@ -68,7 +68,7 @@ impl Layout {
     }
 
     pub fn cells(&self, slot: u32) -> u32
-        ensures { result ≡ cells_of self.now slot }
+        ensures { result ≡ cells_in_slot self.now slot }
     {
         match self.spans.get(slot as usize) {
             Some(span) => span.cells,

@@ -4,7 +4,7 @@ use Rattle.std.specs.Prelude.{ℤ, slice_get, slice_set}
 use Rattle.std.specs.Vec.{with_item}
 use Rattle.std.proofs.lemmas.List.{length-drop, length-reverse, length-take-le, take_at, drop_at, get_or-drop, take_all, take-take, take-set-le, drop-set-add}
 use Rattle.std.proofs.lemmas.Option.{slice_get-get_or}
-use Rattle.psy_code.specs.Execution.{Frame, OpenCall, frame_of, home_with, calls_with, cells_of, cleared}
+use Rattle.psy_code.specs.Execution.{Frame, OpenCall, innermost_frame, home_with, calls_with, cells_in_calls, cleared}
 use Rattle.psy_machine.specs.declared.frames.Place.{Place}
 use Rattle.psy_machine.specs.declared.frames.Header.{Header}
 use Rattle.psy_machine.specs.declared.frames.Frames.TheInside.{Inside}
@@ -13,7 +13,7 @@ use Rattle.psy_machine.specs.Parts.{FrameStack}
 use Rattle.psy_machine.proofs.Reversed.{reverse-push}
 
 -- the present frame is what lies behind its beginning
-pub present-cut : (hs : List Header) (at : Place) (cells : List ℤ) (counters : List ℕ) (end : Place) → IsCut hs at (length cells) (length counters) end → frame_of (home_in hs at cells counters) (calls_in hs at cells counters) ≡ record { cells = drop at.cells cells; counters = drop at.counters counters }
+pub present-cut : (hs : List Header) (at : Place) (cells : List ℤ) (counters : List ℕ) (end : Place) → IsCut hs at (length cells) (length counters) end → innermost_frame (home_in hs at cells counters) (calls_in hs at cells counters) ≡ record { cells = drop at.cells cells; counters = drop at.counters counters }
 present-cut [] at cells counters end h = rw (h.0, h.1)
 present-cut (g ∷ hs) at cells counters end h = refl
 
@@ -69,7 +69,7 @@ home-counters (g ∷ hs) at cells counters end h =
     home-counters hs g.caller (take at.cells cells) (take at.counters counters) end cut
 
 -- All cells are the agent's own and those of the calls, and so are all counters.
-pub all_counted : (hs : List Header) (at : Place) (cells : List ℤ) (counters : List ℕ) (end : Place) → IsCut hs at (length cells) (length counters) end → (length cells + length counters ≡ end.cells + end.counters + cells_of (calls_in hs at cells counters))
+pub all_counted : (hs : List Header) (at : Place) (cells : List ℤ) (counters : List ℕ) (end : Place) → IsCut hs at (length cells) (length counters) end → (length cells + length counters ≡ end.cells + end.counters + cells_in_calls (calls_in hs at cells counters))
 all_counted [] at cells counters end h = omega (arith, h.2, h.3)
 all_counted (g ∷ hs) at cells counters end h =
     let nc = length-take-le at.cells cells h.0 in
@@ -83,15 +83,15 @@ length-calls_in [] at cells counters = refl
 length-calls_in (g ∷ hs) at cells counters = let n = length-calls_in hs g.caller (take at.cells cells) (take at.counters counters) in omega (arith, n)
 
 -- What contracts see of the present frame is what lies behind its beginning.
-pub present : (f : Inside) (m : FrameStack) → frames_in f ≡ m → IsLaidOut f → frame_of m.home m.calls ≡ record { cells = drop f.present.cells f.cells.items; counters = drop f.present.counters f.counters.items }
-present f m e ok = ap (λ (s : FrameStack). frame_of s.home s.calls) (sym e) ∙ present-cut (reverse f.headers.items) f.present f.cells.items f.counters.items f.home_end ok.cut
+pub present : (f : Inside) (m : FrameStack) → frames_in f ≡ m → IsLaidOut f → innermost_frame m.home m.calls ≡ record { cells = drop f.present.cells f.cells.items; counters = drop f.present.counters f.counters.items }
+present f m e ok = ap (λ (s : FrameStack). innermost_frame s.home s.calls) (sym e) ∙ present-cut (reverse f.headers.items) f.present f.cells.items f.counters.items f.home_end ok.cut
 
-pub cell_within : (f : Inside) (m : FrameStack) (n : ℕ) → frames_in f ≡ m → IsLaidOut f → n < length (frame_of m.home m.calls).cells → f.present.cells + n < length f.cells.items
+pub cell_within : (f : Inside) (m : FrameStack) (n : ℕ) → frames_in f ≡ m → IsLaidOut f → n < length (innermost_frame m.home m.calls).cells → f.present.cells + n < length f.cells.items
 cell_within f m n e ok h =
     let same = ap (λ (s : Frame). length s.cells) (present f m e ok) in
     omega (arith, same, h, length-drop f.present.cells f.cells.items)
 
-pub counter_within : (f : Inside) (m : FrameStack) (n : ℕ) → frames_in f ≡ m → IsLaidOut f → n < length (frame_of m.home m.calls).counters → f.present.counters + n < length f.counters.items
+pub counter_within : (f : Inside) (m : FrameStack) (n : ℕ) → frames_in f ≡ m → IsLaidOut f → n < length (innermost_frame m.home m.calls).counters → f.present.counters + n < length f.counters.items
 counter_within f m n e ok h =
     let same = ap (λ (s : Frame). length s.counters) (present f m e ok) in
     omega (arith, same, h, length-drop f.present.counters f.counters.items)
@@ -106,7 +106,7 @@ frame_stack : (home home' : Frame) (calls calls' : List OpenCall) (room : ℕ) �
 frame_stack home home' calls calls' room e d = cc
 
 -- the frames with another cell, or another counter, of the present one
-pub set_cell_gives : (f : Inside) (m : FrameStack) (i : ℕ) (v : ℤ) → frames_in f ≡ m → IsLaidOut f → frames_in (record f { cells = with_item f.cells (f.present.cells + i) v }) ≡ record m { home = home_with m.home m.calls (record (frame_of m.home m.calls) { cells = slice_set (frame_of m.home m.calls).cells i v }); calls = calls_with m.calls (record (frame_of m.home m.calls) { cells = slice_set (frame_of m.home m.calls).cells i v }) }
+pub set_cell_gives : (f : Inside) (m : FrameStack) (i : ℕ) (v : ℤ) → frames_in f ≡ m → IsLaidOut f → frames_in (record f { cells = with_item f.cells (f.present.cells + i) v }) ≡ record m { home = home_with m.home m.calls (record (innermost_frame m.home m.calls) { cells = slice_set (innermost_frame m.home m.calls).cells i v }); calls = calls_with m.calls (record (innermost_frame m.home m.calls) { cells = slice_set (innermost_frame m.home m.calls).cells i v }) }
 set_cell_gives f m i v e ok =
     let hs = reverse f.headers.items in
     let p = present f m e ok in
@@ -114,7 +114,7 @@ set_cell_gives f m i v e ok =
     let calls = calls-set_cell hs f.present f.cells.items f.counters.items i v in
     rw p (rw (← e) (frame_stack _ _ _ _ _ home calls))
 
-pub set_counter_gives : (f : Inside) (m : FrameStack) (i n : ℕ) → frames_in f ≡ m → IsLaidOut f → frames_in (record f { counters = with_item f.counters (f.present.counters + i) n }) ≡ record m { home = home_with m.home m.calls (record (frame_of m.home m.calls) { counters = slice_set (frame_of m.home m.calls).counters i n }); calls = calls_with m.calls (record (frame_of m.home m.calls) { counters = slice_set (frame_of m.home m.calls).counters i n }) }
+pub set_counter_gives : (f : Inside) (m : FrameStack) (i n : ℕ) → frames_in f ≡ m → IsLaidOut f → frames_in (record f { counters = with_item f.counters (f.present.counters + i) n }) ≡ record m { home = home_with m.home m.calls (record (innermost_frame m.home m.calls) { counters = slice_set (innermost_frame m.home m.calls).counters i n }); calls = calls_with m.calls (record (innermost_frame m.home m.calls) { counters = slice_set (innermost_frame m.home m.calls).counters i n }) }
 set_counter_gives f m i n e ok =
     let hs = reverse f.headers.items in
     let p = present f m e ok in
@@ -123,12 +123,12 @@ set_counter_gives f m i n e ok =
     rw p (rw (← e) (frame_stack _ _ _ _ _ home calls))
 
 -- There is room for the cells and counters of one more frame.
-pub room_for : (f : Inside) (m : FrameStack) (cells counters : ℕ) → frames_in f ≡ m → IsLaidOut f → cells + counters + cells_of m.calls ≤ m.room → (length f.cells.items + cells ≤ vec_capacity f.cells) × (length f.counters.items + counters ≤ vec_capacity f.counters)
+pub room_for : (f : Inside) (m : FrameStack) (cells counters : ℕ) → frames_in f ≡ m → IsLaidOut f → cells + counters + cells_in_calls m.calls ≤ m.room → (length f.cells.items + cells ≤ vec_capacity f.cells) × (length f.counters.items + counters ≤ vec_capacity f.counters)
 room_for f m cells counters e ok h =
     let hs = reverse f.headers.items in
     let all = all_counted hs f.present f.cells.items f.counters.items f.home_end ok.cut in
     let ends = end_within hs f.present (length f.cells.items) (length f.counters.items) f.home_end ok.cut in
-    let calls = ap (λ (s : FrameStack). cells_of s.calls) e in
+    let calls = ap (λ (s : FrameStack). cells_in_calls s.calls) e in
     let room = ap (λ (s : FrameStack). s.room) e in
     (omega (arith, all, ends.0, ends.1, calls, room, h, ok.cells), omega (arith, all, ends.0, ends.1, calls, room, h, ok.counters))
 

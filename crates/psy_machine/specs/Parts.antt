@@ -1,6 +1,6 @@
 -- The parts of a machine: its operands, and the frames of the agent and of its open calls.
 use Rattle.std.specs.Prelude.{ℕ, List, ℤ}
-use Rattle.psy_code.specs.Execution.{Frame, OpenCall, frame_of, home_with, calls_with}
+use Rattle.psy_code.specs.Execution.{Frame, OpenCall, innermost_frame, home_with, calls_with}
 
 -- The operands, and how many there may be
 pub record OperandStack : Type 0 where
@@ -20,7 +20,7 @@ pub record FrameStack : Type 0 where
 
 -- the innermost frame
 abbrev pub present_in : FrameStack → Frame
-present_in f = frame_of f.home f.calls
+present_in f = innermost_frame f.home f.calls
 
 -- the frames with another innermost one
 abbrev pub with_present : Frame → FrameStack → FrameStack

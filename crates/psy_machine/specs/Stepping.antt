@@ -2,7 +2,7 @@
 use Rattle.std.specs.Prelude.{◌≡◌, ℕ, ◌≤◌, Option, Some, None, slice_get, ⊤}
 use Rattle.psy_code.specs.declared.code.Code.{Code}
 use Rattle.psy_code.specs.declared.code.AgentCode.{AgentCode}
-use Rattle.psy_code.specs.Views.{View, Window, Call, Permits, answered}
+use Rattle.psy_code.specs.Views.{View, Window, Call, answered}
 use Rattle.psy_code.specs.Execution.{Machine, Next, Went, Ended, Trapped, Stuck, need, next_of, new_machine}
 use Rattle.psy_machine.specs.declared.machine.Step.{Step}
 use Rattle.psy_machine.specs.declared.machine.Step.TheVariants as step
@@ -46,13 +46,7 @@ machine_after _ m = m
 abbrev pub stepped : Code → View → AgentMachine → AgentMachine
 stepped code view m = record m { machine = machine_after (next_for code view m) m.machine }
 
--- What the instruction asks of the world may be asked, and is answered; an instruction that asks nothing
--- leaves the world as it was.
-abbrev pub PermitsAll : Window → Option Call → Type 0
-PermitsAll window None = ⊤
-PermitsAll window (Some call) = Permits window call
-
--- What the world serves once it was asked
+-- What the world serves once it was asked; an instruction that asks nothing leaves it as it was.
 abbrev pub window_after : Window → Option Call → Window
 window_after window None = window
 window_after window (Some call) = answered window call

@@ -3,7 +3,7 @@ use Rattle.std.proofs.Common.{◌≡◌, refl, inl, inr, arith}
 use Rattle.std.specs.Prelude.{ℕ, suc, ◌+◌, ◌==◌, Bool, true, false, if◌then◌else◌, List, [], ◌∷◌, Some}
 use Rattle.psy_tree.specs.declared.unit.FunctionDecl.{FunctionDecl}
 use Rattle.psy_meaning.specs.States.{Store, Ended, Trapped, Got, Value, Stops, Outcome, Falls, Returns, Halts, Callee, cost_1}
-use Rattle.psy_meaning.specs.Statements.{acts_by, frame_of, in_store, back_in, callee, no_callee, with_callee, callees_from, callees_of}
+use Rattle.psy_meaning.specs.Statements.{acts_by, function_frame, in_store, back_in, callee, no_callee, with_callee, callees_from, callees_of}
 use Rattle.psy_meaning.specs.Paths.{holds_advance, NoneAdvances}
 use Rattle.psy_meaning.specs.Ways.{Meter, Way, Course, Fell, Back, To, here, courses_through, course_by, back_way, callee_way, with_way, callee_ways_from, callee_ways}
 use Rattle.psy_meaning.proofs.Fronts.{FrontOn, FrontIn, open_here, front_both}
@@ -31,7 +31,7 @@ callee_along callees ways all f h =
     let course : Course = courses_through (course_by ways) f.stmts in
     let pointless : NoPoint course = λ point. none_through ways true false (Some point) refl f.stmts h in (
       (λ m. front_back course m m pointless (leads_stmts ways (λ number. (all number).0) f.stmts m)),
-      (λ arguments s. back_along s.store course (met s) (acts_by callees f.stmts (in_store (frame_of f arguments) s)) pointless (acts_along callees ways all f.stmts (in_store (frame_of f arguments) s))),
+      (λ arguments s. back_along s.store course (met s) (acts_by callees f.stmts (in_store (function_frame f arguments) s)) pointless (acts_along callees ways all f.stmts (in_store (function_frame f arguments) s))),
     )
 
 got_same : (way other : Way) (m : Meter) (got : Got) → ((n : Meter) → way m n → other m n) → GotBy way m got → GotBy other m got

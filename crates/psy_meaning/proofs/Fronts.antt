@@ -2,7 +2,7 @@
 use Rattle.std.proofs.Common.{◌≡◌, refl, sym, ap, ◌∙◌, inl, inr, arith, append_assoc}
 use Rattle.std.proofs.lemmas.List.{append-nil}
 use Rattle.std.specs.Prelude.{ℕ, ◌+◌, List, [], ◌++◌}
-use Rattle.psy_meaning.specs.Ways.{Meter, Way, Course, End, Fell, Back, To, IsFrontOf, here, one, looking, sending, both, falling, returning, reaching, behind, and_on, or_else}
+use Rattle.psy_meaning.specs.Ways.{Meter, Sending, Way, Course, End, Fell, Back, To, IsFrontOf, here, one, looking, sending, both, falling, returning, reaching, behind, and_on, or_else}
 
 -- This was met on a way from that.
 abbrev pub FrontOn : Way → Meter → Meter → Type 0
@@ -50,8 +50,8 @@ open_one m = (_, refl, front_one m)
 pub open_looking : (variable back : ℕ) → Open (looking variable back)
 open_looking variable back m = (_, refl, record { steps = omega arith; looks = (_, refl); sends = begins_same m.sends })
 
-pub open_sending : (stream : ℕ) → Open (sending stream)
-open_sending stream m = (_, refl, record { steps = omega arith; looks = begins_same m.looks; sends = (_, refl) })
+pub open_sending : (send : Sending) → Open (sending send)
+open_sending send m = (_, refl, record { steps = omega arith; looks = begins_same m.looks; sends = (_, refl) })
 
 pub front_both : (first second : Way) (m k : Meter) → FrontOn first m k → Open second → FrontOn (both first second) m k
 front_both first second m k (n, w, f) q = let next = q n in (next.0, (n, w, next.1), front_front k n next.0 f next.2)

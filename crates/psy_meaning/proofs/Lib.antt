@@ -1,5 +1,4 @@
 pub mod CalleeRuns
-mod Counting
 pub mod Endings
 pub mod Fronts
 pub mod Layers

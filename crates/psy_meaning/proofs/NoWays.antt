@@ -102,7 +102,7 @@ module _ (ways : ℕ → Way) (advance back : Bool) (left : Option ℕ) (fits : 
   step_none (Stmt-F.Timed test body) h =
       let inner : Course = courses_through (course_by ways) (map tree body) in
       none_behind (out left) (both (expr_way ways test) one) (or_else inner (falling here)) (none_else (out left) inner (falling here) (none_in body h) (none_falling left here))
-  step_none (Stmt-F.Send value stream after clock) h = none_falling left (both (expr_way ways value) (sending stream))
+  step_none (Stmt-F.Send value stream after clock) h = none_falling left (both (expr_way ways value) (sending (record { stream = stream; after = after; clock = clock })))
   step_none (Stmt-F.Advance point) h = none_advance left fits h point
   step_none (Stmt-F.Return value) h = none_return left fits h (both (expr_way ways value) one)
 

@@ -8,7 +8,7 @@ use Rattle.psy_tree.specs.declared.unit.Expr.TheOpen.{Expr-F}
 use Rattle.psy_tree.specs.declared.unit.Stmt.{Stmt, roll-Stmt, rec-roll-Stmt, map-Stmt, ind-Stmt}
 use Rattle.psy_tree.specs.declared.unit.Stmt.TheOpen.{Stmt-F}
 use Rattle.psy_meaning.specs.Statements.{Piece, Do, Hop}
-use Rattle.psy_meaning.specs.Ways.{Way, Course, here, one, sending, both, either, falling, behind, and_on, or_else, ways_through, binary_way, courses_through, turning, expr_way_step, expr_way, course_step, course_by, piece_course}
+use Rattle.psy_meaning.specs.Ways.{Sending, Way, Course, here, one, sending, both, either, falling, behind, and_on, or_else, ways_through, binary_way, courses_through, turning, expr_way_step, expr_way, course_step, course_by, piece_course}
 use Rattle.psy_meaning.proofs.Fronts.{Open, Leads, open_here, open_one, open_looking, open_sending, open_both, leads_falling, leads_returning, leads_reaching, leads_behind, leads_left, leads_on}
 use Rattle.psy_meaning.proofs.Layers.{natural_expr, natural_stmt}
 
@@ -120,7 +120,9 @@ module _ (ways : ℕ → Way) (all : (number : ℕ) → Open (ways number)) wher
   leads_layer (Stmt-F.Timed test body) =
       let inner : Course = courses_through course body in
       leads_behind (both (expr_way ways test) one) (or_else inner (falling here)) (open_then test one open_one) (leads_left inner (falling here) (leads_list body))
-  leads_layer (Stmt-F.Send value stream after clock) = leads_falling (both (expr_way ways value) (sending stream)) (open_then value (sending stream) (open_sending stream))
+  leads_layer (Stmt-F.Send value stream after clock) =
+      let send : Sending = record { stream = stream; after = after; clock = clock } in
+      leads_falling (both (expr_way ways value) (sending send)) (open_then value (sending send) (open_sending send))
   leads_layer (Stmt-F.Advance point) = leads_reaching point one open_one
   leads_layer (Stmt-F.Return value) = leads_returning (both (expr_way ways value) one) (open_then value one open_one)
 

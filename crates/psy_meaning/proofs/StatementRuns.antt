@@ -14,7 +14,7 @@ use Rattle.psy_tree.specs.declared.unit.Stmt.TheOpen.{Stmt-F}
 use Rattle.psy_meaning.specs.States.{State, Ended, Trapped, Got, Value, Stops, Outcome, Falls, Returns, Halts, Eval, Act, Callee, with_value, then_do, cost_1, asking, trapping, or_halt, cells_at, with_slot, with_copy_at}
 use Rattle.psy_meaning.specs.Expressions.{eval}
 use Rattle.psy_meaning.specs.Statements.{all_of, choose, hop, turns, set_element, stmt_step, act_by, acts_by, Piece, Do, Hop, piece_by}
-use Rattle.psy_meaning.specs.Ways.{Meter, Way, Course, Fell, Back, To, here, one, both, sending, falling, returning, behind, and_on, or_else, courses_through, turning, course_step, course_by, expr_way, piece_course}
+use Rattle.psy_meaning.specs.Ways.{Meter, Sending, Way, Course, Fell, Back, To, here, one, both, sending, sending_of, falling, returning, behind, and_on, or_else, courses_through, turning, course_step, course_by, expr_way, piece_course}
 use Rattle.psy_meaning.proofs.Fronts.{FrontIn, Open, Leads, front_same, front_one, front_both, front_falling, front_behind, front_left, front_right, front_on, open_one, open_sending, open_both, leads_falling, leads_returning, leads_behind, leads_left, leads_on}
 use Rattle.psy_meaning.proofs.Layers.{natural_stmt}
 use Rattle.psy_meaning.proofs.OpenWays.{two, open_two, open_expr, leads_turning, leads_stmts, leads_pieces}
@@ -178,8 +178,8 @@ module _ (callees : ℕ → Callee) (ways : ℕ → Way) (all : AllAlong callees
       (out_value (expr_way ways index) (falling (both (expr_way ways value) one)) (met s) (eval callees index s) _ (leads_falling (both (expr_way ways value) one) (open_both (expr_way ways value) one (goes value) open_one)) (known index s)
       (λ i t. out_falling (expr_way ways value) one (met t) _ (out_value (expr_way ways value) (falling one) (met t) (eval callees value t) _ (leads_falling one open_one) (known value t) (λ v u. set_element_along slot i v u))))
 
-  sent_along : (sent : Sent) (s : State) → sending sent.stream (met s) (met (asking (Send sent) s))
-  sent_along sent s = ap (λ streams. record { steps = s.deeds.steps + 1; looks = s.deeds.looks; sends = streams }) (map-append (λ (x : Sent). x.stream) s.deeds.sends (sent ∷ []))
+  sent_along : (sent : Sent) (s : State) → sending (sending_of sent) (met s) (met (asking (Send sent) s))
+  sent_along sent s = ap (λ sends. record { steps = s.deeds.steps + 1; looks = s.deeds.looks; sends = sends }) (map-append sending_of s.deeds.sends (sent ∷ []))
 
   step_along : (y : Stmt-F Known) → ActsAlong (stmt_step callees (map-Stmt Stmt Act (act_by callees) (map-Stmt Known Stmt tree y))) (course_step ways Stmt (λ y. y) (course_by ways) (map-Stmt Known Stmt tree y))
   step_along (Stmt-F.Set slot value) s = valued value (λ v t. with_slot slot 0 v (cost_1 t)) (λ v t. refl) s
@@ -195,8 +195,9 @@ module _ (callees : ℕ → Callee) (ways : ℕ → Way) (all : AllAlong callees
       (turns_along most (eval callees test) (expr_way ways test) (all_of (map (act_by callees) (map tree body))) (courses_through (course_by ways) (map tree body)) (goes test) (known test) (all_along body) (cost_1 s))
   step_along (Stmt-F.Timed test body) s = choose_along (eval callees test) (expr_way ways test) _ Falls (courses_through (course_by ways) (map tree body)) (falling here) (leads (map tree body)) (known test) (all_along body) (λ t. refl) s
   step_along (Stmt-F.Send value stream after clock) s =
-      out_falling (expr_way ways value) (sending stream) (met s) _
-      (out_value (expr_way ways value) (falling (sending stream)) (met s) (eval callees value s) _ (leads_falling (sending stream) (open_sending stream)) (known value s) (λ v t. sent_along (record { stream = stream; value = v; after = after; clock = clock }) t))
+      let send : Sending = record { stream = stream; after = after; clock = clock } in
+      out_falling (expr_way ways value) (sending send) (met s) _
+      (out_value (expr_way ways value) (falling (sending send)) (met s) (eval callees value s) _ (leads_falling (sending send) (open_sending send)) (known value s) (λ v t. sent_along (record { stream = stream; value = v; after = after; clock = clock }) t))
   step_along (Stmt-F.Advance point) s = (refl, refl)
   step_along (Stmt-F.Return value) s =
       out_returning (expr_way ways value) one (met s) _ (out_value (expr_way ways value) (returning one) (met s) (eval callees value s) _ (leads_returning one open_one) (known value s) (λ v t. refl))

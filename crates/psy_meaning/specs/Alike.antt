@@ -8,8 +8,7 @@ use Rattle.psy_tree.specs.declared.unit.AgentDecl.{AgentDecl}
 use Rattle.psy_code.specs.declared.code.Code.{Code}
 use Rattle.psy_code.specs.declared.code.AgentCode.{AgentCode}
 use Rattle.psy_code.specs.Views.{View, nothing_done}
-use Rattle.psy_code.specs.Execution.{Machine, Copy, Run, RanTo, TrappedBy, copy_from, run_code}
-use Rattle.psy_code.specs.Execution as code
+use Rattle.psy_code.specs.Execution.{Machine, Frame, Copy, Run, RunState, RanTo, TrappedBy, copy_from, run_code, standing}
 use Rattle.psy_meaning.specs.States.{Store, State, Ended, Trapped, Outcome, Halts}
 use Rattle.psy_meaning.specs.Statements.{act}
 use Rattle.psy_meaning.specs.Rest.{rest}
@@ -33,6 +32,10 @@ first_copies unit agent = owned_from agent 0 unit.variables
 -- The cells that an agent's variables and arrays begin with.
 abbrev pub first_slots : AgentDecl → List (List ℤ)
 first_slots agent = map (λ s. replicate s.cells s.init) agent.slots
+
+-- The store that an agent begins with.
+abbrev pub first_store : Whole → ℕ → AgentDecl → Store
+first_store unit number agent = record { slots = first_slots agent; copies = first_copies unit number }
 
 -- Numbers of 32 bits
 abbrev pub AllFit : List ℤ → Type 0
@@ -66,7 +69,7 @@ pub record IsViewOf (unit : Whole) (number : ℕ) (view : View) : Type 0 where
 -- ---- alike
 
 -- The machine holds the store, and did the same.
-pub record SameAs (state : State) (ran : code.State) : Type 0 where
+pub record SameAs (state : State) (ran : RunState) : Type 0 where
   pub cells : ran.machine.home.cells ≡ flat_map (λ cells. cells) state.store.slots
   pub copies : ran.machine.copies ≡ state.store.copies
   pub deeds : ran.deeds ≡ state.deeds
@@ -74,37 +77,31 @@ pub record SameAs (state : State) (ran : code.State) : Type 0 where
 -- The run ends as the action does, with its last instruction: the cost of the action is the number of
 -- its instructions.
 abbrev pub EndsAs : Outcome → (ℕ → Run) → Type 0
-EndsAs (Halts (Ended point s)) run = (t : code.State) × (run s.deeds.steps ≡ RanTo point t) × SameAs s t
-EndsAs (Halts (Trapped kind s)) run = (t : code.State) × (run s.deeds.steps ≡ TrappedBy kind t) × SameAs s t
-EndsAs _ run = ⊥
+EndsAs (Halts (Ended point s)) after = (t : RunState) × (after s.deeds.steps ≡ RanTo point t) × SameAs s t
+EndsAs (Halts (Trapped kind s)) after = (t : RunState) × (after s.deeds.steps ≡ TrappedBy kind t) × SameAs s t
+EndsAs _ after = ⊥
 
--- The agent's machine at the place of a point, with the store and any counters
-abbrev pub machine_at : AgentCode → ℕ → Store → List ℕ → Machine
-machine_at its point store counters = record {
-  place = slice_index_or its.points point 0;
-  operands = [];
-  home = record { cells = flat_map (λ cells. cells) store.slots; counters = counters };
-  calls = [];
-  copies = store.copies;
-}
+-- The agent's own frame, with the cells of a store and any counters
+abbrev pub home_holding : Store → List ℕ → Frame
+home_holding store counters = record { cells = flat_map (λ cells. cells) store.slots; counters = counters }
 
 -- An action that has just begun, by the statements.
 abbrev pub begun : Store → View → State
 begun store view = record { store = store; view = view; deeds = nothing_done }
 
 -- An action that has just begun, by the code.
-abbrev pub started : Machine → View → code.State
+abbrev pub started : Machine → View → RunState
 started machine view = record { machine = machine; view = view; deeds = nothing_done }
 
 -- An agent's code begins as the agent does, and acts as its statements from each point.
-pub record AgentAlike (unit : Whole) (whole : Code) (number : ℕ) (agent : AgentDecl) (its : AgentCode) : Type 0 where
+pub record AgentAlike (unit : Whole) (code : Code) (number : ℕ) (agent : AgentDecl) (its : AgentCode) : Type 0 where
   pub points : length its.points ≡ length agent.points
   pub cells : its.cells ≡ flat_map (λ cells. cells) (first_slots agent)
   pub copies : map copy_from its.copies ≡ first_copies unit number
   -- From each point, with each store and view, and whatever the counters hold
-  pub acts : (point : ℕ) (store : Store) (view : View) (counters : List ℕ) → point < length agent.points → IsStoreOf unit number agent store → IsViewOf unit number view → length counters ≡ its.counters → EndsAs (act unit.functions (rest agent.stmts point) (begun store view)) (run_code whole its (started (machine_at its point store counters) view))
+  pub acts : (point : ℕ) (store : Store) (view : View) (counters : List ℕ) → point < length agent.points → IsStoreOf unit number agent store → IsViewOf unit number view → length counters ≡ its.counters → EndsAs (act unit.functions (rest agent.stmts point) (begun store view)) (run_code code its (started (standing its point (home_holding store counters) store.copies) view))
 
 -- The code acts as the statements of the unit.
-pub record ActsAlike (unit : Whole) (whole : Code) : Type 0 where
-  pub agents : length whole.agents ≡ length unit.agents
-  pub each : (number : ℕ) (agent : AgentDecl) (its : AgentCode) → slice_get unit.agents number ≡ Some agent → slice_get whole.agents number ≡ Some its → AgentAlike unit whole number agent its
+pub record ActsAlike (unit : Whole) (code : Code) : Type 0 where
+  pub agents : length code.agents ≡ length unit.agents
+  pub each : (number : ℕ) (agent : AgentDecl) (its : AgentCode) → slice_get unit.agents number ≡ Some agent → slice_get code.agents number ≡ Some its → AgentAlike unit code number agent its

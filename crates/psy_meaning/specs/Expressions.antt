@@ -5,11 +5,11 @@ use Rattle.psy_arith.specs.declared.operators.Op2.{Op2}
 use Rattle.psy_arith.specs.declared.operators.Op2.TheVariants as op
 use Rattle.psy_arith.specs.declared.operators.Trap.TheVariants as trap
 use Rattle.psy_arith.specs.Operators.{truth, is_zero, value1, value2}
-use Rattle.psy_code.specs.Views.{View, Past, Ready, Take, past_of, messages_of, number_of, next_in}
+use Rattle.psy_code.specs.Views.{View, Past, Ready, Take, past_of, messages_of, count_as_value, next_in}
 use Rattle.psy_code.specs.Execution.{index_in}
 use Rattle.psy_tree.specs.declared.unit.Expr.{Expr, fold-Expr}
 use Rattle.psy_tree.specs.declared.unit.Expr.TheOpen.{Expr-F}
-use Rattle.psy_meaning.specs.States.{State, Got, Value, Eval, Callee, and_then, cost_1, asking, or_stop, cells_at, value_at, copy_at, or_zero}
+use Rattle.psy_meaning.specs.States.{State, Got, Value, Eval, Callee, and_then, cost_1, asking, or_stop, cells_at, value_at, copy_at, value_or_zero}
 
 -- The cell of an array that an index names
 abbrev pub element : ℕ → ℤ → State → Got
@@ -53,8 +53,8 @@ expr_step callees (Expr-F.Number number) s = Value number (cost_1 s)
 expr_step callees (Expr-F.Slot slot) s = Value (value_at s.store slot 0) (cost_1 s)
 expr_step callees (Expr-F.Copy variable) s = Value (copy_at s.store variable) (cost_1 s)
 expr_step callees (Expr-F.Cell slot index) s = and_then (index s) (λ i t. element slot i t)
-expr_step callees (Expr-F.Past variable back) s = Value (or_zero (past_of s.view variable back)) (asking (Past variable back) s)
-expr_step callees (Expr-F.Ready stream) s = Value (number_of (messages_at s.view stream)) (asking (Ready stream) s)
+expr_step callees (Expr-F.Past variable back) s = Value (value_or_zero (past_of s.view variable back)) (asking (Past variable back) s)
+expr_step callees (Expr-F.Ready stream) s = Value (count_as_value (messages_at s.view stream)) (asking (Ready stream) s)
 expr_step callees (Expr-F.Take stream) s = take_from stream s
 expr_step callees (Expr-F.Unary operator operand) s = and_then (operand s) (λ a t. Value (value1 w32 operator a) (cost_1 t))
 expr_step callees (Expr-F.Binary operator left right) s = binary operator left right s

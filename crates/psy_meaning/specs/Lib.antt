@@ -1,7 +1,7 @@
 pub mod Alike
-pub mod Counter
 pub mod Depths
 pub mod Expressions
+pub mod Kept
 pub mod Paths
 pub mod Rest
 pub mod Sizes

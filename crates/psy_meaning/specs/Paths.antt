@@ -1,6 +1,6 @@
 -- What statements hold, and whether a path through them meets an `advance`.
-use Rattle.std.specs.Prelude.{◌≡◌, Bool, true, false, ◌||◌, List, Some, None}
-use Rattle.std.specs.List.{All, list_all, list_any}
+use Rattle.std.specs.Prelude.{◌≡◌, ℕ, Bool, true, false, ◌||◌, List, [], ◌∷◌, ◌++◌, map, Some, None}
+use Rattle.std.specs.List.{All, concat, list_all, list_any}
 use Rattle.psy_tree.specs.declared.unit.FunctionDecl.{FunctionDecl}
 use Rattle.psy_tree.specs.declared.unit.Stmt.{Stmt, fold-Stmt}
 use Rattle.psy_tree.specs.declared.unit.Stmt.TheOpen.{Stmt-F}
@@ -30,6 +30,23 @@ holds_advance stmts = list_any (holds true false) stmts
 -- One of the statements is or holds a `return`.
 abbrev pub holds_return : List Stmt → Bool
 holds_return stmts = list_any (holds false true) stmts
+
+-- The points of the `advance` statements in a statement, in the order of the text, once those of its parts are known
+abbrev pub advances_step : Stmt-F (List ℕ) → List ℕ
+advances_step (Stmt-F.Advance point) = point ∷ []
+advances_step (Stmt-F.If test branch None) = concat branch
+advances_step (Stmt-F.If test branch (Some other)) = concat branch ++ concat other
+advances_step (Stmt-F.Bounded test most body) = concat body
+advances_step (Stmt-F.Timed test body) = concat body
+advances_step _ = []
+
+-- The points of the `advance` statements in a statement
+abbrev pub advances_of : Stmt → List ℕ
+advances_of = fold-Stmt (List ℕ) advances_step
+
+-- The points of the `advance` statements in a list of statements, in the order of the text
+abbrev pub advances_in : List Stmt → List ℕ
+advances_in stmts = concat (map advances_of stmts)
 
 -- No function holds an `advance`.
 abbrev pub NoneAdvances : List FunctionDecl → Type 0

@@ -1,5 +1,8 @@
 -- What expressions and statements may name where they stand.
-use Rattle.std.specs.Prelude.{◌≡◌, ℕ, ◌<◌, ◌≤◌, Bool, true, false, ◌==◌, List, [], ◌∷◌, ◌++◌, ◌+◌, map, replicate, length, Option, Some, None, slice_get, ⊤}
+use Rattle.std.specs.Prelude.{◌≡◌, ℕ, ◌<◌, ◌≤◌, Bool, true, false, ◌==◌, List, [], ◌∷◌, ◌++◌, ◌+◌, map, replicate, length, Option, Some, None, slice_get, FitsSigned, ⊤}
+use Rattle.std.specs.Int.{w32}
+use Rattle.std.specs.List.{All, range_with_len}
+use Rattle.psy_base.specs.declared.limits.TheConstants.{AFTER, FUNCTIONS, TURNS}
 use Rattle.psy_tree.specs.declared.unit.Unit.{Unit as Whole}
 use Rattle.psy_tree.specs.declared.unit.AgentDecl.{AgentDecl}
 use Rattle.psy_tree.specs.declared.unit.FunctionDecl.{FunctionDecl}
@@ -7,9 +10,8 @@ use Rattle.psy_tree.specs.declared.unit.Expr.{Expr, rec-Expr}
 use Rattle.psy_tree.specs.declared.unit.Expr.TheOpen.{Expr-F}
 use Rattle.psy_tree.specs.declared.unit.Stmt.{Stmt, rec-Stmt}
 use Rattle.psy_tree.specs.declared.unit.Stmt.TheOpen.{Stmt-F}
-use Rattle.psy_meaning.specs.Alike.{first_copies}
-use Rattle.psy_meaning.specs.Rest.{rests_in, with_rests}
-use Rattle.psy_meaning.specs.Paths.{holds_advance, quiet_list}
+use Rattle.psy_meaning.specs.Alike.{first_copies, AllFit}
+use Rattle.psy_meaning.specs.Paths.{advances_in, holds_advance, quiet_list}
 
 -- What can be named in an agent or a function.
 pub record Scope : Type 0 where
@@ -21,10 +23,14 @@ pub record Scope : Type 0 where
   pub depths : List ℕ
   -- by stream, whether the agent receives it
   pub streams : List Bool
+  -- how many clocks there are
+  pub clocks : ℕ
   -- the functions that can be called
   pub functions : List FunctionDecl
   -- how many points the agent has
   pub points : ℕ
+  -- whether messages may be sent
+  pub sends : Bool
   -- whether a value may be returned
   pub returns : Bool
 
@@ -48,6 +54,13 @@ HasStream scope stream = slice_get scope.streams stream ≡ Some true
 abbrev pub HasFunction : Scope → ℕ → ℕ → Type 0
 HasFunction scope function arguments = (decl : FunctionDecl) × (slice_get scope.functions function ≡ Some decl) × (arguments ≡ decl.params)
 
+-- A message that can be sent: its stream and its clock exist, and it isn't delayed too long.
+pub record CanSend (scope : Scope) (stream after clock : ℕ) : Type 0 where
+  pub allowed : scope.sends ≡ true
+  pub target : stream < length scope.streams
+  pub by : clock < scope.clocks
+  pub delay : after ≤ AFTER
+
 -- Each of them is sound.
 abbrev pub Each : {X : Type 0} → (X → Type 0) → List X → Type 0
 Each sound [] = ⊤
@@ -55,7 +68,7 @@ Each sound (x ∷ rest) = sound x × Each sound rest
 
 -- An expression is sound, once it is known which of its parts are.
 abbrev pub sound_expr_step : Scope → (X : Type 0) → (X → Expr) → (X → Type 0) → Expr-F X → Type 0
-sound_expr_step scope X tree sound (Expr-F.Number number) = ⊤
+sound_expr_step scope X tree sound (Expr-F.Number number) = FitsSigned w32 number
 sound_expr_step scope X tree sound (Expr-F.Slot slot) = HasSlot scope slot
 sound_expr_step scope X tree sound (Expr-F.Copy variable) = HasCopy scope variable
 sound_expr_step scope X tree sound (Expr-F.Cell slot index) = HasSlot scope slot × sound index
@@ -84,9 +97,9 @@ sound_stmt_step scope X tree sound (Stmt-F.Set slot value) = HasSlot scope slot 
 sound_stmt_step scope X tree sound (Stmt-F.SetCopy variable value) = HasCopy scope variable × IsSoundExpr scope value
 sound_stmt_step scope X tree sound (Stmt-F.SetCell slot index value) = HasSlot scope slot × IsSoundExpr scope index × IsSoundExpr scope value
 sound_stmt_step scope X tree sound (Stmt-F.If test branch other) = IsSoundExpr scope test × Each sound branch × EachOr sound other
-sound_stmt_step scope X tree sound (Stmt-F.Bounded test most body) = IsSoundExpr scope test × (most ≤ 65536) × Each sound body × (holds_advance (map tree body) ≡ false)
+sound_stmt_step scope X tree sound (Stmt-F.Bounded test most body) = IsSoundExpr scope test × (most ≤ TURNS) × Each sound body × (holds_advance (map tree body) ≡ false)
 sound_stmt_step scope X tree sound (Stmt-F.Timed test body) = IsSoundExpr scope test × (quiet_list (map tree body) ≡ false) × Each sound body
-sound_stmt_step scope X tree sound (Stmt-F.Send value stream after clock) = IsSoundExpr scope value
+sound_stmt_step scope X tree sound (Stmt-F.Send value stream after clock) = CanSend scope stream after clock × IsSoundExpr scope value
 sound_stmt_step scope X tree sound (Stmt-F.Advance point) = point < scope.points
 sound_stmt_step scope X tree sound (Stmt-F.Return value) = (scope.returns ≡ true) × IsSoundExpr scope value
 
@@ -101,14 +114,19 @@ AreSound scope stmts = Each (IsSoundStmt scope) stmts
 -- What can be named in a function: its own slots, and the functions above it
 abbrev pub function_scope : List FunctionDecl → List ℕ → List Bool → FunctionDecl → Scope
 function_scope above depths streams f =
-    record { layout = replicate (f.params + length f.locals) 1; copies = []; depths = depths; streams = streams; functions = above; points = 0; returns = true }
+    record { layout = replicate (f.params + length f.locals) 1; copies = []; depths = depths; streams = streams; clocks = 0; functions = above; points = 0; sends = false; returns = true }
 
 -- ---- units
 
--- Functions are sound, whatever the variables and streams, where each calls those above it.
+-- A function names what it can name, whatever the variables and streams, and its locals begin with numbers of 32 bits.
+pub record IsSoundFunction (above : List FunctionDecl) (f : FunctionDecl) : Type 0 where
+  pub stmts : (depths : List ℕ) (streams : List Bool) → AreSound (function_scope above depths streams f) f.stmts
+  pub locals : AllFit f.locals
+
+-- Functions are sound, where each calls those above it.
 abbrev pub AreSoundFunctions : List FunctionDecl → List FunctionDecl → Type 0
 AreSoundFunctions above [] = ⊤
-AreSoundFunctions above (f ∷ rest) = ((depths : List ℕ) (streams : List Bool) → AreSound (function_scope above depths streams f) f.stmts) × AreSoundFunctions (above ++ f ∷ []) rest
+AreSoundFunctions above (f ∷ rest) = IsSoundFunction above f × AreSoundFunctions (above ++ f ∷ []) rest
 
 -- What can be named in an agent
 abbrev pub agent_scope : Whole → ℕ → AgentDecl → Scope
@@ -117,20 +135,26 @@ agent_scope unit number agent = record {
   copies = map (λ c. c.variable) (first_copies unit number);
   depths = map (λ v. v.depth) unit.variables;
   streams = map (λ s. s.receiver == number) unit.streams;
+  clocks = length unit.clocks;
   functions = unit.functions;
   points = length agent.points;
+  sends = true;
   returns = false;
 }
 
--- An agent's statements name what it can name, each path through its body meets an `advance`, and it has a point for each
--- `advance` beside the head of its body.
+-- An agent's statements name what it can name, each path through its body meets an `advance`, and its points beside the head
+-- of its body are its `advance` statements, numbered from 1 in the order of the text.
 pub record IsSoundAgent (unit : Whole) (number : ℕ) (agent : AgentDecl) : Type 0 where
   pub stmts : AreSound (agent_scope unit number agent) agent.stmts
   pub ends : quiet_list agent.stmts ≡ false
-  pub points : length agent.points ≡ length (rests_in (map with_rests agent.stmts)) + 1
+  pub points : length agent.points ≡ length (advances_in agent.stmts) + 1
+  pub numbered : advances_in agent.stmts ≡ range_with_len 1 (length (advances_in agent.stmts))
+  -- its variables and arrays begin with numbers of 32 bits
+  pub values : All (λ s. FitsSigned w32 s.init) agent.slots
 
--- A unit whose statements name what they can name
+-- A unit whose statements name what they can name, and whose first values are numbers of 32 bits
 pub record IsSoundUnit (unit : Whole) : Type 0 where
   pub functions : AreSoundFunctions [] unit.functions
-  pub few : length unit.functions ≤ 64
+  pub few : length unit.functions ≤ FUNCTIONS
   pub agents : (number : ℕ) (agent : AgentDecl) → slice_get unit.agents number ≡ Some agent → IsSoundAgent unit number agent
+  pub values : All (λ v. FitsSigned w32 v.init) unit.variables

@@ -61,8 +61,8 @@ acts_by callees stmts = all_of (map (act_by callees) stmts)
 -- ---- functions
 
 -- A function's parameters and locals: each slot has one cell.
-abbrev pub frame_of : FunctionDecl → List ℤ → Store
-frame_of function arguments = record { slots = map (λ v. v ∷ []) (arguments ++ function.locals); copies = [] }
+abbrev pub function_frame : FunctionDecl → List ℤ → Store
+function_frame function arguments = record { slots = map (λ v. v ∷ []) (arguments ++ function.locals); copies = [] }
 
 -- The state with another store.
 abbrev pub in_store : Store → State → State
@@ -81,7 +81,7 @@ back_in store (Halts final) = Stops (final_in store final)
 
 -- What a function does with its arguments, where it calls these.
 abbrev pub callee : (ℕ → Callee) → FunctionDecl → Callee
-callee above function arguments s = back_in s.store (acts_by above function.stmts (in_store (frame_of function arguments) s))
+callee above function arguments s = back_in s.store (acts_by above function.stmts (in_store (function_frame function arguments) s))
 
 -- There is no function of this number.
 abbrev pub no_callee : ℕ → Callee

@@ -101,13 +101,13 @@ abbrev pub with_slot : ℕ → ℕ → ℤ → State → State
 with_slot slot cell v s = record s { store = record (s.store) { slots = slice_set s.store.slots slot (slice_set (cells_at s.store slot) cell v) } }
 
 -- 0 where there is none
-abbrev pub or_zero : Option ℤ → ℤ
-or_zero None = pos 0
-or_zero (Some v) = v
+abbrev pub value_or_zero : Option ℤ → ℤ
+value_or_zero None = pos 0
+value_or_zero (Some v) = v
 
 -- The value of a working copy
 abbrev pub copy_at : Store → ℕ → ℤ
-copy_at store variable = or_zero (copy_of variable store.copies)
+copy_at store variable = value_or_zero (copy_of variable store.copies)
 
 -- The state with another value in a working copy
 abbrev pub with_copy_at : ℕ → ℤ → State → State

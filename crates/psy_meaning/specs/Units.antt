@@ -1,6 +1,7 @@
 -- What is asked of a unit by those who read it.
 use Rattle.std.specs.Prelude.{◌≡◌, ℕ, ◌+◌, ◌<◌, ◌≤◌, List, [], ◌∷◌, ◌++◌, map, length, Option, Some, None, slice_get, ⊤}
 use Rattle.std.specs.List.{All}
+use Rattle.psy_base.specs.declared.limits.TheConstants.{ADVANCE, AGENTS, BUDGET, CELLS, CLOCKS, DEPTH, FUNCTIONS, KEEP, NAMES, POINTS, QUANTUM, STREAMS, UNIT_SIZE, VARIABLES, WORD_BYTES}
 use Rattle.psy_clock.specs.Dates.{IsClock}
 use Rattle.psy_tree.specs.declared.raw.Raw.{Raw}
 use Rattle.psy_tree.specs.declared.unit.Unit.{Unit as Whole}
@@ -20,7 +21,7 @@ Within least most n = (least ≤ n) × (n ≤ most)
 
 -- A name: a word of at most 32 bytes
 abbrev pub IsName : List ℕ → Type 0
-IsName name = IsWord name × (length name ≤ 32)
+IsName name = IsWord name × (length name ≤ WORD_BYTES)
 
 -- The agent that owns a variable, where it has an owner, is one of so many.
 abbrev pub OwnedWithin : ℕ → Option ℕ → Type 0
@@ -32,30 +33,30 @@ pub record IsBareVariable (unit : Whole) (v : VarDecl) : Type 0 where
   pub name : IsName v.name
   pub owner : OwnedWithin (length unit.agents) v.owner
   pub clock : v.clock < length unit.clocks
-  pub depth : Within 1 1024 v.depth
+  pub depth : Within 1 DEPTH v.depth
 
 -- A stream names what exists, and keeps its ranges.
 pub record IsBareStream (unit : Whole) (s : StreamDecl) : Type 0 where
   pub name : IsName s.name
   pub receiver : s.receiver < length unit.agents
   pub clock : s.clock < length unit.clocks
-  pub keep : Within 1 1024 s.keep
+  pub keep : Within 1 KEEP s.keep
 
 -- A function has at most 64 parameters and locals.
 pub record IsBareFunction (f : FunctionDecl) : Type 0 where
   pub name : IsName f.name
-  pub slots : f.params + length f.locals ≤ 64
+  pub slots : f.params + length f.locals ≤ NAMES
 
 -- A variable or array of an agent has 1 to 256 cells.
 pub record IsBareSlot (s : Slots) : Type 0 where
   pub name : IsName s.name
-  pub cells : Within 1 256 s.cells
+  pub cells : Within 1 CELLS s.cells
 
 -- A point of an agent's `advance`
 pub record IsBarePoint (unit : Whole) (p : Point) : Type 0 where
-  pub count : Within 1 1024 p.count
+  pub count : Within 1 ADVANCE p.count
   pub clock : p.clock < length unit.clocks
-  pub budget : Within 1 1000000 p.budget
+  pub budget : Within 1 BUDGET p.budget
 
 -- Point 0 is the head of the body.
 abbrev pub HasHead : AgentDecl → List Point → (Point → Type 0) → Type 0
@@ -66,11 +67,11 @@ HasHead a (head ∷ rest) lawful = (head ≡ record { count = 0; clock = a.clock
 pub record IsBareAgent (unit : Whole) (a : AgentDecl) : Type 0 where
   pub name : IsName a.name
   pub clock : a.clock < length unit.clocks
-  pub budget : Within 1 1000000 a.budget
+  pub budget : Within 1 BUDGET a.budget
   pub slots : All IsBareSlot a.slots
-  pub names : length a.slots ≤ 64
+  pub names : length a.slots ≤ NAMES
   pub points : HasHead a a.points (IsBarePoint unit)
-  pub limit : length a.points ≤ 256
+  pub limit : length a.points ≤ POINTS
 
 -- The names of all declarations
 abbrev pub global_names : Whole → List (List ℕ)
@@ -83,23 +84,23 @@ AllDiffer names = (i j : ℕ) (name : List ℕ) → slice_get names i ≡ Some n
 
 -- What a unit's declarations keep: names, numbers and limits. Nothing is said of its statements.
 pub record IsBare (unit : Whole) : Type 0 where
-  pub quantum : Within 1 1000000 unit.quantum
+  pub quantum : Within 1 QUANTUM unit.quantum
   pub clocks : All IsClock unit.clocks
   pub clock_names : All IsName unit.clock_names
   pub clocks_named : length unit.clock_names ≡ length unit.clocks
-  pub clock_limit : length unit.clocks ≤ 64
+  pub clock_limit : length unit.clocks ≤ CLOCKS
   pub variables : All (IsBareVariable unit) unit.variables
-  pub variable_limit : length unit.variables ≤ 256
+  pub variable_limit : length unit.variables ≤ VARIABLES
   pub streams : All (IsBareStream unit) unit.streams
-  pub stream_limit : length unit.streams ≤ 64
+  pub stream_limit : length unit.streams ≤ STREAMS
   pub functions : All IsBareFunction unit.functions
-  pub function_limit : length unit.functions ≤ 64
+  pub function_limit : length unit.functions ≤ FUNCTIONS
   pub agents : All (IsBareAgent unit) unit.agents
-  pub agent_limit : length unit.agents ≤ 64
+  pub agent_limit : length unit.agents ≤ AGENTS
   pub names : AllDiffer (global_names unit)
 
 -- A unit that a program's tree stands for, of a size that a text can have.
 pub record IsOfText (unit : Whole) : Type 0 where
   pub bare : IsBare unit
   pub text : (raw : Raw) × Stands unit raw
-  pub size : unit_size unit ≤ 1048576
+  pub size : unit_size unit ≤ UNIT_SIZE

@@ -11,23 +11,29 @@ use Rattle.psy_tree.specs.declared.unit.Stmt.{Stmt, rec-Stmt}
 use Rattle.psy_tree.specs.declared.unit.Stmt.TheOpen.{Stmt-F}
 use Rattle.psy_meaning.specs.Statements.{Piece, Do, Hop}
 
--- What a way meets: its instructions, its looks, and the streams that it sends to, in order.
+-- A send as a way knows it: all but its value.
+pub record Sending : Type 0 where
+  pub stream : ℕ
+  pub after : ℕ
+  pub clock : ℕ
+
+-- What a way meets: its instructions, its looks, and its sends, in order.
 pub record Meter : Type 0 where
   pub steps : ℕ
   pub looks : List Looked
-  pub sends : List ℕ
+  pub sends : List Sending
 
 -- Nothing met yet.
 abbrev pub unmetered : Meter
 unmetered = record { steps = 0; looks = []; sends = [] }
 
--- The streams of these sends.
-abbrev pub streams_of : List Sent → List ℕ
-streams_of sends = map (λ s. s.stream) sends
+-- A send without its value
+abbrev pub sending_of : Sent → Sending
+sending_of sent = record { stream = sent.stream; after = sent.after; clock = sent.clock }
 
 -- What an action met
 abbrev pub met_by : Deeds → Meter
-met_by deeds = record { steps = deeds.steps; looks = deeds.looks; sends = streams_of deeds.sends }
+met_by deeds = record { steps = deeds.steps; looks = deeds.looks; sends = map sending_of deeds.sends }
 
 -- From what was met before to what is met with it
 abbrev pub Way : Type 1
@@ -52,9 +58,9 @@ abbrev pub looking : ℕ → ℕ → Way
 looking variable back before now =
     now ≡ record before { steps = before.steps + 1; looks = before.looks ++ record { number = before.steps; variable = variable; back = back } ∷ [] }
 
--- One instruction that sends to a stream
-abbrev pub sending : ℕ → Way
-sending stream before now = now ≡ record before { steps = before.steps + 1; sends = before.sends ++ stream ∷ [] }
+-- One instruction that sends
+abbrev pub sending : Sending → Way
+sending send before now = now ≡ record before { steps = before.steps + 1; sends = before.sends ++ send ∷ [] }
 
 -- One after the other
 abbrev pub both : Way → Way → Way
@@ -160,7 +166,7 @@ course_step callees X tree course (Stmt-F.SetCell slot index value) = falling (b
 course_step callees X tree course (Stmt-F.If test branch other) = behind (both (expr_way callees test) one) (branching course (courses_through course branch) other)
 course_step callees X tree course (Stmt-F.Bounded test most body) = behind one (turning most (expr_way callees test) (courses_through course body))
 course_step callees X tree course (Stmt-F.Timed test body) = behind (both (expr_way callees test) one) (or_else (courses_through course body) (falling here))
-course_step callees X tree course (Stmt-F.Send value stream after clock) = falling (both (expr_way callees value) (sending stream))
+course_step callees X tree course (Stmt-F.Send value stream after clock) = falling (both (expr_way callees value) (sending (record { stream = stream; after = after; clock = clock })))
 course_step callees X tree course (Stmt-F.Advance point) = reaching point one
 course_step callees X tree course (Stmt-F.Return value) = returning (both (expr_way callees value) one)
 
@@ -203,7 +209,7 @@ abbrev pub IsWay : List FunctionDecl → List Piece → ℕ → Meter → Type 0
 IsWay functions pieces point met = courses_through (piece_course (callee_ways functions)) pieces (To point) unmetered met
 
 -- What was met is the front of what a way meets: no more instructions, and the first of its looks and sends.
-pub record IsFrontOf (some whole : Meter) : Type 0 where
-  pub steps : some.steps ≤ whole.steps
-  pub looks : (more : List Looked) × (whole.looks ≡ some.looks ++ more)
-  pub sends : (more : List ℕ) × (whole.sends ≡ some.sends ++ more)
+pub record IsFrontOf (some all : Meter) : Type 0 where
+  pub steps : some.steps ≤ all.steps
+  pub looks : (more : List Looked) × (all.looks ≡ some.looks ++ more)
+  pub sends : (more : List Sending) × (all.sends ≡ some.sends ++ more)

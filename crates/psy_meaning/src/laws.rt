@@ -8,8 +8,6 @@ ghost use Rattle.psy_code.specs.Views.{nothing_done};
 ghost use Rattle.psy_meaning.specs.States.{State, Final, Ended, Trapped, Halts};
 ghost use Rattle.psy_meaning.specs.Rest.{rest};
 ghost use Rattle.psy_meaning.specs.Statements.{Piece, act};
-ghost use Rattle.psy_meaning.specs.Alike.{ActsAlike};
-ghost use Rattle.psy_meaning.specs.Counter.{counter, counter_code};
 ghost use Rattle.psy_meaning.specs.Paths.{NoneAdvances, holds_return, quiet_list};
 ghost use Rattle.psy_meaning.specs.Ways.{Meter, IsWay, IsFrontOf, met_by};
 
@@ -29,9 +27,4 @@ pub fn traps()
 /// `advance` or traps.
 pub fn ends()
     ensures { (functions : List FunctionDecl) (body : List Stmt) (point : ℕ) (s : State) → NoneAdvances functions → quiet_list body ≡ false → holds_return body ≡ false → (final : Final) × (act functions (rest body point) s ≡ Halts final) }
-{}
-
-/// An example: the code of a counter acts as its statements.
-pub fn counter()
-    ensures { ActsAlike counter counter_code }
 {}

@@ -11,7 +11,7 @@ use Rattle.psy_tree.specs.declared.unit.Stmt.TheVariants as stmt
 use Rattle.psy_tree.specs.declared.unit.Stmt.TheOpen.{Stmt-F}
 use Rattle.psy_meaning.specs.States.{Store, State, Value, Outcome, Eval, Act, Callee, cost_1}
 use Rattle.psy_meaning.specs.Expressions.{eval, expr_step, in_order}
-use Rattle.psy_meaning.specs.Statements.{act_by, acts_by, stmt_step, turns, frame_of, in_store, back_in, callee, no_callee, with_callee, callees_from, callees_of}
+use Rattle.psy_meaning.specs.Statements.{act_by, acts_by, stmt_step, turns, function_frame, in_store, back_in, callee, no_callee, with_callee, callees_from, callees_of}
 use Rattle.psy_reference.specs.Sides.{from_left}
 use Rattle.psy_reference.proofs.Sides.{binary_from_left}
 
@@ -61,8 +61,8 @@ pub own_function : (fs : List FunctionDecl) (k : ℕ) (f : FunctionDecl) → k <
 own_function fs k f h e = within 0 no_callee fs k k f h (omega arith) ∙ ap (callee (callees_of (take k fs))) (sym e)
 
 pub called : (above : ℕ → Callee) (f : FunctionDecl) (arguments values : List ℤ) (state inner : State) (store frame : Store) (stmts : List Stmt) (outcome : Outcome) →
-    values ≡ arguments → frame ≡ frame_of f values → store ≡ state.store → inner ≡ in_store frame state → stmts ≡ f.stmts → outcome ≡ acts_by above stmts inner →
+    values ≡ arguments → frame ≡ function_frame f values → store ≡ state.store → inner ≡ in_store frame state → stmts ≡ f.stmts → outcome ≡ acts_by above stmts inner →
     back_in store outcome ≡ callee above f arguments state
 called above f arguments values state inner store frame stmts outcome v fr st i b o =
-    ap (back_in store) (o ∙ ap (λ ss. acts_by above ss inner) b ∙ ap (acts_by above f.stmts) (i ∙ ap (λ r. in_store r state) (fr ∙ ap (frame_of f) v)))
-    ∙ ap (λ r. back_in r (acts_by above f.stmts (in_store (frame_of f arguments) state))) st
+    ap (back_in store) (o ∙ ap (λ ss. acts_by above ss inner) b ∙ ap (acts_by above f.stmts) (i ∙ ap (λ r. in_store r state) (fr ∙ ap (function_frame f) v)))
+    ∙ ap (λ r. back_in r (acts_by above f.stmts (in_store (function_frame f arguments) state))) st

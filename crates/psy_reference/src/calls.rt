@@ -22,7 +22,7 @@ fn push_cells(alloc: Global, slots: &mut Items<Items<i32>>, values: &[i32]) -> R
 
 /// A function's parameters and locals, each a slot of one cell.
 pub fn frame_of(alloc: Global, function: &FunctionDecl, arguments: &[i32]) -> Result<Store, Memory>
-    ensures { IfOk result (λ s. s ≡ meaning.frame_of function.now arguments.now) }
+    ensures { IfOk result (λ s. s ≡ meaning.function_frame function.now arguments.now) }
 {
     let mut slots = Items::new(alloc);
     push_cells(alloc, &mut slots, arguments)?;

@@ -62,7 +62,7 @@ pub fn element(slot: u32, index: Got) -> Result<Got, Memory>
 
 /// What a variable published some of its dates ago.
 pub fn past(variable: u32, back: u32, state: State) -> Result<Got, Memory>
-    ensures { IfOk result (λ g. got_of g ≡ states.Value (states.or_zero (views.past_of state.view variable back)) (states.asking (views.Past variable back) state)) }
+    ensures { IfOk result (λ g. got_of g ≡ states.Value (states.value_or_zero (views.past_of state.view variable back)) (states.asking (views.Past variable back) state)) }
 {
     let value = state.view.past(variable, back);
     Ok(Got::Value(value, state.looked(variable, back)?))
@@ -70,7 +70,7 @@ pub fn past(variable: u32, back: u32, state: State) -> Result<Got, Memory>
 
 /// How many messages of a stream aren't yet taken.
 pub fn ready(stream: u32, state: State) -> Result<Got, Memory>
-    ensures { IfOk result (λ g. got_of g ≡ states.Value (views.number_of (meaning.messages_at state.view stream)) (states.asking (views.Ready stream) state)) }
+    ensures { IfOk result (λ g. got_of g ≡ states.Value (views.count_as_value (meaning.messages_at state.view stream)) (states.asking (views.Ready stream) state)) }
 {
     let count = state.view.ready(stream);
     Ok(Got::Value(count, state.cost_1()?))

@@ -1,7 +1,7 @@
 ghost use Rattle.std.specs.Prelude.{◌≡◌, ◌==◌, OnOk, slice_set};
 ghost use Rattle.std.specs.List as list;
 ghost use Rattle.psy_code.specs.Execution.{copy_of, with_copy};
-ghost use Rattle.psy_meaning.specs.States.{cells_at, value_at, copy_at, or_zero};
+ghost use Rattle.psy_meaning.specs.States.{cells_at, value_at, copy_at, value_or_zero};
 
 use psy_base::{Items, Memory};
 use std::alloc::Global;
@@ -93,7 +93,7 @@ impl Store {
 }
 
 fn value_of(copies: &[WorkingCopy], variable: u32) -> i32
-    ensures { result ≡ or_zero (copy_of variable copies.now) }
+    ensures { result ≡ value_or_zero (copy_of variable copies.now) }
 {
     match find(copies, variable) {
         Some(copy) => copy.value,

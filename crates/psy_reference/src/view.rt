@@ -1,6 +1,6 @@
 ghost use Rattle.std.specs.Prelude.{◌≡◌, IfOk, MatchOption};
-ghost use Rattle.psy_code.specs.Views.{past_of, messages_of, number_of, next_in, taken_from};
-ghost use Rattle.psy_meaning.specs.States.{or_zero};
+ghost use Rattle.psy_code.specs.Views.{past_of, messages_of, count_as_value, next_in, taken_from};
+ghost use Rattle.psy_meaning.specs.States.{value_or_zero};
 ghost use Rattle.psy_meaning.specs.Expressions.{messages_at};
 
 use psy_base::{Items, Memory};
@@ -28,7 +28,7 @@ impl Model for View {
 impl View {
     /// What a variable published so many of its dates ago; 0 where the view doesn't reach so far.
     pub fn past(&self, variable: u32, back: u32) -> i32
-        ensures { result ≡ or_zero (past_of self.now variable back) }
+        ensures { result ≡ value_or_zero (past_of self.now variable back) }
     {
         match self.pasts.get(variable as usize) {
             Some(values) => values.get(back as usize).copied().unwrap_or(0),
@@ -47,7 +47,7 @@ impl View {
 
     /// How many messages of a stream aren't yet taken, as a number of 32 bits.
     pub fn ready(&self, stream: u32) -> i32
-        ensures { result ≡ number_of (messages_at self.now stream) }
+        ensures { result ≡ count_as_value (messages_at self.now stream) }
     {
         let count = self.messages(stream).len();
         u32::try_from(count).unwrap_or(u32::MAX).cast_signed()

@@ -4,7 +4,7 @@ use Rattle.psy_tree.specs.declared.unit.Stmt.TheVariants as stmt
 use Rattle.psy_meaning.specs.Rest.{rests_of}
 use Rattle.psy_flow.specs.declared.points.Search.{Search}
 use Rattle.psy_flow.specs.declared.points.Search.TheVariants as search
-use Rattle.psy_flow.specs.Tops.{called, capped, stmt_tops, stmts_tops, in_step, falling, behind}
+use Rattle.psy_flow.specs.Tops.{called, capped_tops, stmt_tops, stmts_tops, in_step, falling, behind}
 use Rattle.psy_flow.specs.Behind.{rests_of_list, IsBehind}
 use Rattle.psy_flow.proofs.Rests.{rests_advance, rests_if, rests_bounded, whole_rest}
 use Rattle.psy_flow.proofs.BehindTops.{nothing_in, found_here, further_on, none_left, advance_found, if_found, if_further, timed_found, timed_further}
@@ -17,7 +17,7 @@ behind-returns-in-Found t c =
     c.loop-place.invariant (search.Found c.and_on.result)
     (found_here c.args.gauge c.args.wanted calls c.in-Found.tops c.tops_of_stmts-rest.result c.and_on.result c.args.stmts.now c.loop-place.place c.index-stmts-place.result c.loop-place.left
     c.loop-place-test.true c.index-stmts-place.is (subst P c.in-Found.is c.behind_in.ensures)
-    (c.tops_of_stmts-rest.ensures ∙ ap (λ ss. capped c.args.gauge (stmts_tops c.args.gauge c.args.wanted calls ss)) (whole_rest c.args.stmts.now (c.loop-place.place + 1)))
+    (c.tops_of_stmts-rest.ensures ∙ ap (λ ss. capped_tops c.args.gauge (stmts_tops c.args.gauge c.args.wanted calls ss)) (whole_rest c.args.stmts.now (c.loop-place.place + 1)))
     c.and_on.ensures)
 
 pub behind-loop-place-preserved : goal.behind-loop-place-preserved
@@ -69,11 +69,11 @@ behind_in-returns-in-Found-behind t c =
     let is : c.args.stmt.now ≡ stmt.Timed c.in-Timed.field-0 turn = c.in-Timed.is ∙ ap (stmt.Timed c.in-Timed.field-0) (sym c.as_slice-in-Timed.ensures) in
     let P : Search → Type 0 = λ r. IsBehind g c.args.wanted calls (rests_of_list turn) c.args.number r in
     let Q : Stmt → Type 0 = λ s. IsBehind g c.args.wanted calls (rests_of s) c.args.number (search.Found c.and_on-in-Found-behind.result) in
-    let again : c.behind-again.result ≡ capped g (behind (in_step g) (capped g (stmt_tops g c.args.wanted calls (stmt.Timed c.in-Timed.field-0 turn)))) =
+    let again : c.behind-again.result ≡ capped_tops g (behind (in_step g) (capped_tops g (stmt_tops g c.args.wanted calls (stmt.Timed c.in-Timed.field-0 turn)))) =
     c.behind-again.ensures
-    ∙ ap (λ n. capped g (behind n c.tops_of_stmt.result)) c.step-in-Found-behind.ensures
-    ∙ ap (λ x. capped g (behind (in_step g) x)) c.tops_of_stmt.ensures
-    ∙ ap (λ s. capped g (behind (in_step g) (capped g (stmt_tops g c.args.wanted calls s)))) is in
+    ∙ ap (λ n. capped_tops g (behind n c.tops_of_stmt.result)) c.step-in-Found-behind.ensures
+    ∙ ap (λ x. capped_tops g (behind (in_step g) x)) c.tops_of_stmt.ensures
+    ∙ ap (λ s. capped_tops g (behind (in_step g) (capped_tops g (stmt_tops g c.args.wanted calls s)))) is in
     subst Q (sym is)
     (timed_found g c.args.wanted calls c.in-Found-behind.tops c.behind-again.result c.and_on-in-Found-behind.result c.in-Timed.field-0 turn c.args.number
     (subst P c.in-Found-behind.is c.behind-in-Timed.ensures) again c.and_on-in-Found-behind.ensures)
