@@ -1,12 +1,14 @@
 //! Laws of the definitions, each the contract of a function that does nothing.
 
-ghost use Rattle.std.specs.Prelude.{◌≡◌, ℕ, List, slice_get, Some};
+ghost use Rattle.std.specs.Prelude.{◌≡◌, ℕ, ◌<◌, List, length, slice_get, Some};
 ghost use Rattle.psy_arith.specs.declared.operators.Trap.{Trap};
 ghost use Rattle.psy_tree.specs.declared.unit.AgentDecl.{AgentDecl};
 ghost use Rattle.psy_tree.specs.declared.unit.FunctionDecl.{FunctionDecl};
 ghost use Rattle.psy_tree.specs.declared.unit.Unit.{Unit as Whole};
-ghost use Rattle.psy_code.specs.Views.{nothing_done};
-ghost use Rattle.psy_meaning.specs.States.{State, Final, Ended, Trapped, Halts};
+ghost use Rattle.psy_code.specs.Views.{View, nothing_done};
+ghost use Rattle.psy_meaning.specs.Alike.{IsStoreOf, IsViewOf, begun, first_store};
+ghost use Rattle.psy_meaning.specs.Kept.{IsKept};
+ghost use Rattle.psy_meaning.specs.States.{State, Store, Final, Ended, Trapped, Halts};
 ghost use Rattle.psy_meaning.specs.Rest.{rest};
 ghost use Rattle.psy_meaning.specs.Sound.{IsSoundUnit};
 ghost use Rattle.psy_meaning.specs.Statements.{Piece, act};
@@ -27,4 +29,13 @@ pub fn traps()
 /// An action of a sound unit's agent ends at an `advance` or traps, from any of its points.
 pub fn ends()
     ensures { (unit : Whole) (number : ℕ) (agent : AgentDecl) (point : ℕ) (s : State) → IsSoundUnit unit → slice_get unit.agents number ≡ Some agent → (final : Final) × (act unit.functions (rest agent.stmts point) s ≡ Halts final) }
+{}
+
+/// What an action of a sound unit's agent keeps: from a store of the agent and a view of it, it ends at a point of an
+/// `advance` or traps, with a store of the agent again, having looked, taken and sent within the ranges of the unit. An
+/// agent begins with a store of its own.
+pub fn keeps()
+    ensures action { (unit : Whole) (number : ℕ) (agent : AgentDecl) (point : ℕ) (store : Store) (view : View) → IsSoundUnit unit → slice_get unit.agents number ≡ Some agent → point < length agent.points → IsStoreOf unit number agent store → IsViewOf unit number view
+        → (final : Final) × (act unit.functions (rest agent.stmts point) (begun store view) ≡ Halts final) × IsKept unit number agent final }
+    ensures first { (unit : Whole) (number : ℕ) (agent : AgentDecl) → IsSoundUnit unit → slice_get unit.agents number ≡ Some agent → IsStoreOf unit number agent (first_store unit number agent) }
 {}
