@@ -3,6 +3,10 @@ use Rattle.std.proofs.Common.{◌≡◌, suc, List, [], ◌∷◌, ◌++◌, map
 use Rattle.std.specs.List.{Contains}
 use Rattle.psy_meaning.specs.Sound.{Each}
 
+pub each-append : {X : Type 0} (P : X → Type 0) (xs ys : List X) → Each P xs → Each P ys → Each P (xs ++ ys)
+each-append P [] ys h k = k
+each-append P (x ∷ xs) ys h k = (h.0, each-append P xs ys h.1 k)
+
 pub each-first : {X : Type 0} (P : X → Type 0) (xs ys : List X) → Each P (xs ++ ys) → Each P xs
 each-first P [] ys h = tt
 each-first P (x ∷ xs) ys h = (h.0, each-first P xs ys h.1)

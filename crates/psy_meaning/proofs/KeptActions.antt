@@ -14,28 +14,16 @@ use Rattle.psy_meaning.specs.Alike.{AllFit, IsStoreOf, IsViewOf, owned_copy, own
 use Rattle.psy_meaning.specs.Kept.{IsAdvanceOf, IsKept}
 use Rattle.psy_meaning.specs.Paths.{advances_in}
 use Rattle.psy_meaning.specs.Rest.{rest}
-use Rattle.psy_meaning.specs.Sound.{Scope, Each, agent_scope, IsSoundAgent, IsSoundUnit}
-use Rattle.psy_meaning.specs.States.{Store, Final, Ended, Trapped, Halts, Callee}
-use Rattle.psy_meaning.specs.Statements.{Piece, Do, Hop, all_of, hop, act_by, piece_by, callees_of, act}
+use Rattle.psy_meaning.specs.Sound.{Each, agent_scope, IsSoundAgent, IsSoundUnit}
+use Rattle.psy_meaning.specs.States.{Store, Final, Ended, Trapped, Halts}
+use Rattle.psy_meaning.specs.Statements.{callees_of, act}
 use Rattle.psy_meaning.proofs.KeptCalls.{callees_keep}
-use Rattle.psy_meaning.proofs.KeptExprs.{Suits, AllKeep}
+use Rattle.psy_meaning.proofs.KeptExprs.{IsScopeOf}
 use Rattle.psy_meaning.proofs.KeptStates.{FitsCopy, IsShaped, IsFine}
-use Rattle.psy_meaning.proofs.KeptStmts.{OutFine, ActKeeps, out_then, hop_keeps, stmt_keeps}
+use Rattle.psy_meaning.proofs.KeptStmts.{OutFine, pieces_keep}
 use Rattle.psy_meaning.proofs.KeptValues.{Fits}
-use Rattle.psy_meaning.proofs.RestPieces.{PiecesHave, rest_has}
+use Rattle.psy_meaning.proofs.RestPieces.{rest_has}
 use Rattle.psy_meaning.proofs.Suited.{IsSuited, all_suited, layer_suited}
-
--- ---- the pieces of a body
-
-pieces_keep : (unit : Whole) (number : ℕ) (scope : Scope) (suits : Suits unit number scope) (callees : ℕ → Callee) (all : AllKeep unit number callees) (reached : ℕ → Type 0) (layout names : List ℕ) (pieces : List Piece)
-    → PiecesHave (IsSuited scope reached) pieces → ActKeeps unit number scope suits callees all reached layout names (all_of (map (piece_by callees) pieces))
-pieces_keep unit number scope suits callees all reached layout names [] h s f = f
-pieces_keep unit number scope suits callees all reached layout names (Do x ∷ xs) h s f =
-    out_then unit number scope suits callees all reached layout names (act_by callees x s) (all_of (map (piece_by callees) xs)) (stmt_keeps unit number scope suits callees all reached layout names x h.0 s f)
-    (pieces_keep unit number scope suits callees all reached layout names xs h.1)
-pieces_keep unit number scope suits callees all reached layout names (Hop ∷ xs) h s f =
-    out_then unit number scope suits callees all reached layout names (hop s) (all_of (map (piece_by callees) xs)) (hop_keeps unit number scope suits callees all reached layout names s f)
-    (pieces_keep unit number scope suits callees all reached layout names xs h.1)
 
 -- ---- points
 
@@ -72,14 +60,14 @@ module _ (unit : Whole) (number : ℕ) (agent : AgentDecl) where
   pub action_keeps : (point : ℕ) (store : Store) (view : View) (final : Final) → IsSoundUnit unit → IsSoundAgent unit number agent → IsStoreOf unit number agent store → IsViewOf unit number view → act unit.functions (rest agent.stmts point) (begun store view) ≡ Halts final → IsKept unit number agent final
   action_keeps point store view final sound its h k e =
       let scope = agent_scope unit number agent in
-      let suits : Suits unit number scope = record { depths = refl; streams = refl; clocks = omega arith } in
+      let of_unit : IsScopeOf unit number scope = record { depths = refl; streams = refl; clocks = omega arith } in
       let reached = IsAdvanceOf agent in
       let points : Each (λ point. point < length agent.points → reached point) (advances_in agent.stmts) =
       subst (Each (λ point. point < length agent.points → reached point)) (sym its.numbered) (range_reached 1 1 (length (advances_in agent.stmts)) (length agent.points) (omega arith)) in
       let pieces = rest_has (IsSuited scope reached) (layer_suited scope reached) agent.stmts point (all_suited scope reached agent.stmts its.stmts points) in
       kept_of final
       (subst (OutFine unit number reached layout names) e
-      (pieces_keep unit number scope suits (callees_of unit.functions) (callees_keep unit number unit.functions sound.functions) reached layout names (rest agent.stmts point) pieces (begun store view) (begins store view h k)))
+      (pieces_keep unit number scope of_unit (callees_of unit.functions) (callees_keep unit number unit.functions sound.functions) reached layout names (rest agent.stmts point) pieces (begun store view) (begins store view h k)))
 
 -- ---- the first store
 

@@ -10,7 +10,7 @@ use Rattle.psy_meaning.specs.Paths.{advances_in}
 use Rattle.psy_meaning.specs.Sound.{Scope, Each, AreSound, function_scope, IsSoundFunction, AreSoundFunctions}
 use Rattle.psy_meaning.specs.States.{Store, Ended, Trapped, Outcome, Falls, Returns, Halts, Callee, cost_1}
 use Rattle.psy_meaning.specs.Statements.{acts_by, function_frame, in_store, back_in, callee, no_callee, with_callee, callees_from, callees_of}
-use Rattle.psy_meaning.proofs.KeptExprs.{Suits, GotFine, CallKeeps, AllKeep}
+use Rattle.psy_meaning.proofs.KeptExprs.{IsScopeOf, GotFine, CallKeeps, AllKeep}
 use Rattle.psy_meaning.proofs.KeptStates.{IsShaped, fine_cost, fine_in}
 use Rattle.psy_meaning.proofs.KeptStmts.{OutFine, stmts_keep}
 use Rattle.psy_meaning.proofs.KeptValues.{Fits, zero_fits}
@@ -50,11 +50,11 @@ module _ (unit : Whole) (number : ℕ) where
       let depths = map (λ v. v.depth) unit.variables in
       let streams = map (λ s. s.receiver == number) unit.streams in
       let scope = function_scope above depths streams f in
-      let suits : Suits unit number scope = record { depths = refl; streams = refl; clocks = omega arith } in
+      let of_unit : IsScopeOf unit number scope = record { depths = refl; streams = refl; clocks = omega arith } in
       let frame = function_frame f arguments in
       let inner = map length frame.slots in
       back_keeps inner [] layout names s.store (acts_by callees f.stmts (in_store frame s)) fine.store
-      (stmts_keep unit number scope suits callees all Unreached inner [] f.stmts (suited scope refl f.stmts (sound.stmts depths streams)) (in_store frame s)
+      (stmts_keep unit number scope of_unit callees all Unreached inner [] f.stmts (suited scope refl f.stmts (sound.stmts depths streams)) (in_store frame s)
       (fine_in unit number inner [] frame s (frame_shaped f arguments sound.locals fit) fine.view fine.deeds))
 
   with_keeps : (place : ℕ) (last : Callee) (callees : ℕ → Callee) → CallKeeps unit number last → AllKeep unit number callees → AllKeep unit number (with_callee place last callees)

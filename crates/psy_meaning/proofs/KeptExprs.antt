@@ -23,8 +23,8 @@ use Rattle.psy_meaning.proofs.KeptStates.{IsFine, value_fits, copy_fits, past_fi
 use Rattle.psy_meaning.proofs.KeptValues.{Fits, zero_fits, one_fits, cast_fits, truth_fits, value1_fits, value2_fits}
 use Rattle.psy_meaning.proofs.SoundParts.{exprs_natural}
 
--- What can be looked at, received and sent by is the unit's.
-pub record Suits (unit : Whole) (number : ℕ) (scope : Scope) : Type 0 where
+-- What a scope lets look at, receive and send by is the unit's.
+pub record IsScopeOf (unit : Whole) (number : ℕ) (scope : Scope) : Type 0 where
   pub depths : scope.depths ≡ map (λ v. v.depth) unit.variables
   pub streams : scope.streams ≡ map (λ s. s.receiver == number) unit.streams
   pub clocks : scope.clocks ≤ length unit.clocks
@@ -43,7 +43,7 @@ module _ (unit : Whole) (number : ℕ) where
   abbrev pub AllKeep : (ℕ → Callee) → Type 0
   AllKeep callees = (function : ℕ) → CallKeeps (callees function)
 
-module _ (unit : Whole) (number : ℕ) (scope : Scope) (suits : Suits unit number scope) (callees : ℕ → Callee) (all : AllKeep unit number callees) (layout names : List ℕ) where
+module _ (unit : Whole) (number : ℕ) (scope : Scope) (of_unit : IsScopeOf unit number scope) (callees : ℕ → Callee) (all : AllKeep unit number callees) (layout names : List ℕ) where
   abbrev Fine : State → Type 0
   Fine s = IsFine unit number layout names s
 
@@ -111,10 +111,10 @@ module _ (unit : Whole) (number : ℕ) (scope : Scope) (suits : Suits unit numbe
       good_then (eval callees k.0 s) _ (k.1 e.0 s f) (λ v t fits g. good_in_order ks e.1 t g (λ vs u. go (v ∷ vs) u) (λ vs u all_fit. h (v ∷ vs) u (All-cons Fits v vs fits all_fit)))
 
   look : (variable back n : ℕ) → HasPast scope variable back → IsLookOf unit (record { number = n; variable = variable; back = back })
-  look variable back n h = (h.0, subst (λ l. slice_get l variable ≡ Some h.0) suits.depths h.1, h.2)
+  look variable back n h = (h.0, subst (λ l. slice_get l variable ≡ Some h.0) of_unit.depths h.1, h.2)
 
   receives : (stream : ℕ) → HasStream scope stream → Receives unit number stream
-  receives stream h = subst (λ l. slice_get l stream ≡ Some true) suits.streams h
+  receives stream h = subst (λ l. slice_get l stream ≡ Some true) of_unit.streams h
 
   step : (y : Expr-F Known) → let x = map-Expr Known Expr tree y in sound_expr_step scope Expr (λ e. e) (IsSoundExpr scope) x → Keeps (expr_step callees (map-Expr Expr Eval (eval callees) x))
   step (Expr-F.Number n) h s f = (h, cost s f)

@@ -1,4 +1,4 @@
--- What sound statements keep.
+-- What sound statements keep: they leave the store's shape and numbers of 32 bits, send what they may, and end where they may.
 use Rattle.std.proofs.Common.{ℕ, zero, suc, Bool, true, false, List, [], ◌∷◌, map, length, Option, Some, None, sym, ap, subst, arith}
 use Rattle.std.specs.Prelude.{◌==◌, if◌then◌else◌, ℤ}
 use Rattle.std.proofs.lemmas.List.{length-map}
@@ -15,11 +15,11 @@ use Rattle.psy_meaning.specs.Kept.{IsSentOf}
 use Rattle.psy_meaning.specs.Paths.{advances_step, advances_of}
 use Rattle.psy_meaning.specs.Sound.{Scope, CanSend, Each, sound_stmt_step, IsSoundExpr, IsSoundStmt}
 use Rattle.psy_meaning.specs.States.{State, Ended, Trapped, Got, Value, Stops, Outcome, Falls, Returns, Halts, Act, Callee, with_value, then_do, cost_1, or_halt, cells_at, with_slot}
-use Rattle.psy_meaning.specs.Statements.{all_of, choose, hop, turns, set_element, stmt_step, act_by, acts_by}
-use Rattle.psy_meaning.proofs.KeptExprs.{Suits, GotFine, AllKeep, expr_keeps}
+use Rattle.psy_meaning.specs.Statements.{all_of, choose, hop, turns, set_element, stmt_step, act_by, acts_by, Piece, Do, Hop, piece_by}
+use Rattle.psy_meaning.proofs.KeptExprs.{IsScopeOf, GotFine, AllKeep, expr_keeps}
 use Rattle.psy_meaning.proofs.KeptStates.{IsFine, fine_cost, fine_send, fine_slot, fine_copy}
 use Rattle.psy_meaning.proofs.KeptValues.{Fits}
-use Rattle.psy_meaning.proofs.RestPieces.{PartsHave}
+use Rattle.psy_meaning.proofs.RestPieces.{PartsHave, PiecesHave}
 use Rattle.psy_meaning.proofs.Suited.{Allowed, IsSuited, layer_sound, layer_allowed, layer_suited}
 
 module _ (unit : Whole) (number : ℕ) (reached : ℕ → Type 0) (layout names : List ℕ) where
@@ -30,14 +30,14 @@ module _ (unit : Whole) (number : ℕ) (reached : ℕ → Type 0) (layout names 
   OutFine (Halts (Ended point t)) = reached point × IsFine unit number layout names t
   OutFine (Halts (Trapped kind t)) = IsFine unit number layout names t
 
-module _ (unit : Whole) (number : ℕ) (scope : Scope) (suits : Suits unit number scope) (callees : ℕ → Callee) (all : AllKeep unit number callees) (reached : ℕ → Type 0) (layout names : List ℕ) where
+module _ (unit : Whole) (number : ℕ) (scope : Scope) (of_unit : IsScopeOf unit number scope) (callees : ℕ → Callee) (all : AllKeep unit number callees) (reached : ℕ → Type 0) (layout names : List ℕ) where
   abbrev Fine : State → Type 0
   Fine s = IsFine unit number layout names s
 
   abbrev Out : Outcome → Type 0
   Out o = OutFine unit number reached layout names o
 
-  abbrev pub ActKeeps : Act → Type 0
+  abbrev ActKeeps : Act → Type 0
   ActKeeps act = (s : State) → Fine s → Out (act s)
 
   abbrev Suited : Stmt → Type 0
@@ -56,7 +56,7 @@ module _ (unit : Whole) (number : ℕ) (scope : Scope) (suits : Suits unit numbe
   cost s h = fine_cost unit number layout names s h
 
   known : (e : Expr) → IsSoundExpr scope e → (s : State) → Fine s → GotFine unit number layout names (eval callees e s)
-  known e h s f = expr_keeps unit number scope suits callees all layout names e h s f
+  known e h s f = expr_keeps unit number scope of_unit callees all layout names e h s f
 
   -- ---- one after the other
 
@@ -65,7 +65,7 @@ module _ (unit : Whole) (number : ℕ) (scope : Scope) (suits : Suits unit numbe
   out_value (Stops (Trapped kind t)) go g h = g
   out_value (Stops (Ended point t)) go g h = elim g [ ]
 
-  pub out_then : (o : Outcome) (go : Act) → Out o → ActKeeps go → Out (then_do o go)
+  out_then : (o : Outcome) (go : Act) → Out o → ActKeeps go → Out (then_do o go)
   out_then (Falls t) go g h = h t g
   out_then (Returns v t) go g h = g
   out_then (Halts (Ended point t)) go g h = g
@@ -75,7 +75,7 @@ module _ (unit : Whole) (number : ℕ) (scope : Scope) (suits : Suits unit numbe
   out_choice true this that g h = g
   out_choice false this that g h = h
 
-  pub hop_keeps : ActKeeps hop
+  hop_keeps : ActKeeps hop
   hop_keeps s f = cost s f
 
   falls_keeps : ActKeeps Falls
@@ -106,8 +106,8 @@ module _ (unit : Whole) (number : ℕ) (scope : Scope) (suits : Suits unit numbe
 
   sent : (stream after clock : ℕ) (v : ℤ) → CanSend scope stream after clock → Fits v → IsSentOf unit (record { stream = stream; value = v; after = after; clock = clock })
   sent stream after clock v h fits = record {
-    stream = omega (arith, h.target, ap length suits.streams, length-map unit.streams (λ (s : StreamDecl). s.receiver == number));
-    clock = omega (arith, h.by, suits.clocks);
+    stream = omega (arith, h.target, ap length of_unit.streams, length-map unit.streams (λ (s : StreamDecl). s.receiver == number));
+    clock = omega (arith, h.by, of_unit.clocks);
     after = h.delay;
     value = fits;
   }
@@ -133,9 +133,14 @@ module _ (unit : Whole) (number : ℕ) (scope : Scope) (suits : Suits unit numbe
       let x : Stmt-F Stmt = map-Stmt Known Stmt tree y in
       subst ActKeeps (sym (fold-roll-Stmt Act (stmt_step callees) x)) (step y (layer_sound scope reached x h) (layer_allowed scope reached x h) (layer_suited scope reached x h))
 
-  pub stmt_keeps : (stmt : Stmt) → P stmt
+  stmt_keeps : (stmt : Stmt) → P stmt
   stmt_keeps = ind-Stmt P (λ x y is. subst (λ z. P (roll-Stmt z)) is (layer y))
 
   pub stmts_keep : (stmts : List Stmt) → Each Suited stmts → ActKeeps (acts_by callees stmts)
   stmts_keep [] h s f = f
   stmts_keep (x ∷ xs) h s f = out_then (act_by callees x s) (acts_by callees xs) (stmt_keeps x h.0 s f) (stmts_keep xs h.1)
+
+  pub pieces_keep : (pieces : List Piece) → PiecesHave Suited pieces → ActKeeps (all_of (map (piece_by callees) pieces))
+  pieces_keep [] h s f = f
+  pieces_keep (Do x ∷ xs) h s f = out_then (act_by callees x s) (all_of (map (piece_by callees) xs)) (stmt_keeps x h.0 s f) (pieces_keep xs h.1)
+  pieces_keep (Hop ∷ xs) h s f = out_then (hop s) (all_of (map (piece_by callees) xs)) (hop_keeps s f) (pieces_keep xs h.1)

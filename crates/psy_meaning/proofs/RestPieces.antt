@@ -1,11 +1,12 @@
 -- The pieces of a rest have what their statements have, where the parts of a statement have what it has.
-use Rattle.std.proofs.Common.{◌≡◌, ℕ, zero, suc, List, [], ◌∷◌, ◌++◌, map, Some, None, refl, sym, ap, subst}
+use Rattle.std.proofs.Common.{◌≡◌, ℕ, zero, suc, List, [], ◌∷◌, map, Some, None, refl, sym, ap, subst}
 use Rattle.std.specs.Prelude.{slice_index_or, ⊤}
 use Rattle.psy_tree.specs.declared.unit.Stmt.{Stmt, roll-Stmt, para-roll-Stmt, map-Stmt, ind-Stmt}
 use Rattle.psy_tree.specs.declared.unit.Stmt.TheOpen.{Stmt-F}
 use Rattle.psy_meaning.specs.Rest.{Rests, Part, each_then, pieces_of, stmts_in, rests_in, rests_step, rests_of, with_rests, rest}
 use Rattle.psy_meaning.specs.Sound.{Each}
 use Rattle.psy_meaning.specs.Statements.{Piece, Do, Hop}
+use Rattle.psy_meaning.proofs.Eaches.{each-append}
 
 -- The statements of which one consists have it.
 abbrev pub PartsHave : (Stmt → Type 0) → Stmt-F Stmt → Type 0
@@ -22,10 +23,6 @@ PieceHas P Hop = ⊤
 
 abbrev pub PiecesHave : (Stmt → Type 0) → List Piece → Type 0
 PiecesHave P pieces = Each (PieceHas P) pieces
-
-each-append : {X : Type 0} (P : X → Type 0) (xs ys : List X) → Each P xs → Each P ys → Each P (xs ++ ys)
-each-append P [] ys h k = k
-each-append P (x ∷ xs) ys h k = (h.0, each-append P xs ys h.1 k)
 
 module _ (P : Stmt → Type 0) (down : (x : Stmt-F Stmt) → P (roll-Stmt x) → PartsHave P x) where
   abbrev RestsHave : Rests → Type 0
