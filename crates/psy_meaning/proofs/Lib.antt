@@ -13,6 +13,7 @@ pub mod NoWays
 pub mod OpenWays
 pub mod RestPieces
 pub mod Rests
+pub mod RestsOf
 mod Runs
 pub mod SoundParts
 pub mod SoundPaths
