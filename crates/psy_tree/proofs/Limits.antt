@@ -11,7 +11,6 @@ use Rattle.psy_tree.specs.declared.rules.Count.TheVariants.{Clocks, Agents, Vari
 use Rattle.psy_tree.specs.Scope.{slots_of}
 use Rattle.psy_tree.specs.Rules.{is_clock, is_agent, is_function, is_stream}
 use Rattle.psy_tree.specs.Stands.{passes, first_that, counts, counting, is_variable, points_of}
-use Rattle.psy_rules.specs.Numbering.{AreFew}
 
 abbrev pub NonePasses : List Item → Type 0
 NonePasses items = first_that (passes items) counts ≡ None
@@ -60,14 +59,20 @@ rest_points items h = first_none (passes items) Names (Points ∷ []) (passes it
 few_points : (items : List Item) → NonePasses items → passes items Points ≡ false
 few_points items h = (first_none (passes items) Points [] (passes items Points) refl (rest_points items h).1).0
 
-pub few_of : (items : List Item) → NonePasses items → AreFew items
-few_of items h = record {
-  clocks = ltb-false 64 (counting is_clock items) (rest_agents items h).0;
-  agents = ltb-false 64 (counting is_agent items) (rest_variables items h).0;
-  variables = ltb-false 256 (counting is_variable items) (rest_streams items h).0;
-  streams = ltb-false 64 (counting is_stream items) (rest_functions items h).0;
-  functions = ltb-false 64 (counting is_function items) (rest_names items h).0;
-}
+pub few_clocks : (items : List Item) → NonePasses items → counting is_clock items ≤ 64
+few_clocks items h = ltb-false 64 (counting is_clock items) (rest_agents items h).0
+
+pub few_agents : (items : List Item) → NonePasses items → counting is_agent items ≤ 64
+few_agents items h = ltb-false 64 (counting is_agent items) (rest_variables items h).0
+
+pub few_variables : (items : List Item) → NonePasses items → counting is_variable items ≤ 256
+few_variables items h = ltb-false 256 (counting is_variable items) (rest_streams items h).0
+
+pub few_streams : (items : List Item) → NonePasses items → counting is_stream items ≤ 64
+few_streams items h = ltb-false 64 (counting is_stream items) (rest_functions items h).0
+
+pub few_functions : (items : List Item) → NonePasses items → counting is_function items ≤ 64
+few_functions items h = ltb-false 64 (counting is_function items) (rest_names items h).0
 
 any_at : (p : Item → Bool) (items : List Item) (k : ℕ) (i : Item) (b : Bool) → p i ≡ b → list_any p items ≡ false → slice_get items k ≡ Some i → p i ≡ false
 any_at p items k i false e h g = e

@@ -1,6 +1,7 @@
 -- Where an `advance` stands there is a place for its word.
 use Rattle.std.proofs.Common.{◌≡◌, ℕ, zero, suc, ◌+◌, ◌<◌, ◌≤◌, Bool, true, false, cond, List, [], ◌∷◌, ◌++◌, map, Option, Some, None, refl, sym, ap, ◌∙◌, subst, inl, inr, arith}
-use Rattle.std.specs.Prelude.{nat_lt, is_some, slice_get}
+use Rattle.std.specs.Prelude.{◌||◌, nat_lt, is_some, slice_get}
+use Rattle.std.proofs.lemmas.Bool.{false≢true, lt-ltb}
 use Rattle.psy_tree.specs.declared.raw.RawExpr.{RawExpr}
 use Rattle.psy_tree.specs.declared.raw.Lit.{Lit}
 use Rattle.psy_tree.specs.declared.raw.RawStmt.{RawStmt, ind-RawStmt, roll-RawStmt, map-RawStmt, fold-roll-RawStmt}
@@ -12,14 +13,13 @@ use Rattle.psy_tree.specs.declared.raw.Item.{Item}
 use Rattle.psy_tree.specs.declared.raw.Item.TheVariants as item
 use Rattle.psy_tree.specs.declared.raw.Raw.{Raw}
 use Rattle.psy_tree.specs.declared.rules.RuleKind.TheVariants as kind
-use Rattle.psy_tree.specs.Scope.{Site, slots_of}
-use Rattle.psy_tree.specs.Places.{Place, Acts, Loops, Sited, expr_places, most_places, stmt_places, stmts_places, slot_places, cells_places, head_places, inside_places, all_at, item_places, places_from, places}
+use Rattle.psy_tree.specs.Scope.{slots_of}
+use Rattle.psy_tree.specs.Places.{Place, Acts, Loops, expr_places, most_places, stmt_places, stmts_places, slot_places, cells_places, inside_places}
 use Rattle.psy_tree.specs.Paths.{advances, advances_step, advances_list, quiet_list}
 use Rattle.psy_tree.specs.Rules.{NoFault, is_function}
-use Rattle.psy_rules.specs.Lowered.{stmts_in}
-use Rattle.psy_rules.proofs.LeastFaults.{Among, contains}
-use Rattle.psy_rules.proofs.Limits.{NonePasses, points_within}
-use Rattle.psy_rules.proofs.Equations.{places_if, places_if_else, places_while, places_advance}
+use Rattle.psy_tree.proofs.Among.{Among, among_right}
+use Rattle.psy_tree.proofs.Faultless.{fine_inside}
+use Rattle.psy_tree.proofs.PlacesOf.{places_if, places_if_else, places_while, places_advance}
 
 abbrev pub is_act : Place → Bool
 is_act (Acts token) = true
@@ -112,51 +112,14 @@ act_of : (ps : List Place) → 0 < acts ps → (t : ℕ) × Among (Acts t) ps
 act_of [] h = absurd (omega arith)
 act_of (p ∷ ps) h = act_first p ps (act_of ps) h
 
-among_right : {A : Type 0} (x : A) (xs ys : List A) → Among x ys → Among x (xs ++ ys)
-among_right x [] ys h = h
-among_right x (z ∷ xs) ys h = inr (among_right x xs ys h)
-
-among_left : {A : Type 0} (x : A) (xs ys : List A) → Among x xs → Among x (xs ++ ys)
-among_left x [] ys h = absurd h
-among_left x (z ∷ xs) ys (inl e) = inl e
-among_left x (z ∷ xs) ys (inr h) = inr (among_left x xs ys h)
-
-abbrev sited : Site → Place → Sited
-sited s p = record { site = s; place = p }
-
-among_at : (s : Site) (p : Place) (ps : List Place) → Among p ps → Among (sited s p) (all_at s ps)
-among_at s p [] h = absurd h
-among_at s p (q ∷ ps) (inl e) = inl (ap (sited s) e)
-among_at s p (q ∷ ps) (inr h) = inr (among_at s p ps h)
-
-among_from : (items : List Item) (k n : ℕ) (xs : List Item) (i : Item) (s : Sited) → slice_get xs n ≡ Some i → Among s (item_places items (k + n) i) → Among s (places_from items k xs)
-among_from items k n [] i s e h = cc
-among_from items k zero (x ∷ xs) i s e h =
-    let same : i ≡ x = cc in
-    let here : k + 0 ≡ k = omega arith in
-    let P : Item → Type 0 = λ j. Among s (item_places items (k + 0) j) in
-    let Q : ℕ → Type 0 = λ m. Among s (item_places items m x) in
-    among_left s (item_places items k x) (places_from items (k + 1) xs) (subst Q here (subst P same h))
-among_from items k (suc n) (x ∷ xs) i s e h =
-    let next : k + suc n ≡ k + 1 + n = omega arith in
-    let Q : ℕ → Type 0 = λ m. Among s (item_places items m i) in
-    among_right s (item_places items k x) (places_from items (k + 1) xs) (among_from items (k + 1) n xs i s e (subst Q next h))
-
 no_act : (raw : Raw) (k : ℕ) (name : Name) (params : List Name) (locals : List Local) (stmts : List RawStmt) → NoFault raw → slice_get raw.items k ≡ Some (item.Function name params locals stmts) → 0 < acts (stmts_places stmts) → ⊥
 no_act raw k name params locals stmts sound own h =
     let f : Item = item.Function name params locals stmts in
     let there : (t : ℕ) × Among (Acts t) (stmts_places stmts) = act_of (stmts_places stmts) h in
-    let s : Site = record { items = raw.items; at = k; inside = true } in
-    let p : Sited = record { site = s; place = Acts there.0 } in
     let inner : Among (Acts there.0) (inside_places f) =
     among_right (Acts there.0) (slot_places 0 (slots_of f)) (cells_places locals ++ stmts_places stmts)
     (among_right (Acts there.0) (cells_places locals) (stmts_places stmts) there.1) in
-    let here : Among p (item_places raw.items k f) =
-    among_right p (all_at (record { items = raw.items; at = k; inside = false }) (head_places f)) (all_at s (inside_places f)) (among_at s (Acts there.0) (inside_places f) inner) in
-    let at : 0 + k ≡ k = omega arith in
-    let Q : ℕ → Type 0 = λ m. Among p (item_places raw.items m f) in
-    let whole : Among p (places raw) = inr (among_from raw.items 0 k raw.items f p own (subst Q (sym at) here)) in
-    sound kind.WrongKind there.0 (p, contains p (places raw) whole, ap is_function own, refl)
+    false≢true (sym (fine_inside raw sound k f (Acts there.0) own inner kind.WrongKind) ∙ ap is_function own)
 
 none_left : (n a : ℕ) → n ≤ a → (0 < a → ⊥) → n ≡ 0
 none_left n zero h none = omega arith
@@ -166,7 +129,7 @@ pub function_quiet : (raw : Raw) (k : ℕ) (name : Name) (params : List Name) (l
 function_quiet raw k name params locals stmts sound own =
     none_left (advances_list stmts) (acts (stmts_places stmts)) (advances-le_acts stmts) (no_act raw k name params locals stmts sound own)
 
-pub room_of : (raw : Raw) → NoFault raw → NonePasses raw.items → (k : ℕ) (i : Item) → slice_get raw.items k ≡ Some i → advances_list (stmts_in i) ≤ 256
-room_of raw sound few k (item.Function name params locals stmts) own = omega (arith, function_quiet raw k name params locals stmts sound own)
-room_of raw sound few k (item.Agent name clock budget locals body stmts) own = omega (arith, points_within raw.items few k (item.Agent name clock budget locals body stmts) own)
-room_of raw sound few k _ own = omega arith
+-- A sum is positive where a part is.
+pub positive_sum : (m n : ℕ) → (nat_lt 0 m || nat_lt 0 n) ≡ nat_lt 0 (m + n)
+positive_sum zero n = ap (nat_lt 0) (omega arith)
+positive_sum (suc m) n = ap (λ b. b || nat_lt 0 n) (lt-ltb 0 (suc m) (omega arith)) ∙ sym (lt-ltb 0 (suc m + n) (omega arith))
