@@ -6,6 +6,7 @@ use Rattle.psy_tree.specs.declared.raw.Lit.{Lit}
 use Rattle.psy_tree.specs.declared.raw.RawExpr.{RawExpr}
 use Rattle.psy_tree.specs.declared.raw.RawStmt.{RawStmt, roll-RawStmt, map-RawStmt, ind-RawStmt, fold-roll-RawStmt, para-roll-RawStmt}
 use Rattle.psy_tree.specs.declared.raw.RawStmt.TheOpen.{RawStmt-F}
+use Rattle.psy_tree.specs.declared.reach.Asks.TheVariants as asks
 use Rattle.psy_tree.specs.declared.reach.Found.{Found}
 use Rattle.psy_tree.specs.declared.reach.Found.TheVariants as found
 use Rattle.psy_tree.specs.declared.rules.RuleKind.TheVariants as kind
@@ -14,19 +15,19 @@ use Rattle.psy_tree.specs.declared.unit.Point.{Point}
 use Rattle.psy_tree.specs.declared.unit.Stmt.{Stmt}
 use Rattle.psy_tree.specs.declared.unit.Stmt.TheOpen.{Stmt-F}
 use Rattle.psy_tree.specs.Scope.{Site, stands_for}
-use Rattle.psy_tree.specs.Places.{Place, Loops, joined, expr_places, most_places, stmt_places, stmt_places_step, stmts_places}
+use Rattle.psy_tree.specs.Places.{Place, Uses, Ranges, Loops, joined, expr_places, most_places, stmt_places, stmt_places_step, stmts_places}
 use Rattle.psy_tree.specs.Paths.{advances, advances_step, advances_list}
 use Rattle.psy_tree.specs.Paths.{quiet_list as raw_quiet_list}
 use Rattle.psy_tree.specs.Rules.{is_clock, is_stream}
 use Rattle.psy_tree.specs.Stands.{Numbering, counting, is_variable, number_at, slot_number, expr_of, set_by, while_of, stmt_step, stmt_of, stmts_of}
 use Rattle.psy_meaning.specs.Paths.{holds_advance, quiet_list}
 use Rattle.psy_meaning.specs.Sound.{Scope, Each, IsSoundExpr, IsSoundStmt, AreSound}
-use Rattle.psy_rules.proofs.Judging.{map_firsts}
-use Rattle.psy_lawful.proofs.PathsOf.{holds_of, quiet_of, points_of}
-use Rattle.psy_lawful.proofs.Eaches.{each-first, each-second}
-use Rattle.psy_lawful.proofs.Faultless.{in_range, Fine}
-use Rattle.psy_lawful.proofs.SoundParts.{stmt_sound}
-use Rattle.psy_lawful.proofs.SoundExprs.{HasValue, Suits, sound_exprs}
+use Rattle.psy_tree.proofs.Lists.{map_firsts}
+use Rattle.psy_meaning.proofs.PathsOf.{holds_of, quiet_of, points_of}
+use Rattle.psy_meaning.proofs.Eaches.{each-first, each-second}
+use Rattle.psy_tree.proofs.Faultless.{in_range, Fine}
+use Rattle.psy_meaning.proofs.SoundParts.{stmt_sound}
+use Rattle.psy_meaning.proofs.SoundExprs.{HasValue, Suits, sound_exprs}
 
 without_max : (advances quiet : Bool) → (not false && not advances) ≡ false → (advances && (false || quiet)) ≡ false → quiet ≡ false
 without_max true quiet g h = h
@@ -117,7 +118,9 @@ module _ (site : Site) (scope : Scope) (suits : Suits site scope) where
       (subst (λ ss. Fine site (loop ss)) (map_firsts stmt_places raws) last.0)
       points room
   layer_sound (RawStmt-F.Send token value stream after clock) h points room =
-      stmt_sound scope (Stmt-F.Send (expr_of site value) (number_at is_stream site stream) after.value (number_at is_clock site clock)) (exprs value (each-first (Fine site) (expr_places value) _ h.1))
+      let behind = each-second (Fine site) (expr_places value) (Uses stream asks.Target ∷ (Ranges after 0 1024 ∷ (Uses clock asks.Clock ∷ []))) h.1 in
+      stmt_sound scope (Stmt-F.Send (expr_of site value) (number_at is_stream site stream) after.value (number_at is_clock site clock))
+      (suits.sends token stream after clock h.0 behind.0 behind.1.0 behind.1.1.0, exprs value (each-first (Fine site) (expr_places value) (Uses stream asks.Target ∷ (Ranges after 0 1024 ∷ (Uses clock asks.Clock ∷ []))) h.1))
   layer_sound (RawStmt-F.Advance token count clock budget) h points room = stmt_sound scope (Stmt-F.Advance (length points)) (omega (arith, room))
   layer_sound (RawStmt-F.Return token value) h points room = stmt_sound scope (Stmt-F.Return (expr_of site value)) (suits.returns token h.0, exprs value h.1)
 

@@ -1,7 +1,7 @@
 -- What names without a fault stand for in an agent can be named there.
-use Rattle.std.proofs.Common.{◌≡◌, ℕ, zero, suc, ◌+◌, ◌<◌, true, false, List, [], ◌∷◌, ◌++◌, map, take, length, Option, Some, None, refl, sym, ap, ◌∙◌, arith, leb-false, eq-eqb}
+use Rattle.std.proofs.Common.{◌≡◌, ℕ, zero, suc, ◌+◌, ◌<◌, true, false, List, [], ◌∷◌, ◌++◌, map, take, length, Option, Some, None, refl, sym, ap, ◌∙◌, inl, inr, arith, leb-false, eq-eqb}
 use Rattle.std.specs.Prelude.{not, ◌&&◌, ◌||◌, ◌==◌, if◌then◌else◌, slice_get, option_map}
-use Rattle.std.proofs.lemmas.List.{map-append}
+use Rattle.std.proofs.lemmas.List.{length-map, map-append}
 use Rattle.std.proofs.lemmas.Bool.{not-false, and_parts}
 use Rattle.std.proofs.lemmas.Option.{slice_get_within, slice_get-map}
 use Rattle.psy_tree.specs.declared.raw.Name.{Name}
@@ -20,17 +20,18 @@ use Rattle.psy_tree.specs.declared.unit.VarDecl.{VarDecl}
 use Rattle.psy_tree.specs.declared.unit.StreamDecl.{StreamDecl}
 use Rattle.psy_tree.specs.declared.unit.AgentDecl.{AgentDecl}
 use Rattle.psy_tree.specs.Scope.{Site, local_slot, own_slots, slots_at, stands_for, item_at}
-use Rattle.psy_tree.specs.Places.{cells_places}
-use Rattle.psy_tree.specs.Rules.{NoFault, is_none, is_agent, is_function, is_stream, is_temporal, has_params, depth_of, in_agent, slot_is_array, owner_elsewhere, receiver_elsewhere, reaches, unsuited, below}
-use Rattle.psy_tree.specs.Stands.{unit_of, inside_of, counting, is_variable, number_of_item, slot_number, slot_of, variables}
+use Rattle.psy_tree.specs.Places.{Uses, Ranges, cells_places}
+use Rattle.psy_tree.specs.Rules.{NoFault, is_none, is_clock, is_agent, is_function, is_stream, is_temporal, has_params, depth_of, in_agent, slot_is_array, owner_elsewhere, receiver_elsewhere, reaches, unsuited, below}
+use Rattle.psy_tree.specs.Stands.{unit_of, inside_of, counting, is_variable, number_of_item, number_at, slot_number, slot_of, variables, streams}
 use Rattle.psy_code.specs.Execution.{Copy}
 use Rattle.psy_meaning.specs.Alike.{owned_copy, owned_from}
-use Rattle.psy_meaning.specs.Sound.{Scope, HasSlot, HasCopy, HasPast, HasStream, HasFunction, Each, agent_scope}
-use Rattle.psy_lawful.proofs.Numbers.{variable_at, stream_at, function_at}
-use Rattle.psy_lawful.proofs.Lists.{slice_get-behind}
-use Rattle.psy_lawful.proofs.Faultless.{in_range, Fine, heads_fine}
-use Rattle.psy_lawful.proofs.SoundExprs.{HasValue, Suits}
-use Rattle.psy_lawful.proofs.Standing.{second_false, temporal_is, stream_is, function_is, agent_here}
+use Rattle.psy_meaning.specs.Sound.{Scope, HasSlot, HasCopy, HasPast, HasStream, HasFunction, CanSend, Each, agent_scope}
+use Rattle.psy_tree.proofs.ClocksOf.{clocks_count}
+use Rattle.psy_tree.proofs.Numbers.{flat_map-each, length-each, gives_streams, variable_at, stream_at, function_at}
+use Rattle.psy_tree.proofs.Lists.{slice_get-behind}
+use Rattle.psy_tree.proofs.Faultless.{Fine, fine_head, in_range, number_below, asks_clock, asks_target}
+use Rattle.psy_meaning.proofs.SoundExprs.{HasValue, Suits}
+use Rattle.psy_tree.proofs.Standing.{second_false, temporal_is, stream_is, function_is, agent_here}
 
 -- ---- slots
 
@@ -107,8 +108,8 @@ module _ (raw : Raw) (fault : NoFault raw) (k : ℕ) (name clock : Name) (budget
   copy_in : (j : ℕ) → is_temporal (slice_get raw.items j) ≡ true → owner_elsewhere site (slice_get raw.items j) ≡ false → HasCopy scope (counting is_variable (take j raw.items))
   copy_in j temporal mine =
       let (n, w, c, i, d, is) = temporal_is (slice_get raw.items j) temporal in
-      let heads = heads_fine raw fault j (item.Temporal n w c i d) is in
-      let owner = agent_here raw.items k j w (slice_get_within raw.items j (item.Temporal n w c i d) is) heads.1.0 (sym (ap (owner_elsewhere site) is) ∙ mine) in
+      let head = fine_head raw fault j (item.Temporal n w c i d) (Uses w asks.Agent) is (inr (inl refl)) in
+      let owner = agent_here raw.items k j w (slice_get_within raw.items j (item.Temporal n w c i d) is) head (sym (ap (owner_elsewhere site) is) ∙ mine) in
       let there = owned_at number 0 (unit_of raw).variables (counting is_variable (take j raw.items)) _ (variable_at raw j (item.Temporal n w c i d) _ is refl) (ap Some owner) in
       let z : 0 + counting is_variable (take j raw.items) ≡ counting is_variable (take j raw.items) = omega arith in
       (there.0, there.1 ∙ ap Some z)
@@ -141,9 +142,9 @@ module _ (raw : Raw) (fault : NoFault raw) (k : ℕ) (name clock : Name) (budget
   stream_in (Some (found.Slot j)) known suited mine = cc
   stream_in (Some (found.Item j)) known suited mine =
       let (n, r, keep, c, is) = stream_is (slice_get raw.items j) (not-false (is_stream (slice_get raw.items j)) suited) in
-      let heads = heads_fine raw fault j (item.Stream n r keep c) is in
+      let head = fine_head raw fault j (item.Stream n r keep c) (Uses r asks.Agent) is (inr (inl refl)) in
       let elsewhere = second_false (in_agent site && true) (receiver_elsewhere site (slice_get raw.items j)) (ap (λ b. b && true) here) mine in
-      let receiver = agent_here raw.items k j r (slice_get_within raw.items j (item.Stream n r keep c) is) heads.1.0 (sym (ap (receiver_elsewhere site) is) ∙ elsewhere) in
+      let receiver = agent_here raw.items k j r (slice_get_within raw.items j (item.Stream n r keep c) is) head (sym (ap (receiver_elsewhere site) is) ∙ elsewhere) in
       let m = counting is_stream (take j raw.items) in
       slice_get-map (λ (s : StreamDecl). s.receiver == number) (unit_of raw).streams m
       ∙ ap (option_map (λ (s : StreamDecl). s.receiver == number)) (stream_at raw j (item.Stream n r keep c) _ is refl)
@@ -156,6 +157,19 @@ module _ (raw : Raw) (fault : NoFault raw) (k : ℕ) (name clock : Name) (budget
       let (n, ps, ls, ss, is, same) = function_is count (slice_get raw.items j) (not-false (has_params count (slice_get raw.items j)) suited) in
       (_, function_at raw j (item.Function n ps ls ss) _ is refl, sym same)
 
+  streams_count : length scope.streams ≡ counting is_stream raw.items
+  streams_count =
+      length-map (unit_of raw).streams (λ (s : StreamDecl). s.receiver == number)
+      ∙ ap length (flat_map-each (streams raw.items) 0 raw.items) ∙ length-each is_stream (λ k. streams raw.items) (gives_streams raw.items) 0 raw.items
+
+  send_in : (stream : Name) (after : Lit) (clock : Name) → Fine site (Uses stream asks.Target) → Fine site (Ranges after 0 1024) → Fine site (Uses clock asks.Clock) → CanSend scope (number_at is_stream site stream) after.value (number_at is_clock site clock)
+  send_in stream after clock t d c = record {
+    allowed = refl;
+    target = omega (arith, number_below is_stream asks.Target refl asks_target site stream t, streams_count);
+    by = omega (arith, number_below is_clock asks.Clock refl asks_clock site clock c, clocks_count raw fault);
+    delay = (in_range site after 0 1024 d).1;
+  }
+
   pub agent_suits : Suits site scope
   agent_suits = record {
     values = λ n c. value_in (stands_for site n.text) (c kind.Unknown) (c kind.WrongKind) (c kind.NotOwner);
@@ -163,5 +177,6 @@ module _ (raw : Raw) (fault : NoFault raw) (k : ℕ) (name clock : Name) (budget
     pasts = λ token n back a c l. past_in (stands_for site n.text) back.value (c kind.Unknown) (c kind.WrongKind) (l kind.TooDeep);
     messages = λ token n a c. stream_in (stands_for site n.text) (c kind.Unknown) (c kind.WrongKind) (c kind.NotReceiver);
     calls = λ n count c. call_in (stands_for site n.text) count (c kind.Unknown) (c kind.WrongKind);
+    sends = λ token stream after clock a. send_in stream after clock;
     returns = λ token c. absurd (let no : true ≡ false = sym here ∙ c kind.WrongKind in cc);
   }

@@ -22,17 +22,16 @@ use Rattle.psy_tree.specs.Paths.{quiet_list}
 use Rattle.psy_tree.specs.Rules.{NoFault, is_clock, is_agent, is_function, is_stream}
 use Rattle.psy_tree.specs.Stands.{Stands, unit_of, counting, is_variable, clock_names, variables, streams, functions, agents, agent_with, slot_of, local_value, agent_budget, head_point, global_number, budget_of, inside_of, stmts_of, each_from}
 use Rattle.psy_meaning.specs.Units.{Within, IsName, IsBareVariable, IsBareStream, IsBareFunction, IsBareSlot, IsBarePoint, HasHead, IsBareAgent, IsBare}
-use Rattle.psy_rules.proofs.LeastFaults.{Among}
-use Rattle.psy_rules.proofs.Limits.{NonePasses, few_of, names_of, points_within}
-use Rattle.psy_lawful.specs.Declared.{names_in, AreNames}
-use Rattle.psy_lawful.proofs.Lists.{All-flat_map}
-use Rattle.psy_lawful.proofs.Numbers.{length-each, flat_map-each, gives_clock_names, gives_variables, gives_streams, gives_functions, gives_agents}
-use Rattle.psy_lawful.proofs.PathsOf.{points_of}
-use Rattle.psy_rules.proofs.Items.{head_at}
-use Rattle.psy_lawful.proofs.Faultless.{Fine, fine_head, fine_inside, fine_quantum, in_range, global_below, number_below, asks_clock, asks_agent, among_right, among_left}
-use Rattle.psy_lawful.proofs.ClocksOf.{clocks_are, clocks_count}
-use Rattle.psy_lawful.proofs.PointsOf.{AllFine, Adds, point_of, stmts_add}
-use Rattle.psy_lawful.proofs.NamesOf.{names_differ}
+use Rattle.psy_tree.proofs.Among.{Among, among_left, among_right}
+use Rattle.psy_tree.proofs.Limits.{NonePasses, few_clocks, few_agents, few_variables, few_streams, few_functions, names_of, points_within}
+use Rattle.psy_meaning.proofs.TextNames.{names_in, AreNames}
+use Rattle.psy_tree.proofs.Lists.{All-flat_map}
+use Rattle.psy_tree.proofs.Numbers.{length-each, flat_map-each, gives_clock_names, gives_variables, gives_streams, gives_functions, gives_agents}
+use Rattle.psy_meaning.proofs.PathsOf.{points_of}
+use Rattle.psy_tree.proofs.Faultless.{Fine, AllFine, head_at, fine_head, fine_inside, fine_quantum, in_range, global_below, number_below, asks_clock, asks_agent}
+use Rattle.psy_tree.proofs.ClocksOf.{clocks_are, clocks_count}
+use Rattle.psy_tree.proofs.PointsOf.{Adds, point_of, stmts_add}
+use Rattle.psy_meaning.proofs.NamesOf.{names_differ}
 
 -- ---- each of them
 
@@ -166,7 +165,6 @@ module _ (raw : Raw) (none : NoFault raw) (few : NonePasses raw.items) (names : 
 
   bare : IsBare (unit_of raw)
   bare =
-      let limits = few_of raw.items few in
       let clock_names_count : length (unit_of raw).clock_names ≡ counting is_clock raw.items = ap length (flat_map-each clock_names 0 raw.items) ∙ length-each is_clock (λ k. clock_names) gives_clock_names 0 raw.items in
       let variables_count : length (unit_of raw).variables ≡ counting is_variable raw.items = ap length (flat_map-each (variables raw.items) 0 raw.items) ∙ length-each is_variable (λ k. variables raw.items) (gives_variables raw.items) 0 raw.items in
       let streams_count : length (unit_of raw).streams ≡ counting is_stream raw.items = ap length (flat_map-each (streams raw.items) 0 raw.items) ∙ length-each is_stream (λ k. streams raw.items) (gives_streams raw.items) 0 raw.items in
@@ -175,15 +173,15 @@ module _ (raw : Raw) (none : NoFault raw) (few : NonePasses raw.items) (names : 
         clocks = clocks_are raw;
         clock_names = subst (All IsName) (sym (flat_map-each clock_names 0 raw.items)) (all_items IsName (λ k. clock_names) raw.items clock_name);
         clocks_named = clock_names_count ∙ sym (clocks_count raw none);
-        clock_limit = omega (arith, limits.clocks, clocks_count raw none);
+        clock_limit = omega (arith, few_clocks raw.items few, clocks_count raw none);
         variables = subst (All (IsBareVariable (unit_of raw))) (sym (flat_map-each (variables raw.items) 0 raw.items)) (all_items (IsBareVariable (unit_of raw)) (λ k. variables raw.items) raw.items variable);
-        variable_limit = omega (arith, limits.variables, variables_count);
+        variable_limit = omega (arith, few_variables raw.items few, variables_count);
         streams = subst (All (IsBareStream (unit_of raw))) (sym (flat_map-each (streams raw.items) 0 raw.items)) (all_items (IsBareStream (unit_of raw)) (λ k. streams raw.items) raw.items stream);
-        stream_limit = omega (arith, limits.streams, streams_count);
+        stream_limit = omega (arith, few_streams raw.items few, streams_count);
         functions = all_items IsBareFunction (functions raw.items) raw.items function;
-        function_limit = omega (arith, limits.functions, length-each is_function (functions raw.items) (gives_functions raw.items) 0 raw.items);
+        function_limit = omega (arith, few_functions raw.items few, length-each is_function (functions raw.items) (gives_functions raw.items) 0 raw.items);
         agents = all_items (IsBareAgent (unit_of raw)) (agents raw.items) raw.items agent;
-        agent_limit = omega (arith, limits.agents, agents_count);
+        agent_limit = omega (arith, few_agents raw.items few, agents_count);
         names = names_differ raw none;
       }
 

@@ -12,13 +12,14 @@ use Rattle.psy_tree.specs.declared.reach.Found.TheVariants as found
 use Rattle.psy_tree.specs.declared.unit.Expr.{Expr}
 use Rattle.psy_tree.specs.declared.unit.Expr.TheOpen.{Expr-F}
 use Rattle.psy_tree.specs.Scope.{Site, stands_for}
-use Rattle.psy_tree.specs.Places.{Place, Uses, LooksBack, Acts, Returns, joined, expr_places, expr_places_step}
-use Rattle.psy_tree.specs.Rules.{is_function, is_stream}
-use Rattle.psy_tree.specs.Stands.{counting, is_variable, number_at, slot_number, value_of, expr_step, expr_of}
-use Rattle.psy_meaning.specs.Sound.{Scope, HasSlot, HasCopy, HasPast, HasStream, HasFunction, Each, IsSoundExpr}
-use Rattle.psy_lawful.proofs.Eaches.{each-first, each-second}
-use Rattle.psy_lawful.proofs.Faultless.{Fine}
-use Rattle.psy_lawful.proofs.SoundParts.{expr_sound}
+use Rattle.psy_tree.specs.Places.{Place, Uses, LooksBack, Acts, Returns, Ranges, joined, expr_places, expr_places_step}
+use Rattle.psy_tree.specs.Rules.{is_clock, is_function, is_stream}
+use Rattle.psy_tree.specs.Stands.{counting, is_variable, number_at, slot_number, signed, value_of, expr_step, expr_of}
+use Rattle.psy_meaning.specs.Sound.{Scope, HasSlot, HasCopy, HasPast, HasStream, HasFunction, CanSend, Each, IsSoundExpr}
+use Rattle.psy_meaning.proofs.Literals.{signed_fits}
+use Rattle.psy_meaning.proofs.Eaches.{each-first, each-second}
+use Rattle.psy_tree.proofs.Faultless.{Fine}
+use Rattle.psy_meaning.proofs.SoundParts.{expr_sound}
 
 -- The scope has the variable or the slot that a name stands for.
 abbrev pub HasValue : Site → Scope → Option Found → Type 0
@@ -32,6 +33,8 @@ pub record Suits (site : Site) (scope : Scope) : Type 0 where
   pub pasts : (token : ℕ) (name : Name) (back : Lit) → Fine site (Acts token) → Fine site (Uses name asks.Past) → Fine site (LooksBack name back) → HasPast scope (number_at is_variable site name) back.value
   pub messages : (token : ℕ) (name : Name) → Fine site (Acts token) → Fine site (Uses name asks.Messages) → HasStream scope (number_at is_stream site name)
   pub calls : (name : Name) (n : ℕ) → Fine site (Uses name (asks.Call n)) → HasFunction scope (number_at is_function site name) n
+  pub sends : (token : ℕ) (stream : Name) (after : Lit) (clock : Name) → Fine site (Acts token) → Fine site (Uses stream asks.Target) → Fine site (Ranges after 0 1024) → Fine site (Uses clock asks.Clock)
+      → CanSend scope (number_at is_stream site stream) after.value (number_at is_clock site clock)
   pub returns : (token : ℕ) → Fine site (Returns token) → scope.returns ≡ true
 
 module _ (site : Site) (scope : Scope) (suits : Suits site scope) where
@@ -56,7 +59,7 @@ module _ (site : Site) (scope : Scope) (suits : Suits site scope) where
 
   layer_sound : (y : RawExpr-F Known) → let x = map-RawExpr Known RawExpr tree y in
       Each (Fine site) (expr_places_step (map-RawExpr RawExpr (List Place) expr_places x)) → IsSoundExpr scope (expr_step site (map-RawExpr RawExpr Expr (expr_of site) x))
-  layer_sound (RawExpr-F.Number number) h = expr_sound scope _ (tt {0})
+  layer_sound (RawExpr-F.Number number) h = expr_sound scope (Expr-F.Number (signed number)) (signed_fits number)
   layer_sound (RawExpr-F.Var name) h = value_sound (stands_for site name.text) (suits.values name h.0)
   layer_sound (RawExpr-F.Cell name index) h = expr_sound scope (Expr-F.Cell (slot_number (stands_for site name.text)) (expr_of site index.0)) (suits.cells name h.0, index.1 h.1)
   layer_sound (RawExpr-F.Past token name back) h = expr_sound scope (Expr-F.Past (number_at is_variable site name) back.value) (suits.pasts token name back h.0 h.1.0 h.1.1.0)

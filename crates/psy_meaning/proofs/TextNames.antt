@@ -16,8 +16,15 @@ use Rattle.psy_tree.specs.Grammar.{Numbered, numbered, AgentLocal, Many, Further
 use Rattle.psy_tree.specs.Grammar as grammar
 use Rattle.psy_tree.specs.Scope.{SlotName, scalar, local_slot, slots_of, item_name}
 use Rattle.psy_meaning.specs.Units.{IsName}
-use Rattle.psy_lawful.specs.Declared.{names_in, AreNames}
-use Rattle.psy_lawful.proofs.Tails.{Behind, all_behind, behind_one, behind_local, agent_locals, behind_params, behind_declaration}
+use Rattle.psy_tree.proofs.Tails.{Behind, all_behind, behind_one, behind_local, agent_locals, behind_params, behind_declaration}
+
+-- The names of a declaration: its own, and those of its parameters, variables and arrays
+abbrev pub names_in : Item → List (List ℕ)
+names_in i = (item_name i).text ∷ map (λ s. s.name.text) (slots_of i)
+
+-- Each name that is declared is a word of at most 32 bytes.
+abbrev pub AreNames : Raw → Type 0
+AreNames raw = All IsName (flat_map names_in raw.items)
 
 abbrev NamesIt : Kind → Type 0
 NamesIt (kinds.Name text) = IsName text

@@ -1,7 +1,9 @@
 -- The unit of a program without a fault is sound.
 use Rattle.std.proofs.Common.{◌≡◌, ℕ, suc, ◌+◌, Bool, List, [], ◌∷◌, ◌++◌, map, take, length, Some, refl, sym, ap, subst, ◌∙◌, arith, append-nil}
 use Rattle.std.specs.Prelude.{slice_get}
+use Rattle.std.specs.List.{range_with_len}
 use Rattle.std.proofs.lemmas.List.{length-map}
+use Rattle.std.proofs.lemmas.List.FromFn.{length-range_with_len}
 use Rattle.std.proofs.lemmas.Option.{slice_get_within, get_or_from_slice_get}
 use Rattle.psy_tree.specs.declared.raw.Name.{Name}
 use Rattle.psy_tree.specs.declared.raw.Lit.{Lit}
@@ -15,21 +17,22 @@ use Rattle.psy_tree.specs.declared.unit.Unit.{Unit as Whole}
 use Rattle.psy_tree.specs.declared.unit.FunctionDecl.{FunctionDecl}
 use Rattle.psy_tree.specs.declared.unit.AgentDecl.{AgentDecl}
 use Rattle.psy_tree.specs.Scope.{slots_of}
-use Rattle.psy_tree.specs.Places.{HasBody, slot_places, cells_places, stmts_places, body_places}
-use Rattle.psy_tree.specs.Paths.{quiet_list as raw_quiet_list}
-use Rattle.psy_tree.specs.Rules.{NoFault, is_agent, is_clock}
+use Rattle.psy_tree.specs.Places.{HasBody, inside_places, slot_places, cells_places, stmts_places, body_places}
+use Rattle.psy_tree.specs.Paths.{advances_list, quiet_list as raw_quiet_list}
+use Rattle.psy_tree.specs.Rules.{NoFault, is_agent, is_clock, is_function}
 use Rattle.psy_tree.specs.Stands.{Stands, unit_of, inside_of, counting, global_number, head_point, local_value, agent_with, stmts_of, functions, agents, each_from}
 use Rattle.psy_meaning.specs.Sound.{AreSound, function_scope, AreSoundFunctions, agent_scope, IsSoundAgent, IsSoundUnit}
-use Rattle.psy_rules.proofs.Advances.{function_quiet}
-use Rattle.psy_rules.proofs.Counting.{each_from_more}
-use Rattle.psy_rules.proofs.Limits.{few_of}
-use Rattle.psy_lawful.proofs.Numbers.{agent_from}
-use Rattle.psy_lawful.proofs.PathsOf.{quiet_of, points_of, rests_count}
-use Rattle.psy_lawful.proofs.Eaches.{each-first, each-second}
-use Rattle.psy_lawful.proofs.Faultless.{Fine, insides_fine}
-use Rattle.psy_lawful.proofs.SoundStmts.{sound_stmts}
-use Rattle.psy_lawful.proofs.AgentNames.{agent_suits}
-use Rattle.psy_lawful.proofs.FunctionNames.{functions_count, function_suits}
+use Rattle.psy_tree.proofs.Advances.{function_quiet}
+use Rattle.psy_tree.proofs.Numbers.{each_from_more, length-each, gives_functions}
+use Rattle.psy_tree.proofs.Limits.{few_functions}
+use Rattle.psy_tree.proofs.Numbers.{agent_from}
+use Rattle.psy_meaning.proofs.PathsOf.{quiet_of, points_of, numbers_of}
+use Rattle.psy_meaning.proofs.Eaches.{each-among, each-first, each-second}
+use Rattle.psy_tree.proofs.Faultless.{Fine, fine_inside}
+use Rattle.psy_meaning.proofs.SoundStmts.{sound_stmts}
+use Rattle.psy_meaning.proofs.AgentNames.{agent_suits}
+use Rattle.psy_meaning.proofs.FunctionNames.{function_suits}
+use Rattle.psy_meaning.proofs.Literals.{locals_fit, slots_fit, variables_fit}
 
 only : {X : Type 0} (x y : X) → x ∷ [] ≡ y ∷ [] → x ≡ y
 only x y e = cc
@@ -49,13 +52,14 @@ module _ (raw : Raw) (fault : NoFault raw) where
       let i = item.Function name params locals stmts in
       let f = function_of k name params locals stmts in
       let site = inside_of raw.items k in
-      let behind = each-second (Fine site) (slot_places 0 (slots_of i)) (body_places i) (insides_fine raw fault k i own) in
+      let inside = each-among (Fine site) (inside_places i) (λ p there. fine_inside raw fault k i p own there) in
+      let behind = each-second (Fine site) (slot_places 0 (slots_of i)) (body_places i) inside in
       sound_stmts site (function_scope (before k) depths streams f) (function_suits raw.items k name params locals stmts f depths streams own (omega (arith, length-map locals local_value)))
       stmts (each-second (Fine site) (cells_places locals) (stmts_places stmts) behind) [] (omega (arith, function_quiet raw k name params locals stmts fault own))
 
   -- what one declaration gives, in front of others
   one_sound : (k : ℕ) (i : Item) (rest : List FunctionDecl) → slice_get raw.items k ≡ Some i → AreSoundFunctions (before k ++ functions raw.items k i) rest → AreSoundFunctions (before k) (functions raw.items k i ++ rest)
-  one_sound k (item.Function name params locals stmts) rest own h = (λ depths streams. function_sound k name params locals stmts depths streams own, h)
+  one_sound k (item.Function name params locals stmts) rest own h = (record { stmts = λ depths streams. function_sound k name params locals stmts depths streams own; locals = locals_fit locals }, h)
   one_sound k _ rest own h = subst (λ l. AreSoundFunctions l rest) (append-nil (before k)) h
 
   functions_sound : (k : ℕ) (xs : List Item) → ((j : ℕ) → slice_get raw.items (k + j) ≡ slice_get xs j) → AreSoundFunctions (before k) (each_from (functions raw.items) k xs)
@@ -81,16 +85,21 @@ module _ (raw : Raw) (fault : NoFault raw) where
       let head = head_point (global_number is_clock raw.items clock) budget.value in
       let agent = agent_with raw.items name clock budget locals (stmts_of site stmts (head ∷ [])) in
       let last = HasBody body (raw_quiet_list stmts) ∷ [] in
-      let behind = each-second (Fine site) (slot_places 0 (slots_of i)) (body_places i) (insides_fine raw fault k i own) in
+      let inside = each-among (Fine site) (inside_places i) (λ p there. fine_inside raw fault k i p own there) in
+      let behind = each-second (Fine site) (slot_places 0 (slots_of i)) (body_places i) inside in
       let cells = each-first (Fine site) (cells_places locals) (stmts_places stmts ++ last) behind in
       let below = each-second (Fine site) (cells_places locals) (stmts_places stmts ++ last) behind in
       let ends = (each-second (Fine site) (stmts_places stmts) last below).0 in
       let count = points_of site stmts (head ∷ []) in
+      let order = numbers_of site stmts (head ∷ []) in
+      let many = ap length order ∙ length-range_with_len 1 (advances_list stmts) in
       let suits = agent_suits raw fault k name clock budget locals body stmts agent own refl cells in
       record {
         stmts = sound_stmts site (agent_scope (unit_of raw) (counting is_agent (take k raw.items)) agent) suits stmts (each-first (Fine site) (stmts_places stmts) last below) (head ∷ []) (omega (arith, count));
         ends = quiet_of site stmts (head ∷ []) ∙ ends kind.NoAdvance;
-        points = omega (arith, count, rests_count site stmts (head ∷ []));
+        points = omega (arith, count, many);
+        numbered = order ∙ ap (range_with_len 1) (sym many);
+        values = slots_fit locals;
       }
 
   agent_of : (k : ℕ) (i : Item) (agent : AgentDecl) → slice_get raw.items k ≡ Some i → agents raw.items k i ≡ agent ∷ [] → IsSoundAgent (unit_of raw) (counting is_agent (take k raw.items)) agent
@@ -107,6 +116,7 @@ unit_sound raw unit stands =
     subst IsSoundUnit (sym stands.numbered)
     (record {
       functions = all_functions raw stands.no_fault;
-      few = omega (arith, functions_count raw.items 0 raw.items, (few_of raw.items stands.within_limits).functions);
+      few = omega (arith, length-each is_function (functions raw.items) (gives_functions raw.items) 0 raw.items, few_functions raw.items stands.within_limits);
       agents = all_agents raw stands.no_fault;
+      values = variables_fit raw.items raw.items;
     })

@@ -3,7 +3,6 @@ use Rattle.std.proofs.Common.{◌≡◌, ℕ, zero, suc, ◌+◌, ◌<◌, Bool,
 use Rattle.std.specs.Prelude.{◌&&◌, ◌||◌, nat_le, slice_get}
 use Rattle.std.proofs.lemmas.Bool.{not-false, and_parts}
 use Rattle.std.proofs.lemmas.List.{length-append, length-map}
-use Rattle.std.proofs.lemmas.List.Sums.{sum_by-cons}
 use Rattle.psy_tree.specs.declared.raw.Name.{Name}
 use Rattle.psy_tree.specs.declared.raw.Local.{Local}
 use Rattle.psy_tree.specs.declared.raw.RawStmt.{RawStmt}
@@ -19,10 +18,11 @@ use Rattle.psy_tree.specs.Places.{Acts}
 use Rattle.psy_tree.specs.Rules.{is_none, is_agent, is_function, is_temporal, has_params, in_agent, in_function, slot_is_array, function_from, unsuited, below}
 use Rattle.psy_tree.specs.Stands.{inside_of, counting, number_of_item, slot_number, functions, each_from}
 use Rattle.psy_meaning.specs.Sound.{Scope, HasSlot, HasFunction, function_scope}
-use Rattle.psy_lawful.proofs.Lists.{slice_get-behind}
-use Rattle.psy_lawful.proofs.Faultless.{Fine}
-use Rattle.psy_lawful.proofs.SoundExprs.{HasValue, Suits}
-use Rattle.psy_lawful.proofs.Standing.{second_false, function_is}
+use Rattle.psy_tree.proofs.Lists.{slice_get-behind}
+use Rattle.psy_tree.proofs.Numbers.{length-each, gives_functions}
+use Rattle.psy_tree.proofs.Faultless.{Fine}
+use Rattle.psy_meaning.proofs.SoundExprs.{HasValue, Suits}
+use Rattle.psy_tree.proofs.Standing.{second_false, function_is}
 
 -- ---- the functions above
 
@@ -41,22 +41,6 @@ given_at f m (x ∷ xs) (suc j) (suc n) i a less own gives =
     ap (slice_get (f m x ++ each_from f (m + 1) (take n xs))) e
     ∙ slice_get-behind (f m x) (each_from f (m + 1) (take n xs)) (length (each_from f (m + 1) (take j xs)))
     ∙ given_at f (m + 1) xs j n i a (omega (arith, less)) own (ap (λ k. f k i) next ∙ gives)
-
-one_function : (items : List Item) (k : ℕ) (i : Item) → length (functions items k i) ≡ cond (is_function (Some i)) 1 0
-one_function items k (item.Function name params locals stmts) = refl
-one_function items k _ = refl
-
-pub functions_count : (items : List Item) (k : ℕ) (xs : List Item) → length (each_from (functions items) k xs) ≡ counting is_function xs
-functions_count items k [] = refl
-functions_count items k (x ∷ xs) =
-    let others = each_from (functions items) (k + 1) xs in
-    omega (
-      arith,
-      length-append (functions items k x) others,
-      one_function items k x,
-      functions_count items (k + 1) xs,
-      sum_by-cons (λ i. cond (is_function (Some i)) 1 0) x xs,
-    )
 
 -- ---- slots
 
@@ -116,7 +100,7 @@ module _ (items : List Item) (k : ℕ) (name : Name) (params : List Name) (local
       let less = leb-false k j (second_false (is_function (slice_get items j)) (nat_le k j) (ap is_function is) up) in
       let z : 0 + j ≡ j = omega arith in (
         _,
-        ap (slice_get (each_from (functions items) 0 (take k items))) (sym (functions_count items 0 (take j items)))
+        ap (slice_get (each_from (functions items) 0 (take k items))) (sym (length-each is_function (functions items) (gives_functions items) 0 (take j items)))
             ∙ given_at (functions items) 0 items j k (item.Function n ps ls ss) _ less is (ap (λ m. functions items m (item.Function n ps ls ss)) z),
         sym same,
       )
@@ -131,5 +115,6 @@ module _ (items : List Item) (k : ℕ) (name : Name) (params : List Name) (local
     pasts = λ token n back a c l. no_word token a;
     messages = λ token n a c. no_word token a;
     calls = λ n count c. call_in (stands_for site n.text) count (c kind.Unknown) (c kind.WrongKind) (c kind.CallsDown);
+    sends = λ token stream after clock a t d c. no_word token a;
     returns = λ token c. refl;
   }
