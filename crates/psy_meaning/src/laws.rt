@@ -1,18 +1,26 @@
 //! Laws of the definitions, each the contract of a function that does nothing.
 
-ghost use Rattle.std.specs.Prelude.{◌≡◌, ℕ, ◌<◌, List, length, slice_get, Some};
+ghost use Rattle.std.specs.Prelude.{◌≡◌, ◌<◌, ◌≤◌, ◌*◌, ℕ, List, length, slice_get, Some};
 ghost use Rattle.psy_arith.specs.declared.operators.Trap.{Trap};
+ghost use Rattle.psy_base.specs.declared.limits.TheConstants.{FILE_BYTES};
+ghost use Rattle.psy_tree.specs.declared.raw.Raw.{Raw};
+ghost use Rattle.psy_tree.specs.declared.token.Token.{Token};
 ghost use Rattle.psy_tree.specs.declared.unit.AgentDecl.{AgentDecl};
 ghost use Rattle.psy_tree.specs.declared.unit.FunctionDecl.{FunctionDecl};
 ghost use Rattle.psy_tree.specs.declared.unit.Unit.{Unit as Whole};
+ghost use Rattle.psy_tree.specs.Grammar.{Spells};
+ghost use Rattle.psy_tree.specs.Stands.{Stands};
+ghost use Rattle.psy_tree.specs.Tokens.{TokensOf};
 ghost use Rattle.psy_code.specs.Views.{View, nothing_done};
 ghost use Rattle.psy_meaning.specs.Alike.{IsStoreOf, IsViewOf, begun, first_store};
 ghost use Rattle.psy_meaning.specs.Kept.{IsKept};
 ghost use Rattle.psy_meaning.specs.States.{State, Store, Final, Ended, Trapped, Halts};
 ghost use Rattle.psy_meaning.specs.Rest.{rest};
+ghost use Rattle.psy_meaning.specs.Sizes.{unit_size};
 ghost use Rattle.psy_meaning.specs.Sound.{IsSoundUnit};
 ghost use Rattle.psy_meaning.specs.Statements.{Piece, act};
 ghost use Rattle.psy_meaning.specs.Paths.{NoneAdvances};
+ghost use Rattle.psy_meaning.specs.Units.{IsOfText};
 ghost use Rattle.psy_meaning.specs.Ways.{Meter, IsWay, IsFrontOf, met_by};
 
 /// What an action does up to an `advance` is a way to it.
@@ -38,4 +46,17 @@ pub fn keeps()
     ensures action { (unit : Whole) (number : ℕ) (agent : AgentDecl) (point : ℕ) (store : Store) (view : View) → IsSoundUnit unit → slice_get unit.agents number ≡ Some agent → point < length agent.points → IsStoreOf unit number agent store → IsViewOf unit number view
         → (final : Final) × (act unit.functions (rest agent.stmts point) (begun store view) ≡ Halts final) × IsKept unit number agent final }
     ensures first { (unit : Whole) (number : ℕ) (agent : AgentDecl) → IsSoundUnit unit → slice_get unit.agents number ≡ Some agent → IsStoreOf unit number agent (first_store unit number agent) }
+{}
+
+/// The statements of a unit that a program's tree stands for name what they can name, and no function of it holds an
+/// `advance`.
+pub fn sound()
+    ensures unit { (raw : Raw) (unit : Whole) → Stands unit raw → IsSoundUnit unit }
+    ensures functions { (unit : Whole) → IsSoundUnit unit → NoneAdvances unit.functions }
+{}
+
+/// A unit that the tree of a text stands for is one of a text, with at most two instructions a token.
+pub fn of_text()
+    ensures unit { (bytes : List ℕ) (tokens : List Token) (raw : Raw) (unit : Whole) → length bytes ≤ FILE_BYTES → TokensOf bytes tokens → Spells raw tokens → Stands unit raw → IsOfText unit }
+    ensures size { (tokens : List Token) (raw : Raw) (unit : Whole) → Spells raw tokens → Stands unit raw → unit_size unit ≤ 2 * length tokens }
 {}
