@@ -13,8 +13,6 @@ mod points;
 mod reach;
 mod stack;
 mod statements;
-#[cfg(test)]
-mod tests;
 mod tops;
 mod ways;
 
