@@ -5,5 +5,6 @@ pub mod Layers
 pub mod NoWays
 pub mod OpenWays
 pub mod Rests
+pub mod RestsOf
 mod Runs
 mod StatementRuns
