@@ -6,6 +6,7 @@ pub mod Layers
 pub mod NoWays
 pub mod OpenWays
 pub mod Rests
+pub mod RestsOf
 pub mod SoundParts
 pub mod SoundPaths
 mod Runs
