@@ -10,21 +10,21 @@ use Rattle.psy_meaning.specs.Sizes.{total, binary_size, expr_size_step, expr_siz
 use Rattle.psy_meaning.specs.Depths.{Depth, shallow, deepest, stacked, binary_depth, expr_depth_step, expr_depth, stmt_depth_step, stmt_depth, stmts_depth, loops_step, loops, loops_in}
 
 -- Neither number is greater.
-pub record Below (most : ℕ) (d : Depth) : Type 0 where
-  pub operands : d.operands ≤ most
-  pub cells : d.cells ≤ most
+pub record Below (most d : Depth) : Type 0 where
+  pub operands : d.operands ≤ most.operands
+  pub cells : d.cells ≤ most.cells
 
 -- The operands are at most the size, and the functions' on top of these.
-pub record Bounded (most : ℕ) (d : Depth) (size : ℕ) : Type 0 where
-  pub operands : d.operands ≤ size + most
-  pub cells : d.cells ≤ most
+pub record Bounded (most d : Depth) (size : ℕ) : Type 0 where
+  pub operands : d.operands ≤ size + most.operands
+  pub cells : d.cells ≤ most.cells
 
-pub below_at : (most : ℕ) (ds : List Depth) (i : ℕ) → Below most (deepest ds) → Below most (slice_index_or ds i shallow)
+pub below_at : (most : Depth) (ds : List Depth) (i : ℕ) → Below most (deepest ds) → Below most (slice_index_or ds i shallow)
 below_at most [] i b = b
 below_at most (d ∷ ds) zero b = record { operands = omega arith; cells = omega arith }
 below_at most (d ∷ ds) (suc i) b = below_at most ds i (record { operands = omega arith; cells = omega arith })
 
-module _ (functions : List Depth) (most : ℕ) (below : Below most (deepest functions)) where
+module _ (functions : List Depth) (most : Depth) (below : Below most (deepest functions)) where
   abbrev depth : Expr → Depth
   depth = expr_depth functions
 

@@ -8,13 +8,12 @@ mod depths;
 mod expressions;
 mod flow;
 mod gauge;
+mod laws;
 mod next;
 mod points;
 mod reach;
 mod stack;
 mod statements;
-#[cfg(test)]
-mod tests;
 mod tops;
 mod ways;
 

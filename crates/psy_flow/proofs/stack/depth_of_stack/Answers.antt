@@ -1,6 +1,16 @@
-use Rattle.std.proofs.Common.{◌∙◌}
-use Rattle.psy_flow.proofs.Uncapped.{counted_is}
+use Rattle.std.proofs.Common.{ap, ◌∙◌, arith}
+use Rattle.psy_meaning.specs.Depths.{Depth}
+use Rattle.psy_flow.proofs.Lists.{there}
+use Rattle.psy_flow.proofs.Uncapped.{agent_known}
 use Rattle.psy_flow.proofs.stack.depth_of_stack.Goals as goal
 
-pub returns : goal.returns
-returns c a e = c.counted_depth.ensures a e ∙ counted_is c.args.unit.now c.args.agent a c.requires.text e
+pub returns-clause-depth : goal.returns-clause-depth
+returns-clause-depth c a e = c.counted_depth.ensures a e ∙ (agent_known c.args.unit.now c.args.agent a c.requires.text e).counted
+
+pub returns-clause-within : goal.returns-clause-within
+returns-clause-within c =
+    let unit = c.args.unit.now in
+    let (a, e) = there unit.agents c.args.agent c.requires.agent in
+    let known = agent_known unit c.args.agent a c.requires.text e in
+    let is = c.counted_depth.ensures a e ∙ known.counted in
+    (omega (arith, ap (λ (d : Depth). d.operands) is, known.below.operands), omega (arith, ap (λ (d : Depth). d.cells) is, known.below.cells))
