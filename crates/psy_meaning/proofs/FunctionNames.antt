@@ -1,5 +1,5 @@
 -- What names without a fault stand for in a function can be named there.
-use Rattle.std.proofs.Common.{◌≡◌, ℕ, zero, suc, ◌+◌, ◌<◌, Bool, true, false, cond, List, [], ◌∷◌, ◌++◌, map, take, replicate, length, Option, Some, None, refl, sym, ap, ◌∙◌, arith, leb-false}
+use Rattle.std.proofs.Common.{◌≡◌, ℕ, zero, suc, ◌+◌, ◌<◌, Bool, true, false, List, [], ◌∷◌, ◌++◌, map, take, replicate, length, Option, Some, None, refl, sym, ap, ◌∙◌, arith, leb-false}
 use Rattle.std.specs.Prelude.{◌&&◌, ◌||◌, nat_le, slice_get}
 use Rattle.std.proofs.lemmas.Bool.{not-false, and_parts}
 use Rattle.std.proofs.lemmas.List.{length-append, length-map}
@@ -16,7 +16,7 @@ use Rattle.psy_tree.specs.declared.unit.FunctionDecl.{FunctionDecl}
 use Rattle.psy_tree.specs.Scope.{Site, SlotName, scalar, local_slot, own_slots, slots_at, stands_for}
 use Rattle.psy_tree.specs.Places.{Acts}
 use Rattle.psy_tree.specs.Rules.{is_none, is_agent, is_function, is_temporal, has_params, in_agent, in_function, slot_is_array, function_from, unsuited, below}
-use Rattle.psy_tree.specs.Stands.{inside_of, counting, number_of_item, slot_number, functions, each_from}
+use Rattle.psy_tree.specs.Stands.{inside_of, number_of_item, slot_number, functions, each_from}
 use Rattle.psy_meaning.specs.Sound.{Scope, HasSlot, HasFunction, function_scope}
 use Rattle.psy_tree.proofs.Lists.{slice_get-behind}
 use Rattle.psy_tree.proofs.Numbers.{length-each, gives_functions}

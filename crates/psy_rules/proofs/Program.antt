@@ -1,12 +1,9 @@
-use Rattle.std.proofs.Common.{◌≡◌, ℕ, zero, suc, ◌+◌, ◌<◌, ◌≤◌, false, List, [], ◌∷◌, ◌++◌, take, length, get_or, Option, Some, None, refl, sym, ap, ◌∙◌, subst, inl, inr, ◌⊎◌, arith, append_assoc, append-nil}
-use Rattle.std.specs.Prelude.{slice_get, IfSome}
+use Rattle.std.proofs.Common.{◌≡◌, ℕ, ◌+◌, ◌<◌, ◌≤◌, false, List, [], ◌∷◌, ◌++◌, take, length, get_or, Option, None, sym, ap, ◌∙◌, arith, append_assoc, append-nil}
 use Rattle.std.proofs.lemmas.List.{take_more, take_all, length-take}
-use Rattle.psy_clock.specs.declared.clock.Clock.{Clock}
-use Rattle.psy_clock.specs.Dates.{IsClock}
 use Rattle.psy_tree.specs.declared.raw.Item.{Item}
 use Rattle.psy_tree.specs.declared.raw.Raw.{Raw}
 use Rattle.psy_tree.specs.Places.{Ranges, Sited, item_places, places_from, places}
-use Rattle.psy_tree.specs.Rules.{sound, sounds_from, sound_clocks}
+use Rattle.psy_tree.specs.Rules.{sounds_from, sound_clocks}
 use Rattle.psy_rules.specs.declared.least.Fault.{Fault}
 use Rattle.psy_rules.specs.Judged.{judged_sited}
 use Rattle.psy_rules.proofs.Items.{sited_append}

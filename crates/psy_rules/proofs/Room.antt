@@ -1,5 +1,5 @@
 -- The `advance` statements of a declaration have room among its points.
-use Rattle.std.proofs.Common.{◌≡◌, ℕ, ◌≤◌, List, Some, arith}
+use Rattle.std.proofs.Common.{◌≡◌, ℕ, ◌≤◌, Some, arith}
 use Rattle.std.specs.Prelude.{slice_get}
 use Rattle.psy_tree.specs.declared.raw.Item.{Item}
 use Rattle.psy_tree.specs.declared.raw.Item.TheVariants as item

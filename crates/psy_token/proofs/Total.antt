@@ -2,7 +2,7 @@
 use Rattle.std.proofs.Common.{◌≡◌, ℕ, zero, suc, ◌+◌, ◌<◌, ◌≤◌, List, [], ◌∷◌, ◌++◌, length, refl, ap, sym, subst, ◌∙◌, ◌⊎◌, inl, inr, arith, codes}
 use Rattle.std.proofs.lemmas.List.{append_assoc, length-append}
 use Rattle.psy_tree.specs.declared.token.Token.{Token}
-use Rattle.psy_tree.specs.Tokens.{Piece, Separator, Lexeme, bytes_of, text_of, Stands, AllStand, Splits, tokens_from, TokensOf}
+use Rattle.psy_tree.specs.Tokens.{Piece, Separator, Lexeme, bytes_of, text_of, Stands, Splits, tokens_from, TokensOf}
 use Rattle.psy_tree.specs.Faults.{Fault, IsAtFault, FirstFault}
 use Rattle.psy_tree.proofs.TokenCounts.{kind_bytes}
 use Rattle.psy_token.specs.Reading.{Front, End, Whole, Faulty, front_of}
