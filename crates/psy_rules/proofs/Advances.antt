@@ -1,6 +1,7 @@
 -- Where an `advance` stands there is a place for its word.
 use Rattle.std.proofs.Common.{◌≡◌, ℕ, zero, suc, ◌+◌, ◌<◌, ◌≤◌, Bool, true, false, cond, List, [], ◌∷◌, ◌++◌, map, Option, Some, None, refl, sym, ap, ◌∙◌, subst, inl, inr, arith}
 use Rattle.std.specs.Prelude.{nat_lt, is_some, slice_get}
+use Rattle.psy_base.specs.declared.limits.TheConstants.{POINTS}
 use Rattle.psy_tree.specs.declared.raw.RawExpr.{RawExpr}
 use Rattle.psy_tree.specs.declared.raw.Lit.{Lit}
 use Rattle.psy_tree.specs.declared.raw.RawStmt.{RawStmt, ind-RawStmt, roll-RawStmt, map-RawStmt, fold-roll-RawStmt}
@@ -16,7 +17,7 @@ use Rattle.psy_tree.specs.Scope.{Site, slots_of}
 use Rattle.psy_tree.specs.Places.{Place, Acts, Loops, Sited, expr_places, most_places, stmt_places, stmts_places, slot_places, cells_places, head_places, inside_places, all_at, item_places, places_from, places}
 use Rattle.psy_tree.specs.Paths.{advances, advances_step, advances_list, quiet_list}
 use Rattle.psy_tree.specs.Rules.{NoFault, is_function}
-use Rattle.psy_rules.specs.Lowered.{stmts_in}
+use Rattle.psy_tree.specs.Scope.{item_stmts}
 use Rattle.psy_rules.proofs.LeastFaults.{Among, contains}
 use Rattle.psy_rules.proofs.Limits.{NonePasses, points_within}
 use Rattle.psy_rules.proofs.Equations.{places_if, places_if_else, places_while, places_advance}
@@ -166,7 +167,7 @@ pub function_quiet : (raw : Raw) (k : ℕ) (name : Name) (params : List Name) (l
 function_quiet raw k name params locals stmts sound own =
     none_left (advances_list stmts) (acts (stmts_places stmts)) (advances-le_acts stmts) (no_act raw k name params locals stmts sound own)
 
-pub room_of : (raw : Raw) → NoFault raw → NonePasses raw.items → (k : ℕ) (i : Item) → slice_get raw.items k ≡ Some i → advances_list (stmts_in i) ≤ 256
+pub room_of : (raw : Raw) → NoFault raw → NonePasses raw.items → (k : ℕ) (i : Item) → slice_get raw.items k ≡ Some i → advances_list (item_stmts i) ≤ POINTS
 room_of raw sound few k (item.Function name params locals stmts) own = omega (arith, function_quiet raw k name params locals stmts sound own)
 room_of raw sound few k (item.Agent name clock budget locals body stmts) own = omega (arith, points_within raw.items few k (item.Agent name clock budget locals body stmts) own)
 room_of raw sound few k _ own = omega arith
