@@ -316,7 +316,11 @@ fn locals<'a>(
 
 /// A local, behind the word `int`.
 #[tactic(auto, unfolding(crate::specs::Reading::local_at))]
-fn local<'a>(alloc: Global, arrays: bool, cursor: Cursor<'a>) -> Result<(Local, Cursor<'a>), Failure>
+fn local<'a>(
+    alloc: Global,
+    arrays: bool,
+    cursor: Cursor<'a>,
+) -> Result<(Local, Cursor<'a>), Failure>
     ensures { Gives (λ x. (x.0, left x.1)) result (local_at arrays (left cursor.entry)) }
 {
     let (name, rest) = name(alloc, cursor)?;

@@ -37,7 +37,11 @@ pub fn block<'a>(
 /// A statement, by its first word.
 #[cycle(stmt)]
 #[tactic(auto, unfolding(crate::specs::Reading::stmt_at))]
-fn stmt<'a>(alloc: Global, depth: usize, cursor: Cursor<'a>) -> Result<(RawStmt, Cursor<'a>), Failure>
+fn stmt<'a>(
+    alloc: Global,
+    depth: usize,
+    cursor: Cursor<'a>,
+) -> Result<(RawStmt, Cursor<'a>), Failure>
     ensures { Gives (λ x. (x.0, left x.1)) result (stmt_at (expr_at depth 10) (block_at depth []) (left cursor.entry)) }
 {
     if let Some((_, rest)) = after_word(cursor, Word::If) {
@@ -117,7 +121,11 @@ fn block_in_braces<'a>(
 
 /// An expression in round brackets.
 #[tactic(auto, unfolding(crate::specs::Reading::test_at))]
-fn test<'a>(alloc: Global, depth: usize, cursor: Cursor<'a>) -> Result<(RawExpr, Cursor<'a>), Failure>
+fn test<'a>(
+    alloc: Global,
+    depth: usize,
+    cursor: Cursor<'a>,
+) -> Result<(RawExpr, Cursor<'a>), Failure>
     ensures { Gives (λ x. (x.0, left x.1)) result (test_at (expr_at depth 10) (left cursor.entry)) }
 {
     let rest = sign(cursor, Sign::OpenRound)?;

@@ -9,7 +9,9 @@ ghost use Rattle.psy_rules.specs.Sites.{site_of, IsScope};
 ghost use Rattle.psy_rules.specs.Judged.{judged};
 
 use crate::least::Least;
-use crate::scope::{Scope, declared_depth, is_agent, is_clock, is_function, is_stream, is_temporal};
+use crate::scope::{
+    Scope, declared_depth, is_agent, is_clock, is_function, is_stream, is_temporal,
+};
 use psy_tree::{Asks, Found, Item, Lit, Name, RuleKind};
 use sqlite_items::at;
 
