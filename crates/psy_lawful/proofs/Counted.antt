@@ -34,7 +34,7 @@ a_number [] is = absurd is
 a_number (b ∷ bytes) is = omega arith
 
 -- no spelling is empty
-spelled : (kind : Kind) (bytes : List ℕ) → lexemes.Spells kind bytes → 0 < length bytes
+spelled : (kind : Kind) (bytes : List ℕ) → lexemes.IsSpelling kind bytes → 0 < length bytes
 spelled (kinds.Word w) bytes is = omega (arith, ap length is, spelled_word w)
 spelled (kinds.Name name) bytes (is, word, short, other) = omega (arith, ap length is, a_word name word)
 spelled (kinds.Number number) bytes (digits, is, small) = a_number bytes digits
