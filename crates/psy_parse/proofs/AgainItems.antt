@@ -159,15 +159,15 @@ reading_from_spells n {tokens = tokens} (grammar.Spells.program {quantum = quant
     rw (e, quantum_again a b quantum ts, program_again n [] p enough) refl
 
 -- it is the only one
-pub one_tree : (tokens : List Token) (raw other : Raw) → text_at (length tokens + 1) (numbered 0 tokens) ≡ Ok raw → Spells other tokens → other ≡ raw
-one_tree tokens raw other read s =
+pub only_tree : (tokens : List Token) (raw other : Raw) → text_at (length tokens + 1) (numbered 0 tokens) ≡ Ok raw → Spells other tokens → other ≡ raw
+only_tree tokens raw other read s =
     let again = reading_from_spells (length tokens + 1) s (omega arith) in
     let same : ◌≡◌ {A = Result Raw ℕ} (Ok other) (Ok raw) = sym again ∙ read in
     cc
 
 -- tokens have one tree at most
 pub Spells-unique : (tokens : List Token) (raw other : Raw) → Spells raw tokens → Spells other tokens → raw ≡ other
-Spells-unique tokens raw other s t = one_tree tokens other raw (reading_from_spells (length tokens + 1) t (omega arith)) s
+Spells-unique tokens raw other s t = only_tree tokens other raw (reading_from_spells (length tokens + 1) t (omega arith)) s
 
 -- where reading can't go on, there is none
 pub no_tree : (tokens : List Token) (n : ℕ) → text_at (length tokens + 1) (numbered 0 tokens) ≡ Err n → (raw : Raw) → Spells raw tokens → ⊥
