@@ -1,5 +1,8 @@
 //! The rules: programs that keep each and programs that break it.
+use crate::refusal::Refusal;
 use crate::tests::{SOUND, compare};
+use psy_base::limits;
+use psy_tree::Count;
 use std::alloc::Global;
 use std::test::Fail;
 
@@ -574,6 +577,34 @@ fn counts_have_limits(rt: HostRuntime) -> Result<(), Fail> {
         compare(&rt, &words, within.as_bytes(), SOUND, 1, "not built\n")?;
         let beyond = program_of(rt.alloc(), &counted, counted.many + 1)?;
         compare(&rt, &words, beyond.as_bytes(), SOUND, 7, counted.line)?;
+    }
+    Ok(())
+}
+
+#[test]
+fn lines_of_limits_have_their_numbers(rt: HostRuntime) -> Result<(), Fail> {
+    let cases = [
+        (Refusal::LongProgram, "program", limits::FILE_BYTES),
+        (Refusal::Many(Count::Clocks), "clocks", limits::CLOCKS),
+        (Refusal::Many(Count::Agents), "agents", limits::AGENTS),
+        (
+            Refusal::Many(Count::Variables),
+            "variables",
+            limits::VARIABLES,
+        ),
+        (Refusal::Many(Count::Streams), "streams", limits::STREAMS),
+        (
+            Refusal::Many(Count::Functions),
+            "functions",
+            limits::FUNCTIONS,
+        ),
+        (Refusal::Many(Count::Names), "names", limits::NAMES),
+        (Refusal::Many(Count::Points), "points", limits::POINTS),
+    ];
+    for (refusal, name, limit) in cases {
+        let line = refusal.line();
+        let want = format!(in rt.alloc(); "limit {name} {limit}\n")?;
+        assert_eq!(rt; line.bytes(), want.as_bytes(), "the line of {name}");
     }
     Ok(())
 }
