@@ -54,11 +54,7 @@ enum ReadFault {
 }
 
 // Adds the bytes of the file, at most one more than a shelf gives, and counts those that it takes.
-fn read_some<F: Read>(
-    file: &mut F,
-    bytes: &mut Vec<u8>,
-    taken: &mut usize,
-) -> Result<(), ReadFault>
+fn read_some<F: Read>(file: &mut F, bytes: &mut Vec<u8>, taken: &mut usize) -> Result<(), ReadFault>
     requires empty { vec_len bytes.old ≡ 0 }
     requires none { taken.old ≡ 0 }
     ensures most { taken.new ≤ FILE_BYTES + 1 }
@@ -137,7 +133,12 @@ mod tests {
             ("fetched.txt", Ok(4), 0, 4),
             ("absent.txt", Err(FetchFault::Failed), 1, 0),
             ("/dev/null", Ok(0), 1, 0),
-            ("/dev/zero", Err(FetchFault::TooLong), 1, limits::FILE_BYTES + 1),
+            (
+                "/dev/zero",
+                Err(FetchFault::TooLong),
+                1,
+                limits::FILE_BYTES + 1,
+            ),
             (".", Err(FetchFault::Failed), 2, 0),
         ];
         for (name, want, faults, taken) in cases {
