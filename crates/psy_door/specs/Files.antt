@@ -1,8 +1,9 @@
 -- What a shelf holds, where it tells it.
-use Rattle.std.specs.Prelude.{ℕ, List, [], min, Option, None, Some, unwrap_or, option_map, find, bytes_eq}
+use Rattle.std.specs.Prelude.{ℕ, ◌+◌, List, [], min, Option, None, Some, unwrap_or, option_map, find, bytes_eq}
 use Rattle.std.specs.Ordering.{nat_cmp}
 use Rattle.std.specs.Cmp.Lexicographic.{slice_cmp}
 use Rattle.std.specs.FinMap.{FinMap, get, from_entries}
+use Rattle.psy_base.specs.declared.limits.TheConstants.{FILE_BYTES}
 
 -- files by name: a finite map from the bytes of a name to the bytes of the file
 abbrev pub Files : Type 0
@@ -31,4 +32,4 @@ named name pairs = option_map (λ p. p.1) (find (λ p. bytes_eq name p.0) pairs)
 
 -- the bytes that a call takes from a file of this length: all, but at most one more than a shelf gives
 abbrev pub taken_of : ℕ → ℕ
-taken_of bytes = min bytes 262145
+taken_of bytes = min bytes (FILE_BYTES + 1)

@@ -1,4 +1,5 @@
 ghost use Rattle.std.specs.Prelude.{◌≡◌, ◌≢◌, ◌<◌, ◌≤◌, Some, [], map, length, vec_len, IfOk};
+ghost use Rattle.psy_base.specs.declared.limits.TheConstants.{FILE_BYTES};
 ghost use Rattle.psy_door.specs.Files.{files_of, bytes_under, taken_of};
 
 use crate::files;
@@ -46,11 +47,11 @@ impl Shelf for CleanShelf {
         ensures state { self.new ≡ record self.old {
           taken = taken_of (length (bytes_under (files_of self.old.files) name.now));
         } }
-        ensures within { IfOk result (λ bytes. vec_len bytes ≤ 262144) }
+        ensures within { IfOk result (λ bytes. vec_len bytes ≤ FILE_BYTES) }
         ensures whole { IfOk result (λ bytes. bytes.items ≡ bytes_under (files_of self.old.files) name.now) }
         ensures never { result ≢ Err FetchFault.Failed }
         ensures longer { result ≡ Err FetchFault.TooLong →
-            262144 < length (bytes_under (files_of self.old.files) name.now) }
+            FILE_BYTES < length (bytes_under (files_of self.old.files) name.now) }
     {
         let found = files::bytes_of(self.files.as_slice(), name.as_bytes());
         let bytes = found.unwrap_or(&[]);

@@ -1,4 +1,5 @@
-ghost use Rattle.std.specs.Prelude.{◌≡◌, ◌≢◌, ◌<◌, ◌≤◌, None, [], ⊤, vec_len, IfOk};
+ghost use Rattle.std.specs.Prelude.{◌≡◌, ◌≢◌, ◌+◌, ◌<◌, ◌≤◌, None, [], ⊤, vec_len, IfOk, OnOk};
+ghost use Rattle.psy_base.specs.declared.limits.TheConstants.{FILE_BYTES};
 ghost use Rattle.psy_door.specs.Faults.{Rose};
 ghost use Rattle.psy_door.specs.States.{counted_up};
 
@@ -52,10 +53,12 @@ enum ReadFault {
     Memory(AllocError),
 }
 
-// Adds the bytes of the file, at most one more than a shelf gives.
-fn read_some<F: Read>(file: &mut F, bytes: &mut Vec<u8>) -> Result<(), ReadFault>
-    requires { vec_len bytes.old ≤ 262145 }
-    ensures { vec_len bytes.new ≤ 262145 }
+// Adds the bytes of the file, at most one more than a shelf gives, and counts those that it takes.
+fn read_some<F: Read>(file: &mut F, bytes: &mut Vec<u8>, taken: &mut usize) -> Result<(), ReadFault>
+    requires empty { vec_len bytes.old ≡ 0 }
+    requires none { taken.old ≡ 0 }
+    ensures most { taken.new ≤ FILE_BYTES + 1 }
+    ensures all { OnOk result (vec_len bytes.new ≡ taken.new) }
 {
     let mut block = [0u8; BLOCK];
     'filling: while bytes.len() <= limits::FILE_BYTES {
@@ -64,6 +67,7 @@ fn read_some<F: Read>(file: &mut F, bytes: &mut Vec<u8>) -> Result<(), ReadFault
         if n == 0 {
             return Ok(());
         }
+        *taken += n;
         bytes
             .extend_from_slice(&block[..n])
             .map_err(ReadFault::Memory)?;
@@ -82,7 +86,7 @@ impl<'a, R: Files> Shelf for FileShelf<'a, R> {
 
     fn fetch(&mut self, alloc: Global, name: &str) -> Result<Vec<u8>, FetchFault>
         ensures counted { self.old.faults ≤ self.new.faults }
-        ensures within { IfOk result (λ bytes. vec_len bytes ≤ 262144) }
+        ensures within { IfOk result (λ bytes. vec_len bytes ≤ FILE_BYTES) }
         ensures took { IfOk result (λ bytes. self.new.taken ≡ vec_len bytes) }
         // Nothing is told of the bytes.
         ensures untold { IfOk result (λ _. ⊤) }
@@ -91,16 +95,18 @@ impl<'a, R: Files> Shelf for FileShelf<'a, R> {
         ensures same_faults { result ≢ Err FetchFault.Failed → self.new.faults ≡ self.old.faults }
         ensures named { result ≡ Err FetchFault.Failed → self.new.failed_name ≡ name.now }
         ensures same_name { result ≢ Err FetchFault.Failed → self.new.failed_name ≡ self.old.failed_name }
-        ensures too_long { result ≡ Err FetchFault.TooLong → self.new.taken ≡ 262145 }
+        ensures too_long { result ≡ Err FetchFault.TooLong → self.new.taken ≡ FILE_BYTES + 1 }
+        ensures most { self.new.taken ≤ FILE_BYTES + 1 }
     {
         self.taken = 0;
         let asked = Text::from_bytes(alloc, name.as_bytes())?;
         let mut bytes = Vec::new(alloc);
+        let mut taken = 0;
         let outcome = match fs::open(self.files, name) {
-            Ok(mut file) => read_some(&mut file, &mut bytes),
+            Ok(mut file) => read_some(&mut file, &mut bytes, &mut taken),
             Err(error) => Err(ReadFault::System(error)),
         };
-        self.taken = bytes.len();
+        self.taken = taken;
         match outcome {
             Err(ReadFault::System(_)) => {
                 self.faults = self.faults.saturating_add(1);
@@ -124,16 +130,22 @@ mod tests {
         fs::write(&rt, "fetched.txt", "text")?;
         let mut shelf = FileShelf::new(&rt);
         let cases = [
-            ("fetched.txt", Ok(4), 0),
-            ("absent.txt", Err(FetchFault::Failed), 1),
-            ("/dev/null", Ok(0), 1),
-            ("/dev/zero", Err(FetchFault::TooLong), 1),
-            (".", Err(FetchFault::Failed), 2),
+            ("fetched.txt", Ok(4), 0, 4),
+            ("absent.txt", Err(FetchFault::Failed), 1, 0),
+            ("/dev/null", Ok(0), 1, 0),
+            (
+                "/dev/zero",
+                Err(FetchFault::TooLong),
+                1,
+                limits::FILE_BYTES + 1,
+            ),
+            (".", Err(FetchFault::Failed), 2, 0),
         ];
-        for (name, want, faults) in cases {
+        for (name, want, faults, taken) in cases {
             let length = shelf.fetch(rt.alloc(), name).map(|bytes| bytes.len());
             assert_eq!(rt; length, want, "of {name}");
             assert_eq!(rt; shelf.faults, faults, "after {name}");
+            assert_eq!(rt; shelf.taken, taken, "taken of {name}");
         }
         assert_eq!(rt;
             shelf.fetch(rt.alloc(), "fetched.txt")?.as_slice(),

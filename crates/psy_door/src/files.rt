@@ -1,5 +1,6 @@
 ghost use Rattle.std.specs.Prelude.{◌≡◌, ◌≢◌, ◌<◌, ◌≤◌, map, find, bytes_eq, length, vec_len, IfOk};
 ghost use Rattle.std.specs.Option.{option_copied};
+ghost use Rattle.psy_base.specs.declared.limits.TheConstants.{FILE_BYTES};
 ghost use Rattle.psy_door.specs.Files.{named};
 
 use crate::shelf::FetchFault;
@@ -27,9 +28,9 @@ pub fn bytes_of<'a>(files: &'a [(Text, Vec<u8>)], name: &[u8]) -> Option<&'a [u8
 /// A copy of a file that isn't too long.
 pub fn copied(alloc: Global, bytes: &[u8]) -> Result<Vec<u8>, FetchFault>
     ensures ok { IfOk result (λ copy. copy.items ≡ bytes.now) }
-    ensures within { IfOk result (λ copy. vec_len copy ≤ 262144) }
+    ensures within { IfOk result (λ copy. vec_len copy ≤ FILE_BYTES) }
     ensures never { result ≢ Err FetchFault.Failed }
-    ensures too_long { result ≡ Err FetchFault.TooLong → 262144 < length bytes.now }
+    ensures too_long { result ≡ Err FetchFault.TooLong → FILE_BYTES < length bytes.now }
 {
     if bytes.len() > limits::FILE_BYTES {
         return Err(FetchFault::TooLong);

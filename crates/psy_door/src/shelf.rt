@@ -1,4 +1,5 @@
-ghost use Rattle.std.specs.Prelude.{◌≡◌, ◌≢◌, ℕ, ◌<◌, ◌≤◌, List, Option, length, vec_len, IfOk};
+ghost use Rattle.std.specs.Prelude.{◌≡◌, ◌≢◌, ℕ, ◌+◌, ◌<◌, ◌≤◌, List, Option, length, vec_len, IfOk};
+ghost use Rattle.psy_base.specs.declared.limits.TheConstants.{FILE_BYTES};
 ghost use Rattle.psy_door.specs.Faults.{Rose};
 ghost use Rattle.psy_door.specs.Files.{Files, WhereTold, bytes_under};
 
@@ -59,14 +60,18 @@ pub trait Shelf {
     fn fetch(&mut self, alloc: Global, name: &str) -> Result<Vec<u8>, FetchFault>
         ensures same_files { files self.new ≡ files self.old }
         ensures counted { faults self.old ≤ faults self.new }
-        ensures within { IfOk result (λ bytes. vec_len bytes ≤ 262144) }
+        ensures within { IfOk result (λ bytes. vec_len bytes ≤ FILE_BYTES) }
         ensures took { IfOk result (λ bytes. taken self.new ≡ vec_len bytes) }
         ensures whole { IfOk result (λ bytes.
             WhereTold (files self.old) (λ held. bytes.items ≡ bytes_under held name.now)) }
         ensures failed { result ≡ Err FetchFault.Failed → Rose (faults self.old) (faults self.new) }
         ensures named { result ≡ Err FetchFault.Failed → failed_name self.new ≡ name.now }
         ensures same_name { result ≢ Err FetchFault.Failed → failed_name self.new ≡ failed_name self.old }
-        ensures too_long { result ≡ Err FetchFault.TooLong → taken self.new ≡ 262145 }
+        ensures too_long { result ≡ Err FetchFault.TooLong → taken self.new ≡ FILE_BYTES + 1 }
         ensures longer { result ≡ Err FetchFault.TooLong →
-            WhereTold (files self.old) (λ held. 262144 < length (bytes_under held name.now)) };
+            WhereTold (files self.old) (λ held. FILE_BYTES < length (bytes_under held name.now)) }
+
+        // Whatever it answers, it took at most one byte more than it gives, and no more than the file has.
+        ensures most { taken self.new ≤ FILE_BYTES + 1 }
+        ensures of_file { WhereTold (files self.old) (λ held. taken self.new ≤ length (bytes_under held name.now)) };
 }

@@ -1,4 +1,5 @@
-ghost use Rattle.std.specs.Prelude.{◌≡◌, ◌≢◌, ◌<◌, ◌≤◌, Some, [], map, length, vec_len, IfOk, IsErr};
+ghost use Rattle.std.specs.Prelude.{◌≡◌, ◌≢◌, ◌+◌, ◌<◌, ◌≤◌, Some, [], map, length, vec_len, IfOk, IsErr};
+ghost use Rattle.psy_base.specs.declared.limits.TheConstants.{FILE_BYTES};
 ghost use Rattle.psy_door.specs.Files.{files_of, bytes_under};
 ghost use Rattle.psy_door.specs.States.{FetchFails, counted_up};
 
@@ -86,7 +87,7 @@ impl Shelf for ShelfMap {
         ensures same_fails { self.new.fails ≡ self.old.fails }
         ensures calls { self.new.calls ≡ counted_up self.old.calls }
         ensures counted { self.old.faults ≤ self.new.faults }
-        ensures within { IfOk result (λ bytes. vec_len bytes ≤ 262144) }
+        ensures within { IfOk result (λ bytes. vec_len bytes ≤ FILE_BYTES) }
         ensures took { IfOk result (λ bytes. self.new.taken ≡ vec_len bytes) }
         ensures whole { IfOk result (λ bytes. bytes.items ≡ bytes_under (files_of self.old.files) name.now) }
         ensures failed { result ≡ Err FetchFault.Failed → self.new.faults ≡ counted_up self.old.faults }
@@ -94,9 +95,11 @@ impl Shelf for ShelfMap {
         ensures named { result ≡ Err FetchFault.Failed → self.new.failed_name ≡ name.now }
         ensures same_name { result ≢ Err FetchFault.Failed → self.new.failed_name ≡ self.old.failed_name }
         ensures took_none { result ≡ Err FetchFault.Failed → self.new.taken ≡ 0 }
-        ensures too_long { result ≡ Err FetchFault.TooLong → self.new.taken ≡ 262145 }
+        ensures too_long { result ≡ Err FetchFault.TooLong → self.new.taken ≡ FILE_BYTES + 1 }
         ensures longer { result ≡ Err FetchFault.TooLong →
-            262144 < length (bytes_under (files_of self.old.files) name.now) }
+            FILE_BYTES < length (bytes_under (files_of self.old.files) name.now) }
+        ensures most { self.new.taken ≤ FILE_BYTES + 1 }
+        ensures of_file { self.new.taken ≤ length (bytes_under (files_of self.old.files) name.now) }
 
         // It fails exactly where it is to fail.
         ensures fails_only { result ≡ Err FetchFault.Failed → FetchFails self.old name.now }

@@ -10,8 +10,8 @@ use Rattle.psy_kernel.specs.declared.first.First.{First}
 use Rattle.psy_kernel.specs.Meaning.{below, date_of, value_after, published, due_by, deadline_of, least, lesser}
 
 -- dates rise
-pub date_of_mono : (first : First) (m n : ℕ) → m ≤ n → date_of first m ≤ date_of first n
-date_of_mono first m n h = omega (arith, mul-le-mul_right first.period h)
+pub date_of_mono : (program : First) (m n : ℕ) → m ≤ n → date_of program m ≤ date_of program n
+date_of_mono program m n h = omega (arith, mul-le-mul_right program.period h)
 
 pub find_below_none : (p : ℕ → Bool) (m : ℕ) → ((n : ℕ) → n < m → p n ≡ false) → find p (below m) ≡ None
 find_below_none p zero none = refl
@@ -43,32 +43,32 @@ filter_below p k (suc m) h inside outside = elim (eq-or-lt_of_le h) [
 ]
 
 -- a number is at most its date
-pub index_le_date : (first : First) (n : ℕ) → 1 ≤ first.period → n ≤ date_of first n
-index_le_date first n h = omega (arith, mul-le-mul_left n h)
+pub index_le_date : (program : First) (n : ℕ) → 1 ≤ program.period → n ≤ date_of program n
+index_le_date program n h = omega (arith, mul-le-mul_left n h)
 
 -- a later number has a later date
-pub date_of_rises : (first : First) (m n : ℕ) → 1 ≤ first.period → m < n → date_of first m < date_of first n
-date_of_rises first m n h lt = omega (arith, date_of_mono first (m + 1) n (omega arith))
+pub date_of_rises : (program : First) (m n : ℕ) → 1 ≤ program.period → m < n → date_of program m < date_of program n
+date_of_rises program m n h lt = omega (arith, date_of_mono program (m + 1) n (omega arith))
 
 -- on a date of the clock the value of its number is published
-pub published_at : (first : First) (n date : ℕ) → 1 ≤ first.period → date_of first n ≡ date → published first date ≡ Some (value_after first n)
-published_at first n date h e =
-    let k : n < date + 1 = omega (arith, index_le_date first n h) in
-    let here : (date_of first n == date) ≡ true = grind (arith, nat_tests) in
-    let earlier : (j : ℕ) → j < n → (date_of first j == date) ≡ false = λ j l. let lt = date_of_rises first j n h l in grind (arith, nat_tests) in
-    ap (option_map (value_after first)) (find_below (λ j. date_of first j == date) n (date + 1) k here earlier)
+pub published_at : (program : First) (n date : ℕ) → 1 ≤ program.period → date_of program n ≡ date → published program date ≡ Some (value_after program n)
+published_at program n date h e =
+    let k : n < date + 1 = omega (arith, index_le_date program n h) in
+    let here : (date_of program n == date) ≡ true = grind (arith, nat_tests) in
+    let earlier : (j : ℕ) → j < n → (date_of program j == date) ≡ false = λ j l. let lt = date_of_rises program j n h l in grind (arith, nat_tests) in
+    ap (option_map (value_after program)) (find_below (λ j. date_of program j == date) n (date + 1) k here earlier)
 
 -- between two dates of the clock nothing is published
-pub published_not : (first : First) (date : ℕ) → ((n : ℕ) → date_of first n ≢ date) → published first date ≡ None
-published_not first date other =
-    ap (option_map (value_after first)) (find_below_none (λ j. date_of first j == date) (date + 1) (λ j l. let ne = other j in grind (arith, nat_tests)))
+pub published_not : (program : First) (date : ℕ) → ((n : ℕ) → date_of program n ≢ date) → published program date ≡ None
+published_not program date other =
+    ap (option_map (value_after program)) (find_below_none (λ j. date_of program j == date) (date + 1) (λ j l. let ne = other j in grind (arith, nat_tests)))
 
 -- the actions due by a date between number n's start and its deadline are those before number n
-pub due_by_is : (first : First) (n date : ℕ) → 1 ≤ first.period → n ≤ date → ((0 < n) → date_of first n ≤ date) → date < date_of first (n + 1) → due_by first date ≡ below n
-due_by_is first n date h le start deadline =
-    filter_below (λ j. nat_le (deadline_of first j) date) n (date + 1) (omega arith)
-    (λ j l. let a = date_of_mono first (j + 1) n (omega arith) in let b = start (omega arith) in grind (arith, nat_tests))
-    (λ j l. let a = date_of_mono first (n + 1) (j + 1) (omega arith) in grind (arith, nat_tests))
+pub due_by_is : (program : First) (n date : ℕ) → 1 ≤ program.period → n ≤ date → ((0 < n) → date_of program n ≤ date) → date < date_of program (n + 1) → due_by program date ≡ below n
+due_by_is program n date h le start deadline =
+    filter_below (λ j. nat_le (deadline_of program j) date) n (date + 1) (omega arith)
+    (λ j l. let a = date_of_mono program (j + 1) n (omega arith) in let b = start (omega arith) in grind (arith, nat_tests))
+    (λ j l. let a = date_of_mono program (n + 1) (j + 1) (omega arith) in grind (arith, nat_tests))
 
 pub length_below : (n : ℕ) → length (below n) ≡ n
 length_below zero = refl

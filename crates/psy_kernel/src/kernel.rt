@@ -10,7 +10,7 @@ use std::marker::Model;
 /// the dated meaning there, so that what it tells is the meaning's.
 #[derive(Debug, Drop)]
 pub struct Kernel {
-    first: First,
+    program: First,
     dates: u64,
     cycles: u64,
     published: u64,
@@ -29,7 +29,7 @@ impl Model for Kernel {
 
     ghost use Rattle.psy_kernel.specs.Refinement.{StandsFor};
 
-    ghost view = { λ k. record { first = k.first; dates = k.dates; cycles = k.cycles } };
+    ghost view = { λ k. record { program = k.program; dates = k.dates; cycles = k.cycles } };
 
     ghost invariant = { StandsFor };
 }
@@ -44,31 +44,35 @@ fn literal(value: u32) -> i32
 
 // The value of the assigned expression, where the variable has this one.
 #[tactic(auto, using(std::proofs::lemmas::Int::wraps))]
-fn next(first: &First, value: i32) -> i32
-    requires { first.now.add ≤ 2147483647 }
-    ensures { result ≡ next_value first.now value }
+fn next(program: &First, value: i32) -> i32
+    requires { program.now.add ≤ 2147483647 }
+    ensures { result ≡ next_value program.now value }
 {
-    let add = literal(first.add);
-    if first.own {
+    let add = literal(program.add);
+    if program.own {
         return value.wrapping_add(add);
     }
     add
 }
 
 // The value that is published when action number n starts, where the one before is known.
-fn value_at(first: &First, n: u64, before: i32) -> i32
-    requires add { first.now.add ≤ 2147483647 }
-    requires known { before ≡ value_after first.now (n - 1) }
-    ensures { result ≡ value_after first.now n }
+fn value_at(program: &First, n: u64, before: i32) -> i32
+    requires add { program.now.add ≤ 2147483647 }
+    requires known { before ≡ value_after program.now (n - 1) }
+    ensures { result ≡ value_after program.now n }
 {
-    if n == 0 { before } else { next(first, before) }
+    if n == 0 {
+        before
+    } else {
+        next(program, before)
+    }
 }
 
 // The cost of action number n.
-fn cost(first: &First, n: u64) -> u64
-    ensures { result ≡ cost_of first.now n }
+fn cost(program: &First, n: u64) -> u64
+    ensures { result ≡ cost_of program.now n }
 {
-    let body = if first.own { 5 } else { 3 };
+    let body = if program.own { 5 } else { 3 };
     let jump = if n == 0 { 0 } else { 1 };
     body + jump
 }
@@ -85,34 +89,34 @@ fn lesser(least: Option<u64>, slack: u64) -> u64
 
 // The least slack among the actions before number n, where it was known of those before `n - 1`,
 // and that one has ended.
-fn slack_at(first: &First, n: u64, date: u64, finish: u64, so_far: Option<u64>) -> Option<u64>
-    requires fits { date * first.now.quantum < 2 ^ 64 }
-    requires ended { 0 < n → (date ≡ date_of first.now n) × (finish ≡ finish_of first.now (n - 1)) }
-    requires in_time { 0 < n → finish ≤ date * first.now.quantum }
-    requires known { so_far ≡ least (map (slack_of first.now) (below (n - 1))) }
-    ensures { result ≡ least (map (slack_of first.now) (below n)) }
+fn slack_at(program: &First, n: u64, date: u64, finish: u64, so_far: Option<u64>) -> Option<u64>
+    requires fits { date * program.now.quantum < 2 ^ 64 }
+    requires ended { 0 < n → (date ≡ date_of program.now n) × (finish ≡ finish_of program.now (n - 1)) }
+    requires in_time { 0 < n → finish ≤ date * program.now.quantum }
+    requires known { so_far ≡ least (map (slack_of program.now) (below (n - 1))) }
+    ensures { result ≡ least (map (slack_of program.now) (below n)) }
 {
     if n == 0 {
         return so_far;
     }
-    Some(lesser(so_far, date * u64::from(first.quantum) - finish))
+    Some(lesser(so_far, date * u64::from(program.quantum) - finish))
 }
 
 impl Kernel {
     /// A kernel before date 0. It takes no memory.
-    pub fn boot(first: First) -> Kernel
-        requires range { InRange first }
-        requires feasible { IsFeasible first }
-        ensures state { result ≡ record { first = first; dates = 0; cycles = 0 } }
+    pub fn boot(program: First) -> Kernel
+        requires range { InRange program }
+        requires feasible { IsFeasible program }
+        ensures state { result ≡ record { program = program; dates = 0; cycles = 0 } }
         ensures stage { stage_of result ≡ Stage.DateDue 0 }
     {
         Kernel {
-            first,
+            program,
             dates: 0,
             cycles: 0,
             published: 0,
-            next_date: u64::from(first.first),
-            value: first.init,
+            next_date: u64::from(program.first),
+            value: program.init,
             work: 0,
             units: 0,
             finish: 0,
@@ -124,10 +128,10 @@ impl Kernel {
     pub fn stage(&self) -> Stage
         ensures { result ≡ stage_of self.now }
     {
-        if self.dates == u64::from(self.first.until) + 1 {
+        if self.dates == u64::from(self.program.until) + 1 {
             return Stage::Over;
         }
-        if self.cycles == self.dates * u64::from(self.first.quantum) {
+        if self.cycles == self.dates * u64::from(self.program.quantum) {
             return Stage::DateDue(self.dates);
         }
         Stage::CycleDue(self.cycles)
@@ -140,9 +144,9 @@ impl Kernel {
         ensures state { self.new ≡ record self.old { dates = self.old.dates + 1 } }
 
         // The run is over after its last date, and else the cycles from this date on are due.
-        ensures last { self.old.dates ≡ self.old.first.until → stage_of self.new ≡ Stage.Over }
-        ensures earlier { self.old.dates ≢ self.old.first.until →
-            stage_of self.new ≡ Stage.CycleDue (self.old.dates * self.old.first.quantum) }
+        ensures last { self.old.dates ≡ self.old.program.until → stage_of self.new ≡ Stage.Over }
+        ensures earlier { self.old.dates ≢ self.old.program.until →
+            stage_of self.new ≡ Stage.CycleDue (self.old.dates * self.old.program.quantum) }
     {
         let date = self.dates;
         self.dates = date + 1;
@@ -150,12 +154,12 @@ impl Kernel {
             return;
         }
         let n = self.published;
-        self.slack = slack_at(&self.first, n, date, self.finish, self.slack);
-        self.value = value_at(&self.first, n, self.value);
-        self.work = cost(&self.first, n);
+        self.slack = slack_at(&self.program, n, date, self.finish, self.slack);
+        self.value = value_at(&self.program, n, self.value);
+        self.work = cost(&self.program, n);
         self.units = 0;
         self.published = n + 1;
-        self.next_date = date + u64::from(self.first.period);
+        self.next_date = date + u64::from(self.program.period);
     }
 
     /// Does the cycle that is due: the present action gets it, where it isn't finished.
@@ -164,9 +168,9 @@ impl Kernel {
         ensures state { self.new ≡ record self.old { cycles = self.old.cycles + 1 } }
 
         // A date is due where the cycles done fill whole ticks, and else the next cycle.
-        ensures filled { (t : ℕ) → self.new.cycles ≡ t * self.old.first.quantum →
+        ensures filled { (t : ℕ) → self.new.cycles ≡ t * self.old.program.quantum →
             stage_of self.new ≡ Stage.DateDue t }
-        ensures inside { ((t : ℕ) → self.new.cycles ≢ t * self.old.first.quantum) →
+        ensures inside { ((t : ℕ) → self.new.cycles ≢ t * self.old.program.quantum) →
             stage_of self.new ≡ Stage.CycleDue self.new.cycles }
     {
         self.cycles += 1;
@@ -186,7 +190,7 @@ impl Kernel {
         if self.dates == 0 {
             return None;
         }
-        if self.next_date != self.dates - 1 + u64::from(self.first.period) {
+        if self.next_date != self.dates - 1 + u64::from(self.program.period) {
             return None;
         }
         Some(self.value)
@@ -221,11 +225,11 @@ mod tests {
     };
 
     // Runs to the end, compares what is published, and gives what was counted.
-    fn run(rt: &impl Abort, first: First, published: &[(u64, i32)]) -> (u64, Option<u64>)
-        requires range { InRange first }
-        requires feasible { IsFeasible first }
+    fn run(rt: &impl Abort, program: First, published: &[(u64, i32)]) -> (u64, Option<u64>)
+        requires range { InRange program }
+        requires feasible { IsFeasible program }
     {
-        let mut kernel = Kernel::boot(first);
+        let mut kernel = Kernel::boot(program);
         let mut values = published.iter();
         for _ in 0..200_000_000u64 {
             match kernel.stage() {

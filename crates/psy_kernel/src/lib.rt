@@ -4,10 +4,9 @@
 
 mod first;
 mod kernel;
-mod law;
+pub mod laws;
 mod stage;
 
 pub use first::First;
 pub use kernel::Kernel;
-pub use law::meets_deadlines;
 pub use stage::Stage;

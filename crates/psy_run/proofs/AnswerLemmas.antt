@@ -23,7 +23,7 @@ use Rattle.psy_run.specs.declared.refusal.Refusal.TheVariants.{Words, ReadProgra
 use Rattle.psy_run.specs.Asked.{AsksRun, AskNothing}
 use Rattle.psy_run.specs.Form.{Program, IsForm, HaveNumbers}
 use Rattle.psy_run.specs.Log.{text_of}
-use Rattle.psy_run.specs.Answer.{Answers, unlisted, refused, run, Refuses, status_of, line_of, lex_line, limit_line}
+use Rattle.psy_run.specs.Answer.{Answers, unlisted, refused, ran, Refuses, status_of, line_of, lex_line, limit_line}
 use Rattle.psy_run.proofs.FormLemmas.{have_one_numbers, one_value}
 
 -- words ask for one run at most
@@ -43,11 +43,11 @@ IsForm-unique unit until program other a b =
     let agent = one_of unit.agents a.agent b.agent a.agents b.agents in
     let clock : a.clock ≡ b.clock = let e : Some a.clock ≡ Some b.clock = sym a.on ∙ ap (λ g. slice_get unit.clocks g.clock) agent ∙ b.on in cc in
     let value : a.value ≡ b.value = one_value a.agent b.agent a.value b.value agent a.does b.does in
-    let numbers : HaveNumbers unit.quantum until a.agent.budget a.variable.init a.clock a.value other.first = subst (λ g. HaveNumbers unit.quantum until g.budget a.variable.init a.clock a.value other.first) (sym agent) (subst (λ v. HaveNumbers unit.quantum until b.agent.budget v.init a.clock a.value other.first) (sym variable) (subst (λ c. HaveNumbers unit.quantum until b.agent.budget b.variable.init c a.value other.first) (sym clock) (subst (λ e. HaveNumbers unit.quantum until b.agent.budget b.variable.init b.clock e other.first) (sym value) b.numbers))) in
-    let first = have_one_numbers unit.quantum until a.agent.budget a.variable.init a.clock a.value program.first other.first a.numbers numbers in
+    let numbers : HaveNumbers unit.quantum until a.agent.budget a.variable.init a.clock a.value other.numbers = subst (λ g. HaveNumbers unit.quantum until g.budget a.variable.init a.clock a.value other.numbers) (sym agent) (subst (λ v. HaveNumbers unit.quantum until b.agent.budget v.init a.clock a.value other.numbers) (sym variable) (subst (λ c. HaveNumbers unit.quantum until b.agent.budget b.variable.init c a.value other.numbers) (sym clock) (subst (λ e. HaveNumbers unit.quantum until b.agent.budget b.variable.init b.clock e other.numbers) (sym value) b.numbers))) in
+    let same = have_one_numbers unit.quantum until a.agent.budget a.variable.init a.clock a.value program.numbers other.numbers a.numbers numbers in
     let named = a.names.0 ∙ ap (λ v. v.name) variable ∙ sym b.names.0 in
     let called = a.names.1 ∙ ap (λ g. g.name) agent ∙ sym b.names.1 in
-    λ i. record { variable = named i; agent = called i; first = first i }
+    λ i. record { variable = named i; agent = called i; numbers = same i }
 
 -- one token is the first that is too deep
 pub Deep-unique : (tokens : List Token) (n m : ℕ) → deep.Deep tokens n → deep.Deep tokens m → n ≡ m
@@ -63,10 +63,10 @@ Deep-not_shallow tokens n a shallow = shallow n a.stands a.reached
 
 -- what is answered for a program
 data OfProgram (program : Program) : ℕ → List ℕ → Type 0 where
-  infeasible : (window demand supply : ℕ) → program.first.period ≤ program.first.until → supply < demand
-      → window ≡ program.first.period → demand ≡ program.first.budget → supply ≡ program.first.quantum * program.first.period
+  infeasible : (window demand supply : ℕ) → program.numbers.period ≤ program.numbers.until → supply < demand
+      → window ≡ program.numbers.period → demand ≡ program.numbers.budget → supply ≡ program.numbers.quantum * program.numbers.period
       → OfProgram program (status_of (Infeasible window demand supply)) (line_of (Infeasible window demand supply))
-  feasible : IsFeasible program.first → OfProgram program 0 (text_of program.first program.variable program.agent)
+  feasible : IsFeasible program.numbers → OfProgram program 0 (text_of program.numbers program.variable program.agent)
 
 -- for a unit
 data OfUnit (until : ℕ) (unit : Whole) : ℕ → List ℕ → Type 0 where
@@ -124,14 +124,14 @@ of_refusal bytes until (Infeasible window demand supply) (program, (unit, (raw, 
 of_answer : (words : List (List ℕ)) (bytes : List ℕ) (status : ℕ) (text : List ℕ) → Answers words bytes status text → OfWords words bytes status text
 of_answer words bytes status text (unlisted nothing) = OfWords.stops nothing
 of_answer words bytes status text (refused name until refusal asks refuses) = OfWords.goes_on name until asks (of_refusal bytes until refusal refuses)
-of_answer words bytes status text (run name until program asks ((unit, (raw, (tokens, (short, has), shallow, spells), stands), form), can)) =
+of_answer words bytes status text (ran name until program asks ((unit, (raw, (tokens, (short, has), shallow, spells), stands), form), can)) =
     OfWords.goes_on name until asks (OfFile.goes_on short (OfShort.goes_on tokens has (OfTokens.goes_on shallow (OfShallow.goes_on raw spells (OfTree.goes_on unit stands (OfUnit.goes_on program form (OfProgram.feasible can)))))))
 
 -- each step has one answer at most
 abbrev Same : ℕ → ℕ → List ℕ → List ℕ → Type 0
 Same status other_status text other_text = (status ≡ other_status) × (text ≡ other_text)
 
-not_feasible : (program : Program) (demand supply : ℕ) → program.first.period ≤ program.first.until → supply < demand → demand ≡ program.first.budget → supply ≡ program.first.quantum * program.first.period → IsFeasible program.first → ⊥
+not_feasible : (program : Program) (demand supply : ℕ) → program.numbers.period ≤ program.numbers.until → supply < demand → demand ≡ program.numbers.budget → supply ≡ program.numbers.quantum * program.numbers.period → IsFeasible program.numbers → ⊥
 not_feasible program demand supply due less demand_is supply_is can = let enough = can due in absurd (omega (arith, enough))
 
 of_program : (program : Program) (s s' : ℕ) (t t' : List ℕ) → OfProgram program s t → OfProgram program s' t' → Same s s' t t'

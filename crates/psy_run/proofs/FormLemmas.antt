@@ -92,15 +92,15 @@ adds_other_left value left right alone is other own add h = elim (Adds-cases val
   | inr a ↦ other (Binary-injective Add Add left (Copy 0) right (Number (pos a.0)) (sym is ∙ a.1)).0
 ]
 
-pub same_first : (a b : First) → a.quantum ≡ b.quantum → a.period ≡ b.period → a.first ≡ b.first → a.init ≡ b.init → a.own ≡ b.own → a.add ≡ b.add → a.budget ≡ b.budget → a.until ≡ b.until → a ≡ b
-same_first a b quantum period first init own add budget until =
+pub same_numbers : (a b : First) → a.quantum ≡ b.quantum → a.period ≡ b.period → a.first ≡ b.first → a.init ≡ b.init → a.own ≡ b.own → a.add ≡ b.add → a.budget ≡ b.budget → a.until ≡ b.until → a ≡ b
+same_numbers a b quantum period first init own add budget until =
     λ i. record { quantum = quantum i; period = period i; first = first i; init = init i; own = own i; add = add i; budget = budget i; until = until i }
 
 -- the numbers of a unit are determined by it
-pub have_one_numbers : (tick last budget : ℕ) (init : ℤ) (clock : Clock) (value : Expr) (first other : First) → HaveNumbers tick last budget init clock value first → HaveNumbers tick last budget init clock value other → first ≡ other
-have_one_numbers tick last budget init clock value first other a b =
-    let adds = Adds-unique value first.own other.own first.add other.add a.adds b.adds in
-    same_first first other (a.quantum ∙ sym b.quantum) (a.period ∙ sym b.period) (a.phase ∙ sym b.phase) (a.start ∙ sym b.start) adds.0 adds.1 (a.cycles ∙ sym b.cycles) (a.until ∙ sym b.until)
+pub have_one_numbers : (tick last budget : ℕ) (init : ℤ) (clock : Clock) (value : Expr) (numbers other : First) → HaveNumbers tick last budget init clock value numbers → HaveNumbers tick last budget init clock value other → numbers ≡ other
+have_one_numbers tick last budget init clock value numbers other a b =
+    let adds = Adds-unique value numbers.own other.own numbers.add other.add a.adds b.adds in
+    same_numbers numbers other (a.quantum ∙ sym b.quantum) (a.period ∙ sym b.period) (a.phase ∙ sym b.phase) (a.start ∙ sym b.start) adds.0 adds.1 (a.cycles ∙ sym b.cycles) (a.until ∙ sym b.until)
 
 -- an agent assigns one expression
 pub one_value : (agent other : AgentDecl) (value value' : Expr) → agent ≡ other → DoesOne agent value → DoesOne other value' → value ≡ value'

@@ -11,7 +11,7 @@ use Rattle.psy_run.specs.declared.refusal.Refusal.TheVariants.{Words, ReadProgra
 use Rattle.psy_run.specs.Asked.{AsksRun, AskNothing}
 use Rattle.psy_run.specs.Form.{Program}
 use Rattle.psy_run.specs.Log.{text_of}
-use Rattle.psy_run.specs.Answer.{Answers, unlisted, refused, run, AreNamed, Refuses, IsAccepted, status_of, line_of}
+use Rattle.psy_run.specs.Answer.{Answers, unlisted, refused, ran, AreNamed, Refuses, IsAccepted, status_of, line_of}
 use Rattle.psy_run.specs.Outcome as outcome
 use Rattle.psy_run.specs.Outcome.{Says, Ends, IsUnread, MayWrite, DidRun}
 use Rattle.psy_run.proofs.GrowthLemmas.{Grew-nothing}
@@ -33,7 +33,7 @@ status_of_refusal bytes until (Infeasible l d s) h = λ e. absurd (omega arith)
 Answers-status : (words : List (List ℕ)) (bytes : List ℕ) (status : ℕ) (text : List ℕ) → Answers words bytes status text → status ≢ 4
 Answers-status words bytes status text (unlisted none) = λ e. absurd (omega arith)
 Answers-status words bytes status text (refused name until refusal asks refuses) = status_of_refusal bytes until refusal refuses
-Answers-status words bytes status text (run name until program asks accepted) = λ e. absurd (omega arith)
+Answers-status words bytes status text (ran name until program asks accepted) = λ e. absurd (omega arith)
 
 -- what was said is the defined answer, unless a write failed
 pub said_answered : (words : List (List ℕ)) (files : Option Files) (bytes : List ℕ) (old now : Option (List ℕ)) (before after answer status : ℕ) (text : List ℕ)
@@ -54,8 +54,8 @@ Answers-named : (words : List (List ℕ)) (held : Files) (bytes other : List ℕ
 Answers-named words held bytes other status text named named' (unlisted none) = unlisted none
 Answers-named words held bytes other status text named named' (refused name until refusal asks refuses) =
     refused name until refusal asks (subst (λ b. Refuses b until refusal) (named' name until asks ∙ sym (named name until asks)) refuses)
-Answers-named words held bytes other status text named named' (run name until program asks accepted) =
-    run name until program asks (subst (λ b. IsAccepted b until program) (named' name until asks ∙ sym (named name until asks)) accepted)
+Answers-named words held bytes other status text named named' (ran name until program asks accepted) =
+    ran name until program asks (subst (λ b. IsAccepted b until program) (named' name until asks ∙ sym (named name until asks)) accepted)
 
 -- what is defined was said, where no write failed
 pub said_complete : (words : List (List ℕ)) (files : Option Files) (bytes : List ℕ) (old now : Option (List ℕ)) (before after answer status : ℕ) (text : List ℕ)
@@ -92,8 +92,8 @@ pub ends_said : (words : List (List ℕ)) (name bytes : List ℕ) (until : ℕ) 
     → ((answer ≡ 8) × Grew old now []) ⊎ ((status : ℕ) × (text : List ℕ) × Answers words bytes status text × Says old now before after answer status text)
 ends_said words name bytes until old now before after answer left asks (outcome.Ends.memory grew) = inl (refl, grew)
 ends_said words name bytes until old now before after answer left asks (outcome.Ends.refused status refusal refuses says) = inr (status_of refusal, line_of refusal, refused name until refusal asks refuses, says)
-ends_said words name bytes until old now before after answer left asks (outcome.Ends.done program accepted grew) = inr (0, text_of program.first program.variable program.agent, run name until program asks accepted, inl (refl, grew))
-ends_said words name bytes until old now before after answer left asks (outcome.Ends.cut program accepted rose front) = inr (0, text_of program.first program.variable program.agent, run name until program asks accepted, inr (refl, rose, front))
+ends_said words name bytes until old now before after answer left asks (outcome.Ends.done program accepted grew) = inr (0, text_of program.numbers program.variable program.agent, ran name until program asks accepted, inl (refl, grew))
+ends_said words name bytes until old now before after answer left asks (outcome.Ends.cut program accepted rose front) = inr (0, text_of program.numbers program.variable program.agent, ran name until program asks accepted, inr (refl, rose, front))
 
 -- the kernel that a run leaves did it
 pub ends_left : (words : List (List ℕ)) (files : Option Files) (name bytes : List ℕ) (until : ℕ) (old now : Option (List ℕ)) (before after answer : ℕ) (left : Option Progress)
@@ -113,11 +113,11 @@ pub ends_memory : (bytes : List ℕ) (until : ℕ) (held : Option (List ℕ)) (f
 ends_memory bytes until held faults = outcome.Ends.memory (Grew-nothing held)
 
 pub ends_done : (bytes : List ℕ) (until : ℕ) (old now : Option (List ℕ)) (before after : ℕ) (kernel : Progress) (program : Program)
-    → IsAccepted bytes until program → kernel ≡ ended program.first → Grew old now (text_of program.first program.variable program.agent) → Ends bytes until old now before after 0 (Some kernel)
+    → IsAccepted bytes until program → kernel ≡ ended program.numbers → Grew old now (text_of program.numbers program.variable program.agent) → Ends bytes until old now before after 0 (Some kernel)
 ends_done bytes until old now before after kernel program accepted over grew = subst (λ k. Ends bytes until old now before after 0 (Some k)) (sym over) (outcome.Ends.done program accepted grew)
 
 pub ends_cut : (bytes : List ℕ) (until : ℕ) (old now : Option (List ℕ)) (before after : ℕ) (left : Option Progress) (program : Program)
-    → left ≡ None → IsAccepted bytes until program → Rose before after → GrewByFront old now (text_of program.first program.variable program.agent) → Ends bytes until old now before after 4 left
+    → left ≡ None → IsAccepted bytes until program → Rose before after → GrewByFront old now (text_of program.numbers program.variable program.agent) → Ends bytes until old now before after 4 left
 ends_cut bytes until old now before after left program none accepted rose front = subst (Ends bytes until old now before after 4) (sym none) (outcome.Ends.cut program accepted rose front)
 
 -- the end of a run, whatever was left before it

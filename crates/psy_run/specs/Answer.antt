@@ -91,18 +91,18 @@ Refuses bytes until (Rule kind token) = (raw : Raw) × HasTree bytes raw × Leas
 Refuses bytes until (Many count) = (raw : Raw) × HasTree bytes raw × NoFault raw × (first_passed raw ≡ Some count)
 Refuses bytes until NotBuilt = (unit : Whole) × HasUnit bytes unit × ((program : Program) → IsForm unit until program → ⊥)
 Refuses bytes until (Infeasible length demand supply) =
-    (program : Program) × HasProgram bytes until program × (program.first.period ≤ program.first.until) × (supply < demand)
-    × (length ≡ program.first.period) × (demand ≡ program.first.budget) × (supply ≡ program.first.quantum * program.first.period)
+    (program : Program) × HasProgram bytes until program × (program.numbers.period ≤ program.numbers.until) × (supply < demand)
+    × (length ≡ program.numbers.period) × (demand ≡ program.numbers.budget) × (supply ≡ program.numbers.quantum * program.numbers.period)
 
 -- the file is a program that is run
 abbrev pub IsAccepted : List ℕ → ℕ → Program → Type 0
-IsAccepted bytes until program = HasProgram bytes until program × IsFeasible program.first
+IsAccepted bytes until program = HasProgram bytes until program × IsFeasible program.numbers
 
 -- The status and the text that answer the words, where the file that they name has these bytes.
 pub data Answers (words : List (List ℕ)) (bytes : List ℕ) : ℕ → List ℕ → Type 0 where
   unlisted : AskNothing words → Answers words bytes (status_of Words) (line_of Words)
   refused : (name : List ℕ) (until : ℕ) (refusal : Refusal) → AsksRun words name until → Refuses bytes until refusal → Answers words bytes (status_of refusal) (line_of refusal)
-  run : (name : List ℕ) (until : ℕ) (program : Program) → AsksRun words name until → IsAccepted bytes until program → Answers words bytes 0 (text_of program.first program.variable program.agent)
+  ran : (name : List ℕ) (until : ℕ) (program : Program) → AsksRun words name until → IsAccepted bytes until program → Answers words bytes 0 (text_of program.numbers program.variable program.agent)
 
 -- the step stopped as the definition says, or for want of memory
 abbrev pub IsStop : List ℕ → ℕ → Stop → Type 0

@@ -16,7 +16,7 @@ use Rattle.psy_kernel.specs.Meaning.{InRange}
 pub record Program : Type 0 where
   pub variable : List ℕ
   pub agent : List ℕ
-  pub first : First
+  pub numbers : First
 
 -- the expression is variable 0 and a number, or a number alone
 pub data Adds : Expr → Bool → ℕ → Type 0 where
@@ -39,15 +39,15 @@ pub record IsOwn (variable : VarDecl) (activation : ℕ) : Type 0 where
   pub clock : variable.clock ≡ activation
 
 -- the numbers are these, with the last date, in their ranges
-pub record HaveNumbers (tick last budget : ℕ) (init : ℤ) (clock : Clock) (value : Expr) (first : First) : Type 0 where
-  pub quantum : first.quantum ≡ tick
-  pub period : first.period ≡ clock.period
-  pub phase : first.first ≡ clock.first
-  pub start : first.init ≡ init
-  pub adds : Adds value first.own first.add
-  pub cycles : first.budget ≡ budget
-  pub until : first.until ≡ last
-  pub range : InRange first
+pub record HaveNumbers (tick last budget : ℕ) (init : ℤ) (clock : Clock) (value : Expr) (numbers : First) : Type 0 where
+  pub quantum : numbers.quantum ≡ tick
+  pub period : numbers.period ≡ clock.period
+  pub phase : numbers.first ≡ clock.first
+  pub start : numbers.init ≡ init
+  pub adds : Adds value numbers.own numbers.add
+  pub cycles : numbers.budget ≡ budget
+  pub until : numbers.until ≡ last
+  pub range : InRange numbers
 
 -- The unit has one variable and one agent, which owns it, both on the same clock, and nothing else but clocks.
 pub record IsForm (unit : Whole) (until : ℕ) (program : Program) : Type 0 where
@@ -64,4 +64,4 @@ pub record IsForm (unit : Whole) (until : ℕ) (program : Program) : Type 0 wher
   pub on : slice_get unit.clocks agent.clock ≡ Some clock
   pub names : (program.variable ≡ variable.name) × (program.agent ≡ agent.name)
   pub short : (length variable.name ≤ WORD_BYTES) × (length agent.name ≤ WORD_BYTES)
-  pub numbers : HaveNumbers unit.quantum until agent.budget variable.init clock value program.first
+  pub numbers : HaveNumbers unit.quantum until agent.budget variable.init clock value program.numbers

@@ -27,19 +27,19 @@ variable_line variable = codes "variable " ++ variable ++ codes " 1 -\n"
 
 -- the lines of a date: the value that is published there, if one is
 abbrev pub lines_at : First → List ℕ → ℕ → List ℕ
-lines_at first variable date = elim (published first date) [ None ↦ [] | Some value ↦ value_line date variable value ]
+lines_at program variable date = elim (published program date) [ None ↦ [] | Some value ↦ value_line date variable value ]
 
 -- the lines of the first dates, of which there are so many: 0, 1 and so on
 abbrev pub log_of : First → List ℕ → ℕ → List ℕ
-log_of first variable dates = flat_map (lines_at first variable) (below dates)
+log_of program variable dates = flat_map (lines_at program variable) (below dates)
 
 -- how many actions were due by the last date, and the least slack among them
 abbrev pub summary_of : First → List ℕ → List ℕ → List ℕ
-summary_of first variable agent =
-    end_line first.until
-    ++ agent_line agent (length (due_by first first.until)) (least_slack first first.until)
+summary_of program variable agent =
+    end_line program.until
+    ++ agent_line agent (length (due_by program program.until)) (least_slack program program.until)
     ++ variable_line variable
 
 -- the whole text of a run
 abbrev pub text_of : First → List ℕ → List ℕ → List ℕ
-text_of first variable agent = log_of first variable (first.until + 1) ++ summary_of first variable agent
+text_of program variable agent = log_of program variable (program.until + 1) ++ summary_of program variable agent

@@ -26,7 +26,7 @@ MayWrite words files failed_name before after text =
     ⊎ (IsUnread words failed_name before after × (text ≡ line_of ReadProgram))
 
 -- the kernel that is left did the whole run of the program that the words name
-pub record DidRun (words : List (List ℕ)) (files : Option Files) (run : Progress) : Type 0 where
+pub record DidRun (words : List (List ℕ)) (files : Option Files) (progress : Progress) : Type 0 where
   pub name : List ℕ
   pub until : ℕ
   pub bytes : List ℕ
@@ -34,7 +34,7 @@ pub record DidRun (words : List (List ℕ)) (files : Option Files) (run : Progre
   pub asked : AsksRun words name until
   pub named : AreNamed words files bytes
   pub accepted : IsAccepted bytes until program
-  pub over : run ≡ ended program.first
+  pub over : progress ≡ ended program.numbers
 
 -- the status is that one and the text was added, or a write failed: then it is 4, and a front was added
 abbrev pub Says : Option (List ℕ) → Option (List ℕ) → ℕ → ℕ → ℕ → ℕ → List ℕ → Type 0
@@ -45,5 +45,5 @@ Says old now before after answer status text =
 pub data Ends (bytes : List ℕ) (until : ℕ) (old now : Option (List ℕ)) (before after : ℕ) : ℕ → Option Progress → Type 0 where
   memory : Grew old now [] → Ends bytes until old now before after 8 None
   refused : (status : ℕ) (refusal : Refusal) → Refuses bytes until refusal → Says old now before after status (status_of refusal) (line_of refusal) → Ends bytes until old now before after status None
-  done : (program : Program) → IsAccepted bytes until program → Grew old now (text_of program.first program.variable program.agent) → Ends bytes until old now before after 0 (Some (ended program.first))
-  cut : (program : Program) → IsAccepted bytes until program → Rose before after → GrewByFront old now (text_of program.first program.variable program.agent) → Ends bytes until old now before after 4 None
+  done : (program : Program) → IsAccepted bytes until program → Grew old now (text_of program.numbers program.variable program.agent) → Ends bytes until old now before after 0 (Some (ended program.numbers))
+  cut : (program : Program) → IsAccepted bytes until program → Rose before after → GrewByFront old now (text_of program.numbers program.variable program.agent) → Ends bytes until old now before after 4 None

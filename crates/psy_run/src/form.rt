@@ -7,7 +7,7 @@ ghost use Rattle.psy_tree.specs.declared.unit.Point.{Point};
 ghost use Rattle.psy_tree.specs.declared.unit.Stmt.{Stmt};
 ghost use Rattle.psy_run.specs.Form as spec;
 ghost use Rattle.psy_run.specs.Form.{Adds, DoesOne, IsOwn, HaveNumbers, IsForm};
-ghost use Rattle.psy_kernel.specs.declared.first.First.{First as first};
+ghost use Rattle.psy_kernel.specs.declared.first.First.{First as Numbers};
 
 use psy_arith::Op2;
 use psy_base::{Text, limits};
@@ -102,22 +102,22 @@ fn is_short(name: &Text) -> bool
     name.bytes().len() <= limits::WORD_BYTES
 }
 
-fn is_in_range(first: &First) -> bool
-    ensures { IsTrue result ↔ InRange first.now }
+fn is_in_range(numbers: &First) -> bool
+    ensures { IsTrue result ↔ InRange numbers.now }
 {
-    if first.quantum < 1 || first.quantum > 1000 {
+    if numbers.quantum < 1 || numbers.quantum > 1000 {
         return false;
     }
-    if first.period < 1 || first.period > limits::PERIOD || first.first >= first.period {
+    if numbers.period < 1 || numbers.period > limits::PERIOD || numbers.first >= numbers.period {
         return false;
     }
-    if first.init < -2_147_483_647 || first.add > limits::LITERAL {
+    if numbers.init < -2_147_483_647 || numbers.add > limits::LITERAL {
         return false;
     }
-    if first.budget < 8 || first.budget > 1_000_000 {
+    if numbers.budget < 8 || numbers.budget > limits::BUDGET {
         return false;
     }
-    first.until <= limits::UNTIL
+    numbers.until <= limits::UNTIL
 }
 
 // What the agent assigns, where it has no locals, assigns once and advances to the next date.
@@ -145,7 +145,7 @@ fn is_own(variable: &VarDecl, clock: u32) -> bool
 pub struct Form<'a> {
     pub variable: &'a [u8],
     pub agent: &'a [u8],
-    pub first: First,
+    pub numbers: First,
 }
 
 // The numbers of such a program, in their ranges.
@@ -157,12 +157,12 @@ fn read_numbers(
     clock: Clock,
     value: &Expr,
 ) -> Option<First>
-    ensures { MatchOption result ((first : first) → HaveNumbers quantum until budget init clock value.now first → ⊥) (λ first. HaveNumbers quantum until budget init clock value.now first) }
+    ensures { MatchOption result ((numbers : Numbers) → HaveNumbers quantum until budget init clock value.now numbers → ⊥) (λ numbers. HaveNumbers quantum until budget init clock value.now numbers) }
 {
     let Some((own, add)) = adds(value) else {
         return None;
     };
-    let first = First {
+    let numbers = First {
         quantum,
         period: clock.period,
         first: clock.first,
@@ -172,8 +172,8 @@ fn read_numbers(
         budget,
         until,
     };
-    if is_in_range(&first) {
-        Some(first)
+    if is_in_range(&numbers) {
+        Some(numbers)
     } else {
         None
     }
@@ -181,7 +181,7 @@ fn read_numbers(
 
 /// The program that the unit is, to be run up to this date; None exactly where it has another form.
 pub fn read_form(unit: &Unit, until: u32) -> Option<Form<'_>>
-    ensures { MatchOption result ((program : spec.Program) → IsForm unit.now until program → ⊥) (λ f. IsForm unit.now until (record { variable = f.variable.now; agent = f.agent.now; first = f.first })) }
+    ensures { MatchOption result ((program : spec.Program) → IsForm unit.now until program → ⊥) (λ f. IsForm unit.now until (record { variable = f.variable.now; agent = f.agent.now; numbers = f.numbers })) }
 {
     let [variable] = unit.variables.as_slice() else {
         return None;
@@ -210,7 +210,7 @@ pub fn read_form(unit: &Unit, until: u32) -> Option<Form<'_>>
     if !is_short(&agent.name) {
         return None;
     }
-    let Some(first) = read_numbers(
+    let Some(numbers) = read_numbers(
         unit.quantum,
         until,
         agent.budget,
@@ -223,6 +223,6 @@ pub fn read_form(unit: &Unit, until: u32) -> Option<Form<'_>>
     Some(Form {
         variable: variable.name.bytes(),
         agent: agent.name.bytes(),
-        first,
+        numbers,
     })
 }

@@ -27,7 +27,7 @@ pub enum Stop {
 fn tokens(alloc: Global, bytes: &[u8]) -> Result<Items<Token>, Stop>
     requires { length bytes.now ≤ FILE_BYTES }
     ensures ok { IfOk result (λ tokens. HasTokens bytes.now tokens) }
-    ensures few { IfOk result (λ tokens. length tokens ≤ 262144) }
+    ensures few { IfOk result (λ tokens. length tokens ≤ FILE_BYTES) }
     ensures err { IfErr result (λ stop. (until : ℕ) → IsStop bytes.now until stop) }
 {
     match lex(alloc, bytes) {
@@ -77,15 +77,15 @@ pub fn unit(alloc: Global, bytes: &[u8]) -> Result<Unit, Stop>
 
 /// The window of so many ticks in which the program's actions need more cycles than it has, if there is
 /// one up to the last date: its length, the cycles needed, and the cycles that it has.
-pub fn overload(first: &First) -> Option<(u32, u32, u32)>
-    requires { InRange first.now }
-    ensures { MatchOption result (IsFeasible first.now) (λ o.
-        (first.now.period ≤ first.now.until) × (o.2 < o.1)
-        × (o.0 ≡ first.now.period) × (o.1 ≡ first.now.budget) × (o.2 ≡ first.now.quantum * first.now.period)) }
+pub fn overload(program: &First) -> Option<(u32, u32, u32)>
+    requires { InRange program.now }
+    ensures { MatchOption result (IsFeasible program.now) (λ o.
+        (program.now.period ≤ program.now.until) × (o.2 < o.1)
+        × (o.0 ≡ program.now.period) × (o.1 ≡ program.now.budget) × (o.2 ≡ program.now.quantum * program.now.period)) }
 {
-    let supply = first.quantum * first.period;
-    if first.period <= first.until && first.budget > supply {
-        return Some((first.period, first.budget, supply));
+    let supply = program.quantum * program.period;
+    if program.period <= program.until && program.budget > supply {
+        return Some((program.period, program.budget, supply));
     }
     None
 }

@@ -4,7 +4,7 @@
 mod asked;
 mod form;
 mod judge;
-mod law;
+pub mod laws;
 mod line;
 mod log;
 mod refusal;
@@ -16,6 +16,5 @@ mod tests;
 mod top;
 mod write;
 
-pub use law::one_answer;
 pub use top::psyc;
 pub use write::{WriteFault, write_all_of};

@@ -1,11 +1,12 @@
 ghost use Rattle.std.specs.Prelude.{◌≡◌, ◌≤◌, length};
+ghost use Rattle.psy_base.specs.declared.limits.TheConstants.{WORD_BYTES};
 ghost use Rattle.psy_run.specs.Log.{value_line, end_line, agent_line, variable_line};
 
 use crate::line::Line;
 
 /// The line of a value that is published.
 pub fn value_line(date: u64, variable: &[u8], value: i32) -> Line
-    requires { length variable.now ≤ 32 }
+    requires { length variable.now ≤ WORD_BYTES }
     ensures { result ≡ value_line date variable.now value }
 {
     let mut line = Line::new();
@@ -31,7 +32,7 @@ pub fn end_line(until: u64) -> Line
 
 /// The line of an agent: how many actions were due, and the least slack among them in cycles.
 pub fn agent_line(agent: &[u8], count: u64, slack: Option<u64>) -> Line
-    requires { length agent.now ≤ 32 }
+    requires { length agent.now ≤ WORD_BYTES }
     ensures { result ≡ agent_line agent.now count slack }
 {
     let mut line = Line::new();
@@ -50,7 +51,7 @@ pub fn agent_line(agent: &[u8], count: u64, slack: Option<u64>) -> Line
 
 /// The line of a variable of depth 1 that nobody consults.
 pub fn variable_line(variable: &[u8]) -> Line
-    requires { length variable.now ≤ 32 }
+    requires { length variable.now ≤ WORD_BYTES }
     ensures { result ≡ variable_line variable.now }
 {
     let mut line = Line::new();

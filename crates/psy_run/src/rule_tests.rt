@@ -1,5 +1,8 @@
 //! The rules: programs that keep each and programs that break it.
+use crate::refusal::Refusal;
 use crate::tests::{SOUND, compare};
+use psy_base::limits;
+use psy_tree::Count;
 use std::alloc::Global;
 use std::test::Fail;
 
@@ -65,7 +68,7 @@ const BODIES: [Case; 44] = [
     ("while (v) max 1 { } advance 1 on c;", 0, 0),
 ];
 
-const PROGRAMS: [Case; 88] = [
+const PROGRAMS: [Case; 103] = [
     ("tick 0;", 12, 1),
     ("tick 1;", 0, 0),
     ("tick 1000000;", 0, 0),
@@ -386,6 +389,70 @@ const PROGRAMS: [Case; 88] = [
     ("tick 1; int f() { return f(); }", 10, 9),
     ("tick 1; int f() { } int g() { return g(); }", 10, 15),
     ("tick 1; int f() { if (f()) { } }", 10, 10),
+    // Names in heads: a local of the agent isn't in reach there.
+    (
+        "tick 10; clock c = 1 * tick; agent A on x budget 9 { int x = 0; body { advance 1 on c; } }",
+        2,
+        13,
+    ),
+    // An owner or receiver that is no agent is the only fault, also where the uses stand before it.
+    (
+        "tick 10; clock c = 1 * tick; agent A on c budget 9 { body { v = 1; advance 1 on c; } } temporal v of B on c = 0 depth 1;",
+        2,
+        33,
+    ),
+    (
+        "tick 10; clock c = 1 * tick; agent A on c budget 9 { body { v = 1; advance 1 on c; } } temporal v of c on c = 0 depth 1;",
+        3,
+        33,
+    ),
+    (
+        "tick 10; clock c = 1 * tick; agent A on c budget 9 { int n = 0; body { n = ready(s); advance 1 on c; } } stream s to B keep 1 on c;",
+        2,
+        41,
+    ),
+    (
+        "tick 10; clock c = 1 * tick; agent A on c budget 9 { int n = 0; body { n = take(s); advance 1 on c; } } stream s to c keep 1 on c;",
+        3,
+        41,
+    ),
+    // A function that names a global where a value stands.
+    (
+        "tick 10; clock c = 1 * tick; temporal v of A on c = 0 depth 1; int f() { v = 1; } agent A on c budget 9 { body { advance 1 on c; } }",
+        3,
+        26,
+    ),
+    ("tick 10; int f() { return f; }", 3, 9),
+    // A period isn't judged where the parent's name is at fault; the shift is.
+    ("tick 10; clock c = 10001 * d;", 2, 8),
+    ("tick 10; clock c = 2 * d + 2;", 11, 4),
+    ("tick 10; clock c = 5000 * d; clock d = 5000 * tick;", 2, 8),
+    (
+        "tick 10; clock c = 10001 * A; agent A on c budget 9 { body { advance 1 on c; } }",
+        3,
+        8,
+    ),
+    (
+        "tick 10; clock c = 1 * A + 1; agent A on c budget 9 { body { advance 1 on c; } }",
+        11,
+        4,
+    ),
+    // A number of `past` is compared with the depth as written, also one outside its range.
+    (
+        "tick 10; clock c = 1 * tick; agent A on c budget 9 { int n = 0; body { n = past(v, 1024); advance 1 on c; } } temporal v of A on c = 0 depth 1025;",
+        12,
+        49,
+    ),
+    (
+        "tick 10; clock c = 1 * tick; agent A on c budget 9 { int n = 0; body { n = past(v, 1025); advance 1 on c; } } temporal v of A on c = 0 depth 1025;",
+        6,
+        30,
+    ),
+    (
+        "tick 10; clock c = 1 * tick; agent A on c budget 9 { int n = 0; body { n = past(v, 0); advance 1 on c; } } temporal v of A on c = 0 depth 0;",
+        6,
+        30,
+    ),
 ];
 
 // The text that is written of a program that isn't of a form that is run so far.
@@ -510,6 +577,34 @@ fn counts_have_limits(rt: HostRuntime) -> Result<(), Fail> {
         compare(&rt, &words, within.as_bytes(), SOUND, 1, "not built\n")?;
         let beyond = program_of(rt.alloc(), &counted, counted.many + 1)?;
         compare(&rt, &words, beyond.as_bytes(), SOUND, 7, counted.line)?;
+    }
+    Ok(())
+}
+
+#[test]
+fn lines_of_limits_have_their_numbers(rt: HostRuntime) -> Result<(), Fail> {
+    let cases = [
+        (Refusal::LongProgram, "program", limits::FILE_BYTES),
+        (Refusal::Many(Count::Clocks), "clocks", limits::CLOCKS),
+        (Refusal::Many(Count::Agents), "agents", limits::AGENTS),
+        (
+            Refusal::Many(Count::Variables),
+            "variables",
+            limits::VARIABLES,
+        ),
+        (Refusal::Many(Count::Streams), "streams", limits::STREAMS),
+        (
+            Refusal::Many(Count::Functions),
+            "functions",
+            limits::FUNCTIONS,
+        ),
+        (Refusal::Many(Count::Names), "names", limits::NAMES),
+        (Refusal::Many(Count::Points), "points", limits::POINTS),
+    ];
+    for (refusal, name, limit) in cases {
+        let line = refusal.line();
+        let want = format!(in rt.alloc(); "limit {name} {limit}\n")?;
+        assert_eq!(rt; line.bytes(), want.as_bytes(), "the line of {name}");
     }
     Ok(())
 }

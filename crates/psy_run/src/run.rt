@@ -1,4 +1,5 @@
 ghost use Rattle.std.specs.Prelude.{◌≡◌, ◌+◌, ◌-◌, ◌*◌, ◌<◌, ◌≤◌, length, OnOk, OnErr};
+ghost use Rattle.psy_base.specs.declared.limits.TheConstants.{WORD_BYTES};
 ghost use Rattle.psy_door.specs.Faults.{Rose};
 ghost use Rattle.psy_kernel.specs.Standing.{ended};
 ghost use Rattle.psy_run.specs.Log.{lines_at, log_of, summary_of, text_of};
@@ -26,11 +27,11 @@ fn write_date<S: Sink>(
     variable: &[u8],
     out: &mut S,
 ) -> Result<(), WriteFault>
-    requires short { length variable.now ≤ 32 }
+    requires short { length variable.now ≤ WORD_BYTES }
     requires done { kernel.now.dates ≡ date + 1 }
     ensures counted { S.faults out.old ≤ S.faults out.new }
     ensures failed { OnErr result (Rose (S.faults out.old) (S.faults out.new)) }
-    ensures written { Written (S.held out.old) (S.held out.new) result (lines_at kernel.now.first variable.now date) }
+    ensures written { Written (S.held out.old) (S.held out.new) result (lines_at kernel.now.program variable.now date) }
 {
     match kernel.value() {
         None => write_line(out, &Line::new()),
@@ -40,12 +41,12 @@ fn write_date<S: Sink>(
 
 // Does all dates and cycles of a kernel that was just booted, and writes the lines of each date.
 fn run_dates<S: Sink>(kernel: &mut Kernel, variable: &[u8], out: &mut S) -> Result<(), WriteFault>
-    requires short { length variable.now ≤ 32 }
-    requires booted { kernel.old ≡ record { first = kernel.old.first; dates = 0; cycles = 0 } }
+    requires short { length variable.now ≤ WORD_BYTES }
+    requires booted { kernel.old ≡ record { program = kernel.old.program; dates = 0; cycles = 0 } }
     ensures counted { S.faults out.old ≤ S.faults out.new }
     ensures failed { OnErr result (Rose (S.faults out.old) (S.faults out.new)) }
-    ensures over { OnOk result (kernel.new ≡ ended kernel.old.first) }
-    ensures written { Written (S.held out.old) (S.held out.new) result (log_of kernel.old.first variable.now (kernel.old.first.until + 1)) }
+    ensures over { OnOk result (kernel.new ≡ ended kernel.old.program) }
+    ensures written { Written (S.held out.old) (S.held out.new) result (log_of kernel.old.program variable.now (kernel.old.program.until + 1)) }
 {
     'stages: loop {
         match kernel.stage() {
@@ -69,13 +70,13 @@ fn write_summary<S: Sink>(
     agent: &[u8],
     out: &mut S,
 ) -> Result<(), WriteFault>
-    requires variable { length variable.now ≤ 32 }
-    requires agent { length agent.now ≤ 32 }
-    requires until { until ≡ kernel.now.first.until }
+    requires variable { length variable.now ≤ WORD_BYTES }
+    requires agent { length agent.now ≤ WORD_BYTES }
+    requires until { until ≡ kernel.now.program.until }
     requires over { kernel.now.dates ≡ until + 1 }
     ensures counted { S.faults out.old ≤ S.faults out.new }
     ensures failed { OnErr result (Rose (S.faults out.old) (S.faults out.new)) }
-    ensures written { Written (S.held out.old) (S.held out.new) result (summary_of kernel.now.first variable.now agent.now) }
+    ensures written { Written (S.held out.old) (S.held out.new) result (summary_of kernel.now.program variable.now agent.now) }
 {
     if let Err(fault) = write_line(out, &log::end_line(u64::from(until))) {
         return Err(fault);
@@ -96,14 +97,14 @@ pub fn run_loop<S: Sink>(
     agent: &[u8],
     out: &mut S,
 ) -> Result<(), WriteFault>
-    requires variable { length variable.now ≤ 32 }
-    requires agent { length agent.now ≤ 32 }
-    requires until { until ≡ kernel.old.first.until }
-    requires booted { kernel.old ≡ record { first = kernel.old.first; dates = 0; cycles = 0 } }
+    requires variable { length variable.now ≤ WORD_BYTES }
+    requires agent { length agent.now ≤ WORD_BYTES }
+    requires until { until ≡ kernel.old.program.until }
+    requires booted { kernel.old ≡ record { program = kernel.old.program; dates = 0; cycles = 0 } }
     ensures counted { S.faults out.old ≤ S.faults out.new }
     ensures failed { OnErr result (Rose (S.faults out.old) (S.faults out.new)) }
-    ensures over { OnOk result (kernel.new ≡ ended kernel.old.first) }
-    ensures written { Written (S.held out.old) (S.held out.new) result (text_of kernel.old.first variable.now agent.now) }
+    ensures over { OnOk result (kernel.new ≡ ended kernel.old.program) }
+    ensures written { Written (S.held out.old) (S.held out.new) result (text_of kernel.old.program variable.now agent.now) }
 {
     if let Err(fault) = run_dates(kernel, variable, out) {
         return Err(fault);

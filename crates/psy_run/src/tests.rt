@@ -1,4 +1,4 @@
-use crate::{WriteFault, one_answer, psyc, write_all_of};
+use crate::{WriteFault, laws, psyc, write_all_of};
 use psy_base::Text;
 use psy_base::limits::FILE_BYTES;
 use psy_door::{CleanShelf, CleanSink, ShelfMap, Sink, SinkVec};
@@ -254,7 +254,7 @@ const OTHER_FORMS: [&str; 20] = [
 
 #[test]
 fn a_program_has_its_answer(rt: HostRuntime) -> Result<(), Fail> {
-    one_answer();
+    laws::one_answer();
     for (program, until, status, text) in ANSWERED {
         let words = ["run", "prog.psy", until];
         compare(&rt, &words, program.as_bytes(), SOUND, status, text)?;

@@ -1,6 +1,6 @@
 //! The top call.
 ghost use Rattle.std.specs.Prelude.{◌≡◌, ◌≢◌, ℕ, ◌≤◌, ◌⊎◌, List, [], map, length, string_bytes, None, Some, IfSome, IfNone};
-ghost use Rattle.psy_base.specs.declared.limits.TheConstants.{FILE_BYTES};
+ghost use Rattle.psy_base.specs.declared.limits.TheConstants.{FILE_BYTES, UNTIL};
 ghost use Rattle.psy_door.specs.Faults.{Rose};
 ghost use Rattle.psy_door.specs.Files.{Files};
 ghost use Rattle.psy_door.specs.Growth.{Grew, GrewByFront};
@@ -51,7 +51,7 @@ fn run<S: Sink>(
     left: &mut Option<Kernel>,
 ) -> u8
     requires short { length bytes.now ≤ FILE_BYTES }
-    requires until { until ≤ 100000 }
+    requires until { until ≤ UNTIL }
     requires empty { left.old ≡ None }
     ensures counted { S.faults out.old ≤ S.faults out.new }
     ensures ends { Ends bytes.now until (S.held out.old) (S.held out.new) (S.faults out.old) (S.faults out.new) result left.new }
@@ -63,7 +63,7 @@ fn run<S: Sink>(
     let Some(form) = read_form(&unit, until) else {
         return refuse(Refusal::NotBuilt, out);
     };
-    if let Some((length, demand, supply)) = overload(&form.first) {
+    if let Some((length, demand, supply)) = overload(&form.numbers) {
         return refuse(
             Refusal::Infeasible {
                 length,
@@ -73,7 +73,7 @@ fn run<S: Sink>(
             out,
         );
     }
-    let mut kernel = Kernel::boot(form.first);
+    let mut kernel = Kernel::boot(form.numbers);
     match run_loop(&mut kernel, until, form.variable, form.agent, out) {
         Ok(()) => {
             *left = Some(kernel);

@@ -1,9 +1,11 @@
-use Rattle.std.proofs.Common.{◌≤◌, ◌-◌, vec_len}
+use Rattle.std.proofs.Common.{◌≡◌, ◌≤◌, ◌+◌, ◌-◌, vec_len}
+use Rattle.psy_base.specs.declared.limits.TheConstants.{FILE_BYTES}
 use Rattle.psy_door.proofs.file_shelf.read_some.Given as goal
 
+-- all that was taken was added
 abbrev pub invariant-filling : goal.invariant-filling
-invariant-filling g l = vec_len l.bytes ≤ 262145
+invariant-filling g l = (vec_len l.bytes ≤ FILE_BYTES + 1) × (l.taken ≡ vec_len l.bytes)
 
 -- how many bytes may still be taken
 abbrev pub decreases-filling : goal.decreases-filling
-decreases-filling g l = 262145 - vec_len l.bytes
+decreases-filling g l = FILE_BYTES + 1 - vec_len l.bytes

@@ -6,14 +6,14 @@ use Rattle.psy_run.proofs.run.run_dates.Given as goal
 abbrev pub invariant-stages : goal.invariant-stages
 invariant-stages g l =
     record {
-      first : l.kernel.first ≡ l.fn.kernel.first;
-      within : l.kernel.dates ≤ l.kernel.first.until + 1;
-      cycles : l.kernel.cycles ≤ l.kernel.dates * l.kernel.first.quantum;
-      over : l.kernel.dates ≡ l.kernel.first.until + 1 → l.kernel.cycles ≡ l.kernel.first.until * l.kernel.first.quantum;
+      program : l.kernel.program ≡ l.fn.kernel.program;
+      within : l.kernel.dates ≤ l.kernel.program.until + 1;
+      cycles : l.kernel.cycles ≤ l.kernel.dates * l.kernel.program.quantum;
+      over : l.kernel.dates ≡ l.kernel.program.until + 1 → l.kernel.cycles ≡ l.kernel.program.until * l.kernel.program.quantum;
       counted : g.S.Sink.faults l.fn.out ≤ g.S.Sink.faults l.out;
-      grew : Grew (g.S.Sink.held l.fn.out) (g.S.Sink.held l.out) (log_of l.fn.kernel.first l.variable l.kernel.dates);
+      grew : Grew (g.S.Sink.held l.fn.out) (g.S.Sink.held l.out) (log_of l.fn.kernel.program l.variable l.kernel.dates);
     }
 
 -- the dates and cycles that are left
 abbrev pub decreases-stages : goal.decreases-stages
-decreases-stages g l = (l.kernel.first.until + 1 - l.kernel.dates) + (l.kernel.first.until * l.kernel.first.quantum - l.kernel.cycles)
+decreases-stages g l = (l.kernel.program.until + 1 - l.kernel.dates) + (l.kernel.program.until * l.kernel.program.quantum - l.kernel.cycles)

@@ -6,12 +6,12 @@ use Rattle.psy_kernel.proofs.kernel.Kernel.counted.Goals as goal
 pub returns-clause-count : goal.returns-clause-count
 returns-clause-count c =
     let k = c.self.inside in
-    c.saturating_sub.ensures ∙ count_of_is k.first k.dates k.cycles _ (present k c.self.invariant) ∙ ap count_of c.self.view_is
+    c.saturating_sub.ensures ∙ count_of_is k.program k.dates k.cycles _ (present k c.self.invariant) ∙ ap count_of c.self.view_is
 
 pub returns-clause-slack : goal.returns-clause-slack
 returns-clause-slack c =
     let k = c.self.inside in
-    c.self.invariant.slack ∙ least_slack_of_is k.first k.dates k.cycles _ (present k c.self.invariant) ∙ ap least_slack_of c.self.view_is
+    c.self.invariant.slack ∙ least_slack_of_is k.program k.dates k.cycles _ (present k c.self.invariant) ∙ ap least_slack_of c.self.view_is
 
 pub returns-clause-none : goal.returns-clause-none
-returns-clause-none c = rw (c.self.invariant.slack, c.saturating_sub.ensures) (least_none c.self.inside.first (c.self.inside.published - 1))
+returns-clause-none c = rw (c.self.invariant.slack, c.saturating_sub.ensures) (least_none c.self.inside.program (c.self.inside.published - 1))

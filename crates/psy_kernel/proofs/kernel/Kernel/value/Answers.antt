@@ -6,7 +6,7 @@ use Rattle.psy_kernel.proofs.kernel.Kernel.value.Goals as goal
 pub returns-then-self-eq0-clause-value : goal.returns-then-self-eq0-clause-value
 returns-then-self-eq0-clause-value c =
     let k = c.self.inside in
-    value_of_none k.first k.dates k.cycles (λ n e. absurd (let d = c.if-self-eq0.true in omega arith)) ∙ ap value_of c.self.view_is
+    value_of_none k.program k.dates k.cycles (λ n e. absurd (let d = c.if-self-eq0.true in omega arith)) ∙ ap value_of c.self.view_is
 
 pub returns-then-self-eq0-clause-none : goal.returns-then-self-eq0-clause-none
 returns-then-self-eq0-clause-none c =
@@ -15,7 +15,7 @@ returns-then-self-eq0-clause-none c =
 pub returns-then-self-from-clause-value : goal.returns-then-self-from-clause-value
 returns-then-self-from-clause-value c =
     let k = c.self.inside in
-    value_of_none k.first k.dates k.cycles (no_date k c.self.invariant (omega arith) (omega arith)) ∙ ap value_of c.self.view_is
+    value_of_none k.program k.dates k.cycles (no_date k c.self.invariant (omega arith) (omega arith)) ∙ ap value_of c.self.view_is
 
 pub returns-then-self-from-clause-none : goal.returns-then-self-from-clause-none
 returns-then-self-from-clause-none c =
@@ -26,7 +26,7 @@ returns-clause-value c =
     let k = c.self.inside in
     let same : to_z w32 (of_z w32 k.value) ≡ k.value = search rules in
     ap Some (same ∙ c.self.invariant.value)
-    ∙ value_of_some k.first k.dates k.cycles _ c.self.invariant.range.period.0 (omega arith) (last_date k c.self.invariant (omega arith) (omega arith))
+    ∙ value_of_some k.program k.dates k.cycles _ c.self.invariant.range.period.0 (omega arith) (last_date k c.self.invariant (omega arith) (omega arith))
     ∙ ap value_of c.self.view_is
 
 pub returns-clause-none : goal.returns-clause-none

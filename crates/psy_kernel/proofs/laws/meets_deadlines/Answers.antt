@@ -1,5 +1,5 @@
 use Rattle.psy_kernel.proofs.StandingLemmas.{finish_of-le}
-use Rattle.psy_kernel.proofs.law.meets_deadlines.Goals as goal
+use Rattle.psy_kernel.proofs.laws.meets_deadlines.Goals as goal
 
 pub returns : goal.returns
 returns c = finish_of-le

@@ -5,5 +5,5 @@ ghost use Rattle.psy_kernel.specs.Meaning.{InRange, IsFeasible, deadline_of, fin
 
 /// Each action that is due by the last date of a feasible program finishes by its deadline.
 pub fn meets_deadlines()
-    ensures { (first : First) (n : ℕ) → InRange first → IsFeasible first → deadline_of first n ≤ first.until → finish_of first n ≤ deadline_of first n * first.quantum }
+    ensures { (program : First) (n : ℕ) → InRange program → IsFeasible program → deadline_of program n ≤ program.until → finish_of program n ≤ deadline_of program n * program.quantum }
 {}
