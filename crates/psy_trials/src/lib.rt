@@ -1,10 +1,14 @@
-//! Trials: small programs, as statements that the evaluator walks and as code, written by hand, that the
-//! machine executes.
+//! Trials: programs from their text to what a machine does with their code, and what is said of them before
+//! they run.
 #![tactic(auto)]
 
+pub mod borrowing;
+
 #[cfg(test)]
-mod code;
+mod acting;
 #[cfg(test)]
-mod statements;
+mod look;
 #[cfg(test)]
 mod tests;
+#[cfg(test)]
+mod texts;
