@@ -2,7 +2,7 @@
 use Rattle.std.proofs.Common.{◌≡◌, ◌≢◌, refl, sym, ap, ◌∙◌, subst, arith}
 use Rattle.std.proofs.lemmas.Bool.Decides.{nat_tests}
 use Rattle.std.proofs.lemmas.List.Elements.{All-head, All-tail}
-use Rattle.std.specs.Prelude.{Bool, true, false, if◌then◌else◌, ℕ, zero, suc, ◌+◌, ◌<◌, List, [], ◌∷◌, ◌++◌, map, length, replicate, Option, Some, None, slice_get, ℤ}
+use Rattle.std.specs.Prelude.{Bool, true, false, if◌then◌else◌, ℕ, zero, suc, ◌+◌, ◌<◌, List, [], ◌∷◌, ◌++◌, map, length, replicate, Option, Some, None, IsSome, ◌==◌, slice_get, ℤ}
 use Rattle.std.specs.List.{All, flat_map}
 use Rattle.std.proofs.lemmas.List.{length-replicate}
 use Rattle.psy_arith.specs.declared.operators.Trap.{Trap}
@@ -12,11 +12,12 @@ use Rattle.psy_code.specs.declared.instr.Instr.{Instr}
 use Rattle.psy_code.specs.declared.instr.Instr.TheVariants as instr
 use Rattle.psy_code.specs.declared.look.Sent.{Sent}
 use Rattle.psy_code.specs.Views.{View, Window, Call, Past, Ready, Take, Send, Deeds, ServesAll, PermitsAll, found_in, nothing_done}
-use Rattle.psy_code.specs.Execution.{Machine, RunState, Run, Running, RanTo, TrappedBy, NoRun, Next, Went, Ended, Trapped, Stuck, within, does, instr_at, call_by, call_of, next_of, deeds_then, view_then, state_then, run_by, run_one, run_code, standing, need, with_top, onward, has_room}
+use Rattle.psy_code.specs.Execution.{Machine, Copy, copy_of, RunState, Run, Running, RanTo, TrappedBy, NoRun, Next, Went, Ended, Trapped, Stuck, within, does, instr_at, call_by, call_of, next_of, deeds_then, view_then, state_then, run_by, run_one, run_code, standing, need, with_top, onward, has_room}
 use Rattle.psy_code.specs.Lasting.{IsOver, IsFront, GoesOn, Lasted, StandsAt}
 use Rattle.psy_tree.specs.declared.unit.Unit.{Unit as Whole}
 use Rattle.psy_tree.specs.declared.unit.AgentDecl.{AgentDecl}
-use Rattle.psy_meaning.specs.Alike.{ActsAlike, AgentAlike, EndsAs, IsStoreOf, IsViewOf, SameAs, begun, started, first_copies, first_store, home_holding}
+use Rattle.psy_tree.specs.declared.unit.VarDecl.{VarDecl}
+use Rattle.psy_meaning.specs.Alike.{ActsAlike, AgentAlike, EndsAs, IsStoreOf, IsViewOf, SameAs, begun, started, first_copies, first_store, home_holding, owned_from, owned_copy}
 use Rattle.psy_meaning.specs.Kept.{IsKept, IsSentOf}
 use Rattle.psy_meaning.specs.Rest.{rest}
 use Rattle.psy_meaning.specs.Sound.{IsSoundUnit}
@@ -25,8 +26,8 @@ use Rattle.psy_meaning.specs.States.{Store, State, Outcome, Final, Halts}
 use Rattle.psy_meaning.specs.States as by
 use Rattle.psy_machine.specs.declared.machine.Step.{Step}
 use Rattle.psy_machine.specs.declared.machine.Step.TheVariants as step
-use Rattle.psy_machine.specs.Stepping.{AgentMachine, Answers, machine_after, next_for, stepped, window_after}
-use Rattle.psy_trials.specs.Actions.{StandsIn, Rests, HasCopies, IsAction, IsUnderWay, IsBehind}
+use Rattle.psy_machine.specs.Stepping.{AgentMachine, IsNew, Answers, machine_after, next_for, stepped, window_after}
+use Rattle.psy_trials.specs.Actions.{StandsIn, Rests, HasCopies, IsAction, IsUnderWay, IsBehind, Owns, RestsAfter}
 
 -- ---- runs
 
@@ -263,3 +264,71 @@ module _ (unit : Whole) (code : Code) (number : ℕ) (agent : AgentDecl) (its : 
       let ends = subst (λ o. EndsAs o (run_code code its (started at view))) kept.1 acts in
       let action = action_by at counted of_unit of_code ending kept.0 kept.2 ends in
       subst (λ n. IsUnderWay unit code number n view) (sym stands) (begins at action.0 action.1 action.2 lasting)
+
+-- ---- the copies of an agent
+
+either_found : (b : Bool) (x : ℤ) (o : Option ℤ) → IsSome o → IsSome (if b then Some x else o)
+either_found true x o h = refl
+either_found false x o h = h
+
+found_behind : (variable : ℕ) (xs ys : List Copy) → IsSome (copy_of variable ys) → IsSome (copy_of variable (xs ++ ys))
+found_behind variable [] ys h = h
+found_behind variable (c ∷ xs) ys h = either_found (c.variable == variable) c.value _ (found_behind variable xs ys h)
+
+first_found : (variable : ℕ) (c d : Copy) (found : Option ℤ) (b : Bool) → (d.variable == variable) ≡ b → c.variable ≡ d.variable → (b ≡ false → IsSome found) → IsSome (if c.variable == variable then Some c.value else found)
+first_found variable c d found true e heads h = rw (heads, e) refl
+first_found variable c d found false e heads h = rw (heads, e) (h refl)
+
+left_found : (b : Bool) (x : ℤ) (o : Option ℤ) → b ≡ false → IsSome (if b then Some x else o) → IsSome o
+left_found true x o e h = cc
+left_found false x o e h = h
+
+same_found : (variable : ℕ) (cs ds : List Copy) → map (λ c. c.variable) cs ≡ map (λ c. c.variable) ds → IsSome (copy_of variable ds) → IsSome (copy_of variable cs)
+same_found variable [] [] e h = h
+same_found variable [] (d ∷ ds) e h = cc
+same_found variable (c ∷ cs) [] e h = cc
+same_found variable (c ∷ cs) (d ∷ ds) e h =
+    first_found variable c d (copy_of variable cs) (d.variable == variable) refl (cc) (λ other. same_found variable cs ds (cc) (left_found (d.variable == variable) d.value (copy_of variable ds) other h))
+
+itself : (n : ℕ) → (n == n) ≡ true
+itself n = grind (arith, nat_tests)
+
+owned_first : (number k : ℕ) (v : VarDecl) (rest : List VarDecl) → v.owner ≡ Some number → IsSome (copy_of k (owned_from number k (v ∷ rest)))
+owned_first number k v rest e = rw (e, itself number, itself k) refl
+
+owned_found : (number k i : ℕ) (vs : List VarDecl) (v : VarDecl) → slice_get vs i ≡ Some v → v.owner ≡ Some number → IsSome (copy_of (k + i) (owned_from number k vs))
+owned_found number k i [] v at e = absurd (cc)
+owned_found number k zero (w ∷ vs) v at e =
+    let here : w ≡ v = cc in
+    subst (λ n. IsSome (copy_of n (owned_from number k (w ∷ vs)))) (omega arith) (owned_first number k w vs (ap (λ (x : VarDecl). x.owner) here ∙ e))
+owned_found number k (suc i) (w ∷ vs) v at e =
+    subst (λ n. IsSome (copy_of n (owned_from number k (w ∷ vs)))) (omega arith) (found_behind (k + 1 + i) (owned_copy number k w w.owner) (owned_from number (k + 1) vs) (owned_found number (k + 1) i vs v at e))
+
+-- a machine has a copy of each variable that its agent owns
+pub has_copy : (unit : Whole) (number variable : ℕ) (m : Machine) → Owns unit number variable → HasCopies unit number m → IsSome (copy_of variable m.copies)
+has_copy unit number variable m owns has =
+    same_found variable m.copies (first_copies unit number) has (owned_found number 0 variable unit.variables owns.0 owns.1 owns.2)
+
+-- ---- between actions
+
+-- after an action that ended or trapped
+pub after_end : (unit : Whole) (code : Code) (number : ℕ) (answer : Step) (m : Machine) (view : View) → (answer ≡ step.Went → ⊥) → IsBehind unit code number answer m view → HasCopies unit number m × RestsAfter unit code number answer m
+after_end unit code number step.Went m view other h = absurd (other refl)
+after_end unit code number (step.Ended point) m view other h = h
+after_end unit code number (step.Trapped kind) m view other h = (h, tt {0})
+
+-- the machine of an agent that hasn't started
+pub rests_first : (unit : Whole) (code : Code) (number : ℕ) (agent : AgentDecl) (m : AgentMachine) → IsSoundUnit unit → ActsAlike unit code → slice_get unit.agents number ≡ Some agent → IsNew code number m → IsStoreOf unit number agent (first_store unit number agent) → Rests unit code number m.machine
+rests_first unit code number agent m sound alike of_unit new holds =
+    let its = new.0 in
+    let same = alike.each number agent its of_unit new.1 in
+    (its, new.1, 0, record {
+      agent = agent;
+      store = first_store unit number agent;
+      counters = replicate its.counters 0;
+      of_unit = of_unit;
+      known = omega (arith, (sound.agents number agent of_unit).points);
+      holds = holds;
+      counted = length-replicate its.counters 0;
+      stands = new.3 ∙ rw (same.cells, same.copies) refl;
+    })

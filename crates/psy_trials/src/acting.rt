@@ -84,7 +84,8 @@ fn next_look(
     sound();
     keeps();
     lasting();
-    look_of(alloc, unit, scene.agent, scene.pasts, scene.messages)
+    let look = look_of(alloc, unit, scene.agent, scene.pasts, scene.messages)?;
+    Ok(look)
 }
 
 // The next action of a scene's agent, unless it has too many instructions.
@@ -144,7 +145,8 @@ fn first_machine(alloc: Global, unit: &Unit, code: &Code, agent: u32) -> Result<
     sound();
     keeps();
     let _agent = &unit.agents.as_slice()[agent as usize];
-    Machine::new(alloc, code, agent)
+    let machine = Machine::new(alloc, code, agent)?;
+    Ok(machine)
 }
 
 // The first actions of a scene's agent, so many of them, or up to one that traps.
