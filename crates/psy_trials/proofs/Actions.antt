@@ -142,7 +142,12 @@ module _ (unit : Whole) (code : Code) (number : ℕ) (m : Machine) (view : View)
   under_way n e =
       let run = after_one (Went n) e in
       record {
-        its = w.its; start = w.start; last = w.last; count = w.count; action = w.action; lasted = w.lasted;
+        its = w.its;
+        start = w.start;
+        last = w.last;
+        count = w.count;
+        action = w.action;
+        lasted = w.lasted;
         executed = suc w.executed;
         early = goes_early _ run;
         deeds = deeds_then w.deeds asks;
@@ -200,40 +205,46 @@ module _ (unit : Whole) (code : Code) (number : ℕ) (agent : AgentDecl) (its : 
       let t = ends.0 in
       let ran = ends.1 in
       let same = ends.2 in
-      let copies : map (λ c. c.variable) t.machine.copies ≡ map (λ c. c.variable) (first_copies unit number) = ap (map (λ c. c.variable)) same.copies ∙ kept.1.variables in
-      (t, s.deeds.steps, record {
-        of_code = of_code;
-        over = rw ran refl;
-        sends = subst (λ (d : Deeds). All (IsSentOf unit) d.sends) (sym same.deeds) kept.2.sends;
-        copies = copies;
-        ends = λ other e.
-            let point_is : point ≡ other = ended_at point other t (sym ran ∙ e) in
-            let at = ending (started m view) t s.deeds.steps point ran in
-            subst (λ p. StandsIn unit number its p t.machine) point_is (record {
-              agent = agent;
-              store = s.store;
-              counters = replicate (length m.home.counters) 0;
-              of_unit = of_unit;
-              known = kept.0.1;
-              holds = kept.1;
-              counted = length-replicate (length m.home.counters) 0 ∙ counted;
-              stands = at.machine ∙ rw (same.cells, same.copies) refl;
-            });
-      })
+      let copies : map (λ c. c.variable) t.machine.copies ≡ map (λ c. c.variable) (first_copies unit number) = ap (map (λ c. c.variable)) same.copies ∙ kept.1.variables in (
+        t,
+        s.deeds.steps,
+        record {
+          of_code = of_code;
+          over = rw ran refl;
+          sends = subst (λ (d : Deeds). All (IsSentOf unit) d.sends) (sym same.deeds) kept.2.sends;
+          copies = copies;
+          ends = λ other e.
+              let point_is : point ≡ other = ended_at point other t (sym ran ∙ e) in
+              let at = ending (started m view) t s.deeds.steps point ran in
+              subst (λ p. StandsIn unit number its p t.machine) point_is (record {
+                agent = agent;
+                store = s.store;
+                counters = replicate (length m.home.counters) 0;
+                of_unit = of_unit;
+                known = kept.0.1;
+                holds = kept.1;
+                counted = length-replicate (length m.home.counters) 0 ∙ counted;
+                stands = at.machine ∙ rw (same.cells, same.copies) refl;
+              });
+        },
+      )
     where
       ended_at : (p q : ℕ) (u : RunState) → RanTo p u ≡ RanTo q u → p ≡ q
       ended_at p q u e = cc
   action_by m counted of_unit of_code ending (by.Trapped kind s) kept ends =
       let t = ends.0 in
       let ran = ends.1 in
-      let same = ends.2 in
-      (t, s.deeds.steps, record {
-        of_code = of_code;
-        over = rw ran refl;
-        sends = subst (λ (d : Deeds). All (IsSentOf unit) d.sends) (sym same.deeds) kept.1.sends;
-        copies = ap (map (λ c. c.variable)) same.copies ∙ kept.0.variables;
-        ends = λ other e. absurd (trapped_not kind other t (sym ran ∙ e));
-      })
+      let same = ends.2 in (
+        t,
+        s.deeds.steps,
+        record {
+          of_code = of_code;
+          over = rw ran refl;
+          sends = subst (λ (d : Deeds). All (IsSentOf unit) d.sends) (sym same.deeds) kept.1.sends;
+          copies = ap (map (λ c. c.variable)) same.copies ∙ kept.0.variables;
+          ends = λ other e. absurd (trapped_not kind other t (sym ran ∙ e));
+        },
+      )
     where
       trapped_not : (k : Trap) (q : ℕ) (u : RunState) → TrappedBy k u ≡ RanTo q u → ⊥
       trapped_not k q u e = cc
@@ -249,7 +260,12 @@ module _ (unit : Whole) (code : Code) (number : ℕ) (agent : AgentDecl) (its : 
   begins m last count action lasting =
       let lasted = lasting (started m view) last count action.over in
       record {
-        its = its; start = started m view; last = last; count = count; action = action; lasted = lasted;
+        its = its;
+        start = started m view;
+        last = last;
+        count = count;
+        action = action;
+        lasted = lasted;
         executed = 0;
         early = first_early m last count action lasted;
         deeds = nothing_done;
@@ -307,7 +323,8 @@ owned_found number k (suc i) (w ∷ vs) v at e =
 -- a machine has a copy of each variable that its agent owns
 pub has_copy : (unit : Whole) (number variable : ℕ) (m : Machine) → Owns unit number variable → HasCopies unit number m → IsSome (copy_of variable m.copies)
 has_copy unit number variable m owns has =
-    same_found variable m.copies (first_copies unit number) has (owned_found number 0 variable unit.variables owns.0 owns.1 owns.2)
+    let found = subst (λ n. IsSome (copy_of n (first_copies unit number))) (omega arith) (owned_found number 0 variable unit.variables owns.0 owns.1 owns.2) in
+    same_found variable m.copies (first_copies unit number) has found
 
 -- ---- between actions
 
@@ -321,14 +338,18 @@ after_end unit code number (step.Trapped kind) m view other h = (h, tt {0})
 pub rests_first : (unit : Whole) (code : Code) (number : ℕ) (agent : AgentDecl) (m : AgentMachine) → IsSoundUnit unit → ActsAlike unit code → slice_get unit.agents number ≡ Some agent → IsNew code number m → IsStoreOf unit number agent (first_store unit number agent) → Rests unit code number m.machine
 rests_first unit code number agent m sound alike of_unit new holds =
     let its = new.0 in
-    let same = alike.each number agent its of_unit new.1 in
-    (its, new.1, 0, record {
-      agent = agent;
-      store = first_store unit number agent;
-      counters = replicate its.counters 0;
-      of_unit = of_unit;
-      known = omega (arith, (sound.agents number agent of_unit).points);
-      holds = holds;
-      counted = length-replicate its.counters 0;
-      stands = new.3 ∙ rw (same.cells, same.copies) refl;
-    })
+    let same = alike.each number agent its of_unit new.1 in (
+      its,
+      new.1,
+      0,
+      record {
+        agent = agent;
+        store = first_store unit number agent;
+        counters = replicate its.counters 0;
+        of_unit = of_unit;
+        known = omega (arith, (sound.agents number agent of_unit).points);
+        holds = holds;
+        counted = length-replicate its.counters 0;
+        stands = new.3 ∙ rw (same.cells, same.copies) refl;
+      },
+    )

@@ -203,9 +203,17 @@ pub fn expect_acts(
     let acts = acts_of(rt, scene, wanted.len())?;
     assert_eq!(rt; acts.len(), wanted.len(), "actions of {message}");
     for (number, (act, (cost, end, copy))) in acts.iter().zip(wanted.iter()).enumerate() {
-        assert_eq!(rt; act.cost, *cost, "instructions of action {number} of {message}");
+        assert_eq!(rt;
+            act.cost,
+            *cost,
+            "instructions of action {number} of {message}"
+        );
         assert_eq!(rt; act.end, *end, "the end of action {number} of {message}");
-        assert_eq!(rt; act.copy, *copy, "the copy after action {number} of {message}");
+        assert_eq!(rt;
+            act.copy,
+            *copy,
+            "the copy after action {number} of {message}"
+        );
     }
     Ok(())
 }

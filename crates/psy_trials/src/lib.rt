@@ -2,10 +2,9 @@
 //! they run.
 #![tactic(auto)]
 
-pub mod borrowing;
-
 #[cfg(test)]
 mod acting;
+pub mod borrowing;
 #[cfg(test)]
 mod look;
 #[cfg(test)]

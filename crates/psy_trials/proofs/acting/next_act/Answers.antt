@@ -7,7 +7,7 @@ pub copy-requires : goal.copy-requires
 copy-requires c =
     let after = after_end _ _ _ _ _ _ c.in_default.not-Went c.in_ok-end.ensures.behind in
     has_copy c.args.unit.now c.args.scene.now.agent c.args.scene.now.variable c.execute.new.machine.machine c.requires.owned
-        (subst (λ n. HasCopies c.args.unit.now n c.execute.new.machine.machine) (c.loop-executed.invariant.agent ∙ c.requires.agent) after.0)
+    (subst (λ n. HasCopies c.args.unit.now n c.execute.new.machine.machine) (c.loop-executed.invariant.agent ∙ c.requires.agent) after.0)
 
 pub returns-in_default : goal.returns-in_default
 returns-in_default c =
