@@ -1,10 +1,13 @@
-//! Trials: small programs, as statements that the evaluator walks and as code, written by hand, that the
-//! machine executes.
+//! Trials: programs from their text to what a machine does with their code, and what is said of them before
+//! they run.
 #![tactic(auto)]
 
 #[cfg(test)]
-mod code;
+mod acting;
+pub mod borrowing;
 #[cfg(test)]
-mod statements;
+mod look;
 #[cfg(test)]
 mod tests;
+#[cfg(test)]
+mod texts;

@@ -1,3 +1,7 @@
-mod agreement;
-mod evaluator;
-mod machine;
+mod actions;
+mod calls;
+mod code;
+mod depths;
+mod exchanges;
+mod flow;
+mod sizes;

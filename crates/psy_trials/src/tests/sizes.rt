@@ -1,0 +1,116 @@
+//! Texts of the greatest length: a body that gives up above some size doesn't pass them.
+
+use crate::texts::unit_of;
+use psy_base::limits::FILE_BYTES;
+use psy_code::Instr;
+use psy_flow::worst;
+use psy_gen::generate;
+use psy_parse::parse;
+use psy_token::lex;
+use psy_tree::{Stmt, Unit};
+use std::alloc::AllocGlobal;
+use std::process::Abort;
+use std::test::Fail;
+
+const HEAD: &str =
+    "tick 100; clock c = 10 * tick; temporal v of A on c = 0 depth 1; agent A on c budget 40 { int n = 0; body {";
+
+const TAIL: &str = "n = n + 1; v = n; advance 1 on c; } }";
+
+/// A statement that costs 2.
+const STATEMENT: &str = "n=1;";
+
+// A text of the greatest length: the head, some statements, a comment, and the tail.
+fn longest(rt: &(impl Abort + AllocGlobal), statements: usize) -> Result<String, Fail> {
+    let mut text = String::new(rt.alloc());
+    text.push_str(HEAD)?;
+    for _ in 0..statements {
+        text.push_str(STATEMENT)?;
+    }
+    text.push_str("/*")?;
+    while text.len() < FILE_BYTES - TAIL.len() - 2 {
+        text.push('x')?;
+    }
+    text.push_str("*/")?;
+    text.push_str(TAIL)?;
+    assert_eq!(rt; text.len(), FILE_BYTES, "the length of the text");
+    Ok(text)
+}
+
+/// Statements `n=1;` before those of the counter.
+const STATEMENTS: [usize; 3] = [0, 1, 65_000];
+
+// Each statement assigns, and the last one ends the action.
+fn expect_stmts(rt: &impl Abort, unit: &Unit, statements: usize) {
+    assert_eq!(rt; unit.agents.len(), 1);
+    for agent in unit.agents.as_slice() {
+        let stmts = agent.stmts.as_slice();
+        assert_eq!(rt; stmts.len(), statements + 3, "statements");
+        for (number, stmt) in stmts.iter().enumerate() {
+            match stmt {
+                Stmt::Set(0, _) => assert!(rt; number <= statements),
+                Stmt::SetCopy(0, _) => assert_eq!(rt; number, statements + 1),
+                Stmt::Advance(1) => assert_eq!(rt; number, statements + 2),
+                _ => assert!(rt; false, "statement {number} is another one"),
+            }
+        }
+    }
+}
+
+#[test]
+fn the_longest_texts_are_read(rt: HostRuntime) -> Result<(), Fail> {
+    for statements in STATEMENTS {
+        let text = longest(&rt, statements)?;
+        let unit = unit_of(&rt, text.as_str())?;
+        assert_eq!(rt; unit.quantum, 100);
+        expect_stmts(&rt, &unit, statements);
+        let cost = 2 * (statements as u64) + 7;
+        assert_eq!(rt;
+            worst(&unit, 0, 0),
+            cost,
+            "the cost of {statements} and a counter"
+        );
+        assert_eq!(rt; worst(&unit, 0, 1), cost + 1, "the cost behind its point");
+    }
+    Ok(())
+}
+
+#[test]
+fn the_longest_texts_have_code(rt: HostRuntime) -> Result<(), Fail> {
+    for statements in STATEMENTS {
+        let text = longest(&rt, statements)?;
+        let unit = unit_of(&rt, text.as_str())?;
+        let code = generate(rt.alloc(), &unit)?;
+        let instrs = code.instrs.as_slice();
+        assert_eq!(rt;
+            instrs.len(),
+            2 * statements + 8,
+            "the code of {statements}"
+        );
+        for (place, instr) in instrs[..2 * statements].iter().enumerate() {
+            let wanted = if place % 2 == 0 {
+                Instr::Push(1)
+            } else {
+                Instr::Store(0)
+            };
+            assert_eq!(rt; *instr, wanted, "at place {place}");
+        }
+    }
+    Ok(())
+}
+
+// The greatest number of tokens: one a byte.
+#[test]
+fn as_many_tokens_as_bytes(rt: HostRuntime) -> Result<(), Fail> {
+    let mut text = String::new(rt.alloc());
+    while text.len() < FILE_BYTES {
+        text.push(';')?;
+    }
+    let bytes = text.as_bytes();
+    assert!(rt; bytes.len() <= FILE_BYTES);
+    let tokens = lex(rt.alloc(), bytes)?;
+    assert_eq!(rt; tokens.len(), FILE_BYTES);
+    let raw = parse(rt.alloc(), tokens.as_slice());
+    assert!(rt; raw.is_err(), "no program begins so");
+    Ok(())
+}
