@@ -9,8 +9,7 @@ use Rattle.psy_tree.specs.declared.token.Word.TheVariants as words
 use Rattle.psy_tree.specs.declared.token.Sign.{Sign}
 use Rattle.psy_tree.specs.declared.token.Sign.TheVariants as signs
 use Rattle.psy_tree.specs.Grammar.{numbered}
-use Rattle.psy_tree.specs.Lexemes.{IsWord, IsNumber, word_spelling, sign_spelling}
-use Rattle.psy_tree.specs.Lexemes as lexemes
+use Rattle.psy_tree.specs.Lexemes.{IsWord, IsNumber, IsSpelling, word_spelling, sign_spelling}
 use Rattle.psy_tree.specs.Tokens.{Piece, Separator, Lexeme, text_of, AllStand, tokens_from, TokensOf}
 
 spelled_word : (w : Word) → 0 < length (word_spelling w)
@@ -30,7 +29,7 @@ number_bytes [] is = absurd is
 number_bytes (b ∷ bytes) is = omega arith
 
 -- no spelling is empty
-pub kind_bytes : (kind : Kind) (bytes : List ℕ) → lexemes.Spells kind bytes → 0 < length bytes
+pub kind_bytes : (kind : Kind) (bytes : List ℕ) → IsSpelling kind bytes → 0 < length bytes
 kind_bytes (kinds.Word w) bytes is = omega (arith, ap length is, spelled_word w)
 kind_bytes (kinds.Name name) bytes (is, word, short, other) = omega (arith, ap length is, word_bytes name word)
 kind_bytes (kinds.Number number) bytes (digits, is, small) = number_bytes bytes digits
