@@ -1,4 +1,3 @@
-pub mod Numbers
 pub mod Sound
 pub mod SoundExprs
 pub mod SoundStmts
