@@ -17,12 +17,13 @@ use Rattle.psy_meaning.specs.Statements.{all_of, hop, act_by, acts_by, Piece, Do
 use Rattle.psy_meaning.specs.Rest.{Rests, each_then, pieces_of, stmts_in, rests_in, rests_step, rests_of, with_rests}
 use Rattle.psy_meaning.specs.Rest as rest
 use Rattle.psy_meaning.specs.Paths.{holds_advance}
-use Rattle.psy_lawful.proofs.SoundParts.{stmts_natural}
+use Rattle.psy_meaning.proofs.SoundParts.{stmts_natural}
 use Rattle.psy_gen.specs.Emission.{Coded, Places, Placed, expr_code, block_code, block_size, block_loops, placed_size, stmt_code_step, stmt_code, stmts_code, places_in, places_step, places_of}
 use Rattle.psy_gen.specs.Emission as emission
 use Rattle.psy_gen.proofs.Contexts.{Home, Room, at, HasAt, has-first, has-second, Shape}
 use Rattle.psy_gen.proofs.Leads.{here}
-use Rattle.psy_gen.proofs.NoRests.{placed, all_none}
+use Rattle.psy_gen.proofs.NoRests.{all_none}
+use Rattle.psy_gen.proofs.PlaceCounts.{placed}
 use Rattle.psy_gen.proofs.StmtRuns.{ExprKnown, AtHome, AtWork, AllPoints, stmt_runs, all_runs, all_sized, hop_after}
 use Rattle.psy_gen.proofs.Outcomes.{keeps_same, After, after_keeps, then_after}
 

@@ -22,7 +22,7 @@ use Rattle.psy_meaning.specs.States.{State, Ended, Outcome, Falls, Returns, Halt
 use Rattle.psy_meaning.specs.Paths.{quiet_list}
 use Rattle.psy_meaning.specs.Expressions.{eval}
 use Rattle.psy_meaning.specs.Statements.{set_element, all_of, choose, hop, branches, turns, stmt_step, act_by, acts_by}
-use Rattle.psy_lawful.proofs.SoundParts.{stmts_natural}
+use Rattle.psy_meaning.proofs.SoundParts.{stmts_natural}
 use Rattle.psy_gen.specs.Emission.{Emit, Coded, Part, base_of, cells_in_slot, expr_code, block_code, block_size, block_loops, if_code, bounded_code, timed_code, stmt_code_step, stmt_code, stmts_code}
 use Rattle.psy_gen.proofs.Leads.{Leads, here, after, by_one, went, ended}
 use Rattle.psy_gen.proofs.Contexts.{Context, Home, Inside, Room, has_room_by, joined, machine_in, at, frame_size, HasAt, has-first, has-second, Shape, Holds}
@@ -586,7 +586,7 @@ module _ (whole : Code) (its : AgentCode) (sc : Scope) (k : Context) (callees : 
     layer_runs (Stmt-F.If test branch (Some other)) = if_else_layer test branch other
     layer_runs (Stmt-F.Bounded test most body) = bounded_layer test most body
     layer_runs (Stmt-F.Timed test body) = timed_layer test body
-    layer_runs (Stmt-F.Send value stream after clock) = (λ c p. len-one (expr_code sc.layout value p) (instr.Send stream after clock) (expr_size value) ((exprs value).0 p), λ sound. send_runs stream after clock value (exprs value) sound)
+    layer_runs (Stmt-F.Send value stream after clock) = (λ c p. len-one (expr_code sc.layout value p) (instr.Send stream after clock) (expr_size value) ((exprs value).0 p), λ sound. send_runs stream after clock value (exprs value) sound.1)
     layer_runs (Stmt-F.Advance point) = (λ c p. refl, λ sound. advance_runs points point sound)
     layer_runs (Stmt-F.Return value) = (λ c p. len-one (expr_code sc.layout value p) instr.Return (expr_size value) ((exprs value).0 p), λ sound. return_runs work value (exprs value) sound.0 sound.1)
 
