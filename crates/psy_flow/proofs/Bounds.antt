@@ -1,14 +1,15 @@
--- A way through sound statements ends at one of the points that they have.
-use Rattle.std.proofs.Common.{◌≡◌, ℕ, zero, suc, ◌<◌, List, [], ◌∷◌, ◌++◌, map, Some, None, refl, sym, ap, subst, inl, inr}
+-- A way through statements ends at the point of one of their `advance` statements.
+use Rattle.std.proofs.Common.{◌≡◌, ℕ, zero, suc, List, [], ◌∷◌, ◌++◌, map, Some, None, refl, sym, ap, subst, inl, inr}
 use Rattle.std.specs.Prelude.{slice_index_or}
-use Rattle.psy_tree.specs.declared.unit.Stmt.{Stmt, roll-Stmt, rec-roll-Stmt, para-roll-Stmt, map-Stmt, ind-Stmt}
+use Rattle.psy_tree.specs.declared.unit.Stmt.{Stmt, roll-Stmt, fold-roll-Stmt, rec-roll-Stmt, para-roll-Stmt, map-Stmt, ind-Stmt}
 use Rattle.psy_tree.specs.declared.unit.Stmt.TheOpen.{Stmt-F}
+use Rattle.psy_meaning.specs.Paths.{advances_step, advances_of, advances_in}
 use Rattle.psy_meaning.specs.Rest.{Rests, Part, each_then, pieces_of, stmts_in, rests_in, rests_step, rests_of, with_rests, rest}
-use Rattle.psy_meaning.specs.Sound.{Scope, Each, AreSound, IsSoundStmt, sound_stmt_step}
+use Rattle.psy_meaning.specs.Sound.{Each}
 use Rattle.psy_meaning.specs.Statements.{Piece, Do, Hop}
 use Rattle.psy_meaning.specs.Ways.{Meter, Way, Course, End, To, here, one, both, sending, falling, returning, reaching, behind, and_on, or_else, courses_through, turning, course_step, course_by, expr_way, piece_course}
+use Rattle.psy_meaning.proofs.Eaches.{each-first, each-second}
 use Rattle.psy_meaning.proofs.Layers.{natural_stmt}
-use Rattle.psy_lawful.proofs.SoundParts.{stmts_natural}
 
 point_of : End → ℕ
 point_of (To point) = point
@@ -22,9 +23,9 @@ stmts_are : (stmts : List Stmt) → stmts_in (map with_rests stmts) ≡ stmts
 stmts_are [] = refl
 stmts_are (x ∷ xs) = ap (λ ys. x ∷ ys) (stmts_are xs)
 
-module _ (sc : Scope) (ways : ℕ → Way) where
+module _ (Fine : ℕ → Type 0) (ways : ℕ → Way) where
   abbrev pub Below : Course → Type 0
-  Below course = (p : ℕ) (m n : Meter) → course (To p) m n → p < sc.points
+  Below course = (p : ℕ) (m n : Meter) → course (To p) m n → Fine p
 
   -- ---- words for courses
 
@@ -34,8 +35,8 @@ module _ (sc : Scope) (ways : ℕ → Way) where
   below_returning : (way : Way) → Below (returning way)
   below_returning way p m n w = absurd w
 
-  below_reaching : (point : ℕ) → point < sc.points → Below (reaching point one)
-  below_reaching point less p m n (e, w) = subst (λ q. q < sc.points) (sym (same_point p point e)) less
+  below_reaching : (point : ℕ) → Fine point → Below (reaching point one)
+  below_reaching point h p m n (e, w) = subst Fine (sym (same_point p point e)) h
 
   below_on : (first second : Course) → Below first → Below second → Below (and_on first second)
   below_on first second f g p m n (inl (k, v, w)) = g p k n w
@@ -81,7 +82,7 @@ module _ (sc : Scope) (ways : ℕ → Way) where
     pub rests : AllRests (rests_of stmt)
 
   abbrev Q : Stmt → Type 0
-  Q stmt = IsSoundStmt sc stmt → Bounded stmt
+  Q stmt = Each Fine (advances_of stmt) → Bounded stmt
 
   abbrev Known : Type 0
   Known = (stmt : Stmt) × Q stmt
@@ -92,57 +93,66 @@ module _ (sc : Scope) (ways : ℕ → Way) where
   abbrev parts : List Known → List Part
   parts ks = map with_rests (map tree ks)
 
-  through_in : (ks : List Known) → Each (IsSoundStmt sc) (map tree ks) → Below (courses_through (course_by ways) (map tree ks))
+  parted : (stmt : Stmt) (ks : List Known) → Each Fine (advances_of stmt ++ advances_in (map tree ks)) → Each Fine (advances_of stmt) × Each Fine (advances_in (map tree ks))
+  parted stmt ks h = (each-first Fine (advances_of stmt) (advances_in (map tree ks)) h, each-second Fine (advances_of stmt) (advances_in (map tree ks)) h)
+
+  both_parts : (ks ls : List Known) → Each Fine (advances_in (map tree ks) ++ advances_in (map tree ls)) → Each Fine (advances_in (map tree ks)) × Each Fine (advances_in (map tree ls))
+  both_parts ks ls h = (each-first Fine (advances_in (map tree ks)) (advances_in (map tree ls)) h, each-second Fine (advances_in (map tree ks)) (advances_in (map tree ls)) h)
+
+  through_in : (ks : List Known) → Each Fine (advances_in (map tree ks)) → Below (courses_through (course_by ways) (map tree ks))
   through_in [] h = below_falling here
-  through_in (k ∷ ks) h = below_on (course_by ways k.0) (courses_through (course_by ways) (map tree ks)) (k.1 h.0).course (through_in ks h.1)
+  through_in (k ∷ ks) h =
+      let (here, later) = parted k.0 ks h in
+      below_on (course_by ways k.0) (courses_through (course_by ways) (map tree ks)) (k.1 here).course (through_in ks later)
 
-  pieces_in : (ks : List Known) → Each (IsSoundStmt sc) (map tree ks) → AllBelow (pieces_of (map tree ks))
+  pieces_in : (ks : List Known) → Each Fine (advances_in (map tree ks)) → AllBelow (pieces_of (map tree ks))
   pieces_in [] h = tt
-  pieces_in (k ∷ ks) h = ((k.1 h.0).course, pieces_in ks h.1)
+  pieces_in (k ∷ ks) h = let (here, later) = parted k.0 ks h in ((k.1 here).course, pieces_in ks later)
 
-  rests_below : (ks : List Known) → Each (IsSoundStmt sc) (map tree ks) → AllRests (rests_in (parts ks))
+  rests_below : (ks : List Known) → Each Fine (advances_in (map tree ks)) → AllRests (rests_in (parts ks))
   rests_below [] h = tt
   rests_below (k ∷ ks) h =
+      let (here, later) = parted k.0 ks h in
       each-append AllBelow (each_then (rests_of k.0) (pieces_of (stmts_in (parts ks)))) (rests_in (parts ks))
-      (each_below (rests_of k.0) (pieces_of (stmts_in (parts ks))) (k.1 h.0).rests (subst (λ ss. AllBelow (pieces_of ss)) (sym (stmts_are (map tree ks))) (pieces_in ks h.1)))
-      (rests_below ks h.1)
+      (each_below (rests_of k.0) (pieces_of (stmts_in (parts ks))) (k.1 here).rests (subst (λ ss. AllBelow (pieces_of ss)) (sym (stmts_are (map tree ks))) (pieces_in ks later)))
+      (rests_below ks later)
 
-  step_course : (y : Stmt-F Known) → let x = map-Stmt Known Stmt tree y in sound_stmt_step sc Stmt (λ y. y) (IsSoundStmt sc) x → Below (course_step ways Stmt (λ y. y) (course_by ways) x)
+  step_course : (y : Stmt-F Known) → let x = map-Stmt Known Stmt tree y in Each Fine (advances_step (map-Stmt Stmt (List ℕ) advances_of x)) → Below (course_step ways Stmt (λ y. y) (course_by ways) x)
   step_course (Stmt-F.Set slot value) h = below_falling (both (expr_way ways value) one)
   step_course (Stmt-F.SetCopy variable value) h = below_falling (both (expr_way ways value) one)
   step_course (Stmt-F.SetCell slot index value) h = below_falling (both (expr_way ways index) (both (expr_way ways value) one))
   step_course (Stmt-F.If test branch None) h =
       let this : Course = courses_through (course_by ways) (map tree branch) in
-      below_behind (both (expr_way ways test) one) (or_else this (falling here)) (below_else this (falling here) (through_in branch h.1) (below_falling here))
+      below_behind (both (expr_way ways test) one) (or_else this (falling here)) (below_else this (falling here) (through_in branch h) (below_falling here))
   step_course (Stmt-F.If test branch (Some other)) h =
       let this : Course = courses_through (course_by ways) (map tree branch) in
       let that : Course = courses_through (course_by ways) (map tree other) in
       below_behind (both (expr_way ways test) one) (or_else (and_on this (falling one)) that)
-      (below_else (and_on this (falling one)) that (below_on this (falling one) (through_in branch h.1) (below_falling one)) (through_in other h.2))
+      (below_else (and_on this (falling one)) that (below_on this (falling one) (through_in branch (both_parts branch other h).0) (below_falling one)) (through_in other (both_parts branch other h).1))
   step_course (Stmt-F.Bounded test most body) h =
       let inner : Course = courses_through (course_by ways) (map tree body) in
-      below_behind one (turning most (expr_way ways test) inner) (below_turning most (expr_way ways test) inner (through_in body h.2))
+      below_behind one (turning most (expr_way ways test) inner) (below_turning most (expr_way ways test) inner (through_in body h))
   step_course (Stmt-F.Timed test body) h =
       let inner : Course = courses_through (course_by ways) (map tree body) in
-      below_behind (both (expr_way ways test) one) (or_else inner (falling here)) (below_else inner (falling here) (through_in body h.2) (below_falling here))
-  step_course (Stmt-F.Send value stream after clock) h = below_falling (both (expr_way ways value) (sending stream))
-  step_course (Stmt-F.Advance point) h = below_reaching point h
+      below_behind (both (expr_way ways test) one) (or_else inner (falling here)) (below_else inner (falling here) (through_in body h) (below_falling here))
+  step_course (Stmt-F.Send value stream after clock) h = below_falling (both (expr_way ways value) (sending (record { stream = stream; after = after; clock = clock })))
+  step_course (Stmt-F.Advance point) h = below_reaching point h.0
   step_course (Stmt-F.Return value) h = below_returning (both (expr_way ways value) one)
 
   rolled : (x : Stmt-F Stmt) → Below (course_step ways Stmt (λ y. y) (course_by ways) x) → Below (course_by ways (roll-Stmt x))
   rolled x h = subst Below (sym (rec-roll-Stmt Course (course_step ways) (natural_stmt ways) x)) h
 
-  step_rests : (y : Stmt-F Known) → let x = map-Stmt Known Stmt tree y in sound_stmt_step sc Stmt (λ y. y) (IsSoundStmt sc) x → AllRests (rests_step (map-Stmt Stmt Part with_rests x))
+  step_rests : (y : Stmt-F Known) → let x = map-Stmt Known Stmt tree y in Each Fine (advances_step (map-Stmt Stmt (List ℕ) advances_of x)) → AllRests (rests_step (map-Stmt Stmt Part with_rests x))
   step_rests (Stmt-F.Set slot value) h = tt
   step_rests (Stmt-F.SetCopy variable value) h = tt
   step_rests (Stmt-F.SetCell slot index value) h = tt
-  step_rests (Stmt-F.If test branch None) h = rests_below branch h.1
+  step_rests (Stmt-F.If test branch None) h = rests_below branch h
   step_rests (Stmt-F.If test branch (Some other)) h =
-      each-append AllBelow (each_then (rests_in (parts branch)) (Hop ∷ [])) (rests_in (parts other)) (each_below (rests_in (parts branch)) (Hop ∷ []) (rests_below branch h.1) (below_falling one, tt)) (rests_below other h.2)
-  step_rests (Stmt-F.Bounded test most body) h = rests_below body h.2
+      each-append AllBelow (each_then (rests_in (parts branch)) (Hop ∷ [])) (rests_in (parts other)) (each_below (rests_in (parts branch)) (Hop ∷ []) (rests_below branch (both_parts branch other h).0) (below_falling one, tt)) (rests_below other (both_parts branch other h).1)
+  step_rests (Stmt-F.Bounded test most body) h = rests_below body h
   step_rests (Stmt-F.Timed test body) h =
       let again = rolled (Stmt-F.Timed test (map tree body)) (step_course (Stmt-F.Timed test body) h) in
-      each_below (rests_in (parts body)) (Hop ∷ Do (roll-Stmt (Stmt-F.Timed test (stmts_in (parts body)))) ∷ []) (rests_below body h.2)
+      each_below (rests_in (parts body)) (Hop ∷ Do (roll-Stmt (Stmt-F.Timed test (stmts_in (parts body)))) ∷ []) (rests_below body h)
       (below_falling one, (subst (λ ss. Below (course_by ways (roll-Stmt (Stmt-F.Timed test ss)))) (sym (stmts_are (map tree body))) again, tt))
   step_rests (Stmt-F.Send value stream after clock) h = tt
   step_rests (Stmt-F.Advance point) h = (tt, tt)
@@ -151,8 +161,8 @@ module _ (sc : Scope) (ways : ℕ → Way) where
   layer : (y : Stmt-F Known) → Q (roll-Stmt (map-Stmt Known Stmt tree y))
   layer y h =
       let x : Stmt-F Stmt = map-Stmt Known Stmt tree y in
-      let sound = subst (λ (t : Type 0). t) (rec-roll-Stmt (Type 0) (sound_stmt_step sc) (stmts_natural sc) x) h in
-      record { course = rolled x (step_course y sound); rests = subst AllRests (sym (para-roll-Stmt Rests rests_step x)) (step_rests y sound) }
+      let fine = subst (Each Fine) (fold-roll-Stmt (List ℕ) advances_step x) h in
+      record { course = rolled x (step_course y fine); rests = subst AllRests (sym (para-roll-Stmt Rests rests_step x)) (step_rests y fine) }
 
   bounded : (stmt : Stmt) → Q stmt
   bounded = ind-Stmt Q (λ x y is. subst (λ z. Q (roll-Stmt z)) is (layer y))
@@ -166,24 +176,24 @@ module _ (sc : Scope) (ways : ℕ → Way) where
   trees [] = refl
   trees (s ∷ stmts) = ap (λ l. s ∷ l) (trees stmts)
 
-  body_below : (body : List Stmt) → AreSound sc body → AllBelow (pieces_of body)
-  body_below body h = subst (λ l. AllBelow (pieces_of l)) (trees body) (pieces_in (known body) (subst (AreSound sc) (sym (trees body)) h))
+  body_below : (body : List Stmt) → Each Fine (advances_in body) → AllBelow (pieces_of body)
+  body_below body h = subst (λ l. AllBelow (pieces_of l)) (trees body) (pieces_in (known body) (subst (λ l. Each Fine (advances_in l)) (sym (trees body)) h))
 
   at_below : (rs : Rests) (n : ℕ) → AllRests rs → AllBelow (slice_index_or rs n [])
   at_below [] n h = tt
   at_below (r ∷ rs) zero h = h.0
   at_below (r ∷ rs) (suc n) h = at_below rs n h.1
 
-  rest_below : (body : List Stmt) (point : ℕ) → AreSound sc body → AllBelow (rest body point)
+  rest_below : (body : List Stmt) (point : ℕ) → Each Fine (advances_in body) → AllBelow (rest body point)
   rest_below body zero h = body_below body h
   rest_below body (suc n) h =
       below-append (slice_index_or (rests_in (map with_rests body)) n []) (Hop ∷ pieces_of body)
-      (at_below (rests_in (map with_rests body)) n (subst (λ l. AllRests (rests_in (map with_rests l))) (trees body) (rests_below (known body) (subst (AreSound sc) (sym (trees body)) h))))
+      (at_below (rests_in (map with_rests body)) n (subst (λ l. AllRests (rests_in (map with_rests l))) (trees body) (rests_below (known body) (subst (λ l. Each Fine (advances_in l)) (sym (trees body)) h))))
       (below_falling one, body_below body h)
 
   pieces_below : (pieces : List Piece) → AllBelow pieces → Below (courses_through (piece_course ways) pieces)
   pieces_below [] h = below_falling here
   pieces_below (p ∷ ps) h = below_on (piece_course ways p) (courses_through (piece_course ways) ps) h.0 (pieces_below ps h.1)
 
-  pub way_below : (body : List Stmt) (point to : ℕ) (before now : Meter) → AreSound sc body → courses_through (piece_course ways) (rest body point) (To to) before now → to < sc.points
-  way_below body point to before now h w = pieces_below (rest body point) (rest_below body point h) to before now w
+  pub way_fine : (body : List Stmt) (point to : ℕ) (before now : Meter) → Each Fine (advances_in body) → courses_through (piece_course ways) (rest body point) (To to) before now → Fine to
+  way_fine body point to before now h w = pieces_below (rest body point) (rest_below body point h) to before now w

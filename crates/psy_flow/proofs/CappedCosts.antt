@@ -1,16 +1,17 @@
 -- Costs counted up to the limit from calls counted up to it.
 use Rattle.std.proofs.Common.{◌≡◌, ℕ, ◌+◌, min, max, List, [], ◌∷◌, ◌++◌, Option, Some, None, refl, sym, ap, subst, ◌∙◌, arith}
 use Rattle.std.specs.Prelude.{unwrap_or}
+use Rattle.psy_base.specs.declared.limits.TheConstants.{COST}
 use Rattle.psy_tree.specs.declared.unit.AgentDecl.{AgentDecl}
 use Rattle.psy_tree.specs.declared.unit.FunctionDecl.{FunctionDecl}
+use Rattle.psy_meaning.specs.Paths.{NoneAdvances}
 use Rattle.psy_meaning.specs.Rest.{rest}
 use Rattle.psy_meaning.specs.Statements.{Piece}
 use Rattle.psy_flow.specs.declared.gauge.Gauge.{Gauge}
 use Rattle.psy_flow.specs.declared.gauge.Gauge.TheVariants as gauge
 use Rattle.psy_flow.specs.declared.tops.Tops.{Tops}
-use Rattle.psy_flow.specs.Flow.{HasCost, IsCut}
+use Rattle.psy_flow.specs.Flow.{IsNext, HasCost, IsCut}
 use Rattle.psy_flow.specs.Tops.{limit_of, called, call_most, stmts_tops, pieces_tops, calls_from, calls_most, capped_count, capped_tops, capped_from}
-use Rattle.psy_flow.proofs.Agents.{Kept, way_on}
 use Rattle.psy_flow.proofs.Greatest.{IsTopTo, top_to, row_of}
 use Rattle.psy_flow.proofs.Related.{Either, Related, Rows, call_related, rows_more, row_related, stmts_related, pieces_related}
 
@@ -63,18 +64,18 @@ module _ (g : Gauge) where
   capped_calls wanted functions pieces =
       same_tops g _ _ (pieces_related (Same limit) (λ n. refl) (sums limit) (maxima limit) g (called (capped_from g [] functions)) (called (calls_most g functions)) (same_calls _ _ (same_from [] [] functions (tt {0}))) wanted pieces)
 
-cut_of : (functions : List FunctionDecl) (agent : AgentDecl) (point : ℕ) (o : Option ℕ) → Kept functions agent → IsTopTo gauge.Steps None functions (rest agent.stmts point) o → IsCut (HasCost functions agent point) 1000000000 (unwrap_or (capped_count gauge.Steps o) 0)
-cut_of functions agent point None k top = let (to, met, way) = way_on functions agent point k in absurd (top to met refl way)
-cut_of functions agent point (Some n) k ((to, met, asked, way, same), most) = (
+cut_of : (functions : List FunctionDecl) (agent : AgentDecl) (point : ℕ) (o : Option ℕ) → (to : ℕ) × IsNext functions agent point to → IsTopTo gauge.Steps None functions (rest agent.stmts point) o → IsCut (HasCost functions agent point) COST (unwrap_or (capped_count gauge.Steps o) 0)
+cut_of functions agent point None (to, (met, way)) top = absurd (top to met refl way)
+cut_of functions agent point (Some n) next ((to, met, asked, way, same), most) = (
   n,
   record { one = (to, met, way, same); most = λ m has. let (to', met', way', same') = has in omega (arith, most to' met' refl way', same') },
   refl,
 )
 
-pub worst_cut : (functions : List FunctionDecl) (agent : AgentDecl) (point : ℕ) (t : Tops) (row : List ℕ) → Kept functions agent → row ≡ capped_from gauge.Steps [] functions → t ≡ capped_tops gauge.Steps (pieces_tops gauge.Steps None (called row) (rest agent.stmts point)) → IsCut (HasCost functions agent point) 1000000000 (unwrap_or t.to 0)
-worst_cut functions agent point t row k e h =
+pub worst_cut : (functions : List FunctionDecl) (agent : AgentDecl) (point : ℕ) (t : Tops) (row : List ℕ) → NoneAdvances functions → (to : ℕ) × IsNext functions agent point to → row ≡ capped_from gauge.Steps [] functions → t ≡ capped_tops gauge.Steps (pieces_tops gauge.Steps None (called row) (rest agent.stmts point)) → IsCut (HasCost functions agent point) COST (unwrap_or t.to 0)
+worst_cut functions agent point t row none next e h =
     let pieces = rest agent.stmts point in
     let calls = called (calls_most gauge.Steps functions) in
     let there : t ≡ capped_tops gauge.Steps (pieces_tops gauge.Steps None calls pieces) = h ∙ ap (λ r. capped_tops gauge.Steps (pieces_tops gauge.Steps None (called r) pieces)) e ∙ capped_calls gauge.Steps None functions pieces in
-    subst (λ o. IsCut (HasCost functions agent point) 1000000000 (unwrap_or o 0)) (sym (ap (λ (u : Tops). u.to) there))
-    (cut_of functions agent point (pieces_tops gauge.Steps None calls pieces).to k (top_to gauge.Steps None functions calls pieces k.none (row_of gauge.Steps functions k.none)))
+    subst (λ o. IsCut (HasCost functions agent point) COST (unwrap_or o 0)) (sym (ap (λ (u : Tops). u.to) there))
+    (cut_of functions agent point (pieces_tops gauge.Steps None calls pieces).to next (top_to gauge.Steps None functions calls pieces none (row_of gauge.Steps functions none)))

@@ -1,4 +1,3 @@
-mod Agents
 mod BehindTops
 mod Bounds
 mod CallTops
@@ -21,7 +20,6 @@ mod ReachVariants
 mod Related
 mod Rests
 mod Rows
-mod Sendless
 mod Silent
 mod Sizes
 mod Still

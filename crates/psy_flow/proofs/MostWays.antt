@@ -7,7 +7,7 @@ use Rattle.psy_arith.specs.declared.operators.Op2.TheVariants as op
 use Rattle.psy_tree.specs.declared.unit.Expr.{Expr, roll-Expr, fold-roll-Expr, rec-roll-Expr, map-Expr, ind-Expr}
 use Rattle.psy_tree.specs.declared.unit.Expr.TheOpen.{Expr-F}
 use Rattle.psy_meaning.specs.Sizes.{total}
-use Rattle.psy_meaning.specs.Ways.{Meter, Way, here, one, looking, sending, both, either, ways_through, binary_way, expr_way_step, expr_way}
+use Rattle.psy_meaning.specs.Ways.{Sending, Meter, Way, here, one, looking, sending, both, either, ways_through, binary_way, expr_way_step, expr_way}
 use Rattle.psy_flow.specs.declared.gauge.Gauge.{Gauge}
 use Rattle.psy_flow.specs.declared.gauge.Gauge.TheVariants as gauge
 use Rattle.psy_flow.specs.Tops.{in_step, in_look, in_send, count_of, binary_most, expr_most_step, expr_most}
@@ -26,8 +26,8 @@ stepped m = record m { steps = m.steps + 1 }
 abbrev looked : ℕ → ℕ → Meter → Meter
 looked variable back m = record m { steps = m.steps + 1; looks = m.looks ++ record { number = m.steps; variable = variable; back = back } ∷ [] }
 
-abbrev sent : ℕ → Meter → Meter
-sent stream m = record m { steps = m.steps + 1; sends = m.sends ++ stream ∷ [] }
+abbrev sent : Sending → Meter → Meter
+sent send m = record m { steps = m.steps + 1; sends = m.sends ++ send ∷ [] }
 
 count_step : (g : Gauge) (m : Meter) → count_of g (stepped m) ≡ count_of g m + in_step g
 count_step gauge.Steps m = refl
@@ -39,10 +39,10 @@ count_look gauge.Steps variable back m = refl
 count_look (gauge.Sends stream) variable back m = omega arith
 count_look (gauge.Looks counted) variable back m = sum_by_push _ m.looks _
 
-count_send : (g : Gauge) (stream : ℕ) (m : Meter) → count_of g (sent stream m) ≡ count_of g m + in_send g stream
-count_send gauge.Steps stream m = refl
-count_send (gauge.Sends counted) stream m = sum_by_push _ m.sends stream
-count_send (gauge.Looks variable) stream m = omega arith
+count_send : (g : Gauge) (send : Sending) (m : Meter) → count_of g (sent send m) ≡ count_of g m + in_send g send.stream
+count_send gauge.Steps send m = refl
+count_send (gauge.Sends counted) send m = sum_by_push _ m.sends send
+count_send (gauge.Looks variable) send m = omega arith
 
 -- ---- words for ways
 
@@ -58,8 +58,8 @@ most_one g = most_met g stepped (in_step g) (count_step g)
 most_looking : (g : Gauge) (variable back : ℕ) → IsMost g (looking variable back) (in_look g variable)
 most_looking g variable back = most_met g (looked variable back) (in_look g variable) (count_look g variable back)
 
-pub most_sending : (g : Gauge) (stream : ℕ) → IsMost g (sending stream) (in_send g stream)
-most_sending g stream = most_met g (sent stream) (in_send g stream) (count_send g stream)
+pub most_sending : (g : Gauge) (send : Sending) → IsMost g (sending send) (in_send g send.stream)
+most_sending g send = most_met g (sent send) (in_send g send.stream) (count_send g send)
 
 pub most_both : (g : Gauge) (first second : Way) (m n : ℕ) → IsMost g first m → IsMost g second n → IsMost g (both first second) (m + n)
 most_both g first second m n p q =

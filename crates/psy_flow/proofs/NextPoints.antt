@@ -1,27 +1,40 @@
 -- The points that a way reaches first are those for which there are tops, whatever the calls count.
-use Rattle.std.proofs.Common.{◌≡◌, ℕ, ◌+◌, ◌<◌, ◌≤◌, Bool, true, false, Option, List, [], Some, None, map, refl, sym, subst, ◌∙◌, arith}
+use Rattle.std.proofs.Common.{◌≡◌, ℕ, zero, suc, ◌+◌, ◌<◌, ◌≤◌, Bool, true, false, Option, List, [], Some, None, map, get_or, refl, sym, ap, subst, ◌∙◌, arith}
 use Rattle.std.specs.Prelude.{⊤, ◌==◌, ◌↔◌, is_some, length, replicate}
-use Rattle.std.specs.List.{Contains}
+use Rattle.std.specs.List.{All, Contains, range_with_len}
 use Rattle.std.proofs.lemmas.Bool.{false≢true}
+use Rattle.std.proofs.lemmas.List.Elements.{All-contains_itself}
 use Rattle.std.proofs.lemmas.Option.{slice_get_within, get_or_from_slice_get}
+use Rattle.psy_base.specs.declared.limits.TheConstants.{POINTS}
 use Rattle.psy_tree.specs.declared.unit.AgentDecl.{AgentDecl}
 use Rattle.psy_tree.specs.declared.unit.FunctionDecl.{FunctionDecl}
-use Rattle.psy_meaning.specs.Paths.{NoneAdvances}
+use Rattle.psy_tree.specs.declared.unit.Stmt.{Stmt}
+use Rattle.psy_tree.specs.declared.unit.Unit.{Unit as Whole}
+use Rattle.psy_meaning.specs.Paths.{advances_in, NoneAdvances}
 use Rattle.psy_meaning.specs.Rest.{rest, rests_in, with_rests}
 use Rattle.psy_meaning.specs.Statements.{Piece}
-use Rattle.psy_meaning.specs.Sound.{agent_scope}
+use Rattle.psy_meaning.specs.Sound.{Each, IsSoundAgent}
 use Rattle.psy_meaning.specs.Units.{IsBareAgent}
 use Rattle.psy_meaning.specs.Ways.{Meter, unmetered, IsWay, callee_ways}
-use Rattle.psy_lawful.proofs.SoundUnits.{unit_sound}
+use Rattle.psy_meaning.proofs.RestsOf.{rests_count}
 use Rattle.psy_flow.specs.declared.gauge.Gauge.TheVariants as gauge
-use Rattle.psy_flow.specs.Flow.{IsOfSome, IsNext}
+use Rattle.psy_flow.specs.Flow.{IsAgentOf, IsNext, IsKnown}
 use Rattle.psy_flow.specs.Reach.{marked, pieces_reach, numbers_of}
 use Rattle.psy_flow.specs.Tops.{called, calls_most, pieces_tops}
-use Rattle.psy_flow.proofs.Agents.{kept}
-use Rattle.psy_flow.proofs.Bounds.{way_below}
+use Rattle.psy_flow.proofs.Bounds.{way_fine}
 use Rattle.psy_flow.proofs.Greatest.{IsTopTo, top_to, row_of}
 use Rattle.psy_flow.proofs.MarkedNumbers.{numbered, numbers}
 use Rattle.psy_flow.proofs.Related.{Either, pieces_related}
+
+-- The marks of the points that are reached from one
+abbrev pub marks_from : AgentDecl → ℕ → List Bool
+marks_from agent point = marked (replicate (length agent.points) false) (pieces_reach (rest agent.stmts point))
+
+pub marks_are : (agent : AgentDecl) (point : ℕ) (read marks before : List Bool) (count : ℕ) (stmts : List Stmt) →
+    read ≡ marks → marks ≡ marked before (pieces_reach (rest stmts point)) → before ≡ replicate count false → count ≡ length agent.points → stmts ≡ agent.stmts → read ≡ marks_from agent point
+marks_are agent point read marks before count stmts e f g h k =
+    e ∙ f ∙ ap (λ ms. marked ms (pieces_reach (rest stmts point))) (g ∙ ap (λ n. replicate n false) h)
+    ∙ ap (λ ss. marked (replicate (length agent.points) false) (pieces_reach (rest ss point))) k
 
 module _ (functions : List FunctionDecl) (none : NoneAdvances functions) (pieces : List Piece) (to : ℕ) where
   abbrev calls : ℕ → ℕ
@@ -57,28 +70,43 @@ module _ (functions : List FunctionDecl) (none : NoneAdvances functions) (pieces
   pub way_reached : (met : Meter) → IsWay functions pieces to met → pieces_reach pieces to ≡ true
   way_reached met way = reach_same ∙ top_there top met its_top way
 
-pub next_within : (functions : List FunctionDecl) (agent : AgentDecl) (point to : ℕ) → IsOfSome agent → IsNext functions agent point to → to < length agent.points
-next_within functions agent point to (unit, number, (text, got)) (met, way) =
-    let sound = unit_sound text.text.0 unit text.text.1 in
-    way_below (agent_scope unit number agent) (callee_ways functions) agent.stmts point to unmetered met (sound.agents number agent got).stmts way
+-- A point of an `advance`
+abbrev pub IsInner : AgentDecl → ℕ → Type 0
+IsInner agent to = (1 ≤ to) × (to < length agent.points)
 
-pub points_of_some : (agent : AgentDecl) → IsOfSome agent → length agent.points ≡ length (rests_in (map with_rests agent.stmts)) + 1
-points_of_some agent (unit, number, its) = (kept unit number agent its).points
+inner_range : (agent : AgentDecl) (start count : ℕ) → 1 ≤ start → start + count ≤ length agent.points → Each (IsInner agent) (range_with_len start count)
+inner_range agent start zero h k = tt
+inner_range agent start (suc count) h k = ((h, omega (arith, k)), inner_range agent (start + 1) count (omega arith) (omega (arith, k)))
 
-pub few_points : (agent : AgentDecl) → IsOfSome agent → length agent.points ≤ 256
-few_points agent (unit, number, (text, got)) =
-    let bare = text.bare.agents number agent (slice_get_within unit.agents number agent got) in
-    let own = subst (IsBareAgent unit) (get_or_from_slice_get unit.agents number agent agent got) bare in
-    own.limit
+module _ (unit : Whole) (number : ℕ) (agent : AgentDecl) (its : IsAgentOf unit number agent) (k : IsKnown unit number agent) where
+  own : IsSoundAgent unit number agent
+  own = k.sound.agents number agent its.1
 
--- The marks of the points that are reached from one
-abbrev pub marks_from : AgentDecl → ℕ → List Bool
-marks_from agent point = marked (replicate (length agent.points) false) (pieces_reach (rest agent.stmts point))
+  pub points_of : length agent.points ≡ length (rests_in (map with_rests agent.stmts)) + 1
+  points_of = omega (arith, own.points, rests_count agent.stmts)
 
-pub numbers_next : (functions : List FunctionDecl) (agent : AgentDecl) (point to : ℕ) (points : List ℕ) → NoneAdvances functions → IsOfSome agent → points ≡ numbers_of (marks_from agent point) → Contains points to ↔ IsNext functions agent point to
-numbers_next functions agent point to points none some e =
-    let pieces = rest agent.stmts point in
-    let count = length agent.points in (
-      λ c. reached_way functions none pieces to (numbered count to (pieces_reach pieces) (subst (λ l. Contains l to) e c)),
-      λ next. subst (λ l. Contains l to) (sym e) (numbers count to (pieces_reach pieces) (next_within functions agent point to some next) (way_reached functions none pieces to next.0 next.1)),
-    )
+  pub few_points : length agent.points ≤ POINTS
+  few_points =
+      let bare = its.0.bare.agents number agent (slice_get_within unit.agents number agent its.1) in
+      let known = subst (IsBareAgent unit) (get_or_from_slice_get unit.agents number agent agent its.1) bare in
+      known.limit
+
+  next_inner : (point to : ℕ) → IsNext unit.functions agent point to → IsInner agent to
+  next_inner point to (met, way) =
+      let inner = inner_range agent 1 (length (advances_in agent.stmts)) (omega arith) (omega (arith, own.points)) in
+      way_fine (IsInner agent) (callee_ways unit.functions) agent.stmts point to unmetered met (subst (Each (IsInner agent)) (sym own.numbered) inner) way
+
+  module _ (point : ℕ) (points : List ℕ) (are : points ≡ numbers_of (marks_from agent point)) where
+    pub numbers_next : (to : ℕ) → Contains points to ↔ IsNext unit.functions agent point to
+    numbers_next to =
+        let pieces = rest agent.stmts point in
+        let count = length agent.points in (
+          λ c. reached_way unit.functions k.none pieces to (numbered count to (pieces_reach pieces) (subst (λ l. Contains l to) are c)),
+          λ next. subst (λ l. Contains l to) (sym are) (numbers count to (pieces_reach pieces) (next_inner point to next).1 (way_reached unit.functions k.none pieces to next.0 next.1)),
+        )
+
+    pub some_next : 0 < length points
+    some_next = let (to, next) = k.goes_on point in let (i, less, is) = (numbers_next to).1 next in omega (arith, less)
+
+    pub inner_next : All (IsInner agent) points
+    inner_next i p less = next_inner point (get_or points i p) ((numbers_next (get_or points i p)).0 (All-contains_itself points i p less))

@@ -10,16 +10,13 @@ use Rattle.psy_tree.specs.declared.unit.FunctionDecl.{FunctionDecl}
 use Rattle.psy_tree.specs.declared.unit.Unit.{Unit as Whole}
 use Rattle.psy_meaning.specs.Paths.{NoneAdvances}
 use Rattle.psy_meaning.specs.Rest.{rest}
-use Rattle.psy_meaning.specs.Ways.{Meter, IsWay, callee_ways}
-use Rattle.psy_lawful.proofs.SoundUnits.{unit_sound}
+use Rattle.psy_meaning.specs.Ways.{Sending, Meter, IsWay, callee_ways}
 use Rattle.psy_flow.specs.declared.gauge.Gauge.{Gauge}
 use Rattle.psy_flow.specs.declared.gauge.Gauge.TheVariants as gauge
 use Rattle.psy_flow.specs.declared.tops.Tops.{Tops}
-use Rattle.psy_flow.specs.Flow.{IsAgentOf, IsMostSends, MayLook}
+use Rattle.psy_flow.specs.Flow.{IsKnown, IsMostSends, MayLook}
 use Rattle.psy_flow.specs.Tops.{count_of, called, capped_count, capped_tops, pieces_tops}
-use Rattle.psy_flow.proofs.Agents.{Kept, kept, open_calls}
-use Rattle.psy_flow.proofs.Greatest.{IsRow, IsTopTo, top_to}
-use Rattle.psy_flow.proofs.Sendless.{unit_sendless}
+use Rattle.psy_flow.proofs.Greatest.{IsRow, IsTopTo, top_to, row_of}
 use Rattle.psy_flow.proofs.Still.{Left, Still, still_calls}
 
 -- What is counted doesn't change where looks and sends don't.
@@ -28,12 +25,12 @@ Counts g = (m n : Meter) → Left m n → count_of g n ≡ count_of g m
 
 silent_row : (g : Gauge) (functions : List FunctionDecl) → NoneAdvances functions → ((f : ℕ) → Still (callee_ways functions f)) → Counts g → IsRow g functions (called [])
 silent_row g functions none still same = record {
-  one = λ f before. let (now, way, front) = open_calls functions none f before in (now, way, omega (arith, same before now (still f before now way)));
+  one = λ f before. let (now, way, steps) = (row_of gauge.Steps functions none).one f before in (now, way, omega (arith, same before now (still f before now way)));
   most = λ f before now way. omega (arith, same before now (still f before now way));
 }
 
 sends_same : (stream : ℕ) → Counts (gauge.Sends stream)
-sends_same stream m n h = ap (count_by (λ s. s == stream)) h.1
+sends_same stream m n h = ap (count_by (λ (s : Sending). s.stream == stream)) h.1
 
 looks_same : (variable : ℕ) → Counts (gauge.Looks variable)
 looks_same variable m n h = ap (count_by (λ (l : Looked). l.variable == variable)) h.0
@@ -58,12 +55,9 @@ counts p [] x i l e h = absurd (omega (arith, l))
 counts p (y ∷ xs) x zero l e h = omega (arith, sum_by-cons (λ y. cond (p y) 1 0) y xs, ap {B = ℕ} (λ b. cond b 1 0) (ap p e ∙ h))
 counts p (y ∷ xs) x (suc i) l e h = omega (arith, sum_by-cons (λ y. cond (p y) 1 0) y xs, counts p xs x i (omega (arith, l)) e h)
 
-module _ (unit : Whole) (number : ℕ) (agent : AgentDecl) (its : IsAgentOf unit number agent) (point : ℕ) where
-  abbrev k : Kept unit.functions agent
-  k = kept unit number agent its
-
-  still : (f : ℕ) → Still (callee_ways unit.functions f)
-  still f = let text = its.0.text in still_calls unit.functions (unit_sound text.0 unit text.1).functions (unit_sendless text.0 unit text.1) f
+module _ (unit : Whole) (number : ℕ) (agent : AgentDecl) (its : IsKnown unit number agent) (point : ℕ) where
+  abbrev calls : (g : Gauge) → Counts g → IsRow g unit.functions (called [])
+  calls g same = silent_row g unit.functions its.none (still_calls unit.functions its.sound.functions) same
 
   -- ---- sends
 
@@ -86,7 +80,7 @@ module _ (unit : Whole) (number : ℕ) (agent : AgentDecl) (its : IsAgentOf unit
       let g = gauge.Sends stream in
       subst (λ o. IsMostSends unit.functions agent point to stream (unwrap_or o 0)) (sym (ap (λ (u : Tops). u.to) h))
       (most_cut to stream (pieces_tops g (Some to) (called []) (rest agent.stmts point)).to
-      (top_to g (Some to) unit.functions (called []) (rest agent.stmts point) k.none (silent_row g unit.functions k.none still (sends_same stream))))
+      (top_to g (Some to) unit.functions (called []) (rest agent.stmts point) its.none (calls g (sends_same stream))))
 
   -- ---- looks
 
@@ -106,4 +100,4 @@ module _ (unit : Whole) (number : ℕ) (agent : AgentDecl) (its : IsAgentOf unit
       let g = gauge.Looks variable in
       subst (λ o. (nat_lt 0 (unwrap_or o 0) ≡ true) ↔ MayLook unit.functions agent point variable) (sym (ap (λ (u : Tops). u.to) h))
       (looks_by variable (pieces_tops g None (called []) (rest agent.stmts point)).to
-      (top_to g None unit.functions (called []) (rest agent.stmts point) k.none (silent_row g unit.functions k.none still (looks_same variable))))
+      (top_to g None unit.functions (called []) (rest agent.stmts point) its.none (calls g (looks_same variable))))

@@ -1,7 +1,6 @@
--- The ways of functions neither look nor send, where these hold no `past` and no `send`.
-use Rattle.std.proofs.Common.{◌≡◌, ℕ, zero, suc, ◌+◌, Bool, true, false, ◌||◌, List, [], ◌∷◌, ◌++◌, map, Some, None, refl, sym, ap, subst, ◌∙◌, inl, inr}
+-- The ways of sound functions neither look nor send.
+use Rattle.std.proofs.Common.{◌≡◌, ℕ, zero, suc, ◌+◌, false, List, [], ◌∷◌, ◌++◌, map, Some, None, refl, sym, ap, subst, ◌∙◌, inl, inr}
 use Rattle.std.specs.Prelude.{slice_get}
-use Rattle.std.specs.List.{list_any}
 use Rattle.std.proofs.lemmas.Bool.{false≢true}
 use Rattle.std.proofs.lemmas.Option.{none-some}
 use Rattle.psy_arith.specs.declared.operators.Op2.{Op2}
@@ -9,28 +8,12 @@ use Rattle.psy_arith.specs.declared.operators.Op2.TheVariants as op
 use Rattle.psy_tree.specs.declared.unit.Expr.{Expr, roll-Expr, rec-roll-Expr, map-Expr, ind-Expr}
 use Rattle.psy_tree.specs.declared.unit.Expr.TheOpen.{Expr-F}
 use Rattle.psy_tree.specs.declared.unit.FunctionDecl.{FunctionDecl}
-use Rattle.psy_tree.specs.declared.unit.Stmt.{Stmt, roll-Stmt, rec-roll-Stmt, fold-Stmt, fold-roll-Stmt, map-Stmt, ind-Stmt}
+use Rattle.psy_tree.specs.declared.unit.Stmt.{Stmt, roll-Stmt, rec-roll-Stmt, map-Stmt, ind-Stmt}
 use Rattle.psy_tree.specs.declared.unit.Stmt.TheOpen.{Stmt-F}
-use Rattle.psy_meaning.specs.Paths.{one_of}
 use Rattle.psy_meaning.specs.Sound.{Scope, Each, IsSoundExpr, sound_expr_step, IsSoundStmt, sound_stmt_step, AreSound, function_scope, AreSoundFunctions}
 use Rattle.psy_meaning.specs.Ways.{Meter, Way, Course, End, Fell, Back, To, here, one, both, either, falling, returning, leaving, behind, and_on, or_else, ways_through, binary_way, courses_through, turning, expr_way_step, expr_way, course_step, course_by, callee_way, with_way, callee_ways_from, callee_ways}
 use Rattle.psy_meaning.proofs.Layers.{natural_expr, natural_stmt}
-use Rattle.psy_meaning.proofs.NoWays.{or_false}
-use Rattle.psy_lawful.proofs.SoundParts.{exprs_natural, stmts_natural}
-
--- ---- statements that send
-
-abbrev pub send_step : Stmt-F Bool → Bool
-send_step (Stmt-F.Send value stream after clock) = true
-send_step (Stmt-F.If test branch None) = one_of branch
-send_step (Stmt-F.If test branch (Some other)) = one_of branch || one_of other
-send_step (Stmt-F.Bounded test most body) = one_of body
-send_step (Stmt-F.Timed test body) = one_of body
-send_step _ = false
-
--- A statement is a `send`, or holds one at any depth.
-abbrev pub sends : Stmt → Bool
-sends = fold-Stmt Bool send_step
+use Rattle.psy_meaning.proofs.SoundParts.{exprs_natural, stmts_natural}
 
 -- ---- ways that leave looks and sends as they are
 
@@ -105,7 +88,7 @@ still_binary op.AndAnd left right p q = still_both left (both one (either here (
 still_binary op.OrOr left right p q = still_both left (both one (either here (both right one))) p (still_lazy right q)
 still_binary operator left right p q = still_both left (both right one) p (still_both right one q still_one)
 
-module _ (sc : Scope) (no_depths : sc.depths ≡ []) (ways : ℕ → Way) (all : (f : ℕ) → Still (ways f)) where
+module _ (sc : Scope) (no_depths : sc.depths ≡ []) (no_sends : sc.sends ≡ false) (ways : ℕ → Way) (all : (f : ℕ) → Still (ways f)) where
   -- ---- expressions
 
   abbrev P : Expr → Type 0
@@ -145,7 +128,7 @@ module _ (sc : Scope) (no_depths : sc.depths ≡ []) (ways : ℕ → Way) (all :
   -- ---- statements
 
   abbrev Q : Stmt → Type 0
-  Q s = IsSoundStmt sc s → sends s ≡ false → Calm (course_by ways s)
+  Q s = IsSoundStmt sc s → Calm (course_by ways s)
 
   abbrev KnownStmt : Type 0
   KnownStmt = (s : Stmt) × Q s
@@ -153,71 +136,61 @@ module _ (sc : Scope) (no_depths : sc.depths ≡ []) (ways : ℕ → Way) (all :
   abbrev stmt_tree : KnownStmt → Stmt
   stmt_tree k = k.0
 
-  calm_through : (ks : List KnownStmt) → Each (IsSoundStmt sc) (map stmt_tree ks) → one_of (map sends (map stmt_tree ks)) ≡ false → Calm (courses_through (course_by ways) (map stmt_tree ks))
-  calm_through [] h e = calm_falling here still_here
-  calm_through (k ∷ ks) h e =
-      let parts = or_false (sends k.0) (one_of (map sends (map stmt_tree ks))) e in
-      calm_on (course_by ways k.0) (courses_through (course_by ways) (map stmt_tree ks)) (k.1 h.0 parts.0) (calm_through ks h.1 parts.1)
+  calm_through : (ks : List KnownStmt) → Each (IsSoundStmt sc) (map stmt_tree ks) → Calm (courses_through (course_by ways) (map stmt_tree ks))
+  calm_through [] h = calm_falling here still_here
+  calm_through (k ∷ ks) h = calm_on (course_by ways k.0) (courses_through (course_by ways) (map stmt_tree ks)) (k.1 h.0) (calm_through ks h.1)
 
   then_one : (e : Expr) → IsSoundExpr sc e → Still (both (expr_way ways e) one)
   then_one e h = still_both (expr_way ways e) one (still_expr e h) still_one
 
-  stmt_step : (y : Stmt-F KnownStmt) → let x = map-Stmt KnownStmt Stmt stmt_tree y in
-      sound_stmt_step sc Stmt (λ y. y) (IsSoundStmt sc) x → send_step (map-Stmt Stmt Bool sends x) ≡ false → Calm (course_step ways Stmt (λ y. y) (course_by ways) x)
-  stmt_step (Stmt-F.Set slot value) h e = calm_falling (both (expr_way ways value) one) (then_one value h.1)
-  stmt_step (Stmt-F.SetCopy variable value) h e = calm_falling (both (expr_way ways value) one) (then_one value h.1)
-  stmt_step (Stmt-F.SetCell slot index value) h e =
+  stmt_step : (y : Stmt-F KnownStmt) → let x = map-Stmt KnownStmt Stmt stmt_tree y in sound_stmt_step sc Stmt (λ y. y) (IsSoundStmt sc) x → Calm (course_step ways Stmt (λ y. y) (course_by ways) x)
+  stmt_step (Stmt-F.Set slot value) h = calm_falling (both (expr_way ways value) one) (then_one value h.1)
+  stmt_step (Stmt-F.SetCopy variable value) h = calm_falling (both (expr_way ways value) one) (then_one value h.1)
+  stmt_step (Stmt-F.SetCell slot index value) h =
       calm_falling (both (expr_way ways index) (both (expr_way ways value) one)) (still_both (expr_way ways index) (both (expr_way ways value) one) (still_expr index h.1) (then_one value h.2))
-  stmt_step (Stmt-F.If test branch None) h e =
+  stmt_step (Stmt-F.If test branch None) h =
       let this : Course = courses_through (course_by ways) (map stmt_tree branch) in
-      calm_behind (both (expr_way ways test) one) (or_else this (falling here)) (then_one test h.0) (calm_else this (falling here) (calm_through branch h.1 e) (calm_falling here still_here))
-  stmt_step (Stmt-F.If test branch (Some other)) h e =
-      let parts = or_false (one_of (map sends (map stmt_tree branch))) (one_of (map sends (map stmt_tree other))) e in
+      calm_behind (both (expr_way ways test) one) (or_else this (falling here)) (then_one test h.0) (calm_else this (falling here) (calm_through branch h.1) (calm_falling here still_here))
+  stmt_step (Stmt-F.If test branch (Some other)) h =
       let this : Course = courses_through (course_by ways) (map stmt_tree branch) in
       let that : Course = courses_through (course_by ways) (map stmt_tree other) in
       calm_behind (both (expr_way ways test) one) (or_else (and_on this (falling one)) that) (then_one test h.0)
-      (calm_else (and_on this (falling one)) that (calm_on this (falling one) (calm_through branch h.1 parts.0) (calm_falling one still_one)) (calm_through other h.2 parts.1))
-  stmt_step (Stmt-F.Bounded test most body) h e =
+      (calm_else (and_on this (falling one)) that (calm_on this (falling one) (calm_through branch h.1) (calm_falling one still_one)) (calm_through other h.2))
+  stmt_step (Stmt-F.Bounded test most body) h =
       let inner : Course = courses_through (course_by ways) (map stmt_tree body) in
-      calm_behind one (turning most (expr_way ways test) inner) still_one (calm_turning most (expr_way ways test) inner (still_expr test h.0) (calm_through body h.2 e))
-  stmt_step (Stmt-F.Timed test body) h e =
+      calm_behind one (turning most (expr_way ways test) inner) still_one (calm_turning most (expr_way ways test) inner (still_expr test h.0) (calm_through body h.2))
+  stmt_step (Stmt-F.Timed test body) h =
       let inner : Course = courses_through (course_by ways) (map stmt_tree body) in
-      calm_behind (both (expr_way ways test) one) (or_else inner (falling here)) (then_one test h.0) (calm_else inner (falling here) (calm_through body h.2 e) (calm_falling here still_here))
-  stmt_step (Stmt-F.Send value stream after clock) h e = absurd (false≢true (sym e))
-  stmt_step (Stmt-F.Advance point) h e = λ end m n w. still_one m n w.1
-  stmt_step (Stmt-F.Return value) h e = calm_returning (both (expr_way ways value) one) (then_one value h.1)
+      calm_behind (both (expr_way ways test) one) (or_else inner (falling here)) (then_one test h.0) (calm_else inner (falling here) (calm_through body h.2) (calm_falling here still_here))
+  stmt_step (Stmt-F.Send value stream after clock) h = absurd (false≢true (sym no_sends ∙ h.0.allowed))
+  stmt_step (Stmt-F.Advance point) h = λ end m n w. still_one m n w.1
+  stmt_step (Stmt-F.Return value) h = calm_returning (both (expr_way ways value) one) (then_one value h.1)
 
   stmt_layer : (y : Stmt-F KnownStmt) → Q (roll-Stmt (map-Stmt KnownStmt Stmt stmt_tree y))
-  stmt_layer y h e =
+  stmt_layer y h =
       let x : Stmt-F Stmt = map-Stmt KnownStmt Stmt stmt_tree y in
-      subst Calm (sym (rec-roll-Stmt Course (course_step ways) (natural_stmt ways) x))
-      (stmt_step y (subst (λ (t : Type 0). t) (rec-roll-Stmt (Type 0) (sound_stmt_step sc) (stmts_natural sc) x) h) (sym (fold-roll-Stmt Bool send_step x) ∙ e))
+      subst Calm (sym (rec-roll-Stmt Course (course_step ways) (natural_stmt ways) x)) (stmt_step y (subst (λ (t : Type 0). t) (rec-roll-Stmt (Type 0) (sound_stmt_step sc) (stmts_natural sc) x) h))
 
   calm_stmt : (s : Stmt) → Q s
   calm_stmt = ind-Stmt Q (λ x y is. subst (λ z. Q (roll-Stmt z)) is (stmt_layer y))
 
-  calm_stmts : (stmts : List Stmt) → AreSound sc stmts → list_any sends stmts ≡ false → Calm (courses_through (course_by ways) stmts)
-  calm_stmts [] h e = calm_falling here still_here
-  calm_stmts (x ∷ xs) h e =
-      let parts = or_false (sends x) (list_any sends xs) e in
-      calm_on (course_by ways x) (courses_through (course_by ways) xs) (calm_stmt x h.0 parts.0) (calm_stmts xs h.1 parts.1)
+  calm_stmts : (stmts : List Stmt) → AreSound sc stmts → Calm (courses_through (course_by ways) stmts)
+  calm_stmts [] h = calm_falling here still_here
+  calm_stmts (x ∷ xs) h = calm_on (course_by ways x) (courses_through (course_by ways) xs) (calm_stmt x h.0) (calm_stmts xs h.1)
 
 -- ---- functions
-
-abbrev pub Sendless : List FunctionDecl → Type 0
-Sendless functions = Each (λ (f : FunctionDecl). list_any sends f.stmts ≡ false) functions
 
 still_with : (number : ℕ) (last : Way) (above : ℕ → Way) → Still last → ((f : ℕ) → Still (above f)) → (f : ℕ) → Still (with_way number last above f)
 still_with number last above p q f m n (inl w) = p m n w.1
 still_with number last above p q f m n (inr w) = q f m n w.1
 
-still_from : (number : ℕ) (ways : ℕ → Way) (above functions : List FunctionDecl) → ((f : ℕ) → Still (ways f)) → AreSoundFunctions above functions → Sendless functions → (f : ℕ) → Still (callee_ways_from number ways functions f)
-still_from number ways above [] all h e = all
-still_from number ways above (f ∷ fs) all h e =
+still_from : (number : ℕ) (ways : ℕ → Way) (above functions : List FunctionDecl) → ((f : ℕ) → Still (ways f)) → AreSoundFunctions above functions → (f : ℕ) → Still (callee_ways_from number ways functions f)
+still_from number ways above [] all h = all
+still_from number ways above (f ∷ fs) all h =
     let course : Course = courses_through (course_by ways) f.stmts in
-    let calm : Calm course = calm_stmts (function_scope above [] [] f) refl ways all f.stmts (h.0 [] []) e.0 in
+    let calm : Calm course = calm_stmts (function_scope above [] [] f) refl refl ways all f.stmts (h.0.stmts [] []) in
     let call : Still (callee_way ways f) = still_either (course Back) (both (course Fell) two) (calm Back) (still_both (course Fell) two (calm Fell) still_two) in
-    still_from (number + 1) (with_way number (callee_way ways f) ways) (above ++ f ∷ []) fs (still_with number (callee_way ways f) ways call all) h.1 e.1
+    still_from (number + 1) (with_way number (callee_way ways f) ways) (above ++ f ∷ []) fs (still_with number (callee_way ways f) ways call all) h.1
 
-pub still_calls : (functions : List FunctionDecl) → AreSoundFunctions [] functions → Sendless functions → (f : ℕ) → Still (callee_ways functions f)
-still_calls functions h e = still_from 0 (λ function. here) [] functions (λ f. still_here) h e
+pub still_calls : (functions : List FunctionDecl) → AreSoundFunctions [] functions → (f : ℕ) → Still (callee_ways functions f)
+still_calls functions h = still_from 0 (λ function. here) [] functions (λ f. still_here) h

@@ -5,7 +5,7 @@ use Rattle.psy_tree.specs.declared.unit.Expr.{Expr}
 use Rattle.psy_tree.specs.declared.unit.Stmt.{Stmt, roll-Stmt, fold-roll-Stmt, rec-roll-Stmt, map-Stmt, ind-Stmt}
 use Rattle.psy_tree.specs.declared.unit.Stmt.TheOpen.{Stmt-F}
 use Rattle.psy_meaning.specs.Statements.{Piece, Do, Hop}
-use Rattle.psy_meaning.specs.Ways.{Meter, Way, Course, Fell, Back, To, here, one, sending, both, either, falling, returning, reaching, leaving, behind, and_on, or_else, courses_through, turning, expr_way, course_step, course_by, piece_course}
+use Rattle.psy_meaning.specs.Ways.{Sending, Meter, Way, Course, Fell, Back, To, here, one, sending, both, either, falling, returning, reaching, leaving, behind, and_on, or_else, courses_through, turning, expr_way, course_step, course_by, piece_course}
 use Rattle.psy_flow.specs.declared.gauge.Gauge.{Gauge}
 use Rattle.psy_flow.specs.declared.tops.Tops.{Tops}
 use Rattle.psy_flow.specs.Tops.{in_step, in_send, expr_most, plus, greater, on_from, tops_through, meets, stmt_tops_step, stmt_tops, stmts_tops, piece_tops, pieces_tops}
@@ -191,7 +191,7 @@ module _ (g : Gauge) (wanted : Option ℕ) where
         fits_behind one (turning most (expr_way ways test) (course body)) (in_step g) (tops.turning g most (expr_most g calls test) (top body)) (most_one g)
         (fits_turning most (expr_way ways test) (expr_most g calls test) (course body) (top body) (most_expr g ways calls all test) (fits_list body))
     step_fits (Stmt-F.Timed test body) = fits_tested test (or_else (course body) (falling here)) (tops.or_else (top body) (tops.falling 0)) (fits_or_not (course body) (top body) (fits_list body))
-    step_fits (Stmt-F.Send value stream after clock) = fits_value value (sending stream) (in_send g stream) (most_sending g stream)
+    step_fits (Stmt-F.Send value stream after clock) = let send : Sending = record { stream = stream; after = after; clock = clock } in fits_value value (sending send) (in_send g stream) (most_sending g send)
     step_fits (Stmt-F.Advance point) = fits_reaching point one (in_step g) (most_one g)
     step_fits (Stmt-F.Return value) = fits_returning (both (expr_way ways value) one) (expr_most g calls value + in_step g) (most_then value one (in_step g) (most_one g))
 

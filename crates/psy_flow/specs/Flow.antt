@@ -6,7 +6,9 @@ use Rattle.psy_code.specs.Views.{Looked}
 use Rattle.psy_tree.specs.declared.unit.AgentDecl.{AgentDecl}
 use Rattle.psy_tree.specs.declared.unit.FunctionDecl.{FunctionDecl}
 use Rattle.psy_tree.specs.declared.unit.Unit.{Unit as Whole}
+use Rattle.psy_meaning.specs.Paths.{NoneAdvances}
 use Rattle.psy_meaning.specs.Rest.{rest}
+use Rattle.psy_meaning.specs.Sound.{IsSoundUnit}
 use Rattle.psy_meaning.specs.Units.{IsOfText}
 use Rattle.psy_meaning.specs.Ways.{Meter, IsWay}
 
@@ -25,6 +27,13 @@ IsWayFrom functions agent from to met = IsWay functions (rest agent.stmts from) 
 -- The code behind a point may reach this one first.
 abbrev pub IsNext : List FunctionDecl → AgentDecl → ℕ → ℕ → Type 0
 IsNext functions agent from to = (met : Meter) × IsWayFrom functions agent from to met
+
+-- What is known of an agent of a text: its unit is sound, no function of it advances, and from each point a way goes on to
+-- some point.
+pub record IsKnown (unit : Whole) (number : ℕ) (agent : AgentDecl) : Type 0 where
+  pub sound : IsSoundUnit unit
+  pub none : NoneAdvances unit.functions
+  pub goes_on : (point : ℕ) → (to : ℕ) × IsNext unit.functions agent point to
 
 -- A way from a point has this cost.
 abbrev pub HasCost : List FunctionDecl → AgentDecl → ℕ → ℕ → Type 0

@@ -1,6 +1,7 @@
 //! The depths of the functions' calls, as far as they can be counted.
 
 ghost use Rattle.std.specs.Prelude.{◌≡◌, ◌-◌, ◌^◌, ◌≤◌, min, map, take, length};
+ghost use Rattle.psy_base.specs.declared.limits.TheConstants.{FUNCTIONS};
 ghost use Rattle.psy_meaning.specs.Depths as depths;
 ghost use Rattle.psy_meaning.specs.Depths.{call_depth};
 ghost use Rattle.psy_flow.specs.Counted.{held, capped_depth, counted_calls};
@@ -55,7 +56,7 @@ fn depth_of_function(above: &[Depths], function: &FunctionDecl) -> Depths
 
 /// Each function is measured once, in order: it calls only those above it.
 pub fn depths_of_calls(functions: &[FunctionDecl]) -> Row
-    requires { length functions.now ≤ 64 }
+    requires { length functions.now ≤ FUNCTIONS }
     ensures { take (length functions.now) (map held result) ≡ counted_calls functions.now }
 {
     let mut row = [SHALLOW; limits::FUNCTIONS];

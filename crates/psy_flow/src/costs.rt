@@ -1,6 +1,7 @@
 //! The greatest costs of the functions' calls.
 
 ghost use Rattle.std.specs.Prelude.{◌≡◌, ◌≤◌, [], None, min, take, length};
+ghost use Rattle.psy_base.specs.declared.limits.TheConstants.{FUNCTIONS};
 ghost use Rattle.psy_flow.specs.Tops.{limit_of, called, call_most, stmts_tops, capped_from};
 
 use crate::gauge::Gauge;
@@ -27,7 +28,7 @@ fn most_of_function(gauge: Gauge, above: &[u64], function: &FunctionDecl) -> u64
 
 /// Each function is measured once, in order: it calls only those above it.
 pub fn costs_of_calls(gauge: Gauge, functions: &[FunctionDecl]) -> Costs
-    requires { length functions.now ≤ 64 }
+    requires { length functions.now ≤ FUNCTIONS }
     ensures { take (length functions.now) result ≡ capped_from gauge [] functions.now }
 {
     let mut row = [0; limits::FUNCTIONS];

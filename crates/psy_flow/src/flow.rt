@@ -1,6 +1,7 @@
 //! What follows each point of an agent's body.
 
 ghost use Rattle.std.specs.Prelude.{◌≡◌, ◌<◌, ◌↔◌, ℕ, true, length, slice_get, Some};
+ghost use Rattle.psy_base.specs.declared.limits.TheConstants.{COST};
 ghost use Rattle.psy_tree.specs.declared.unit.AgentDecl.{AgentDecl};
 ghost use Rattle.psy_tree.specs.declared.unit.Unit.{Unit as Whole};
 ghost use Rattle.psy_meaning.specs.Units.{IsOfText};
@@ -8,6 +9,7 @@ ghost use Rattle.psy_flow.specs.Flow.{IsOfSome, IsAgentOf, HasCost, IsCut, IsMos
 
 use crate::costs::costs_of_calls;
 use crate::gauge::Gauge;
+use crate::laws::known;
 use crate::points::tops_from;
 use psy_tree::{AgentDecl, Unit};
 
@@ -16,8 +18,9 @@ pub fn worst(unit: &Unit, agent: u32, point: u32) -> u64
     requires text { IsOfText unit.now }
     requires agent { agent < length unit.now.agents }
     requires point { (a : AgentDecl) → slice_get unit.now.agents agent ≡ Some a → point < length a.points }
-    ensures { (a : AgentDecl) → slice_get unit.now.agents agent ≡ Some a → IsCut (HasCost unit.now.functions a point) 1000000000 result }
+    ensures { (a : AgentDecl) → slice_get unit.now.agents agent ≡ Some a → IsCut (HasCost unit.now.functions a point) COST result }
 {
+    known();
     let functions = unit.functions.as_slice();
     let costs = costs_of_calls(Gauge::Steps, functions);
     let agent = &unit.agents.as_slice()[agent as usize];
@@ -33,6 +36,7 @@ pub fn most_sends(agent: &AgentDecl, point: u32, to: u32, stream: u32) -> u64
     requires point { point < length agent.now.points }
     ensures { (unit : Whole) (number : ℕ) → IsAgentOf unit number agent.now → IsMostSends unit.functions agent.now point to stream result }
 {
+    known();
     let tops = tops_from(
         Gauge::Sends(stream),
         Some(to),
@@ -49,6 +53,7 @@ pub fn looks(agent: &AgentDecl, point: u32, variable: u32) -> bool
     requires point { point < length agent.now.points }
     ensures { (unit : Whole) (number : ℕ) → IsAgentOf unit number agent.now → ((result ≡ true) ↔ MayLook unit.functions agent.now point variable) }
 {
+    known();
     let tops = tops_from(
         Gauge::Looks(variable),
         None,

@@ -3,6 +3,8 @@
 ghost use Rattle.std.specs.Prelude.{◌≡◌, ◌+◌, ◌*◌, ◌≤◌, min};
 ghost use Rattle.psy_flow.specs.Tops.{limit_of, in_step, in_look, in_send};
 
+use psy_base::limits;
+
 /// What is counted on a way.
 #[derive(Clone, Copy, Debug)]
 pub enum Gauge {
@@ -20,8 +22,8 @@ impl Gauge {
         ensures { result ≡ limit_of self }
     {
         match self {
-            Gauge::Steps => 1_000_000_000,
-            Gauge::Sends(_) => 65_537,
+            Gauge::Steps => limits::COST,
+            Gauge::Sends(_) => limits::SENDS,
             Gauge::Looks(_) => 1,
         }
     }

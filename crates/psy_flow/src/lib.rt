@@ -8,6 +8,7 @@ mod depths;
 mod expressions;
 mod flow;
 mod gauge;
+mod laws;
 mod next;
 mod points;
 mod reach;

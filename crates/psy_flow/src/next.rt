@@ -1,12 +1,13 @@
 //! The points that may follow a point.
 
-ghost use Rattle.std.specs.Prelude.{◌≡◌, ◌<◌, ◌≤◌, ◌↔◌, ℕ, List, false, length, replicate, IfOk};
-ghost use Rattle.std.specs.List.{Contains};
-ghost use Rattle.psy_tree.specs.declared.unit.FunctionDecl.{FunctionDecl};
-ghost use Rattle.psy_meaning.specs.Paths.{NoneAdvances};
-ghost use Rattle.psy_flow.specs.Flow.{IsOfSome, IsNext, Rises};
+ghost use Rattle.std.specs.Prelude.{◌≡◌, ◌<◌, ◌≤◌, ◌↔◌, ℕ, false, length, replicate, IfOk};
+ghost use Rattle.std.specs.List.{All, Contains};
+ghost use Rattle.psy_base.specs.declared.limits.TheConstants.{POINTS};
+ghost use Rattle.psy_tree.specs.declared.unit.Unit.{Unit as Whole};
+ghost use Rattle.psy_flow.specs.Flow.{IsOfSome, IsAgentOf, IsNext, Rises};
 ghost use Rattle.psy_flow.specs.Reach.{numbers_of};
 
+use crate::laws::known;
 use crate::reach::reach_from;
 use psy_base::{Items, Memory};
 use psy_tree::AgentDecl;
@@ -22,9 +23,9 @@ fn no_marks(alloc: Global, count: usize) -> Result<Items<bool>, Memory>
     Ok(marks)
 }
 
-// The numbers that are marked, of which there are at most 256.
+// The numbers that are marked, of which there are as many at most as an agent has points.
 fn marked_numbers(alloc: Global, marks: &[bool]) -> Result<Items<u32>, Memory>
-    requires { length marks.now ≤ 256 }
+    requires { length marks.now ≤ POINTS }
     ensures { IfOk result (λ numbers. numbers ≡ numbers_of marks.now) }
 {
     let mut numbers = Items::new(alloc);
@@ -36,14 +37,17 @@ fn marked_numbers(alloc: Global, marks: &[bool]) -> Result<Items<u32>, Memory>
     Ok(numbers)
 }
 
-/// The points that the code behind a point may reach first, every test going either way, in rising order. The
-/// only error is want of memory.
+/// The points that the code behind a point may reach first, every test going either way, in rising order: at least one,
+/// and none of them the head of the body. The only error is want of memory.
 pub fn next_points(alloc: Global, agent: &AgentDecl, point: u32) -> Result<Items<u32>, Memory>
     requires text { IsOfSome agent.now }
     requires point { point < length agent.now.points }
     ensures rising { IfOk result Rises }
-    ensures next { IfOk result (λ points. (functions : List FunctionDecl) → NoneAdvances functions → (to : ℕ) → (Contains points to ↔ IsNext functions agent.now point to)) }
+    ensures some { IfOk result (λ points. 0 < length points) }
+    ensures within { IfOk result (λ points. All (λ p. (1 ≤ p) × (p < length agent.now.points)) points) }
+    ensures next { IfOk result (λ points. (unit : Whole) (number : ℕ) → IsAgentOf unit number agent.now → (to : ℕ) → (Contains points to ↔ IsNext unit.functions agent.now point to)) }
 {
+    known();
     let mut marks = no_marks(alloc, agent.points.len())?;
     reach_from(&mut marks, agent.stmts.as_slice(), point);
     marked_numbers(alloc, marks.as_slice())
