@@ -1,7 +1,7 @@
 -- The code of a sound unit acts as its statements.
 use Rattle.std.proofs.Common.{◌≡◌, refl, sym, ap, subst, ◌∙◌, arith}
 use Rattle.std.specs.Prelude.{ℕ, zero, suc, ◌+◌, ◌<◌, ◌≤◌, false, T, List, [], ◌∷◌, ◌++◌, map, replicate, length, slice_get, slice_index_or, Some}
-use Rattle.std.proofs.lemmas.List.{length-append, append_assoc}
+use Rattle.std.proofs.lemmas.List.{length-append, length-replicate, append_assoc}
 use Rattle.psy_tree.specs.declared.unit.Unit.{Unit as Whole}
 use Rattle.psy_tree.specs.declared.unit.AgentDecl.{AgentDecl}
 use Rattle.psy_tree.specs.declared.unit.FunctionDecl.{FunctionDecl}
@@ -30,7 +30,7 @@ use Rattle.psy_gen.proofs.PlaceCounts.{places_count}
 use Rattle.psy_gen.proofs.ExprRuns.{expr_runs}
 use Rattle.psy_gen.proofs.Calls.{StandFrom, all_ready}
 use Rattle.psy_gen.proofs.RestRuns.{body_runs}
-use Rattle.psy_gen.proofs.Basics.{default, how_many, length-replicate, got-within}
+use Rattle.psy_gen.proofs.Basics.{default, how_many, got-within}
 
 -- Each action of a sound unit's agent ends or traps.
 abbrev pub Ends : Type 0

@@ -2,7 +2,7 @@
 use Rattle.std.proofs.Common.{◌≡◌, refl, sym, ap, subst, ◌∙◌, inl, inr, arith}
 use mathlib.Core.Logic.{⊎_elim}
 use Rattle.std.specs.Prelude.{ℕ, zero, suc, ◌+◌, ◌<◌, ◌≤◌, ◌==◌, max, nat_le, Bool, true, false, List, [], ◌∷◌, ◌++◌, map, reverse, take, drop, replicate, length, slice_get, slice_index_or, Option, Some, ℤ, pos, ⊤, ◌⊎◌}
-use Rattle.std.proofs.lemmas.List.{length-append, append-nil, append_assoc}
+use Rattle.std.proofs.lemmas.List.{length-append, length-replicate, append-nil, append_assoc}
 use Rattle.std.proofs.Math.Seq.{take-append_seam, drop-append_seam}
 use Rattle.psy_tree.specs.declared.unit.FunctionDecl.{FunctionDecl}
 use Rattle.psy_code.specs.declared.code.Code.{Code}
@@ -22,7 +22,7 @@ use Rattle.psy_gen.proofs.Contexts.{Context, Home, Inside, Room, roomy, has_room
 use Rattle.psy_gen.proofs.ExprRuns.{pushed, CallsRun, expr_runs}
 use Rattle.psy_gen.proofs.StmtRuns.{all_runs, all_sized}
 use Rattle.psy_gen.proofs.Outcomes.{After, size_is}
-use Rattle.psy_gen.proofs.Basics.{some_is, no_some, length-replicate}
+use Rattle.psy_gen.proofs.Basics.{some_is, no_some}
 
 -- ---- arguments on the stack
 

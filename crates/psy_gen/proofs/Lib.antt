@@ -17,4 +17,5 @@ mod RestRuns
 pub mod Spans
 mod Steps
 mod StmtRuns
+pub mod Small
 pub mod Wholes

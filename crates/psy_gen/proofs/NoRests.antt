@@ -8,7 +8,8 @@ use Rattle.psy_meaning.specs.Paths.{one_of, holds_step, holds, holds_advance, ad
 use Rattle.psy_meaning.specs.Rest.{rests_in, with_rests}
 use Rattle.psy_meaning.proofs.RestsOf.{rests_count}
 use Rattle.psy_gen.specs.Emission.{places_in}
-use Rattle.psy_gen.proofs.Basics.{differ, or_false}
+use Rattle.psy_meaning.proofs.NoWays.{or_false}
+use Rattle.psy_gen.proofs.Basics.{differ}
 use Rattle.psy_gen.proofs.PlaceCounts.{placed, places_count}
 
 abbrev Q : Stmt → Type 0
