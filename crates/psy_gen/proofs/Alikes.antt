@@ -1,12 +1,11 @@
 -- The code of a sound unit acts as its statements.
 use Rattle.std.proofs.Common.{◌≡◌, refl, sym, ap, subst, ◌∙◌, arith}
-use Rattle.std.specs.Prelude.{ℕ, zero, suc, ◌+◌, ◌<◌, ◌≤◌, false, T, List, [], ◌∷◌, ◌++◌, map, replicate, length, slice_get, slice_index_or, Some}
+use Rattle.std.specs.Prelude.{ℕ, zero, suc, ◌+◌, ◌<◌, ◌≤◌, T, List, [], ◌∷◌, ◌++◌, map, replicate, length, slice_get, slice_index_or, Some}
 use Rattle.std.proofs.lemmas.List.{length-append, length-replicate, append_assoc}
 use Rattle.psy_tree.specs.declared.unit.Unit.{Unit as Whole}
 use Rattle.psy_tree.specs.declared.unit.AgentDecl.{AgentDecl}
 use Rattle.psy_tree.specs.declared.unit.FunctionDecl.{FunctionDecl}
 use Rattle.psy_tree.specs.declared.unit.Slots.{Slots}
-use Rattle.psy_tree.specs.declared.unit.Stmt.{Stmt}
 use Rattle.psy_code.specs.declared.code.Code.{Code}
 use Rattle.psy_code.specs.declared.code.AgentCode.{AgentCode}
 use Rattle.psy_code.specs.declared.instr.Instr.{Instr}
@@ -14,6 +13,7 @@ use Rattle.psy_code.specs.declared.instr.Instr.TheVariants as instr
 use Rattle.psy_code.specs.Views.{View}
 use Rattle.psy_code.specs.Execution.{Copy, Run, RanTo, TrappedBy, copy_from, run_code, standing}
 use Rattle.psy_code.specs.Execution as code
+use Rattle.psy_code.specs.Lasting.{IsOver, Lasted}
 use Rattle.psy_meaning.specs.Sizes.{stmts_size, total}
 use Rattle.psy_meaning.specs.Depths.{Depth, call_depths, loops_in, agent_depth}
 use Rattle.psy_meaning.specs.Sound.{Scope, agent_scope, IsSoundAgent, IsSoundUnit}
@@ -23,7 +23,6 @@ use Rattle.psy_meaning.specs.Rest.{rest}
 use Rattle.psy_meaning.specs.Alike.{first_copies, IsStoreOf, IsViewOf, SameAs, EndsAs, home_holding, begun, started, AgentAlike, ActsAlike}
 use Rattle.psy_gen.specs.Emission.{codes_from, function_code, function_size, functions_size, function_entries, agent_code, agent_size, agent_entry, agent_entries, stmts_code, code_of, copy_init}
 use Rattle.psy_gen.proofs.Contexts.{Home, Room, at, HasAt, has-first, has-second, Shape, Holds}
-use Rattle.psy_gen.proofs.Counts.{over_with_last}
 use Rattle.psy_gen.proofs.Wholes.{function_length, agent_length}
 use Rattle.psy_gen.proofs.Outcomes.{After}
 use Rattle.psy_gen.proofs.PlaceCounts.{places_count}
@@ -31,6 +30,10 @@ use Rattle.psy_gen.proofs.ExprRuns.{expr_runs}
 use Rattle.psy_gen.proofs.Calls.{StandFrom, all_ready}
 use Rattle.psy_gen.proofs.RestRuns.{body_runs}
 use Rattle.psy_gen.proofs.Basics.{default, how_many, got-within}
+
+-- A run that is over lasted as many instructions as were counted.
+abbrev pub Lasts : Type 0
+Lasts = (whole : Code) (its : AgentCode) (s t : code.RunState) (n : ℕ) → IsOver (run_code whole its s n) t → Lasted whole its s n t
 
 -- Each action of a sound unit's agent ends or traps.
 abbrev pub Ends : Type 0
@@ -94,7 +97,7 @@ copies_same : (copies : List Copy) → map copy_from (map copy_init copies) ≡ 
 copies_same [] = refl
 copies_same (c ∷ rest) = ap (λ l. c ∷ l) (copies_same rest)
 
-module _ (unit : Whole) (whole : Code) (number : ℕ) (agent : AgentDecl) (its : AgentCode) (sound : IsSoundUnit unit) (here : AgentAt unit whole number agent its) (stand : StandFrom whole its 0 unit.functions) (ends : Ends) (got : slice_get unit.agents number ≡ Some agent) where
+module _ (unit : Whole) (whole : Code) (number : ℕ) (agent : AgentDecl) (its : AgentCode) (sound : IsSoundUnit unit) (here : AgentAt unit whole number agent its) (stand : StandFrom whole its 0 unit.functions) (lasts : Lasts) (ends : Ends) (got : slice_get unit.agents number ≡ Some agent) where
   own : IsSoundAgent unit number agent
   own = sound.agents number agent got
 
@@ -125,13 +128,13 @@ module _ (unit : Whole) (whole : Code) (number : ℕ) (agent : AgentDecl) (its :
 
   ends_as : (start : code.RunState) (end : ℕ) (counters : List ℕ) (final : Final) → start.deeds.steps ≡ 0 → After whole its sc Home end 0 [] counters start (Halts final) → EndsAs (Halts final) (run_code whole its start)
   ends_as start end counters (Ended point s) zero_steps (n, t, e, h) =
-      let over = over_with_last whole its n start (RanTo point t) (tt {0}) e in
-      let m : s.deeds.steps ≡ over.0 = sym (ap (λ d. d.steps) h.2) ∙ omega (arith, over.1, zero_steps) in
-      (t, subst (λ x. run_code whole its start x ≡ RanTo point t) (sym m) over.2, same_as s t h)
+      let lasted = lasts whole its start t n (subst (λ r. IsOver r t) (sym e) refl) in
+      let m : s.deeds.steps ≡ lasted.steps = sym (ap (λ d. d.steps) h.2) ∙ omega (arith, lasted.counted, zero_steps) in
+      (t, subst (λ x. run_code whole its start x ≡ RanTo point t) (sym m) (lasted.over ∙ e), same_as s t h)
   ends_as start end counters (Trapped kind s) zero_steps (n, t, e, h) =
-      let over = over_with_last whole its n start (TrappedBy kind t) (tt {0}) e in
-      let m : s.deeds.steps ≡ over.0 = sym (ap (λ d. d.steps) h.2) ∙ omega (arith, over.1, zero_steps) in
-      (t, subst (λ x. run_code whole its start x ≡ TrappedBy kind t) (sym m) over.2, same_as s t h)
+      let lasted = lasts whole its start t n (subst (λ r. IsOver r t) (sym e) refl) in
+      let m : s.deeds.steps ≡ lasted.steps = sym (ap (λ d. d.steps) h.2) ∙ omega (arith, lasted.counted, zero_steps) in
+      (t, subst (λ x. run_code whole its start x ≡ TrappedBy kind t) (sym m) (lasted.over ∙ e), same_as s t h)
 
   named : (point : ℕ) → point < sc.points → (place : ℕ) × (slice_get its.points point ≡ Some place)
   named point less = got-within its.points point (omega (arith, less, points_are))
@@ -172,8 +175,8 @@ agents_size : (agents : List AgentDecl) (p : ℕ) → length (codes_from agent_c
 agents_size [] p = refl
 agents_size (a ∷ rest) p = length-append (agent_code a p) (codes_from agent_code agent_size rest (p + agent_size a)) ∙ omega (arith, agent_length a p, agents_size rest (p + agent_size a))
 
-pub code_alike : Ends → (unit : Whole) → IsSoundUnit unit → ActsAlike unit (code_of unit)
-code_alike ends unit sound =
+pub code_alike : Lasts → Ends → (unit : Whole) → IsSoundUnit unit → ActsAlike unit (code_of unit)
+code_alike lasts ends unit sound =
     let start = functions_size unit.functions in
     let first = codes_from function_code function_size unit.functions 0 in
     let second = codes_from agent_code agent_size unit.agents start in
@@ -186,5 +189,5 @@ code_alike ends unit sound =
           agent_alike unit (code_of unit) number agent its sound
           (let z : 0 + number ≡ number = omega arith in subst (λ n. AgentAt unit (code_of unit) n agent its) z (agent_at unit (code_of unit) unit.agents 0 start number agent its all_second (omega (arith, len)) e f))
           (stand_from (code_of unit) its unit.functions 0 0 all_first (omega (arith, len)) (λ i. let y : 0 + i ≡ i = omega arith in ap (slice_get (function_entries unit.functions 0)) y))
-          ends e;
+          lasts ends e;
     }

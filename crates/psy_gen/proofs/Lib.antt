@@ -2,7 +2,6 @@ mod Alikes
 mod Basics
 mod Calls
 mod Contexts
-mod Counts
 pub mod Equations
 mod ExprRuns
 mod Leads

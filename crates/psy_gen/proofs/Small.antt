@@ -4,7 +4,7 @@ use Rattle.std.specs.Prelude.{get_or, slice_get, replicate}
 use Rattle.std.specs.List.{All}
 use Rattle.std.proofs.lemmas.List.Elements.{All-head, All-tail, All-get_or}
 use Rattle.std.proofs.lemmas.Option.{slice_get_within, get_or_from_slice_get}
-use Rattle.psy_base.specs.declared.limits.TheConstants.{CELLS, NAMES}
+use Rattle.psy_base.specs.declared.limits.TheConstants.{CELLS}
 use Rattle.psy_code.specs.declared.instr.Instr.{Instr}
 use Rattle.psy_tree.specs.declared.unit.Unit.{Unit as Whole}
 use Rattle.psy_tree.specs.declared.unit.AgentDecl.{AgentDecl}

@@ -1,6 +1,6 @@
-use Rattle.std.proofs.Common.{rules, ◌+◌, List, ◌++◌, drop, length, refl, sym, ap, ◌∙◌, arith, append-nil, append_assoc}
+use Rattle.std.proofs.Common.{rules, ◌+◌, ◌++◌, drop, length, refl, sym, ap, ◌∙◌, arith, append-nil, append_assoc}
 use Rattle.std.proofs.lemmas.Result.{on_ok_weaker}
-use Rattle.psy_tree.specs.declared.unit.Stmt.{Stmt, the_lemmas}
+use Rattle.psy_tree.specs.declared.unit.Stmt.{the_lemmas}
 use Rattle.psy_tree.specs.declared.unit.Stmt.TheVariants as stmt
 use Rattle.psy_meaning.specs.Sizes.{stmt_size, stmts_size}
 use Rattle.psy_meaning.specs.Depths.{loops, loops_in}
