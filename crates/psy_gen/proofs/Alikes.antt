@@ -1,49 +1,43 @@
 -- The code of a sound unit acts as its statements.
 use Rattle.std.proofs.Common.{◌≡◌, refl, sym, ap, subst, ◌∙◌, arith}
-use Rattle.std.specs.Prelude.{ℕ, zero, suc, ◌+◌, ◌<◌, ◌≤◌, false, T, List, [], ◌∷◌, ◌++◌, map, replicate, length, slice_get, slice_index_or, Some}
-use Rattle.std.proofs.lemmas.List.{length-append, append_assoc}
+use Rattle.std.specs.Prelude.{ℕ, zero, suc, ◌+◌, ◌<◌, ◌≤◌, T, List, [], ◌∷◌, ◌++◌, map, replicate, length, slice_get, slice_index_or, Some}
+use Rattle.std.proofs.lemmas.List.{length-append, length-replicate, append_assoc}
 use Rattle.psy_tree.specs.declared.unit.Unit.{Unit as Whole}
 use Rattle.psy_tree.specs.declared.unit.AgentDecl.{AgentDecl}
 use Rattle.psy_tree.specs.declared.unit.FunctionDecl.{FunctionDecl}
 use Rattle.psy_tree.specs.declared.unit.Slots.{Slots}
-use Rattle.psy_tree.specs.declared.unit.Stmt.{Stmt}
 use Rattle.psy_code.specs.declared.code.Code.{Code}
 use Rattle.psy_code.specs.declared.code.AgentCode.{AgentCode}
 use Rattle.psy_code.specs.declared.instr.Instr.{Instr}
 use Rattle.psy_code.specs.declared.instr.Instr.TheVariants as instr
 use Rattle.psy_code.specs.Views.{View}
-use Rattle.psy_code.specs.Execution.{Copy, Run, RanTo, TrappedBy, copy_from, run_code}
+use Rattle.psy_code.specs.Execution.{Copy, Run, RanTo, TrappedBy, copy_from, run_code, standing}
 use Rattle.psy_code.specs.Execution as code
+use Rattle.psy_code.specs.Lasting.{IsOver, Lasted}
 use Rattle.psy_meaning.specs.Sizes.{stmts_size, total}
 use Rattle.psy_meaning.specs.Depths.{Depth, call_depths, loops_in, agent_depth}
 use Rattle.psy_meaning.specs.Sound.{Scope, agent_scope, IsSoundAgent, IsSoundUnit}
-use Rattle.psy_meaning.specs.States.{Store, State, Ended, Trapped, Outcome, Falls, Returns, Halts, cost_1}
-use Rattle.psy_meaning.specs.Statements.{act, callees_of, Hop, piece_by, all_of}
-use Rattle.psy_meaning.specs.Paths.{quiet_list}
-use Rattle.psy_meaning.specs.Rest.{pieces_of, rests_in, with_rests, rest}
-use Rattle.psy_meaning.specs.Alike.{first_copies, IsStoreOf, IsViewOf, SameAs, EndsAs, machine_at, begun, started, AgentAlike, ActsAlike}
+use Rattle.psy_meaning.specs.States.{Store, State, Final, Ended, Trapped, Halts}
+use Rattle.psy_meaning.specs.Statements.{act, callees_of}
+use Rattle.psy_meaning.specs.Rest.{rest}
+use Rattle.psy_meaning.specs.Alike.{first_copies, IsStoreOf, IsViewOf, SameAs, EndsAs, home_holding, begun, started, AgentAlike, ActsAlike}
 use Rattle.psy_gen.specs.Emission.{codes_from, function_code, function_size, functions_size, function_entries, agent_code, agent_size, agent_entry, agent_entries, stmts_code, code_of, copy_init}
 use Rattle.psy_gen.proofs.Contexts.{Home, Room, at, HasAt, has-first, has-second, Shape, Holds}
-use Rattle.psy_gen.proofs.Counts.{over_with_last}
 use Rattle.psy_gen.proofs.Wholes.{function_length, agent_length}
 use Rattle.psy_gen.proofs.Outcomes.{After}
 use Rattle.psy_gen.proofs.PlaceCounts.{places_count}
 use Rattle.psy_gen.proofs.ExprRuns.{expr_runs}
 use Rattle.psy_gen.proofs.Calls.{StandFrom, all_ready}
-use Rattle.psy_gen.proofs.Loud.{then_loud, all_loud}
-use Rattle.psy_gen.proofs.RestRuns.{body_runs, all_of-append, map-append, pieces_are}
-use Rattle.psy_gen.proofs.Basics.{default, how_many, length-replicate, got-within}
+use Rattle.psy_gen.proofs.RestRuns.{body_runs}
+use Rattle.psy_gen.proofs.Basics.{default, how_many, got-within}
 
--- ---- no action falls through its body
+-- A run that is over lasted as many instructions as were counted.
+abbrev pub Lasts : Type 0
+Lasts = (whole : Code) (its : AgentCode) (s t : code.RunState) (n : ℕ) → IsOver (run_code whole its s n) t → Lasted whole its s n t
 
-rest_loud : (unit : Whole) (stmts : List Stmt) (point : ℕ) → quiet_list stmts ≡ false → (s t : State) → act unit.functions (rest stmts point) s ≡ Falls t → ⊥
-rest_loud unit stmts zero h s t e = all_loud (callees_of unit.functions) stmts h s t (ap (λ l. all_of l s) (sym (pieces_are (callees_of unit.functions) stmts)) ∙ e)
-rest_loud unit stmts (suc n) h s t e =
-    let callees = callees_of unit.functions in
-    let r = slice_index_or (rests_in (map with_rests stmts)) n [] in
-    let split = ap (λ l. all_of l s) (map-append callees r (Hop ∷ pieces_of stmts)) ∙ all_of-append (map (piece_by callees) r) (map (piece_by callees) (Hop ∷ pieces_of stmts)) s in
-    then_loud (all_of (map (piece_by callees) r) s) (all_of (map (piece_by callees) (Hop ∷ pieces_of stmts)))
-    (λ u v f. all_loud callees stmts h (cost_1 u) v (ap (λ l. all_of l (cost_1 u)) (sym (pieces_are callees stmts)) ∙ f)) t (sym split ∙ e)
+-- Each action of a sound unit's agent ends or traps.
+abbrev pub Ends : Type 0
+Ends = (unit : Whole) (number : ℕ) (agent : AgentDecl) (point : ℕ) (s : State) → IsSoundUnit unit → slice_get unit.agents number ≡ Some agent → (final : Final) × (act unit.functions (rest agent.stmts point) s ≡ Halts final)
 
 -- ---- where the code stands
 
@@ -103,7 +97,10 @@ copies_same : (copies : List Copy) → map copy_from (map copy_init copies) ≡ 
 copies_same [] = refl
 copies_same (c ∷ rest) = ap (λ l. c ∷ l) (copies_same rest)
 
-module _ (unit : Whole) (whole : Code) (number : ℕ) (agent : AgentDecl) (its : AgentCode) (sound : IsSoundUnit unit) (here : AgentAt unit whole number agent its) (stand : StandFrom whole its 0 unit.functions) (own : IsSoundAgent unit number agent) where
+module _ (unit : Whole) (whole : Code) (number : ℕ) (agent : AgentDecl) (its : AgentCode) (sound : IsSoundUnit unit) (here : AgentAt unit whole number agent its) (stand : StandFrom whole its 0 unit.functions) (lasts : Lasts) (ends : Ends) (got : slice_get unit.agents number ≡ Some agent) where
+  own : IsSoundAgent unit number agent
+  own = sound.agents number agent got
+
   abbrev sc : Scope
   sc = agent_scope unit number agent
 
@@ -129,23 +126,21 @@ module _ (unit : Whole) (whole : Code) (number : ℕ) (agent : AgentDecl) (its :
   same_as : (s : State) (t : code.RunState) → Holds Home s t → SameAs s t
   same_as s t h = record { cells = h.0; copies = h.1; deeds = h.2 }
 
-  ends_as : (start : code.RunState) (end : ℕ) (counters : List ℕ) (o : Outcome) → start.deeds.steps ≡ 0 → ((t : State) → o ≡ Falls t → ⊥) → After whole its sc Home end 0 [] counters start o → EndsAs o (run_code whole its start)
-  ends_as start end counters (Falls t) zero_steps loud g = loud t refl
-  ends_as start end counters (Returns v t) zero_steps loud g = g.1
-  ends_as start end counters (Halts (Ended point s)) zero_steps loud (n, t, e, h) =
-      let over = over_with_last whole its n start (RanTo point t) (tt {0}) e in
-      let m : s.deeds.steps ≡ over.0 = sym (ap (λ d. d.steps) h.2) ∙ omega (arith, over.1, zero_steps) in
-      (t, subst (λ x. run_code whole its start x ≡ RanTo point t) (sym m) over.2, same_as s t h)
-  ends_as start end counters (Halts (Trapped kind s)) zero_steps loud (n, t, e, h) =
-      let over = over_with_last whole its n start (TrappedBy kind t) (tt {0}) e in
-      let m : s.deeds.steps ≡ over.0 = sym (ap (λ d. d.steps) h.2) ∙ omega (arith, over.1, zero_steps) in
-      (t, subst (λ x. run_code whole its start x ≡ TrappedBy kind t) (sym m) over.2, same_as s t h)
+  ends_as : (start : code.RunState) (end : ℕ) (counters : List ℕ) (final : Final) → start.deeds.steps ≡ 0 → After whole its sc Home end 0 [] counters start (Halts final) → EndsAs (Halts final) (run_code whole its start)
+  ends_as start end counters (Ended point s) zero_steps (n, t, e, h) =
+      let lasted = lasts whole its start t n (subst (λ r. IsOver r t) (sym e) refl) in
+      let m : s.deeds.steps ≡ lasted.steps = sym (ap (λ d. d.steps) h.2) ∙ omega (arith, lasted.counted, zero_steps) in
+      (t, subst (λ x. run_code whole its start x ≡ RanTo point t) (sym m) (lasted.over ∙ e), same_as s t h)
+  ends_as start end counters (Trapped kind s) zero_steps (n, t, e, h) =
+      let lasted = lasts whole its start t n (subst (λ r. IsOver r t) (sym e) refl) in
+      let m : s.deeds.steps ≡ lasted.steps = sym (ap (λ d. d.steps) h.2) ∙ omega (arith, lasted.counted, zero_steps) in
+      (t, subst (λ x. run_code whole its start x ≡ TrappedBy kind t) (sym m) (lasted.over ∙ e), same_as s t h)
 
   named : (point : ℕ) → point < sc.points → (place : ℕ) × (slice_get its.points point ≡ Some place)
   named point less = got-within its.points point (omega (arith, less, points_are))
 
   acts : (point : ℕ) (store : Store) (view : View) (counters : List ℕ) → point < length agent.points → IsStoreOf unit number agent store → IsViewOf unit number view → length counters ≡ its.counters
-      → EndsAs (act unit.functions (rest agent.stmts point) (begun store view)) (run_code whole its (started (machine_at its point store counters) view))
+      → EndsAs (act unit.functions (rest agent.stmts point) (begun store view)) (run_code whole its (started (standing its point (home_holding store counters) store.copies) view))
   acts point store view counters less is seen len =
       let p = here.place in
       let has : HasAt whole.instrs p (stmts_code sc.layout agent.stmts 0 p ++ instr.Jump p ∷ []) = here.has in
@@ -155,8 +150,12 @@ module _ (unit : Whole) (whole : Code) (number : ℕ) (agent : AgentDecl) (its :
       (expr_runs whole its sc Home (callees_of unit.functions) (call_depths unit.functions) (length unit.functions) (all_ready whole its unit.functions sound.functions stand Home sc refl) (λ variable has. refl))
       (λ variable has. refl) (λ e. elim (subst T (sym e) (tt {0})) [ ]) named room
       agent.stmts p point has (omega (arith, here.small)) (omega arith) own.stmts (omega arith, omega arith) (omega (arith, less, own.points, places_count agent.stmts p)) counters (begun store view) kept (shape store view is seen) in
-      ends_as (started (machine_at its point store counters) view) (p + stmts_size agent.stmts) counters (act unit.functions (rest agent.stmts point) (begun store view)) refl (rest_loud unit agent.stmts point own.ends (begun store view))
-      (subst (λ q. After whole its sc Home (p + stmts_size agent.stmts) 0 [] counters (at Home q [] (begun store view) counters) (act unit.functions (rest agent.stmts point) (begun store view))) (sym at_point) runs)
+      let start = started (standing its point (home_holding store counters) store.copies) view in
+      let halts = ends unit number agent point (begun store view) sound got in
+      subst (λ o. EndsAs o (run_code whole its start)) (sym halts.1)
+      (ends_as start (p + stmts_size agent.stmts) counters halts.0 refl
+      (subst (After whole its sc Home (p + stmts_size agent.stmts) 0 [] counters start) halts.1
+      (subst (λ q. After whole its sc Home (p + stmts_size agent.stmts) 0 [] counters (at Home q [] (begun store view) counters) (act unit.functions (rest agent.stmts point) (begun store view))) (sym at_point) runs)))
 
   agent_alike : AgentAlike unit whole number agent its
   agent_alike = record {
@@ -176,8 +175,8 @@ agents_size : (agents : List AgentDecl) (p : ℕ) → length (codes_from agent_c
 agents_size [] p = refl
 agents_size (a ∷ rest) p = length-append (agent_code a p) (codes_from agent_code agent_size rest (p + agent_size a)) ∙ omega (arith, agent_length a p, agents_size rest (p + agent_size a))
 
-pub code_alike : (unit : Whole) → IsSoundUnit unit → ActsAlike unit (code_of unit)
-code_alike unit sound =
+pub code_alike : Lasts → Ends → (unit : Whole) → IsSoundUnit unit → ActsAlike unit (code_of unit)
+code_alike lasts ends unit sound =
     let start = functions_size unit.functions in
     let first = codes_from function_code function_size unit.functions 0 in
     let second = codes_from agent_code agent_size unit.agents start in
@@ -190,5 +189,5 @@ code_alike unit sound =
           agent_alike unit (code_of unit) number agent its sound
           (let z : 0 + number ≡ number = omega arith in subst (λ n. AgentAt unit (code_of unit) n agent its) z (agent_at unit (code_of unit) unit.agents 0 start number agent its all_second (omega (arith, len)) e f))
           (stand_from (code_of unit) its unit.functions 0 0 all_first (omega (arith, len)) (λ i. let y : 0 + i ≡ i = omega arith in ap (slice_get (function_entries unit.functions 0)) y))
-          (sound.agents number agent e);
+          lasts ends e;
     }

@@ -2,7 +2,7 @@
 use Rattle.std.proofs.Common.{◌≡◌, refl, sym, ap, subst, ◌∙◌, inl, inr, arith}
 use mathlib.Core.Logic.{⊎_elim}
 use Rattle.std.specs.Prelude.{ℕ, zero, suc, ◌+◌, ◌<◌, ◌≤◌, ◌==◌, max, nat_le, Bool, true, false, List, [], ◌∷◌, ◌++◌, map, reverse, take, drop, replicate, length, slice_get, slice_index_or, Option, Some, ℤ, pos, ⊤, ◌⊎◌}
-use Rattle.std.proofs.lemmas.List.{length-append, append-nil, append_assoc}
+use Rattle.std.proofs.lemmas.List.{length-append, length-replicate, append-nil, append_assoc}
 use Rattle.std.proofs.Math.Seq.{take-append_seam, drop-append_seam}
 use Rattle.psy_tree.specs.declared.unit.FunctionDecl.{FunctionDecl}
 use Rattle.psy_code.specs.declared.code.Code.{Code}
@@ -13,7 +13,7 @@ use Rattle.psy_code.specs.Execution.{Went, does}
 use Rattle.psy_code.specs.Execution as code
 use Rattle.psy_meaning.specs.Sizes.{stmts_size, total}
 use Rattle.psy_meaning.specs.Depths.{Depth, shallow, stmts_depth, call_depth, call_depths_from, call_depths, loops_in}
-use Rattle.psy_meaning.specs.Sound.{Scope, AreSound, function_scope}
+use Rattle.psy_meaning.specs.Sound.{Scope, AreSound, function_scope, AreSoundFunctions}
 use Rattle.psy_meaning.specs.States.{State, Final, Ended, Trapped, Got, Value, Stops, Outcome, Falls, Returns, Halts, Callee, cost_1}
 use Rattle.psy_meaning.specs.Statements.{acts_by, function_frame, in_store, final_in, back_in, callee, with_callee, callees_from, callees_of, no_callee}
 use Rattle.psy_gen.specs.Emission.{stmts_code, function_code, function_layout, function_entry, function_size}
@@ -22,7 +22,7 @@ use Rattle.psy_gen.proofs.Contexts.{Context, Home, Inside, Room, roomy, has_room
 use Rattle.psy_gen.proofs.ExprRuns.{pushed, CallsRun, expr_runs}
 use Rattle.psy_gen.proofs.StmtRuns.{all_runs, all_sized}
 use Rattle.psy_gen.proofs.Outcomes.{After, size_is}
-use Rattle.psy_gen.proofs.Basics.{some_is, no_some, length-replicate}
+use Rattle.psy_gen.proofs.Basics.{some_is, no_some}
 
 -- ---- arguments on the stack
 
@@ -241,23 +241,19 @@ module _ (whole : Code) (its : AgentCode) where
         (get-more fs decl f d (subst (λ l. slice_get l f ≡ Some d) e found))
 
   -- All functions, each of which calls those before it
-  abbrev SoundFrom : List FunctionDecl → List FunctionDecl → Type 0
-  SoundFrom fs [] = ⊤
-  SoundFrom fs (f ∷ rest) = ((depths' : List ℕ) (streams : List Bool) → AreSound (function_scope fs depths' streams f) f.stmts) × SoundFrom (fs ++ f ∷ []) rest
-
   abbrev pub StandFrom : ℕ → List FunctionDecl → Type 0
   StandFrom n [] = ⊤
   StandFrom n (f ∷ rest) = Stands n f × StandFrom (n + 1) rest
 
-  ready_from : (fs rest : List FunctionDecl) (callees : ℕ → Callee) (depths : List Depth) → Ready fs callees depths → SoundFrom fs rest → StandFrom (length fs) rest → length depths ≡ length fs
+  ready_from : (fs rest : List FunctionDecl) (callees : ℕ → Callee) (depths : List Depth) → Ready fs callees depths → AreSoundFunctions fs rest → StandFrom (length fs) rest → length depths ≡ length fs
       → Ready (fs ++ rest) (callees_from (length fs) callees rest) (call_depths_from depths rest)
   ready_from fs [] callees depths ready sound stand len = subst (λ l. Ready l callees depths) (sym (append-nil fs)) ready
   ready_from fs (f ∷ rest) callees depths ready sound stand len =
       let more = length-append fs (f ∷ []) in
       subst (λ l. Ready l (callees_from (length fs) callees (f ∷ rest)) (call_depths_from depths (f ∷ rest))) (append_assoc fs (f ∷ []) rest)
       (subst (λ n. Ready ((fs ++ f ∷ []) ++ rest) (callees_from n (with_callee (length fs) (callee callees f) callees) rest) (call_depths_from depths (f ∷ rest))) more
-      (ready_from (fs ++ f ∷ []) rest (with_callee (length fs) (callee callees f) callees) (depths ++ call_depth depths f ∷ []) (ready_more fs callees depths ready f sound.0 stand.0 len) sound.1 (subst (λ n. StandFrom n rest) (sym more) stand.1)
+      (ready_from (fs ++ f ∷ []) rest (with_callee (length fs) (callee callees f) callees) (depths ++ call_depth depths f ∷ []) (ready_more fs callees depths ready f sound.0.stmts stand.0 len) sound.1 (subst (λ n. StandFrom n rest) (sym more) stand.1)
       (length-append depths (call_depth depths f ∷ []) ∙ omega (arith, len, more))))
 
-  pub all_ready : (functions : List FunctionDecl) → SoundFrom [] functions → StandFrom 0 functions → Ready functions (callees_of functions) (call_depths functions)
+  pub all_ready : (functions : List FunctionDecl) → AreSoundFunctions [] functions → StandFrom 0 functions → Ready functions (callees_of functions) (call_depths functions)
   all_ready functions sound stand = ready_from [] functions no_callee [] (λ k sc e f d found. no_some d (subst (λ l. slice_get l f ≡ Some d) e found)) sound stand refl

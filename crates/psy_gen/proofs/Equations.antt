@@ -1,6 +1,6 @@
 -- The code and the size of each kind of expression and statement.
-use Rattle.std.proofs.Common.{◌≡◌, ℕ, ◌+◌, List, [], ◌∷◌, ◌++◌, map, refl, sym, ap, ◌∙◌, append_assoc}
-use Rattle.std.specs.Prelude.{Some, None, ℤ}
+use Rattle.std.proofs.Common.{◌≡◌, ℕ, ◌+◌, List, [], ◌∷◌, ◌++◌, map, refl, sym, ap, ◌∙◌, arith, append_assoc}
+use Rattle.std.specs.Prelude.{Option, Some, None, ℤ, ◌≤◌}
 use Rattle.psy_arith.specs.declared.operators.Op1.{Op1}
 use Rattle.psy_arith.specs.declared.operators.Op2.{Op2}
 use Rattle.psy_arith.specs.declared.operators.Op2.TheVariants as op
@@ -12,8 +12,8 @@ use Rattle.psy_tree.specs.declared.unit.Expr.TheOpen.{Expr-F}
 use Rattle.psy_tree.specs.declared.unit.Stmt.{Stmt, roll-Stmt, map-Stmt, para-roll-Stmt, fold-roll-Stmt}
 use Rattle.psy_tree.specs.declared.unit.Stmt.TheVariants as stmt
 use Rattle.psy_tree.specs.declared.unit.Stmt.TheOpen.{Stmt-F}
-use Rattle.psy_meaning.specs.Sizes.{expr_size, expr_size_step, stmt_size, stmt_size_step, stmts_size}
-use Rattle.psy_meaning.specs.Depths.{loops, loops_in}
+use Rattle.psy_meaning.specs.Sizes.{total, binary_size, expr_size, expr_size_step, stmt_size, stmt_size_step, stmts_size}
+use Rattle.psy_meaning.specs.Depths.{loops, loops_in, loops_step}
 use Rattle.psy_gen.specs.Emission.{Layout, Emit, Operand, Coded, Part, Places, Placed, base_of, cells_in_slot, named, expr_code, expr_code_step, binary_code, arguments_code, stmt_code, stmt_code_step, stmts_code, block_size, block_loops, places_of, places_step, stmts_places, placed_size}
 
 -- ---- expressions
@@ -66,6 +66,21 @@ code_call layout function arguments p = code_rolled layout (expr.Call function a
 
 pub size_roll : (x : Expr-F Expr) → expr_size (roll-Expr x) ≡ expr_size_step (map-Expr Expr ℕ expr_size x)
 size_roll x = fold-roll-Expr ℕ expr_size_step x
+
+size_rolled : (e : Expr) (x : Expr-F Expr) → roll-Expr x ≡ e → expr_size e ≡ expr_size_step (map-Expr Expr ℕ expr_size x)
+size_rolled e x is = ap expr_size (sym is) ∙ size_roll x
+
+pub size_cell : (slot : ℕ) (index : Expr) → expr_size (expr.Cell slot index) ≡ expr_size index + 1
+size_cell slot index = size_rolled (expr.Cell slot index) (Expr-F.Cell slot index) (expr.rolls-Cell slot index)
+
+pub size_unary : (o : Op1) (e : Expr) → expr_size (expr.Unary o e) ≡ expr_size e + 1
+size_unary o e = size_rolled (expr.Unary o e) (Expr-F.Unary o e) (expr.rolls-Unary o e)
+
+pub size_binary : (o : Op2) (l r : Expr) → expr_size (expr.Binary o l r) ≡ expr_size l + (expr_size r + binary_size o)
+size_binary o l r = size_rolled (expr.Binary o l r) (Expr-F.Binary o l r) (expr.rolls-Binary o l r)
+
+pub size_call : (function : ℕ) (arguments : List Expr) → expr_size (expr.Call function arguments) ≡ total (map expr_size arguments) + 1
+size_call function arguments = size_rolled (expr.Call function arguments) (Expr-F.Call function arguments) (expr.rolls-Call function arguments)
 
 -- what stands behind the arguments
 pub arguments_behind : (operands : List Operand) (behind : List Instr) (p : ℕ) → arguments_code operands behind p ≡ arguments_code operands [] p ++ behind
@@ -154,6 +169,65 @@ code_timed layout test body counter p =
 
 pub stmt_size_roll : (x : Stmt-F Stmt) → stmt_size (roll-Stmt x) ≡ stmt_size_step (map-Stmt Stmt ℕ stmt_size x)
 stmt_size_roll x = fold-roll-Stmt ℕ stmt_size_step x
+
+size_of : (s : Stmt) (x : Stmt-F Stmt) → roll-Stmt x ≡ s → stmt_size s ≡ stmt_size_step (map-Stmt Stmt ℕ stmt_size x)
+size_of s x is = ap stmt_size (sym is) ∙ stmt_size_roll x
+
+pub size_set : (slot : ℕ) (value : Expr) → stmt_size (stmt.Set slot value) ≡ expr_size value + 1
+size_set slot value = size_of (stmt.Set slot value) (Stmt-F.Set slot value) (stmt.rolls-Set slot value)
+
+pub size_set_copy : (variable : ℕ) (value : Expr) → stmt_size (stmt.SetCopy variable value) ≡ expr_size value + 1
+size_set_copy variable value = size_of (stmt.SetCopy variable value) (Stmt-F.SetCopy variable value) (stmt.rolls-SetCopy variable value)
+
+pub size_set_cell : (slot : ℕ) (index value : Expr) → stmt_size (stmt.SetCell slot index value) ≡ expr_size index + (expr_size value + 1)
+size_set_cell slot index value = size_of (stmt.SetCell slot index value) (Stmt-F.SetCell slot index value) (stmt.rolls-SetCell slot index value)
+
+pub size_if : (test : Expr) (branch : List Stmt) → stmt_size (stmt.If test branch None) ≡ expr_size test + 1 + stmts_size branch
+size_if test branch = size_of (stmt.If test branch None) (Stmt-F.If test branch None) (stmt.rolls-If test branch None) ∙ omega arith
+
+pub size_if_else : (test : Expr) (branch other : List Stmt) → stmt_size (stmt.If test branch (Some other)) ≡ expr_size test + 1 + (stmts_size branch + (stmts_size other + 1))
+size_if_else test branch other = size_of (stmt.If test branch (Some other)) (Stmt-F.If test branch (Some other)) (stmt.rolls-If test branch (Some other))
+
+-- as far as the second branch, be there one or not
+pub size_if_front : (test : Expr) (branch : List Stmt) (other : Option (List Stmt)) → expr_size test + 1 + stmts_size branch ≤ stmt_size (stmt.If test branch other)
+size_if_front test branch None = omega (arith, size_if test branch)
+size_if_front test branch (Some other) = omega (arith, size_if_else test branch other)
+
+pub size_bounded : (test : Expr) (most : ℕ) (body : List Stmt) → stmt_size (stmt.Bounded test most body) ≡ expr_size test + 4 + stmts_size body
+size_bounded test most body = size_of (stmt.Bounded test most body) (Stmt-F.Bounded test most body) (stmt.rolls-Bounded test most body)
+
+pub size_timed : (test : Expr) (body : List Stmt) → stmt_size (stmt.Timed test body) ≡ expr_size test + 2 + stmts_size body
+size_timed test body = size_of (stmt.Timed test body) (Stmt-F.Timed test body) (stmt.rolls-Timed test body)
+
+pub size_send : (value : Expr) (stream after clock : ℕ) → stmt_size (stmt.Send value stream after clock) ≡ expr_size value + 1
+size_send value stream after clock = size_of (stmt.Send value stream after clock) (Stmt-F.Send value stream after clock) (stmt.rolls-Send value stream after clock)
+
+pub size_advance : (point : ℕ) → stmt_size (stmt.Advance point) ≡ 1
+size_advance point = size_of (stmt.Advance point) (Stmt-F.Advance point) (stmt.rolls-Advance point)
+
+pub size_return : (value : Expr) → stmt_size (stmt.Return value) ≡ expr_size value + 1
+size_return value = size_of (stmt.Return value) (Stmt-F.Return value) (stmt.rolls-Return value)
+
+-- ---- loops
+
+loops_rolled : (s : Stmt) (x : Stmt-F Stmt) → roll-Stmt x ≡ s → loops s ≡ loops_step (map-Stmt Stmt ℕ loops x)
+loops_rolled s x is = ap loops (sym is) ∙ fold-roll-Stmt ℕ loops_step x
+
+pub loops_if : (test : Expr) (branch : List Stmt) → loops (stmt.If test branch None) ≡ loops_in branch
+loops_if test branch = loops_rolled (stmt.If test branch None) (Stmt-F.If test branch None) (stmt.rolls-If test branch None) ∙ omega arith
+
+pub loops_if_else : (test : Expr) (branch other : List Stmt) → loops (stmt.If test branch (Some other)) ≡ loops_in branch + loops_in other
+loops_if_else test branch other = loops_rolled (stmt.If test branch (Some other)) (Stmt-F.If test branch (Some other)) (stmt.rolls-If test branch (Some other))
+
+pub loops_if_front : (test : Expr) (branch : List Stmt) (other : Option (List Stmt)) → loops_in branch ≤ loops (stmt.If test branch other)
+loops_if_front test branch None = omega (arith, loops_if test branch)
+loops_if_front test branch (Some other) = omega (arith, loops_if_else test branch other)
+
+pub loops_bounded : (test : Expr) (most : ℕ) (body : List Stmt) → loops (stmt.Bounded test most body) ≡ loops_in body + 1
+loops_bounded test most body = loops_rolled (stmt.Bounded test most body) (Stmt-F.Bounded test most body) (stmt.rolls-Bounded test most body)
+
+pub loops_timed : (test : Expr) (body : List Stmt) → loops (stmt.Timed test body) ≡ loops_in body
+loops_timed test body = loops_rolled (stmt.Timed test body) (Stmt-F.Timed test body) (stmt.rolls-Timed test body)
 
 -- ---- places
 

@@ -1,5 +1,5 @@
 -- How many instructions the code of each construct has: its size.
-use Rattle.std.proofs.Common.{◌≡◌, ℕ, ◌+◌, List, [], ◌∷◌, map, length, refl, sym, ap, subst, ◌∙◌, arith, length-append}
+use Rattle.std.proofs.Common.{◌≡◌, ℕ, ◌+◌, ◌≤◌, List, [], ◌∷◌, map, length, refl, sym, ap, subst, ◌∙◌, arith, length-append}
 use Rattle.std.specs.Prelude.{Some, None}
 use Rattle.psy_arith.specs.declared.operators.Op2.{Op2}
 use Rattle.psy_arith.specs.declared.operators.Op2.TheVariants as op
@@ -7,11 +7,11 @@ use Rattle.psy_code.specs.declared.instr.Instr.{Instr}
 use Rattle.psy_code.specs.declared.instr.Instr.TheVariants as instr
 use Rattle.psy_tree.specs.declared.unit.Expr.{Expr, roll-Expr, map-Expr, ind-Expr}
 use Rattle.psy_tree.specs.declared.unit.Expr.TheOpen.{Expr-F}
-use Rattle.psy_tree.specs.declared.unit.Stmt.{Stmt, roll-Stmt, map-Stmt, ind-Stmt}
+use Rattle.psy_tree.specs.declared.unit.Stmt.{Stmt, roll-Stmt, map-Stmt, fold-roll-Stmt, ind-Stmt}
 use Rattle.psy_tree.specs.declared.unit.Stmt.TheOpen.{Stmt-F}
 use Rattle.psy_meaning.specs.Sizes.{total, binary_size, expr_size, expr_size_step, stmt_size, stmt_size_step, stmts_size}
-use Rattle.psy_meaning.specs.Depths.{loops}
-use Rattle.psy_gen.specs.Emission.{Layout, Operand, Part, expr_code, expr_code_step, lazy_code, binary_code, arguments_code, stmt_code, stmt_code_step, stmts_code, block_code, block_size, block_loops}
+use Rattle.psy_meaning.specs.Depths.{loops, loops_in, loops_step}
+use Rattle.psy_gen.specs.Emission.{Layout, Operand, Part, expr_code, exprs_code, expr_code_step, lazy_code, binary_code, arguments_code, stmt_code, stmt_code_step, stmts_code, block_code, block_size, block_loops}
 use Rattle.psy_gen.proofs.Equations.{operand, part, code_roll, size_roll, stmt_roll, stmt_size_roll}
 
 module _ (layout : Layout) where
@@ -59,6 +59,10 @@ module _ (layout : Layout) where
   pub expr_length : (e : Expr) (p : ℕ) → length (expr_code layout e p) ≡ expr_size e
   expr_length = ind-Expr Measured (λ x y is. subst (λ z. Measured (roll-Expr z)) is (layer y))
 
+  pub exprs_length : (es : List Expr) (p : ℕ) → length (exprs_code layout es p) ≡ total (map expr_size es)
+  exprs_length [] p = refl
+  exprs_length (e ∷ es) p = omega (arith, length-append (expr_code layout e p) (exprs_code layout es (p + expr_size e)), expr_length e p, exprs_length es (p + expr_size e))
+
   -- ---- statements
 
   abbrev Counted : Stmt → Type 0
@@ -101,3 +105,32 @@ module _ (layout : Layout) where
   stmts_length [] counter p = refl
   stmts_length (s ∷ ss) counter p =
       omega (arith, length-append (stmt_code layout s counter p) (stmts_code layout ss (counter + loops s) (p + stmt_size s)), stmt_length s counter p, stmts_length ss (counter + loops s) (p + stmt_size s))
+
+-- ---- counters: a bounded loop has more instructions than one
+
+abbrev Fewer : Stmt → Type 0
+Fewer s = loops s ≤ stmt_size s
+
+abbrev Held : Type 0
+Held = (s : Stmt) × Fewer s
+
+abbrev whole : Held → Stmt
+whole k = k.0
+
+fewer_in : (ks : List Held) → total (map loops (map whole ks)) ≤ total (map stmt_size (map whole ks))
+fewer_in [] = omega arith
+fewer_in (k ∷ ks) = omega (arith, k.1, fewer_in ks)
+
+step_fewer : (y : Stmt-F Held) → loops_step (map-Stmt Stmt ℕ loops (map-Stmt Held Stmt whole y)) ≤ stmt_size_step (map-Stmt Stmt ℕ stmt_size (map-Stmt Held Stmt whole y))
+step_fewer (Stmt-F.If test branch None) = omega (arith, fewer_in branch)
+step_fewer (Stmt-F.If test branch (Some other)) = omega (arith, fewer_in branch, fewer_in other)
+step_fewer (Stmt-F.Bounded test most body) = omega (arith, fewer_in body)
+step_fewer (Stmt-F.Timed test body) = omega (arith, fewer_in body)
+step_fewer _ = omega arith
+
+fewer : (s : Stmt) → Fewer s
+fewer = ind-Stmt Fewer (λ x y is. subst (λ z. Fewer (roll-Stmt z)) is (omega (arith, fold-roll-Stmt ℕ loops_step (map-Stmt Held Stmt whole y), stmt_size_roll (map-Stmt Held Stmt whole y), step_fewer y)))
+
+pub loops_fewer : (ss : List Stmt) → loops_in ss ≤ stmts_size ss
+loops_fewer [] = omega arith
+loops_fewer (s ∷ ss) = omega (arith, fewer s, loops_fewer ss)

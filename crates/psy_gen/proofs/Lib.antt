@@ -2,7 +2,6 @@ mod Alikes
 mod Basics
 mod Calls
 mod Contexts
-mod Counts
 pub mod Equations
 mod ExprRuns
 mod Leads
@@ -17,4 +16,5 @@ mod RestRuns
 pub mod Spans
 mod Steps
 mod StmtRuns
+pub mod Small
 pub mod Wholes

@@ -1,7 +1,7 @@
 -- The code behind an `advance` acts as the rest of the body.
 use Rattle.std.proofs.Common.{◌≡◌, refl, sym, ap, subst, ◌∙◌, arith}
 use Rattle.std.specs.Prelude.{ℕ, zero, suc, ◌+◌, ◌<◌, ◌≤◌, max, false, List, [], ◌∷◌, ◌++◌, map, length, slice_get, slice_index_or, Some, None, ⊤}
-use Rattle.std.proofs.lemmas.List.{append-nil}
+use Rattle.std.proofs.lemmas.List.{append-nil, map-append, map-id}
 use Rattle.psy_tree.specs.declared.unit.Expr.{Expr}
 use Rattle.psy_tree.specs.declared.unit.Stmt.{Stmt, roll-Stmt, fold-roll-Stmt, para-roll-Stmt, rec-roll-Stmt, map-Stmt, ind-Stmt}
 use Rattle.psy_tree.specs.declared.unit.Stmt.TheOpen.{Stmt-F}
@@ -17,12 +17,13 @@ use Rattle.psy_meaning.specs.Statements.{all_of, hop, act_by, acts_by, Piece, Do
 use Rattle.psy_meaning.specs.Rest.{Rests, each_then, pieces_of, stmts_in, rests_in, rests_step, rests_of, with_rests}
 use Rattle.psy_meaning.specs.Rest as rest
 use Rattle.psy_meaning.specs.Paths.{holds_advance}
-use Rattle.psy_lawful.proofs.SoundParts.{stmts_natural}
+use Rattle.psy_meaning.proofs.SoundParts.{stmts_natural}
 use Rattle.psy_gen.specs.Emission.{Coded, Places, Placed, expr_code, block_code, block_size, block_loops, placed_size, stmt_code_step, stmt_code, stmts_code, places_in, places_step, places_of}
 use Rattle.psy_gen.specs.Emission as emission
 use Rattle.psy_gen.proofs.Contexts.{Home, Room, at, HasAt, has-first, has-second, Shape}
 use Rattle.psy_gen.proofs.Leads.{here}
-use Rattle.psy_gen.proofs.NoRests.{placed, all_none}
+use Rattle.psy_gen.proofs.NoRests.{all_none}
+use Rattle.psy_gen.proofs.PlaceCounts.{placed}
 use Rattle.psy_gen.proofs.StmtRuns.{ExprKnown, AtHome, AtWork, AllPoints, stmt_runs, all_runs, all_sized, hop_after}
 use Rattle.psy_gen.proofs.Outcomes.{keeps_same, After, after_keeps, then_after}
 
@@ -33,7 +34,7 @@ after_first xs bs (Falls t) h = h t
 after_first xs bs (Returns v t) h = refl
 after_first xs bs (Halts final) h = refl
 
-pub all_of-append : (xs bs : List Act) (s : State) → all_of (xs ++ bs) s ≡ then_do (all_of xs s) (all_of bs)
+all_of-append : (xs bs : List Act) (s : State) → all_of (xs ++ bs) s ≡ then_do (all_of xs s) (all_of bs)
 all_of-append [] bs s = refl
 all_of-append (a ∷ xs) bs s = after_first xs bs (a s) (all_of-append xs bs)
 
@@ -41,13 +42,9 @@ stmts_are : (stmts : List Stmt) → stmts_in (map with_rests stmts) ≡ stmts
 stmts_are [] = refl
 stmts_are (x ∷ xs) = ap (λ l. x ∷ l) (stmts_are xs)
 
-pub pieces_are : (callees : ℕ → Callee) (stmts : List Stmt) → map (piece_by callees) (pieces_of stmts) ≡ map (act_by callees) stmts
+pieces_are : (callees : ℕ → Callee) (stmts : List Stmt) → map (piece_by callees) (pieces_of stmts) ≡ map (act_by callees) stmts
 pieces_are callees [] = refl
 pieces_are callees (x ∷ xs) = ap (λ l. act_by callees x ∷ l) (pieces_are callees xs)
-
-pub map-append : (callees : ℕ → Callee) (a b : List Piece) → map (piece_by callees) (a ++ b) ≡ map (piece_by callees) a ++ map (piece_by callees) b
-map-append callees [] b = refl
-map-append callees (x ∷ a) b = ap (λ l. piece_by callees x ∷ l) (map-append callees a b)
 
 abbrev part_in : List ℕ → Stmt → emission.Part
 part_in layout s = (s, stmt_code layout s)
@@ -63,10 +60,6 @@ loops_same layout (x ∷ xs) = ap (λ n. loops x + n) (loops_same layout xs)
 placed_same : (stmts : List Stmt) → placed_size (map placed stmts) ≡ stmts_size stmts
 placed_same [] = refl
 placed_same (x ∷ xs) = ap (λ n. stmt_size x + n) (placed_same xs)
-
-same-map : (stmts : List Stmt) → map (λ x. x) stmts ≡ stmts
-same-map [] = refl
-same-map (x ∷ xs) = ap (λ l. x ∷ l) (same-map xs)
 
 deeper_shallow : (d : Depth) → deeper d shallow ≡ d
 deeper_shallow d = let a : max d.operands 0 ≡ d.operands = omega arith in let b : max d.cells 0 ≡ d.cells = omega arith in ap (λ x. record { operands = x; cells = max d.cells 0 }) a ∙ ap (λ x. record { operands = d.operands; cells = x }) b
@@ -98,7 +91,7 @@ module _ (whole : Code) (its : AgentCode) (sc : Scope) (callees : ℕ → Callee
 
   pieces_then : (r pieces : List Piece) (q mid end : ℕ) → PiecesRun r q mid → PiecesRun pieces mid end → PiecesRun (r ++ pieces) q end
   pieces_then r pieces q mid end g h counters s len shape =
-      subst (After whole its sc Home end 0 [] counters (at Home q [] s counters)) (sym (ap (λ l. all_of l s) (map-append callees r pieces) ∙ all_of-append (map (piece_by callees) r) (map (piece_by callees) pieces) s))
+      subst (After whole its sc Home end 0 [] counters (at Home q [] s counters)) (sym (ap (λ l. all_of l s) (map-append (piece_by callees) r pieces) ∙ all_of-append (map (piece_by callees) r) (map (piece_by callees) pieces) s))
       (then_after whole its sc Home mid end 0 0 [] counters (at Home q [] s counters) (act_of r s) (act_of pieces) (omega arith) (g counters s len shape) (λ t now keeps sh. h now t (keeps.count ∙ len) sh))
 
   each_on : (rs : Rests) (pieces : List Piece) (qs : List ℕ) (mid end : ℕ) → EachRuns rs qs mid → PiecesRun pieces mid end → EachRuns (each_then rs pieces) qs end
@@ -230,7 +223,7 @@ module _ (whole : Code) (its : AgentCode) (sc : Scope) (callees : ℕ → Callee
 
   bounded_layer : (test : Expr) (most : ℕ) (ks : List Known) → Layer (Stmt-F.Bounded test most (map tree ks))
   bounded_layer test most ks c p h small enough sound fits self =
-      let none = all_none (map tree ks) (subst (λ l. holds_advance l ≡ false) (same-map (map tree ks)) sound.3) in
+      let none = all_none (map tree ks) (subst (λ l. holds_advance l ≡ false) (map-id (map tree ks)) sound.3) in
       let first = p + 1 + expr_size test + 2 in
       let end = p + (expr_size test + 4 + stmts_size (map tree ks)) in
       subst (λ r. EachRuns r (places_in (map placed (map tree ks)) first) end) (sym none.0) (subst (λ q. EachRuns [] q end) (sym (none.1 first)) (tt {0}))

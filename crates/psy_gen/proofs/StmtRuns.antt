@@ -1,7 +1,7 @@
 -- The code of statements acts as the statements.
 use Rattle.std.proofs.Common.{◌≡◌, refl, sym, ap, subst, ◌∙◌, arith}
 use Rattle.std.specs.Prelude.{ℕ, zero, suc, ◌+◌, ◌-◌, ◌%◌, ◌^◌, ◌<◌, ◌≤◌, ◌==◌, nat_lt, Bool, true, false, if◌then◌else◌, List, [], ◌∷◌, ◌++◌, map, length, slice_get, slice_set, Option, Some, None, ℤ, ⊤}
-use Rattle.std.proofs.lemmas.List.{length-append}
+use Rattle.std.proofs.lemmas.List.{length-append, map-id}
 use Rattle.std.proofs.Math.Nat.{mod-eq_of_lt}
 use Rattle.psy_arith.specs.declared.operators.Trap.TheVariants as trap
 use Rattle.psy_arith.specs.Operators.{is_zero}
@@ -22,7 +22,7 @@ use Rattle.psy_meaning.specs.States.{State, Ended, Outcome, Falls, Returns, Halt
 use Rattle.psy_meaning.specs.Paths.{quiet_list}
 use Rattle.psy_meaning.specs.Expressions.{eval}
 use Rattle.psy_meaning.specs.Statements.{set_element, all_of, choose, hop, branches, turns, stmt_step, act_by, acts_by}
-use Rattle.psy_lawful.proofs.SoundParts.{stmts_natural}
+use Rattle.psy_meaning.proofs.SoundParts.{stmts_natural}
 use Rattle.psy_gen.specs.Emission.{Emit, Coded, Part, base_of, cells_in_slot, expr_code, block_code, block_size, block_loops, if_code, bounded_code, timed_code, stmt_code_step, stmt_code, stmts_code}
 use Rattle.psy_gen.proofs.Leads.{Leads, here, after, by_one, went, ended}
 use Rattle.psy_gen.proofs.Contexts.{Context, Home, Inside, Room, has_room_by, joined, machine_in, at, frame_size, HasAt, has-first, has-second, Shape, Holds}
@@ -570,10 +570,6 @@ module _ (whole : Code) (its : AgentCode) (sc : Scope) (k : Context) (callees : 
           length-append (expr_code sc.layout test p) inner ∙ omega (arith, (exprs test).0 p, len-one body (instr.Jump p) (block_size (parts ks)) (block_sized ks c first), sizes_same ks),
       λ sound. recounted (timed_code sc.layout test (parts ks)) _ _ _ _ _ _ (omega (arith, sizes_same ks)) (omega (arith, loops_same ks)) (timed_runs test ks (exprs test) sound.0 (subst (λ l. quiet_list l ≡ false) (map-id (map tree ks)) sound.1) sound.2),
     )
-      where
-        map-id : (xs : List Stmt) → map (λ x. x) xs ≡ xs
-        map-id [] = refl
-        map-id (x ∷ xs) = ap (λ l. x ∷ l) (map-id xs)
 
     layer_runs : (y : Stmt-F Known) → Layer (map-Stmt Known Stmt tree y)
     layer_runs (Stmt-F.Set slot value) = (λ c p. len-one (expr_code sc.layout value p) (instr.Store (base_of sc.layout slot)) (expr_size value) ((exprs value).0 p), λ sound. set_runs slot value (exprs value) sound.0 sound.1)
@@ -586,7 +582,7 @@ module _ (whole : Code) (its : AgentCode) (sc : Scope) (k : Context) (callees : 
     layer_runs (Stmt-F.If test branch (Some other)) = if_else_layer test branch other
     layer_runs (Stmt-F.Bounded test most body) = bounded_layer test most body
     layer_runs (Stmt-F.Timed test body) = timed_layer test body
-    layer_runs (Stmt-F.Send value stream after clock) = (λ c p. len-one (expr_code sc.layout value p) (instr.Send stream after clock) (expr_size value) ((exprs value).0 p), λ sound. send_runs stream after clock value (exprs value) sound)
+    layer_runs (Stmt-F.Send value stream after clock) = (λ c p. len-one (expr_code sc.layout value p) (instr.Send stream after clock) (expr_size value) ((exprs value).0 p), λ sound. send_runs stream after clock value (exprs value) sound.1)
     layer_runs (Stmt-F.Advance point) = (λ c p. refl, λ sound. advance_runs points point sound)
     layer_runs (Stmt-F.Return value) = (λ c p. len-one (expr_code sc.layout value p) instr.Return (expr_size value) ((exprs value).0 p), λ sound. return_runs work value (exprs value) sound.0 sound.1)
 

@@ -2,6 +2,8 @@
 
 ghost use Rattle.std.specs.Prelude.{◌≡◌, ◌+◌, ◌<◌, ◌≤◌, ◌^◌, ◌∷◌, ◌++◌, map, length, replicate, slice_get, Some, IfOk, OnOk};
 ghost use Rattle.std.specs.List.{flat_map};
+ghost use Rattle.psy_base.specs.declared.limits.TheConstants.{VARIABLES};
+ghost use Rattle.psy_meaning.specs.Sizes.{total};
 ghost use Rattle.psy_meaning.specs.Alike.{owned_copy, owned_from};
 ghost use Rattle.psy_meaning.specs.Depths.{loops_in};
 ghost use Rattle.psy_meaning.specs.Units.{IsOfText};
@@ -17,6 +19,7 @@ use psy_tree::{AgentDecl, Slots, Unit, VarDecl};
 use std::alloc::Global;
 
 fn layout_of(alloc: Global, slots: &[Slots]) -> Result<Layout, Memory>
+    requires { total (map (λ s. s.cells) slots.now) < 2 ^ 32 }
     ensures { IfOk result (λ layout. layout ≡ map (λ s. s.cells) slots.now) }
 {
     let mut layout = Layout::new(alloc);
@@ -70,7 +73,7 @@ fn add_copy(
 
 /// The working copies of the variables that an agent owns.
 fn copies_of(alloc: Global, variables: &[VarDecl], agent: u32) -> Result<Items<CopyInit>, Memory>
-    requires { length variables.now ≤ 256 }
+    requires { length variables.now ≤ VARIABLES }
     ensures { IfOk result (λ copies. copies ≡ map copy_init (owned_from agent 0 variables.now)) }
 {
     let mut copies = Items::new(alloc);
@@ -83,6 +86,8 @@ fn copies_of(alloc: Global, variables: &[VarDecl], agent: u32) -> Result<Items<C
 /// The code of an agent, and where its actions begin: at the head of its body and behind each
 /// `advance`.
 fn emit_agent(alloc: Global, code: &mut Instrs, agent: &AgentDecl) -> Result<Body, Memory>
+    requires cells { total (agent_layout agent.now) < 2 ^ 32 }
+    requires room { length code.old + agent_size agent.now < 2 ^ 32 }
     ensures code { OnOk result (code.new ≡ code.old ++ agent_code agent.now (length code.old)) }
     ensures places { IfOk result (λ body. body.places ≡ length code.old ∷ stmts_places agent.now.stmts (length code.old)) }
     ensures loops { IfOk result (λ body. body.loops ≡ loops_in agent.now.stmts) }
@@ -109,11 +114,12 @@ fn agent_of(
 ) -> Result<AgentCode, Memory>
     requires text { IsOfText unit.now }
     requires own { slice_get unit.now.agents number ≡ Some agent.now }
+    requires room { length code.old + agent_size agent.now < 2 ^ 32 }
     ensures code { OnOk result (code.new ≡ code.old ++ agent_code agent.now (length code.old)) }
     ensures entry { IfOk result (λ entry. entry ≡ agent_entry unit.now number agent.now (length code.old)) }
 {
     let body = emit_agent(alloc, code, agent)?;
-    let limits = limits_of(unit, number)?;
+    let limits = limits_of(unit, number);
     Ok(AgentCode {
         points: body.places,
         cells: first_cells(alloc, agent.slots.as_slice())?,
@@ -130,6 +136,7 @@ pub fn emit_agents(
     unit: &Unit,
 ) -> Result<Items<AgentCode>, Memory>
     requires text { IsOfText unit.now }
+    requires room { length code.old + total (map agent_size unit.now.agents) < 2 ^ 32 }
     ensures code { OnOk result (code.new ≡ code.old ++ codes_from agent_code agent_size unit.now.agents (length code.old)) }
     ensures entries { IfOk result (λ entries. entries ≡ agent_entries unit.now 0 unit.now.agents (length code.old)) }
 {

@@ -1,6 +1,7 @@
 //! The code of expressions.
 
-ghost use Rattle.std.specs.Prelude.{◌≡◌, [], ◌++◌, map, length, OnOk};
+ghost use Rattle.std.specs.Prelude.{◌≡◌, ◌+◌, ◌<◌, ◌^◌, [], ◌++◌, map, length, OnOk};
+ghost use Rattle.psy_meaning.specs.Sizes.{total, expr_size};
 ghost use Rattle.psy_gen.specs.Emission.{named, expr_code, exprs_code};
 
 use crate::instrs::Instrs;
@@ -28,6 +29,7 @@ fn binary_of(op: Op2) -> Binary
 
 #[cycle(emit_expr)]
 pub fn emit_expr(code: &mut Instrs, layout: &Layout, expr: &Expr) -> Result<(), Memory>
+    requires { length code.old + expr_size expr.now < 2 ^ 32 }
     ensures { OnOk result (code.new ≡ code.old ++ expr_code layout.now expr.now (length code.old)) }
 {
     match expr {
@@ -84,6 +86,7 @@ pub fn emit_expr(code: &mut Instrs, layout: &Layout, expr: &Expr) -> Result<(), 
 /// From left to right.
 #[cycle(emit_expr)]
 fn emit_exprs(code: &mut Instrs, layout: &Layout, exprs: &[Expr]) -> Result<(), Memory>
+    requires { length code.old + total (map expr_size exprs.now) < 2 ^ 32 }
     ensures { OnOk result (code.new ≡ code.old ++ exprs_code layout.now exprs.now (length code.old)) }
 {
     for expr in exprs {

@@ -1,7 +1,9 @@
 //! The code of functions.
 
-ghost use Rattle.std.specs.Prelude.{◌≡◌, ◌+◌, ◌++◌, length, replicate, IfOk, OnOk};
-ghost use Rattle.psy_gen.specs.Emission.{codes_from, function_code, function_layout, function_size, function_entry, function_entries};
+ghost use Rattle.std.specs.Prelude.{◌≡◌, ◌+◌, ◌<◌, ◌^◌, ◌++◌, length, replicate, IfOk, OnOk};
+ghost use Rattle.std.specs.List.{All};
+ghost use Rattle.psy_meaning.specs.Units.{IsBareFunction};
+ghost use Rattle.psy_gen.specs.Emission.{codes_from, function_code, function_layout, function_size, functions_size, function_entry, function_entries};
 
 use crate::instrs::Instrs;
 use crate::layout::Layout;
@@ -13,6 +15,7 @@ use std::alloc::Global;
 
 /// A cell for each parameter, and then for each local.
 fn layout_of(alloc: Global, function: &FunctionDecl) -> Result<Layout, Memory>
+    requires { function.now.params + length function.now.locals < 2 ^ 32 }
     ensures { IfOk result (λ layout. layout ≡ function_layout function.now) }
 {
     let mut layout = Layout::new(alloc);
@@ -30,6 +33,8 @@ fn emit_function(
     code: &mut Instrs,
     function: &FunctionDecl,
 ) -> Result<FunctionCode, Memory>
+    requires function { IsBareFunction function.now }
+    requires room { length code.old + function_size function.now < 2 ^ 32 }
     ensures code { OnOk result (code.new ≡ code.old ++ function_code function.now (length code.old)) }
     ensures entry { IfOk result (λ entry. entry ≡ function_entry function.now (length code.old)) }
 {
@@ -55,6 +60,8 @@ pub fn emit_functions(
     code: &mut Instrs,
     functions: &[FunctionDecl],
 ) -> Result<Items<FunctionCode>, Memory>
+    requires functions { All IsBareFunction functions.now }
+    requires room { length code.old + functions_size functions.now < 2 ^ 32 }
     ensures code { OnOk result (code.new ≡ code.old ++ codes_from function_code function_size functions.now (length code.old)) }
     ensures entries { IfOk result (λ entries. entries ≡ function_entries functions.now (length code.old)) }
 {

@@ -1,6 +1,6 @@
 //! Instructions as they are made.
 
-ghost use Rattle.std.specs.Prelude.{◌≡◌, ◌<◌, [], ◌∷◌, ◌++◌, length, slice_set, IfOk, OnOk};
+ghost use Rattle.std.specs.Prelude.{◌≡◌, ◌<◌, [], ◌∷◌, ◌++◌, ◌^◌, length, slice_set, IfOk, OnOk};
 ghost use Rattle.psy_code.specs.declared.instr.Instr.TheVariants as instr;
 
 use psy_base::{Items, Memory};
@@ -8,22 +8,19 @@ use psy_code::Instr;
 use std::alloc::Global;
 use std::marker::Model;
 
-/// Instructions, each at its place from 0. Contracts see their list. A place is a `u32`, and one more
-/// instruction than these can number is want of memory.
+/// Instructions, each at its place from 0. Contracts see their list.
 #[derive(Debug, Drop)]
 pub struct Instrs {
     items: Items<Instr>,
 }
 
 impl Model for Instrs {
-    ghost use Rattle.std.specs.Prelude.{List, length, ◌<◌, ◌^◌};
+    ghost use Rattle.std.specs.Prelude.{List};
     ghost use Rattle.psy_code.specs.declared.instr.Instr.{Instr as Instruction};
 
     ghost Value = { List Instruction };
 
     ghost view = { λ i. i.items };
-
-    ghost invariant = { λ i. length i.items < 2 ^ 32 };
 }
 
 impl Instrs {
@@ -37,6 +34,7 @@ impl Instrs {
 
     /// The place of the next instruction.
     pub fn place(&self) -> u32
+        requires { length self.now < 2 ^ 32 }
         ensures { result ≡ length self.now }
     {
         self.items.len() as u32
@@ -45,15 +43,13 @@ impl Instrs {
     pub fn push(&mut self, instr: Instr) -> Result<(), Memory>
         ensures { OnOk result (self.new ≡ self.old ++ instr ∷ []) }
     {
-        if self.place() == u32::MAX {
-            return Err(Memory);
-        }
         self.items.push(instr)?;
         Ok(())
     }
 
     /// Keeps a place for a jump, whose target comes later.
     pub fn hold(&mut self) -> Result<u32, Memory>
+        requires { length self.old < 2 ^ 32 }
         ensures place { IfOk result (λ place. place ≡ length self.old) }
         ensures held { OnOk result (self.new ≡ self.old ++ instr.Jump 0 ∷ []) }
     {

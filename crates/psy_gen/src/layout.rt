@@ -1,6 +1,7 @@
 //! Where the cells of slots stand.
 
-ghost use Rattle.std.specs.Prelude.{◌≡◌, [], ◌∷◌, ◌++◌, OnOk};
+ghost use Rattle.std.specs.Prelude.{◌≡◌, ◌+◌, ◌<◌, ◌^◌, [], ◌∷◌, ◌++◌, OnOk};
+ghost use Rattle.psy_meaning.specs.Sizes.{total};
 ghost use Rattle.psy_gen.specs.Emission.{base_of, cells_in_slot};
 
 use psy_base::{Items, Memory};
@@ -43,13 +44,12 @@ impl Layout {
         }
     }
 
-    /// One slot more. Cells that a `u32` can't count are want of memory.
+    /// One slot more.
     pub fn add(&mut self, cells: u32) -> Result<(), Memory>
+        requires { total self.old + cells < 2 ^ 32 }
         ensures { OnOk result (self.new ≡ self.old ++ cells ∷ []) }
     {
-        let Some(size) = self.size.checked_add(cells) else {
-            return Err(Memory);
-        };
+        let size = self.size + cells;
         self.spans.push(Span {
             base: self.size,
             cells,

@@ -9,8 +9,6 @@ pub mod laws;
 mod layout;
 mod limits;
 mod statements;
-#[cfg(test)]
-mod tests;
 mod whole;
 
 pub use whole::generate;

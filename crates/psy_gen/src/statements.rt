@@ -1,7 +1,8 @@
 //! The code of statements.
 
-ghost use Rattle.std.specs.Prelude.{◌≡◌, ◌+◌, ◌++◌, length, IfOk, OnOk};
+ghost use Rattle.std.specs.Prelude.{◌≡◌, ◌+◌, ◌<◌, ◌^◌, ◌++◌, length, OnOk};
 ghost use Rattle.psy_meaning.specs.Depths.{loops as loops_of, loops_in};
+ghost use Rattle.psy_meaning.specs.Sizes.{stmt_size, stmts_size};
 ghost use Rattle.psy_gen.specs.Emission.{stmt_code, stmts_code, places_of, stmts_places};
 
 use crate::expressions::emit_expr;
@@ -20,18 +21,10 @@ pub struct Body {
     pub loops: u32,
 }
 
-/// One more than these. More than a `u32` can count are want of memory.
-fn one_more(count: u32) -> Result<u32, Memory>
-    ensures { IfOk result (λ more. more ≡ count + 1) }
-{
-    match count.checked_add(1) {
-        Some(more) => Ok(more),
-        None => Err(Memory),
-    }
-}
-
 #[cycle(emit_stmt)]
 fn emit_stmt(code: &mut Instrs, body: &mut Body, layout: &Layout, stmt: &Stmt) -> Result<(), Memory>
+    requires room { length code.old + stmt_size stmt.now < 2 ^ 32 }
+    requires counters { body.old.loops + loops_of stmt.now < 2 ^ 32 }
     ensures code { OnOk result (code.new ≡ code.old ++ stmt_code layout.now stmt.now body.old.loops (length code.old)) }
     ensures places { OnOk result (body.new.places ≡ body.old.places ++ places_of stmt.now (length code.old)) }
     ensures loops { OnOk result (body.new.loops ≡ body.old.loops + loops_of stmt.now) }
@@ -73,7 +66,7 @@ fn emit_stmt(code: &mut Instrs, body: &mut Body, layout: &Layout, stmt: &Stmt) -
         }
         Stmt::Bounded(test, most, turn) => {
             let counter = body.loops;
-            body.loops = one_more(counter)?;
+            body.loops = counter + 1;
             code.push(Instr::Zero(counter))?;
             let again = code.place();
             emit_expr(code, layout, test)?;
@@ -128,6 +121,8 @@ pub fn emit_stmts(
     layout: &Layout,
     stmts: &[Stmt],
 ) -> Result<(), Memory>
+    requires room { length code.old + stmts_size stmts.now < 2 ^ 32 }
+    requires counters { body.old.loops + loops_in stmts.now < 2 ^ 32 }
     ensures code { OnOk result (code.new ≡ code.old ++ stmts_code layout.now stmts.now body.old.loops (length code.old)) }
     ensures places { OnOk result (body.new.places ≡ body.old.places ++ stmts_places stmts.now (length code.old)) }
     ensures loops { OnOk result (body.new.loops ≡ body.old.loops + loops_in stmts.now) }

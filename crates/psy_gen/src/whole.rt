@@ -7,8 +7,10 @@ ghost use Rattle.psy_gen.specs.Emission.{code_of};
 use crate::agents::emit_agents;
 use crate::functions::emit_functions;
 use crate::instrs::Instrs;
+use crate::laws::alike;
 use psy_base::Memory;
 use psy_code::Code;
+use psy_meaning::laws::sound;
 use psy_tree::Unit;
 use std::alloc::Global;
 
@@ -20,6 +22,8 @@ pub fn generate(alloc: Global, unit: &Unit) -> Result<Code, Memory>
     ensures alike { IfOk result (λ code. ActsAlike unit.now code) }
     ensures size { IfOk result (λ code. length code.instrs ≤ unit_size unit.now) }
 {
+    sound();
+    alike();
     let mut instrs = Instrs::new(alloc);
     let functions = emit_functions(alloc, &mut instrs, unit.functions.as_slice())?;
     let agents = emit_agents(alloc, &mut instrs, unit)?;

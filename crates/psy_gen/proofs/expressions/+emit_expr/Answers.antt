@@ -1,9 +1,12 @@
-use Rattle.std.proofs.Common.{rules, ◌+◌, ◌++◌, drop, length, ap, sym, ◌∙◌}
+use Rattle.std.proofs.Common.{rules, ◌+◌, List, ◌++◌, drop, map, length, ap, sym, ◌∙◌, arith}
 use Rattle.std.proofs.lemmas.Result.{on_ok_weaker}
 use Rattle.psy_code.specs.declared.instr.Instr.TheVariants as instr
+use Rattle.psy_tree.specs.declared.unit.Expr.{Expr, the_lemmas}
+use Rattle.psy_meaning.specs.Sizes.{total, binary_size, expr_size}
 use Rattle.psy_gen.specs.Emission.{exprs_code}
-use Rattle.psy_gen.proofs.Equations.{operand, code_number, code_slot, code_copy, code_cell, code_past, code_ready, code_take, code_unary, code_binary, code_call, arguments_behind, binary_eager}
-use Rattle.psy_gen.proofs.Patches.{then_one, patch_lazy, then_operator, exprs_more, drop_read}
+use Rattle.psy_gen.proofs.Equations.{operand, code_number, code_slot, code_copy, code_cell, code_past, code_ready, code_take, code_unary, code_binary, code_call, arguments_behind, binary_eager, size_binary}
+use Rattle.psy_gen.proofs.Patches.{then_one, patch_lazy, then_operator, exprs_more, drop_read, behind_expr, behind_one}
+use Rattle.psy_gen.proofs.Small.{exprs_left}
 use Rattle.psy_gen.proofs.expressions.+emit_expr.Goals as goal
 
 pub emit_expr-returns-in-Number : goal.emit_expr-returns-in-Number
@@ -58,3 +61,88 @@ emit_expr-returns-in_ok-emit_expr-in_default t c =
     let eager = binary_eager c.in-Binary.op (operand layout c.in-Binary.left) (operand layout c.in-Binary.right) p c.in_default.not-AndAnd c.in_default.not-OrOr in
     rw (c.in-Binary.is, code_binary, eager, ← c.get-in-Binary.ensures, ← c.get-in_default.ensures, ← c.binary_of.ensures)
     (on_ok_weaker c.push-in_default.result (then_operator layout _ _ _ _ _ _ _ c.in_ok-emit_expr-in-Binary.ensures c.in_ok-emit_expr-in_default.ensures) c.push-in_default.ensures)
+
+-- ---- places are numbers of 32 bits
+
+pub emit_expr-hold-requires : goal.emit_expr-hold-requires
+emit_expr-hold-requires t c =
+    omega (arith, c.requires, ap expr_size c.in-Binary.is, size_binary c.in-Binary.op c.in-Binary.left c.in-Binary.right, ap expr_size c.get-in-Binary.ensures, behind_expr _ _ _ _ c.in_ok-emit_expr-in-Binary.ensures)
+
+pub emit_expr-emit_expr-requires-in-AndAnd : goal.emit_expr-emit_expr-requires-in-AndAnd
+emit_expr-emit_expr-requires-in-AndAnd t c = (
+  search (rules, the_lemmas),
+  omega (
+    arith,
+    c.requires,
+    ap expr_size c.in-Binary.is,
+    size_binary c.in-Binary.op c.in-Binary.left c.in-Binary.right,
+    ap binary_size c.in-AndAnd.is,
+    ap expr_size c.get-in-Binary.ensures,
+    ap expr_size c.get-in-AndAnd.ensures,
+    behind_expr _ _ _ _ c.in_ok-emit_expr-in-Binary.ensures,
+    behind_one _ _ _ c.in_ok-test-in-AndAnd.ensures.held,
+  ),
+)
+
+pub emit_expr-place-requires : goal.emit_expr-place-requires
+emit_expr-place-requires t c =
+    omega (
+      arith,
+      c.requires,
+      ap expr_size c.in-Binary.is,
+      size_binary c.in-Binary.op c.in-Binary.left c.in-Binary.right,
+      ap binary_size c.in-AndAnd.is,
+      ap expr_size c.get-in-Binary.ensures,
+      ap expr_size c.get-in-AndAnd.ensures,
+      behind_expr _ _ _ _ c.in_ok-emit_expr-in-Binary.ensures,
+      behind_one _ _ _ c.in_ok-test-in-AndAnd.ensures.held,
+      behind_expr _ _ _ _ c.in_ok-emit_expr-in-AndAnd.ensures,
+      behind_one _ _ _ c.in_ok-push-in-AndAnd.ensures,
+    )
+
+pub emit_expr-hold-requires-in-OrOr : goal.emit_expr-hold-requires-in-OrOr
+emit_expr-hold-requires-in-OrOr t c =
+    omega (arith, c.requires, ap expr_size c.in-Binary.is, size_binary c.in-Binary.op c.in-Binary.left c.in-Binary.right, ap expr_size c.get-in-Binary.ensures, behind_expr _ _ _ _ c.in_ok-emit_expr-in-Binary.ensures)
+
+pub emit_expr-emit_expr-requires-in-OrOr : goal.emit_expr-emit_expr-requires-in-OrOr
+emit_expr-emit_expr-requires-in-OrOr t c = (
+  search (rules, the_lemmas),
+  omega (
+    arith,
+    c.requires,
+    ap expr_size c.in-Binary.is,
+    size_binary c.in-Binary.op c.in-Binary.left c.in-Binary.right,
+    ap binary_size c.in-OrOr.is,
+    ap expr_size c.get-in-Binary.ensures,
+    ap expr_size c.get-in-OrOr.ensures,
+    behind_expr _ _ _ _ c.in_ok-emit_expr-in-Binary.ensures,
+    behind_one _ _ _ c.in_ok-test-in-OrOr.ensures.held,
+  ),
+)
+
+pub emit_expr-place-requires-in-OrOr : goal.emit_expr-place-requires-in-OrOr
+emit_expr-place-requires-in-OrOr t c =
+    omega (
+      arith,
+      c.requires,
+      ap expr_size c.in-Binary.is,
+      size_binary c.in-Binary.op c.in-Binary.left c.in-Binary.right,
+      ap binary_size c.in-OrOr.is,
+      ap expr_size c.get-in-Binary.ensures,
+      ap expr_size c.get-in-OrOr.ensures,
+      behind_expr _ _ _ _ c.in_ok-emit_expr-in-Binary.ensures,
+      behind_one _ _ _ c.in_ok-test-in-OrOr.ensures.held,
+      behind_expr _ _ _ _ c.in_ok-emit_expr-in-OrOr.ensures,
+      behind_one _ _ _ c.in_ok-push-in-OrOr.ensures,
+    )
+
+pub emit_expr-emit_expr-requires-in_default : goal.emit_expr-emit_expr-requires-in_default
+emit_expr-emit_expr-requires-in_default t c =
+    (search (rules, the_lemmas), omega (arith, c.requires, ap expr_size c.in-Binary.is, size_binary c.in-Binary.op c.in-Binary.left c.in-Binary.right, ap expr_size c.get-in-Binary.ensures, ap expr_size c.get-in_default.ensures, behind_expr _ _ _ _ c.in_ok-emit_expr-in-Binary.ensures))
+
+pub emit_exprs-emit_expr-requires : goal.emit_exprs-emit_expr-requires
+emit_exprs-emit_expr-requires t c =
+    let e = c.expr-item.result in
+    let rest = drop (c.loop-expr.expr-index + 1) c.args.exprs.now in
+    let here = ap (λ (es : List Expr). total (map expr_size es)) (drop_read c.args.exprs.now c.loop-expr.expr-index e c.loop-expr-test.true c.expr-item.is) in
+    (search (rules, the_lemmas), omega (arith, c.requires, here, exprs_left c.args.layout.now (drop c.loop-expr.expr-index c.args.exprs.now) c.args.exprs.now c.args.code.now c.loop-expr.code c.loop-expr.invariant))

@@ -1,9 +1,13 @@
-use Rattle.std.proofs.Common.{◌+◌, ◌++◌, drop, length, sym, ap, ◌∙◌, append-nil, append_assoc}
+use Rattle.std.proofs.Common.{rules, ◌+◌, ◌++◌, drop, length, refl, sym, ap, ◌∙◌, arith, append-nil, append_assoc}
 use Rattle.std.proofs.lemmas.Result.{on_ok_weaker}
-use Rattle.psy_meaning.specs.Depths.{loops_in}
+use Rattle.psy_tree.specs.declared.unit.Stmt.{the_lemmas}
+use Rattle.psy_tree.specs.declared.unit.Stmt.TheVariants as stmt
+use Rattle.psy_meaning.specs.Sizes.{stmt_size, stmts_size}
+use Rattle.psy_meaning.specs.Depths.{loops, loops_in}
 use Rattle.psy_gen.specs.Emission.{stmts_code, stmts_places}
-use Rattle.psy_gen.proofs.Equations.{code_set, code_set_copy, code_set_cell, code_send, code_advance, code_return, places_set, places_set_copy, places_set_cell, places_send, places_advance, places_return, places_if, places_if_else, places_bounded, places_timed}
-use Rattle.psy_gen.proofs.Patches.{then_one, then_operator, drop_read, stmts_more, places_more, loops_more, to_first, to_second, to_turn, behind_one, patch_if, patch_if_else, patch_bounded, patch_timed}
+use Rattle.psy_gen.proofs.Equations.{code_set, code_set_copy, code_set_cell, code_send, code_advance, code_return, places_set, places_set_copy, places_set_cell, places_send, places_advance, places_return, places_if, places_if_else, places_bounded, places_timed, size_set_cell, size_if_front, size_if_else, size_bounded, size_timed, size_advance, loops_if_front, loops_if_else, loops_bounded, loops_timed}
+use Rattle.psy_gen.proofs.Patches.{then_one, then_operator, drop_read, stmts_more, places_more, loops_more, to_first, to_second, to_turn, behind_one, behind_expr, behind_stmts, patch_if, patch_if_else, patch_bounded, patch_timed}
+use Rattle.psy_gen.proofs.Small.{stmts_left}
 use Rattle.psy_gen.proofs.statements.+emit_stmt.Goals as goal
 
 pub emit_stmt-returns-in_ok-emit_expr-in-Set-clause-code : goal.emit_stmt-returns-in_ok-emit_expr-in-Set-clause-code
@@ -63,7 +67,7 @@ emit_stmt-returns-in_ok-push-in-Timed-clause-places t c =
 pub emit_stmt-returns-in_ok-push-in-Bounded-3-clause-code : goal.emit_stmt-returns-in_ok-push-in-Bounded-3-clause-code
 emit_stmt-returns-in_ok-push-in-Bounded-3-clause-code t c =
     rw (c.set-in-Bounded.ensures, c.place-in-Bounded.ensures, c.in-Bounded.is, ← c.as_slice-in-Bounded.ensures)
-    (patch_bounded c.args.layout.now c.in-Bounded.test c.in-Bounded.most _ _ _ _ _ _ _ _ _ _ _ _ c.in_ok-push-in-Bounded.ensures c.place-again.ensures c.in_ok-emit_expr-in-Bounded.ensures c.in_ok-push-in-Bounded-2.ensures c.in_ok-out-in-Bounded.ensures.place c.in_ok-out-in-Bounded.ensures.held c.in_ok-body-in-Bounded.ensures c.in_ok-emit_stmts-in-Bounded.ensures.code c.in_ok-push-in-Bounded-3.ensures)
+    (patch_bounded c.args.layout.now c.in-Bounded.test c.in-Bounded.most _ _ _ _ _ _ _ _ _ _ _ _ c.in_ok-push-in-Bounded.ensures c.place-again.ensures c.in_ok-emit_expr-in-Bounded.ensures c.in_ok-push-in-Bounded-2.ensures c.in_ok-out-in-Bounded.ensures.place c.in_ok-out-in-Bounded.ensures.held refl c.in_ok-emit_stmts-in-Bounded.ensures.code c.in_ok-push-in-Bounded-3.ensures)
 
 pub emit_stmt-returns-in_ok-push-in-Bounded-3-clause-places : goal.emit_stmt-returns-in_ok-push-in-Bounded-3-clause-places
 emit_stmt-returns-in_ok-push-in-Bounded-3-clause-places t c =
@@ -107,3 +111,143 @@ emit_stmt-returns-in_ok-emit_stmts-in-Some-clause-places t c =
     let second = to_second layout c.in-If.test c.as_slice.result.now _ _ _ _ _ _ _ _ _ c.in_ok-emit_expr-in-If.ensures c.in_ok-over-in-If.ensures.held c.in_ok-emit_stmts-in-If.ensures.code c.in_ok-behind-in-Some.ensures.held c.set-in-Some.ensures in
     rw (c.in-If.is, c.in-Some.is, places_if_else, ← c.as_slice.ensures, ← c.as_slice-in-Some.ensures, ← second, ← first, ← append_assoc, ← c.in_ok-emit_stmts-in-If.ensures.places)
     c.in_ok-emit_stmts-in-Some.ensures.places
+
+-- ---- places and counters are numbers of 32 bits
+
+pub emit_stmt-emit_expr-requires-in-SetCell-2 : goal.emit_stmt-emit_expr-requires-in-SetCell-2
+emit_stmt-emit_expr-requires-in-SetCell-2 t c =
+    omega (arith, c.requires.room, ap stmt_size c.in-SetCell.is, size_set_cell c.in-SetCell.slot c.in-SetCell.index c.in-SetCell.value, behind_expr _ _ _ _ c.in_ok-emit_expr-in-SetCell.ensures)
+
+pub emit_stmt-hold-requires : goal.emit_stmt-hold-requires
+emit_stmt-hold-requires t c =
+    omega (arith, c.requires.room, ap stmt_size c.in-If.is, size_if_front c.in-If.test c.in-If.branch c.in-If.other, behind_expr _ _ _ _ c.in_ok-emit_expr-in-If.ensures)
+
+pub emit_stmt-emit_stmts-requires : goal.emit_stmt-emit_stmts-requires
+emit_stmt-emit_stmts-requires t c =
+    let first = to_first c.args.layout.now c.in-If.test _ _ _ c.in_ok-emit_expr-in-If.ensures c.in_ok-over-in-If.ensures.held in (
+      search (rules, the_lemmas),
+      (
+        omega (arith, c.requires.room, ap stmt_size c.in-If.is, size_if_front c.in-If.test c.in-If.branch c.in-If.other, ap stmts_size c.as_slice.ensures, first),
+        omega (arith, c.requires.counters, ap loops c.in-If.is, loops_if_front c.in-If.test c.in-If.branch c.in-If.other, ap loops_in c.as_slice.ensures),
+      ),
+    )
+
+pub emit_stmt-place-requires : goal.emit_stmt-place-requires
+emit_stmt-place-requires t c =
+    let first = to_first c.args.layout.now c.in-If.test _ _ _ c.in_ok-emit_expr-in-If.ensures c.in_ok-over-in-If.ensures.held in
+    omega (arith, c.requires.room, ap stmt_size c.in-If.is, size_if_front c.in-If.test c.in-If.branch c.in-If.other, ap stmts_size c.as_slice.ensures, first, behind_stmts _ _ _ _ _ c.in_ok-emit_stmts-in-If.ensures.code)
+
+pub emit_stmt-hold-requires-in-Some : goal.emit_stmt-hold-requires-in-Some
+emit_stmt-hold-requires-in-Some t c =
+    let first = to_first c.args.layout.now c.in-If.test _ _ _ c.in_ok-emit_expr-in-If.ensures c.in_ok-over-in-If.ensures.held in
+    omega (arith, c.requires.room, ap stmt_size c.in-If.is, size_if_front c.in-If.test c.in-If.branch c.in-If.other, ap stmts_size c.as_slice.ensures, first, behind_stmts _ _ _ _ _ c.in_ok-emit_stmts-in-If.ensures.code)
+
+pub emit_stmt-place-requires-in-Some : goal.emit_stmt-place-requires-in-Some
+emit_stmt-place-requires-in-Some t c =
+    let size = ap stmt_size c.in-If.is ∙ ap (λ o. stmt_size (stmt.If c.in-If.test c.in-If.branch o)) c.in-Some.is ∙ size_if_else c.in-If.test c.in-If.branch c.in-Some.other in
+    let first = to_first c.args.layout.now c.in-If.test _ _ _ c.in_ok-emit_expr-in-If.ensures c.in_ok-over-in-If.ensures.held in
+    omega (arith, c.requires.room, size, ap stmts_size c.as_slice.ensures, first, behind_stmts _ _ _ _ _ c.in_ok-emit_stmts-in-If.ensures.code, behind_one _ _ _ c.in_ok-behind-in-Some.ensures.held)
+
+pub emit_stmt-emit_stmts-requires-in-Some : goal.emit_stmt-emit_stmts-requires-in-Some
+emit_stmt-emit_stmts-requires-in-Some t c =
+    let size = ap stmt_size c.in-If.is ∙ ap (λ o. stmt_size (stmt.If c.in-If.test c.in-If.branch o)) c.in-Some.is ∙ size_if_else c.in-If.test c.in-If.branch c.in-Some.other in
+    let counted = ap loops c.in-If.is ∙ ap (λ o. loops (stmt.If c.in-If.test c.in-If.branch o)) c.in-Some.is ∙ loops_if_else c.in-If.test c.in-If.branch c.in-Some.other in
+    let second = to_second c.args.layout.now c.in-If.test c.as_slice.result.now _ _ _ _ _ _ _ _ _ c.in_ok-emit_expr-in-If.ensures c.in_ok-over-in-If.ensures.held c.in_ok-emit_stmts-in-If.ensures.code c.in_ok-behind-in-Some.ensures.held c.set-in-Some.ensures in (
+      search (rules, the_lemmas),
+      (
+        omega (arith, c.requires.room, size, ap stmts_size c.as_slice.ensures, ap stmts_size c.as_slice-in-Some.ensures, second),
+        omega (arith, c.requires.counters, counted, ap loops_in c.as_slice.ensures, ap loops_in c.as_slice-in-Some.ensures, c.in_ok-emit_stmts-in-If.ensures.loops),
+      ),
+    )
+
+pub emit_stmt-place-requires-in-Some-2 : goal.emit_stmt-place-requires-in-Some-2
+emit_stmt-place-requires-in-Some-2 t c =
+    let size = ap stmt_size c.in-If.is ∙ ap (λ o. stmt_size (stmt.If c.in-If.test c.in-If.branch o)) c.in-Some.is ∙ size_if_else c.in-If.test c.in-If.branch c.in-Some.other in
+    let second = to_second c.args.layout.now c.in-If.test c.as_slice.result.now _ _ _ _ _ _ _ _ _ c.in_ok-emit_expr-in-If.ensures c.in_ok-over-in-If.ensures.held c.in_ok-emit_stmts-in-If.ensures.code c.in_ok-behind-in-Some.ensures.held c.set-in-Some.ensures in
+    omega (arith, c.requires.room, size, ap stmts_size c.as_slice.ensures, ap stmts_size c.as_slice-in-Some.ensures, second, behind_stmts _ _ _ _ _ c.in_ok-emit_stmts-in-Some.ensures.code)
+
+pub emit_stmt-place-again-requires : goal.emit_stmt-place-again-requires
+emit_stmt-place-again-requires t c = omega (arith, c.requires.room, ap stmt_size c.in-Bounded.is, size_bounded c.in-Bounded.test c.in-Bounded.most c.in-Bounded.turn, behind_one _ _ _ c.in_ok-push-in-Bounded.ensures)
+
+pub emit_stmt-emit_expr-requires-in-Bounded : goal.emit_stmt-emit_expr-requires-in-Bounded
+emit_stmt-emit_expr-requires-in-Bounded t c =
+    omega (arith, c.requires.room, ap stmt_size c.in-Bounded.is, size_bounded c.in-Bounded.test c.in-Bounded.most c.in-Bounded.turn, behind_one _ _ _ c.in_ok-push-in-Bounded.ensures)
+
+pub emit_stmt-hold-requires-in-Bounded : goal.emit_stmt-hold-requires-in-Bounded
+emit_stmt-hold-requires-in-Bounded t c =
+    omega (
+      arith,
+      c.requires.room,
+      ap stmt_size c.in-Bounded.is,
+      size_bounded c.in-Bounded.test c.in-Bounded.most c.in-Bounded.turn,
+      behind_one _ _ _ c.in_ok-push-in-Bounded.ensures,
+      behind_expr _ _ _ _ c.in_ok-emit_expr-in-Bounded.ensures,
+      behind_one _ _ _ c.in_ok-push-in-Bounded-2.ensures,
+    )
+
+pub emit_stmt-emit_stmts-requires-in-Bounded : goal.emit_stmt-emit_stmts-requires-in-Bounded
+emit_stmt-emit_stmts-requires-in-Bounded t c =
+    let first = to_turn c.args.layout.now c.in-Bounded.test c.args.body.now.loops c.in-Bounded.most _ _ _ _ _ c.in_ok-push-in-Bounded.ensures c.in_ok-emit_expr-in-Bounded.ensures c.in_ok-push-in-Bounded-2.ensures c.in_ok-out-in-Bounded.ensures.held in (
+      search (rules, the_lemmas),
+      (
+        omega (arith, c.requires.room, ap stmt_size c.in-Bounded.is, size_bounded c.in-Bounded.test c.in-Bounded.most c.in-Bounded.turn, ap stmts_size c.as_slice-in-Bounded.ensures, first),
+        omega (arith, c.requires.counters, ap loops c.in-Bounded.is, loops_bounded c.in-Bounded.test c.in-Bounded.most c.in-Bounded.turn, ap loops_in c.as_slice-in-Bounded.ensures),
+      ),
+    )
+
+pub emit_stmt-place-requires-in-Bounded : goal.emit_stmt-place-requires-in-Bounded
+emit_stmt-place-requires-in-Bounded t c =
+    let first = to_turn c.args.layout.now c.in-Bounded.test c.args.body.now.loops c.in-Bounded.most _ _ _ _ _ c.in_ok-push-in-Bounded.ensures c.in_ok-emit_expr-in-Bounded.ensures c.in_ok-push-in-Bounded-2.ensures c.in_ok-out-in-Bounded.ensures.held in
+    omega (
+      arith,
+      c.requires.room,
+      ap stmt_size c.in-Bounded.is,
+      size_bounded c.in-Bounded.test c.in-Bounded.most c.in-Bounded.turn,
+      ap stmts_size c.as_slice-in-Bounded.ensures,
+      first,
+      behind_stmts _ _ _ _ _ c.in_ok-emit_stmts-in-Bounded.ensures.code,
+      behind_one _ _ _ c.in_ok-push-in-Bounded-3.ensures,
+    )
+
+pub emit_stmt-hold-requires-in-Timed : goal.emit_stmt-hold-requires-in-Timed
+emit_stmt-hold-requires-in-Timed t c = omega (arith, c.requires.room, ap stmt_size c.in-Timed.is, size_timed c.in-Timed.test c.in-Timed.turn, behind_expr _ _ _ _ c.in_ok-emit_expr-in-Timed.ensures)
+
+pub emit_stmt-emit_stmts-requires-in-Timed : goal.emit_stmt-emit_stmts-requires-in-Timed
+emit_stmt-emit_stmts-requires-in-Timed t c =
+    let first = to_first c.args.layout.now c.in-Timed.test _ _ _ c.in_ok-emit_expr-in-Timed.ensures c.in_ok-out-in-Timed.ensures.held in (
+      search (rules, the_lemmas),
+      (
+        omega (arith, c.requires.room, ap stmt_size c.in-Timed.is, size_timed c.in-Timed.test c.in-Timed.turn, ap stmts_size c.as_slice-in-Timed.ensures, first),
+        omega (arith, c.requires.counters, ap loops c.in-Timed.is, loops_timed c.in-Timed.test c.in-Timed.turn, ap loops_in c.as_slice-in-Timed.ensures),
+      ),
+    )
+
+pub emit_stmt-place-requires-in-Timed : goal.emit_stmt-place-requires-in-Timed
+emit_stmt-place-requires-in-Timed t c =
+    let first = to_first c.args.layout.now c.in-Timed.test _ _ _ c.in_ok-emit_expr-in-Timed.ensures c.in_ok-out-in-Timed.ensures.held in
+    omega (
+      arith,
+      c.requires.room,
+      ap stmt_size c.in-Timed.is,
+      size_timed c.in-Timed.test c.in-Timed.turn,
+      ap stmts_size c.as_slice-in-Timed.ensures,
+      first,
+      behind_stmts _ _ _ _ _ c.in_ok-emit_stmts-in-Timed.ensures.code,
+      behind_one _ _ _ c.in_ok-push-in-Timed.ensures,
+    )
+
+pub emit_stmt-place-requires-in-Advance : goal.emit_stmt-place-requires-in-Advance
+emit_stmt-place-requires-in-Advance t c = omega (arith, c.requires.room, ap stmt_size c.in-Advance.is, size_advance c.in-Advance.point, behind_one _ _ _ c.in_ok-push-in-Advance.ensures)
+
+pub emit_stmts-emit_stmt-requires : goal.emit_stmts-emit_stmt-requires
+emit_stmts-emit_stmt-requires t c =
+    let stmts = c.args.stmts.now in
+    let i = c.loop-stmt.stmt-index in
+    let here = drop_read stmts i c.stmt-item.result c.loop-stmt-test.true c.stmt-item.is in
+    let left = stmts_left c.args.layout.now (drop i stmts) stmts _ _ c.args.code.now c.loop-stmt.code c.loop-stmt.invariant.code in (
+      search (rules, the_lemmas),
+      (
+        omega (arith, c.requires.room, ap stmts_size here, left),
+        omega (arith, c.requires.counters, ap loops_in here, c.loop-stmt.invariant.loops),
+      ),
+    )

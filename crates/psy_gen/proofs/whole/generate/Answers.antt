@@ -1,9 +1,8 @@
-use Rattle.std.proofs.Common.{sym, ap, subst}
+use Rattle.std.proofs.Common.{length, sym, ap, subst, arith}
 use Rattle.psy_code.specs.declared.code.Code.{Code}
 use Rattle.psy_meaning.specs.Alike.{ActsAlike}
-use Rattle.psy_lawful.proofs.SoundUnits.{unit_sound}
-use Rattle.psy_gen.proofs.Alikes.{code_alike}
-use Rattle.psy_gen.proofs.Wholes.{code_is, code_size}
+use Rattle.psy_gen.specs.Emission.{function_code, function_size}
+use Rattle.psy_gen.proofs.Wholes.{codes_length, function_length, code_is, code_size}
 use Rattle.psy_gen.proofs.whole.generate.Goals as goal
 
 pub returns-clause-code : goal.returns-clause-code
@@ -16,7 +15,18 @@ pub returns-clause-alike : goal.returns-clause-alike
 returns-clause-alike c =
     let unit = c.args.unit.now in
     let text = c.requires.text.text in
-    subst (ActsAlike unit) (sym (returns-clause-code c)) (code_alike unit (unit_sound text.0 unit text.1))
+    subst (ActsAlike unit) (sym (returns-clause-code c)) (c.alike.ensures unit (c.sound.ensures.unit text.0 unit text.1))
 
 pub returns-clause-size : goal.returns-clause-size
 returns-clause-size c = rw (ap (λ (k : Code). k.instrs) (returns-clause-code c)) (code_size c.args.unit.now)
+
+pub emit_functions-requires-clause-functions : goal.emit_functions-requires-clause-functions
+emit_functions-requires-clause-functions c = rw c.as_slice.ensures c.requires.text.bare.functions
+
+pub emit_functions-requires-clause-room : goal.emit_functions-requires-clause-room
+emit_functions-requires-clause-room c = rw (c.new-instrs.ensures, c.as_slice.ensures) (omega (arith, c.requires.text.size))
+
+pub emit_agents-requires-clause-room : goal.emit_agents-requires-clause-room
+emit_agents-requires-clause-room c =
+    let code = rw (c.new-instrs.ensures, c.as_slice.ensures) at c.in_ok-functions.ensures.code in
+    omega (arith, c.requires.text.size, ap length code, codes_length function_code function_size function_length c.args.unit.now.functions 0)
