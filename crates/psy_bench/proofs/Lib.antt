@@ -1,2 +1,2 @@
-mod Keeps
+mod Stays
 mod Stepping

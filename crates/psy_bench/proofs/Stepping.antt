@@ -6,24 +6,24 @@ use Rattle.psy_code.specs.declared.code.AgentCode.{AgentCode}
 use Rattle.psy_code.specs.Execution.{Machine, Next, Went, Ended, Trapped, Stuck, need, next_of, new_machine}
 use Rattle.psy_code.specs.Views.{View}
 use Rattle.psy_machine.specs.Stepping.{AgentMachine, IsOf, IsNew, next_for, machine_after, stepped}
-use Rattle.psy_bench.specs.Loop.{IsLoop, Held, Stands, at_0, GoesOn, loop_code, agent_code}
-use Rattle.psy_bench.proofs.Keeps.{keeps}
+use Rattle.psy_bench.specs.Loop.{IsLoop, Held, IsAtPlace, at_0, StaysInLoop, loop_code, agent_code}
+use Rattle.psy_bench.proofs.Stays.{stays}
 
 pub is_of : (code : Code) (m : AgentMachine) → code ≡ loop_code → IsLoop m → IsOf code m
 is_of code m e l = subst (λ c. IsOf c m) (sym e) (agent_code, subst (λ a. slice_get (agent_code ∷ []) a ≡ Some agent_code) (sym l.agent) refl, l.stack, l.frames)
 
-next_goes_on : (code : Code) (view : View) (m : AgentMachine) → code ≡ loop_code → IsLoop m → GoesOn (next_for code view m)
+next_goes_on : (code : Code) (view : View) (m : AgentMachine) → code ≡ loop_code → IsLoop m → StaysInLoop (next_for code view m)
 next_goes_on code view m e l =
-    subst (λ c. GoesOn (next_for c view m)) (sym e)
-    (subst (λ a. GoesOn (need (slice_get (agent_code ∷ []) a) (λ agent. next_of loop_code agent view m.machine))) (sym l.agent) (keeps view m.machine l.stands))
+    subst (λ c. StaysInLoop (next_for c view m)) (sym e)
+    (subst (λ a. StaysInLoop (need (slice_get (agent_code ∷ []) a) (λ agent. next_of loop_code agent view m.machine))) (sym l.agent) (stays view m.machine l.stands))
 
-not_stuck : (next : Next) → GoesOn next → next ≢ Stuck
-not_stuck next g e = subst GoesOn e g
+not_stuck : (next : Next) → StaysInLoop next → next ≢ Stuck
+not_stuck next g e = subst StaysInLoop e g
 
 pub able : (code : Code) (view : View) (m : AgentMachine) → code ≡ loop_code → IsLoop m → next_for code view m ≢ Stuck
 able code view m e l = not_stuck (next_for code view m) (next_goes_on code view m e l)
 
-stands_after : (next : Next) (m : Machine) → GoesOn next → Stands m → Stands (machine_after next m)
+stands_after : (next : Next) (m : Machine) → StaysInLoop next → IsAtPlace m → IsAtPlace (machine_after next m)
 stands_after (Went n) m g s = g
 stands_after (Ended point n) m g s = g
 stands_after (Trapped kind) m g s = s
@@ -48,7 +48,7 @@ begins_by m new of =
       agent = new.2;
       stack = subst (λ a. a.stack ≤ m.stack) (sym its) of.2;
       frames = subst (λ a. a.frames ≤ m.frames) (sym its) of.3;
-      stands = subst Stands (sym at) (at_0 {s = first_held});
+      stands = subst IsAtPlace (sym at) (at_0 {s = first_held});
     }
 
 pub begins : (code : Code) (m : AgentMachine) → code ≡ loop_code → IsNew code 0 m → IsOf code m → IsLoop m

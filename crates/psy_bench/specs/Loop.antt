@@ -90,51 +90,51 @@ abbrev pub open_call : ℤ → ℤ → List OpenCall
 open_call x local = record { frame = record { cells = x ∷ local ∷ []; counters = [] }; back = 9 } ∷ []
 
 -- How many operands and open calls there are at each place
-pub data Stands : Machine → Type 0 where
-  at_0 : {s : Held} → Stands (machine_at 0 [] s [])
-  at_1 : {s : Held} → Stands (machine_at 1 [] s [])
-  at_2 : {x : ℤ} {s : Held} → Stands (machine_at 2 (x ∷ []) s [])
-  at_3 : {x y : ℤ} {s : Held} → Stands (machine_at 3 (x ∷ y ∷ []) s [])
-  at_4 : {x : ℤ} {s : Held} → Stands (machine_at 4 (x ∷ []) s [])
-  at_5 : {x : ℤ} {s : Held} → Stands (machine_at 5 (x ∷ []) s [])
-  at_6 : {s : Held} → Stands (machine_at 6 [] s [])
-  at_7 : {x : ℤ} {s : Held} → Stands (machine_at 7 (x ∷ []) s [])
-  at_8 : {x y : ℤ} {s : Held} → Stands (machine_at 8 (x ∷ y ∷ []) s [])
-  at_9 : {x y : ℤ} {s : Held} → Stands (machine_at 9 (x ∷ y ∷ []) s [])
-  at_10 : {x : ℤ} {s : Held} → Stands (machine_at 10 (x ∷ []) s [])
-  at_11 : {s : Held} → Stands (machine_at 11 [] s [])
-  at_12 : {x : ℤ} {s : Held} → Stands (machine_at 12 (x ∷ []) s [])
-  at_13 : {x y : ℤ} {s : Held} → Stands (machine_at 13 (x ∷ y ∷ []) s [])
-  at_14 : {x : ℤ} {s : Held} → Stands (machine_at 14 (x ∷ []) s [])
-  at_15 : {x y : ℤ} {s : Held} → Stands (machine_at 15 (x ∷ y ∷ []) s [])
-  at_16 : {s : Held} → Stands (machine_at 16 [] s [])
-  at_17 : {x : ℤ} {s : Held} → Stands (machine_at 17 (x ∷ []) s [])
-  at_18 : {x y : ℤ} {s : Held} → Stands (machine_at 18 (x ∷ y ∷ []) s [])
-  at_19 : {x : ℤ} {s : Held} → Stands (machine_at 19 (x ∷ []) s [])
-  at_20 : {s : Held} → Stands (machine_at 20 [] s [])
-  at_21 : {s : Held} → Stands (machine_at 21 [] s [])
-  at_22 : {x : ℤ} {s : Held} → Stands (machine_at 22 (x ∷ []) s [])
-  at_23 : {s : Held} → Stands (machine_at 23 [] s [])
-  at_24 : {x : ℤ} {s : Held} → Stands (machine_at 24 (x ∷ []) s [])
-  at_25 : {s : Held} → Stands (machine_at 25 [] s [])
-  at_26 : {s : Held} → Stands (machine_at 26 [] s [])
-  at_27 : {x v w : ℤ} {s : Held} → Stands (machine_at 27 (x ∷ []) s (open_call v w))
-  at_28 : {x y v w : ℤ} {s : Held} → Stands (machine_at 28 (x ∷ y ∷ []) s (open_call v w))
-  at_29 : {x y z v w : ℤ} {s : Held} → Stands (machine_at 29 (x ∷ y ∷ z ∷ []) s (open_call v w))
-  at_30 : {x y v w : ℤ} {s : Held} → Stands (machine_at 30 (x ∷ y ∷ []) s (open_call v w))
-  at_31 : {x y z v w : ℤ} {s : Held} → Stands (machine_at 31 (x ∷ y ∷ z ∷ []) s (open_call v w))
-  at_32 : {x y v w : ℤ} {s : Held} → Stands (machine_at 32 (x ∷ y ∷ []) s (open_call v w))
+pub data IsAtPlace : Machine → Type 0 where
+  at_0 : {s : Held} → IsAtPlace (machine_at 0 [] s [])
+  at_1 : {s : Held} → IsAtPlace (machine_at 1 [] s [])
+  at_2 : {x : ℤ} {s : Held} → IsAtPlace (machine_at 2 (x ∷ []) s [])
+  at_3 : {x y : ℤ} {s : Held} → IsAtPlace (machine_at 3 (x ∷ y ∷ []) s [])
+  at_4 : {x : ℤ} {s : Held} → IsAtPlace (machine_at 4 (x ∷ []) s [])
+  at_5 : {x : ℤ} {s : Held} → IsAtPlace (machine_at 5 (x ∷ []) s [])
+  at_6 : {s : Held} → IsAtPlace (machine_at 6 [] s [])
+  at_7 : {x : ℤ} {s : Held} → IsAtPlace (machine_at 7 (x ∷ []) s [])
+  at_8 : {x y : ℤ} {s : Held} → IsAtPlace (machine_at 8 (x ∷ y ∷ []) s [])
+  at_9 : {x y : ℤ} {s : Held} → IsAtPlace (machine_at 9 (x ∷ y ∷ []) s [])
+  at_10 : {x : ℤ} {s : Held} → IsAtPlace (machine_at 10 (x ∷ []) s [])
+  at_11 : {s : Held} → IsAtPlace (machine_at 11 [] s [])
+  at_12 : {x : ℤ} {s : Held} → IsAtPlace (machine_at 12 (x ∷ []) s [])
+  at_13 : {x y : ℤ} {s : Held} → IsAtPlace (machine_at 13 (x ∷ y ∷ []) s [])
+  at_14 : {x : ℤ} {s : Held} → IsAtPlace (machine_at 14 (x ∷ []) s [])
+  at_15 : {x y : ℤ} {s : Held} → IsAtPlace (machine_at 15 (x ∷ y ∷ []) s [])
+  at_16 : {s : Held} → IsAtPlace (machine_at 16 [] s [])
+  at_17 : {x : ℤ} {s : Held} → IsAtPlace (machine_at 17 (x ∷ []) s [])
+  at_18 : {x y : ℤ} {s : Held} → IsAtPlace (machine_at 18 (x ∷ y ∷ []) s [])
+  at_19 : {x : ℤ} {s : Held} → IsAtPlace (machine_at 19 (x ∷ []) s [])
+  at_20 : {s : Held} → IsAtPlace (machine_at 20 [] s [])
+  at_21 : {s : Held} → IsAtPlace (machine_at 21 [] s [])
+  at_22 : {x : ℤ} {s : Held} → IsAtPlace (machine_at 22 (x ∷ []) s [])
+  at_23 : {s : Held} → IsAtPlace (machine_at 23 [] s [])
+  at_24 : {x : ℤ} {s : Held} → IsAtPlace (machine_at 24 (x ∷ []) s [])
+  at_25 : {s : Held} → IsAtPlace (machine_at 25 [] s [])
+  at_26 : {s : Held} → IsAtPlace (machine_at 26 [] s [])
+  at_27 : {x v w : ℤ} {s : Held} → IsAtPlace (machine_at 27 (x ∷ []) s (open_call v w))
+  at_28 : {x y v w : ℤ} {s : Held} → IsAtPlace (machine_at 28 (x ∷ y ∷ []) s (open_call v w))
+  at_29 : {x y z v w : ℤ} {s : Held} → IsAtPlace (machine_at 29 (x ∷ y ∷ z ∷ []) s (open_call v w))
+  at_30 : {x y v w : ℤ} {s : Held} → IsAtPlace (machine_at 30 (x ∷ y ∷ []) s (open_call v w))
+  at_31 : {x y z v w : ℤ} {s : Held} → IsAtPlace (machine_at 31 (x ∷ y ∷ z ∷ []) s (open_call v w))
+  at_32 : {x y v w : ℤ} {s : Held} → IsAtPlace (machine_at 32 (x ∷ y ∷ []) s (open_call v w))
 
--- It goes on as it should stand, or traps; it is never stuck.
-abbrev pub GoesOn : Next → Type 0
-GoesOn (Went m) = Stands m
-GoesOn (Ended point m) = Stands m
-GoesOn (Trapped kind) = ⊤
-GoesOn Stuck = ⊥
+-- It goes on at a place of the loop, or traps; it is never stuck.
+abbrev pub StaysInLoop : Next → Type 0
+StaysInLoop (Went m) = IsAtPlace m
+StaysInLoop (Ended point m) = IsAtPlace m
+StaysInLoop (Trapped kind) = ⊤
+StaysInLoop Stuck = ⊥
 
 -- The machine of the loop
 pub record IsLoop (m : AgentMachine) : Type 0 where
   pub agent : m.agent ≡ 0
   pub stack : 3 ≤ m.stack
   pub frames : 2 ≤ m.frames
-  pub stands : Stands m.machine
+  pub stands : IsAtPlace m.machine

@@ -1,3 +1,5 @@
+ghost use Rattle.std.specs.Prelude.{◌≡◌, refl};
+
 use psy_code::{Look, Sent};
 
 /// One variable, which stays as it is, and one stream, which is empty. One send is taken.
@@ -12,6 +14,10 @@ impl Look for Still {
     ghost use Rattle.psy_bench.specs.Loop.{seen};
 
     ghost window = { seen };
+
+    ghost Keeps = { λ before after. after.published ≡ before.published };
+
+    ghost keeps = { λ still. refl };
 
     fn past(&mut self, variable: u32, back: u32) -> i32 {
         self.noted = Some((variable, back));

@@ -1,2 +1,4 @@
 mod Heights
+mod Homes
+mod Lasting
 mod Rowed

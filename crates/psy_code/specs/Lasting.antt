@@ -1,10 +1,10 @@
 -- What a run promises on the way to its end: it is never stuck, and asks only what its view serves.
-use Rattle.std.specs.Prelude.{◌≡◌, ◌≢◌, ℕ, ◌+◌, ◌≤◌, ◌<◌, List, ◌++◌, map, replicate, length}
+use Rattle.std.specs.Prelude.{◌≡◌, ◌≢◌, ℕ, suc, ◌+◌, ◌≤◌, ◌<◌, List, ◌++◌, map, replicate, length}
 use Rattle.psy_code.specs.declared.code.Code.{Code}
 use Rattle.psy_code.specs.declared.code.AgentCode.{AgentCode}
 use Rattle.psy_code.specs.declared.look.Sent.{Sent}
 use Rattle.psy_code.specs.Views.{Deeds, Looked, ServesAll}
-use Rattle.psy_code.specs.Execution.{Machine, RunState, Run, Running, RanTo, TrappedBy, Next, Went, Stuck, next_of, call_of, deeds_then, run_code, standing}
+use Rattle.psy_code.specs.Execution.{Machine, RunState, Run, Running, RanTo, TrappedBy, Went, Stuck, next_of, call_of, deeds_then, run_one, run_code, standing}
 
 -- A run that ended or trapped, with this state
 abbrev pub IsOver : Run → RunState → Type 0
@@ -20,10 +20,11 @@ pub record IsFront (some all : Deeds) : Type 0 where
   pub takes : (more : List ℕ) × (all.takes ≡ some.takes ++ more)
 
 -- After so many instructions the run from a state goes on: its next instruction can be executed, what that one asks is there
--- to see, and what was done is the front of what the whole run does; so it is behind that instruction, unless this one traps.
+-- to see, and what was done is the front of all that is done in the end; so it is with that instruction, where it goes on.
 pub record GoesOn (code : Code) (agent : AgentCode) (s : RunState) (n : ℕ) (all : Deeds) : Type 0 where
   pub state : RunState
   pub running : run_code code agent s n ≡ Running state
+  pub next : run_code code agent s (suc n) ≡ run_one code agent state
   pub counted : state.deeds.steps ≡ s.deeds.steps + n
   pub able : next_of code agent state.view state.machine ≢ Stuck
   pub served : ServesAll state.view (call_of code state.machine)

@@ -1,9 +1,6 @@
 use crate::instr::Instr;
 use psy_base::Items;
 
-/// Calls that may be open at one time.
-pub const OPEN_CALLS: u32 = 64;
-
 /// The code of a program: its instructions, each at its place from 0, and where agents and functions
 /// begin in them.
 #[derive(Debug, Drop)]

@@ -10,7 +10,7 @@ mod rows;
 #[cfg(test)]
 mod tests;
 
-pub use code::{AgentCode, Code, CopyInit, FunctionCode, OPEN_CALLS};
+pub use code::{AgentCode, Code, CopyInit, FunctionCode};
 pub use instr::{Binary, Instr};
 pub use look::{Look, Sent};
 pub use rows::instructions;

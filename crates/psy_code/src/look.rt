@@ -16,11 +16,17 @@ pub trait Look {
     // what it serves, the sends that it took, and the look that it noted last
     ghost window: { Self → Window };
 
+    // how it may change at a call, whatever that asks: what else it holds stays as it was
+    ghost Keeps: { Self → Self → Type 0 };
+
+    ghost keeps: { (s : Self) → Keeps s s };
+
     /// The value that the variable published `back` of its dates ago. The look is noted.
     fn past(&mut self, variable: u32, back: u32) -> i32
         requires { Permits (window self.old) (Past variable back) }
         ensures value { past_of (window self.old).view variable back ≡ Some result }
-        ensures rest { window self.new ≡ answered (window self.old) (Past variable back) };
+        ensures rest { window self.new ≡ answered (window self.old) (Past variable back) }
+        ensures kept { Keeps self.old self.new };
 
     /// How many messages of the stream aren't yet taken.
     fn ready(&self, stream: u32) -> u32
@@ -31,10 +37,12 @@ pub trait Look {
     fn take(&mut self, stream: u32) -> Option<i32>
         requires { Permits (window self.old) (Take stream) }
         ensures value { result ≡ next_in (window self.old).view stream }
-        ensures rest { window self.new ≡ answered (window self.old) (Take stream) };
+        ensures rest { window self.new ≡ answered (window self.old) (Take stream) }
+        ensures kept { Keeps self.old self.new };
 
     /// Sends a value to a stream.
     fn send(&mut self, stream: u32, value: i32, after: u32, clock: u32)
         requires { Permits (window self.old) (Send (record { stream = stream; value = value; after = after; clock = clock })) }
-        ensures { window self.new ≡ answered (window self.old) (Send (record { stream = stream; value = value; after = after; clock = clock })) };
+        ensures rest { window self.new ≡ answered (window self.old) (Send (record { stream = stream; value = value; after = after; clock = clock })) }
+        ensures kept { Keeps self.old self.new };
 }

@@ -4,6 +4,7 @@ use Rattle.std.specs.Prelude.{ℤ, slice_get, slice_set}
 use Rattle.std.specs.Vec.{with_item}
 use Rattle.std.proofs.lemmas.List.{length-drop, length-reverse, length-take-le, take_at, drop_at, get_or-drop, take_all, take-take, take-set-le, drop-set-add}
 use Rattle.std.proofs.lemmas.Option.{slice_get-get_or}
+use Rattle.psy_base.specs.declared.limits.TheConstants.{OPEN_CALLS}
 use Rattle.psy_code.specs.Execution.{Frame, OpenCall, innermost_frame, home_with, calls_with, cells_in_calls, cleared}
 use Rattle.psy_machine.specs.declared.frames.Place.{Place}
 use Rattle.psy_machine.specs.declared.frames.Header.{Header}
@@ -133,7 +134,7 @@ room_for f m cells counters e ok h =
     (omega (arith, all, ends.0, ends.1, calls, room, h, ok.cells), omega (arith, all, ends.0, ends.1, calls, room, h, ok.counters))
 
 -- There is room for one more call.
-pub call_within : (f : Inside) (m : FrameStack) → frames_in f ≡ m → IsLaidOut f → length m.calls < 64 → length f.headers.items < vec_capacity f.headers
+pub call_within : (f : Inside) (m : FrameStack) → frames_in f ≡ m → IsLaidOut f → length m.calls < OPEN_CALLS → length f.headers.items < vec_capacity f.headers
 call_within f m e ok h =
     let hs = reverse f.headers.items in
     let calls = ap (λ (s : FrameStack). length s.calls) e in

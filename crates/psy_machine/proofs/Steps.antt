@@ -3,6 +3,7 @@ use Rattle.std.proofs.Common.{◌≡◌, ◌≢◌, ℕ, ◌<◌, ◌≤◌, ◌
 use Rattle.std.specs.Prelude.{slice_get}
 use Rattle.std.proofs.lemmas.Bool.Decides.{nat_tests}
 use Rattle.std.proofs.lemmas.Option.{slice_get_within, slice_get_read, slice_get-get_or, same_Some}
+use Rattle.psy_base.specs.declared.limits.TheConstants.{OPEN_CALLS}
 use Rattle.psy_code.specs.declared.code.Code.{Code}
 use Rattle.psy_code.specs.declared.code.AgentCode.{AgentCode}
 use Rattle.psy_code.specs.declared.instr.Instr.{Instr}
@@ -26,7 +27,7 @@ pub record Able (agent : AgentCode) (m : AgentMachine) (next : Next) : Type 0 wh
 roomy : (agent : AgentCode) (m : AgentMachine) (machine : Machine) (b : Bool) → has_room agent machine ≡ b → agent.stack ≤ m.stack → agent.frames ≤ m.frames → cond b (Went machine) Stuck ≢ Stuck → Finds m (Went machine) × (cond b (Went machine) Stuck ≡ Went machine)
 roomy agent m machine false e s f h = absurd (h refl)
 roomy agent m machine true e s f h =
-    let parts : (length machine.operands ≤ agent.stack) × (cells_in_calls machine.calls ≤ agent.frames) × (length machine.calls ≤ 64) = grind (arith, nat_tests) in
+    let parts : (length machine.operands ≤ agent.stack) × (cells_in_calls machine.calls ≤ agent.frames) × (length machine.calls ≤ OPEN_CALLS) = grind (arith, nat_tests) in
     ((omega (arith, parts.0), omega (arith, parts.1), parts.2), refl)
 
 pub able : (agent : AgentCode) (m : AgentMachine) (next : Next) → agent.stack ≤ m.stack → agent.frames ≤ m.frames → within agent next ≢ Stuck → Able agent m next

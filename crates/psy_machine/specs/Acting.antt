@@ -1,6 +1,7 @@
 -- What an instruction that can be executed does to a machine.
 use Rattle.std.specs.Prelude.{◌≡◌, ℕ, ◌+◌, ◌<◌, ◌≤◌, ◌^◌, not, if◌then◌else◌, ◌∷◌, pos, ⊤, length, slice_get}
 use Rattle.psy_arith.specs.Operators.{truth, is_zero}
+use Rattle.psy_base.specs.declared.limits.TheConstants.{OPEN_CALLS}
 use Rattle.psy_code.specs.declared.code.AgentCode.{AgentCode}
 use Rattle.psy_code.specs.Execution.{Machine, Next, Went, Ended, Trapped, Stuck, need, with_top, onward, push, jump, store, copy_of, back_from, begun_at, cells_in_calls}
 use Rattle.psy_machine.specs.declared.machine.Step.{Step}
@@ -48,7 +49,7 @@ with_place place m = record m { machine = record (m.machine) { place = place } }
 
 -- What comes of it finds room in the machine.
 abbrev pub Finds : AgentMachine → Next → Type 0
-Finds m (Went machine) = (length machine.operands ≤ m.stack) × (cells_in_calls machine.calls ≤ m.frames) × (length machine.calls ≤ 64)
+Finds m (Went machine) = (length machine.operands ≤ m.stack) × (cells_in_calls machine.calls ≤ m.frames) × (length machine.calls ≤ OPEN_CALLS)
 Finds m (Ended point machine) = ⊤
 Finds m (Trapped kind) = ⊤
 Finds m Stuck = ⊥

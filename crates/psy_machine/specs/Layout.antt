@@ -1,5 +1,6 @@
 -- How the frames of an agent and of its open calls lie one behind the other.
 use Rattle.std.specs.Prelude.{◌≡◌, ℕ, ◌+◌, ◌≤◌, List, [], ◌∷◌, take, drop, length, reverse, ℤ, vec_capacity}
+use Rattle.psy_base.specs.declared.limits.TheConstants.{OPEN_CALLS}
 use Rattle.psy_code.specs.Execution.{Frame, OpenCall}
 use Rattle.psy_machine.specs.declared.frames.Place.{Place}
 use Rattle.psy_machine.specs.declared.frames.Header.{Header}
@@ -35,7 +36,7 @@ frames_in f = record {
 -- The frames lie one behind the other, and there is room for what may still be called.
 pub record IsLaidOut (f : Inside) : Type 0 where
   pub cut : IsCut (reverse f.headers.items) f.present (length f.cells.items) (length f.counters.items) f.home_end
-  -- room is reserved behind the agent's own frame, and for 64 calls
+  -- room is reserved behind the agent's own frame, and for all the calls that may be open
   pub cells : f.home_end.cells + f.room ≤ vec_capacity f.cells
   pub counters : f.home_end.counters + f.room ≤ vec_capacity f.counters
-  pub calls : 64 ≤ vec_capacity f.headers
+  pub calls : OPEN_CALLS ≤ vec_capacity f.headers

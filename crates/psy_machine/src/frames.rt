@@ -1,8 +1,9 @@
 ghost use Rattle.std.specs.Prelude.{◌≡◌, ◌+◌, ◌<◌, ◌≤◌, [], ◌∷◌, ◌++◌, length, replicate, slice_get, slice_set, Some, IfOk};
+ghost use Rattle.psy_base.specs.declared.limits.TheConstants.{OPEN_CALLS};
 ghost use Rattle.psy_code.specs.Execution.{OpenCall, cells_in_calls, cleared};
 ghost use Rattle.psy_machine.specs.Parts.{present_in, with_present};
 
-use psy_code::OPEN_CALLS;
+use psy_base::limits::OPEN_CALLS;
 use std::alloc::{AllocError, Global};
 use std::marker::Model;
 
@@ -116,7 +117,7 @@ impl Frames {
     /// Opens a call, with its arguments and locals as its cells.
     pub fn open(&mut self, arguments: &[i32], locals: &[i32], counters: u32, back: usize)
         requires room { length arguments.now + length locals.now + counters + cells_in_calls self.old.calls ≤ self.old.room }
-        requires calls { length self.old.calls < 64 }
+        requires calls { length self.old.calls < OPEN_CALLS }
         ensures { self.new ≡ record self.old {
           calls = record {
             frame = record { cells = arguments.now ++ locals.now; counters = replicate counters 0 };

@@ -1,6 +1,7 @@
 ghost use Rattle.std.specs.Prelude.{◌≡◌, ◌≢◌, ◌<◌, length, slice_index_or, Some, IsSome, IfOk};
 ghost use Rattle.psy_code.specs.Execution.{Stuck, copy_of, call_of, call_by, does};
-ghost use Rattle.psy_machine.specs.Stepping.{IsOf, IsNew, PermitsAll, Answers, next_for, stepped, window_after};
+ghost use Rattle.psy_code.specs.Views.{PermitsAll};
+ghost use Rattle.psy_machine.specs.Stepping.{IsOf, IsNew, Answers, next_for, stepped, window_after};
 ghost use Rattle.psy_machine.specs.Acting.{CanDo, Did};
 
 mod control;
@@ -83,6 +84,7 @@ impl Machine {
         ensures machine { self.new ≡ stepped code.now (L.window look.old).view self.old }
         ensures window { L.window look.new
             ≡ window_after (L.window look.old) (call_of code.now self.old.machine) }
+        ensures kept { L.Keeps look.old look.new }
     {
         let agent = &code.agents.as_slice()[self.agent as usize];
         let instr = code.instrs.as_slice()[self.place];
@@ -107,6 +109,7 @@ impl Machine {
             self.old self.new result }
         ensures window { L.window look.new
             ≡ window_after (L.window look.old) (call_by instr self.old.machine.operands) }
+        ensures kept { L.Keeps look.old look.new }
     {
         match instr {
             Instr::Push(number) => self.push(number),

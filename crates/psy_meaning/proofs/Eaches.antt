@@ -1,7 +1,11 @@
 -- What holds of each in a list.
-use Rattle.std.proofs.Common.{◌≡◌, suc, List, [], ◌∷◌, ◌++◌, map, refl, ap, arith}
-use Rattle.std.specs.List.{Contains}
+use Rattle.std.proofs.Common.{◌≡◌, List, [], ◌∷◌, ◌++◌, map, refl, ap, inl, inr}
+use Rattle.psy_tree.proofs.Among.{Among}
 use Rattle.psy_meaning.specs.Sound.{Each}
+
+pub each-append : {X : Type 0} (P : X → Type 0) (xs ys : List X) → Each P xs → Each P ys → Each P (xs ++ ys)
+each-append P [] ys h k = k
+each-append P (x ∷ xs) ys h k = (h.0, each-append P xs ys h.1 k)
 
 pub each-first : {X : Type 0} (P : X → Type 0) (xs ys : List X) → Each P (xs ++ ys) → Each P xs
 each-first P [] ys h = tt
@@ -11,9 +15,9 @@ pub each-second : {X : Type 0} (P : X → Type 0) (xs ys : List X) → Each P (x
 each-second P [] ys h = h
 each-second P (x ∷ xs) ys h = each-second P xs ys h.1
 
-pub each-contained : {X : Type 0} (P : X → Type 0) (xs : List X) → ((x : X) → Contains xs x → P x) → Each P xs
-each-contained P [] h = tt
-each-contained P (x ∷ xs) h = (h x (0, omega arith, refl), each-contained P xs (λ y c. h y (suc c.0, omega (arith, c.1), c.2)))
+pub each-among : {X : Type 0} (P : X → Type 0) (xs : List X) → ((x : X) → Among x xs → P x) → Each P xs
+each-among P [] h = tt
+each-among P (x ∷ xs) h = (h x (inl refl), each-among P xs (λ y there. h y (inr there)))
 
 pub each-map : {X Y : Type 0} (v : X → Y) (f : Y → Type 0) (xs : List X) → Each (λ x. f (v x)) xs ≡ Each f (map v xs)
 each-map v f [] = refl

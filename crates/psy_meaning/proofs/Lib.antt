@@ -1,13 +1,33 @@
+mod AgentNames
+mod Bare
 pub mod CalleeRuns
 pub mod Eaches
 pub mod Endings
 pub mod Fronts
+mod FunctionNames
+mod KeptActions
+mod KeptCalls
+mod KeptExprs
+mod KeptStates
+mod KeptStmts
+mod KeptValues
 pub mod Layers
+mod Literals
+mod Lowered
+mod NamesOf
 pub mod NoWays
 pub mod OpenWays
+mod PathsOf
+pub mod RestPieces
 pub mod Rests
 pub mod RestsOf
+mod Runs
+mod Sizes
+mod SoundExprs
 pub mod SoundParts
 pub mod SoundPaths
-mod Runs
+mod SoundStmts
+pub mod SoundUnits
 mod StatementRuns
+mod Suited
+mod TextNames

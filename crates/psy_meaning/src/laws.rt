@@ -1,16 +1,26 @@
 //! Laws of the definitions, each the contract of a function that does nothing.
 
-ghost use Rattle.std.specs.Prelude.{◌≡◌, ℕ, List, slice_get, Some};
+ghost use Rattle.std.specs.Prelude.{◌≡◌, ◌<◌, ◌≤◌, ◌*◌, ℕ, List, length, slice_get, Some};
 ghost use Rattle.psy_arith.specs.declared.operators.Trap.{Trap};
+ghost use Rattle.psy_base.specs.declared.limits.TheConstants.{FILE_BYTES};
+ghost use Rattle.psy_tree.specs.declared.raw.Raw.{Raw};
+ghost use Rattle.psy_tree.specs.declared.token.Token.{Token};
 ghost use Rattle.psy_tree.specs.declared.unit.AgentDecl.{AgentDecl};
 ghost use Rattle.psy_tree.specs.declared.unit.FunctionDecl.{FunctionDecl};
 ghost use Rattle.psy_tree.specs.declared.unit.Unit.{Unit as Whole};
-ghost use Rattle.psy_code.specs.Views.{nothing_done};
-ghost use Rattle.psy_meaning.specs.States.{State, Final, Ended, Trapped, Halts};
+ghost use Rattle.psy_tree.specs.Grammar.{Spells};
+ghost use Rattle.psy_tree.specs.Stands.{Stands};
+ghost use Rattle.psy_tree.specs.Tokens.{TokensOf};
+ghost use Rattle.psy_code.specs.Views.{View, nothing_done};
+ghost use Rattle.psy_meaning.specs.Alike.{IsStoreOf, IsViewOf, begun, first_store};
+ghost use Rattle.psy_meaning.specs.Kept.{IsKept};
+ghost use Rattle.psy_meaning.specs.States.{State, Store, Final, Ended, Trapped, Halts};
 ghost use Rattle.psy_meaning.specs.Rest.{rest};
+ghost use Rattle.psy_meaning.specs.Sizes.{unit_size};
 ghost use Rattle.psy_meaning.specs.Sound.{IsSoundUnit};
 ghost use Rattle.psy_meaning.specs.Statements.{Piece, act};
 ghost use Rattle.psy_meaning.specs.Paths.{NoneAdvances};
+ghost use Rattle.psy_meaning.specs.Units.{IsOfText};
 ghost use Rattle.psy_meaning.specs.Ways.{Meter, IsWay, IsFrontOf, met_by};
 
 /// What an action does up to an `advance` is a way to it.
@@ -27,4 +37,26 @@ pub fn traps()
 /// An action of a sound unit's agent ends at an `advance` or traps, from any of its points.
 pub fn ends()
     ensures { (unit : Whole) (number : ℕ) (agent : AgentDecl) (point : ℕ) (s : State) → IsSoundUnit unit → slice_get unit.agents number ≡ Some agent → (final : Final) × (act unit.functions (rest agent.stmts point) s ≡ Halts final) }
+{}
+
+/// What an action of a sound unit's agent keeps: from a store of the agent and a view of it, it ends at a point of an
+/// `advance` or traps, with a store of the agent again, having looked, taken and sent within the ranges of the unit. An
+/// agent begins with a store of its own.
+pub fn keeps()
+    ensures action { (unit : Whole) (number : ℕ) (agent : AgentDecl) (point : ℕ) (store : Store) (view : View) → IsSoundUnit unit → slice_get unit.agents number ≡ Some agent → point < length agent.points → IsStoreOf unit number agent store → IsViewOf unit number view
+        → (final : Final) × (act unit.functions (rest agent.stmts point) (begun store view) ≡ Halts final) × IsKept unit number agent final }
+    ensures first { (unit : Whole) (number : ℕ) (agent : AgentDecl) → IsSoundUnit unit → slice_get unit.agents number ≡ Some agent → IsStoreOf unit number agent (first_store unit number agent) }
+{}
+
+/// The statements of a unit that a program's tree stands for name what they can name, and no function of it holds an
+/// `advance`.
+pub fn sound()
+    ensures unit { (raw : Raw) (unit : Whole) → Stands unit raw → IsSoundUnit unit }
+    ensures functions { (unit : Whole) → IsSoundUnit unit → NoneAdvances unit.functions }
+{}
+
+/// A unit that the tree of a text stands for is one of a text, with at most two instructions a token.
+pub fn of_text()
+    ensures unit { (bytes : List ℕ) (tokens : List Token) (raw : Raw) (unit : Whole) → length bytes ≤ FILE_BYTES → TokensOf bytes tokens → Spells raw tokens → Stands unit raw → IsOfText unit }
+    ensures size { (tokens : List Token) (raw : Raw) (unit : Whole) → Spells raw tokens → Stands unit raw → unit_size unit ≤ 2 * length tokens }
 {}

@@ -11,6 +11,7 @@ use Rattle.psy_tree.specs.declared.raw.RawStmt.{RawStmt}
 use Rattle.psy_tree.specs.Scope.{slots_of, scalar, local_slot}
 use Rattle.psy_tree.specs.Rules.{is_clock, is_agent, is_function, is_stream}
 use Rattle.psy_tree.specs.Stands.{counting, is_variable, each_from}
+use Rattle.psy_tree.proofs.Numbers.{each_from_more}
 use Rattle.psy_rules.specs.declared.numbers.Before.{Before}
 use Rattle.psy_rules.specs.Numbering.{before_at, before_and, one_if}
 
@@ -37,21 +38,6 @@ slice_get-push f [] x h e zero l = ap Some e
 slice_get-push f [] x h e (suc k) l = absurd (omega arith)
 slice_get-push f (y ∷ ys) x h e zero l = h 0 (omega arith)
 slice_get-push f (y ∷ ys) x h e (suc k) l = slice_get-push (λ n. f (suc n)) ys x (λ n g. h (suc n) (omega arith)) e k (omega arith)
-
-each_from-append : {A : Type 0} (f : ℕ → Item → List A) (k : ℕ) (xs ys : List Item) → each_from f k (xs ++ ys) ≡ each_from f k xs ++ each_from f (k + length xs) ys
-each_from-append f k [] ys = ap (λ n. each_from f n ys) (omega arith)
-each_from-append f k (x ∷ xs) ys =
-    let e : k + 1 + length xs ≡ k + length (x ∷ xs) = omega arith in
-    ap (λ ps. f k x ++ ps) (each_from-append f (k + 1) xs ys ∙ ap (λ n. each_from f (k + 1) xs ++ each_from f n ys) e)
-    ∙ sym (append_assoc (f k x) (each_from f (k + 1) xs) (each_from f (k + length (x ∷ xs)) ys))
-
-pub each_from_more : {A : Type 0} (f : ℕ → Item → List A) (xs : List Item) (n : ℕ) (x : Item) → n < length xs → each_from f 0 (take (n + 1) xs) ≡ each_from f 0 (take n xs) ++ f n (get_or xs n x)
-each_from_more f xs n x h =
-    let len : 0 + length (take n xs) ≡ n = omega (arith, length-take n xs) in
-    ap (each_from f 0) (take_more xs n x h)
-    ∙ each_from-append f 0 (take n xs) (get_or xs n x ∷ [])
-    ∙ ap (λ m. each_from f 0 (take n xs) ++ each_from f m (get_or xs n x ∷ [])) len
-    ∙ ap (λ ps. each_from f 0 (take n xs) ++ ps) (append-nil (f n (get_or xs n x)))
 
 pub params_few : (i : Item) (name : Name) (params : List Name) (locals : List Local) (stmts : List RawStmt) → i ≡ item.Function name params locals stmts → length params ≤ length (slots_of i)
 params_few i name params locals stmts is =

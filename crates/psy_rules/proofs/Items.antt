@@ -12,6 +12,7 @@ use Rattle.psy_tree.specs.declared.reach.Found.TheVariants as found
 use Rattle.psy_tree.specs.Scope.{Entry, SlotName, Site, first_named, slot_entries, item_name, own_slots, slots_at, slots_of}
 use Rattle.psy_tree.specs.Places.{Place, NamesItem, NamesSlot, Sited, all_at, head_places, body_places, inside_places, slot_places, item_places}
 use Rattle.psy_tree.specs.Rules.{names_slot}
+use Rattle.psy_tree.proofs.Faultless.{head_at}
 use Rattle.psy_rules.specs.declared.least.Fault.{Fault}
 use Rattle.psy_rules.specs.Tables.{StandsFor, HasInner, is_inner, slot_names, as_slots}
 use Rattle.psy_rules.specs.Heads.{name_places, after_name}
@@ -41,9 +42,6 @@ heads_split (item.Agent name clock budget locals body stmts) = refl
 slot_places_by_name : (k : ℕ) (ss : List SlotName) → slot_places k ss ≡ name_places k (slot_names ss)
 slot_places_by_name k [] = refl
 slot_places_by_name k (s ∷ ss) = ap (λ ps. NamesSlot k s.name ∷ ps) (slot_places_by_name (k + 1) ss)
-
-abbrev pub head_at : List Item → ℕ → Site
-head_at items at = record { items = items; at = at; inside = false }
 
 abbrev pub body_at : List Item → ℕ → Site
 body_at items at = record { items = items; at = at; inside = true }

@@ -30,14 +30,6 @@ judged_more f site xs i x l m n h e before here =
     here ∙ ap (judged_all site (f x)) before ∙ sym (judged_all_append site (joined (map f (take i xs))) (f x) l)
     ∙ sym (ap (λ ps. judged_all site ps l) (joined_more f xs i x h e))
 
-pub map_firsts : {A B : Type 0} (f : A → B) (xs : List A) → map (λ (s : A × B). s.0) (map (λ x. (x, f x)) xs) ≡ xs
-map_firsts f [] = refl
-map_firsts f (x ∷ xs) = ap (λ r. x ∷ r) (map_firsts f xs)
-
-pub map_seconds : {A B : Type 0} (f : A → B) (xs : List A) → map (λ (s : A × B). s.1) (map (λ x. (x, f x)) xs) ≡ map f xs
-map_seconds f [] = refl
-map_seconds f (x ∷ xs) = ap (λ r. f x ∷ r) (map_seconds f xs)
-
 all-append : (bs : List Bool) (b : Bool) → all (bs ++ b ∷ []) ≡ (all bs && b)
 all-append [] true = refl
 all-append [] false = refl
@@ -57,8 +49,3 @@ pub advances_more : (xs : List RawStmt) (i : ℕ) (x : RawStmt) → i < length x
 advances_more xs i x h e =
     ap advances_list (take_more xs i x h ∙ ap (λ y. take i xs ++ y ∷ []) e)
     ∙ ap total (map-append advances (take i xs) (x ∷ [])) ∙ total-append (map advances (take i xs)) (advances x)
-
--- A sum is positive where a part is.
-pub positive_sum : (m n : ℕ) → (nat_lt 0 m || nat_lt 0 n) ≡ nat_lt 0 (m + n)
-positive_sum zero n = ap (nat_lt 0) (omega arith)
-positive_sum (suc m) n = ap (λ b. b || nat_lt 0 n) (lt-ltb 0 (suc m) (omega arith)) ∙ sym (lt-ltb 0 (suc m + n) (omega arith))

@@ -11,6 +11,7 @@ use Rattle.psy_tree.specs.Scope.{Site}
 use Rattle.psy_rules.specs.Verdict.{Verdict}
 use Rattle.psy_tree.specs.Places.{Place, NamesItem, NamesSlot, Derives, Uses, LooksBack, Acts, Returns, Loops, HasBody, Ranges, Sited, token_of, places}
 use Rattle.psy_tree.specs.Rules.{NotAfter, number_of, is_fault}
+use Rattle.psy_tree.proofs.Among.{Among, among, contains}
 use Rattle.psy_rules.specs.declared.least.Fault.{Fault}
 use Rattle.psy_rules.specs.Judged.{is_before, noted, judged, judged_sited}
 
@@ -179,20 +180,6 @@ best_judged P site (Uses name what) l h =
     (best_noted P4 _ kind.CallsDown name.token _ (best_noted P3 _ kind.NotReceiver name.token _ (best_noted P2 _ kind.NotOwner name.token _ (best_noted P1 _ kind.WrongKind name.token _ (best_noted P _ kind.Unknown name.token l h)))))
 
 -- ---- over all places
-
-abbrev pub Among : {A : Type 0} → A → List A → Type 0
-Among x [] = ⊥
-Among x (y ∷ ys) = (x ≡ y) ⊎ Among x ys
-
-among : {A : Type 0} (x : A) (xs : List A) → Contains xs x → Among x xs
-among x [] c = absurd (omega (arith, c.1))
-among x (y ∷ ys) (zero, h, e) = inl (sym e)
-among x (y ∷ ys) (suc k, h, e) = inr (among x ys (k, omega arith, e))
-
-pub contains : {A : Type 0} (x : A) (xs : List A) → Among x xs → Contains xs x
-contains x [] h = absurd h
-contains x (y ∷ ys) (inl e) = (0, omega arith, sym e)
-contains x (y ∷ ys) (inr h) = let c : Contains ys x = contains x ys h in (suc c.0, omega (arith, c.1), c.2)
 
 -- the faults that there are, and those of more places
 abbrev pub Over : (RuleKind → ℕ → Type 0) → List Sited → RuleKind → ℕ → Type 0

@@ -1,7 +1,6 @@
 pub mod Tables
 pub mod SlotLists
 pub mod Judging
-pub mod Equations
 pub mod Twice
 pub mod Items
 pub mod Program
@@ -10,6 +9,5 @@ pub mod Verdicts
 pub mod Reach
 pub mod Lowering
 pub mod Counting
-pub mod Advances
+pub mod Room
 pub mod Wholes
-pub mod Limits

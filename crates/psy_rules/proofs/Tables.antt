@@ -11,6 +11,7 @@ use Rattle.psy_tree.specs.declared.raw.Name.{Name}
 use Rattle.psy_tree.specs.declared.reach.Found.{Found}
 use Rattle.psy_tree.specs.declared.reach.Found.TheVariants as found
 use Rattle.psy_tree.specs.Scope.{Entry, SlotName, Site, first_named, item_entries, slot_entries, item_name, own_slots, stands_for, stands_globally}
+use Rattle.psy_tree.proofs.Entries.{item_entries-append, entries_split}
 use Rattle.psy_rules.specs.Finding.{up_to}
 use Rattle.psy_rules.specs.Tables.{StandsFor, added, as_slots}
 
@@ -74,13 +75,6 @@ stands-added table es n what h q =
     ∙ ap (λ o. or_first o (cond (bytes_eq q n) (Some what) None)) (h q)
     ∙ sym (first-append q es (record { text = n; found = what } ∷ []))
 
-pub item_entries-append : (k : ℕ) (xs ys : List Item) → item_entries k (xs ++ ys) ≡ item_entries k xs ++ item_entries (k + length xs) ys
-item_entries-append k [] ys = ap (λ n. item_entries n ys) (omega arith)
-item_entries-append k (x ∷ xs) ys =
-    let e : k + 1 + length xs ≡ k + length (x ∷ xs) = omega arith in
-    ap (λ es. record { text = (item_name x).text; found = found.Item k } ∷ es)
-    (item_entries-append (k + 1) xs ys ∙ ap (λ n. item_entries (k + 1) xs ++ item_entries n ys) e)
-
 pub slot_entries-append : (k : ℕ) (xs ys : List SlotName) → slot_entries k (xs ++ ys) ≡ slot_entries k xs ++ slot_entries (k + length xs) ys
 slot_entries-append k [] ys = ap (λ n. slot_entries n ys) (omega arith)
 slot_entries-append k (x ∷ xs) ys =
@@ -131,12 +125,6 @@ first_range text k (x ∷ xs) =
     let r : InRange (k + 1) (k + length (x ∷ xs)) (first_named text (item_entries (k + 1) xs)) =
     (let P : ℕ → Type 0 = λ n. InRange (k + 1) n (first_named text (item_entries (k + 1) xs)) in subst P e (first_range text (k + 1) xs)) in
     in_cond (bytes_eq text (item_name x).text) k (k + length (x ∷ xs)) (first_named text (item_entries (k + 1) xs)) (omega arith) (in_wider k (k + length (x ∷ xs)) (first_named text (item_entries (k + 1) xs)) r)
-
-pub entries_split : (n : ℕ) (items : List Item) → n ≤ length items → item_entries 0 items ≡ item_entries 0 (take n items) ++ item_entries n (drop n items)
-entries_split n items h =
-    let len : length (take n items) ≡ n = length-take n items ∙ omega arith in
-    ap (item_entries 0) (sym (take-append-drop n items)) ∙ item_entries-append 0 (take n items) (drop n items)
-    ∙ ap (λ m. item_entries 0 (take n items) ++ item_entries m (drop n items)) (omega arith)
 
 -- ---- what a name stands for in reach
 

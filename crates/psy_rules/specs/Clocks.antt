@@ -1,16 +1,11 @@
 -- The sound clocks that a table of names leads to.
-use Rattle.std.specs.Prelude.{◌≡◌, ℕ, Bool, false, ◌||◌, nat_le, List, Option, Some, None, slice_get}
+use Rattle.std.specs.Prelude.{Bool, false, ◌||◌, nat_le, List, Option, Some, None}
 use Rattle.psy_clock.specs.declared.clock.Clock.{Clock}
-use Rattle.psy_clock.specs.Dates.{IsClock}
 use Rattle.psy_tree.specs.declared.raw.Name.{Name}
 use Rattle.psy_tree.specs.declared.raw.Item.{Item}
 use Rattle.psy_tree.specs.declared.raw.Item.TheVariants as item
 use Rattle.psy_tree.specs.Scope.{Entry, first_named}
 use Rattle.psy_tree.specs.Rules.{base, sound_found, lawful, shift_of, too_slow}
-
--- Each clock among them is lawful.
-abbrev pub AreClocks : List (Option Clock) → Type 0
-AreClocks known = (k : ℕ) (c : Clock) → slice_get known k ≡ Some (Some c) → IsClock c
 
 -- What a parent stands for.
 abbrev pub parent_clock : List Entry → List (Option Clock) → Option Name → Option Clock

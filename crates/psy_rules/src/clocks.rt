@@ -2,8 +2,9 @@
 
 ghost use Rattle.std.specs.Prelude.{◌≡◌, IfSome, Option};
 ghost use Rattle.psy_clock.specs.Dates.{IsClock};
+ghost use Rattle.psy_tree.specs.Rules.{AreClocks};
 ghost use Rattle.psy_tree.specs.Rules as rules;
-ghost use Rattle.psy_rules.specs.Clocks.{AreClocks, parent_clock, clock_of, faulty};
+ghost use Rattle.psy_rules.specs.Clocks.{parent_clock, clock_of, faulty};
 
 use crate::names::Names;
 use psy_clock::{Clock, LONGEST_PERIOD, derive};

@@ -129,7 +129,7 @@ fn judge_loop(token: u32, bounded: bool, body: Paths, least: &mut Least)
 }
 
 /// Notes what is wrong with an `advance`.
-#[tactic(auto, using(crate::proofs::Equations::places_advance))]
+#[tactic(auto, using(psy_tree::proofs::PlacesOf::places_advance))]
 fn judge_advance(
     scope: &Scope<'_>,
     token: u32,
@@ -148,7 +148,7 @@ fn judge_advance(
 }
 
 #[cycle(stmt)]
-#[tactic(auto, using(crate::proofs::Judging::judged_all_append, crate::proofs::Judging::map_firsts, crate::proofs::Judging::map_seconds, crate::proofs::Judging::positive_sum))]
+#[tactic(auto, using(crate::proofs::Judging::judged_all_append, psy_tree::proofs::Lists::map_firsts, psy_tree::proofs::Lists::map_seconds, psy_tree::proofs::Advances::positive_sum))]
 fn walk_stmt(scope: &Scope<'_>, stmt: &RawStmt, least: &mut Least) -> Paths
     requires { IsScope scope.now }
     ensures least { least.new.fault ≡ judged_all (site_of scope.now) (stmt_places stmt.now) least.old.fault }

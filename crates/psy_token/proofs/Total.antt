@@ -1,36 +1,22 @@
 -- Each text has tokens, or a first fault.
 use Rattle.std.proofs.Common.{◌≡◌, ℕ, zero, suc, ◌+◌, ◌<◌, ◌≤◌, List, [], ◌∷◌, ◌++◌, length, refl, ap, sym, subst, ◌∙◌, ◌⊎◌, inl, inr, arith, codes}
 use Rattle.std.proofs.lemmas.List.{append_assoc, length-append}
-use Rattle.psy_tree.specs.declared.token.Kind.TheVariants as kinds
 use Rattle.psy_tree.specs.declared.token.Token.{Token}
-use Rattle.psy_tree.specs.Lexemes.{IsWord, IsNumber, word_spelling}
 use Rattle.psy_tree.specs.Tokens.{Piece, Separator, Lexeme, bytes_of, text_of, Stands, AllStand, Splits, tokens_from, TokensOf}
 use Rattle.psy_tree.specs.Faults.{Fault, IsAtFault, FirstFault}
+use Rattle.psy_tree.proofs.TokenCounts.{kind_bytes}
 use Rattle.psy_token.specs.Reading.{Front, End, Whole, Faulty, front_of}
-use Rattle.psy_token.proofs.Spellings.{IsWord-spelling}
-use Rattle.psy_token.proofs.Complete.{head_of}
 use Rattle.psy_token.proofs.Sound.{Has, front_has}
 
 some_bytes : (bytes other : List ℕ) → bytes ≡ other → 0 < length other → 0 < length bytes
 some_bytes bytes other is some = omega (arith, ap length is)
-
-word_bytes : (bytes : List ℕ) → IsWord bytes → 0 < length bytes
-word_bytes [] is = absurd is
-word_bytes (b ∷ bytes) is = omega arith
-
-number_bytes : (bytes : List ℕ) → IsNumber bytes → 0 < length bytes
-number_bytes [] is = absurd is
-number_bytes (b ∷ bytes) is = omega arith
 
 -- no piece is empty
 piece_bytes : (piece : Piece) (rest : List ℕ) → Stands piece rest → 0 < length (bytes_of piece)
 piece_bytes (Separator bytes) rest (inl (b, blank, is)) = some_bytes bytes (b ∷ []) is (omega arith)
 piece_bytes (Separator bytes) rest (inr (inl (inside, is, first))) = some_bytes bytes (codes "/*" ++ inside ++ codes "*/") is (omega arith)
 piece_bytes (Separator bytes) rest (inr (inr (inside, is, each, ends))) = some_bytes bytes (codes "//" ++ inside) is (omega arith)
-piece_bytes (Lexeme (kinds.Word word) bytes) rest (is, ends) = some_bytes bytes (word_spelling word) is (word_bytes (word_spelling word) (IsWord-spelling word))
-piece_bytes (Lexeme (kinds.Name name) bytes) rest ((is, word, short, other), ends) = some_bytes bytes name is (word_bytes name word)
-piece_bytes (Lexeme (kinds.Number number) bytes) rest ((digits, is, small), ends) = number_bytes bytes digits
-piece_bytes (Lexeme (kinds.Sign sign) bytes) rest (is, ends) = some_bytes bytes ((head_of sign).0 ∷ (head_of sign).1) (is ∙ (head_of sign).2) (omega arith)
+piece_bytes (Lexeme kind bytes) rest (is, ends) = kind_bytes kind bytes is
 
 -- the text splits into pieces up to its end, or up to a fault
 Read : List ℕ → Type 0
@@ -66,13 +52,3 @@ either_of text (inr (pieces, rest, fault, behind, splits, at)) = inr (fault, len
 
 pub tokens_or_fault : (text : List ℕ) → ((tokens : List Token) × TokensOf text tokens) ⊎ ((fault : Fault) × (place : ℕ) × FirstFault text fault place)
 tokens_or_fault text = either_of text (read_up_to (length text) text (omega arith))
-
-few_tokens : (place : ℕ) (pieces : List Piece) (rest : List ℕ) → AllStand pieces rest → length (tokens_from place pieces) ≤ length (text_of pieces)
-few_tokens place [] rest stand = omega arith
-few_tokens place (Separator bytes ∷ pieces) rest stand = omega (arith, few_tokens (place + length bytes) pieces rest stand.1, length-append bytes (text_of pieces))
-few_tokens place (Lexeme kind bytes ∷ pieces) rest stand = omega (arith, few_tokens (place + length bytes) pieces rest stand.1, length-append bytes (text_of pieces), piece_bytes (Lexeme kind bytes) (text_of pieces ++ rest) stand.0)
-
--- a text has no more tokens than bytes
-pub length-TokensOf : (text : List ℕ) (tokens : List Token) → TokensOf text tokens → length tokens ≤ length text
-length-TokensOf text tokens (pieces, splits, are) =
-    omega (arith, few_tokens 0 pieces [] splits.stand, ap length are, ap length splits.whole, length-append (text_of pieces) ([]))

@@ -3,7 +3,7 @@ use Rattle.std.specs.Prelude.{◌≡◌, ◌⊎◌, ℕ, ◌+◌, ◌*◌, ◌<�
 use Rattle.std.specs.List.{Contains, list_any}
 use Rattle.std.specs.Str.{bytes_eq}
 use Rattle.psy_clock.specs.declared.clock.Clock.{Clock}
-use Rattle.psy_clock.specs.Dates.{derived}
+use Rattle.psy_clock.specs.Dates.{IsClock, derived}
 use Rattle.psy_tree.specs.declared.raw.Name.{Name}
 use Rattle.psy_tree.specs.declared.raw.Lit.{Lit}
 use Rattle.psy_tree.specs.declared.raw.Item.{Item}
@@ -148,6 +148,10 @@ sounds_from items known (i ∷ is) = sounds_from items (known ++ sound items kno
 -- By declaration, the sound clock that it is, for the first n of them.
 abbrev pub sound_clocks : List Item → ℕ → List (Option Clock)
 sound_clocks items n = sounds_from items [] (take n items)
+
+-- Each clock among them is lawful.
+abbrev pub AreClocks : List (Option Clock) → Type 0
+AreClocks known = (k : ℕ) (c : Clock) → slice_get known k ≡ Some (Some c) → IsClock c
 
 abbrev pub too_slow : Option Clock → ℕ → Bool
 too_slow None n = false

@@ -1,4 +1,4 @@
-ghost use Rattle.std.specs.Prelude.{◌≡◌, ◌<◌, ◌^◌, ◌∷◌, [], length, slice_get, IfOk, IsTrue, None, Some, vec_capacity};
+ghost use Rattle.std.specs.Prelude.{◌≡◌, ◌<◌, ◌^◌, ◌∷◌, [], length, slice_get, IfOk, IsTrue, None, Some, refl, vec_capacity};
 ghost use Rattle.psy_code.specs.Views.{Window, View};
 ghost use Rattle.psy_code.specs.Execution.{new_machine};
 ghost use Rattle.psy_code.specs.declared.code.Code.{Code};
@@ -32,6 +32,9 @@ impl Look for TestLook {
       sends = l.sends.items;
       noted = l.noted;
     } };
+
+    ghost Keeps = { λ before after. after.past ≡ before.past };
+    ghost keeps = { λ l. refl };
 
     fn past(&mut self, variable: u32, back: u32) -> i32 {
         self.noted = Some((variable, back));

@@ -1,7 +1,6 @@
 use Rattle.std.proofs.Common.{◌≡◌, take, None}
-use Rattle.psy_tree.specs.Rules.{sound_clocks}
+use Rattle.psy_tree.specs.Rules.{sound_clocks, AreClocks}
 use Rattle.psy_rules.specs.Tables.{HasInner}
-use Rattle.psy_rules.specs.Clocks.{AreClocks}
 use Rattle.psy_rules.specs.Judged.{judged_sited}
 use Rattle.psy_rules.proofs.Program.{places_to}
 use Rattle.psy_rules.proofs.judge.judge.Given as goal

@@ -1,0 +1,120 @@
+-- What names without a fault stand for in a function can be named there.
+use Rattle.std.proofs.Common.{◌≡◌, ℕ, zero, suc, ◌+◌, ◌<◌, Bool, true, false, cond, List, [], ◌∷◌, ◌++◌, map, take, replicate, length, Option, Some, None, refl, sym, ap, ◌∙◌, arith, leb-false}
+use Rattle.std.specs.Prelude.{◌&&◌, ◌||◌, nat_le, slice_get}
+use Rattle.std.proofs.lemmas.Bool.{not-false, and_parts}
+use Rattle.std.proofs.lemmas.List.{length-append, length-map}
+use Rattle.psy_tree.specs.declared.raw.Name.{Name}
+use Rattle.psy_tree.specs.declared.raw.Local.{Local}
+use Rattle.psy_tree.specs.declared.raw.RawStmt.{RawStmt}
+use Rattle.psy_tree.specs.declared.raw.Item.{Item}
+use Rattle.psy_tree.specs.declared.raw.Item.TheVariants as item
+use Rattle.psy_tree.specs.declared.reach.Asks.TheVariants as asks
+use Rattle.psy_tree.specs.declared.reach.Found.{Found}
+use Rattle.psy_tree.specs.declared.reach.Found.TheVariants as found
+use Rattle.psy_tree.specs.declared.rules.RuleKind.TheVariants as kind
+use Rattle.psy_tree.specs.declared.unit.FunctionDecl.{FunctionDecl}
+use Rattle.psy_tree.specs.Scope.{Site, SlotName, scalar, local_slot, own_slots, slots_at, stands_for}
+use Rattle.psy_tree.specs.Places.{Acts}
+use Rattle.psy_tree.specs.Rules.{is_none, is_agent, is_function, is_temporal, has_params, in_agent, in_function, slot_is_array, function_from, unsuited, below}
+use Rattle.psy_tree.specs.Stands.{inside_of, counting, number_of_item, slot_number, functions, each_from}
+use Rattle.psy_meaning.specs.Sound.{Scope, HasSlot, HasFunction, function_scope}
+use Rattle.psy_tree.proofs.Lists.{slice_get-behind}
+use Rattle.psy_tree.proofs.Numbers.{length-each, gives_functions}
+use Rattle.psy_tree.proofs.Faultless.{Fine}
+use Rattle.psy_meaning.proofs.SoundExprs.{HasValue, Suits}
+use Rattle.psy_tree.proofs.Standing.{second_false, function_is}
+
+-- ---- the functions above
+
+-- What one declaration gives stands behind what those before it give.
+given_at : {A : Type 0} (f : ℕ → Item → List A) (m : ℕ) (xs : List Item) (j n : ℕ) (i : Item) (a : A) → j < n → slice_get xs j ≡ Some i → f (m + j) i ≡ a ∷ []
+    → slice_get (each_from f m (take n xs)) (length (each_from f m (take j xs))) ≡ Some a
+given_at f m xs j zero i a less own gives = absurd (omega (arith, less))
+given_at f m [] j (suc n) i a less own gives = cc
+given_at f m (x ∷ xs) zero (suc n) i a less own gives =
+    let same : x ≡ i = cc in
+    let z : m ≡ m + 0 = omega arith in
+    ap (λ l. slice_get (l ++ each_from f (m + 1) (take n xs)) 0) (ap (f m) same ∙ ap (λ k. f k i) z ∙ gives)
+given_at f m (x ∷ xs) (suc j) (suc n) i a less own gives =
+    let next : m + 1 + j ≡ m + suc j = omega arith in
+    let e : length (f m x ++ each_from f (m + 1) (take j xs)) ≡ length (f m x) + length (each_from f (m + 1) (take j xs)) = length-append (f m x) (each_from f (m + 1) (take j xs)) in
+    ap (slice_get (f m x ++ each_from f (m + 1) (take n xs))) e
+    ∙ slice_get-behind (f m x) (each_from f (m + 1) (take n xs)) (length (each_from f (m + 1) (take j xs)))
+    ∙ given_at f (m + 1) xs j n i a (omega (arith, less)) own (ap (λ k. f k i) next ∙ gives)
+
+-- ---- slots
+
+-- a slot that is an array or isn't is there
+slot_there : (array : Bool) (ss : List SlotName) (k : ℕ) → slot_is_array array (slice_get ss k) ≡ true → k < length ss
+slot_there array [] k h = cc
+slot_there array (s ∷ ss) zero h = omega arith
+slot_there array (s ∷ ss) (suc k) h = omega (arith, slot_there array ss k h)
+
+cell_there : (n k : ℕ) → k < n → slice_get {X = ℕ} (replicate n 1) k ≡ Some 1
+cell_there zero k h = absurd (omega (arith, h))
+cell_there (suc n) zero h = refl
+cell_there (suc n) (suc k) h = cell_there n k (omega (arith, h))
+
+-- ---- the scope of a function
+
+module _ (items : List Item) (k : ℕ) (name : Name) (params : List Name) (locals : List Local) (stmts : List RawStmt) (f : FunctionDecl) (depths : List ℕ) (streams : List Bool) (own : slice_get items k ≡ Some (item.Function name params locals stmts)) (slots : f.params + length f.locals ≡ length params + length locals) where
+  abbrev site : Site
+  site = inside_of items k
+
+  abbrev scope : Scope
+  scope = function_scope (each_from (functions items) 0 (take k items)) depths streams f
+
+  here : in_function site ≡ true
+  here = ap is_function own
+
+  elsewhere : in_agent site ≡ false
+  elsewhere = ap is_agent own
+
+  slots_count : length (own_slots site) ≡ length params + length locals
+  slots_count =
+      ap (λ o. length (slots_at o)) own ∙ length-append (map scalar params) (map local_slot locals) ∙ omega (arith, length-map params scalar, length-map locals local_slot)
+
+  value_in : (o : Option Found) → (is_none o || (false && below site o)) ≡ false → unsuited site asks.Value o ≡ false → HasValue site scope o
+  value_in None known suited = cc
+  value_in (Some (found.Item j)) known suited =
+      let both = and_parts (in_agent site) (is_temporal (slice_get items j)) (not-false (in_agent site && is_temporal (slice_get items j)) suited) in
+      absurd (let no : true ≡ false = sym both.0 ∙ elsewhere in cc)
+  value_in (Some (found.Slot j)) known suited =
+      let there = slot_there false (own_slots site) j (not-false (slot_is_array false (slice_get (own_slots site) j)) suited) in
+      (1, cell_there (f.params + length f.locals) j (omega (arith, there, slots_count, slots)), omega arith)
+
+  cell_in : (o : Option Found) → (is_none o || (false && below site o)) ≡ false → unsuited site asks.Cell o ≡ false → HasSlot scope (slot_number o)
+  cell_in None known suited = cc
+  cell_in (Some (found.Item j)) known suited = cc
+  cell_in (Some (found.Slot j)) known suited =
+      let both = and_parts (in_agent site) (slot_is_array true (slice_get (own_slots site) j)) (not-false (in_agent site && slot_is_array true (slice_get (own_slots site) j)) suited) in
+      absurd (let no : true ≡ false = sym both.0 ∙ elsewhere in cc)
+
+  call_in : (o : Option Found) (count : ℕ) → (is_none o || (false && below site o)) ≡ false → unsuited site (asks.Call count) o ≡ false → (in_function site && true && function_from site o) ≡ false
+      → HasFunction scope (number_of_item is_function items o) count
+  call_in None count known suited down = cc
+  call_in (Some (found.Slot j)) count known suited down = cc
+  call_in (Some (found.Item j)) count known suited down =
+      let (n, ps, ls, ss, is, same) = function_is count (slice_get items j) (not-false (has_params count (slice_get items j)) suited) in
+      let up = second_false (in_function site && true) (is_function (slice_get items j) && nat_le k j) (ap (λ b. b && true) here) down in
+      let less = leb-false k j (second_false (is_function (slice_get items j)) (nat_le k j) (ap is_function is) up) in
+      let z : 0 + j ≡ j = omega arith in (
+        _,
+        ap (slice_get (each_from (functions items) 0 (take k items))) (sym (length-each is_function (functions items) (gives_functions items) 0 (take j items)))
+            ∙ given_at (functions items) 0 items j k (item.Function n ps ls ss) _ less is (ap (λ m. functions items m (item.Function n ps ls ss)) z),
+        sym same,
+      )
+
+  no_word : {A : Type 0} (token : ℕ) → Fine site (Acts token) → A
+  no_word token c = absurd (let no : true ≡ false = sym here ∙ c kind.WrongKind in cc)
+
+  pub function_suits : Suits site scope
+  function_suits = record {
+    values = λ n c. value_in (stands_for site n.text) (c kind.Unknown) (c kind.WrongKind);
+    cells = λ n c. cell_in (stands_for site n.text) (c kind.Unknown) (c kind.WrongKind);
+    pasts = λ token n back a c l. no_word token a;
+    messages = λ token n a c. no_word token a;
+    calls = λ n count c. call_in (stands_for site n.text) count (c kind.Unknown) (c kind.WrongKind) (c kind.CallsDown);
+    sends = λ token stream after clock a t d c. no_word token a;
+    returns = λ token c. refl;
+  }
