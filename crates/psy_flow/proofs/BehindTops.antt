@@ -6,14 +6,14 @@ use Rattle.psy_tree.specs.declared.unit.Stmt.{Stmt, roll-Stmt, para-roll-Stmt, i
 use Rattle.psy_tree.specs.declared.unit.Stmt.TheVariants as stmt
 use Rattle.psy_tree.specs.declared.unit.Stmt.TheOpen.{Stmt-F}
 use Rattle.psy_meaning.specs.Statements.{Piece, Do, Hop}
-use Rattle.psy_meaning.specs.Rest.{Rests, each_then, pieces_of, rests_step, rests_of, rest}
+use Rattle.psy_meaning.specs.Rest.{Rests, each_then, pieces_of, rests_step, rests_of, rest, rests_of_list}
 use Rattle.psy_flow.specs.declared.gauge.Gauge.{Gauge}
 use Rattle.psy_flow.specs.declared.tops.Tops.{Tops}
 use Rattle.psy_flow.specs.declared.wanted.Wanted.{Wanted}
 use Rattle.psy_flow.specs.declared.points.Search.{Search}
 use Rattle.psy_flow.specs.declared.points.Search.TheVariants as search
 use Rattle.psy_flow.specs.Tops.{in_step, falling, behind, or_else, on_from, leaving, stmt_tops, stmts_tops, pieces_tops, capped_tops}
-use Rattle.psy_flow.specs.Behind.{rests_of_list, IsBehind}
+use Rattle.psy_flow.specs.Behind.{IsBehind}
 use Rattle.psy_flow.proofs.Rests.{rests_advance, rests_if_else, rests_timed, rests_dropped, get_or-append_second, get_or-each_then}
 use Rattle.psy_flow.proofs.PointTops.{capped-falling_zero, capped-more, capped-hop, capped-hop_stmt, capped-hop_stmts, capped-pieces_of}
 

@@ -1,10 +1,11 @@
 -- Statements that hold no `advance` have a top behind them or back in the caller.
 use Rattle.std.proofs.Common.{◌≡◌, refl, sym, ap, subst, ◌∙◌, inl, inr}
-use Rattle.std.specs.Prelude.{ℕ, zero, suc, ◌+◌, max, Bool, true, false, ◌||◌, List, [], ◌∷◌, map, Option, Some, None, ◌⊎◌}
+use Rattle.std.specs.Prelude.{ℕ, zero, suc, ◌+◌, max, Bool, true, false, List, [], ◌∷◌, map, Option, Some, None, ◌⊎◌}
 use Rattle.std.specs.List.{list_any}
 use Rattle.psy_tree.specs.declared.unit.Stmt.{Stmt, roll-Stmt, fold-roll-Stmt, map-Stmt, ind-Stmt}
 use Rattle.psy_tree.specs.declared.unit.Stmt.TheOpen.{Stmt-F}
 use Rattle.psy_meaning.specs.Paths.{one_of, holds_step, holds}
+use Rattle.psy_meaning.proofs.NoWays.{or_false}
 use Rattle.psy_flow.specs.declared.gauge.Gauge.{Gauge}
 use Rattle.psy_flow.specs.declared.tops.Tops.{Tops}
 use Rattle.psy_flow.specs.declared.wanted.Wanted.{Wanted}
@@ -54,10 +55,6 @@ home_turning g (suc more) test body =
     home_left (falling (test + (in_step g + in_step g))) (behind (test + (in_step g + in_step g)) (and_on body (behind (in_step g) (turning g more test body)))) (home_falling (test + (in_step g + in_step g)))
 
 -- ---- statements
-
-or_false : (a b : Bool) → (a || b) ≡ false → (a ≡ false) × (b ≡ false)
-or_false false b h = (refl, h)
-or_false true b h = absurd (cc)
 
 module _ (g : Gauge) (wanted : Wanted) (calls : ℕ → ℕ) where
   abbrev top : Stmt → Tops

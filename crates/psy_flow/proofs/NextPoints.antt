@@ -1,5 +1,5 @@
 -- The points that a way reaches first are those for which there are tops, whatever the calls count.
-use Rattle.std.proofs.Common.{◌≡◌, ℕ, zero, suc, ◌+◌, ◌-◌, ◌<◌, ◌≤◌, Bool, true, false, Option, List, [], ◌∷◌, ◌++◌, Some, None, map, get_or, refl, sym, ap, subst, ◌∙◌, arith}
+use Rattle.std.proofs.Common.{◌≡◌, ℕ, zero, suc, ◌+◌, ◌-◌, ◌<◌, ◌≤◌, Bool, true, false, Option, List, [], ◌∷◌, ◌++◌, Some, None, get_or, refl, sym, ap, subst, ◌∙◌, arith}
 use Rattle.std.specs.Prelude.{⊤, ◌↔◌, is_some, length}
 use Rattle.std.specs.List.{All, Contains, range_with_len}
 use Rattle.std.proofs.lemmas.Bool.{false≢true}
@@ -11,7 +11,7 @@ use Rattle.psy_tree.specs.declared.unit.FunctionDecl.{FunctionDecl}
 use Rattle.psy_tree.specs.declared.unit.Stmt.{Stmt}
 use Rattle.psy_tree.specs.declared.unit.Unit.{Unit as Whole}
 use Rattle.psy_meaning.specs.Paths.{advances_in, NoneAdvances}
-use Rattle.psy_meaning.specs.Rest.{rest, rests_in, with_rests}
+use Rattle.psy_meaning.specs.Rest.{rest, rests_of_list}
 use Rattle.psy_meaning.specs.Statements.{Piece}
 use Rattle.psy_meaning.specs.Sound.{Each, IsSoundAgent}
 use Rattle.psy_meaning.specs.Units.{IsBareAgent}
@@ -139,7 +139,7 @@ module _ (unit : Whole) (number : ℕ) (agent : AgentDecl) (its : IsAgentOf unit
   own : IsSoundAgent unit number agent
   own = k.sound.agents number agent its.1
 
-  pub points_of : length agent.points ≡ length (rests_in (map with_rests agent.stmts)) + 1
+  pub points_of : length agent.points ≡ length (rests_of_list agent.stmts) + 1
   points_of = omega (arith, own.points, rests_count agent.stmts)
 
   pub few_points : length agent.points ≤ POINTS

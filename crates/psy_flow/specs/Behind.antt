@@ -1,8 +1,7 @@
 -- What comes of going to an `advance` by its number.
-use Rattle.std.specs.Prelude.{◌≡◌, ℕ, ◌+◌, ◌<◌, Bool, List, [], map, length, is_some, slice_index_or}
-use Rattle.psy_tree.specs.declared.unit.Stmt.{Stmt}
+use Rattle.std.specs.Prelude.{◌≡◌, ℕ, ◌+◌, ◌<◌, Bool, List, [], length, is_some, slice_index_or}
 use Rattle.psy_meaning.specs.Statements.{Piece}
-use Rattle.psy_meaning.specs.Rest.{Rests, rests_in, with_rests}
+use Rattle.psy_meaning.specs.Rest.{Rests}
 use Rattle.psy_flow.specs.declared.gauge.Gauge.{Gauge}
 use Rattle.psy_flow.specs.declared.gauge.Gauge.TheVariants as gauge
 use Rattle.psy_flow.specs.declared.points.Search.{Search}
@@ -10,10 +9,6 @@ use Rattle.psy_flow.specs.declared.points.Search.TheVariants as search
 use Rattle.psy_flow.specs.declared.wanted.Wanted.{Wanted}
 use Rattle.psy_flow.specs.declared.wanted.Wanted.TheVariants as ask
 use Rattle.psy_flow.specs.Tops.{called, capped_tops, pieces_tops}
-
--- The rests behind each `advance` of statements
-abbrev pub rests_of_list : List Stmt → Rests
-rests_of_list stmts = rests_in (map with_rests stmts)
 
 -- A way through the pieces goes to the point first.
 abbrev pub goes_to : List Piece → ℕ → Bool

@@ -26,7 +26,13 @@ pub fn worst(unit: &Unit, agent: u32, point: u32) -> u64
     let costs = costs_of_calls(Gauge::Steps, functions);
     let agent = &unit.agents.as_slice()[agent as usize];
     let row = &costs[..functions.len()];
-    let tops = tops_from(Gauge::Steps, Wanted::Any, row, agent.stmts.as_slice(), point);
+    let tops = tops_from(
+        Gauge::Steps,
+        Wanted::Any,
+        row,
+        agent.stmts.as_slice(),
+        point,
+    );
     tops.to.unwrap_or(0)
 }
 

@@ -3,8 +3,8 @@
 ghost use Rattle.std.specs.Prelude.{◌≡◌, ◌<◌, ◌≤◌, ◌+◌, ◌^◌, ◌++◌, ◌↔◌, ℕ, length, IfOk};
 ghost use Rattle.std.specs.List.{All, Contains, filter, range_with_len};
 ghost use Rattle.psy_tree.specs.declared.unit.Unit.{Unit as Whole};
-ghost use Rattle.psy_meaning.specs.Rest.{rest};
-ghost use Rattle.psy_flow.specs.Behind.{rests_of_list, goes_to};
+ghost use Rattle.psy_meaning.specs.Rest.{rest, rests_of_list};
+ghost use Rattle.psy_flow.specs.Behind.{goes_to};
 ghost use Rattle.psy_flow.specs.Flow.{IsOfSome, IsAgentOf, IsNext, Rises};
 
 use crate::gauge::Gauge;
@@ -18,7 +18,13 @@ use std::alloc::Global;
 // Adds those of so many points from one on that a way from the point may reach first. Where there is none among them, it is
 // done; else it looks at either half.
 #[cycle(add)]
-fn add_next(points: &mut Items<u32>, stmts: &[Stmt], point: u32, from: u32, count: u32) -> Result<(), Memory>
+fn add_next(
+    points: &mut Items<u32>,
+    stmts: &[Stmt],
+    point: u32,
+    from: u32,
+    count: u32,
+) -> Result<(), Memory>
     requires point { point ≤ length (rests_of_list stmts.now) }
     requires count { from + count < 2 ^ 32 }
     ensures { IfOk result (λ done. points.new ≡ points.old ++ filter (goes_to (rest stmts.now point)) (range_with_len from count)) }

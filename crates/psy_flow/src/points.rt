@@ -1,9 +1,9 @@
 //! The greatest counts behind a point of an agent's body.
 
 ghost use Rattle.std.specs.Prelude.{◌≡◌, ◌<◌, ◌≤◌, length};
-ghost use Rattle.psy_meaning.specs.Rest.{rest, rests_in, rests_of, with_rests};
+ghost use Rattle.psy_meaning.specs.Rest.{rest, rests_of, rests_of_list};
 ghost use Rattle.psy_flow.specs.Tops.{called, capped_tops, pieces_tops};
-ghost use Rattle.psy_flow.specs.Behind.{IsBehind, rests_of_list};
+ghost use Rattle.psy_flow.specs.Behind.{IsBehind};
 
 use crate::gauge::Gauge;
 use crate::tops::Tops;

@@ -1,4 +1,4 @@
-use Rattle.std.proofs.Common.{◌≡◌, ◌-◌, List, length, sym, ap, subst, ◌∙◌, arith}
+use Rattle.std.proofs.Common.{◌-◌, length, sym, subst, arith}
 use Rattle.psy_meaning.specs.Rest.{rest}
 use Rattle.psy_flow.specs.Behind.{goes_to}
 use Rattle.psy_flow.specs.Flow.{Rises}
