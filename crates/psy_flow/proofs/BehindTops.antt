@@ -6,13 +6,14 @@ use Rattle.psy_tree.specs.declared.unit.Stmt.{Stmt, roll-Stmt, para-roll-Stmt, i
 use Rattle.psy_tree.specs.declared.unit.Stmt.TheVariants as stmt
 use Rattle.psy_tree.specs.declared.unit.Stmt.TheOpen.{Stmt-F}
 use Rattle.psy_meaning.specs.Statements.{Piece, Do, Hop}
-use Rattle.psy_meaning.specs.Rest.{Rests, each_then, pieces_of, rests_step, rests_of, rest}
+use Rattle.psy_meaning.specs.Rest.{Rests, each_then, pieces_of, rests_step, rests_of, rest, rests_of_list}
 use Rattle.psy_flow.specs.declared.gauge.Gauge.{Gauge}
 use Rattle.psy_flow.specs.declared.tops.Tops.{Tops}
+use Rattle.psy_flow.specs.declared.wanted.Wanted.{Wanted}
 use Rattle.psy_flow.specs.declared.points.Search.{Search}
 use Rattle.psy_flow.specs.declared.points.Search.TheVariants as search
 use Rattle.psy_flow.specs.Tops.{in_step, falling, behind, or_else, on_from, leaving, stmt_tops, stmts_tops, pieces_tops, capped_tops}
-use Rattle.psy_flow.specs.Behind.{rests_of_list, IsBehind}
+use Rattle.psy_flow.specs.Behind.{IsBehind}
 use Rattle.psy_flow.proofs.Rests.{rests_advance, rests_if_else, rests_timed, rests_dropped, get_or-append_second, get_or-each_then}
 use Rattle.psy_flow.proofs.PointTops.{capped-falling_zero, capped-more, capped-hop, capped-hop_stmt, capped-hop_stmts, capped-pieces_of}
 
@@ -43,7 +44,7 @@ get_or-append_first [] ys n h = absurd (omega arith)
 get_or-append_first (x ∷ xs) ys zero h = refl
 get_or-append_first (x ∷ xs) ys (suc n) h = get_or-append_first xs ys n (omega arith)
 
-module _ (g : Gauge) (wanted : Option ℕ) (calls : ℕ → ℕ) where
+module _ (g : Gauge) (wanted : Wanted) (calls : ℕ → ℕ) where
   abbrev Here : Rests → ℕ → Search → Type 0
   Here = IsBehind g wanted calls
 

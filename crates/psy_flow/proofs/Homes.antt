@@ -1,12 +1,14 @@
 -- Statements that hold no `advance` have a top behind them or back in the caller.
 use Rattle.std.proofs.Common.{◌≡◌, refl, sym, ap, subst, ◌∙◌, inl, inr}
-use Rattle.std.specs.Prelude.{ℕ, zero, suc, ◌+◌, max, Bool, true, false, ◌||◌, List, [], ◌∷◌, map, Option, Some, None, ◌⊎◌}
+use Rattle.std.specs.Prelude.{ℕ, zero, suc, ◌+◌, max, Bool, true, false, List, [], ◌∷◌, map, Option, Some, None, ◌⊎◌}
 use Rattle.std.specs.List.{list_any}
 use Rattle.psy_tree.specs.declared.unit.Stmt.{Stmt, roll-Stmt, fold-roll-Stmt, map-Stmt, ind-Stmt}
 use Rattle.psy_tree.specs.declared.unit.Stmt.TheOpen.{Stmt-F}
 use Rattle.psy_meaning.specs.Paths.{one_of, holds_step, holds}
+use Rattle.psy_meaning.proofs.NoWays.{or_false}
 use Rattle.psy_flow.specs.declared.gauge.Gauge.{Gauge}
 use Rattle.psy_flow.specs.declared.tops.Tops.{Tops}
+use Rattle.psy_flow.specs.declared.wanted.Wanted.{Wanted}
 use Rattle.psy_flow.specs.Tops.{in_step, in_send, expr_most, plus, greater, falling, behind, on_from, leaving, or_else, and_on, turning, tops_through, stmt_tops_step, stmt_tops, stmts_tops}
 
 abbrev pub IsThere : Option ℕ → Type 0
@@ -54,11 +56,7 @@ home_turning g (suc more) test body =
 
 -- ---- statements
 
-or_false : (a b : Bool) → (a || b) ≡ false → (a ≡ false) × (b ≡ false)
-or_false false b h = (refl, h)
-or_false true b h = absurd (cc)
-
-module _ (g : Gauge) (wanted : Option ℕ) (calls : ℕ → ℕ) where
+module _ (g : Gauge) (wanted : Wanted) (calls : ℕ → ℕ) where
   abbrev top : Stmt → Tops
   top stmt = stmt_tops g wanted calls stmt
 

@@ -1,5 +1,5 @@
 -- The rests of statements, by number.
-use Rattle.std.proofs.Common.{◌≡◌, ℕ, zero, suc, ◌+◌, ◌-◌, ◌<◌, List, [], ◌∷◌, ◌++◌, map, take, drop, length, get_or, Some, None, ◌⊎◌, inl, inr, refl, sym, ap, ◌∙◌, arith}
+use Rattle.std.proofs.Common.{◌≡◌, ℕ, zero, suc, ◌+◌, ◌-◌, ◌<◌, List, [], ◌∷◌, ◌++◌, map, take, drop, length, get_or, Some, None, refl, sym, ap, ◌∙◌, arith}
 use Rattle.std.proofs.Math.Seq.{drop-cons}
 use Rattle.std.proofs.lemmas.List.{length-drop, take_all, get_or-append-add}
 use Rattle.psy_tree.specs.declared.unit.Expr.{Expr}
@@ -7,10 +7,9 @@ use Rattle.psy_tree.specs.declared.unit.Stmt.{Stmt, para-roll-Stmt, roll-Stmt}
 use Rattle.psy_tree.specs.declared.unit.Stmt.TheVariants as stmt
 use Rattle.psy_tree.specs.declared.unit.Stmt.TheOpen.{Stmt-F}
 use Rattle.psy_meaning.specs.Statements.{Piece, Do, Hop}
-use Rattle.psy_meaning.specs.Rest.{Rests, each_then, pieces_of, stmts_in, rests_step, rests_of, with_rests}
-use Rattle.psy_flow.specs.Behind.{rests_of_list}
+use Rattle.psy_meaning.specs.Rest.{Rests, each_then, pieces_of, stmts_in, rests_step, rests_of, with_rests, rests_of_list}
 
-pub dropped : {X : Type 0} (xs : List X) (i : ℕ) (x : X) → i < length xs → x ≡ get_or xs i x → drop i xs ≡ x ∷ drop (i + 1) xs
+dropped : {X : Type 0} (xs : List X) (i : ℕ) (x : X) → i < length xs → x ≡ get_or xs i x → drop i xs ≡ x ∷ drop (i + 1) xs
 dropped xs i x h e =
     let next : suc i ≡ i + 1 = omega arith in
     drop-cons xs i x h ∙ ap (λ n. get_or xs i x ∷ drop n xs) next ∙ ap (λ y. y ∷ drop (i + 1) xs) (sym e)
@@ -57,20 +56,3 @@ pub get_or-each_then : (xs : Rests) (ps : List Piece) (n : ℕ) → n < length x
 get_or-each_then [] ps n h = absurd (omega arith)
 get_or-each_then (x ∷ xs) ps zero h = refl
 get_or-each_then (x ∷ xs) ps (suc n) h = get_or-each_then xs ps n (omega arith)
-
--- ---- statements without an `advance`
-
-abbrev one_of : Stmt → Type 0
-one_of t =
-    ((slot : ℕ) × (value : Expr) × (t ≡ stmt.Set slot value))
-    ⊎ (((variable : ℕ) × (value : Expr) × (t ≡ stmt.SetCopy variable value))
-    ⊎ (((slot : ℕ) × (index : Expr) × (value : Expr) × (t ≡ stmt.SetCell slot index value))
-    ⊎ (((value : Expr) × (stream : ℕ) × (after : ℕ) × (clock : ℕ) × (t ≡ stmt.Send value stream after clock))
-    ⊎ ((value : Expr) × (t ≡ stmt.Return value)))))
-
-pub rests_none : (t : Stmt) → one_of t → rests_of t ≡ []
-rests_none t (inl h) = ap rests_of (h.2 ∙ sym (stmt.rolls-Set h.0 h.1)) ∙ para-roll-Stmt Rests rests_step (Stmt-F.Set h.0 h.1)
-rests_none t (inr (inl h)) = ap rests_of (h.2 ∙ sym (stmt.rolls-SetCopy h.0 h.1)) ∙ para-roll-Stmt Rests rests_step (Stmt-F.SetCopy h.0 h.1)
-rests_none t (inr (inr (inl h))) = ap rests_of (h.3 ∙ sym (stmt.rolls-SetCell h.0 h.1 h.2)) ∙ para-roll-Stmt Rests rests_step (Stmt-F.SetCell h.0 h.1 h.2)
-rests_none t (inr (inr (inr (inl h)))) = ap rests_of (h.4 ∙ sym (stmt.rolls-Send h.0 h.1 h.2 h.3)) ∙ para-roll-Stmt Rests rests_step (Stmt-F.Send h.0 h.1 h.2 h.3)
-rests_none t (inr (inr (inr (inr h)))) = ap rests_of (h.1 ∙ sym (stmt.rolls-Return h.0)) ∙ para-roll-Stmt Rests rests_step (Stmt-F.Return h.0)

@@ -11,6 +11,7 @@ use crate::costs::costs_of_calls;
 use crate::gauge::Gauge;
 use crate::laws::known;
 use crate::points::tops_from;
+use crate::wanted::Wanted;
 use psy_tree::{AgentDecl, Unit};
 
 /// The greatest cost of an action from a point, in instructions, cut at 1,000,000,000.
@@ -25,7 +26,13 @@ pub fn worst(unit: &Unit, agent: u32, point: u32) -> u64
     let costs = costs_of_calls(Gauge::Steps, functions);
     let agent = &unit.agents.as_slice()[agent as usize];
     let row = &costs[..functions.len()];
-    let tops = tops_from(Gauge::Steps, None, row, agent.stmts.as_slice(), point);
+    let tops = tops_from(
+        Gauge::Steps,
+        Wanted::Any,
+        row,
+        agent.stmts.as_slice(),
+        point,
+    );
     tops.to.unwrap_or(0)
 }
 
@@ -39,7 +46,7 @@ pub fn most_sends(agent: &AgentDecl, point: u32, to: u32, stream: u32) -> u64
     known();
     let tops = tops_from(
         Gauge::Sends(stream),
-        Some(to),
+        Wanted::Between(to, to),
         &[],
         agent.stmts.as_slice(),
         point,
@@ -56,7 +63,7 @@ pub fn looks(agent: &AgentDecl, point: u32, variable: u32) -> bool
     known();
     let tops = tops_from(
         Gauge::Looks(variable),
-        None,
+        Wanted::Any,
         &[],
         agent.stmts.as_slice(),
         point,

@@ -46,8 +46,12 @@ rests_of = para-Stmt Rests rests_step
 abbrev pub with_rests : Stmt → Part
 with_rests stmt = (stmt, rests_of stmt)
 
+-- The rests behind each `advance` of statements
+abbrev pub rests_of_list : List Stmt → Rests
+rests_of_list stmts = rests_in (map with_rests stmts)
+
 -- The rest behind a point: the body for point 0, and else what is behind that `advance`, a jump, and
 -- the body again.
 abbrev pub rest : List Stmt → ℕ → List Piece
 rest body zero = pieces_of body
-rest body (suc n) = slice_index_or (rests_in (map with_rests body)) n [] ++ (Hop ∷ pieces_of body)
+rest body (suc n) = slice_index_or (rests_of_list body) n [] ++ (Hop ∷ pieces_of body)

@@ -1,11 +1,11 @@
 use Rattle.std.proofs.Common.{◌≡◌, ◌∙◌, ℕ, sym, ap, arith, subst, ◌+◌}
 use Rattle.psy_tree.specs.declared.unit.Stmt.{Stmt}
 use Rattle.psy_tree.specs.declared.unit.Stmt.TheVariants as stmt
-use Rattle.psy_meaning.specs.Rest.{rests_of}
+use Rattle.psy_meaning.specs.Rest.{rests_of, rests_of_list}
 use Rattle.psy_flow.specs.declared.points.Search.{Search}
 use Rattle.psy_flow.specs.declared.points.Search.TheVariants as search
 use Rattle.psy_flow.specs.Tops.{called, capped_tops, stmt_tops, stmts_tops, in_step, falling, behind}
-use Rattle.psy_flow.specs.Behind.{rests_of_list, IsBehind}
+use Rattle.psy_flow.specs.Behind.{IsBehind}
 use Rattle.psy_flow.proofs.Rests.{rests_advance, rests_if, rests_bounded, whole_rest}
 use Rattle.psy_flow.proofs.BehindTops.{nothing_in, found_here, further_on, none_left, advance_found, if_found, if_further, timed_found, timed_further}
 use Rattle.psy_flow.proofs.points.+behind.Goals as goal

@@ -1,7 +1,8 @@
 use Rattle.std.proofs.Common.{drop}
+use Rattle.psy_meaning.specs.Rest.{rests_of_list}
 use Rattle.psy_flow.specs.declared.points.Search.{Search}
 use Rattle.psy_flow.specs.Tops.{called}
-use Rattle.psy_flow.specs.Behind.{IsBehind, rests_of_list}
+use Rattle.psy_flow.specs.Behind.{IsBehind}
 use Rattle.psy_flow.proofs.points.+behind.Given as goal
 
 abbrev pub invariant-behind-loop-place : goal.invariant-behind-loop-place

@@ -1,7 +1,8 @@
 use Rattle.std.proofs.Common.{◌≡◌, ◌∙◌, ◌-◌, ℕ, ap, subst}
+use Rattle.psy_meaning.specs.Rest.{rests_of_list}
 use Rattle.psy_flow.specs.declared.points.Search.{Search}
 use Rattle.psy_flow.specs.Tops.{called, capped_tops, stmts_tops, in_step, behind}
-use Rattle.psy_flow.specs.Behind.{rests_of_list, IsBehind}
+use Rattle.psy_flow.specs.Behind.{IsBehind}
 use Rattle.psy_flow.proofs.BehindTops.{from_head, from_point}
 use Rattle.psy_flow.proofs.points.tops_from.Goals as goal
 
