@@ -80,3 +80,49 @@ pub const WORD_DIGITS: usize = 12;
 
 /// The last date of a run.
 pub const UNTIL: u32 = 100_000;
+
+#[cfg(test)]
+mod tests {
+    use super::*;
+
+    #[test]
+    fn each_limit_is_its_number(rt: HostRuntime) {
+        let sizes = [
+            (FILE_BYTES, 262_144, "bytes of a file"),
+            (CLOCKS, 64, "clocks"),
+            (AGENTS, 64, "agents"),
+            (VARIABLES, 256, "variables"),
+            (STREAMS, 64, "streams"),
+            (FUNCTIONS, 64, "functions"),
+            (NAMES, 64, "names"),
+            (POINTS, 256, "points"),
+            (WORD_BYTES, 32, "bytes of a word"),
+            (WORD_DIGITS, 12, "digits of a word"),
+        ];
+        for (limit, number, name) in sizes {
+            assert_eq!(rt; limit, number, "{name}");
+        }
+        let numbers = [
+            (LITERAL, 2_147_483_647, "value of a number"),
+            (PERIOD, 10_000, "ticks of a period"),
+            (QUANTUM, 1_000_000, "cycles of a tick"),
+            (BUDGET, 1_000_000, "cycles of a budget"),
+            (DEPTH, 1_024, "dates looked back"),
+            (KEEP, 1_024, "dates kept"),
+            (ADVANCE, 1_024, "dates of an advance"),
+            (AFTER, 1_024, "dates of a delay"),
+            (TURNS, 65_536, "turns"),
+            (CELLS, 256, "cells"),
+            (BRACKETS, 64, "open brackets"),
+            (OPERATORS, 256, "operators"),
+            (OPEN_CALLS, 64, "open calls"),
+            (UNTIL, 100_000, "last date"),
+        ];
+        for (limit, number, name) in numbers {
+            assert_eq!(rt; limit, number, "{name}");
+        }
+        assert_eq!(rt; UNIT_SIZE, 1_048_576, "size of a unit");
+        assert_eq!(rt; COST, 1_000_000_000, "cost of an action");
+        assert_eq!(rt; SENDS, 65_537, "sends of an action");
+    }
+}

@@ -1,11 +1,12 @@
 use Rattle.std.specs.Prelude.{◌≡◌, ℕ, ◌+◌, ◌-◌, ◌*◌, ◌<◌, ◌≤◌, List, map, nat_le, nat_lt}
 use Rattle.std.specs.List.{count_by, range_with_len}
+use Rattle.psy_base.specs.declared.limits.TheConstants.{PERIOD}
 use Rattle.psy_clock.specs.declared.clock.Clock.{Clock}
 
 -- A lawful clock: its first date is below its period, which is at most 10,000 ticks.
 pub record IsClock (c : Clock) : Type 0 where
   pub first : c.first < c.period
-  pub period : c.period ≤ 10000
+  pub period : c.period ≤ PERIOD
 
 -- Date number i of the clock, from 0. All its dates are these.
 abbrev pub date : Clock → ℕ → ℕ

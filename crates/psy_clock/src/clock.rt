@@ -2,10 +2,8 @@ ghost use Rattle.std.specs.Prelude.{◌≡◌, ℕ, ◌+◌, ◌-◌, ◌*◌, �
 ghost use Rattle.std.specs.Result.{IsErrOf};
 ghost use Rattle.psy_clock.specs.Dates.{IsClock, IsDate, IsAfter, IsFrom, date, count, count_below, after_date, from_date, derived};
 
+use psy_base::limits::{ADVANCE, AFTER, PERIOD};
 use thiserror::Error;
-
-/// The greatest period of a clock, in ticks.
-pub const LONGEST_PERIOD: u32 = 10_000;
 
 /// A clock. Its dates are `first`, `first + period`, `first + 2 * period` and so on, in ticks.
 #[derive(Clone, Copy, Debug, PartialEq, Eq)]
@@ -34,13 +32,13 @@ pub fn derive(parent: Clock, n: u32, m: u32) -> Result<Clock, ClockFault>
     ensures lawful { IfOk result IsClock }
     ensures dates { IfOk result (λ c. (i : ℕ) → date c i ≡ date parent (n * i + m)) }
     ensures shift { IsErrOf result ClockFault.BadShift ↔ n ≤ m }
-    ensures slow { IsErrOf result ClockFault.TooSlow ↔ ((m < n) × (10000 < n * parent.period)) }
+    ensures slow { IsErrOf result ClockFault.TooSlow ↔ ((m < n) × (PERIOD < n * parent.period)) }
 {
     if m >= n {
         return Err(ClockFault::BadShift);
     }
     let period = u64::from(n) * u64::from(parent.period);
-    if period > u64::from(LONGEST_PERIOD) {
+    if period > u64::from(PERIOD) {
         return Err(ClockFault::TooSlow);
     }
     Ok(Clock {
@@ -65,7 +63,7 @@ impl Clock {
     pub fn after(self, t: u64, k: u32) -> u64
         requires clock { IsClock self }
         requires some { 1 ≤ k }
-        requires few { k ≤ 1024 }
+        requires few { k ≤ ADVANCE }
         requires early { t ≤ 2 ^ 40 }
         ensures after { IsAfter self t k result }
         ensures value { result ≡ after_date self t k }
@@ -76,7 +74,7 @@ impl Clock {
     /// The `k`-th date at or above `t`, counted from 0.
     pub fn from_date(self, t: u64, k: u32) -> u64
         requires clock { IsClock self }
-        requires few { k ≤ 1024 }
+        requires few { k ≤ AFTER }
         requires early { t ≤ 2 ^ 40 }
         ensures from { IsFrom self t k result }
         ensures value { result ≡ from_date self t k }

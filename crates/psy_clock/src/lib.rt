@@ -4,4 +4,4 @@
 mod clock;
 pub mod laws;
 
-pub use clock::{Clock, ClockFault, LONGEST_PERIOD, derive};
+pub use clock::{Clock, ClockFault, derive};

@@ -21,7 +21,7 @@ use Rattle.psy_tree.specs.declared.unit.StreamDecl.{StreamDecl}
 use Rattle.psy_tree.specs.declared.unit.AgentDecl.{AgentDecl}
 use Rattle.psy_tree.specs.Scope.{Site, local_slot, own_slots, slots_at, stands_for, item_at}
 use Rattle.psy_tree.specs.Places.{Uses, Ranges, cells_places}
-use Rattle.psy_tree.specs.Rules.{NoFault, is_none, is_clock, is_agent, is_function, is_stream, is_temporal, has_params, depth_of, in_agent, slot_is_array, owner_elsewhere, receiver_elsewhere, reaches, unsuited, below}
+use Rattle.psy_tree.specs.Rules.{NoFault, is_none, is_clock, is_agent, is_function, is_stream, is_temporal, has_params, declared_depth, in_agent, slot_is_array, owner_elsewhere, receiver_elsewhere, reaches, unsuited, below}
 use Rattle.psy_tree.specs.Stands.{unit_of, inside_of, counting, is_variable, number_of_item, number_at, slot_number, slot_of, variables, streams}
 use Rattle.psy_code.specs.Execution.{Copy}
 use Rattle.psy_meaning.specs.Alike.{owned_copy, owned_from}
@@ -79,7 +79,7 @@ owned_at agent first (w ∷ vs) (suc n) v e own =
 
 -- ---- variables that are looked back
 
-past_of : (items : List Item) (o : Option Item) (back : ℕ) → not (not (is_none (depth_of o))) ≡ false → reaches back (depth_of o) ≡ false → (i : Item) × (v : VarDecl) × (o ≡ Some i) × (variables items i ≡ v ∷ []) × (back < v.depth)
+past_of : (items : List Item) (o : Option Item) (back : ℕ) → not (not (is_none (declared_depth o))) ≡ false → reaches back (declared_depth o) ≡ false → (i : Item) × (v : VarDecl) × (o ≡ Some i) × (variables items i ≡ v ∷ []) × (back < v.depth)
 past_of items (Some (item.Temporal name owner clock init depth)) back known deep = (item.Temporal name owner clock init depth, _, refl, refl, leb-false depth.value back deep)
 past_of items (Some (item.Input name clock init depth)) back known deep = (item.Input name clock init depth, _, refl, refl, leb-false depth.value back deep)
 past_of items _ back known deep = cc
@@ -129,7 +129,7 @@ module _ (raw : Raw) (fault : NoFault raw) (k : ℕ) (name clock : Name) (budget
       let both = and_parts (in_agent site) (slot_is_array true (slice_get (own_slots site) j)) (not-false (in_agent site && slot_is_array true (slice_get (own_slots site) j)) suited) in
       slot_in j (array_at site locals j cells (sym (ap (λ ss. slot_is_array true (slice_get ss j)) slots_are) ∙ both.1))
 
-  past_in : (o : Option Found) (back : ℕ) → (is_none o || (false && below site o)) ≡ false → unsuited site asks.Past o ≡ false → reaches back (depth_of (item_at raw.items o)) ≡ false → HasPast scope (number_of_item is_variable raw.items o) back
+  past_in : (o : Option Found) (back : ℕ) → (is_none o || (false && below site o)) ≡ false → unsuited site asks.Past o ≡ false → reaches back (declared_depth (item_at raw.items o)) ≡ false → HasPast scope (number_of_item is_variable raw.items o) back
   past_in None back known suited deep = cc
   past_in (Some (found.Slot j)) back known suited deep = cc
   past_in (Some (found.Item j)) back known suited deep =

@@ -1,5 +1,5 @@
 -- What names without a fault stand for in a function can be named there.
-use Rattle.std.proofs.Common.{◌≡◌, ℕ, zero, suc, ◌+◌, ◌<◌, Bool, true, false, cond, List, [], ◌∷◌, ◌++◌, map, take, replicate, length, Option, Some, None, refl, sym, ap, ◌∙◌, arith, leb-false}
+use Rattle.std.proofs.Common.{◌≡◌, ℕ, zero, suc, ◌+◌, ◌<◌, Bool, true, false, List, [], ◌∷◌, map, take, replicate, length, Option, Some, None, refl, sym, ap, ◌∙◌, arith, leb-false}
 use Rattle.std.specs.Prelude.{◌&&◌, ◌||◌, nat_le, slice_get}
 use Rattle.std.proofs.lemmas.Bool.{not-false, and_parts}
 use Rattle.std.proofs.lemmas.List.{length-append, length-map}
@@ -16,31 +16,12 @@ use Rattle.psy_tree.specs.declared.unit.FunctionDecl.{FunctionDecl}
 use Rattle.psy_tree.specs.Scope.{Site, SlotName, scalar, local_slot, own_slots, slots_at, stands_for}
 use Rattle.psy_tree.specs.Places.{Acts}
 use Rattle.psy_tree.specs.Rules.{is_none, is_agent, is_function, is_temporal, has_params, in_agent, in_function, slot_is_array, function_from, unsuited, below}
-use Rattle.psy_tree.specs.Stands.{inside_of, counting, number_of_item, slot_number, functions, each_from}
+use Rattle.psy_tree.specs.Stands.{inside_of, number_of_item, slot_number, functions, each_from}
 use Rattle.psy_meaning.specs.Sound.{Scope, HasSlot, HasFunction, function_scope}
-use Rattle.psy_tree.proofs.Lists.{slice_get-behind}
-use Rattle.psy_tree.proofs.Numbers.{length-each, gives_functions}
+use Rattle.psy_tree.proofs.Numbers.{length-each, given_at, gives_functions}
 use Rattle.psy_tree.proofs.Faultless.{Fine}
 use Rattle.psy_meaning.proofs.SoundExprs.{HasValue, Suits}
 use Rattle.psy_tree.proofs.Standing.{second_false, function_is}
-
--- ---- the functions above
-
--- What one declaration gives stands behind what those before it give.
-given_at : {A : Type 0} (f : ℕ → Item → List A) (m : ℕ) (xs : List Item) (j n : ℕ) (i : Item) (a : A) → j < n → slice_get xs j ≡ Some i → f (m + j) i ≡ a ∷ []
-    → slice_get (each_from f m (take n xs)) (length (each_from f m (take j xs))) ≡ Some a
-given_at f m xs j zero i a less own gives = absurd (omega (arith, less))
-given_at f m [] j (suc n) i a less own gives = cc
-given_at f m (x ∷ xs) zero (suc n) i a less own gives =
-    let same : x ≡ i = cc in
-    let z : m ≡ m + 0 = omega arith in
-    ap (λ l. slice_get (l ++ each_from f (m + 1) (take n xs)) 0) (ap (f m) same ∙ ap (λ k. f k i) z ∙ gives)
-given_at f m (x ∷ xs) (suc j) (suc n) i a less own gives =
-    let next : m + 1 + j ≡ m + suc j = omega arith in
-    let e : length (f m x ++ each_from f (m + 1) (take j xs)) ≡ length (f m x) + length (each_from f (m + 1) (take j xs)) = length-append (f m x) (each_from f (m + 1) (take j xs)) in
-    ap (slice_get (f m x ++ each_from f (m + 1) (take n xs))) e
-    ∙ slice_get-behind (f m x) (each_from f (m + 1) (take n xs)) (length (each_from f (m + 1) (take j xs)))
-    ∙ given_at f (m + 1) xs j n i a (omega (arith, less)) own (ap (λ k. f k i) next ∙ gives)
 
 -- ---- slots
 

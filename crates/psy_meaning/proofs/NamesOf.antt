@@ -21,7 +21,7 @@ use Rattle.psy_tree.specs.Stands.{unit_of, counting, is_variable, clock_names, v
 use Rattle.psy_meaning.specs.Units.{AllDiffer, global_names}
 use Rattle.psy_tree.proofs.Among.{Among}
 use Rattle.psy_tree.proofs.Numbers.{Gives, each_from_some, flat_map-each, gives_clock_names, gives_variables, gives_streams, gives_functions, gives_agents}
-use Rattle.psy_tree.proofs.Lists.{slice_get-take, slice_get-either, slice_get_mapped}
+use Rattle.psy_tree.proofs.Lists.{only, slice_get-take, slice_get-either, slice_get_mapped}
 use Rattle.psy_tree.proofs.Faultless.{fine_head}
 
 -- ---- two declarations
@@ -111,9 +111,6 @@ module _ (raw : Raw) (none : NoFault raw) where
           apart t.1 (ap (λ j. p (Some j)) (sym i) ∙ s.3) t.3
 
 -- ---- all names
-
-only : {A : Type 0} (x a : A) → x ∷ [] ≡ a ∷ [] → x ≡ a
-only x a e = same_Some x a (ap (λ l. slice_get l 0) e)
 
 nothing : {A B : Type 0} (a : A) → [] ≡ a ∷ [] → B
 nothing a e = absurd (none-some a (ap (λ l. slice_get l 0) e))

@@ -1,5 +1,5 @@
 -- A text has at most two instructions a token.
-use Rattle.std.proofs.Common.{◌≡◌, ℕ, suc, ◌+◌, ◌*◌, ◌≤◌, List, [], ◌∷◌, ◌++◌, map, length, Some, None, refl, sym, ap, subst, arith}
+use Rattle.std.proofs.Common.{◌≡◌, ℕ, ◌+◌, ◌*◌, ◌≤◌, List, [], ◌∷◌, ◌++◌, map, length, Some, None, sym, ap, subst, arith}
 use Rattle.psy_arith.specs.declared.operators.Op2.{Op2}
 use Rattle.psy_arith.specs.declared.operators.Op2.TheVariants as op
 use Rattle.psy_tree.specs.declared.raw.Item.{Item}
@@ -18,6 +18,7 @@ use Rattle.psy_tree.specs.Scope.{Site}
 use Rattle.psy_tree.specs.Stands.{stmt_of, stmts_of, functions, agents, each_from, inside_of, head_point, global_number, unit_of, Stands}
 use Rattle.psy_meaning.specs.Sizes.{total, binary_size, stmts_size, unit_size}
 use Rattle.psy_meaning.proofs.Lowered.{size, sizes, weight, weights, size_number, size_var, size_cell, size_past, size_ready, size_take, size_unary, size_binary, size_call, size_set, size_set_cell, size_if, size_if_else, size_timed, size_bounded, size_send, size_advance, size_return}
+use Rattle.psy_tree.proofs.TokenCounts.{length_of_numbered}
 use Rattle.psy_tree.proofs.Tails.{length-Behind, behind_both, behind_start, behind_parent, behind_shift, behind_params, behind_locals, agent_locals}
 
 operator_few : (o : Op2) → binary_size o ≤ 2
@@ -100,12 +101,8 @@ program_few items k (grammar.Program.next {first = i} {others = others} d p) =
       program_few items (k + 1) p,
     )
 
-length-numbered : (n : ℕ) (tokens : List Token) → length (numbered n tokens) ≡ length tokens
-length-numbered n [] = refl
-length-numbered n (token ∷ tokens) = ap suc (length-numbered (suc n) tokens)
-
 size_of_text : (raw : Raw) (tokens : List Token) → Spells raw tokens → unit_size (unit_of raw) ≤ 2 * length tokens
-size_of_text raw tokens (grammar.Spells.program {items = items} e p) = omega (arith, length-numbered 0 tokens, ap length e, program_few items 0 p)
+size_of_text raw tokens (grammar.Spells.program {items = items} e p) = omega (arith, length_of_numbered 0 tokens, ap length e, program_few items 0 p)
 
 pub size_of_unit : (raw : Raw) (unit : Whole) (tokens : List Token) → Spells raw tokens → Stands unit raw → unit_size unit ≤ 2 * length tokens
 size_of_unit raw unit tokens spells stands = subst (λ u. unit_size u ≤ 2 * length tokens) (sym stands.numbered) (size_of_text raw tokens spells)

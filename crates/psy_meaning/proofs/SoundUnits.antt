@@ -25,6 +25,7 @@ use Rattle.psy_meaning.specs.Sound.{AreSound, function_scope, AreSoundFunctions,
 use Rattle.psy_tree.proofs.Advances.{function_quiet}
 use Rattle.psy_tree.proofs.Numbers.{each_from_more, length-each, gives_functions}
 use Rattle.psy_tree.proofs.Limits.{few_functions}
+use Rattle.psy_tree.proofs.Lists.{only}
 use Rattle.psy_tree.proofs.Numbers.{agent_from}
 use Rattle.psy_meaning.proofs.PathsOf.{quiet_of, points_of, numbers_of}
 use Rattle.psy_meaning.proofs.Eaches.{each-among, each-first, each-second}
@@ -33,9 +34,6 @@ use Rattle.psy_meaning.proofs.SoundStmts.{sound_stmts}
 use Rattle.psy_meaning.proofs.AgentNames.{agent_suits}
 use Rattle.psy_meaning.proofs.FunctionNames.{function_suits}
 use Rattle.psy_meaning.proofs.Literals.{locals_fit, slots_fit, variables_fit}
-
-only : {X : Type 0} (x y : X) → x ∷ [] ≡ y ∷ [] → x ≡ y
-only x y e = cc
 
 -- ---- functions
 

@@ -36,7 +36,7 @@ Lawful ts = AllByRecursion (λ t. NamesIt t.1) ts
 
 -- ---- tokens
 
-lexeme_lawful : (kind : Kind) (bytes : List ℕ) → lexemes.Spells kind bytes → NamesIt kind
+lexeme_lawful : (kind : Kind) (bytes : List ℕ) → lexemes.IsSpelling kind bytes → NamesIt kind
 lexeme_lawful (kinds.Name text) bytes (is, word, short, other) = (word, short)
 lexeme_lawful (kinds.Word w) bytes is = tt
 lexeme_lawful (kinds.Number n) bytes is = tt

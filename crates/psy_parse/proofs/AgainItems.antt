@@ -13,7 +13,7 @@ use Rattle.psy_tree.specs.declared.raw.Item.{Item}
 use Rattle.psy_tree.specs.Grammar.{Numbered, numbered, named, numeral, word, sign, Start, FunctionLocal, AgentLocal, Many, Further, Params, Parent, Shift, Declaration, Program, Spells}
 use Rattle.psy_tree.specs.Grammar as grammar
 use Rattle.psy_parse.specs.Reading.{◌>>=◌, name_at, number_at, after_number, after_word, after_sign, word_at, sign_at, start_at, array_at, scalar_at, local_at, locals_at, param_at, further_at, params_at, parent_at, shift_at, clock_at, temporal_at, input_at, stream_at, function_at, agent_at, declaration_at, program_at, is_end, quantum_at, text_at}
-use Rattle.psy_parse.proofs.Numbers.{length_of_numbered}
+use Rattle.psy_tree.proofs.TokenCounts.{length_of_numbered}
 use Rattle.psy_parse.proofs.AgainStmts.{shorter_block, block_begins, block_again}
 
 shorter_start : {ts rest : List Numbered} {i : Init} → Start ts i rest → length rest < length ts
@@ -159,15 +159,15 @@ reading_from_spells n {tokens = tokens} (grammar.Spells.program {quantum = quant
     rw (e, quantum_again a b quantum ts, program_again n [] p enough) refl
 
 -- it is the only one
-pub one_tree : (tokens : List Token) (raw other : Raw) → text_at (length tokens + 1) (numbered 0 tokens) ≡ Ok raw → Spells other tokens → other ≡ raw
-one_tree tokens raw other read s =
+pub only_tree : (tokens : List Token) (raw other : Raw) → text_at (length tokens + 1) (numbered 0 tokens) ≡ Ok raw → Spells other tokens → other ≡ raw
+only_tree tokens raw other read s =
     let again = reading_from_spells (length tokens + 1) s (omega arith) in
     let same : ◌≡◌ {A = Result Raw ℕ} (Ok other) (Ok raw) = sym again ∙ read in
     cc
 
 -- tokens have one tree at most
 pub Spells-unique : (tokens : List Token) (raw other : Raw) → Spells raw tokens → Spells other tokens → raw ≡ other
-Spells-unique tokens raw other s t = one_tree tokens other raw (reading_from_spells (length tokens + 1) t (omega arith)) s
+Spells-unique tokens raw other s t = only_tree tokens other raw (reading_from_spells (length tokens + 1) t (omega arith)) s
 
 -- where reading can't go on, there is none
 pub no_tree : (tokens : List Token) (n : ℕ) → text_at (length tokens + 1) (numbered 0 tokens) ≡ Err n → (raw : Raw) → Spells raw tokens → ⊥

@@ -1,9 +1,10 @@
 -- The tokens before a place, with the last one first.
 use Rattle.std.proofs.Common.{◌≡◌, ℕ, zero, suc, ◌+◌, ◌<◌, List, [], ◌∷◌, ◌++◌, length, take, get_or, map, reverse, refl, sym, ap, ◌∙◌, arith, add-one, inl, inr}
 use Rattle.std.proofs.lemmas.List.{take_more, map-append, reverse-append}
+use Rattle.psy_base.specs.declared.limits.TheConstants.{BRACKETS, OPERATORS}
 use Rattle.psy_tree.specs.declared.token.Token.{Token}
 use Rattle.psy_tree.specs.declared.token.Kind.{Kind}
-use Rattle.psy_tree.specs.Deep.{depth_of, run_of, IsTooDeep}
+use Rattle.psy_tree.specs.Deep.{bracket_depth, operators_since, IsTooDeep}
 
 abbrev pub front : List Token → ℕ → List Kind
 front tokens n = reverse (map (λ token. token.kind) (take n tokens))
@@ -17,6 +18,6 @@ front_more tokens i token lt is =
     ∙ ap (λ (t : Token). t.kind ∷ front tokens i) (sym is)
 
 -- where neither number is that of a measure, none is reached
-pub not_reached : (tokens : List Token) (i depth run : ℕ) → depth_of (front tokens (i + 1)) ≡ depth → run_of (front tokens (i + 1)) ≡ run → (depth ≡ 64 → ⊥) → (run ≡ 256 → ⊥) → IsTooDeep tokens i → ⊥
-not_reached tokens i depth run d r not_deep not_long (inl e) = not_deep (sym (rw add-one at d) ∙ e)
-not_reached tokens i depth run d r not_deep not_long (inr e) = not_long (sym (rw add-one at r) ∙ e)
+pub not_reached : (tokens : List Token) (i depth since : ℕ) → bracket_depth (front tokens (i + 1)) ≡ depth → operators_since (front tokens (i + 1)) ≡ since → (depth ≡ BRACKETS → ⊥) → (since ≡ OPERATORS → ⊥) → IsTooDeep tokens i → ⊥
+not_reached tokens i depth since d r not_deep not_long (inl e) = not_deep (sym (rw add-one at d) ∙ e)
+not_reached tokens i depth since d r not_deep not_long (inr e) = not_long (sym (rw add-one at r) ∙ e)

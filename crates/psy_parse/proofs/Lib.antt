@@ -1,9 +1,10 @@
-pub mod Numbers
 pub mod Sound
 pub mod SoundExprs
 pub mod SoundStmts
+pub mod Trees
 pub mod SoundItems
 pub mod Again
 pub mod AgainStmts
 pub mod AgainItems
+pub mod Depths
 pub mod Front

@@ -24,8 +24,8 @@ use Rattle.psy_tree.specs.declared.raw.RawExpr.{RawExpr}
 use Rattle.psy_tree.specs.declared.raw.RawExpr.TheVariants.{Number, Var, Cell, Past, Ready, Take, Unary, Binary, Call}
 use Rattle.psy_tree.specs.Grammar.{Numbered, numbered, unary_of, binary_of}
 use Rattle.psy_parse.specs.declared.cursor.Cursor.{Cursor}
-use Rattle.psy_parse.specs.declared.fault.Fault.{Fault}
-use Rattle.psy_parse.specs.declared.fault.Fault.TheVariants as faults
+use Rattle.psy_parse.specs.declared.fault.Failure.{Failure}
+use Rattle.psy_parse.specs.declared.fault.Failure.TheVariants as faults
 
 infixl 10 ◌>>=◌
 abbrev pub ◌>>=◌ : {A B : Type 0} → Result A ℕ → (A → Result B ℕ) → Result B ℕ
@@ -38,11 +38,11 @@ given (Some x) f other = f x
 given None f other = other
 
 -- what a function returned, seen by view, is what reading gives, unless memory ran out
-abbrev pub Fails : {Y : Type 0} → Fault → Result Y ℕ → Type 0
+abbrev pub Fails : {Y : Type 0} → Failure → Result Y ℕ → Type 0
 Fails faults.Memory read = Unit {0}
 Fails (faults.Stuck n) read = read ≡ Err n
 
-abbrev pub Gives : {X Y : Type 0} → (X → Y) → Result X Fault → Result Y ℕ → Type 0
+abbrev pub Gives : {X Y : Type 0} → (X → Y) → Result X Failure → Result Y ℕ → Type 0
 Gives view (Ok x) read = read ≡ Ok (view x)
 Gives view (Err e) read = Fails e read
 

@@ -1,27 +1,22 @@
 ghost use Rattle.std.specs.Prelude.{◌≡◌, ℕ, ◌<◌, ◌≤◌, List, ◌∷◌, length, MatchOption};
 ghost use Rattle.psy_tree.specs.declared.token.Kind.{Kind as kind_of_token};
-ghost use Rattle.psy_tree.specs.Deep.{opens, closes, ends_run, is_operator, depth_of, run_of, Deep, Shallow};
+ghost use Rattle.psy_tree.specs.Deep.{opens, closes, begins_anew, is_operator, bracket_depth, operators_since, Deep, Shallow};
 
 use crate::reader::{binary_of, unary_of};
+use psy_base::limits::{BRACKETS, FILE_BYTES, OPERATORS};
 use psy_tree::{Kind, Sign, Token};
-
-/// The bracket depth at which a text is too deep.
-const DEPTH: u32 = 64;
-
-/// The run of operators at which a text is too deep.
-const RUN: u32 = 256;
 
 /// The number of the first token at which a text is too deep.
 pub fn first_too_deep(tokens: &[Token]) -> Option<u32>
-    requires { length tokens.now ≤ 262144 }
+    requires { length tokens.now ≤ FILE_BYTES }
     ensures { MatchOption result (Shallow tokens.now) (λ n. Deep tokens.now n) }
 {
     let mut depth = 0;
-    let mut run = 0;
+    let mut since = 0;
     for (number, token) in tokens.iter().enumerate() {
         depth = depth_after(depth, &token.kind);
-        run = run_after(run, &token.kind);
-        if depth == DEPTH || run == RUN {
+        since = operators_after(since, &token.kind);
+        if depth == BRACKETS || since == OPERATORS {
             return Some(number as u32);
         }
     }
@@ -30,9 +25,9 @@ pub fn first_too_deep(tokens: &[Token]) -> Option<u32>
 
 /// The bracket depth after a token, by that before it.
 fn depth_after(depth: u32, kind: &Kind) -> u32
-    requires { depth < 64 }
-    ensures bound { result ≤ 64 }
-    ensures depth { (before : List kind_of_token) → depth_of before ≡ depth → depth_of (kind.now ∷ before) ≡ result }
+    requires { depth < BRACKETS }
+    ensures bound { result ≤ BRACKETS }
+    ensures depth { (before : List kind_of_token) → bracket_depth before ≡ depth → bracket_depth (kind.now ∷ before) ≡ result }
 {
     if opens(kind) {
         depth + 1
@@ -43,18 +38,18 @@ fn depth_after(depth: u32, kind: &Kind) -> u32
     }
 }
 
-/// The run of operators after a token, by that before it.
-fn run_after(run: u32, kind: &Kind) -> u32
-    requires { run < 256 }
-    ensures bound { result ≤ 256 }
-    ensures run { (before : List kind_of_token) → run_of before ≡ run → run_of (kind.now ∷ before) ≡ result }
+/// The operators since the last `;`, `{` or `}` after a token, by those before it.
+fn operators_after(since: u32, kind: &Kind) -> u32
+    requires { since < OPERATORS }
+    ensures bound { result ≤ OPERATORS }
+    ensures since { (before : List kind_of_token) → operators_since before ≡ since → operators_since (kind.now ∷ before) ≡ result }
 {
-    if ends_run(kind) {
+    if begins_anew(kind) {
         0
     } else if is_operator(kind) {
-        run + 1
+        since + 1
     } else {
-        run
+        since
     }
 }
 
@@ -76,8 +71,8 @@ fn closes(kind: &Kind) -> bool
     )
 }
 
-fn ends_run(kind: &Kind) -> bool
-    ensures { result ≡ ends_run kind.now }
+fn begins_anew(kind: &Kind) -> bool
+    ensures { result ≡ begins_anew kind.now }
 {
     matches!(
         kind,

@@ -1,7 +1,7 @@
 ghost use Rattle.psy_parse.specs.Reading.{Gives, left, in_brackets_at, past_at, args_at, behind_name_at, primary_at, operand_at, expr_at, climb_at, others_at};
 
 use crate::cursor::Cursor;
-use crate::fault::Fault;
+use crate::fault::Failure;
 use crate::reader::{
     after_number, after_sign, after_word, binary_operator, name, number, sign, stuck,
     unary_operator,
@@ -22,7 +22,7 @@ pub fn expr<'a>(
     depth: usize,
     level: u32,
     cursor: Cursor<'a>,
-) -> Result<(RawExpr, Cursor<'a>), Fault>
+) -> Result<(RawExpr, Cursor<'a>), Failure>
     ensures { Gives (λ x. (x.0, left x.1)) result (expr_at depth level (left cursor.entry)) }
 {
     if depth == 0 {
@@ -41,7 +41,7 @@ fn climb<'a>(
     level: u32,
     first: RawExpr,
     cursor: Cursor<'a>,
-) -> Result<(RawExpr, Cursor<'a>), Fault>
+) -> Result<(RawExpr, Cursor<'a>), Failure>
     ensures { Gives (λ x. (x.0, left x.1)) result (climb_at depth level first (left cursor.entry)) }
 {
     let mut whole = first;
@@ -65,7 +65,7 @@ fn operand<'a>(
     alloc: Global,
     depth: usize,
     cursor: Cursor<'a>,
-) -> Result<(RawExpr, Cursor<'a>), Fault>
+) -> Result<(RawExpr, Cursor<'a>), Failure>
     ensures { Gives (λ x. (x.0, left x.1)) result (operand_at (expr_at depth) (others_at depth) (left cursor.entry)) }
 {
     let Some((op, rest)) = unary_operator(cursor) else {
@@ -81,7 +81,7 @@ fn primary<'a>(
     alloc: Global,
     depth: usize,
     cursor: Cursor<'a>,
-) -> Result<(RawExpr, Cursor<'a>), Fault>
+) -> Result<(RawExpr, Cursor<'a>), Failure>
     ensures { Gives (λ x. (x.0, left x.1)) result (primary_at (expr_at depth 10) (others_at depth) (left cursor.entry)) }
 {
     if let Some(rest) = after_sign(cursor, Sign::OpenRound) {
@@ -115,7 +115,7 @@ fn behind_name<'a>(
     depth: usize,
     name: Name,
     cursor: Cursor<'a>,
-) -> Result<(RawExpr, Cursor<'a>), Fault>
+) -> Result<(RawExpr, Cursor<'a>), Failure>
     ensures { Gives (λ x. (x.0, left x.1)) result (behind_name_at (expr_at depth 10) (others_at depth) name (left cursor.entry)) }
 {
     if let Some(rest) = after_sign(cursor, Sign::OpenSquare) {
@@ -137,7 +137,7 @@ fn args<'a>(
     alloc: Global,
     depth: usize,
     cursor: Cursor<'a>,
-) -> Result<(Items<RawExpr>, Cursor<'a>), Fault>
+) -> Result<(Items<RawExpr>, Cursor<'a>), Failure>
     ensures { Gives (λ x. (x.0, left x.1)) result (args_at (expr_at depth 10) (others_at depth) (left cursor.entry)) }
 {
     let mut args = Items::new(alloc);
@@ -157,7 +157,7 @@ fn others<'a>(
     mut depth: usize,
     first: Items<RawExpr>,
     cursor: Cursor<'a>,
-) -> Result<(Items<RawExpr>, Cursor<'a>), Fault>
+) -> Result<(Items<RawExpr>, Cursor<'a>), Failure>
     ensures { Gives (λ x. (x.0, left x.1)) result (others_at depth first (left cursor.entry)) }
 {
     let mut args = first;
@@ -177,7 +177,7 @@ fn others<'a>(
 
 /// A name in round brackets.
 #[tactic(auto, unfolding(crate::specs::Reading::in_brackets_at))]
-fn in_brackets<'a>(alloc: Global, cursor: Cursor<'a>) -> Result<(Name, Cursor<'a>), Fault>
+fn in_brackets<'a>(alloc: Global, cursor: Cursor<'a>) -> Result<(Name, Cursor<'a>), Failure>
     ensures { Gives (λ x. (x.0, left x.1)) result (in_brackets_at (left cursor.entry)) }
 {
     let rest = sign(cursor, Sign::OpenRound)?;
@@ -188,7 +188,7 @@ fn in_brackets<'a>(alloc: Global, cursor: Cursor<'a>) -> Result<(Name, Cursor<'a
 
 /// What stands behind the word `past`.
 #[tactic(auto, unfolding(crate::specs::Reading::past_at))]
-fn past<'a>(alloc: Global, token: u32, cursor: Cursor<'a>) -> Result<(RawExpr, Cursor<'a>), Fault>
+fn past<'a>(alloc: Global, token: u32, cursor: Cursor<'a>) -> Result<(RawExpr, Cursor<'a>), Failure>
     ensures { Gives (λ x. (x.0, left x.1)) result (past_at token (left cursor.entry)) }
 {
     let rest = sign(cursor, Sign::OpenRound)?;

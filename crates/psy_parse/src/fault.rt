@@ -1,5 +1,5 @@
 ghost use Rattle.std.specs.Prelude.{◌≡◌};
-ghost use Rattle.psy_parse.specs.declared.fault.Fault.TheVariants.{Memory as no_memory};
+ghost use Rattle.psy_parse.specs.declared.fault.Failure.TheVariants.{Memory as no_memory};
 
 use psy_base::Memory;
 use std::alloc::{AllocError, AllocFailed};
@@ -20,32 +20,32 @@ pub enum ParseFault {
 
 /// Why a part of the text was not read.
 #[derive(Debug, Drop)]
-pub enum Fault {
+pub enum Failure {
     Memory,
     /// So many tokens are left where reading can't go on.
     Stuck(usize),
 }
 
-impl From<Memory> for Fault {
+impl From<Memory> for Failure {
     ghost from_gives = { λ _ e. e ≡ no_memory };
 
-    fn from(_error: Memory) -> Fault {
-        Fault::Memory
+    fn from(_error: Memory) -> Failure {
+        Failure::Memory
     }
 }
 
-impl From<AllocError> for Fault {
+impl From<AllocError> for Failure {
     ghost from_gives = { λ _ e. e ≡ no_memory };
 
-    fn from(_error: AllocError) -> Fault {
-        Fault::Memory
+    fn from(_error: AllocError) -> Failure {
+        Failure::Memory
     }
 }
 
-impl<T: Drop> From<AllocFailed<T>> for Fault {
+impl<T: Drop> From<AllocFailed<T>> for Failure {
     ghost from_gives = { λ _ e. e ≡ no_memory };
 
-    fn from(_refused: AllocFailed<T>) -> Fault {
-        Fault::Memory
+    fn from(_refused: AllocFailed<T>) -> Failure {
+        Failure::Memory
     }
 }

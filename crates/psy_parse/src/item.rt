@@ -2,7 +2,7 @@ ghost use Rattle.std.specs.Prelude.{[]};
 ghost use Rattle.psy_parse.specs.Reading.{Gives, left, start_at, array_at, scalar_at, local_at, locals_at, param_at, further_at, params_at, parent_at, shift_at, clock_at, temporal_at, input_at, stream_at, function_at, agent_at, declaration_at, program_at, quantum_at, text_at};
 
 use crate::cursor::Cursor;
-use crate::fault::Fault;
+use crate::fault::Failure;
 use crate::reader::{after_sign, after_word, at_end, name, number, sign, stuck, word};
 use crate::stmt::block;
 use psy_base::Items;
@@ -11,7 +11,7 @@ use std::alloc::Global;
 
 /// A whole program. `depth` bounds the recursion.
 #[tactic(auto, unfolding(crate::specs::Reading::text_at))]
-pub fn text(alloc: Global, depth: usize, cursor: Cursor) -> Result<Raw, Fault>
+pub fn text(alloc: Global, depth: usize, cursor: Cursor) -> Result<Raw, Failure>
     ensures { Gives (λ x. x) result (text_at depth (left cursor.entry)) }
 {
     let (quantum, rest) = quantum(cursor)?;
@@ -21,7 +21,7 @@ pub fn text(alloc: Global, depth: usize, cursor: Cursor) -> Result<Raw, Fault>
 
 /// The length of the tick, behind which the declarations stand.
 #[tactic(auto, unfolding(crate::specs::Reading::quantum_at))]
-fn quantum<'a>(cursor: Cursor<'a>) -> Result<(Lit, Cursor<'a>), Fault>
+fn quantum<'a>(cursor: Cursor<'a>) -> Result<(Lit, Cursor<'a>), Failure>
     ensures { Gives (λ x. (x.0, left x.1)) result (quantum_at (left cursor.entry)) }
 {
     let (_, rest) = word(cursor, Word::Tick)?;
@@ -32,7 +32,7 @@ fn quantum<'a>(cursor: Cursor<'a>) -> Result<(Lit, Cursor<'a>), Fault>
 
 /// The declarations up to the end of the text.
 #[tactic(auto, unfolding(crate::specs::Reading::program_at))]
-fn declarations(alloc: Global, mut depth: usize, cursor: Cursor) -> Result<Items<Item>, Fault>
+fn declarations(alloc: Global, mut depth: usize, cursor: Cursor) -> Result<Items<Item>, Failure>
     ensures { Gives (λ x. x) result (program_at depth [] (left cursor.entry)) }
 {
     let mut items = Items::new(alloc);
@@ -55,7 +55,7 @@ fn declaration<'a>(
     alloc: Global,
     depth: usize,
     cursor: Cursor<'a>,
-) -> Result<(Item, Cursor<'a>), Fault>
+) -> Result<(Item, Cursor<'a>), Failure>
     ensures { Gives (λ x. (x.0, left x.1)) result (declaration_at depth (left cursor.entry)) }
 {
     if let Some((_, rest)) = after_word(cursor, Word::Clock) {
@@ -80,7 +80,7 @@ fn declaration<'a>(
 }
 
 #[tactic(auto, unfolding(crate::specs::Reading::clock_at))]
-fn clock<'a>(alloc: Global, cursor: Cursor<'a>) -> Result<(Item, Cursor<'a>), Fault>
+fn clock<'a>(alloc: Global, cursor: Cursor<'a>) -> Result<(Item, Cursor<'a>), Failure>
     ensures { Gives (λ x. (x.0, left x.1)) result (clock_at (left cursor.entry)) }
 {
     let (name, rest) = name(alloc, cursor)?;
@@ -100,7 +100,7 @@ fn clock<'a>(alloc: Global, cursor: Cursor<'a>) -> Result<(Item, Cursor<'a>), Fa
 
 /// The clock that another is counted on.
 #[tactic(auto, unfolding(crate::specs::Reading::parent_at))]
-fn parent<'a>(alloc: Global, cursor: Cursor<'a>) -> Result<(Option<Name>, Cursor<'a>), Fault>
+fn parent<'a>(alloc: Global, cursor: Cursor<'a>) -> Result<(Option<Name>, Cursor<'a>), Failure>
     ensures { Gives (λ x. (x.0, left x.1)) result (parent_at (left cursor.entry)) }
 {
     if let Some((_, rest)) = after_word(cursor, Word::Tick) {
@@ -112,7 +112,7 @@ fn parent<'a>(alloc: Global, cursor: Cursor<'a>) -> Result<(Option<Name>, Cursor
 
 /// The shift of a clock, and the semicolon.
 #[tactic(auto, unfolding(crate::specs::Reading::shift_at))]
-fn shift<'a>(cursor: Cursor<'a>) -> Result<(Option<Lit>, Cursor<'a>), Fault>
+fn shift<'a>(cursor: Cursor<'a>) -> Result<(Option<Lit>, Cursor<'a>), Failure>
     ensures { Gives (λ x. (x.0, left x.1)) result (shift_at (left cursor.entry)) }
 {
     if let Some(rest) = after_sign(cursor, Sign::Plus) {
@@ -125,7 +125,7 @@ fn shift<'a>(cursor: Cursor<'a>) -> Result<(Option<Lit>, Cursor<'a>), Fault>
 }
 
 #[tactic(auto, unfolding(crate::specs::Reading::temporal_at))]
-fn temporal<'a>(alloc: Global, cursor: Cursor<'a>) -> Result<(Item, Cursor<'a>), Fault>
+fn temporal<'a>(alloc: Global, cursor: Cursor<'a>) -> Result<(Item, Cursor<'a>), Failure>
     ensures { Gives (λ x. (x.0, left x.1)) result (temporal_at (left cursor.entry)) }
 {
     let (variable, rest) = name(alloc, cursor)?;
@@ -149,7 +149,7 @@ fn temporal<'a>(alloc: Global, cursor: Cursor<'a>) -> Result<(Item, Cursor<'a>),
 }
 
 #[tactic(auto, unfolding(crate::specs::Reading::input_at))]
-fn input<'a>(alloc: Global, cursor: Cursor<'a>) -> Result<(Item, Cursor<'a>), Fault>
+fn input<'a>(alloc: Global, cursor: Cursor<'a>) -> Result<(Item, Cursor<'a>), Failure>
     ensures { Gives (λ x. (x.0, left x.1)) result (input_at (left cursor.entry)) }
 {
     let (variable, rest) = name(alloc, cursor)?;
@@ -170,7 +170,7 @@ fn input<'a>(alloc: Global, cursor: Cursor<'a>) -> Result<(Item, Cursor<'a>), Fa
 }
 
 #[tactic(auto, unfolding(crate::specs::Reading::stream_at))]
-fn stream<'a>(alloc: Global, cursor: Cursor<'a>) -> Result<(Item, Cursor<'a>), Fault>
+fn stream<'a>(alloc: Global, cursor: Cursor<'a>) -> Result<(Item, Cursor<'a>), Failure>
     ensures { Gives (λ x. (x.0, left x.1)) result (stream_at (left cursor.entry)) }
 {
     let (stream, rest) = name(alloc, cursor)?;
@@ -195,7 +195,7 @@ fn function<'a>(
     alloc: Global,
     depth: usize,
     cursor: Cursor<'a>,
-) -> Result<(Item, Cursor<'a>), Fault>
+) -> Result<(Item, Cursor<'a>), Failure>
     ensures { Gives (λ x. (x.0, left x.1)) result (function_at depth (left cursor.entry)) }
 {
     let (name, rest) = name(alloc, cursor)?;
@@ -214,7 +214,7 @@ fn function<'a>(
 }
 
 #[tactic(auto, unfolding(crate::specs::Reading::agent_at))]
-fn agent<'a>(alloc: Global, depth: usize, cursor: Cursor<'a>) -> Result<(Item, Cursor<'a>), Fault>
+fn agent<'a>(alloc: Global, depth: usize, cursor: Cursor<'a>) -> Result<(Item, Cursor<'a>), Failure>
     ensures { Gives (λ x. (x.0, left x.1)) result (agent_at depth (left cursor.entry)) }
 {
     let (agent, rest) = name(alloc, cursor)?;
@@ -245,7 +245,7 @@ fn params<'a>(
     alloc: Global,
     depth: usize,
     cursor: Cursor<'a>,
-) -> Result<(Items<Name>, Cursor<'a>), Fault>
+) -> Result<(Items<Name>, Cursor<'a>), Failure>
     ensures { Gives (λ x. (x.0, left x.1)) result (params_at depth (left cursor.entry)) }
 {
     let mut params = Items::new(alloc);
@@ -264,7 +264,7 @@ fn further_params<'a>(
     mut depth: usize,
     first: Items<Name>,
     cursor: Cursor<'a>,
-) -> Result<(Items<Name>, Cursor<'a>), Fault>
+) -> Result<(Items<Name>, Cursor<'a>), Failure>
     ensures { Gives (λ x. (x.0, left x.1)) result (further_at depth first (left cursor.entry)) }
 {
     let mut params = first;
@@ -283,7 +283,7 @@ fn further_params<'a>(
 }
 
 #[tactic(auto, unfolding(crate::specs::Reading::param_at))]
-fn param<'a>(alloc: Global, cursor: Cursor<'a>) -> Result<(Name, Cursor<'a>), Fault>
+fn param<'a>(alloc: Global, cursor: Cursor<'a>) -> Result<(Name, Cursor<'a>), Failure>
     ensures { Gives (λ x. (x.0, left x.1)) result (param_at (left cursor.entry)) }
 {
     let (_, rest) = word(cursor, Word::Int)?;
@@ -297,7 +297,7 @@ fn locals<'a>(
     arrays: bool,
     mut depth: usize,
     cursor: Cursor<'a>,
-) -> Result<(Items<Local>, Cursor<'a>), Fault>
+) -> Result<(Items<Local>, Cursor<'a>), Failure>
     ensures { Gives (λ x. (x.0, left x.1)) result (locals_at arrays depth [] (left cursor.entry)) }
 {
     let mut locals = Items::new(alloc);
@@ -316,7 +316,11 @@ fn locals<'a>(
 
 /// A local, behind the word `int`.
 #[tactic(auto, unfolding(crate::specs::Reading::local_at))]
-fn local<'a>(alloc: Global, arrays: bool, cursor: Cursor<'a>) -> Result<(Local, Cursor<'a>), Fault>
+fn local<'a>(
+    alloc: Global,
+    arrays: bool,
+    cursor: Cursor<'a>,
+) -> Result<(Local, Cursor<'a>), Failure>
     ensures { Gives (λ x. (x.0, left x.1)) result (local_at arrays (left cursor.entry)) }
 {
     let (name, rest) = name(alloc, cursor)?;
@@ -330,7 +334,7 @@ fn local<'a>(alloc: Global, arrays: bool, cursor: Cursor<'a>) -> Result<(Local, 
 
 /// The rest of an array's declaration, behind its opening bracket.
 #[tactic(auto, unfolding(crate::specs::Reading::array_at))]
-fn array<'a>(name: Name, cursor: Cursor<'a>) -> Result<(Local, Cursor<'a>), Fault>
+fn array<'a>(name: Name, cursor: Cursor<'a>) -> Result<(Local, Cursor<'a>), Failure>
     ensures { Gives (λ x. (x.0, left x.1)) result (array_at name (left cursor.entry)) }
 {
     let (cells, rest) = number(cursor)?;
@@ -341,7 +345,7 @@ fn array<'a>(name: Name, cursor: Cursor<'a>) -> Result<(Local, Cursor<'a>), Faul
 
 /// The rest of a variable's declaration.
 #[tactic(auto, unfolding(crate::specs::Reading::scalar_at))]
-fn scalar<'a>(name: Name, cursor: Cursor<'a>) -> Result<(Local, Cursor<'a>), Fault>
+fn scalar<'a>(name: Name, cursor: Cursor<'a>) -> Result<(Local, Cursor<'a>), Failure>
     ensures { Gives (λ x. (x.0, left x.1)) result (scalar_at name (left cursor.entry)) }
 {
     let rest = sign(cursor, Sign::Assign)?;
@@ -352,7 +356,7 @@ fn scalar<'a>(name: Name, cursor: Cursor<'a>) -> Result<(Local, Cursor<'a>), Fau
 
 /// A first value.
 #[tactic(auto, unfolding(crate::specs::Reading::start_at))]
-fn start<'a>(cursor: Cursor<'a>) -> Result<(Init, Cursor<'a>), Fault>
+fn start<'a>(cursor: Cursor<'a>) -> Result<(Init, Cursor<'a>), Failure>
     ensures { Gives (λ x. (x.0, left x.1)) result (start_at (left cursor.entry)) }
 {
     if let Some(rest) = after_sign(cursor, Sign::Minus) {

@@ -6,6 +6,7 @@ mod deep;
 mod expr;
 mod fault;
 mod item;
+pub mod laws;
 mod program;
 mod reader;
 mod stmt;

@@ -5,14 +5,15 @@ ghost use Rattle.psy_tree.specs.Deep.{Deep as deep_at, Shallow};
 
 use crate::cursor::Cursor;
 use crate::deep::first_too_deep;
-use crate::fault::{Fault, ParseFault};
+use crate::fault::{Failure, ParseFault};
 use crate::item::text;
+use psy_base::limits::FILE_BYTES;
 use psy_tree::{Raw, Token};
 use std::alloc::Global;
 
 /// The tree of a program's tokens. `Deep` comes before `Syntax`.
 pub fn parse(alloc: Global, tokens: &[Token]) -> Result<Raw, ParseFault>
-    requires { length tokens.now ≤ 262144 }
+    requires { length tokens.now ≤ FILE_BYTES }
     // The tree has these tokens, and no other tree has them.
     ensures tree { IfOk result (λ raw. Spells raw tokens.now) }
     ensures only { IfOk result (λ raw. (other : tree) → Spells other tokens.now → other ≡ raw) }
@@ -33,7 +34,7 @@ pub fn parse(alloc: Global, tokens: &[Token]) -> Result<Raw, ParseFault>
     };
     match text(alloc, tokens.len() + 1, cursor) {
         Ok(raw) => Ok(raw),
-        Err(Fault::Memory) => Err(ParseFault::Memory),
-        Err(Fault::Stuck(_)) => Err(ParseFault::Syntax),
+        Err(Failure::Memory) => Err(ParseFault::Memory),
+        Err(Failure::Stuck(_)) => Err(ParseFault::Syntax),
     }
 }

@@ -3,7 +3,7 @@ ghost use Rattle.psy_parse.specs.Reading.{Gives, Finds, left, name_at, number_at
 ghost use Rattle.psy_tree.specs.Grammar.{unary_of, binary_of};
 
 use crate::cursor::Cursor;
-use crate::fault::Fault;
+use crate::fault::Failure;
 use psy_arith::{Op1, Op2};
 use psy_base::Text;
 use psy_tree::{Kind, Lit, Name, Sign, Word};
@@ -21,16 +21,16 @@ fn first<'a>(cursor: Cursor<'a>) -> Option<(&'a Kind, Cursor<'a>)>
 }
 
 /// Reading can't go on here.
-#[tactic(auto, using(crate::proofs::Numbers::length_of_numbered))]
-pub fn stuck(cursor: Cursor) -> Fault
-    ensures { result ≡ Fault.Stuck (length (left cursor.entry)) }
+#[tactic(auto, using(psy_tree::proofs::TokenCounts::length_of_numbered))]
+pub fn stuck(cursor: Cursor) -> Failure
+    ensures { result ≡ Failure.Stuck (length (left cursor.entry)) }
 {
-    Fault::Stuck(cursor.rest.len())
+    Failure::Stuck(cursor.rest.len())
 }
 
 /// The name that stands here.
 #[tactic(auto, unfolding(crate::specs::Reading::name_at))]
-pub fn name<'a>(alloc: Global, cursor: Cursor<'a>) -> Result<(Name, Cursor<'a>), Fault>
+pub fn name<'a>(alloc: Global, cursor: Cursor<'a>) -> Result<(Name, Cursor<'a>), Failure>
     ensures { Gives (λ x. (x.0, left x.1)) result (name_at (left cursor.entry)) }
 {
     let Some((kind, rest)) = first(cursor) else {
@@ -67,7 +67,7 @@ pub fn after_number<'a>(cursor: Cursor<'a>) -> Option<(Lit, Cursor<'a>)>
 
 /// The number that stands here.
 #[tactic(auto, unfolding(crate::specs::Reading::number_at))]
-pub fn number<'a>(cursor: Cursor<'a>) -> Result<(Lit, Cursor<'a>), Fault>
+pub fn number<'a>(cursor: Cursor<'a>) -> Result<(Lit, Cursor<'a>), Failure>
     ensures { Gives (λ x. (x.0, left x.1)) result (number_at (left cursor.entry)) }
 {
     after_number(cursor).ok_or(stuck(cursor))
@@ -92,7 +92,7 @@ pub fn after_word<'a>(cursor: Cursor<'a>, word: Word) -> Option<(u32, Cursor<'a>
 
 /// The number of this word, which has to stand here.
 #[tactic(auto, unfolding(crate::specs::Reading::word_at))]
-pub fn word<'a>(cursor: Cursor<'a>, word: Word) -> Result<(u32, Cursor<'a>), Fault>
+pub fn word<'a>(cursor: Cursor<'a>, word: Word) -> Result<(u32, Cursor<'a>), Failure>
     ensures { Gives (λ x. (x.0, left x.1)) result (word_at word (left cursor.entry)) }
 {
     after_word(cursor, word).ok_or(stuck(cursor))
@@ -117,7 +117,7 @@ pub fn after_sign<'a>(cursor: Cursor<'a>, sign: Sign) -> Option<Cursor<'a>>
 
 /// What is behind this sign, which has to stand here.
 #[tactic(auto, unfolding(crate::specs::Reading::sign_at))]
-pub fn sign<'a>(cursor: Cursor<'a>, sign: Sign) -> Result<Cursor<'a>, Fault>
+pub fn sign<'a>(cursor: Cursor<'a>, sign: Sign) -> Result<Cursor<'a>, Failure>
     ensures { Gives left result (sign_at sign (left cursor.entry)) }
 {
     after_sign(cursor, sign).ok_or(stuck(cursor))
@@ -209,7 +209,7 @@ pub fn at_end(cursor: Cursor) -> bool
 pub fn optional_number<'a>(
     cursor: Cursor<'a>,
     word: Word,
-) -> Result<(Option<Lit>, Cursor<'a>), Fault>
+) -> Result<(Option<Lit>, Cursor<'a>), Failure>
     ensures { Gives (λ x. (x.0, left x.1)) result (optional_at word (left cursor.entry)) }
 {
     let Some((_, rest)) = after_word(cursor, word) else {

@@ -3,7 +3,7 @@ ghost use Rattle.psy_parse.specs.Reading.{Gives, left, expr_at, test_at, block_i
 
 use crate::cursor::Cursor;
 use crate::expr::{LEVELS, expr};
-use crate::fault::Fault;
+use crate::fault::Failure;
 use crate::reader::{after_sign, after_word, name, number, optional_number, sign, stuck, word};
 use psy_base::Items;
 use psy_tree::{Name, RawExpr, RawStmt, Sign, Word};
@@ -17,7 +17,7 @@ pub fn block<'a>(
     mut depth: usize,
     first: Items<RawStmt>,
     cursor: Cursor<'a>,
-) -> Result<(Items<RawStmt>, Cursor<'a>), Fault>
+) -> Result<(Items<RawStmt>, Cursor<'a>), Failure>
     ensures { Gives (λ x. (x.0, left x.1)) result (block_at depth first (left cursor.entry)) }
 {
     let mut stmts = first;
@@ -37,7 +37,11 @@ pub fn block<'a>(
 /// A statement, by its first word.
 #[cycle(stmt)]
 #[tactic(auto, unfolding(crate::specs::Reading::stmt_at))]
-fn stmt<'a>(alloc: Global, depth: usize, cursor: Cursor<'a>) -> Result<(RawStmt, Cursor<'a>), Fault>
+fn stmt<'a>(
+    alloc: Global,
+    depth: usize,
+    cursor: Cursor<'a>,
+) -> Result<(RawStmt, Cursor<'a>), Failure>
     ensures { Gives (λ x. (x.0, left x.1)) result (stmt_at (expr_at depth 10) (block_at depth []) (left cursor.entry)) }
 {
     if let Some((_, rest)) = after_word(cursor, Word::If) {
@@ -68,7 +72,7 @@ fn if_stmt<'a>(
     alloc: Global,
     depth: usize,
     cursor: Cursor<'a>,
-) -> Result<(RawStmt, Cursor<'a>), Fault>
+) -> Result<(RawStmt, Cursor<'a>), Failure>
     ensures { Gives (λ x. (x.0, left x.1)) result (if_at (expr_at depth 10) (block_at depth []) (left cursor.entry)) }
 {
     let (test, rest) = test(alloc, depth, cursor)?;
@@ -87,7 +91,7 @@ fn while_stmt<'a>(
     depth: usize,
     token: u32,
     cursor: Cursor<'a>,
-) -> Result<(RawStmt, Cursor<'a>), Fault>
+) -> Result<(RawStmt, Cursor<'a>), Failure>
     ensures { Gives (λ x. (x.0, left x.1)) result (while_at (expr_at depth 10) (block_at depth []) token (left cursor.entry)) }
 {
     let (test, rest) = test(alloc, depth, cursor)?;
@@ -108,7 +112,7 @@ fn block_in_braces<'a>(
     alloc: Global,
     depth: usize,
     cursor: Cursor<'a>,
-) -> Result<(Items<RawStmt>, Cursor<'a>), Fault>
+) -> Result<(Items<RawStmt>, Cursor<'a>), Failure>
     ensures { Gives (λ x. (x.0, left x.1)) result (block_in_braces_at (block_at depth []) (left cursor.entry)) }
 {
     let rest = sign(cursor, Sign::OpenBrace)?;
@@ -117,7 +121,11 @@ fn block_in_braces<'a>(
 
 /// An expression in round brackets.
 #[tactic(auto, unfolding(crate::specs::Reading::test_at))]
-fn test<'a>(alloc: Global, depth: usize, cursor: Cursor<'a>) -> Result<(RawExpr, Cursor<'a>), Fault>
+fn test<'a>(
+    alloc: Global,
+    depth: usize,
+    cursor: Cursor<'a>,
+) -> Result<(RawExpr, Cursor<'a>), Failure>
     ensures { Gives (λ x. (x.0, left x.1)) result (test_at (expr_at depth 10) (left cursor.entry)) }
 {
     let rest = sign(cursor, Sign::OpenRound)?;
@@ -132,7 +140,7 @@ fn send<'a>(
     depth: usize,
     token: u32,
     cursor: Cursor<'a>,
-) -> Result<(RawStmt, Cursor<'a>), Fault>
+) -> Result<(RawStmt, Cursor<'a>), Failure>
     ensures { Gives (λ x. (x.0, left x.1)) result (send_at (expr_at depth 10) token (left cursor.entry)) }
 {
     let (value, rest) = expr(alloc, depth, LEVELS, cursor)?;
@@ -158,7 +166,7 @@ fn advance<'a>(
     alloc: Global,
     token: u32,
     cursor: Cursor<'a>,
-) -> Result<(RawStmt, Cursor<'a>), Fault>
+) -> Result<(RawStmt, Cursor<'a>), Failure>
     ensures { Gives (λ x. (x.0, left x.1)) result (advance_at token (left cursor.entry)) }
 {
     let (count, rest) = number(cursor)?;
@@ -181,7 +189,7 @@ fn return_stmt<'a>(
     depth: usize,
     token: u32,
     cursor: Cursor<'a>,
-) -> Result<(RawStmt, Cursor<'a>), Fault>
+) -> Result<(RawStmt, Cursor<'a>), Failure>
     ensures { Gives (λ x. (x.0, left x.1)) result (return_at (expr_at depth 10) token (left cursor.entry)) }
 {
     let (value, rest) = expr(alloc, depth, LEVELS, cursor)?;
@@ -196,7 +204,7 @@ fn set<'a>(
     depth: usize,
     name: Name,
     cursor: Cursor<'a>,
-) -> Result<(RawStmt, Cursor<'a>), Fault>
+) -> Result<(RawStmt, Cursor<'a>), Failure>
     ensures { Gives (λ x. (x.0, left x.1)) result (set_at (expr_at depth 10) name (left cursor.entry)) }
 {
     let rest = sign(cursor, Sign::Assign)?;
@@ -212,7 +220,7 @@ fn set_cell<'a>(
     depth: usize,
     name: Name,
     cursor: Cursor<'a>,
-) -> Result<(RawStmt, Cursor<'a>), Fault>
+) -> Result<(RawStmt, Cursor<'a>), Failure>
     ensures { Gives (λ x. (x.0, left x.1)) result (set_cell_at (expr_at depth 10) name (left cursor.entry)) }
 {
     let (index, rest) = expr(alloc, depth, LEVELS, cursor)?;

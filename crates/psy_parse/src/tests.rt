@@ -1,4 +1,5 @@
 use crate::{ParseFault, parse};
+use psy_base::limits::FILE_BYTES;
 use psy_base::{Memory, Text};
 use psy_tree::{Item, Kind, Raw, RawStmt, Sign, Token, Word};
 use std::alloc::{AllocError, Global};
@@ -101,7 +102,7 @@ fn answer(alloc: Global, text: &str) -> Result<Raw, ParseFault> {
     let Ok(tokens) = tokens(alloc, text) else {
         return Err(ParseFault::Memory);
     };
-    if tokens.len() > 262_144 {
+    if tokens.len() > FILE_BYTES {
         return Err(ParseFault::Memory);
     }
     parse(alloc, tokens.as_slice())

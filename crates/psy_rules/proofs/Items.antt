@@ -13,21 +13,21 @@ use Rattle.psy_tree.specs.Scope.{Entry, SlotName, Site, first_named, slot_entrie
 use Rattle.psy_tree.specs.Places.{Place, NamesItem, NamesSlot, Sited, all_at, head_places, body_places, inside_places, slot_places, item_places}
 use Rattle.psy_tree.specs.Rules.{names_slot}
 use Rattle.psy_tree.proofs.Faultless.{head_at}
-use Rattle.psy_rules.specs.declared.least.Fault.{Fault}
+use Rattle.psy_rules.specs.declared.least.RuleAt.{RuleAt}
 use Rattle.psy_rules.specs.Tables.{StandsFor, HasInner, is_inner, slot_names, as_slots}
 use Rattle.psy_rules.specs.Heads.{name_places, after_name}
 use Rattle.psy_rules.specs.Judged.{judged, judged_all, judged_sited}
 use Rattle.psy_rules.proofs.Judging.{judged_all_append}
 
-sited_all : (s : Site) (ps : List Place) (qs : List Sited) (l : Option Fault) → judged_sited (all_at s ps ++ qs) l ≡ judged_sited qs (judged_all s ps l)
+sited_all : (s : Site) (ps : List Place) (qs : List Sited) (l : Option RuleAt) → judged_sited (all_at s ps ++ qs) l ≡ judged_sited qs (judged_all s ps l)
 sited_all s [] qs l = refl
 sited_all s (p ∷ ps) qs l = sited_all s ps qs (judged s p l)
 
-sited_only : (s : Site) (ps : List Place) (l : Option Fault) → judged_sited (all_at s ps) l ≡ judged_all s ps l
+sited_only : (s : Site) (ps : List Place) (l : Option RuleAt) → judged_sited (all_at s ps) l ≡ judged_all s ps l
 sited_only s [] l = refl
 sited_only s (p ∷ ps) l = sited_only s ps (judged s p l)
 
-pub sited_append : (ps qs : List Sited) (l : Option Fault) → judged_sited (ps ++ qs) l ≡ judged_sited qs (judged_sited ps l)
+pub sited_append : (ps qs : List Sited) (l : Option RuleAt) → judged_sited (ps ++ qs) l ≡ judged_sited qs (judged_sited ps l)
 sited_append [] qs l = refl
 sited_append (p ∷ ps) qs l = sited_append ps qs (judged p.site p.place l)
 
@@ -47,7 +47,7 @@ abbrev pub body_at : List Item → ℕ → Site
 body_at items at = record { items = items; at = at; inside = true }
 
 -- A declaration is judged by its name, its head, the names inside it and its body.
-pub item_judged : (items : List Item) (at : ℕ) (i : Item) (names : List Name) (l0 l1 l2 l3 l4 : Option Fault) →
+pub item_judged : (items : List Item) (at : ℕ) (i : Item) (names : List Name) (l0 l1 l2 l3 l4 : Option RuleAt) →
     l1 ≡ judged (head_at items at) (NamesItem (item_name i)) l0 → l2 ≡ judged_all (head_at items at) (after_name i) l1 →
     l3 ≡ judged_all (body_at items at) (name_places 0 names) l2 → names ≡ slot_names (slots_of i) → l4 ≡ judged_all (body_at items at) (body_places i) l3 →
     l4 ≡ judged_sited (item_places items at i) l0

@@ -1,15 +1,13 @@
-use Rattle.std.proofs.Common.{◌≡◌, ℕ, zero, suc, ◌+◌, ◌<◌, Bool, true, false, ◌||◌, ◌&&◌, List, [], ◌∷◌, ◌++◌, map, take, length, get_or, Option, refl, sym, ap, ◌∙◌, arith, append-nil, append_assoc}
-use Rattle.std.specs.Prelude.{nat_lt}
+use Rattle.std.proofs.Common.{◌≡◌, ℕ, ◌+◌, ◌<◌, Bool, true, false, ◌&&◌, List, [], ◌∷◌, ◌++◌, map, take, length, get_or, Option, refl, sym, ap, ◌∙◌, arith, append-nil, append_assoc}
 use Rattle.std.proofs.lemmas.List.{take_more, map-append}
-use Rattle.std.proofs.lemmas.Bool.{lt-ltb}
 use Rattle.psy_tree.specs.declared.raw.RawStmt.{RawStmt}
 use Rattle.psy_tree.specs.Scope.{Site}
 use Rattle.psy_tree.specs.Places.{Place, joined}
 use Rattle.psy_tree.specs.Paths.{all, total, quiet, quiet_list, advances, advances_list}
-use Rattle.psy_rules.specs.declared.least.Fault.{Fault}
+use Rattle.psy_rules.specs.declared.least.RuleAt.{RuleAt}
 use Rattle.psy_rules.specs.Judged.{judged, judged_all}
 
-pub judged_all_append : (site : Site) (ps qs : List Place) (l : Option Fault) → judged_all site (ps ++ qs) l ≡ judged_all site qs (judged_all site ps l)
+pub judged_all_append : (site : Site) (ps qs : List Place) (l : Option RuleAt) → judged_all site (ps ++ qs) l ≡ judged_all site qs (judged_all site ps l)
 judged_all_append site [] qs l = refl
 judged_all_append site (p ∷ ps) qs l = judged_all_append site ps qs (judged site p l)
 
@@ -25,7 +23,7 @@ joined_more f xs i x h e =
     ∙ ap (λ r. joined (map f (take i xs)) ++ r) (append-nil (f x))
 
 -- One more of the things whose places are judged
-pub judged_more : {X : Type 0} (f : X → List Place) (site : Site) (xs : List X) (i : ℕ) (x : X) (l m n : Option Fault) → i < length xs → get_or xs i x ≡ x → m ≡ judged_all site (joined (map f (take i xs))) l → n ≡ judged_all site (f x) m → n ≡ judged_all site (joined (map f (take (i + 1) xs))) l
+pub judged_more : {X : Type 0} (f : X → List Place) (site : Site) (xs : List X) (i : ℕ) (x : X) (l m n : Option RuleAt) → i < length xs → get_or xs i x ≡ x → m ≡ judged_all site (joined (map f (take i xs))) l → n ≡ judged_all site (f x) m → n ≡ judged_all site (joined (map f (take (i + 1) xs))) l
 judged_more f site xs i x l m n h e before here =
     here ∙ ap (judged_all site (f x)) before ∙ sym (judged_all_append site (joined (map f (take i xs))) (f x) l)
     ∙ sym (ap (λ ps. judged_all site ps l) (joined_more f xs i x h e))

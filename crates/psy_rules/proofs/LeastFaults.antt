@@ -1,5 +1,4 @@
-use Rattle.std.proofs.Common.{◌≡◌, ◌⊎◌, ℕ, zero, suc, Bool, true, false, cond, List, [], ◌∷◌, Option, Some, None, refl, sym, ap, ◌∙◌, subst, inl, inr, arith}
-use Rattle.std.specs.List.{Contains}
+use Rattle.std.proofs.Common.{◌≡◌, ◌⊎◌, ℕ, Bool, true, false, cond, List, [], ◌∷◌, Option, Some, None, refl, sym, ap, ◌∙◌, subst, inl, inr, arith}
 use Rattle.std.proofs.lemmas.Bool.Decides.{nat_tests}
 use Rattle.psy_tree.specs.declared.raw.Raw.{Raw}
 use Rattle.psy_tree.specs.declared.rules.RuleKind.{RuleKind}
@@ -10,13 +9,13 @@ use Rattle.psy_tree.specs.declared.reach.Asks.{Asks}
 use Rattle.psy_tree.specs.Scope.{Site}
 use Rattle.psy_rules.specs.Verdict.{Verdict}
 use Rattle.psy_tree.specs.Places.{Place, NamesItem, NamesSlot, Derives, Uses, LooksBack, Acts, Returns, Loops, HasBody, Ranges, Sited, token_of, places}
-use Rattle.psy_tree.specs.Rules.{NotAfter, number_of, is_fault}
+use Rattle.psy_tree.specs.Rules.{NotAfter, rule_number, is_fault}
 use Rattle.psy_tree.proofs.Among.{Among, among, contains}
-use Rattle.psy_rules.specs.declared.least.Fault.{Fault}
+use Rattle.psy_rules.specs.declared.least.RuleAt.{RuleAt}
 use Rattle.psy_rules.specs.Judged.{is_before, noted, judged, judged_sited}
 
 -- l is the least of the faults that there are.
-abbrev pub Best : (RuleKind → ℕ → Type 0) → Option Fault → Type 0
+abbrev pub Best : (RuleKind → ℕ → Type 0) → Option RuleAt → Type 0
 Best P None = (k : RuleKind) (t : ℕ) → P k t → ⊥
 Best P (Some f) = P f.kind f.token × ((k : RuleKind) (t : ℕ) → P k t → NotAfter f.kind f.token k t)
 
@@ -24,7 +23,7 @@ Best P (Some f) = P f.kind f.token × ((k : RuleKind) (t : ℕ) → P k t → No
 abbrev pub With : (RuleKind → ℕ → Type 0) → Bool → RuleKind → ℕ → RuleKind → ℕ → Type 0
 With P b kind token k t = P k t ⊎ ((b ≡ true) × (k ≡ kind) × (t ≡ token))
 
-best_same : (P Q : RuleKind → ℕ → Type 0) (l : Option Fault) → ((k : RuleKind) (t : ℕ) → P k t → Q k t) → ((k : RuleKind) (t : ℕ) → Q k t → P k t) → Best P l → Best Q l
+best_same : (P Q : RuleKind → ℕ → Type 0) (l : Option RuleAt) → ((k : RuleKind) (t : ℕ) → P k t → Q k t) → ((k : RuleKind) (t : ℕ) → Q k t → P k t) → Best P l → Best Q l
 best_same P Q None to from h = λ k t q. h k t (from k t q)
 best_same P Q (Some f) to from h = (to f.kind f.token h.0, λ k t q. h.1 k t (from k t q))
 
@@ -32,17 +31,17 @@ not_after_refl : (k : RuleKind) (s : ℕ) → NotAfter k s k s
 not_after_refl k s = inr (refl, omega arith)
 
 not_after_same : (k l : RuleKind) (s t : ℕ) → l ≡ k → t ≡ s → NotAfter k s l t
-not_after_same k l s t e f = inr (sym f, omega (arith, ap number_of e))
+not_after_same k l s t e f = inr (sym f, omega (arith, ap rule_number e))
 
 -- what comes before f comes before all that f isn't after
-before_then : (k : RuleKind) (s : ℕ) (f : Fault) (l : RuleKind) (t : ℕ) → is_before k s (Some f) ≡ true → NotAfter f.kind f.token l t → NotAfter k s l t
+before_then : (k : RuleKind) (s : ℕ) (f : RuleAt) (l : RuleKind) (t : ℕ) → is_before k s (Some f) ≡ true → NotAfter f.kind f.token l t → NotAfter k s l t
 before_then k s f l t b h = grind (arith, nat_tests)
 
 -- what doesn't come before f isn't before it
-behind : (k : RuleKind) (s : ℕ) (f : Fault) → is_before k s (Some f) ≡ false → NotAfter f.kind f.token k s
+behind : (k : RuleKind) (s : ℕ) (f : RuleAt) → is_before k s (Some f) ≡ false → NotAfter f.kind f.token k s
 behind k s f b = grind (arith, nat_tests)
 
-noted_new : (P : RuleKind → ℕ → Type 0) (kind : RuleKind) (token : ℕ) (f : Fault) (b : Bool) → is_before kind token (Some f) ≡ b → Best P (Some f) → Best (With P true kind token) (cond b (Some (record { kind = kind; token = token })) (Some f))
+noted_new : (P : RuleKind → ℕ → Type 0) (kind : RuleKind) (token : ℕ) (f : RuleAt) (b : Bool) → is_before kind token (Some f) ≡ b → Best P (Some f) → Best (With P true kind token) (cond b (Some (record { kind = kind; token = token })) (Some f))
 noted_new P kind token f true e h = (
   inr (refl, refl, refl),
   λ k t q. elim q [
@@ -61,7 +60,7 @@ noted_new P kind token f false e h = (
   ],
 )
 
-pub best_noted : (P : RuleKind → ℕ → Type 0) (b : Bool) (kind : RuleKind) (token : ℕ) (l : Option Fault) → Best P l → Best (With P b kind token) (noted b kind token l)
+pub best_noted : (P : RuleKind → ℕ → Type 0) (b : Bool) (kind : RuleKind) (token : ℕ) (l : Option RuleAt) → Best P l → Best (With P b kind token) (noted b kind token l)
 unfolding noted
 best_noted P false kind token l h = best_same P (With P false kind token) l (λ k t p. inl p) (λ k t q. elim q [ inl p ↦ p | inr s ↦ (let no : false ≡ true = s.0 in cc) ]) h
 best_noted P true kind token None h = (inr (refl, refl, refl), λ k t q. elim q [ inl p ↦ absurd (h k t p) | inr s ↦ not_after_same kind k token t s.1 s.2 ])
@@ -71,7 +70,7 @@ best_noted P true kind token (Some f) h = noted_new P kind token f (is_before ki
 abbrev pub At : (RuleKind → ℕ → Type 0) → Site → Place → RuleKind → ℕ → Type 0
 At P site p k t = P k t ⊎ ((is_fault k site p ≡ true) × (t ≡ token_of p))
 
-one : (P : RuleKind → ℕ → Type 0) (site : Site) (p : Place) (kind : RuleKind) (b : Bool) (l : Option Fault) → ((k : RuleKind) → is_fault k site p ≡ true → k ≡ kind) → is_fault kind site p ≡ b → Best P l → Best (At P site p) (noted b kind (token_of p) l)
+one : (P : RuleKind → ℕ → Type 0) (site : Site) (p : Place) (kind : RuleKind) (b : Bool) (l : Option RuleAt) → ((k : RuleKind) → is_fault k site p ≡ true → k ≡ kind) → is_fault kind site p ≡ b → Best P l → Best (At P site p) (noted b kind (token_of p) l)
 one P site p kind b l only e h =
     best_same (With P b kind (token_of p)) (At P site p) (noted b kind (token_of p) l)
     (λ k t q. elim q [
@@ -152,7 +151,7 @@ with_at P Q site p kind f k t q = elim q [
   | inr s ↦ (let R : RuleKind → Type 0 = λ x. is_fault x site p ≡ true in inr (subst R (sym s.1) s.0, s.2))
 ]
 
-pub best_judged : (P : RuleKind → ℕ → Type 0) (site : Site) (p : Place) (l : Option Fault) → Best P l → Best (At P site p) (judged site p l)
+pub best_judged : (P : RuleKind → ℕ → Type 0) (site : Site) (p : Place) (l : Option RuleAt) → Best P l → Best (At P site p) (judged site p l)
 unfolding judged
 best_judged P site (NamesItem name) l h = one P site (NamesItem name) kind.Twice _ l (only_NamesItem site name) refl h
 best_judged P site (NamesSlot n name) l h = one P site (NamesSlot n name) kind.Twice _ l (only_NamesSlot site n name) refl h
@@ -185,7 +184,7 @@ best_judged P site (Uses name what) l h =
 abbrev pub Over : (RuleKind → ℕ → Type 0) → List Sited → RuleKind → ℕ → Type 0
 Over P ps k t = P k t ⊎ ((p : Sited) × Among p ps × (is_fault k p.site p.place ≡ true) × (t ≡ token_of p.place))
 
-best_sited : (P : RuleKind → ℕ → Type 0) (ps : List Sited) (l : Option Fault) → Best P l → Best (Over P ps) (judged_sited ps l)
+best_sited : (P : RuleKind → ℕ → Type 0) (ps : List Sited) (l : Option RuleAt) → Best P l → Best (Over P ps) (judged_sited ps l)
 best_sited P [] l h = best_same P (Over P []) l (λ k t q. inl q) (λ k t q. elim q [ inl there ↦ there | inr s ↦ absurd s.1 ]) h
 best_sited P (p ∷ ps) l h =
     best_same (Over (At P p.site p.place) ps) (Over P (p ∷ ps)) (judged_sited (p ∷ ps) l)
@@ -205,7 +204,7 @@ best_sited P (p ∷ ps) l h =
 abbrev pub Nothing : RuleKind → ℕ → Type 0
 Nothing k t = ⊥
 
-verdict_of : (raw : Raw) (l : Option Fault) → Best (Over Nothing (places raw)) l → Verdict raw l
+verdict_of : (raw : Raw) (l : Option RuleAt) → Best (Over Nothing (places raw)) l → Verdict raw l
 verdict_of raw None h = λ k t f. h k t (inr (f.0, among f.0 (places raw) f.1, f.2, sym f.3))
 verdict_of raw (Some f) h = record {
   present = elim h.0 [ inl none ↦ absurd none | inr s ↦ (s.0, contains s.0 (places raw) s.1, s.2, sym s.3) ];
@@ -213,5 +212,5 @@ verdict_of raw (Some f) h = record {
 }
 
 -- What is noted over all places of a program is its least fault, or there is none.
-pub best_of : (raw : Raw) (l : Option Fault) → l ≡ judged_sited (places raw) None → Verdict raw l
-best_of raw l e = verdict_of raw l (let B : Option Fault → Type 0 = Best (Over Nothing (places raw)) in subst B (sym e) (best_sited Nothing (places raw) None (λ k t h. h)))
+pub best_of : (raw : Raw) (l : Option RuleAt) → l ≡ judged_sited (places raw) None → Verdict raw l
+best_of raw l e = verdict_of raw l (let B : Option RuleAt → Type 0 = Best (Over Nothing (places raw)) in subst B (sym e) (best_sited Nothing (places raw) None (λ k t h. h)))

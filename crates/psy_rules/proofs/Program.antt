@@ -1,19 +1,17 @@
-use Rattle.std.proofs.Common.{◌≡◌, ℕ, zero, suc, ◌+◌, ◌<◌, ◌≤◌, false, List, [], ◌∷◌, ◌++◌, take, length, get_or, Option, Some, None, refl, sym, ap, ◌∙◌, subst, inl, inr, ◌⊎◌, arith, append_assoc, append-nil}
-use Rattle.std.specs.Prelude.{slice_get, IfSome}
+use Rattle.std.proofs.Common.{◌≡◌, ℕ, ◌+◌, ◌<◌, ◌≤◌, false, List, [], ◌∷◌, ◌++◌, take, length, get_or, Option, None, sym, ap, ◌∙◌, arith, append_assoc, append-nil}
 use Rattle.std.proofs.lemmas.List.{take_more, take_all, length-take}
-use Rattle.psy_clock.specs.declared.clock.Clock.{Clock}
-use Rattle.psy_clock.specs.Dates.{IsClock}
+use Rattle.psy_base.specs.declared.limits.TheConstants.{QUANTUM}
 use Rattle.psy_tree.specs.declared.raw.Item.{Item}
 use Rattle.psy_tree.specs.declared.raw.Raw.{Raw}
 use Rattle.psy_tree.specs.Places.{Ranges, Sited, item_places, places_from, places}
-use Rattle.psy_tree.specs.Rules.{sound, sounds_from, sound_clocks}
-use Rattle.psy_rules.specs.declared.least.Fault.{Fault}
+use Rattle.psy_tree.specs.Rules.{sounds_from, sound_clocks}
+use Rattle.psy_rules.specs.declared.least.RuleAt.{RuleAt}
 use Rattle.psy_rules.specs.Judged.{judged_sited}
 use Rattle.psy_rules.proofs.Items.{sited_append}
 
 -- the places of the declarations from number k on that are there among the whole program's
 abbrev pub start : Raw → Sited
-start raw = record { site = record { items = raw.items; at = 0; inside = false }; place = Ranges raw.quantum 1 1000000 }
+start raw = record { site = record { items = raw.items; at = 0; inside = false }; place = Ranges raw.quantum 1 QUANTUM }
 
 -- the places of a program's first n declarations
 abbrev pub places_to : Raw → ℕ → List Sited
@@ -35,7 +33,7 @@ places_more raw n x h e =
     ∙ ap (λ m. places_from raw.items 0 (take n raw.items) ++ places_from raw.items m (x ∷ [])) len
     ∙ ap (λ ps. places_from raw.items 0 (take n raw.items) ++ ps) (append-nil (item_places raw.items n x)))
 
-pub least_more : (raw : Raw) (n : ℕ) (x : Item) (l m : Option Fault) → n < length raw.items → get_or raw.items n x ≡ x → l ≡ judged_sited (places_to raw n) None → m ≡ judged_sited (item_places raw.items n x) l → m ≡ judged_sited (places_to raw (n + 1)) None
+pub least_more : (raw : Raw) (n : ℕ) (x : Item) (l m : Option RuleAt) → n < length raw.items → get_or raw.items n x ≡ x → l ≡ judged_sited (places_to raw n) None → m ≡ judged_sited (item_places raw.items n x) l → m ≡ judged_sited (places_to raw (n + 1)) None
 least_more raw n x l m h e before here =
     here ∙ ap (judged_sited (item_places raw.items n x)) before ∙ sym (sited_append (places_to raw n) (item_places raw.items n x) None)
     ∙ sym (ap (λ ps. judged_sited ps None) (places_more raw n x h e))

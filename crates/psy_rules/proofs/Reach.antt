@@ -1,6 +1,7 @@
 use Rattle.std.proofs.Common.{◌≡◌, ℕ, ◌+◌, ◌<◌, ◌≤◌, Bool, true, false, cond, List, [], ◌∷◌, take, drop, length, Option, Some, None, refl, sym, subst, arith}
 use Rattle.std.specs.Str.{bytes_eq}
 use Rattle.std.proofs.lemmas.List.{length-take, length-drop}
+use Rattle.psy_base.specs.declared.limits.TheConstants.{NAMES}
 use Rattle.psy_tree.specs.declared.raw.Item.{Item}
 use Rattle.psy_tree.specs.declared.reach.Found.{Found}
 use Rattle.psy_tree.specs.declared.reach.Found.TheVariants as found
@@ -50,7 +51,7 @@ numbers_within items before n None h w = refl
 numbers_within items before n (Some (found.Slot k)) h w = refl
 numbers_within items before n (Some (found.Item k)) h w = h k w
 
-pub slot_within : (m n : ℕ) (o : Option Found) → n ≤ 64 → Within m n o → slot_number o ≤ 64
+pub slot_within : (m n : ℕ) (o : Option Found) → n ≤ NAMES → Within m n o → slot_number o ≤ NAMES
 slot_within m n None h w = omega arith
 slot_within m n (Some (found.Item k)) h w = omega arith
 slot_within m n (Some (found.Slot k)) h w = omega (arith, w)

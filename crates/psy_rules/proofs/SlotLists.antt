@@ -6,7 +6,7 @@ use Rattle.psy_tree.specs.declared.raw.Local.{Local}
 use Rattle.psy_tree.specs.declared.raw.Item.{Item}
 use Rattle.psy_tree.specs.declared.raw.Item.TheVariants as item
 use Rattle.psy_tree.specs.Scope.{SlotName, scalar, local_slot, slots_of}
-use Rattle.psy_rules.specs.Slots.{params_in, locals_in}
+use Rattle.psy_tree.specs.Scope.{item_params, item_locals}
 use Rattle.psy_rules.specs.Tables.{slot_names}
 
 get_front : {X : Type 0} (xs ys : List X) (k : ℕ) → k < length xs → slice_get (xs ++ ys) k ≡ slice_get xs k
@@ -19,7 +19,7 @@ get_back [] ys k h = ap (slice_get ys) (omega arith)
 get_back (x ∷ xs) ys zero h = absurd (omega arith)
 get_back (x ∷ xs) ys (suc k) h = get_back xs ys k (omega arith) ∙ ap (slice_get ys) (omega arith)
 
-pub slots_split : (i : Item) → slots_of i ≡ map scalar (params_in i) ++ map local_slot (locals_in i)
+pub slots_split : (i : Item) → slots_of i ≡ map scalar (item_params i) ++ map local_slot (item_locals i)
 slots_split (item.Clock name by parent shift) = refl
 slots_split (item.Temporal name owner clock init depth) = refl
 slots_split (item.Input name clock init depth) = refl
@@ -40,20 +40,20 @@ local_arrays [] k = refl
 local_arrays (l ∷ ls) zero = refl
 local_arrays (l ∷ ls) (suc k) = local_arrays ls k
 
-pub slot_at_param : (i : Item) (k : ℕ) → k < length (params_in i) → option_map array_of (slice_get (slots_of i) k) ≡ Some false
+pub slot_at_param : (i : Item) (k : ℕ) → k < length (item_params i) → option_map array_of (slice_get (slots_of i) k) ≡ Some false
 slot_at_param i k h =
-    let len : length (map scalar (params_in i)) ≡ length (params_in i) = length-map (params_in i) scalar in
+    let len : length (map scalar (item_params i)) ≡ length (item_params i) = length-map (item_params i) scalar in
     ap (λ ss. option_map array_of (slice_get ss k)) (slots_split i)
-    ∙ ap (option_map array_of) (get_front (map scalar (params_in i)) (map local_slot (locals_in i)) k (omega arith))
-    ∙ scalars (params_in i) k h
+    ∙ ap (option_map array_of) (get_front (map scalar (item_params i)) (map local_slot (item_locals i)) k (omega arith))
+    ∙ scalars (item_params i) k h
 
-pub slot_at_local : (i : Item) (k : ℕ) → length (params_in i) ≤ k → option_map array_of (slice_get (slots_of i) k) ≡ option_map (λ l. (local_slot l).array) (slice_get (locals_in i) (k - length (params_in i)))
+pub slot_at_local : (i : Item) (k : ℕ) → length (item_params i) ≤ k → option_map array_of (slice_get (slots_of i) k) ≡ option_map (λ l. (local_slot l).array) (slice_get (item_locals i) (k - length (item_params i)))
 slot_at_local i k h =
-    let len : length (map scalar (params_in i)) ≡ length (params_in i) = length-map (params_in i) scalar in
+    let len : length (map scalar (item_params i)) ≡ length (item_params i) = length-map (item_params i) scalar in
     ap (λ ss. option_map array_of (slice_get ss k)) (slots_split i)
-    ∙ ap (option_map array_of) (get_back (map scalar (params_in i)) (map local_slot (locals_in i)) k (omega arith))
-    ∙ local_arrays (locals_in i) (k - length (map scalar (params_in i)))
-    ∙ ap (λ n. option_map (λ l. (local_slot l).array) (slice_get (locals_in i) (k - n))) len
+    ∙ ap (option_map array_of) (get_back (map scalar (item_params i)) (map local_slot (item_locals i)) k (omega arith))
+    ∙ local_arrays (item_locals i) (k - length (map scalar (item_params i)))
+    ∙ ap (λ n. option_map (λ l. (local_slot l).array) (slice_get (item_locals i) (k - n))) len
 
 names_scalar : (ns : List Name) → map (λ s. s.name) (map scalar ns) ≡ ns
 names_scalar [] = refl
@@ -63,6 +63,6 @@ names_local : (ls : List Local) → map (λ s. s.name) (map local_slot ls) ≡ m
 names_local [] = refl
 names_local (l ∷ ls) = ap (λ r. (local_slot l).name ∷ r) (names_local ls)
 
-pub slot_names_split : (i : Item) → params_in i ++ map (λ l. (local_slot l).name) (locals_in i) ≡ slot_names (slots_of i)
-slot_names_split i = sym (ap slot_names (slots_split i) ∙ map-append (λ s. s.name) (map scalar (params_in i)) (map local_slot (locals_in i))
-    ∙ ap (λ r. r ++ map (λ s. s.name) (map local_slot (locals_in i))) (names_scalar (params_in i)) ∙ ap (λ r. params_in i ++ r) (names_local (locals_in i)))
+pub slot_names_split : (i : Item) → item_params i ++ map (λ l. (local_slot l).name) (item_locals i) ≡ slot_names (slots_of i)
+slot_names_split i = sym (ap slot_names (slots_split i) ∙ map-append (λ s. s.name) (map scalar (item_params i)) (map local_slot (item_locals i))
+    ∙ ap (λ r. r ++ map (λ s. s.name) (map local_slot (item_locals i))) (names_scalar (item_params i)) ∙ ap (λ r. item_params i ++ r) (names_local (item_locals i)))

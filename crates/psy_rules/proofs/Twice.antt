@@ -6,6 +6,7 @@ use Rattle.std.proofs.lemmas.List.{take_more, map-append, length-map, length-tak
 use Rattle.std.proofs.lemmas.List.Folds.{list_any-append}
 use Rattle.std.proofs.lemmas.Bool.{lt-ltb, le-ltb}
 use Rattle.std.proofs.lemmas.Bool.Decides.{leb_tells}
+use Rattle.psy_base.specs.declared.limits.TheConstants.{CELLS}
 use Rattle.psy_clock.specs.declared.clock.Clock.{Clock}
 use Rattle.psy_tree.specs.declared.raw.Name.{Name}
 use Rattle.psy_tree.specs.declared.raw.Local.{Local}
@@ -138,7 +139,7 @@ clock_same items table known (item.Agent name clock budget locals body stmts) h 
 cells_places-append : (xs ys : List Local) → cells_places (xs ++ ys) ≡ cells_places xs ++ cells_places ys
 cells_places-append [] ys = refl
 cells_places-append (local.Scalar name init ∷ xs) ys = cells_places-append xs ys
-cells_places-append (local.Array name cells ∷ xs) ys = ap (λ ps. Ranges cells 1 256 ∷ ps) (cells_places-append xs ys)
+cells_places-append (local.Array name cells ∷ xs) ys = ap (λ ps. Ranges cells 1 CELLS ∷ ps) (cells_places-append xs ys)
 
 pub cells_more : (xs : List Local) (i : ℕ) (x : Local) → i < length xs → get_or xs i x ≡ x → cells_places (take (i + 1) xs) ≡ cells_places (take i xs) ++ cells_places (x ∷ [])
 cells_more xs i x h e = ap cells_places (take_more xs i x h ∙ ap (λ y. take i xs ++ y ∷ []) e) ∙ cells_places-append (take i xs) (x ∷ [])

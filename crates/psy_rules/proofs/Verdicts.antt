@@ -5,9 +5,9 @@ use Rattle.psy_tree.specs.declared.rules.RuleKind.{RuleKind}
 use Rattle.psy_tree.specs.declared.rules.RuleKind.TheVariants as kind
 use Rattle.psy_tree.specs.declared.unit.Unit.{Unit as Whole}
 use Rattle.psy_tree.specs.Places.{places}
-use Rattle.psy_tree.specs.Rules.{LeastFault, NoFault, number_of}
+use Rattle.psy_tree.specs.Rules.{LeastFault, NoFault, rule_number}
 use Rattle.psy_tree.specs.Stands.{Stands, unit_of, first_passed}
-use Rattle.psy_rules.specs.declared.least.Fault.{Fault}
+use Rattle.psy_rules.specs.declared.least.RuleAt.{RuleAt}
 use Rattle.psy_rules.specs.Judged.{judged_sited}
 use Rattle.psy_rules.specs.Verdict.{Verdict}
 use Rattle.psy_rules.proofs.LeastFaults.{best_of}
@@ -27,23 +27,23 @@ kind_at n =
     else (if n == 11 then kind.BadClock
     else kind.BadNumber))))))))))
 
-kind_at-number_of : (k : RuleKind) → kind_at (number_of k) ≡ k
+kind_at-rule_number : (k : RuleKind) → kind_at (rule_number k) ≡ k
 unfolding kind_at
-kind_at-number_of kind.Twice = refl
-kind_at-number_of kind.Unknown = refl
-kind_at-number_of kind.WrongKind = refl
-kind_at-number_of kind.NotOwner = refl
-kind_at-number_of kind.NotReceiver = refl
-kind_at-number_of kind.TooDeep = refl
-kind_at-number_of kind.NoMax = refl
-kind_at-number_of kind.MixedLoop = refl
-kind_at-number_of kind.NoAdvance = refl
-kind_at-number_of kind.CallsDown = refl
-kind_at-number_of kind.BadClock = refl
-kind_at-number_of kind.BadNumber = refl
+kind_at-rule_number kind.Twice = refl
+kind_at-rule_number kind.Unknown = refl
+kind_at-rule_number kind.WrongKind = refl
+kind_at-rule_number kind.NotOwner = refl
+kind_at-rule_number kind.NotReceiver = refl
+kind_at-rule_number kind.TooDeep = refl
+kind_at-rule_number kind.NoMax = refl
+kind_at-rule_number kind.MixedLoop = refl
+kind_at-rule_number kind.NoAdvance = refl
+kind_at-rule_number kind.CallsDown = refl
+kind_at-rule_number kind.BadClock = refl
+kind_at-rule_number kind.BadNumber = refl
 
-number_of-injective : (k l : RuleKind) → number_of k ≡ number_of l → k ≡ l
-number_of-injective k l e = sym (kind_at-number_of k) ∙ ap kind_at e ∙ kind_at-number_of l
+rule_number-injective : (k l : RuleKind) → rule_number k ≡ rule_number l → k ≡ l
+rule_number-injective k l e = sym (kind_at-rule_number k) ∙ ap kind_at e ∙ kind_at-rule_number l
 
 -- A tree has one least fault at most,
 pub LeastFault-once : (raw : Raw) (k l : RuleKind) (n m : ℕ) → LeastFault raw k n → LeastFault raw l m → (k ≡ l) × (n ≡ m)
@@ -51,7 +51,7 @@ LeastFault-once raw k l n m a b = elim (a.least l m b.present) [
   | inl before ↦ elim (b.least k n a.present) [ inl behind ↦ absurd (omega arith) | inr also ↦ absurd (let e = also.0 in omega arith) ]
   | inr at ↦ elim (b.least k n a.present) [
     | inl behind ↦ absurd (let e = at.0 in omega arith)
-    | inr also ↦ (number_of-injective k l (let p = at.1 in let q = also.1 in omega arith), at.0)
+    | inr also ↦ (rule_number-injective k l (let p = at.1 in let q = also.1 in omega arith), at.0)
   ]
 ]
 
@@ -81,7 +81,7 @@ of_counts : (raw : Raw) (passed : Option Count) → first_passed raw ≡ passed 
 of_counts raw None e none = inl (unit_of raw, record { no_fault = none; within_limits = e; numbered = refl })
 of_counts raw (Some count) e none = inr (inr (count, none, e))
 
-of_faults : (raw : Raw) (least : Option Fault) → Verdict raw least → Some_of raw
+of_faults : (raw : Raw) (least : Option RuleAt) → Verdict raw least → Some_of raw
 of_faults raw None none = of_counts raw (first_passed raw) refl none
 of_faults raw (Some f) least = inr (inl (f.kind, f.token, least))
 

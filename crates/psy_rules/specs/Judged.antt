@@ -4,20 +4,20 @@ use Rattle.psy_tree.specs.declared.rules.RuleKind.{RuleKind}
 use Rattle.psy_tree.specs.declared.rules.RuleKind.TheVariants as kind
 use Rattle.psy_tree.specs.Scope.{Site}
 use Rattle.psy_tree.specs.Places.{Place, NamesItem, NamesSlot, Derives, Uses, LooksBack, Acts, Returns, Loops, HasBody, Ranges, Sited}
-use Rattle.psy_tree.specs.Rules.{number_of, is_twice, is_unknown, is_wrong_kind, is_not_owner, is_not_receiver, is_too_deep, is_no_max, is_mixed_loop, is_calls_down, is_bad_clock, is_bad_number}
-use Rattle.psy_rules.specs.declared.least.Fault.{Fault}
+use Rattle.psy_tree.specs.Rules.{rule_number, is_twice, is_unknown, is_wrong_kind, is_not_owner, is_not_receiver, is_too_deep, is_no_max, is_mixed_loop, is_calls_down, is_bad_clock, is_bad_number}
+use Rattle.psy_rules.specs.declared.least.RuleAt.{RuleAt}
 
 -- No fault was noted, or one that comes after this.
-abbrev pub is_before : RuleKind → ℕ → Option Fault → Bool
+abbrev pub is_before : RuleKind → ℕ → Option RuleAt → Bool
 is_before k token None = true
-is_before k token (Some least) = nat_lt token least.token || (nat_eq token least.token && nat_lt (number_of k) (number_of least.kind))
+is_before k token (Some least) = nat_lt token least.token || (nat_eq token least.token && nat_lt (rule_number k) (rule_number least.kind))
 
 -- The least fault after one more is noted, where it is there.
-unfoldable pub noted : Bool → RuleKind → ℕ → Option Fault → Option Fault
+unfoldable pub noted : Bool → RuleKind → ℕ → Option RuleAt → Option RuleAt
 noted there k token least = if there && is_before k token least then Some (record { kind = k; token = token }) else least
 
 -- The least fault after a place was judged
-unfoldable pub judged : Site → Place → Option Fault → Option Fault
+unfoldable pub judged : Site → Place → Option RuleAt → Option RuleAt
 judged site (NamesItem name) l = noted (is_twice site (NamesItem name)) kind.Twice name.token l
 judged site (NamesSlot k name) l = noted (is_twice site (NamesSlot k name)) kind.Twice name.token l
 judged site (Derives name) l = noted (is_bad_clock site (Derives name)) kind.BadClock name.token l
@@ -37,11 +37,11 @@ judged site (HasBody token quiet) l = noted quiet kind.NoAdvance token l
 judged site (Ranges number low high) l = noted (is_bad_number site (Ranges number low high)) kind.BadNumber number.token l
 
 -- after places at one site, in order
-abbrev pub judged_all : Site → List Place → Option Fault → Option Fault
+abbrev pub judged_all : Site → List Place → Option RuleAt → Option RuleAt
 judged_all site [] l = l
 judged_all site (p ∷ ps) l = judged_all site ps (judged site p l)
 
 -- after places wherever they stand
-abbrev pub judged_sited : List Sited → Option Fault → Option Fault
+abbrev pub judged_sited : List Sited → Option RuleAt → Option RuleAt
 judged_sited [] l = l
 judged_sited (p ∷ ps) l = judged_sited ps (judged p.site p.place l)

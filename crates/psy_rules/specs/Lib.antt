@@ -1,7 +1,6 @@
 pub mod Judged
 pub mod Tables
 pub mod Sites
-pub mod Slots
 pub mod Finding
 pub mod Clocks
 pub mod Heads

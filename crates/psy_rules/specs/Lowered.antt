@@ -1,10 +1,9 @@
 -- What the numbered scope of a body stands for.
-use Rattle.std.specs.Prelude.{◌≡◌, ℕ, ◌≤◌, List, [], length, Some, slice_get}
-use Rattle.psy_tree.specs.declared.raw.RawStmt.{RawStmt}
+use Rattle.std.specs.Prelude.{◌≡◌, ℕ, ◌≤◌, List, length, Some, slice_get}
+use Rattle.psy_base.specs.declared.limits.TheConstants.{NAMES, POINTS}
 use Rattle.psy_tree.specs.declared.raw.Item.{Item}
-use Rattle.psy_tree.specs.declared.raw.Item.TheVariants as item
 use Rattle.psy_tree.specs.Paths.{advances_list}
-use Rattle.psy_tree.specs.Scope.{Site, slots_of, item_entries, own_slots, own_item}
+use Rattle.psy_tree.specs.Scope.{Site, slots_of, item_stmts, item_entries, own_slots, own_item}
 use Rattle.psy_tree.specs.Stands.{agent_budget}
 use Rattle.psy_rules.specs.declared.expressions.Numbered.{Numbered}
 use Rattle.psy_rules.specs.declared.declarations.Program.{Program}
@@ -18,19 +17,13 @@ site n = site_of n.scope
 pub record IsNumbered (n : Numbered) : Type 0 where
   pub scope : IsScope n.scope
   pub numbers : AreNumbers n.scope.items.now n.before.now
-  pub few : length (own_slots (site n)) ≤ 64
+  pub few : length (own_slots (site n)) ≤ NAMES
   pub budget : n.budget ≡ agent_budget (own_item (site n))
-
--- The statements inside a declaration
-abbrev pub stmts_in : Item → List RawStmt
-stmts_in (item.Function name params locals stmts) = stmts
-stmts_in (item.Agent name clock budget locals body stmts) = stmts
-stmts_in _ = []
 
 -- The declarations keep the limits of one declaration.
 pub record KeepLimits (items : List Item) : Type 0 where
-  pub names : (k : ℕ) (i : Item) → slice_get items k ≡ Some i → length (slots_of i) ≤ 64
-  pub points : (k : ℕ) (i : Item) → slice_get items k ≡ Some i → advances_list (stmts_in i) ≤ 256
+  pub names : (k : ℕ) (i : Item) → slice_get items k ≡ Some i → length (slots_of i) ≤ NAMES
+  pub points : (k : ℕ) (i : Item) → slice_get items k ≡ Some i → advances_list (item_stmts i) ≤ POINTS
 
 -- A program's table and numbers are those of its declarations, which keep the limits.
 pub record IsProgram (p : Program) : Type 0 where

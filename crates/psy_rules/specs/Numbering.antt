@@ -1,5 +1,6 @@
 -- The numbers of declarations among those of their kinds.
 use Rattle.std.specs.Prelude.{◌≡◌, ℕ, ◌+◌, ◌<◌, ◌≤◌, Bool, if◌then◌else◌, List, take, length, Option, Some, None, slice_get}
+use Rattle.psy_base.specs.declared.limits.TheConstants.{CLOCKS, AGENTS, VARIABLES, STREAMS, FUNCTIONS}
 use Rattle.psy_tree.specs.declared.raw.Item.{Item}
 use Rattle.psy_tree.specs.declared.reach.Found.{Found}
 use Rattle.psy_tree.specs.declared.reach.Found.TheVariants as found
@@ -32,11 +33,11 @@ before_and before i = record {
 
 -- None of the counts is large.
 pub record IsSmall (before : Before) : Type 0 where
-  pub clocks : before.clocks ≤ 64
-  pub agents : before.agents ≤ 64
-  pub variables : before.variables ≤ 256
-  pub streams : before.streams ≤ 64
-  pub functions : before.functions ≤ 64
+  pub clocks : before.clocks ≤ CLOCKS
+  pub agents : before.agents ≤ AGENTS
+  pub variables : before.variables ≤ VARIABLES
+  pub streams : before.streams ≤ STREAMS
+  pub functions : before.functions ≤ FUNCTIONS
 
 -- By declaration, how many of each kind stand before it.
 abbrev pub AreNumbers : List Item → List Before → Type 0
@@ -44,11 +45,11 @@ AreNumbers items before = (k : ℕ) → k < length items → slice_get before k 
 
 -- No kind has many declarations.
 pub record AreFew (items : List Item) : Type 0 where
-  pub clocks : counting is_clock items ≤ 64
-  pub agents : counting is_agent items ≤ 64
-  pub variables : counting is_variable items ≤ 256
-  pub streams : counting is_stream items ≤ 64
-  pub functions : counting is_function items ≤ 64
+  pub clocks : counting is_clock items ≤ CLOCKS
+  pub agents : counting is_agent items ≤ AGENTS
+  pub variables : counting is_variable items ≤ VARIABLES
+  pub streams : counting is_stream items ≤ STREAMS
+  pub functions : counting is_function items ≤ FUNCTIONS
 
 abbrev pub before_of : List Item → Option Found → Option Before
 before_of items (Some (found.Item k)) = Some (before_at items k)

@@ -7,7 +7,8 @@ ghost use Rattle.psy_tree.specs.Rules as rules;
 ghost use Rattle.psy_rules.specs.Clocks.{parent_clock, clock_of, faulty};
 
 use crate::names::Names;
-use psy_clock::{Clock, LONGEST_PERIOD, derive};
+use psy_base::limits::PERIOD;
+use psy_clock::{Clock, derive};
 use psy_tree::{Found, Item, Lit, Name};
 use sqlite_items::at;
 
@@ -106,7 +107,7 @@ fn is_too_slow(parent: Option<Clock>, by: u32) -> bool
 {
     match parent {
         None => false,
-        Some(parent) => u64::from(LONGEST_PERIOD) < u64::from(by) * u64::from(parent.period),
+        Some(parent) => u64::from(PERIOD) < u64::from(by) * u64::from(parent.period),
     }
 }
 

@@ -1,16 +1,16 @@
 //! What is counted, and the limits.
 
 ghost use Rattle.std.specs.Prelude.{◌≡◌, ◌-◌, ◌^◌, min, length, nat_lt, Some};
-ghost use Rattle.std.specs.List.{list_any, count_by};
+ghost use Rattle.std.specs.List.{list_any, count_by, find};
 ghost use Rattle.psy_tree.specs.Paths as paths;
 ghost use Rattle.psy_tree.specs.Scope.{slots_of};
 ghost use Rattle.psy_tree.specs.Stands as stands;
-ghost use Rattle.psy_tree.specs.Stands.{points_of, passes, first_that, counts};
+ghost use Rattle.psy_tree.specs.Stands.{points_of, passes, counts};
 ghost use Rattle.psy_rules.specs.Counted.{counts_as};
 
 use crate::scope::{is_agent, is_clock, is_function, is_stream};
 use crate::slots::slot_count;
-use psy_base::limits;
+use psy_base::limits::{AGENTS, CLOCKS, FUNCTIONS, NAMES, POINTS, STREAMS, VARIABLES};
 use psy_tree::{Count, Item, RawStmt};
 
 #[cycle(advances)]
@@ -40,16 +40,16 @@ fn advances_in(stmts: &[RawStmt]) -> usize
 }
 
 fn has_many_names(item: &Item) -> bool
-    ensures { result ≡ nat_lt 64 (length (slots_of item.now)) }
+    ensures { result ≡ nat_lt NAMES (length (slots_of item.now)) }
 {
-    slot_count(item) > limits::NAMES
+    slot_count(item) > NAMES
 }
 
 fn has_many_points(item: &Item) -> bool
-    ensures { result ≡ nat_lt 256 (points_of item.now) }
+    ensures { result ≡ nat_lt POINTS (points_of item.now) }
 {
     match item {
-        Item::Agent { stmts, .. } => advances_in(stmts.as_slice()) >= limits::POINTS,
+        Item::Agent { stmts, .. } => advances_in(stmts.as_slice()) >= POINTS,
         _ => false,
     }
 }
@@ -87,7 +87,7 @@ pub fn count(items: &[Item], what: Count) -> usize
 }
 
 fn any_has_many_names(items: &[Item]) -> bool
-    ensures { result ≡ list_any (λ i. nat_lt 64 (length (slots_of i))) items.now }
+    ensures { result ≡ list_any (λ i. nat_lt NAMES (length (slots_of i))) items.now }
 {
     for item in items {
         if has_many_names(item) {
@@ -98,7 +98,7 @@ fn any_has_many_names(items: &[Item]) -> bool
 }
 
 fn any_has_many_points(items: &[Item]) -> bool
-    ensures { result ≡ list_any (λ i. nat_lt 256 (points_of i)) items.now }
+    ensures { result ≡ list_any (λ i. nat_lt POINTS (points_of i)) items.now }
 {
     for item in items {
         if has_many_points(item) {
@@ -110,21 +110,21 @@ fn any_has_many_points(items: &[Item]) -> bool
 
 /// The first count that passes its limit.
 pub fn first_passed(items: &[Item]) -> Option<Count>
-    ensures { result ≡ first_that (passes items.now) counts }
+    ensures { result ≡ find (passes items.now) counts }
 {
-    if count(items, Count::Clocks) > limits::CLOCKS {
+    if count(items, Count::Clocks) > CLOCKS {
         return Some(Count::Clocks);
     }
-    if count(items, Count::Agents) > limits::AGENTS {
+    if count(items, Count::Agents) > AGENTS {
         return Some(Count::Agents);
     }
-    if count(items, Count::Variables) > limits::VARIABLES {
+    if count(items, Count::Variables) > VARIABLES {
         return Some(Count::Variables);
     }
-    if count(items, Count::Streams) > limits::STREAMS {
+    if count(items, Count::Streams) > STREAMS {
         return Some(Count::Streams);
     }
-    if count(items, Count::Functions) > limits::FUNCTIONS {
+    if count(items, Count::Functions) > FUNCTIONS {
         return Some(Count::Functions);
     }
     if any_has_many_names(items) {

@@ -2,12 +2,12 @@
 
 ghost use Rattle.std.specs.Prelude.{◌≡◌, ◌≤◌, [], ◌∷◌, map, length, slice_get, option_to_list, Some, IfOk, OnOk};
 ghost use Rattle.std.specs.List.{flat_map};
-ghost use Rattle.psy_tree.specs.Scope.{stands_globally};
+ghost use Rattle.psy_tree.specs.Scope.{stands_globally, item_stmts};
 ghost use Rattle.psy_tree.specs.Rules.{is_clock, is_agent};
 ghost use Rattle.psy_tree.specs.Stands as stands;
 ghost use Rattle.psy_tree.specs.Stands.{global_number, each_from, inside_of, agent_budget};
 ghost use Rattle.psy_rules.specs.Numbering.{before_of};
-ghost use Rattle.psy_rules.specs.Lowered.{IsProgram, stmts_in};
+ghost use Rattle.psy_rules.specs.Lowered.{IsProgram};
 
 use crate::expressions::{Numbered, before_found, signed};
 use crate::names::Names;
@@ -227,7 +227,7 @@ fn body(
 ) -> Result<Items<psy_tree::Stmt>, Memory>
     requires program { IsProgram program.now }
     requires own { slice_get program.now.items.now at ≡ Some item.now }
-    requires stmts { stmts.now ≡ stmts_in item.now }
+    requires stmts { stmts.now ≡ item_stmts item.now }
     requires budget { budget ≡ agent_budget (Some item.now) }
     requires points { length points.old ≤ 1 }
     ensures stmts { IfOk result (λ s. s ≡ (stands.stmts_of (inside_of program.now.items.now at) stmts.now points.old).0) }

@@ -9,6 +9,7 @@ ghost use Rattle.psy_rules.specs.Lowered.{site, IsNumbered};
 
 use crate::numbers::Before;
 use crate::scope::Scope;
+use psy_base::limits::NAMES;
 use psy_base::{Boxed, Items, Memory};
 use psy_tree::{Expr, Found, Lit, Name, RawExpr};
 use sqlite_items::at;
@@ -90,7 +91,7 @@ impl Numbered<'_> {
 }
 
 fn slot_number(found: Option<Found>) -> u32
-    requires { stands.slot_number found ≤ 64 }
+    requires { stands.slot_number found ≤ NAMES }
     ensures { result ≡ stands.slot_number found }
 {
     match found {

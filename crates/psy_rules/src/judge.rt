@@ -11,7 +11,7 @@ ghost use Rattle.psy_rules.specs.Tables.{StandsFor, HasInner, is_inner, slot_nam
 ghost use Rattle.psy_rules.specs.Sites.{site_of, IsScope};
 ghost use Rattle.psy_rules.specs.Judged.{judged, judged_all, judged_sited};
 ghost use Rattle.psy_rules.specs.Finding as finding;
-ghost use Rattle.psy_rules.specs.Slots.{locals_in};
+ghost use Rattle.psy_tree.specs.Scope.{item_locals};
 ghost use Rattle.psy_rules.specs.Verdict.{Verdict};
 ghost use Rattle.psy_rules.specs.Heads.{after_name, name_places};
 
@@ -22,7 +22,7 @@ use crate::scope::{Scope, is_up_to};
 use crate::slots::{item_name, slot_names, slot_table};
 use crate::uses::{judge_range, judge_use};
 use crate::walk::walk_stmts;
-use psy_base::Memory;
+use psy_base::{Memory, limits};
 use psy_clock::Clock;
 use psy_tree::{Asks, Found, Item, Local, Name, Raw, RuleKind};
 use std::alloc::Global;
@@ -88,11 +88,11 @@ fn judge_head(scope: &Scope<'_>, known: &[Option<Clock>], item: &Item, least: &m
         } => {
             judge_use(scope, owner, Asks::Agent, least);
             judge_use(scope, clock, Asks::Clock, least);
-            judge_range(*depth, 1, 1_024, least);
+            judge_range(*depth, 1, limits::DEPTH, least);
         }
         Item::Input { clock, depth, .. } => {
             judge_use(scope, clock, Asks::Clock, least);
-            judge_range(*depth, 1, 1_024, least);
+            judge_range(*depth, 1, limits::DEPTH, least);
         }
         Item::Stream {
             receiver,
@@ -101,13 +101,13 @@ fn judge_head(scope: &Scope<'_>, known: &[Option<Clock>], item: &Item, least: &m
             ..
         } => {
             judge_use(scope, receiver, Asks::Agent, least);
-            judge_range(*keep, 1, 1_024, least);
+            judge_range(*keep, 1, limits::KEEP, least);
             judge_use(scope, clock, Asks::Clock, least);
         }
         Item::Function { .. } => {}
         Item::Agent { clock, budget, .. } => {
             judge_use(scope, clock, Asks::Clock, least);
-            judge_range(*budget, 1, 1_000_000, least);
+            judge_range(*budget, 1, limits::BUDGET, least);
         }
     }
 }
@@ -158,7 +158,7 @@ fn judge_local(local: &Local, least: &mut Least)
     ensures { (site : Site) → least.new.fault ≡ judged_all site (places.cells_places (local.now ∷ [])) least.old.fault }
 {
     if let Local::Array(_, cells) = local {
-        judge_range(*cells, 1, 256, least);
+        judge_range(*cells, 1, limits::CELLS, least);
     }
 }
 
@@ -273,7 +273,7 @@ pub fn judge(alloc: Global, raw: &Raw, globals: &Names) -> Result<Judged, Memory
 {
     let items = raw.items.as_slice();
     let mut least = Least { fault: None };
-    judge_range(raw.quantum, 1, 1_000_000, &mut least);
+    judge_range(raw.quantum, 1, limits::QUANTUM, &mut least);
     let mut clocks: Vec<Option<Clock>> = Vec::new(alloc);
     let mut inner = Names::new(alloc);
     let none = Names::new(alloc);

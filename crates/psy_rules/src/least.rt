@@ -3,9 +3,9 @@ ghost use Rattle.psy_rules.specs.Judged.{is_before, noted};
 
 use psy_tree::RuleKind;
 
-/// A fault: its kind, and the token that it names.
+/// A fault: the rule that is broken, and the token that it names.
 #[derive(Clone, Copy, Debug, PartialEq, Eq)]
-pub struct Fault {
+pub struct RuleAt {
     pub kind: RuleKind,
     pub token: u32,
 }
@@ -13,7 +13,7 @@ pub struct Fault {
 /// The least of the faults that were noted, by token and then by number.
 #[derive(Clone, Copy, Debug, PartialEq, Eq)]
 pub struct Least {
-    pub fault: Option<Fault>,
+    pub fault: Option<RuleAt>,
 }
 
 impl Least {
@@ -23,7 +23,7 @@ impl Least {
         ensures { self.new.fault ≡ noted holds kind token self.old.fault }
     {
         if holds && self.is_after(kind, token) {
-            self.fault = Some(Fault { kind, token });
+            self.fault = Some(RuleAt { kind, token });
         }
     }
 

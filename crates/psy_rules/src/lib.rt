@@ -6,7 +6,7 @@ mod counts;
 mod declarations;
 mod expressions;
 mod judge;
-mod law;
+pub mod laws;
 mod least;
 mod names;
 mod numbers;
@@ -19,5 +19,4 @@ mod tests;
 mod uses;
 mod walk;
 
-pub use law::one_verdict;
 pub use resolution::{RuleFault, resolve};

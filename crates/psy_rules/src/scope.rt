@@ -133,8 +133,8 @@ pub fn is_temporal(item: Option<&Item>) -> bool
 }
 
 /// The depth of a temporal variable or an input.
-pub fn depth_of(item: Option<&Item>) -> Option<u32>
-    ensures { result ≡ rules.depth_of (option_copied item.entry) }
+pub fn declared_depth(item: Option<&Item>) -> Option<u32>
+    ensures { result ≡ rules.declared_depth (option_copied item.entry) }
 {
     match item {
         Some(Item::Temporal { depth, .. }) => Some(depth.value),

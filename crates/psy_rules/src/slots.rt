@@ -3,7 +3,7 @@ ghost use Rattle.std.specs.Option.{option_copied};
 ghost use Rattle.psy_tree.specs.Scope as spec;
 ghost use Rattle.psy_tree.specs.Scope.{slots_of, item_entries, slot_entries};
 ghost use Rattle.psy_rules.specs.Tables.{StandsFor, slot_names as names_of, as_slots};
-ghost use Rattle.psy_rules.specs.Slots.{params_in, locals_in};
+ghost use Rattle.psy_tree.specs.Scope.{item_params, item_locals};
 
 use crate::names::Names;
 use psy_base::Memory;
@@ -35,7 +35,7 @@ fn local_name(local: &Local) -> &Name
 }
 
 fn params_of(item: &Item) -> &[Name]
-    ensures { result.now ≡ params_in item.now }
+    ensures { result.now ≡ item_params item.now }
 {
     match item {
         Item::Function { params, .. } => params.as_slice(),
@@ -44,7 +44,7 @@ fn params_of(item: &Item) -> &[Name]
 }
 
 pub fn locals_of(item: &Item) -> &[Local]
-    ensures { result.now ≡ locals_in item.now }
+    ensures { result.now ≡ item_locals item.now }
 {
     match item {
         Item::Function { locals, .. } => locals.as_slice(),

@@ -8,6 +8,7 @@ ghost use Rattle.psy_tree.specs.Stands as stands;
 ghost use Rattle.psy_rules.specs.Lowered.{site, IsNumbered};
 
 use crate::expressions::{Numbered, lower_expr};
+use psy_base::limits::POINTS;
 use psy_base::{Items, Memory};
 use psy_tree::{Expr, Found, Lit, Name, Point, RawStmt, Stmt};
 use std::alloc::Global;
@@ -50,7 +51,7 @@ fn advance_stmt(
     points: &mut Items<Point>,
 ) -> Result<Stmt, Memory>
     requires numbered { IsNumbered numbered.now }
-    requires room { length points.old ≤ 256 }
+    requires room { length points.old ≤ POINTS }
     ensures stmt { IfOk result (λ s. s ≡ Stmt.Advance (length points.old)) }
     ensures points { OnOk result (points.new ≡ points.old ++ record { count = count.value; clock = stands.number_at is_clock (site numbered.now) clock.now; budget = stands.budget_of (site numbered.now) budget } ∷ []) }
 {

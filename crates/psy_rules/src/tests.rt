@@ -1,4 +1,5 @@
-use crate::{RuleFault, one_verdict, resolve};
+use crate::laws::one_verdict;
+use crate::{RuleFault, resolve};
 use psy_base::{Items, Memory, Text};
 use psy_clock::Clock;
 use psy_tree::{Count, Item, Lit, Name, Raw, RuleKind};

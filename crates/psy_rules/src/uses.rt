@@ -9,7 +9,9 @@ ghost use Rattle.psy_rules.specs.Sites.{site_of, IsScope};
 ghost use Rattle.psy_rules.specs.Judged.{judged};
 
 use crate::least::Least;
-use crate::scope::{Scope, depth_of, is_agent, is_clock, is_function, is_stream, is_temporal};
+use crate::scope::{
+    Scope, declared_depth, is_agent, is_clock, is_function, is_stream, is_temporal,
+};
 use psy_tree::{Asks, Found, Item, Lit, Name, RuleKind};
 use sqlite_items::at;
 
@@ -41,7 +43,7 @@ fn suits_item(scope: &Scope<'_>, what: Asks, k: usize) -> bool
         Asks::Agent => is_agent(item),
         Asks::Value => scope.in_agent() && is_temporal(item),
         Asks::Cell => false,
-        Asks::Past => depth_of(item).is_some(),
+        Asks::Past => declared_depth(item).is_some(),
         Asks::Target | Asks::Messages => is_stream(item),
         Asks::Call(n) => has_params(item, n),
     }
@@ -225,7 +227,7 @@ pub fn judge_back(scope: &Scope<'_>, name: &Name, back: Lit, least: &mut Least)
     ensures { least.new.fault ≡ judged (site_of scope.now) (places.LooksBack name.now back) least.old.fault }
 {
     let found = scope.find(&name.text);
-    let deep = reaches(back.value, depth_of(scope.item(found)));
+    let deep = reaches(back.value, declared_depth(scope.item(found)));
     least.note(deep, RuleKind::TooDeep, back.token);
 }
 

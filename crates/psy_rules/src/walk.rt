@@ -10,6 +10,7 @@ ghost use Rattle.psy_rules.specs.Judged.{judged, judged_all};
 use crate::least::Least;
 use crate::scope::Scope;
 use crate::uses::{judge_act, judge_back, judge_range, judge_return, judge_use};
+use psy_base::limits;
 use psy_tree::{Asks, Lit, Name, RawExpr, RawStmt, RuleKind};
 
 /// What is known of the paths through statements.
@@ -104,7 +105,7 @@ fn judge_most(most: Option<Lit>, least: &mut Least)
     ensures { (site : Site) → least.new.fault ≡ judged_all site (most_places most) least.old.fault }
 {
     if let Some(most) = most {
-        judge_range(most, 1, 65_536, least);
+        judge_range(most, 1, limits::TURNS, least);
     }
 }
 
@@ -112,7 +113,7 @@ fn judge_budget(budget: Option<Lit>, least: &mut Least)
     ensures { (site : Site) → least.new.fault ≡ judged_all site (budget_places budget) least.old.fault }
 {
     if let Some(budget) = budget {
-        judge_range(budget, 1, 1_000_000, least);
+        judge_range(budget, 1, limits::BUDGET, least);
     }
 }
 
@@ -142,7 +143,7 @@ fn judge_advance(
     ensures { least.new.fault ≡ judged_all (site_of scope.now) (stmt_places (RawStmt.Advance token count clock.now budget)) least.old.fault }
 {
     judge_act(scope, token, least);
-    judge_range(count, 1, 1_024, least);
+    judge_range(count, 1, limits::ADVANCE, least);
     judge_use(scope, clock, Asks::Clock, least);
     judge_budget(budget, least);
 }
@@ -206,7 +207,7 @@ fn walk_stmt(scope: &Scope<'_>, stmt: &RawStmt, least: &mut Least) -> Paths
             judge_act(scope, *token, least);
             walk_expr(scope, value, least);
             judge_use(scope, stream, Asks::Target, least);
-            judge_range(*after, 0, 1_024, least);
+            judge_range(*after, 0, limits::AFTER, least);
             judge_use(scope, clock, Asks::Clock, least);
             STILL
         }

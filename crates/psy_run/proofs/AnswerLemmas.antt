@@ -5,8 +5,8 @@ use Rattle.psy_tree.specs.declared.token.Token.{Token}
 use Rattle.psy_tree.specs.declared.raw.Raw.{Raw}
 use Rattle.psy_tree.specs.Lexemes.{decimal_value}
 use Rattle.psy_tree.specs.Tokens.{TokensOf}
-use Rattle.psy_tree.specs.Faults as faults
-use Rattle.psy_tree.specs.Faults.{Fault, FirstFault, number_of}
+use Rattle.psy_tree.specs.declared.faults.LexKind.{LexKind}
+use Rattle.psy_tree.specs.Faults.{FirstFault}
 use Rattle.psy_tree.specs.Grammar.{Spells}
 use Rattle.psy_tree.specs.Deep as deep
 use Rattle.psy_token.proofs.Texts.{TokensOf-once, FirstFault-once, not_both}
@@ -19,7 +19,7 @@ use Rattle.psy_tree.specs.Rules.{LeastFault, NoFault}
 use Rattle.psy_tree.specs.Stands.{Stands, first_passed}
 use Rattle.psy_kernel.specs.Meaning.{IsFeasible}
 use Rattle.psy_run.specs.declared.refusal.Refusal.{Refusal}
-use Rattle.psy_run.specs.declared.refusal.Refusal.TheVariants.{Words, ReadProgram, LongProgram, BadByte, LongName, BigLiteral, OpenComment, Syntax, Deep, Rule, Many, NotBuilt, Infeasible}
+use Rattle.psy_run.specs.declared.refusal.Refusal.TheVariants.{Words, ReadProgram, LongProgram, Lexical, Syntax, Deep, Rule, Many, NotBuilt, Infeasible}
 use Rattle.psy_run.specs.Asked.{AsksRun, AskNothing}
 use Rattle.psy_run.specs.Form.{Program, IsForm, HaveNumbers}
 use Rattle.psy_run.specs.Log.{text_of}
@@ -91,7 +91,7 @@ data OfTokens (until : ℕ) (tokens : List Token) : ℕ → List ℕ → Type 0 
 
 -- for a file that isn't too long
 data OfShort (until : ℕ) (bytes : List ℕ) : ℕ → List ℕ → Type 0 where
-  stops : (fault : Fault) (place : ℕ) → FirstFault bytes fault place → OfShort until bytes 1 (lex_line (number_of fault) place)
+  stops : (kind : LexKind) (place : ℕ) → FirstFault bytes kind place → OfShort until bytes 1 (lex_line kind place)
   goes_on : {status : ℕ} {text : List ℕ} (tokens : List Token) → TokensOf bytes tokens → OfTokens until tokens status text → OfShort until bytes status text
 
 -- for a file
@@ -109,10 +109,7 @@ of_refusal : (bytes : List ℕ) (until : ℕ) (refusal : Refusal) → Refuses by
 of_refusal bytes until Words never = absurd never
 of_refusal bytes until ReadProgram never = absurd never
 of_refusal bytes until LongProgram long = OfFile.stops long
-of_refusal bytes until (BadByte place) (short, at) = OfFile.goes_on short (OfShort.stops faults.BadByte place at)
-of_refusal bytes until (LongName place) (short, at) = OfFile.goes_on short (OfShort.stops faults.LongName place at)
-of_refusal bytes until (BigLiteral place) (short, at) = OfFile.goes_on short (OfShort.stops faults.BigLiteral place at)
-of_refusal bytes until (OpenComment place) (short, at) = OfFile.goes_on short (OfShort.stops faults.OpenComment place at)
+of_refusal bytes until (Lexical kind place) (short, at) = OfFile.goes_on short (OfShort.stops kind place at)
 of_refusal bytes until (Deep token) (tokens, (short, has), too_deep) = OfFile.goes_on short (OfShort.goes_on tokens has (OfTokens.stops token too_deep))
 of_refusal bytes until Syntax (tokens, (short, has), shallow, none) = OfFile.goes_on short (OfShort.goes_on tokens has (OfTokens.goes_on shallow (OfShallow.stops none)))
 of_refusal bytes until (Rule kind token) (raw, (tokens, (short, has), shallow, spells), least) =
@@ -189,7 +186,7 @@ of_tokens until tokens s s' t t' (OfTokens.goes_on shallow more) (OfTokens.goes_
 of_short : (until : ℕ) (bytes : List ℕ) (s s' : ℕ) (t t' : List ℕ) → OfShort until bytes s t → OfShort until bytes s' t' → Same s s' t t'
 of_short until bytes s s' t t' (OfShort.stops f p at) (OfShort.stops g q again) =
     let same = FirstFault-once bytes f g p q at again in
-    (refl, λ i. lex_line (number_of (same.0 i)) (same.1 i))
+    (refl, λ i. lex_line (same.0 i) (same.1 i))
 of_short until bytes s s' t t' (OfShort.stops f p at) (OfShort.goes_on tokens has more) = absurd (not_both bytes tokens f p has at)
 of_short until bytes s s' t t' (OfShort.goes_on tokens has more) (OfShort.stops f p at) = absurd (not_both bytes tokens f p has at)
 of_short until bytes s s' t t' (OfShort.goes_on tokens has more) (OfShort.goes_on tokens' has' more') =

@@ -7,7 +7,7 @@ use Rattle.psy_door.specs.Growth.{Grew, GrewByFront}
 use Rattle.psy_kernel.specs.declared.stage.Stage.TheVariants.{Over}
 use Rattle.psy_kernel.specs.Standing.{Progress, stage_of, ended}
 use Rattle.psy_run.specs.declared.refusal.Refusal.{Refusal}
-use Rattle.psy_run.specs.declared.refusal.Refusal.TheVariants.{Words, ReadProgram, LongProgram, BadByte, LongName, BigLiteral, OpenComment, Syntax, Deep, Rule, Many, NotBuilt, Infeasible}
+use Rattle.psy_run.specs.declared.refusal.Refusal.TheVariants.{Words, ReadProgram, LongProgram, Lexical, Syntax, Deep, Rule, Many, NotBuilt, Infeasible}
 use Rattle.psy_run.specs.Asked.{AsksRun, AskNothing}
 use Rattle.psy_run.specs.Form.{Program}
 use Rattle.psy_run.specs.Log.{text_of}
@@ -22,10 +22,7 @@ status_of_refusal : (bytes : List ℕ) (until : ℕ) (refusal : Refusal) → Ref
 status_of_refusal bytes until Words h = absurd h
 status_of_refusal bytes until ReadProgram h = absurd h
 status_of_refusal bytes until LongProgram h = λ e. absurd (omega arith)
-status_of_refusal bytes until (BadByte place) h = λ e. absurd (omega arith)
-status_of_refusal bytes until (LongName place) h = λ e. absurd (omega arith)
-status_of_refusal bytes until (BigLiteral place) h = λ e. absurd (omega arith)
-status_of_refusal bytes until (OpenComment place) h = λ e. absurd (omega arith)
+status_of_refusal bytes until (Lexical kind place) h = λ e. absurd (omega arith)
 status_of_refusal bytes until (Deep token) h = λ e. absurd (omega arith)
 status_of_refusal bytes until Syntax h = λ e. absurd (omega arith)
 status_of_refusal bytes until (Rule kind token) h = λ e. absurd (omega arith)

@@ -2,6 +2,7 @@
 use Rattle.std.specs.Prelude.{◌≡◌, ℕ, ◌*◌, ◌<◌, ◌≤◌, List, ◌++◌, length, codes, decimal, Option, Some}
 use Rattle.psy_base.specs.declared.limits.TheConstants.{FILE_BYTES}
 use Rattle.psy_tree.specs.declared.token.Token.{Token}
+use Rattle.psy_tree.specs.declared.faults.LexKind.{LexKind}
 use Rattle.psy_tree.specs.declared.raw.Raw.{Raw}
 use Rattle.psy_tree.specs.Tokens.{TokensOf}
 use Rattle.psy_tree.specs.Faults as faults
@@ -10,12 +11,12 @@ use Rattle.psy_tree.specs.Deep as deep
 use Rattle.psy_tree.specs.declared.unit.Unit.{Unit as Whole}
 use Rattle.psy_tree.specs.declared.rules.Count.{Count}
 use Rattle.psy_tree.specs.declared.rules.Count.TheVariants.{Clocks, Agents, Variables, Streams, Functions, Names, Points}
-use Rattle.psy_tree.specs.Rules.{number_of, LeastFault, NoFault}
+use Rattle.psy_tree.specs.Rules.{rule_number, LeastFault, NoFault}
 use Rattle.psy_tree.specs.Stands.{Stands, first_passed}
 use Rattle.psy_kernel.specs.Meaning.{IsFeasible}
 use Rattle.psy_door.specs.Files.{Files, WhereTold, bytes_under}
 use Rattle.psy_run.specs.declared.refusal.Refusal.{Refusal}
-use Rattle.psy_run.specs.declared.refusal.Refusal.TheVariants.{Words, ReadProgram, LongProgram, BadByte, LongName, BigLiteral, OpenComment, Syntax, Deep, Rule, Many, NotBuilt, Infeasible}
+use Rattle.psy_run.specs.declared.refusal.Refusal.TheVariants.{Words, ReadProgram, LongProgram, Lexical, Syntax, Deep, Rule, Many, NotBuilt, Infeasible}
 use Rattle.psy_run.specs.declared.judge.Stop.{Stop}
 use Rattle.psy_run.specs.declared.judge.Stop.TheVariants as stops
 use Rattle.psy_run.specs.Asked.{AsksRun, AskNothing}
@@ -27,10 +28,7 @@ abbrev pub status_of : Refusal → ℕ
 status_of Words = 2
 status_of ReadProgram = 3
 status_of LongProgram = 7
-status_of (BadByte place) = 1
-status_of (LongName place) = 1
-status_of (BigLiteral place) = 1
-status_of (OpenComment place) = 1
+status_of (Lexical kind place) = 1
 status_of Syntax = 1
 status_of (Deep token) = 1
 status_of (Rule kind token) = 1
@@ -39,8 +37,8 @@ status_of NotBuilt = 1
 status_of (Infeasible length demand supply) = 5
 
 -- `refused lex NUMBER at PLACE`
-abbrev pub lex_line : ℕ → ℕ → List ℕ
-lex_line number place = codes "refused lex " ++ decimal number ++ codes " at " ++ decimal place ++ codes "\n"
+abbrev pub lex_line : LexKind → ℕ → List ℕ
+lex_line kind place = codes "refused lex " ++ decimal (faults.lex_number kind) ++ codes " at " ++ decimal place ++ codes "\n"
 
 -- `limit NAME NUMBER`
 abbrev pub limit_line : Count → List ℕ
@@ -57,13 +55,10 @@ abbrev pub line_of : Refusal → List ℕ
 line_of Words = codes "words\n"
 line_of ReadProgram = codes "read program\n"
 line_of LongProgram = codes "limit program 262144\n"
-line_of (BadByte place) = lex_line 1 place
-line_of (LongName place) = lex_line 2 place
-line_of (BigLiteral place) = lex_line 3 place
-line_of (OpenComment place) = lex_line 4 place
+line_of (Lexical kind place) = lex_line kind place
 line_of Syntax = codes "refused parse 1\n"
 line_of (Deep token) = codes "refused parse 2 at " ++ decimal token ++ codes "\n"
-line_of (Rule kind token) = codes "refused rule " ++ decimal (number_of kind) ++ codes " at " ++ decimal token ++ codes "\n"
+line_of (Rule kind token) = codes "refused rule " ++ decimal (rule_number kind) ++ codes " at " ++ decimal token ++ codes "\n"
 line_of (Many count) = limit_line count
 line_of NotBuilt = codes "not built\n"
 line_of (Infeasible length demand supply) = codes "infeasible " ++ decimal length ++ codes " " ++ decimal demand ++ codes " " ++ decimal supply ++ codes "\n"
@@ -89,10 +84,7 @@ abbrev pub Refuses : List ℕ → ℕ → Refusal → Type 0
 Refuses bytes until Words = ⊥
 Refuses bytes until ReadProgram = ⊥
 Refuses bytes until LongProgram = FILE_BYTES < length bytes
-Refuses bytes until (BadByte place) = (length bytes ≤ FILE_BYTES) × faults.FirstFault bytes faults.BadByte place
-Refuses bytes until (LongName place) = (length bytes ≤ FILE_BYTES) × faults.FirstFault bytes faults.LongName place
-Refuses bytes until (BigLiteral place) = (length bytes ≤ FILE_BYTES) × faults.FirstFault bytes faults.BigLiteral place
-Refuses bytes until (OpenComment place) = (length bytes ≤ FILE_BYTES) × faults.FirstFault bytes faults.OpenComment place
+Refuses bytes until (Lexical kind place) = (length bytes ≤ FILE_BYTES) × faults.FirstFault bytes kind place
 Refuses bytes until (Deep token) = (tokens : List Token) × HasTokens bytes tokens × deep.Deep tokens token
 Refuses bytes until Syntax = (tokens : List Token) × HasTokens bytes tokens × deep.Shallow tokens × ((raw : Raw) → Spells raw tokens → ⊥)
 Refuses bytes until (Rule kind token) = (raw : Raw) × HasTree bytes raw × LeastFault raw kind token

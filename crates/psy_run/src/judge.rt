@@ -32,10 +32,9 @@ fn tokens(alloc: Global, bytes: &[u8]) -> Result<Items<Token>, Stop>
 {
     match lex(alloc, bytes) {
         Ok(tokens) => Ok(tokens),
-        Err(LexFault::BadByte(place)) => Err(Stop::Refused(Refusal::BadByte(place))),
-        Err(LexFault::LongName(place)) => Err(Stop::Refused(Refusal::LongName(place))),
-        Err(LexFault::BigLiteral(place)) => Err(Stop::Refused(Refusal::BigLiteral(place))),
-        Err(LexFault::OpenComment(place)) => Err(Stop::Refused(Refusal::OpenComment(place))),
+        Err(LexFault::Lexical { kind, place }) => {
+            Err(Stop::Refused(Refusal::Lexical { kind, place }))
+        }
         Err(LexFault::Memory) => Err(Stop::Memory),
     }
 }

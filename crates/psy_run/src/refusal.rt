@@ -2,7 +2,7 @@ ghost use Rattle.std.specs.Prelude.{◌≡◌, ◌≤◌, length};
 ghost use Rattle.psy_run.specs.Answer.{status_of, line_of, lex_line, limit_line};
 
 use crate::line::Line;
-use psy_tree::{Count, RuleKind};
+use psy_tree::{Count, LexKind, RuleKind};
 
 /// Why the words, or the program that they name, aren't run. Contracts read the status and the line of
 /// each from one definition.
@@ -14,14 +14,11 @@ pub enum Refusal {
     ReadProgram,
     /// The program's file is too long.
     LongProgram,
-    /// A byte that begins no token, after so many bytes.
-    BadByte(u32),
-    /// A word that is too long, after so many bytes.
-    LongName(u32),
-    /// A number that is too great, after so many bytes.
-    BigLiteral(u32),
-    /// A comment without an end, after so many bytes.
-    OpenComment(u32),
+    /// The first fault of the text, after so many bytes.
+    Lexical {
+        kind: LexKind,
+        place: u32,
+    },
     /// The text is nested too deep at the token of this number.
     Deep(u32),
     /// The tokens aren't those of a program.
@@ -49,10 +46,7 @@ impl Refusal {
         ensures { result ≡ status_of self }
     {
         match self {
-            Refusal::BadByte(_)
-            | Refusal::LongName(_)
-            | Refusal::BigLiteral(_)
-            | Refusal::OpenComment(_)
+            Refusal::Lexical { .. }
             | Refusal::Deep(_)
             | Refusal::Syntax
             | Refusal::Rule { .. }
@@ -72,10 +66,7 @@ impl Refusal {
             Refusal::Words => text(b"words\n"),
             Refusal::ReadProgram => text(b"read program\n"),
             Refusal::LongProgram => text(b"limit program 262144\n"),
-            Refusal::BadByte(place) => lexical(1, place),
-            Refusal::LongName(place) => lexical(2, place),
-            Refusal::BigLiteral(place) => lexical(3, place),
-            Refusal::OpenComment(place) => lexical(4, place),
+            Refusal::Lexical { kind, place } => lexical(kind, place),
             Refusal::Deep(token) => deep(token),
             Refusal::Syntax => text(b"refused parse 1\n"),
             Refusal::Rule { kind, token } => rule(kind, token),
@@ -99,9 +90,10 @@ fn text(bytes: &[u8]) -> Line
     line
 }
 
-fn lexical(number: u64, place: u32) -> Line
-    ensures { result ≡ lex_line number place }
+fn lexical(kind: LexKind, place: u32) -> Line
+    ensures { result ≡ lex_line kind place }
 {
+    let number = u64::from(kind.number());
     let mut line = text(b"refused lex ");
     line.add_number(number);
     line.add(b" at ");

@@ -11,8 +11,10 @@ use Rattle.psy_tree.specs.declared.token.Kind.TheVariants as kinds
 use Rattle.psy_tree.specs.declared.token.Sign.{Sign}
 use Rattle.psy_tree.specs.declared.token.Sign.TheVariants.{Semicolon, OpenBrace, CloseBrace, OpenRound, CloseRound, OpenSquare, CloseSquare, Comma, Assign, Plus, Minus, Star, Slash, Percent, ShiftLeft, ShiftRight, Less, LessEqual, Greater, GreaterEqual, Equal, NotEqual, Amp, Caret, Bar, AmpAmp, BarBar, Tilde, Bang}
 use Rattle.psy_tree.specs.Lexemes.{is_blank, begins_word, is_in_word, is_in_line, Each, EndsBefore, IsWord, IsNumber, decimal_value, word_spelling, sign_spelling, OpensComment, HasClose, IsLongestSign}
-use Rattle.psy_tree.specs.Tokens.{Piece, Separator, Lexeme, bytes_of, Stands}
-use Rattle.psy_tree.specs.Faults.{Fault, BadByte, LongName, BigLiteral, OpenComment, IsAtFault, BeginsNothing, MayNotFollow}
+use Rattle.psy_tree.specs.Tokens.{Piece, Separator, Lexeme, bytes_of, IsPiece}
+use Rattle.psy_tree.specs.declared.faults.LexKind.{LexKind}
+use Rattle.psy_tree.specs.declared.faults.LexKind.TheVariants.{BadByte, LongName, BigLiteral, OpenComment}
+use Rattle.psy_tree.specs.Faults.{IsAtFault, BeginsNothing, MayNotFollow}
 use Rattle.psy_token.specs.Reading.{Whole, Faulty, front_of, word_front, number_front, block_front, line_front, sign_front, mark_front, kind_by, word_kind, number_len, number_of_len, goes_on, block_by, sign_by, sign_at}
 use Rattle.psy_token.proofs.Runs.{prefix_len-run}
 use Rattle.psy_token.proofs.Bytes.{in_word-begins, in_word-digit, in_word-neither, begins-not_blank, digit-not_blank, digit-not_begins, goes_on-ends, EndsBefore-digits}
@@ -236,7 +238,7 @@ unknown b rest nothing =
 
 -- what stands at the front
 
-separator : (bytes rest : List ℕ) → Stands (Separator bytes) rest → front_of (bytes ++ rest) ≡ Whole (Separator bytes)
+separator : (bytes rest : List ℕ) → IsPiece (Separator bytes) rest → front_of (bytes ++ rest) ≡ Whole (Separator bytes)
 separator bytes rest (inl (b, blank, is)) = subst (λ p. front_of (p ++ rest) ≡ Whole (Separator p)) (sym is) (front_blank b rest blank)
 separator bytes rest (inr (inl (inside, is, first))) =
     subst (λ p. front_of (p ++ rest) ≡ Whole (Separator p)) (sym is)
@@ -245,7 +247,7 @@ separator bytes rest (inr (inr (inside, is, each, ends))) =
     subst (λ p. front_of (p ++ rest) ≡ Whole (Separator p)) (sym is)
     (front_line (inside ++ rest) ∙ line_whole inside rest each ends)
 
-lexeme : (kind : Kind) (bytes rest : List ℕ) → Stands (Lexeme kind bytes) rest → front_of (bytes ++ rest) ≡ Whole (Lexeme kind bytes)
+lexeme : (kind : Kind) (bytes rest : List ℕ) → IsPiece (Lexeme kind bytes) rest → front_of (bytes ++ rest) ≡ Whole (Lexeme kind bytes)
 lexeme (kinds.Word word) bytes rest (is, ends) =
     subst (λ p. front_of (p ++ rest) ≡ Whole (Lexeme (kinds.Word word) p)) (sym is)
     (short_word (word_spelling word) rest (IsWord-spelling word) ends (length-spelling word)
@@ -261,12 +263,12 @@ lexeme (kinds.Sign sign) bytes rest (is, (longest, comment)) =
     (front_sign sign rest ∙ mark_is_sign (sign_spelling sign ++ rest) comment ∙ sign_whole sign rest longest)
 
 -- the piece that stands before the rest is the front
-pub front_stands : (piece : Piece) (rest : List ℕ) → Stands piece rest → front_of (bytes_of piece ++ rest) ≡ Whole piece
+pub front_stands : (piece : Piece) (rest : List ℕ) → IsPiece piece rest → front_of (bytes_of piece ++ rest) ≡ Whole piece
 front_stands (Separator bytes) rest stands = separator bytes rest stands
 front_stands (Lexeme kind bytes) rest stands = lexeme kind bytes rest stands
 
 -- the fault is the front
-pub front_faulty : (fault : Fault) (bytes : List ℕ) (behind : ℕ) → IsAtFault fault bytes behind → front_of bytes ≡ Faulty fault behind
+pub front_faulty : (fault : LexKind) (bytes : List ℕ) (behind : ℕ) → IsAtFault fault bytes behind → front_of bytes ≡ Faulty fault behind
 front_faulty BadByte bytes behind (inl (b, rest, is, nothing, at)) = ap front_of is ∙ unknown b rest nothing ∙ ap (Faulty BadByte) (sym at)
 front_faulty BadByte bytes behind (inr (digits, b, rest, is, number, small, follows, at)) = ap front_of is ∙ joined digits b rest number small follows ∙ ap (Faulty BadByte) (sym at)
 front_faulty LongName bytes behind (word, rest, is, named, ends, over, at) =

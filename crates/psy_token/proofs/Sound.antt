@@ -11,8 +11,9 @@ use Rattle.psy_tree.specs.declared.token.Kind.TheVariants as kinds
 use Rattle.psy_tree.specs.declared.token.Word.{Word}
 use Rattle.psy_tree.specs.declared.token.Sign.{Sign}
 use Rattle.psy_tree.specs.Lexemes.{is_blank, begins_word, is_in_word, is_in_line, Each, EndsBefore, IsWord, IsNumber, decimal_value, sign_spelling, OpensComment}
-use Rattle.psy_tree.specs.Tokens.{Separator, Lexeme, bytes_of, Stands}
-use Rattle.psy_tree.specs.Faults.{BadByte, LongName, BigLiteral, IsAtFault}
+use Rattle.psy_tree.specs.Tokens.{Separator, Lexeme, bytes_of, IsPiece}
+use Rattle.psy_tree.specs.declared.faults.LexKind.TheVariants.{BadByte, LongName, BigLiteral}
+use Rattle.psy_tree.specs.Faults.{IsAtFault}
 use Rattle.psy_token.specs.Reading.{Front, End, Whole, Faulty, front_of, word_front, number_front, block_front, line_front, sign_front, mark_front, kind_by, reserved, number_len, number_of_len, goes_on, close_len, block_by, sign_by, sign_at}
 use Rattle.psy_token.proofs.Runs.{longest}
 use Rattle.psy_token.proofs.Bytes.{in_word-begins, in_word-none, goes_on-none}
@@ -23,7 +24,7 @@ use Rattle.psy_token.proofs.Spellings.{reserved-some, reserved-none, sign_at-som
 -- the bytes end, or begin with the piece, or with a piece at fault
 abbrev pub Has : List ℕ → Front → Type 0
 Has bytes End = bytes ≡ []
-Has bytes (Whole piece) = (rest : List ℕ) × (bytes ≡ bytes_of piece ++ rest) × Stands piece rest
+Has bytes (Whole piece) = (rest : List ℕ) × (bytes ≡ bytes_of piece ++ rest) × IsPiece piece rest
 Has bytes (Faulty fault behind) = IsAtFault fault bytes behind
 
 -- words
@@ -36,7 +37,7 @@ word_is b more begins =
     let e : prefix_len is_in_word (b ∷ more) ≡ suc (prefix_len is_in_word more) = ap (λ t. cond t (1 + prefix_len is_in_word more) 0) (in_word-begins b begins) ∙ omega arith in
     word_at b more (prefix_len is_in_word (b ∷ more)) begins e (longest is_in_word (b ∷ more)).each
 
-named : (name rest : List ℕ) → IsWord name → EndsBefore is_in_word rest → length name ≤ WORD_BYTES → (found : Option Word) → reserved name ≡ found → Stands (Lexeme (kind_by found name) name) rest
+named : (name rest : List ℕ) → IsWord name → EndsBefore is_in_word rest → length name ≤ WORD_BYTES → (found : Option Word) → reserved name ≡ found → IsPiece (Lexeme (kind_by found name) name) rest
 named name rest word ends short (Some w) is = (reserved-some name w is, ends)
 named name rest word ends short None is = ((refl, word, short, reserved-none name is), ends)
 
@@ -102,14 +103,14 @@ sized_by : (digits rest : List ℕ) (len : ℕ) → IsNumber digits → EndsBefo
 sized_by digits rest len number ends len_is true small = ended_by digits rest len number ends len_is (leb-true _ _ small) (goes_on rest) refl
 sized_by digits rest len number ends len_is false over = big digits rest number ends (leb-false _ _ over)
 
-number_of : (bytes : List ℕ) (len : ℕ) → NumberAt bytes len → Has bytes (number_of_len len bytes)
-number_of bytes len at =
+measured : (bytes : List ℕ) (len : ℕ) → NumberAt bytes len → Has bytes (number_of_len len bytes)
+measured bytes len at =
     subst (λ all. Has all (number_of_len len bytes)) (take-append-drop len bytes)
     (sized_by (take len bytes) (drop len bytes) len at.number at.ends at.len_is (nat_le (decimal_value (take len bytes)) LITERAL) refl)
 
 pub number_has : (b : ℕ) (more : List ℕ) → is_ascii_digit b ≡ true → Has (b ∷ more) (number_front (b ∷ more))
 unfolding number_front
-number_has b more digit = number_of (b ∷ more) (number_len (b ∷ more)) (number_by b more digit (b == 48) refl)
+number_has b more digit = measured (b ∷ more) (number_len (b ∷ more)) (number_by b more digit (b == 48) refl)
 
 -- comments
 

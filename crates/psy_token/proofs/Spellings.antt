@@ -1,7 +1,7 @@
 -- The reserved words and the signs: each is found by its spelling, and a longer sign before a shorter one.
 use Rattle.std.proofs.Common.{◌≡◌, ◌≢◌, ℕ, zero, suc, ◌≤◌, List, [], ◌∷◌, ◌++◌, length, take, drop, refl, ap, sym, subst, ◌∙◌, Bool, true, false, cond, ◌&&◌, Option, Some, None, arith}
-use Rattle.std.specs.Prelude.{find, bytes_eq, nat_eq, nat_le, slice_get}
-use Rattle.std.specs.List.{starts_with, list_all}
+use Rattle.std.specs.Prelude.{not, find, bytes_eq, nat_eq, nat_le, slice_get}
+use Rattle.std.specs.List.{starts_with, list_all, prefix_len}
 use Rattle.std.proofs.lemmas.List.{take-append-drop, take_at}
 use Rattle.std.proofs.lemmas.Bool.{leb-true}
 use Rattle.std.proofs.lemmas.Slice.Eq.{bytes_eq-Decides}
@@ -70,37 +70,9 @@ not_reserved name other (Some word) is = absurd (other word (reserved-some name 
 pub reserved-other : (name : List ℕ) → ((word : Word) → name ≢ word_spelling word) → reserved name ≡ None
 reserved-other name other = not_reserved name other (reserved name) refl
 
--- where each sign stands in the table
+-- where each sign stands in the table: so many others before it
 pub sign_index : Sign → ℕ
-sign_index Semicolon = 8
-sign_index OpenBrace = 9
-sign_index CloseBrace = 10
-sign_index OpenRound = 11
-sign_index CloseRound = 12
-sign_index OpenSquare = 13
-sign_index CloseSquare = 14
-sign_index Comma = 15
-sign_index Assign = 16
-sign_index Plus = 17
-sign_index Minus = 18
-sign_index Star = 19
-sign_index Slash = 20
-sign_index Percent = 21
-sign_index ShiftLeft = 0
-sign_index ShiftRight = 1
-sign_index Less = 22
-sign_index LessEqual = 2
-sign_index Greater = 23
-sign_index GreaterEqual = 3
-sign_index Equal = 4
-sign_index NotEqual = 5
-sign_index Amp = 24
-sign_index Caret = 25
-sign_index Bar = 26
-sign_index AmpAmp = 6
-sign_index BarBar = 7
-sign_index Tilde = 27
-sign_index Bang = 28
+sign_index sign = prefix_len (λ s. not (bytes_eq (sign_spelling s) (sign_spelling sign))) SIGNS
 
 listed : (sign : Sign) → slice_get SIGNS (sign_index sign) ≡ Some sign
 unfolding sign_index

@@ -4,11 +4,12 @@ use Rattle.std.specs.Prelude.{Result, Ok, Err, IfOk, IfErr}
 use Rattle.std.proofs.lemmas.List.{append_assoc, append_cancel_left, flat_map_more, length-append, length-drop, length-take-le, drop-drop, drop_at, drop_all}
 use Rattle.psy_tree.specs.declared.token.Kind.{Kind}
 use Rattle.psy_tree.specs.declared.token.Token.{Token}
-use Rattle.psy_tree.specs.Tokens.{Piece, Separator, Lexeme, bytes_of, text_of, Stands, AllStand, Splits, tokens_from, TokensOf}
-use Rattle.psy_tree.specs.Faults.{Fault, BadByte, LongName, BigLiteral, OpenComment, IsAtFault, FirstFault}
+use Rattle.psy_tree.specs.Tokens.{Piece, Separator, Lexeme, bytes_of, text_of, IsPiece, AllStand, Splits, tokens_from, TokensOf}
+use Rattle.psy_tree.specs.declared.faults.LexKind.{LexKind}
+use Rattle.psy_tree.specs.Faults.{IsAtFault, FirstFault}
 use Rattle.psy_token.specs.declared.fault.LexFault.{LexFault}
 use Rattle.psy_token.specs.declared.fault.LexFault.TheVariants as answers
-use Rattle.psy_token.specs.Answer.{IsFirstFault, GivesTokens, GivesFault, fault_at}
+use Rattle.psy_token.specs.Answer.{IsFirstFault, GivesTokens, GivesFault}
 use Rattle.psy_token.specs.Reading.{Front, End, Whole, Faulty, front_of, piece_by, with_token, FaultGives}
 use Rattle.psy_token.proofs.Sound.{Has, front_has}
 use Rattle.psy_token.proofs.Complete.{front_stands, front_faulty}
@@ -18,11 +19,11 @@ use Rattle.psy_token.proofs.Complete.{front_stands, front_faulty}
 text_of-push : (pieces : List Piece) (piece : Piece) (rest : List ℕ) → text_of pieces ++ (bytes_of piece ++ rest) ≡ text_of (pieces ++ piece ∷ []) ++ rest
 text_of-push pieces piece rest = sym (append_assoc (text_of pieces) (bytes_of piece) rest) ∙ ap (λ l. l ++ rest) (flat_map_more bytes_of [] pieces piece)
 
-AllStand-push : (pieces : List Piece) (piece : Piece) (rest : List ℕ) → AllStand pieces (bytes_of piece ++ rest) → Stands piece rest → AllStand (pieces ++ piece ∷ []) rest
+AllStand-push : (pieces : List Piece) (piece : Piece) (rest : List ℕ) → AllStand pieces (bytes_of piece ++ rest) → IsPiece piece rest → AllStand (pieces ++ piece ∷ []) rest
 AllStand-push [] piece rest all stands = (stands, tt)
-AllStand-push (p ∷ pieces) piece rest all stands = (subst (Stands p) (text_of-push pieces piece rest) all.0, AllStand-push pieces piece rest all.1 stands)
+AllStand-push (p ∷ pieces) piece rest all stands = (subst (IsPiece p) (text_of-push pieces piece rest) all.0, AllStand-push pieces piece rest all.1 stands)
 
-Splits-push : (text : List ℕ) (pieces : List Piece) (all : List ℕ) (piece : Piece) (rest : List ℕ) → Splits text pieces all → all ≡ bytes_of piece ++ rest → Stands piece rest → Splits text (pieces ++ piece ∷ []) rest
+Splits-push : (text : List ℕ) (pieces : List Piece) (all : List ℕ) (piece : Piece) (rest : List ℕ) → Splits text pieces all → all ≡ bytes_of piece ++ rest → IsPiece piece rest → Splits text (pieces ++ piece ∷ []) rest
 Splits-push text pieces all piece rest splits is stands = record {
   whole = splits.whole ∙ ap (λ l. text_of pieces ++ l) is ∙ text_of-push pieces piece rest;
   stand = AllStand-push pieces piece rest (subst (AllStand pieces) is splits.stand) stands;
@@ -75,17 +76,14 @@ State-more text at tokens kind len (within, (pieces, splits, at_is, tokens_are))
 pub State-end : (text : List ℕ) (at : ℕ) (tokens : List Token) → State text at tokens → length text ≤ at → TokensOf text tokens
 State-end text at tokens (within, (pieces, splits, at_is, tokens_are)) end = (pieces, subst (Splits text pieces) (drop_all at text end) splits, tokens_are)
 
-first_fault : (text : List ℕ) (at : ℕ) (tokens : List Token) (fault : Fault) (behind place : ℕ) → State text at tokens → place ≡ at + behind → front_of (drop at text) ≡ Faulty fault behind → FirstFault text fault place
+first_fault : (text : List ℕ) (at : ℕ) (tokens : List Token) (fault : LexKind) (behind place : ℕ) → State text at tokens → place ≡ at + behind → front_of (drop at text) ≡ Faulty fault behind → FirstFault text fault place
 first_fault text at tokens fault behind place (within, (pieces, splits, at_is, tokens_are)) place_is is =
     let has : Has (drop at text) (Faulty fault behind) = subst (Has (drop at text)) is (front_has (drop at text)) in
     (pieces, drop at text, behind, splits, has, omega (arith, place_is, at_is))
 
 -- the fault that is met is the first one
 pub IsFirstFault-met : (text : List ℕ) (at : ℕ) (tokens : List Token) (fault : LexFault) → State text at tokens → FaultGives at fault (front_of (drop at text)) → IsFirstFault text fault
-IsFirstFault-met text at tokens (answers.BadByte place) state (above, is) = first_fault text at tokens BadByte (place - at) place state (omega (arith, above)) is
-IsFirstFault-met text at tokens (answers.LongName place) state (place_is, is) = first_fault text at tokens LongName 0 place state (omega (arith, place_is)) is
-IsFirstFault-met text at tokens (answers.BigLiteral place) state (place_is, is) = first_fault text at tokens BigLiteral 0 place state (omega (arith, place_is)) is
-IsFirstFault-met text at tokens (answers.OpenComment place) state (place_is, is) = first_fault text at tokens OpenComment 0 place state (omega (arith, place_is)) is
+IsFirstFault-met text at tokens (answers.Lexical kind place) state (above, is) = first_fault text at tokens kind (place - at) place state (omega (arith, above)) is
 IsFirstFault-met text at tokens answers.Memory state met = tt
 
 -- one way to split
@@ -120,13 +118,13 @@ splits_once text ps qs r s a b r_last s_last = one_split ps qs r s a.stand b.sta
 end_last : IsLast (front_of [])
 end_last = subst IsLast (sym front_end) tt
 
-fault_last : (fault : Fault) (rest : List ℕ) (behind : ℕ) → IsAtFault fault rest behind → IsLast (front_of rest)
+fault_last : (fault : LexKind) (rest : List ℕ) (behind : ℕ) → IsAtFault fault rest behind → IsLast (front_of rest)
 fault_last fault rest behind at = subst IsLast (sym (front_faulty fault rest behind at)) tt
 
 pub TokensOf-once : (text : List ℕ) (ts us : List Token) → TokensOf text ts → TokensOf text us → ts ≡ us
 TokensOf-once text ts us (ps, a, are) (qs, b, others) = are ∙ ap (tokens_from 0) (splits_once text ps qs [] [] a b end_last end_last).0 ∙ sym others
 
-pub FirstFault-once : (text : List ℕ) (f g : Fault) (p q : ℕ) → FirstFault text f p → FirstFault text g q → (f ≡ g) × (p ≡ q)
+pub FirstFault-once : (text : List ℕ) (f g : LexKind) (p q : ℕ) → FirstFault text f p → FirstFault text g q → (f ≡ g) × (p ≡ q)
 FirstFault-once text f g p q (ps, r, m, a, x, p_is) (qs, s, n, b, y, q_is) =
     let same = splits_once text ps qs r s a b (fault_last f r m x) (fault_last g s n y) in
     let e : Faulty f m ≡ Faulty g n = sym (front_faulty f r m x) ∙ ap front_of same.1 ∙ front_faulty g s n y in
@@ -134,7 +132,7 @@ FirstFault-once text f g p q (ps, r, m, a, x, p_is) (qs, s, n, b, y, q_is) =
     let behinds : m ≡ n = cc in
     (kinds, p_is ∙ (λ i. length (text_of (same.0 i)) + behinds i) ∙ sym q_is)
 
-pub not_both : (text : List ℕ) (ts : List Token) (f : Fault) (p : ℕ) → TokensOf text ts → FirstFault text f p → ⊥
+pub not_both : (text : List ℕ) (ts : List Token) (f : LexKind) (p : ℕ) → TokensOf text ts → FirstFault text f p → ⊥
 not_both text ts f p (ps, a, are) (qs, s, n, b, y, p_is) =
     let same = splits_once text ps qs [] s a b end_last (fault_last f s n y) in
     let e : End ≡ Faulty f n = sym front_end ∙ ap front_of same.1 ∙ front_faulty f s n y in
@@ -144,19 +142,13 @@ not_both text ts f p (ps, a, are) (qs, s, n, b, y, p_is) =
 
 pub gives_tokens : (text : List ℕ) (answer : Result (List Token) LexFault) → IfOk answer (λ ts. TokensOf text ts) → IfErr answer (λ f. IsFirstFault text f) → (tokens : List Token) → TokensOf text tokens → GivesTokens answer tokens
 gives_tokens text (Ok given) good bad tokens h = TokensOf-once text given tokens good h
-gives_tokens text (Err (answers.BadByte p)) good bad tokens h = absurd (not_both text tokens BadByte p h bad)
-gives_tokens text (Err (answers.LongName p)) good bad tokens h = absurd (not_both text tokens LongName p h bad)
-gives_tokens text (Err (answers.BigLiteral p)) good bad tokens h = absurd (not_both text tokens BigLiteral p h bad)
-gives_tokens text (Err (answers.OpenComment p)) good bad tokens h = absurd (not_both text tokens OpenComment p h bad)
+gives_tokens text (Err (answers.Lexical kind p)) good bad tokens h = absurd (not_both text tokens kind p h bad)
 gives_tokens text (Err answers.Memory) good bad tokens h = refl
 
-same_fault : (text : List ℕ) (f g : Fault) (p q : ℕ) → FirstFault text f p → FirstFault text g q → fault_at f p ≡ fault_at g q
-same_fault text f g p q a b = let same = FirstFault-once text f g p q a b in λ i. fault_at (same.0 i) (same.1 i)
+same_fault : (text : List ℕ) (f g : LexKind) (p q : ℕ) → FirstFault text f p → FirstFault text g q → answers.Lexical f p ≡ answers.Lexical g q
+same_fault text f g p q a b = let same = FirstFault-once text f g p q a b in λ i. answers.Lexical (same.0 i) (same.1 i)
 
-pub gives_fault : (text : List ℕ) (answer : Result (List Token) LexFault) → IfOk answer (λ ts. TokensOf text ts) → IfErr answer (λ f. IsFirstFault text f) → (fault : Fault) (place : ℕ) → FirstFault text fault place → GivesFault answer (fault_at fault place)
+pub gives_fault : (text : List ℕ) (answer : Result (List Token) LexFault) → IfOk answer (λ ts. TokensOf text ts) → IfErr answer (λ f. IsFirstFault text f) → (fault : LexKind) (place : ℕ) → FirstFault text fault place → GivesFault answer (answers.Lexical fault place)
 gives_fault text (Ok given) good bad fault place h = not_both text given fault place good h
-gives_fault text (Err (answers.BadByte p)) good bad fault place h = inl (same_fault text BadByte fault p place bad h)
-gives_fault text (Err (answers.LongName p)) good bad fault place h = inl (same_fault text LongName fault p place bad h)
-gives_fault text (Err (answers.BigLiteral p)) good bad fault place h = inl (same_fault text BigLiteral fault p place bad h)
-gives_fault text (Err (answers.OpenComment p)) good bad fault place h = inl (same_fault text OpenComment fault p place bad h)
+gives_fault text (Err (answers.Lexical kind p)) good bad fault place h = inl (same_fault text kind fault p place bad h)
 gives_fault text (Err answers.Memory) good bad fault place h = inr refl

@@ -10,7 +10,8 @@ use Rattle.psy_tree.specs.declared.token.Word.{Word}
 use Rattle.psy_tree.specs.declared.token.Sign.{Sign}
 use Rattle.psy_tree.specs.Lexemes.{is_blank, begins_word, is_in_word, is_in_line, decimal_value, word_spelling, sign_spelling}
 use Rattle.psy_tree.specs.Tokens.{Piece, Separator, Lexeme}
-use Rattle.psy_tree.specs.Faults.{Fault, BadByte, LongName, BigLiteral, OpenComment}
+use Rattle.psy_tree.specs.declared.faults.LexKind.{LexKind}
+use Rattle.psy_tree.specs.declared.faults.LexKind.TheVariants.{BadByte, LongName, BigLiteral, OpenComment}
 use Rattle.psy_token.specs.declared.spelling.TheConstants.{WORDS, SIGNS}
 use Rattle.psy_token.specs.declared.fault.LexFault.{LexFault}
 use Rattle.psy_token.specs.declared.fault.LexFault.TheVariants as answers
@@ -20,7 +21,7 @@ use Rattle.psy_token.specs.declared.pass.Span.{Span}
 pub data Front : Type 0 where
   End : Front
   Whole : Piece → Front
-  Faulty : Fault → ℕ → Front
+  Faulty : LexKind → ℕ → Front
 
 abbrev pub reserved : List ℕ → Option Word
 reserved word = find (λ w. bytes_eq (word_spelling w) word) WORDS
@@ -107,10 +108,7 @@ piece_by None bytes = Separator bytes
 
 -- the fault, with `at` bytes before the front, is that of the front, but for want of memory
 abbrev pub FaultGives : ℕ → LexFault → Front → Type 0
-FaultGives at (answers.BadByte place) front = (at ≤ place) × (front ≡ Faulty BadByte (place - at))
-FaultGives at (answers.LongName place) front = (place ≡ at) × (front ≡ Faulty LongName 0)
-FaultGives at (answers.BigLiteral place) front = (place ≡ at) × (front ≡ Faulty BigLiteral 0)
-FaultGives at (answers.OpenComment place) front = (place ≡ at) × (front ≡ Faulty OpenComment 0)
+FaultGives at (answers.Lexical kind place) front = (at ≤ place) × (front ≡ Faulty kind (place - at))
 FaultGives at answers.Memory front = Unit {0}
 
 -- the span cuts off the whole piece at the front

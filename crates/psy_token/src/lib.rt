@@ -3,7 +3,7 @@
 
 mod comment;
 mod fault;
-mod law;
+pub mod laws;
 mod number;
 mod pass;
 mod scan;
@@ -12,6 +12,5 @@ mod spelling;
 mod tests;
 
 pub use fault::LexFault;
-pub use law::one_reading;
 pub use number::decimal_value;
 pub use pass::lex;

@@ -4,9 +4,10 @@ ghost use Rattle.std.specs.List.{prefix_len};
 ghost use Rattle.std.specs.Char.{is_ascii_digit};
 ghost use Rattle.psy_tree.specs.declared.token.Token.{Token};
 ghost use Rattle.psy_tree.specs.Lexemes.{is_in_word};
-ghost use Rattle.psy_tree.specs.Faults.{Fault, FirstFault};
+ghost use Rattle.psy_tree.specs.declared.faults.LexKind.{LexKind as lex_kind};
+ghost use Rattle.psy_tree.specs.Faults.{FirstFault};
 ghost use Rattle.psy_tree.specs.Tokens.{TokensOf};
-ghost use Rattle.psy_token.specs.Answer.{IsFirstFault, GivesTokens, GivesFault, fault_at};
+ghost use Rattle.psy_token.specs.Answer.{IsFirstFault, GivesTokens, GivesFault};
 ghost use Rattle.psy_token.specs.Reading.{Cuts, Gives, with_token, front_of, word_front, number_front, block_front, line_front, sign_front, word_kind, goes_on};
 
 use crate::comment::close_len;
@@ -16,7 +17,7 @@ use crate::scan::{begins_word, is_blank, is_in_word, line_len, word_len};
 use crate::spelling::{reserved, sign_at, sign_spelling};
 use psy_base::limits::{FILE_BYTES, WORD_BYTES};
 use psy_base::{Items, Memory, Text};
-use psy_tree::{Kind, Token};
+use psy_tree::{Kind, LexKind, Token};
 use std::alloc::Global;
 
 /// A piece of the text: how many bytes it has, and its token unless it is a blank or a comment.
@@ -24,6 +25,17 @@ use std::alloc::Global;
 struct Span {
     len: usize,
     kind: Option<Kind>,
+}
+
+/// The fault of that kind, with so many bytes before it.
+fn fault(kind: LexKind, before: usize) -> LexFault
+    requires { before < 2 ^ 32 }
+    ensures { result ≡ LexFault.Lexical kind before }
+{
+    LexFault::Lexical {
+        kind,
+        place: before as u32,
+    }
 }
 
 fn word_kind(alloc: Global, word: &[u8]) -> Result<Kind, Memory>
@@ -43,7 +55,7 @@ fn word(alloc: Global, rest: &[u8], at: usize) -> Result<Span, LexFault>
 {
     let len = word_len(rest);
     if len > WORD_BYTES {
-        return Err(LexFault::LongName(at as u32));
+        return Err(fault(LexKind::LongName, at));
     }
     let kind = word_kind(alloc, &rest[..len])?;
     Ok(Span {
@@ -69,10 +81,10 @@ fn number(rest: &[u8], at: usize) -> Result<Span, LexFault>
 {
     let len = number_len(rest);
     let Some(value) = decimal_value(&rest[..len]) else {
-        return Err(LexFault::BigLiteral(at as u32));
+        return Err(fault(LexKind::BigLiteral, at));
     };
     if goes_on(&rest[len..]) {
-        return Err(LexFault::BadByte((at + len) as u32));
+        return Err(fault(LexKind::BadByte, at + len));
     }
     Ok(Span {
         len,
@@ -91,7 +103,7 @@ fn block_comment(rest: &[u8], at: usize) -> Result<Span, LexFault>
             len: len + 2,
             kind: None,
         }),
-        None => Err(LexFault::OpenComment(at as u32)),
+        None => Err(fault(LexKind::OpenComment, at)),
     }
 }
 
@@ -116,7 +128,7 @@ fn sign(rest: &[u8], at: usize) -> Result<Span, LexFault>
             len: sign_spelling(sign).len(),
             kind: Some(Kind::Sign(sign)),
         }),
-        None => Err(LexFault::BadByte(at as u32)),
+        None => Err(fault(LexKind::BadByte, at)),
     }
 }
 
@@ -167,7 +179,7 @@ pub fn lex(alloc: Global, text: &[u8]) -> Result<Items<Token>, LexFault>
 
     // What holds of the text is answered, unless memory runs out.
     ensures all_tokens { (tokens : List Token) → TokensOf text.now tokens → GivesTokens result tokens }
-    ensures all_faults { (fault : Fault) (place : ℕ) → FirstFault text.now fault place → GivesFault result (fault_at fault place) }
+    ensures all_faults { (kind : lex_kind) (place : ℕ) → FirstFault text.now kind place → GivesFault result (LexFault.Lexical kind place) }
 {
     let mut tokens = Items::new(alloc);
     let mut at = 0;

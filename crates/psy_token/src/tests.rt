@@ -1,4 +1,5 @@
-use crate::{LexFault, lex, one_reading};
+use crate::laws::one_reading;
+use crate::{LexFault, lex};
 use psy_base::limits::FILE_BYTES;
 use psy_tree::{Kind, Sign, Token, Word};
 use std::alloc::Global;
@@ -51,10 +52,7 @@ fn fault_of(alloc: Global, text: &[u8]) -> (u32, u32) {
         return (0, 0);
     }
     match lex(alloc, text) {
-        Err(LexFault::BadByte(place)) => (1, place),
-        Err(LexFault::LongName(place)) => (2, place),
-        Err(LexFault::BigLiteral(place)) => (3, place),
-        Err(LexFault::OpenComment(place)) => (4, place),
+        Err(LexFault::Lexical { kind, place }) => (kind.number(), place),
         Err(LexFault::Memory) | Ok(_) => (0, 0),
     }
 }

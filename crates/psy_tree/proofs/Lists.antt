@@ -24,6 +24,9 @@ slice_get-either (x ∷ xs) ys (suc k) a e = elim (slice_get-either xs ys k a e)
   | inr behind ↦ inr (behind.0, omega (arith, behind.1), behind.2)
 ]
 
+pub only : {A : Type 0} (x a : A) → x ∷ [] ≡ a ∷ [] → x ≡ a
+only x a e = same_Some x a (ap (λ l. slice_get l 0) e)
+
 pub slice_get_mapped : {A B : Type 0} (f : A → B) (xs : List A) (k : ℕ) (b : B) → slice_get (map f xs) k ≡ Some b → (a : A) × (slice_get xs k ≡ Some a) × (Some (f a) ≡ Some b)
 slice_get_mapped f [] k b e = absurd (none-some b e)
 slice_get_mapped f (x ∷ xs) zero b e = (x, refl, e)

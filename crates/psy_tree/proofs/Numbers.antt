@@ -42,6 +42,22 @@ each_from_more f xs n x h =
     ∙ ap (λ m. each_from f 0 (take n xs) ++ each_from f m (get_or xs n x ∷ [])) len
     ∙ ap (λ ps. each_from f 0 (take n xs) ++ ps) (append-nil (f n (get_or xs n x)))
 
+-- What one declaration gives stands behind what those before it give.
+pub given_at : {A : Type 0} (f : ℕ → Item → List A) (m : ℕ) (xs : List Item) (j n : ℕ) (i : Item) (a : A) → j < n → slice_get xs j ≡ Some i → f (m + j) i ≡ a ∷ []
+    → slice_get (each_from f m (take n xs)) (length (each_from f m (take j xs))) ≡ Some a
+given_at f m xs j zero i a less own gives = absurd (omega (arith, less))
+given_at f m [] j (suc n) i a less own gives = cc
+given_at f m (x ∷ xs) zero (suc n) i a less own gives =
+    let same : x ≡ i = cc in
+    let z : m ≡ m + 0 = omega arith in
+    ap (λ l. slice_get (l ++ each_from f (m + 1) (take n xs)) 0) (ap (f m) same ∙ ap (λ k. f k i) z ∙ gives)
+given_at f m (x ∷ xs) (suc j) (suc n) i a less own gives =
+    let next : m + 1 + j ≡ m + suc j = omega arith in
+    let e : length (f m x ++ each_from f (m + 1) (take j xs)) ≡ length (f m x) + length (each_from f (m + 1) (take j xs)) = length-append (f m x) (each_from f (m + 1) (take j xs)) in
+    ap (slice_get (f m x ++ each_from f (m + 1) (take n xs))) e
+    ∙ slice_get-behind (f m x) (each_from f (m + 1) (take n xs)) (length (each_from f (m + 1) (take j xs)))
+    ∙ given_at f (m + 1) xs j n i a (omega (arith, less)) own (ap (λ k. f k i) next ∙ gives)
+
 module _ {A : Type 0} (p : Option Item → Bool) (f : ℕ → Item → List A) (gives : Gives p f) where
   pub length-each : (m : ℕ) (xs : List Item) → length (each_from f m xs) ≡ counting p xs
   length-each m [] = refl

@@ -1,6 +1,7 @@
 -- The places of each kind of expression and statement.
 use Rattle.std.proofs.Common.{◌≡◌, ℕ, List, [], ◌∷◌, ◌++◌, map, length, Option, Some, None, sym, ap, ◌∙◌}
 use Rattle.std.specs.Prelude.{nat_lt, is_some}
+use Rattle.psy_base.specs.declared.limits.TheConstants.{AFTER, ADVANCE}
 use Rattle.psy_arith.specs.declared.operators.Op2.{Op2}
 use Rattle.psy_tree.specs.declared.raw.Name.{Name}
 use Rattle.psy_tree.specs.declared.raw.Lit.{Lit}
@@ -27,10 +28,10 @@ places_set name value = ap stmt_places (sym (stmt.rolls-Set name value)) ∙ par
 pub places_set_cell : (name : Name) (index : RawExpr) (value : RawExpr) → stmt_places (stmt.SetCell name index value) ≡ Uses name asks.Cell ∷ (expr_places index ++ expr_places value)
 places_set_cell name index value = ap stmt_places (sym (stmt.rolls-SetCell name index value)) ∙ para-roll-RawStmt (List Place) stmt_places_step (RawStmt-F.SetCell name index value)
 
-pub places_send : (token : ℕ) (value : RawExpr) (stream : Name) (after : Lit) (clock : Name) → stmt_places (stmt.Send token value stream after clock) ≡ Acts token ∷ (expr_places value ++ (Uses stream asks.Target ∷ (Ranges after 0 1024 ∷ (Uses clock asks.Clock ∷ []))))
+pub places_send : (token : ℕ) (value : RawExpr) (stream : Name) (after : Lit) (clock : Name) → stmt_places (stmt.Send token value stream after clock) ≡ Acts token ∷ (expr_places value ++ (Uses stream asks.Target ∷ (Ranges after 0 AFTER ∷ (Uses clock asks.Clock ∷ []))))
 places_send token value stream after clock = ap stmt_places (sym (stmt.rolls-Send token value stream after clock)) ∙ para-roll-RawStmt (List Place) stmt_places_step (RawStmt-F.Send token value stream after clock)
 
-pub places_advance : (token : ℕ) (count : Lit) (clock : Name) (budget : Option Lit) → stmt_places (stmt.Advance token count clock budget) ≡ Acts token ∷ (Ranges count 1 1024 ∷ (Uses clock asks.Clock ∷ budget_places budget))
+pub places_advance : (token : ℕ) (count : Lit) (clock : Name) (budget : Option Lit) → stmt_places (stmt.Advance token count clock budget) ≡ Acts token ∷ (Ranges count 1 ADVANCE ∷ (Uses clock asks.Clock ∷ budget_places budget))
 places_advance token count clock budget = ap stmt_places (sym (stmt.rolls-Advance token count clock budget)) ∙ para-roll-RawStmt (List Place) stmt_places_step (RawStmt-F.Advance token count clock budget)
 
 pub places_return : (token : ℕ) (value : RawExpr) → stmt_places (stmt.Return token value) ≡ Returns token ∷ expr_places value

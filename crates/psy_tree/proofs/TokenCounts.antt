@@ -1,5 +1,5 @@
--- A text has no more tokens than bytes.
-use Rattle.std.proofs.Common.{ℕ, ◌+◌, ◌<◌, ◌≤◌, List, [], ◌∷◌, length, ap, arith}
+-- How many tokens there are: no more than bytes, and as many as numbers.
+use Rattle.std.proofs.Common.{◌≡◌, ℕ, suc, ◌+◌, ◌<◌, ◌≤◌, List, [], ◌∷◌, length, refl, ap, arith}
 use Rattle.std.proofs.lemmas.List.{length-append}
 use Rattle.psy_tree.specs.declared.token.Kind.{Kind}
 use Rattle.psy_tree.specs.declared.token.Kind.TheVariants as kinds
@@ -8,8 +8,8 @@ use Rattle.psy_tree.specs.declared.token.Word.{Word}
 use Rattle.psy_tree.specs.declared.token.Word.TheVariants as words
 use Rattle.psy_tree.specs.declared.token.Sign.{Sign}
 use Rattle.psy_tree.specs.declared.token.Sign.TheVariants as signs
-use Rattle.psy_tree.specs.Lexemes.{IsWord, IsNumber, word_spelling, sign_spelling}
-use Rattle.psy_tree.specs.Lexemes as lexemes
+use Rattle.psy_tree.specs.Grammar.{numbered}
+use Rattle.psy_tree.specs.Lexemes.{IsWord, IsNumber, IsSpelling, word_spelling, sign_spelling}
 use Rattle.psy_tree.specs.Tokens.{Piece, Separator, Lexeme, text_of, AllStand, tokens_from, TokensOf}
 
 spelled_word : (w : Word) → 0 < length (word_spelling w)
@@ -29,7 +29,7 @@ number_bytes [] is = absurd is
 number_bytes (b ∷ bytes) is = omega arith
 
 -- no spelling is empty
-pub kind_bytes : (kind : Kind) (bytes : List ℕ) → lexemes.Spells kind bytes → 0 < length bytes
+pub kind_bytes : (kind : Kind) (bytes : List ℕ) → IsSpelling kind bytes → 0 < length bytes
 kind_bytes (kinds.Word w) bytes is = omega (arith, ap length is, spelled_word w)
 kind_bytes (kinds.Name name) bytes (is, word, short, other) = omega (arith, ap length is, word_bytes name word)
 kind_bytes (kinds.Number number) bytes (digits, is, small) = number_bytes bytes digits
@@ -42,3 +42,7 @@ few_tokens place (Lexeme kind bytes ∷ pieces) rest stand = omega (arith, few_t
 
 pub length-TokensOf : (bytes : List ℕ) (tokens : List Token) → TokensOf bytes tokens → length tokens ≤ length bytes
 length-TokensOf bytes tokens (pieces, splits, are) = omega (arith, few_tokens 0 pieces [] splits.stand, ap length are, ap length splits.whole, length-append (text_of pieces) ([]))
+
+pub length_of_numbered : (n : ℕ) (tokens : List Token) → length (numbered n tokens) ≡ length tokens
+length_of_numbered n [] = refl
+length_of_numbered n (token ∷ tokens) = ap suc (length_of_numbered (suc n) tokens)

@@ -1,5 +1,6 @@
 -- The two measures that bound how far a text is nested. The tokens up to a place are given with the last one first.
 use Rattle.std.specs.Prelude.{◌≡◌, ℕ, suc, ◌-◌, ◌<◌, Bool, true, false, if◌then◌else◌, ◌||◌, ◌⊎◌, is_some, List, [], ◌∷◌, length, map, reverse, take}
+use Rattle.psy_base.specs.declared.limits.TheConstants.{BRACKETS, OPERATORS}
 use Rattle.psy_tree.specs.declared.token.Token.{Token}
 use Rattle.psy_tree.specs.declared.token.Kind.{Kind}
 use Rattle.psy_tree.specs.declared.token.Kind.TheVariants as kinds
@@ -18,12 +19,12 @@ closes (kinds.Sign signs.CloseSquare) = true
 closes (kinds.Sign signs.CloseBrace) = true
 closes _ = false
 
--- a run of operators ends here
-abbrev pub ends_run : Kind → Bool
-ends_run (kinds.Sign signs.Semicolon) = true
-ends_run (kinds.Sign signs.OpenBrace) = true
-ends_run (kinds.Sign signs.CloseBrace) = true
-ends_run _ = false
+-- operators are counted anew from here
+abbrev pub begins_anew : Kind → Bool
+begins_anew (kinds.Sign signs.Semicolon) = true
+begins_anew (kinds.Sign signs.OpenBrace) = true
+begins_anew (kinds.Sign signs.CloseBrace) = true
+begins_anew _ = false
 
 -- a sign of an operator, wherever it stands
 abbrev pub is_operator : Kind → Bool
@@ -31,20 +32,20 @@ is_operator (kinds.Sign s) = is_some (unary_of s) || is_some (binary_of s)
 is_operator _ = false
 
 -- opening brackets less closing ones; a closing one at depth 0 leaves it there
-abbrev pub depth_of : List Kind → ℕ
-depth_of [] = 0
-depth_of (k ∷ before) =
-    if opens k then suc (depth_of before)
-    else (if closes k then depth_of before - 1
-    else depth_of before)
+abbrev pub bracket_depth : List Kind → ℕ
+bracket_depth [] = 0
+bracket_depth (k ∷ before) =
+    if opens k then suc (bracket_depth before)
+    else (if closes k then bracket_depth before - 1
+    else bracket_depth before)
 
--- the operators since the last end of a run
-abbrev pub run_of : List Kind → ℕ
-run_of [] = 0
-run_of (k ∷ before) =
-    if ends_run k then 0
-    else (if is_operator k then suc (run_of before)
-    else run_of before)
+-- the operators since the last `;`, `{` or `}`
+abbrev pub operators_since : List Kind → ℕ
+operators_since [] = 0
+operators_since (k ∷ before) =
+    if begins_anew k then 0
+    else (if is_operator k then suc (operators_since before)
+    else operators_since before)
 
 -- the tokens up to that of this number, with the last one first
 abbrev pub up_to : List Token → ℕ → List Kind
@@ -52,7 +53,7 @@ up_to tokens n = reverse (map (λ token. token.kind) (take (suc n) tokens))
 
 -- a measure is reached at this token
 abbrev pub IsTooDeep : List Token → ℕ → Type 0
-IsTooDeep tokens n = (depth_of (up_to tokens n) ≡ 64) ⊎ (run_of (up_to tokens n) ≡ 256)
+IsTooDeep tokens n = (bracket_depth (up_to tokens n) ≡ BRACKETS) ⊎ (operators_since (up_to tokens n) ≡ OPERATORS)
 
 -- it is the first token at which one is reached
 pub record Deep (tokens : List Token) (n : ℕ) : Type 0 where

@@ -112,11 +112,11 @@ sign_spelling Tilde = codes "~"
 sign_spelling Bang = codes "!"
 
 -- The bytes spell a token of that kind: a word is the reserved one, where there is one with that spelling, and else a name.
-abbrev pub Spells : Kind → List ℕ → Type 0
-Spells (kinds.Word word) bytes = bytes ≡ word_spelling word
-Spells (kinds.Name name) bytes = (bytes ≡ name) × IsWord name × (length name ≤ WORD_BYTES) × ((word : Word) → name ≢ word_spelling word)
-Spells (kinds.Number number) bytes = IsNumber bytes × (number ≡ decimal_value bytes) × (number ≤ LITERAL)
-Spells (kinds.Sign sign) bytes = bytes ≡ sign_spelling sign
+abbrev pub IsSpelling : Kind → List ℕ → Type 0
+IsSpelling (kinds.Word word) bytes = bytes ≡ word_spelling word
+IsSpelling (kinds.Name name) bytes = (bytes ≡ name) × IsWord name × (length name ≤ WORD_BYTES) × ((word : Word) → name ≢ word_spelling word)
+IsSpelling (kinds.Number number) bytes = IsNumber bytes × (number ≡ decimal_value bytes) × (number ≤ LITERAL)
+IsSpelling (kinds.Sign sign) bytes = bytes ≡ sign_spelling sign
 
 -- no longer sign stands where this one does, before the rest
 abbrev pub IsLongestSign : Sign → List ℕ → Type 0

@@ -1,5 +1,6 @@
 -- The places of a program that rules speak of, each with where it stands.
 use Rattle.std.specs.Prelude.{ℕ, ◌+◌, Bool, true, false, nat_lt, List, [], ◌∷◌, ◌++◌, map, length, Option, Some, None, is_some}
+use Rattle.psy_base.specs.declared.limits.TheConstants.{QUANTUM, BUDGET, DEPTH, KEEP, ADVANCE, AFTER, TURNS, CELLS}
 use Rattle.psy_tree.specs.declared.raw.Name.{Name}
 use Rattle.psy_tree.specs.declared.raw.Lit.{Lit}
 use Rattle.psy_tree.specs.declared.raw.Local.{Local}
@@ -77,11 +78,11 @@ expr_places = fold-RawExpr (List Place) expr_places_step
 
 abbrev pub budget_places : Option Lit → List Place
 budget_places None = []
-budget_places (Some budget) = Ranges budget 1 1000000 ∷ []
+budget_places (Some budget) = Ranges budget 1 BUDGET ∷ []
 
 abbrev pub most_places : Option Lit → List Place
 most_places None = []
-most_places (Some most) = Ranges most 1 65536 ∷ []
+most_places (Some most) = Ranges most 1 TURNS ∷ []
 
 -- Of a statement: each part as it stands, and its own places
 abbrev pub stmt_places_step : RawStmt-F (RawStmt × List Place) → List Place
@@ -93,9 +94,9 @@ stmt_places_step (RawStmt-F.While token test most body) =
     expr_places test ++ (most_places most ++ (joined (map (λ s. s.1) body)
     ++ Loops token (is_some most) (nat_lt 0 (advances_list (map (λ s. s.0) body))) (quiet_list (map (λ s. s.0) body)) ∷ []))
 stmt_places_step (RawStmt-F.Send token value stream after clock) =
-    Acts token ∷ (expr_places value ++ (Uses stream asks.Target ∷ (Ranges after 0 1024 ∷ (Uses clock asks.Clock ∷ []))))
+    Acts token ∷ (expr_places value ++ (Uses stream asks.Target ∷ (Ranges after 0 AFTER ∷ (Uses clock asks.Clock ∷ []))))
 stmt_places_step (RawStmt-F.Advance token count clock budget) =
-    Acts token ∷ (Ranges count 1 1024 ∷ (Uses clock asks.Clock ∷ budget_places budget))
+    Acts token ∷ (Ranges count 1 ADVANCE ∷ (Uses clock asks.Clock ∷ budget_places budget))
 stmt_places_step (RawStmt-F.Return token value) = Returns token ∷ expr_places value
 
 abbrev pub stmt_places : RawStmt → List Place
@@ -111,11 +112,11 @@ parent_places (Some parent) = Uses parent asks.Parent ∷ []
 
 abbrev pub head_places : Item → List Place
 head_places (item.Clock name by parent shift) = NamesItem name ∷ (Derives name ∷ parent_places parent)
-head_places (item.Temporal name owner clock init depth) = NamesItem name ∷ (Uses owner asks.Agent ∷ (Uses clock asks.Clock ∷ (Ranges depth 1 1024 ∷ [])))
-head_places (item.Input name clock init depth) = NamesItem name ∷ (Uses clock asks.Clock ∷ (Ranges depth 1 1024 ∷ []))
-head_places (item.Stream name receiver keep clock) = NamesItem name ∷ (Uses receiver asks.Agent ∷ (Ranges keep 1 1024 ∷ (Uses clock asks.Clock ∷ [])))
+head_places (item.Temporal name owner clock init depth) = NamesItem name ∷ (Uses owner asks.Agent ∷ (Uses clock asks.Clock ∷ (Ranges depth 1 DEPTH ∷ [])))
+head_places (item.Input name clock init depth) = NamesItem name ∷ (Uses clock asks.Clock ∷ (Ranges depth 1 DEPTH ∷ []))
+head_places (item.Stream name receiver keep clock) = NamesItem name ∷ (Uses receiver asks.Agent ∷ (Ranges keep 1 KEEP ∷ (Uses clock asks.Clock ∷ [])))
 head_places (item.Function name params locals stmts) = NamesItem name ∷ []
-head_places (item.Agent name clock budget locals body stmts) = NamesItem name ∷ (Uses clock asks.Clock ∷ (Ranges budget 1 1000000 ∷ []))
+head_places (item.Agent name clock budget locals body stmts) = NamesItem name ∷ (Uses clock asks.Clock ∷ (Ranges budget 1 BUDGET ∷ []))
 
 -- Of what stands inside its braces
 abbrev pub slot_places : ℕ → List SlotName → List Place
@@ -125,7 +126,7 @@ slot_places k (s ∷ ss) = NamesSlot k s.name ∷ slot_places (k + 1) ss
 abbrev pub cells_places : List Local → List Place
 cells_places [] = []
 cells_places (local.Scalar name init ∷ ls) = cells_places ls
-cells_places (local.Array name cells ∷ ls) = Ranges cells 1 256 ∷ cells_places ls
+cells_places (local.Array name cells ∷ ls) = Ranges cells 1 CELLS ∷ cells_places ls
 
 abbrev pub body_places : Item → List Place
 body_places (item.Function name params locals stmts) = cells_places locals ++ stmts_places stmts
@@ -156,5 +157,5 @@ places_from items k (i ∷ is) = item_places items k i ++ places_from items (k +
 -- All places of a program
 abbrev pub places : Raw → List Sited
 places raw =
-    record { site = record { items = raw.items; at = 0; inside = false }; place = Ranges raw.quantum 1 1000000 }
+    record { site = record { items = raw.items; at = 0; inside = false }; place = Ranges raw.quantum 1 QUANTUM }
     ∷ places_from raw.items 0 raw.items

@@ -2,6 +2,7 @@
 use Rattle.std.specs.Prelude.{◌≡◌, ◌⊎◌, ℕ, ◌+◌, ◌*◌, ◌<◌, ◌≤◌, Bool, true, false, not, ◌&&◌, ◌||◌, nat_eq, nat_lt, nat_le, if◌then◌else◌, List, [], ◌∷◌, ◌++◌, take, length, Option, Some, None, slice_get}
 use Rattle.std.specs.List.{Contains, list_any}
 use Rattle.std.specs.Str.{bytes_eq}
+use Rattle.psy_base.specs.declared.limits.TheConstants.{PERIOD}
 use Rattle.psy_clock.specs.declared.clock.Clock.{Clock}
 use Rattle.psy_clock.specs.Dates.{IsClock, derived}
 use Rattle.psy_tree.specs.declared.raw.Name.{Name}
@@ -45,10 +46,10 @@ is_temporal (Some (item.Temporal name owner clock init depth)) = true
 is_temporal _ = false
 
 -- The depth of a temporal variable or an input, as it is written.
-abbrev pub depth_of : Option Item → Option ℕ
-depth_of (Some (item.Temporal name owner clock init depth)) = Some depth.value
-depth_of (Some (item.Input name clock init depth)) = Some depth.value
-depth_of _ = None
+abbrev pub declared_depth : Option Item → Option ℕ
+declared_depth (Some (item.Temporal name owner clock init depth)) = Some depth.value
+declared_depth (Some (item.Input name clock init depth)) = Some depth.value
+declared_depth _ = None
 
 abbrev pub has_params : ℕ → Option Item → Bool
 has_params n (Some (item.Function name params locals stmts)) = nat_eq (length params) n
@@ -74,7 +75,7 @@ suits_by site asks.Agent (found.Item k) = is_agent (slice_get site.items k)
 suits_by site asks.Value (found.Item k) = in_agent site && is_temporal (slice_get site.items k)
 suits_by site asks.Value (found.Slot k) = slot_is_array false (slice_get (own_slots site) k)
 suits_by site asks.Cell (found.Slot k) = in_agent site && slot_is_array true (slice_get (own_slots site) k)
-suits_by site asks.Past (found.Item k) = not (is_none (depth_of (slice_get site.items k)))
+suits_by site asks.Past (found.Item k) = not (is_none (declared_depth (slice_get site.items k)))
 suits_by site asks.Target (found.Item k) = is_stream (slice_get site.items k)
 suits_by site asks.Messages (found.Item k) = is_stream (slice_get site.items k)
 suits_by site (asks.Call n) (found.Item k) = has_params n (slice_get site.items k)
@@ -118,7 +119,7 @@ shift_of (Some shift) = shift.value
 -- The clock derived from one, where it is lawful.
 abbrev pub lawful : Option Clock → ℕ → ℕ → Option Clock
 lawful None n m = None
-lawful (Some c) n m = if nat_lt m n && nat_le (n * c.period) 10000 then Some (derived c n m) else None
+lawful (Some c) n m = if nat_lt m n && nat_le (n * c.period) PERIOD then Some (derived c n m) else None
 
 abbrev pub flat : {A : Type 0} → Option (Option A) → Option A
 flat None = None
@@ -155,7 +156,7 @@ AreClocks known = (k : ℕ) (c : Clock) → slice_get known k ≡ Some (Some c) 
 
 abbrev pub too_slow : Option Clock → ℕ → Bool
 too_slow None n = false
-too_slow (Some c) n = nat_lt 10000 (n * c.period)
+too_slow (Some c) n = nat_lt PERIOD (n * c.period)
 
 abbrev pub clock_at_fault : Site → Option Item → Bool
 clock_at_fault site (Some (item.Clock name by parent shift)) =
@@ -214,7 +215,7 @@ reaches back None = false
 reaches back (Some depth) = nat_le depth back
 
 abbrev pub is_too_deep : Site → Place → Bool
-is_too_deep site (LooksBack name back) = reaches back.value (depth_of (item_at site.items (stands_for site name.text)))
+is_too_deep site (LooksBack name back) = reaches back.value (declared_depth (item_at site.items (stands_for site name.text)))
 is_too_deep site _ = false
 
 -- 7 NoMax, at a loop without `max` that holds no `advance`.
@@ -268,32 +269,32 @@ is_fault kind.BadClock = is_bad_clock
 is_fault kind.BadNumber = is_bad_number
 
 -- The program has this fault, named by this token.
-abbrev pub Fault : Raw → RuleKind → ℕ → Type 0
-Fault raw kind token = (p : Sited) × Contains (places raw) p × (is_fault kind p.site p.place ≡ true) × (token_of p.place ≡ token)
+abbrev pub IsFault : Raw → RuleKind → ℕ → Type 0
+IsFault raw kind token = (p : Sited) × Contains (places raw) p × (is_fault kind p.site p.place ≡ true) × (token_of p.place ≡ token)
 
 -- The number of a kind.
-abbrev pub number_of : RuleKind → ℕ
-number_of kind.Twice = 1
-number_of kind.Unknown = 2
-number_of kind.WrongKind = 3
-number_of kind.NotOwner = 4
-number_of kind.NotReceiver = 5
-number_of kind.TooDeep = 6
-number_of kind.NoMax = 7
-number_of kind.MixedLoop = 8
-number_of kind.NoAdvance = 9
-number_of kind.CallsDown = 10
-number_of kind.BadClock = 11
-number_of kind.BadNumber = 12
+abbrev pub rule_number : RuleKind → ℕ
+rule_number kind.Twice = 1
+rule_number kind.Unknown = 2
+rule_number kind.WrongKind = 3
+rule_number kind.NotOwner = 4
+rule_number kind.NotReceiver = 5
+rule_number kind.TooDeep = 6
+rule_number kind.NoMax = 7
+rule_number kind.MixedLoop = 8
+rule_number kind.NoAdvance = 9
+rule_number kind.CallsDown = 10
+rule_number kind.BadClock = 11
+rule_number kind.BadNumber = 12
 
 -- By token, then by number.
 abbrev pub NotAfter : RuleKind → ℕ → RuleKind → ℕ → Type 0
-NotAfter k s l t = (s < t) ⊎ ((s ≡ t) × (number_of k ≤ number_of l))
+NotAfter k s l t = (s < t) ⊎ ((s ≡ t) × (rule_number k ≤ rule_number l))
 
 -- It has this fault, and none before it.
 pub record LeastFault (raw : Raw) (kind : RuleKind) (token : ℕ) : Type 0 where
-  pub present : Fault raw kind token
-  pub least : (other : RuleKind) (at : ℕ) → Fault raw other at → NotAfter kind token other at
+  pub present : IsFault raw kind token
+  pub least : (other : RuleKind) (at : ℕ) → IsFault raw other at → NotAfter kind token other at
 
 abbrev pub NoFault : Raw → Type 0
-NoFault raw = (kind : RuleKind) (token : ℕ) → Fault raw kind token → ⊥
+NoFault raw = (kind : RuleKind) (token : ℕ) → IsFault raw kind token → ⊥

@@ -6,6 +6,7 @@ use Rattle.psy_tree.specs.declared.raw.Local.{Local}
 use Rattle.psy_tree.specs.declared.raw.Local.TheVariants as local
 use Rattle.psy_tree.specs.declared.raw.Item.{Item}
 use Rattle.psy_tree.specs.declared.raw.Item.TheVariants as item
+use Rattle.psy_tree.specs.declared.raw.RawStmt.{RawStmt}
 use Rattle.psy_tree.specs.declared.reach.Found.{Found}
 use Rattle.psy_tree.specs.declared.reach.Found.TheVariants as found
 
@@ -17,6 +18,23 @@ item_name (item.Input name clock init depth) = name
 item_name (item.Stream name receiver keep clock) = name
 item_name (item.Function name params locals stmts) = name
 item_name (item.Agent name clock budget locals body stmts) = name
+
+-- The parameters of a function.
+abbrev pub item_params : Item → List Name
+item_params (item.Function name params locals stmts) = params
+item_params _ = []
+
+-- The local declarations of an agent or a function.
+abbrev pub item_locals : Item → List Local
+item_locals (item.Function name params locals stmts) = locals
+item_locals (item.Agent name clock budget locals body stmts) = locals
+item_locals _ = []
+
+-- The statements inside an agent or a function.
+abbrev pub item_stmts : Item → List RawStmt
+item_stmts (item.Function name params locals stmts) = stmts
+item_stmts (item.Agent name clock budget locals body stmts) = stmts
+item_stmts _ = []
 
 -- A parameter, variable or array, and whether it is an array.
 pub record SlotName : Type 0 where

@@ -1,7 +1,8 @@
 -- The unit that a program stands for: the program with numbers for names.
 use Rattle.std.specs.Prelude.{◌≡◌, ℕ, ◌+◌, Bool, true, false, nat_lt, if◌then◌else◌, List, [], ◌∷◌, ◌++◌, map, take, length, Option, Some, None, option_to_list, slice_get, ℤ, pos}
-use Rattle.std.specs.List.{count_by, list_any, flat_map}
+use Rattle.std.specs.List.{count_by, find, list_any, flat_map}
 use Rattle.std.specs.Int.{w32, cast_signed, int_wrapping_neg}
+use Rattle.psy_base.specs.declared.limits.TheConstants.{CLOCKS, AGENTS, VARIABLES, STREAMS, FUNCTIONS, NAMES, POINTS}
 use Rattle.psy_tree.specs.declared.raw.Name.{Name}
 use Rattle.psy_tree.specs.declared.raw.Lit.{Lit}
 use Rattle.psy_tree.specs.declared.raw.Init.{Init}
@@ -50,25 +51,22 @@ points_of _ = 0
 
 -- A count passes its limit.
 abbrev pub passes : List Item → Count → Bool
-passes items counted.Clocks = nat_lt 64 (counting is_clock items)
-passes items counted.Agents = nat_lt 64 (counting is_agent items)
-passes items counted.Variables = nat_lt 256 (counting is_variable items)
-passes items counted.Streams = nat_lt 64 (counting is_stream items)
-passes items counted.Functions = nat_lt 64 (counting is_function items)
-passes items counted.Names = list_any (λ i. nat_lt 64 (length (slots_of i))) items
-passes items counted.Points = list_any (λ i. nat_lt 256 (points_of i)) items
+passes items counted.Clocks = nat_lt CLOCKS (counting is_clock items)
+passes items counted.Agents = nat_lt AGENTS (counting is_agent items)
+passes items counted.Variables = nat_lt VARIABLES (counting is_variable items)
+passes items counted.Streams = nat_lt STREAMS (counting is_stream items)
+passes items counted.Functions = nat_lt FUNCTIONS (counting is_function items)
+passes items counted.Names = list_any (λ i. nat_lt NAMES (length (slots_of i))) items
+passes items counted.Points = list_any (λ i. nat_lt POINTS (points_of i)) items
 
-abbrev pub first_that : (Count → Bool) → List Count → Option Count
-first_that p [] = None
-first_that p (c ∷ cs) = if p c then Some c else first_that p cs
-
+-- the counts in the order in which they are judged
 abbrev pub counts : List Count
 counts =
     counted.Clocks ∷ (counted.Agents ∷ (counted.Variables ∷ (counted.Streams ∷ (counted.Functions ∷ (counted.Names ∷ (counted.Points ∷ []))))))
 
 -- The first count that passes its limit, in their order.
 abbrev pub first_passed : Raw → Option Count
-first_passed raw = first_that (passes raw.items) counts
+first_passed raw = find (passes raw.items) counts
 
 -- ---- numbers for names
 

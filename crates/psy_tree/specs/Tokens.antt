@@ -2,7 +2,7 @@
 use Rattle.std.specs.Prelude.{◌≡◌, ℕ, ◌+◌, List, [], ◌∷◌, ◌++◌, length, flat_map, ◌⊎◌}
 use Rattle.psy_tree.specs.declared.token.Kind.{Kind}
 use Rattle.psy_tree.specs.declared.token.Token.{Token}
-use Rattle.psy_tree.specs.Lexemes.{Spells, EndsToken, IsBlank, IsBlockComment, IsLineComment}
+use Rattle.psy_tree.specs.Lexemes.{IsSpelling, EndsToken, IsBlank, IsBlockComment, IsLineComment}
 
 -- a piece of a text: a blank or comment, or the spelling of a token
 pub data Piece : Type 0 where
@@ -17,14 +17,14 @@ abbrev pub text_of : List Piece → List ℕ
 text_of pieces = flat_map bytes_of pieces
 
 -- the piece may stand before the rest
-abbrev pub Stands : Piece → List ℕ → Type 0
-Stands (Separator bytes) rest = IsBlank bytes ⊎ (IsBlockComment bytes ⊎ IsLineComment bytes rest)
-Stands (Lexeme kind bytes) rest = Spells kind bytes × EndsToken kind rest
+abbrev pub IsPiece : Piece → List ℕ → Type 0
+IsPiece (Separator bytes) rest = IsBlank bytes ⊎ (IsBlockComment bytes ⊎ IsLineComment bytes rest)
+IsPiece (Lexeme kind bytes) rest = IsSpelling kind bytes × EndsToken kind rest
 
 -- each piece may stand before those behind it and the rest
 abbrev pub AllStand : List Piece → List ℕ → Type 0
 AllStand [] rest = Unit {0}
-AllStand (piece ∷ pieces) rest = Stands piece (text_of pieces ++ rest) × AllStand pieces rest
+AllStand (piece ∷ pieces) rest = IsPiece piece (text_of pieces ++ rest) × AllStand pieces rest
 
 -- the text is these pieces, and then the rest
 pub record Splits (text : List ℕ) (pieces : List Piece) (rest : List ℕ) : Type 0 where

@@ -2,12 +2,14 @@
 //! these.
 #![tactic(auto)]
 
+mod faults;
 mod raw;
 mod reach;
 mod rules;
 mod token;
 mod unit;
 
+pub use faults::LexKind;
 pub use raw::{Init, Item, Lit, Local, Name, Raw, RawExpr, RawStmt};
 pub use reach::{Asks, Found};
 pub use rules::{Count, RuleKind};

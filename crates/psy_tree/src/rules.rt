@@ -1,7 +1,7 @@
 //! What may be wrong with a program that is a tree.
 
 ghost use Rattle.std.specs.Prelude.{◌≡◌};
-ghost use Rattle.psy_tree.specs.Rules.{number_of};
+ghost use Rattle.psy_tree.specs.Rules.{rule_number};
 
 /// The kinds of fault that names and rules can have, in the order of their numbers.
 #[derive(Clone, Copy, Debug, PartialEq, Eq)]
@@ -36,7 +36,7 @@ impl RuleKind {
     /// The number of the kind, from 1 to 12. Of two faults at one token the one with the lesser number comes
     /// first, and a refusal names the kind by it.
     pub fn number(self) -> u32
-        ensures { result ≡ number_of self }
+        ensures { result ≡ rule_number self }
     {
         match self {
             RuleKind::Twice => 1,

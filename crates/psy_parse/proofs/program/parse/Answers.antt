@@ -1,12 +1,12 @@
 use Rattle.psy_parse.proofs.SoundItems.{spells_from_reading}
-use Rattle.psy_parse.proofs.AgainItems.{one_tree, no_tree}
+use Rattle.psy_parse.proofs.AgainItems.{only_tree, no_tree}
 use Rattle.psy_parse.proofs.program.parse.Goals as goal
 
 pub returns-in-Ok-clause-tree : goal.returns-in-Ok-clause-tree
 returns-in-Ok-clause-tree c = spells_from_reading _ _ _ c.in-Ok.ensures
 
 pub returns-in-Ok-clause-only : goal.returns-in-Ok-clause-only
-returns-in-Ok-clause-only c = λ other s. one_tree _ _ other c.in-Ok.ensures s
+returns-in-Ok-clause-only c = λ other s. only_tree _ _ other c.in-Ok.ensures s
 
 pub returns-in-Ok-clause-no_tree : goal.returns-in-Ok-clause-no_tree
 returns-in-Ok-clause-no_tree c = λ shallow none. absurd (none _ (spells_from_reading _ _ _ c.in-Ok.ensures))

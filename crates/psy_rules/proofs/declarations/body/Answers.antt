@@ -1,5 +1,6 @@
 use Rattle.std.proofs.Common.{◌≡◌, ◌≤◌, map, length, Option, sym, ap, subst, ◌∙◌}
 use Rattle.std.proofs.lemmas.Option.{slice_get_within}
+use Rattle.psy_base.specs.declared.limits.TheConstants.{NAMES}
 use Rattle.psy_tree.specs.declared.raw.Item.{Item}
 use Rattle.psy_tree.specs.Scope.{slots_of, slots_at}
 use Rattle.psy_tree.specs.Stands.{agent_budget}
@@ -10,7 +11,7 @@ use Rattle.psy_rules.proofs.declarations.body.Goals as goal
 pub lower_stmts-requires-clause-numbered : goal.lower_stmts-requires-clause-numbered
 lower_stmts-requires-clause-numbered c =
     let names : map (λ n. n.now) c.as_slice.result.now ≡ slot_names (slots_of c.args.item.now) = ap (map (λ n. n.now)) c.as_slice.ensures.value ∙ c.in_ok-names.ensures in
-    let Few : Option Item → Type 0 = λ o. length (slots_at o) ≤ 64 in
+    let Few : Option Item → Type 0 = λ o. length (slots_at o) ≤ NAMES in
     record {
       scope = record {
         globals = c.requires.program.globals;

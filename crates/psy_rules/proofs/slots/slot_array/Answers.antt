@@ -1,5 +1,5 @@
 use Rattle.std.proofs.Common.{◌≤◌, length, sym, ap, ◌∙◌, arith}
-use Rattle.psy_rules.specs.Slots.{params_in}
+use Rattle.psy_tree.specs.Scope.{item_params}
 use Rattle.psy_rules.proofs.SlotLists.{slot_at_param, slot_at_local}
 use Rattle.psy_rules.proofs.slots.slot_array.Goals as goal
 
@@ -8,5 +8,5 @@ returns-then-k-params c = sym (slot_at_param c.args.item.now c.args.k (omega (ar
 
 pub returns : goal.returns
 returns c =
-    let past : length (params_in c.args.item.now) ≤ c.args.k = omega (arith, ap length c.params_of-params.ensures) in
+    let past : length (item_params c.args.item.now) ≤ c.args.k = omega (arith, ap length c.params_of-params.ensures) in
     (rw (c.local_array.ensures, c.at.ensures, c.locals_of.ensures, c.params_of-params.ensures)) ∙ sym (slot_at_local c.args.item.now c.args.k past)

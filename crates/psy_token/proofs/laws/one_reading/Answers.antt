@@ -1,6 +1,6 @@
 use Rattle.psy_token.proofs.Texts.{TokensOf-once, FirstFault-once, not_both}
 use Rattle.psy_token.proofs.Total.{tokens_or_fault}
-use Rattle.psy_token.proofs.law.one_reading.Goals as goal
+use Rattle.psy_token.proofs.laws.one_reading.Goals as goal
 
 pub returns-clause-tokens : goal.returns-clause-tokens
 returns-clause-tokens c = TokensOf-once

@@ -1,5 +1,5 @@
 use Rattle.psy_rules.proofs.Verdicts.{some_verdict, Stands-once, LeastFault-once, count-once, stands_or_fault, stands_or_count, fault_or_none}
-use Rattle.psy_rules.proofs.law.one_verdict.Goals as goal
+use Rattle.psy_rules.proofs.laws.one_verdict.Goals as goal
 
 pub returns-clause-some : goal.returns-clause-some
 returns-clause-some c = some_verdict

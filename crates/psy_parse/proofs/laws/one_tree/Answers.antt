@@ -1,0 +1,19 @@
+use Rattle.psy_parse.proofs.AgainItems.{Spells-unique}
+use Rattle.psy_parse.proofs.Trees.{tree_or_none}
+use Rattle.psy_parse.proofs.Depths.{deep_or_shallow, Deep-once, not_both}
+use Rattle.psy_parse.proofs.laws.one_tree.Goals as goal
+
+pub returns-clause-some : goal.returns-clause-some
+returns-clause-some c = tree_or_none
+
+pub returns-clause-one : goal.returns-clause-one
+returns-clause-one c = Spells-unique
+
+pub returns-clause-depth : goal.returns-clause-depth
+returns-clause-depth c = deep_or_shallow
+
+pub returns-clause-deep : goal.returns-clause-deep
+returns-clause-deep c = Deep-once
+
+pub returns-clause-not_both : goal.returns-clause-not_both
+returns-clause-not_both c = not_both
