@@ -4,6 +4,7 @@ mod CallTops
 mod Capped
 mod CappedCosts
 mod CostRows
+mod Greatest
 mod Homes
 mod Layers
 mod Limits
@@ -22,4 +23,3 @@ mod Throughs
 mod TopsOf
 mod Turnings
 mod Uncapped
-pub mod Greatest

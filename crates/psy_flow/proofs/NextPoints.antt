@@ -21,9 +21,8 @@ use Rattle.psy_flow.specs.declared.gauge.Gauge.TheVariants as gauge
 use Rattle.psy_flow.specs.declared.tops.Tops.{Tops}
 use Rattle.psy_flow.specs.declared.wanted.Wanted.{Wanted}
 use Rattle.psy_flow.specs.declared.wanted.Wanted.TheVariants as ask
-use Rattle.psy_flow.specs.Behind.{goes_to}
 use Rattle.psy_flow.specs.Flow.{IsAgentOf, IsNext, IsKnown}
-use Rattle.psy_flow.specs.Tops.{meets, called, calls_most, pieces_tops, capped_count, capped_tops}
+use Rattle.psy_flow.specs.Tops.{goes_to, meets, called, calls_most, pieces_tops, capped_count, capped_tops}
 use Rattle.psy_flow.proofs.Bounds.{way_fine}
 use Rattle.psy_flow.proofs.Greatest.{IsTopTo, meets_all, meets_one, only_one, top_to, row_of}
 use Rattle.psy_flow.proofs.Passing.{passing, passing-append, none_passes, one_passes, passing_are, are_passing}

@@ -1,18 +1,11 @@
 -- What comes of going to an `advance` by its number.
-use Rattle.std.specs.Prelude.{◌≡◌, ℕ, ◌+◌, ◌<◌, Bool, List, [], length, is_some, slice_index_or}
-use Rattle.psy_meaning.specs.Statements.{Piece}
+use Rattle.std.specs.Prelude.{◌≡◌, ℕ, ◌+◌, ◌<◌, List, [], length, slice_index_or}
 use Rattle.psy_meaning.specs.Rest.{Rests}
 use Rattle.psy_flow.specs.declared.gauge.Gauge.{Gauge}
-use Rattle.psy_flow.specs.declared.gauge.Gauge.TheVariants as gauge
 use Rattle.psy_flow.specs.declared.points.Search.{Search}
 use Rattle.psy_flow.specs.declared.points.Search.TheVariants as search
 use Rattle.psy_flow.specs.declared.wanted.Wanted.{Wanted}
-use Rattle.psy_flow.specs.declared.wanted.Wanted.TheVariants as ask
-use Rattle.psy_flow.specs.Tops.{called, capped_tops, pieces_tops}
-
--- A way through the pieces goes to the point first.
-abbrev pub goes_to : List Piece → ℕ → Bool
-goes_to pieces point = is_some (pieces_tops gauge.Steps (ask.Between point point) (called []) pieces).to
+use Rattle.psy_flow.specs.Tops.{capped_tops, pieces_tops}
 
 -- Found are the greatest counts of the rest of this number. Further on there is what these rests leave of the number.
 abbrev pub IsBehind : Gauge → Wanted → (ℕ → ℕ) → Rests → ℕ → Search → Type 0

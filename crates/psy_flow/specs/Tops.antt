@@ -1,5 +1,5 @@
 -- The greatest counts of the ways of statements, by how these end.
-use Rattle.std.specs.Prelude.{ℕ, zero, suc, ◌+◌, min, max, Bool, true, ◌&&◌, ◌==◌, nat_le, if◌then◌else◌, List, [], ◌∷◌, ◌++◌, map, Option, Some, None, slice_index_or}
+use Rattle.std.specs.Prelude.{ℕ, zero, suc, ◌+◌, min, max, Bool, true, ◌&&◌, ◌==◌, nat_le, if◌then◌else◌, List, [], ◌∷◌, ◌++◌, map, Option, Some, None, is_some, slice_index_or}
 use Rattle.std.specs.List.{count_by}
 use Rattle.psy_base.specs.declared.limits.TheConstants.{COST, SENDS}
 use Rattle.psy_arith.specs.declared.operators.Op2.{Op2}
@@ -197,6 +197,12 @@ calls_from g above (f ∷ rest) = calls_from g (above ++ call_most g (stmts_tops
 -- Those of all functions of a unit
 abbrev pub calls_most : Gauge → List FunctionDecl → List ℕ
 calls_most g functions = calls_from g [] functions
+
+-- ---- where a way goes
+
+-- A way through the pieces goes to the point first, whatever calls count.
+abbrev pub goes_to : List Piece → ℕ → Bool
+goes_to pieces point = is_some (pieces_tops gauge.Steps (ask.Between point point) (called []) pieces).to
 
 -- ---- as far as is counted
 

@@ -4,8 +4,8 @@ ghost use Rattle.std.specs.Prelude.{◌≡◌, ◌<◌, ◌≤◌, ◌+◌, ◌^
 ghost use Rattle.std.specs.List.{All, Contains, filter, range_with_len};
 ghost use Rattle.psy_tree.specs.declared.unit.Unit.{Unit as Whole};
 ghost use Rattle.psy_meaning.specs.Rest.{rest, rests_of_list};
-ghost use Rattle.psy_flow.specs.Behind.{goes_to};
 ghost use Rattle.psy_flow.specs.Flow.{IsOfSome, IsAgentOf, IsNext, Rises};
+ghost use Rattle.psy_flow.specs.Tops.{goes_to};
 
 use crate::gauge::Gauge;
 use crate::laws::known;

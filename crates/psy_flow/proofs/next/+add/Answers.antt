@@ -2,7 +2,7 @@ use Rattle.std.proofs.Common.{◌+◌, ◌-◌, ◌/◌, ◌++◌, append-nil, s
 use Rattle.std.proofs.lemmas.List.{append_assoc}
 use Rattle.std.proofs.lemmas.Result.{IfOk-weaker}
 use Rattle.psy_meaning.specs.Rest.{rest}
-use Rattle.psy_flow.specs.Behind.{goes_to}
+use Rattle.psy_flow.specs.Tops.{goes_to}
 use Rattle.psy_flow.proofs.NextPoints.{none_more, one_more, halves}
 use Rattle.psy_flow.proofs.Passing.{passing}
 use Rattle.psy_flow.proofs.next.+add.Goals as goal

@@ -1,6 +1,6 @@
 use Rattle.std.proofs.Common.{◌-◌, length, sym, subst, arith}
 use Rattle.psy_meaning.specs.Rest.{rest}
-use Rattle.psy_flow.specs.Behind.{goes_to}
+use Rattle.psy_flow.specs.Tops.{goes_to}
 use Rattle.psy_flow.specs.Flow.{Rises}
 use Rattle.psy_flow.proofs.NextPoints.{found_are, points_of, few_points, numbers_next, some_next, inner_next}
 use Rattle.psy_flow.proofs.Passing.{passing_rise}
