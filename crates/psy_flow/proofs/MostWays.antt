@@ -6,7 +6,7 @@ use Rattle.psy_arith.specs.declared.operators.Op2.{Op2}
 use Rattle.psy_arith.specs.declared.operators.Op2.TheVariants as op
 use Rattle.psy_tree.specs.declared.unit.Expr.{Expr, roll-Expr, fold-roll-Expr, rec-roll-Expr, map-Expr, ind-Expr}
 use Rattle.psy_tree.specs.declared.unit.Expr.TheOpen.{Expr-F}
-use Rattle.psy_meaning.specs.Sizes.{total}
+use Rattle.psy_tree.specs.Paths.{total}
 use Rattle.psy_meaning.specs.Ways.{Sending, Meter, Way, here, one, looking, sending, both, either, ways_through, binary_way, expr_way_step, expr_way}
 use Rattle.psy_flow.specs.declared.gauge.Gauge.{Gauge}
 use Rattle.psy_flow.specs.declared.gauge.Gauge.TheVariants as gauge

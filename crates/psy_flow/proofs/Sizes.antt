@@ -6,7 +6,8 @@ use Rattle.psy_tree.specs.declared.unit.Expr.{Expr, roll-Expr, fold-roll-Expr, m
 use Rattle.psy_tree.specs.declared.unit.Expr.TheOpen.{Expr-F}
 use Rattle.psy_tree.specs.declared.unit.Stmt.{Stmt, roll-Stmt, fold-roll-Stmt, map-Stmt, ind-Stmt}
 use Rattle.psy_tree.specs.declared.unit.Stmt.TheOpen.{Stmt-F}
-use Rattle.psy_meaning.specs.Sizes.{total, binary_size, expr_size_step, expr_size, stmt_size_step, stmt_size, stmts_size}
+use Rattle.psy_tree.specs.Paths.{total}
+use Rattle.psy_meaning.specs.Sizes.{binary_size, expr_size_step, expr_size, stmt_size_step, stmt_size, stmts_size}
 use Rattle.psy_meaning.specs.Depths.{Depth, shallow, deepest, stacked, binary_depth, expr_depth_step, expr_depth, stmt_depth_step, stmt_depth, stmts_depth, loops_step, loops, loops_in}
 
 -- Neither number is greater.

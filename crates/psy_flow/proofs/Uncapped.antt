@@ -6,7 +6,8 @@ use Rattle.psy_base.specs.declared.limits.TheConstants.{FUNCTIONS, NAMES, UNIT_S
 use Rattle.psy_tree.specs.declared.unit.Unit.{Unit as Whole}
 use Rattle.psy_tree.specs.declared.unit.AgentDecl.{AgentDecl}
 use Rattle.psy_tree.specs.declared.unit.FunctionDecl.{FunctionDecl}
-use Rattle.psy_meaning.specs.Sizes.{total, stmts_size, unit_size}
+use Rattle.psy_tree.specs.Paths.{total}
+use Rattle.psy_meaning.specs.Sizes.{stmts_size, unit_size}
 use Rattle.psy_meaning.specs.Depths.{Depth, shallow, deepest, stmts_depth, call_depth, call_depths_from, call_depths, agent_depth}
 use Rattle.psy_meaning.specs.Units.{IsBareFunction, IsOfText}
 use Rattle.psy_flow.specs.Counted.{capped_depth, counted_calls_from, counted_calls}

@@ -14,7 +14,8 @@ use Rattle.psy_code.specs.Views.{View}
 use Rattle.psy_code.specs.Execution.{Copy, Run, RanTo, TrappedBy, copy_from, run_code, standing}
 use Rattle.psy_code.specs.Execution as code
 use Rattle.psy_code.specs.Lasting.{IsOver, Lasted}
-use Rattle.psy_meaning.specs.Sizes.{stmts_size, total}
+use Rattle.psy_tree.specs.Paths.{total}
+use Rattle.psy_meaning.specs.Sizes.{stmts_size}
 use Rattle.psy_meaning.specs.Depths.{Depth, call_depths, loops_in, agent_depth}
 use Rattle.psy_meaning.specs.Sound.{Scope, agent_scope, IsSoundAgent, IsSoundUnit}
 use Rattle.psy_meaning.specs.States.{Store, State, Final, Ended, Trapped, Halts}

@@ -11,7 +11,8 @@ use Rattle.psy_code.specs.declared.code.FunctionCode.{FunctionCode}
 use Rattle.psy_code.specs.declared.instr.Instr.TheVariants as instr
 use Rattle.psy_code.specs.Execution.{Went, does}
 use Rattle.psy_code.specs.Execution as code
-use Rattle.psy_meaning.specs.Sizes.{stmts_size, total}
+use Rattle.psy_tree.specs.Paths.{total}
+use Rattle.psy_meaning.specs.Sizes.{stmts_size}
 use Rattle.psy_meaning.specs.Depths.{Depth, shallow, stmts_depth, call_depth, call_depths_from, call_depths, loops_in}
 use Rattle.psy_meaning.specs.Sound.{Scope, AreSound, function_scope, AreSoundFunctions}
 use Rattle.psy_meaning.specs.States.{State, Final, Ended, Trapped, Got, Value, Stops, Outcome, Falls, Returns, Halts, Callee, cost_1}

@@ -12,7 +12,8 @@ use Rattle.psy_tree.specs.declared.unit.Expr.TheOpen.{Expr-F}
 use Rattle.psy_tree.specs.declared.unit.Stmt.{Stmt, roll-Stmt, map-Stmt, para-roll-Stmt, fold-roll-Stmt}
 use Rattle.psy_tree.specs.declared.unit.Stmt.TheVariants as stmt
 use Rattle.psy_tree.specs.declared.unit.Stmt.TheOpen.{Stmt-F}
-use Rattle.psy_meaning.specs.Sizes.{total, binary_size, expr_size, expr_size_step, stmt_size, stmt_size_step, stmts_size}
+use Rattle.psy_tree.specs.Paths.{total}
+use Rattle.psy_meaning.specs.Sizes.{binary_size, expr_size, expr_size_step, stmt_size, stmt_size_step, stmts_size}
 use Rattle.psy_meaning.specs.Depths.{loops, loops_in, loops_step}
 use Rattle.psy_gen.specs.Emission.{Layout, Emit, Operand, Coded, Part, Places, Placed, base_of, cells_in_slot, named, expr_code, expr_code_step, binary_code, arguments_code, stmt_code, stmt_code_step, stmts_code, block_size, block_loops, places_of, places_step, stmts_places, placed_size}
 

@@ -18,7 +18,8 @@ use Rattle.psy_code.specs.declared.instr.Instr.TheVariants as instr
 use Rattle.psy_code.specs.Views.{Past, Ready, Take, past_of, messages_of, count_as_value, first_of, found_in}
 use Rattle.psy_code.specs.Execution.{index_in, copy_of, op_of, present, does, Went, Trapped}
 use Rattle.psy_code.specs.Execution as code
-use Rattle.psy_meaning.specs.Sizes.{expr_size, expr_size_step, total}
+use Rattle.psy_tree.specs.Paths.{total}
+use Rattle.psy_meaning.specs.Sizes.{expr_size, expr_size_step}
 use Rattle.psy_meaning.specs.Depths.{Depth, shallow, one_deep, deeper, on_top_of, stacked, expr_depth, expr_depth_step}
 use Rattle.psy_meaning.specs.Sound.{Scope, HasSlot, HasCopy, HasPast, HasStream, HasFunction, Each, sound_expr_step, IsSoundExpr}
 use Rattle.psy_meaning.specs.States.{Store, State, Got, Value, Eval, Callee, and_then, cost_1, asking, or_stop, value_at, copy_at, value_or_zero}

@@ -9,7 +9,8 @@ use Rattle.psy_tree.specs.declared.unit.Expr.{Expr, roll-Expr, map-Expr, ind-Exp
 use Rattle.psy_tree.specs.declared.unit.Expr.TheOpen.{Expr-F}
 use Rattle.psy_tree.specs.declared.unit.Stmt.{Stmt, roll-Stmt, map-Stmt, fold-roll-Stmt, ind-Stmt}
 use Rattle.psy_tree.specs.declared.unit.Stmt.TheOpen.{Stmt-F}
-use Rattle.psy_meaning.specs.Sizes.{total, binary_size, expr_size, expr_size_step, stmt_size, stmt_size_step, stmts_size}
+use Rattle.psy_tree.specs.Paths.{total}
+use Rattle.psy_meaning.specs.Sizes.{binary_size, expr_size, expr_size_step, stmt_size, stmt_size_step, stmts_size}
 use Rattle.psy_meaning.specs.Depths.{loops, loops_in, loops_step}
 use Rattle.psy_gen.specs.Emission.{Layout, Operand, Part, expr_code, exprs_code, expr_code_step, lazy_code, binary_code, arguments_code, stmt_code, stmt_code_step, stmts_code, block_code, block_size, block_loops}
 use Rattle.psy_gen.proofs.Equations.{operand, part, code_roll, size_roll, stmt_roll, stmt_size_roll}

@@ -3,7 +3,7 @@ use Rattle.std.proofs.Common.{◌≡◌, refl, sym, ap, subst, ◌∙◌, arith}
 use Rattle.std.specs.Prelude.{ℕ, zero, suc, ◌+◌, ◌<◌, ◌==◌, Bool, true, false, T, if◌then◌else◌, List, [], ◌∷◌, ◌++◌, map, take, length, slice_get, slice_set, slice_index_or, Option, Some, None, ℤ, pos, negsuc, nat_lt}
 use Rattle.psy_code.specs.Views.{View, found_in, past_of, messages_of, without_first, taken_from}
 use Rattle.psy_code.specs.Execution.{Copy, copy_of, with_copy, index_in}
-use Rattle.psy_meaning.specs.Sizes.{total}
+use Rattle.psy_tree.specs.Paths.{total}
 use Rattle.psy_meaning.specs.Sound.{Scope, HasCopy, HasPast, HasStream}
 use Rattle.psy_meaning.specs.Alike.{is_there}
 use Rattle.psy_meaning.specs.States.{Store, cells_at, value_at, copy_at, value_or_zero}

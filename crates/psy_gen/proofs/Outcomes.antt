@@ -9,7 +9,7 @@ use Rattle.psy_code.specs.declared.code.AgentCode.{AgentCode}
 use Rattle.psy_code.specs.declared.instr.Instr.{Instr}
 use Rattle.psy_code.specs.Execution.{Machine, Frame, OpenCall, Copy, Went, does, call_by, state_then, with_cell, with_counter, with_frame}
 use Rattle.psy_code.specs.Execution as code
-use Rattle.psy_meaning.specs.Sizes.{total}
+use Rattle.psy_tree.specs.Paths.{total}
 use Rattle.psy_meaning.specs.Sound.{Scope}
 use Rattle.psy_meaning.specs.States.{Store, State, Got, Value, Stops, Outcome, Falls, Returns, Halts, Act, with_value, then_do}
 use Rattle.psy_gen.proofs.Leads.{Leads, after, by_one, went}

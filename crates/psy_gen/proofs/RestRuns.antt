@@ -9,7 +9,8 @@ use Rattle.psy_code.specs.declared.code.Code.{Code}
 use Rattle.psy_code.specs.declared.code.AgentCode.{AgentCode}
 use Rattle.psy_code.specs.declared.instr.Instr.{Instr}
 use Rattle.psy_code.specs.declared.instr.Instr.TheVariants as instr
-use Rattle.psy_meaning.specs.Sizes.{expr_size, stmt_size, stmts_size, stmt_size_step, total}
+use Rattle.psy_tree.specs.Paths.{total}
+use Rattle.psy_meaning.specs.Sizes.{expr_size, stmt_size, stmts_size, stmt_size_step}
 use Rattle.psy_meaning.specs.Depths.{Depth, shallow, deeper, stmt_depth, stmts_depth, stmt_depth_step, loops, loops_in, loops_step}
 use Rattle.psy_meaning.specs.Sound.{Scope, IsSoundStmt, AreSound, sound_stmt_step}
 use Rattle.psy_meaning.specs.States.{State, Outcome, Falls, Returns, Halts, Act, Callee, then_do}

@@ -11,7 +11,8 @@ use Rattle.psy_tree.specs.declared.unit.AgentDecl.{AgentDecl}
 use Rattle.psy_tree.specs.declared.unit.Slots.{Slots}
 use Rattle.psy_tree.specs.declared.unit.Expr.{Expr}
 use Rattle.psy_tree.specs.declared.unit.Stmt.{Stmt}
-use Rattle.psy_meaning.specs.Sizes.{total, expr_size, stmts_size}
+use Rattle.psy_tree.specs.Paths.{total}
+use Rattle.psy_meaning.specs.Sizes.{expr_size, stmts_size}
 use Rattle.psy_meaning.specs.Units.{IsBareSlot, IsBareAgent, IsOfText}
 use Rattle.psy_gen.specs.Emission.{Emit, Layout, exprs_code, stmts_code, codes_from, agent_layout}
 use Rattle.psy_gen.proofs.Lengths.{exprs_length, stmts_length}

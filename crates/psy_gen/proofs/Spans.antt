@@ -1,7 +1,7 @@
 -- Where slots stand.
 use Rattle.std.proofs.Common.{◌≡◌, ℕ, zero, suc, ◌+◌, List, [], ◌∷◌, ◌++◌, map, take, refl, sym, ap, ◌∙◌, arith}
 use Rattle.std.specs.Prelude.{Some, None, slice_get, slice_index_or}
-use Rattle.psy_meaning.specs.Sizes.{total}
+use Rattle.psy_tree.specs.Paths.{total}
 use Rattle.psy_gen.specs.declared.layout.Span.{Span}
 use Rattle.psy_gen.specs.Spans.{StandFrom}
 

@@ -15,7 +15,8 @@ use Rattle.psy_code.specs.declared.instr.Instr.TheVariants as instr
 use Rattle.psy_code.specs.Views.{Send}
 use Rattle.psy_code.specs.Execution.{index_in, copy_of, with_copy, present, does, Went, Trapped, op_of}
 use Rattle.psy_code.specs.Execution as code
-use Rattle.psy_meaning.specs.Sizes.{expr_size, stmt_size, stmts_size, stmt_size_step, total}
+use Rattle.psy_tree.specs.Paths.{total}
+use Rattle.psy_meaning.specs.Sizes.{expr_size, stmt_size, stmts_size, stmt_size_step}
 use Rattle.psy_meaning.specs.Depths.{Depth, shallow, deeper, deepest, on_top_of, expr_depth, stmt_depth, stmts_depth, stmt_depth_step, loops, loops_in, loops_step}
 use Rattle.psy_meaning.specs.Sound.{Scope, HasSlot, HasCopy, Each, IsSoundExpr, IsSoundStmt, AreSound, sound_stmt_step}
 use Rattle.psy_meaning.specs.States.{State, Ended, Outcome, Falls, Returns, Halts, Act, Callee, with_value, then_do, cost_1, asking, trapping, or_halt, copy_at, with_slot, with_copy_at}

@@ -13,7 +13,8 @@ use Rattle.psy_tree.specs.declared.unit.Unit.{Unit as Whole}
 use Rattle.psy_tree.specs.declared.unit.AgentDecl.{AgentDecl}
 use Rattle.psy_tree.specs.declared.unit.FunctionDecl.{FunctionDecl}
 use Rattle.psy_tree.specs.declared.unit.VarDecl.{VarDecl}
-use Rattle.psy_meaning.specs.Sizes.{total, unit_size}
+use Rattle.psy_tree.specs.Paths.{total}
+use Rattle.psy_meaning.specs.Sizes.{unit_size}
 use Rattle.psy_meaning.specs.Alike.{owned_copy, owned_from}
 use Rattle.psy_gen.specs.Emission.{Emit, copy_init, stmts_code, codes_from, function_layout, function_code, function_size, functions_size, function_entry, function_entries, agent_layout, agent_code, agent_size, agent_entry, agent_entries, code_of}
 use Rattle.psy_gen.proofs.Lengths.{stmts_length}

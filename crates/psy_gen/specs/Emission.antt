@@ -20,7 +20,8 @@ use Rattle.psy_code.specs.declared.instr.Binary.TheVariants as two
 use Rattle.psy_code.specs.declared.instr.Instr.{Instr}
 use Rattle.psy_code.specs.declared.instr.Instr.TheVariants as instr
 use Rattle.psy_code.specs.Execution.{Copy}
-use Rattle.psy_meaning.specs.Sizes.{total, expr_size, stmt_size, stmts_size}
+use Rattle.psy_tree.specs.Paths.{total}
+use Rattle.psy_meaning.specs.Sizes.{expr_size, stmt_size, stmts_size}
 use Rattle.psy_meaning.specs.Depths.{loops, loops_in, agent_depth}
 use Rattle.psy_meaning.specs.Alike.{first_slots, first_copies}
 

@@ -3,7 +3,7 @@
 ghost use Rattle.std.specs.Prelude.{◌≡◌, ◌+◌, ◌<◌, ◌≤◌, ◌^◌, ◌∷◌, ◌++◌, map, length, replicate, slice_get, Some, IfOk, OnOk};
 ghost use Rattle.std.specs.List.{flat_map};
 ghost use Rattle.psy_base.specs.declared.limits.TheConstants.{VARIABLES};
-ghost use Rattle.psy_meaning.specs.Sizes.{total};
+ghost use Rattle.psy_tree.specs.Paths.{total};
 ghost use Rattle.psy_meaning.specs.Alike.{owned_copy, owned_from};
 ghost use Rattle.psy_meaning.specs.Depths.{loops_in};
 ghost use Rattle.psy_meaning.specs.Units.{IsOfText};

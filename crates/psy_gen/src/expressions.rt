@@ -1,7 +1,8 @@
 //! The code of expressions.
 
 ghost use Rattle.std.specs.Prelude.{◌≡◌, ◌+◌, ◌<◌, ◌^◌, [], ◌++◌, map, length, OnOk};
-ghost use Rattle.psy_meaning.specs.Sizes.{total, expr_size};
+ghost use Rattle.psy_tree.specs.Paths.{total};
+ghost use Rattle.psy_meaning.specs.Sizes.{expr_size};
 ghost use Rattle.psy_gen.specs.Emission.{named, expr_code, exprs_code};
 
 use crate::instrs::Instrs;

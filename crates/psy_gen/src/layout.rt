@@ -1,7 +1,7 @@
 //! Where the cells of slots stand.
 
 ghost use Rattle.std.specs.Prelude.{◌≡◌, ◌+◌, ◌<◌, ◌^◌, [], ◌∷◌, ◌++◌, OnOk};
-ghost use Rattle.psy_meaning.specs.Sizes.{total};
+ghost use Rattle.psy_tree.specs.Paths.{total};
 ghost use Rattle.psy_gen.specs.Emission.{base_of, cells_in_slot};
 
 use psy_base::{Items, Memory};

@@ -21,7 +21,8 @@ use Rattle.psy_tree.specs.declared.unit.StreamDecl.{StreamDecl}
 use Rattle.psy_tree.specs.declared.unit.AgentDecl.{AgentDecl}
 use Rattle.psy_tree.specs.Scope.{Site, local_slot, own_slots, slots_at, stands_for, item_at}
 use Rattle.psy_tree.specs.Places.{Uses, Ranges, cells_places}
-use Rattle.psy_tree.specs.Rules.{NoFault, is_none, is_clock, is_agent, is_function, is_stream, is_temporal, has_params, declared_depth, in_agent, slot_is_array, owner_elsewhere, receiver_elsewhere, reaches, unsuited, below}
+use Rattle.std.specs.Option.{is_none}
+use Rattle.psy_tree.specs.Rules.{NoFault, is_clock, is_agent, is_function, is_stream, is_temporal, has_params, declared_depth, in_agent, slot_is_array, owner_elsewhere, receiver_elsewhere, reaches, unsuited, below}
 use Rattle.psy_tree.specs.Stands.{unit_of, inside_of, counting, is_variable, number_of_item, number_at, slot_number, slot_of, variables, streams}
 use Rattle.psy_code.specs.Execution.{Copy}
 use Rattle.psy_meaning.specs.Alike.{owned_copy, owned_from}

@@ -15,7 +15,8 @@ use Rattle.psy_tree.specs.declared.rules.RuleKind.TheVariants as kind
 use Rattle.psy_tree.specs.declared.unit.FunctionDecl.{FunctionDecl}
 use Rattle.psy_tree.specs.Scope.{Site, SlotName, scalar, local_slot, own_slots, slots_at, stands_for}
 use Rattle.psy_tree.specs.Places.{Acts}
-use Rattle.psy_tree.specs.Rules.{is_none, is_agent, is_function, is_temporal, has_params, in_agent, in_function, slot_is_array, function_from, unsuited, below}
+use Rattle.std.specs.Option.{is_none}
+use Rattle.psy_tree.specs.Rules.{is_agent, is_function, is_temporal, has_params, in_agent, in_function, slot_is_array, function_from, unsuited, below}
 use Rattle.psy_tree.specs.Stands.{inside_of, number_of_item, slot_number, functions, each_from}
 use Rattle.psy_meaning.specs.Sound.{Scope, HasSlot, HasFunction, function_scope}
 use Rattle.psy_tree.proofs.Numbers.{length-each, given_at, gives_functions}

@@ -19,7 +19,8 @@ use Rattle.psy_tree.specs.declared.unit.Stmt.TheOpen.{Stmt-F}
 use Rattle.psy_tree.specs.declared.unit.Point.{Point}
 use Rattle.psy_tree.specs.Scope.{Site, stands_for}
 use Rattle.psy_tree.specs.Stands.{Numbering, expr_of, expr_step, value_of, stmt_of, stmt_step, stmts_of, set_by}
-use Rattle.psy_meaning.specs.Sizes.{total, binary_size, expr_size_step, expr_size, stmt_size_step, stmt_size, stmts_size}
+use Rattle.psy_tree.specs.Paths.{total}
+use Rattle.psy_meaning.specs.Sizes.{binary_size, expr_size_step, expr_size, stmt_size_step, stmt_size, stmts_size}
 
 expr_rolled : (x : Expr-F Expr) → expr_size (roll-Expr x) ≡ expr_size_step (map-Expr Expr ℕ expr_size x)
 expr_rolled x = fold-roll-Expr ℕ expr_size_step x

@@ -1,6 +1,6 @@
 -- How many operands an agent's machine holds at most, and how many cells and counters of open calls.
 use Rattle.std.specs.Prelude.{ℕ, ◌+◌, max, List, [], ◌∷◌, ◌++◌, map, length, Option, Some, None, slice_index_or}
-use Rattle.psy_meaning.specs.Sizes.{total}
+use Rattle.psy_tree.specs.Paths.{total}
 use Rattle.psy_arith.specs.declared.operators.Op2.{Op2}
 use Rattle.psy_arith.specs.declared.operators.Op2.TheVariants as op
 use Rattle.psy_tree.specs.declared.unit.Unit.{Unit as Whole}

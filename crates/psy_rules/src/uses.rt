@@ -2,6 +2,7 @@
 
 ghost use Rattle.std.specs.Prelude.{◌≡◌, ◌||◌, ◌&&◌, not};
 ghost use Rattle.std.specs.Option.{option_copied};
+ghost use Rattle.std.specs.Option as option;
 ghost use Rattle.psy_tree.specs.Rules as rules;
 ghost use Rattle.psy_tree.specs.Scope.{Site, item_at};
 ghost use Rattle.psy_tree.specs.Places as places;
@@ -133,19 +134,10 @@ fn is_call(what: Asks) -> bool
     matches!(what, Asks::Call(_))
 }
 
-fn is_none(found: Option<Found>) -> bool
-    ensures { result ≡ rules.is_none found }
-{
-    match found {
-        None => true,
-        Some(_) => false,
-    }
-}
-
 fn is_unknown(scope: &Scope<'_>, what: Asks, found: Option<Found>) -> bool
-    ensures { result ≡ (rules.is_none found || (rules.is_parent what && rules.below (site_of scope.now) found)) }
+    ensures { result ≡ (option.is_none found || (rules.is_parent what && rules.below (site_of scope.now) found)) }
 {
-    is_none(found) || (is_parent(what) && clock_below(scope, found))
+    found.is_none() || (is_parent(what) && clock_below(scope, found))
 }
 
 fn is_wrong_kind(scope: &Scope<'_>, what: Asks, found: Option<Found>) -> bool

@@ -19,7 +19,8 @@ use Rattle.psy_tree.specs.declared.reach.Found.{Found}
 use Rattle.psy_tree.specs.declared.reach.Found.TheVariants as found
 use Rattle.psy_tree.specs.Scope.{stands_for, stands_globally}
 use Rattle.psy_tree.specs.Places.{Derives, Uses}
-use Rattle.psy_tree.specs.Rules.{NoFault, is_none, is_clock, shift_of, lawful, flat, sound_found, sound_parent, sound, sound_clocks, AreClocks, too_slow, clock_at_fault, below}
+use Rattle.std.specs.Option.{is_none}
+use Rattle.psy_tree.specs.Rules.{NoFault, is_clock, shift_of, lawful, flat, sound_found, sound_parent, sound, sound_clocks, AreClocks, too_slow, clock_at_fault, below}
 use Rattle.psy_tree.specs.Stands.{unit_of, counting}
 use Rattle.psy_tree.proofs.Clocks.{clocks_more, lawful_more, no_clocks}
 use Rattle.psy_tree.proofs.Faultless.{Fine, head_at, head_stands, fine_head, stands, asks_parent}

@@ -15,7 +15,8 @@ use Rattle.psy_tree.specs.declared.reach.Found.{Found}
 use Rattle.psy_tree.specs.declared.reach.Found.TheVariants as found
 use Rattle.psy_tree.specs.Scope.{Site, item_entries, first_named, stands_for, stands_globally}
 use Rattle.psy_tree.specs.Places.{Place, Uses, Ranges, Sited, token_of, head_places, inside_places, all_at, item_places, places_from, places}
-use Rattle.psy_tree.specs.Rules.{NoFault, is_fault, is_none, is_parent, below, suits_by, unsuited, is_clock, is_agent, is_stream}
+use Rattle.std.specs.Option.{is_none}
+use Rattle.psy_tree.specs.Rules.{NoFault, is_fault, is_parent, below, suits_by, unsuited, is_clock, is_agent, is_stream}
 use Rattle.psy_tree.specs.Stands.{counting, number_of_item, global_number, number_at, inside_of}
 use Rattle.psy_tree.proofs.Among.{Among, contains, among_left, among_right}
 use Rattle.psy_tree.proofs.Entries.{entries_split}

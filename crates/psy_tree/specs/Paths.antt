@@ -27,6 +27,7 @@ quiet = fold-RawStmt Bool quiet_step
 abbrev pub quiet_list : List RawStmt → Bool
 quiet_list stmts = all (map quiet stmts)
 
+-- The sum of these numbers
 abbrev pub total : List ℕ → ℕ
 total [] = 0
 total (n ∷ ns) = n + total ns

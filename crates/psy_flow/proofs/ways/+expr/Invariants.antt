@@ -1,5 +1,5 @@
 use Rattle.std.proofs.Common.{◌≡◌, min, map, take}
-use Rattle.psy_meaning.specs.Sizes.{total}
+use Rattle.psy_tree.specs.Paths.{total}
 use Rattle.psy_flow.specs.Tops.{limit_of, called, expr_most}
 use Rattle.psy_flow.proofs.ways.+expr.Given as goal
 

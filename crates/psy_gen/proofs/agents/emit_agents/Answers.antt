@@ -1,6 +1,6 @@
 use Rattle.std.proofs.Common.{◌+◌, List, ◌++◌, drop, map, length, sym, ap, ◌∙◌, arith}
 use Rattle.psy_tree.specs.declared.unit.AgentDecl.{AgentDecl}
-use Rattle.psy_meaning.specs.Sizes.{total}
+use Rattle.psy_tree.specs.Paths.{total}
 use Rattle.psy_gen.specs.Emission.{codes_from, agent_code, agent_size, agent_entries}
 use Rattle.psy_gen.proofs.Patches.{drop_read}
 use Rattle.psy_gen.proofs.Small.{codes_left}

@@ -1,5 +1,5 @@
 use Rattle.std.proofs.Common.{ap, arith}
-use Rattle.psy_meaning.specs.Sizes.{total}
+use Rattle.psy_tree.specs.Paths.{total}
 use Rattle.psy_gen.proofs.Small.{cells_through}
 use Rattle.psy_gen.proofs.agents.layout_of.Goals as goal
 

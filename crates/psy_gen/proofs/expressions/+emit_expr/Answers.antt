@@ -2,7 +2,8 @@ use Rattle.std.proofs.Common.{rules, ◌+◌, List, ◌++◌, drop, map, length,
 use Rattle.std.proofs.lemmas.Result.{on_ok_weaker}
 use Rattle.psy_code.specs.declared.instr.Instr.TheVariants as instr
 use Rattle.psy_tree.specs.declared.unit.Expr.{Expr, the_lemmas}
-use Rattle.psy_meaning.specs.Sizes.{total, binary_size, expr_size}
+use Rattle.psy_tree.specs.Paths.{total}
+use Rattle.psy_meaning.specs.Sizes.{binary_size, expr_size}
 use Rattle.psy_gen.specs.Emission.{exprs_code}
 use Rattle.psy_gen.proofs.Equations.{operand, code_number, code_slot, code_copy, code_cell, code_past, code_ready, code_take, code_unary, code_binary, code_call, arguments_behind, binary_eager, size_binary}
 use Rattle.psy_gen.proofs.Patches.{then_one, patch_lazy, then_operator, exprs_more, drop_read, behind_expr, behind_one}

@@ -1,5 +1,5 @@
 use Rattle.std.proofs.Common.{refl, ap, arith}
-use Rattle.psy_meaning.specs.Sizes.{total}
+use Rattle.psy_tree.specs.Paths.{total}
 use Rattle.psy_gen.proofs.Spans.{all_cells, stand_more}
 use Rattle.psy_gen.proofs.layout.Layout.add.Goals as goal
 

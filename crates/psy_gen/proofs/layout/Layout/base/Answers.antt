@@ -1,5 +1,5 @@
 use Rattle.std.proofs.Common.{sym, ap, ◌∙◌, take}
-use Rattle.psy_meaning.specs.Sizes.{total}
+use Rattle.psy_tree.specs.Paths.{total}
 use Rattle.psy_gen.specs.Emission.{Layout}
 use Rattle.psy_gen.proofs.Spans.{base_found, base_behind}
 use Rattle.psy_gen.proofs.layout.Layout.base.Goals as goal
