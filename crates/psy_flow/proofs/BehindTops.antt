@@ -1,6 +1,6 @@
 -- The rests of statements, and their tops.
 use Rattle.std.proofs.Common.{◌≡◌, ℕ, zero, suc, ◌+◌, ◌-◌, ◌<◌, ◌≤◌, ◌≢◌, List, [], ◌∷◌, ◌++◌, drop, length, get_or, Option, Some, refl, sym, ap, subst, ◌∙◌, arith}
-use Rattle.std.proofs.lemmas.List.{length-append, length-map, drop_all}
+use Rattle.std.proofs.lemmas.List.{length-append, length-map, drop_all, get_or_append_left}
 use Rattle.psy_tree.specs.declared.unit.Expr.{Expr}
 use Rattle.psy_tree.specs.declared.unit.Stmt.{Stmt, roll-Stmt, para-roll-Stmt, ind-Stmt}
 use Rattle.psy_tree.specs.declared.unit.Stmt.TheVariants as stmt
@@ -9,7 +9,6 @@ use Rattle.psy_meaning.specs.Statements.{Piece, Do, Hop}
 use Rattle.psy_meaning.specs.Rest.{Rests, each_then, pieces_of, rests_step, rests_of, rest, rests_of_list}
 use Rattle.psy_flow.specs.declared.gauge.Gauge.{Gauge}
 use Rattle.psy_flow.specs.declared.tops.Tops.{Tops}
-use Rattle.psy_flow.specs.declared.wanted.Wanted.{Wanted}
 use Rattle.psy_flow.specs.declared.points.Search.{Search}
 use Rattle.psy_flow.specs.declared.points.Search.TheVariants as search
 use Rattle.psy_flow.specs.Tops.{in_step, falling, behind, or_else, on_from, leaving, stmt_tops, stmts_tops, pieces_tops, capped_tops}
@@ -37,14 +36,7 @@ rests_bare = ind-Stmt (λ t. Bare t → rests_of t ≡ []) (λ x y is. bare_laye
 pub nothing_in : (t : Stmt) (n : ℕ) → Bare t → n ≡ length (rests_of t) + n
 nothing_in t n h = omega (arith, ap length (rests_bare t h))
 
--- ---- a rest by its number
-
-get_or-append_first : (xs ys : Rests) (n : ℕ) → n < length xs → get_or (xs ++ ys) n [] ≡ get_or xs n []
-get_or-append_first [] ys n h = absurd (omega arith)
-get_or-append_first (x ∷ xs) ys zero h = refl
-get_or-append_first (x ∷ xs) ys (suc n) h = get_or-append_first xs ys n (omega arith)
-
-module _ (g : Gauge) (wanted : Wanted) (calls : ℕ → ℕ) where
+module _ (g : Gauge) (wanted : Option ℕ) (calls : ℕ → ℕ) where
   abbrev Here : Rests → ℕ → Search → Type 0
   Here = IsBehind g wanted calls
 
@@ -55,7 +47,7 @@ module _ (g : Gauge) (wanted : Wanted) (calls : ℕ → ℕ) where
   -- ---- found, and further on
 
   found_first : (t : Tops) (xs ys : Rests) (n : ℕ) → Here xs n (search.Found t) → Here (xs ++ ys) n (search.Found t)
-  found_first t xs ys n h = (omega (arith, h.0, length-append xs ys), h.1 ∙ sym (ap (λ ps. capped_tops g (pieces_tops g wanted calls ps)) (get_or-append_first xs ys n h.0)))
+  found_first t xs ys n h = (omega (arith, h.0, length-append xs ys), h.1 ∙ sym (ap (λ ps. capped_tops g (pieces_tops g wanted calls ps)) (get_or_append_left xs ys [] n h.0)))
 
   found_each : (t second both : Tops) (xs : Rests) (ps : List Piece) (n : ℕ) → Here xs n (search.Found t) → second ≡ capped_tops g (pieces_tops g wanted calls ps) → both ≡ joined t second → Here (each_then xs ps) n (search.Found both)
   found_each t second both xs ps n h q e = (

@@ -7,7 +7,6 @@ use Rattle.psy_meaning.specs.Paths.{holds_advance, NoneAdvances}
 use Rattle.psy_meaning.specs.Ways.{Way, Course, Fell, Back, here, one, both, courses_through, course_by, back_way, callee_way, with_way, callee_ways_from, callee_ways}
 use Rattle.psy_flow.specs.declared.gauge.Gauge.{Gauge}
 use Rattle.psy_flow.specs.declared.tops.Tops.{Tops}
-use Rattle.psy_flow.specs.declared.wanted.Wanted.TheVariants as ask
 use Rattle.psy_flow.specs.Tops.{in_step, plus, greater, stmts_tops, count_or_zero, call_most, called, calls_from, calls_most}
 use Rattle.psy_flow.proofs.MostWays.{IsMost, most_here, most_one, most_both}
 use Rattle.psy_flow.proofs.TopsOf.{IsTop, AreTops, top_same, top_either, fits_stmts}
@@ -31,14 +30,14 @@ top_fallen g way (Some k) p =
     let swapped : k + two ≡ two + k = omega arith in
     subst (IsMost g (both way (both one one))) swapped (most_both g way (both one one) k two p (most_both g one one (in_step g) (in_step g) (most_one g) (most_one g)))
 
-most_callee : (g : Gauge) (ways : ℕ → Way) (calls : ℕ → ℕ) → ((f : ℕ) → IsMost g (ways f) (calls f)) → (f : FunctionDecl) → holds_advance f.stmts ≡ false → IsMost g (callee_way ways f) (call_most g (stmts_tops g ask.Any calls f.stmts))
+most_callee : (g : Gauge) (ways : ℕ → Way) (calls : ℕ → ℕ) → ((f : ℕ) → IsMost g (ways f) (calls f)) → (f : FunctionDecl) → holds_advance f.stmts ≡ false → IsMost g (callee_way ways f) (call_most g (stmts_tops g None calls f.stmts))
 most_callee g ways calls all f h =
     let course : Course = courses_through (course_by ways) f.stmts in
-    let t : Tops = stmts_tops g ask.Any calls f.stmts in
-    let p : AreTops g ask.Any course t = fits_stmts g ask.Any ways calls all f.stmts in
+    let t : Tops = stmts_tops g None calls f.stmts in
+    let p : AreTops g None course t = fits_stmts g None ways calls all f.stmts in
     most_there g (back_way course) (greater t.back (plus (in_step g + in_step g) t.fell))
     (top_either g (course Back) (both (course Fell) (both one one)) t.back (plus (in_step g + in_step g) t.fell) p.back (top_fallen g (course Fell) t.fell p.fell))
-    (there_back g t (home_stmts g ask.Any calls f.stmts h))
+    (there_back g t (home_stmts g None calls f.stmts h))
 
 -- ---- one call more in the row
 
@@ -70,7 +69,7 @@ most_with g above ways last n all p f = by (f == length above) refl
 most_from : (g : Gauge) (number : ℕ) (above : List ℕ) (ways : ℕ → Way) (fs : List FunctionDecl) → length above ≡ number → ((f : ℕ) → IsMost g (ways f) (called above f)) → NoneAdvances fs → (f : ℕ) → IsMost g (callee_ways_from number ways fs f) (called (calls_from g above fs) f)
 most_from g number above ways [] e all h = all
 most_from g number above ways (x ∷ fs) e all h =
-    let n : ℕ = call_most g (stmts_tops g ask.Any (called above) x.stmts) in
+    let n : ℕ = call_most g (stmts_tops g None (called above) x.stmts) in
     let its : Way = callee_way ways x in
     let last : IsMost g its n = most_callee g ways (called above) all x (h 0 x (omega arith)) in
     most_from g (number + 1) (above ++ n ∷ []) (with_way number its ways) fs (length-append above (n ∷ []) ∙ ap (λ k. k + 1) e)

@@ -10,9 +10,7 @@ use Rattle.psy_meaning.specs.Statements.{Piece}
 use Rattle.psy_flow.specs.declared.gauge.Gauge.{Gauge}
 use Rattle.psy_flow.specs.declared.gauge.Gauge.TheVariants as gauge
 use Rattle.psy_flow.specs.declared.tops.Tops.{Tops}
-use Rattle.psy_flow.specs.declared.wanted.Wanted.{Wanted}
 use Rattle.psy_flow.specs.Flow.{IsNext, HasCost, IsCut}
-use Rattle.psy_flow.specs.declared.wanted.Wanted.TheVariants as ask
 use Rattle.psy_flow.specs.Tops.{limit_of, called, call_most, stmts_tops, pieces_tops, calls_from, calls_most, capped_count, capped_tops, capped_from}
 use Rattle.psy_flow.proofs.Greatest.{IsTopTo, top_to, row_of}
 use Rattle.psy_flow.proofs.Related.{Either, Related, Rows, call_related, rows_more, row_related, stmts_related, pieces_related}
@@ -55,18 +53,18 @@ module _ (g : Gauge) where
   same_from : (xs ys : List ℕ) (functions : List FunctionDecl) → SameRows xs ys → SameRows (capped_from g xs functions) (calls_from g ys functions)
   same_from xs ys [] h = h
   same_from xs ys (f ∷ fs) h =
-      let a = call_most g (stmts_tops g ask.Any (called xs) f.stmts) in
-      let b = call_most g (stmts_tops g ask.Any (called ys) f.stmts) in
-      let one : Same limit a b = call_related (Same limit) (λ n. refl) (sums limit) (maxima limit) g _ _ (stmts_related (Same limit) (λ n. refl) (sums limit) (maxima limit) g (called xs) (called ys) (same_calls xs ys h) ask.Any f.stmts) in
+      let a = call_most g (stmts_tops g None (called xs) f.stmts) in
+      let b = call_most g (stmts_tops g None (called ys) f.stmts) in
+      let one : Same limit a b = call_related (Same limit) (λ n. refl) (sums limit) (maxima limit) g _ _ (stmts_related (Same limit) (λ n. refl) (sums limit) (maxima limit) g (called xs) (called ys) (same_calls xs ys h) None f.stmts) in
       let cut : Same limit (min a limit) b = omega (arith, one) in
       same_from (xs ++ min a limit ∷ []) (ys ++ b ∷ []) fs (rows_more (Same limit) (λ n. refl) (sums limit) (maxima limit) xs ys (min a limit) b h cut)
 
   -- Capping the counts of calls changes no capped count.
-  pub capped_calls : (wanted : Wanted) (functions : List FunctionDecl) (pieces : List Piece) → capped_tops g (pieces_tops g wanted (called (capped_from g [] functions)) pieces) ≡ capped_tops g (pieces_tops g wanted (called (calls_most g functions)) pieces)
+  pub capped_calls : (wanted : Option ℕ) (functions : List FunctionDecl) (pieces : List Piece) → capped_tops g (pieces_tops g wanted (called (capped_from g [] functions)) pieces) ≡ capped_tops g (pieces_tops g wanted (called (calls_most g functions)) pieces)
   capped_calls wanted functions pieces =
       same_tops g _ _ (pieces_related (Same limit) (λ n. refl) (sums limit) (maxima limit) g (called (capped_from g [] functions)) (called (calls_most g functions)) (same_calls _ _ (same_from [] [] functions (tt {0}))) wanted pieces)
 
-cut_of : (functions : List FunctionDecl) (agent : AgentDecl) (point : ℕ) (o : Option ℕ) → (to : ℕ) × IsNext functions agent point to → IsTopTo gauge.Steps ask.Any functions (rest agent.stmts point) o → IsCut (HasCost functions agent point) COST (unwrap_or (capped_count gauge.Steps o) 0)
+cut_of : (functions : List FunctionDecl) (agent : AgentDecl) (point : ℕ) (o : Option ℕ) → (to : ℕ) × IsNext functions agent point to → IsTopTo gauge.Steps None functions (rest agent.stmts point) o → IsCut (HasCost functions agent point) COST (unwrap_or (capped_count gauge.Steps o) 0)
 cut_of functions agent point None (to, (met, way)) top = absurd (top to met refl way)
 cut_of functions agent point (Some n) next ((to, met, asked, way, same), most) = (
   n,
@@ -74,10 +72,10 @@ cut_of functions agent point (Some n) next ((to, met, asked, way, same), most) =
   refl,
 )
 
-pub worst_cut : (functions : List FunctionDecl) (agent : AgentDecl) (point : ℕ) (t : Tops) (row : List ℕ) → NoneAdvances functions → (to : ℕ) × IsNext functions agent point to → row ≡ capped_from gauge.Steps [] functions → t ≡ capped_tops gauge.Steps (pieces_tops gauge.Steps ask.Any (called row) (rest agent.stmts point)) → IsCut (HasCost functions agent point) COST (unwrap_or t.to 0)
+pub worst_cut : (functions : List FunctionDecl) (agent : AgentDecl) (point : ℕ) (t : Tops) (row : List ℕ) → NoneAdvances functions → (to : ℕ) × IsNext functions agent point to → row ≡ capped_from gauge.Steps [] functions → t ≡ capped_tops gauge.Steps (pieces_tops gauge.Steps None (called row) (rest agent.stmts point)) → IsCut (HasCost functions agent point) COST (unwrap_or t.to 0)
 worst_cut functions agent point t row none next e h =
     let pieces = rest agent.stmts point in
     let calls = called (calls_most gauge.Steps functions) in
-    let there : t ≡ capped_tops gauge.Steps (pieces_tops gauge.Steps ask.Any calls pieces) = h ∙ ap (λ r. capped_tops gauge.Steps (pieces_tops gauge.Steps ask.Any (called r) pieces)) e ∙ capped_calls gauge.Steps ask.Any functions pieces in
+    let there : t ≡ capped_tops gauge.Steps (pieces_tops gauge.Steps None calls pieces) = h ∙ ap (λ r. capped_tops gauge.Steps (pieces_tops gauge.Steps None (called r) pieces)) e ∙ capped_calls gauge.Steps None functions pieces in
     subst (λ o. IsCut (HasCost functions agent point) COST (unwrap_or o 0)) (sym (ap (λ (u : Tops). u.to) there))
-    (cut_of functions agent point (pieces_tops gauge.Steps ask.Any calls pieces).to next (top_to gauge.Steps ask.Any functions calls pieces none (row_of gauge.Steps functions none)))
+    (cut_of functions agent point (pieces_tops gauge.Steps None calls pieces).to next (top_to gauge.Steps None functions calls pieces none (row_of gauge.Steps functions none)))

@@ -1,14 +1,13 @@
 -- The row of the functions' costs.
-use Rattle.std.proofs.Common.{◌≡◌, ℕ, ◌+◌, ◌<◌, min, List, [], ◌∷◌, ◌++◌, take, length, set, get_or, refl, sym, ap, ◌∙◌}
+use Rattle.std.proofs.Common.{◌≡◌, ℕ, ◌+◌, ◌<◌, min, List, [], ◌∷◌, ◌++◌, None, take, length, set, get_or, refl, sym, ap, ◌∙◌}
 use Rattle.std.proofs.lemmas.List.{take_more, take_more_set}
 use Rattle.psy_tree.specs.declared.unit.FunctionDecl.{FunctionDecl}
 use Rattle.psy_flow.specs.declared.gauge.Gauge.{Gauge}
-use Rattle.psy_flow.specs.declared.wanted.Wanted.TheVariants as ask
 use Rattle.psy_flow.specs.Tops.{limit_of, stmts_tops, call_most, called, capped_from}
 
 -- The greatest count of a call, as far as is counted, behind the functions above it
 abbrev pub capped_call : Gauge → List ℕ → FunctionDecl → ℕ
-capped_call g above f = min (call_most g (stmts_tops g ask.Any (called above) f.stmts)) (limit_of g)
+capped_call g above f = min (call_most g (stmts_tops g None (called above) f.stmts)) (limit_of g)
 
 -- One more function
 pub capped_from-append : (g : Gauge) (above : List ℕ) (fs : List FunctionDecl) (f : FunctionDecl) → capped_from g above (fs ++ f ∷ []) ≡ capped_from g above fs ++ capped_call g (capped_from g above fs) f ∷ []

@@ -6,30 +6,9 @@ use Rattle.psy_meaning.specs.Statements.{Piece}
 use Rattle.psy_meaning.specs.Ways.{Meter, Way, Course, unmetered, IsWay, callee_ways, courses_through, piece_course}
 use Rattle.psy_flow.specs.declared.gauge.Gauge.{Gauge}
 use Rattle.psy_flow.specs.declared.gauge.Gauge.TheVariants as gauge
-use Rattle.psy_flow.specs.declared.wanted.Wanted.{Wanted}
-use Rattle.psy_flow.specs.declared.wanted.Wanted.TheVariants as ask
 use Rattle.psy_flow.specs.Tops.{count_of, meets, called, calls_most, pieces_tops}
 use Rattle.psy_flow.proofs.TopsOf.{IsTop, AreTops, asked, fits_pieces}
 use Rattle.psy_flow.proofs.CallTops.{most_callees}
-
--- ---- the points that are asked for
-
-pub meets_all : (least most point : ℕ) → least ≤ point → point ≤ most → meets (ask.Between least most) point ≡ true
-meets_all least most point h k = grind (arith, h, k)
-
-pub meets_least : (least most point : ℕ) → meets (ask.Between least most) point ≡ true → least ≤ point
-meets_least least most point h = grind (arith, h)
-
-pub meets_most : (least most point : ℕ) → meets (ask.Between least most) point ≡ true → point ≤ most
-meets_most least most point h = grind (arith, h)
-
-pub meets_one : (point : ℕ) → meets (ask.Between point point) point ≡ true
-meets_one point = meets_all point point point (omega arith) (omega arith)
-
-pub only_one : (other point : ℕ) → meets (ask.Between point point) other ≡ true → other ≡ point
-only_one other point h = omega (arith, meets_least point point other h, meets_most point point other h)
-
--- ---- the greatest counts
 
 -- From whatever was met, a call counts so much at most, and so much on one way.
 pub record IsRow (g : Gauge) (functions : List FunctionDecl) (calls : ℕ → ℕ) : Type 0 where
@@ -37,13 +16,13 @@ pub record IsRow (g : Gauge) (functions : List FunctionDecl) (calls : ℕ → �
   pub most : (f : ℕ) (before now : Meter) → callee_ways functions f before now → count_of g now ≤ count_of g before + calls f
 
 -- The greatest count of the ways to a point that is asked for; none where there is no such way
-abbrev pub IsTopTo : Gauge → Wanted → List FunctionDecl → List Piece → Option ℕ → Type 0
+abbrev pub IsTopTo : Gauge → Option ℕ → List FunctionDecl → List Piece → Option ℕ → Type 0
 IsTopTo g wanted functions pieces None = (to : ℕ) (met : Meter) → meets wanted to ≡ true → IsWay functions pieces to met → ⊥
 IsTopTo g wanted functions pieces (Some n) =
     ((to : ℕ) × (met : Meter) × (meets wanted to ≡ true) × IsWay functions pieces to met × (count_of g met ≡ n))
     × ((to : ℕ) (met : Meter) → meets wanted to ≡ true → IsWay functions pieces to met → count_of g met ≤ n)
 
-pub top_to : (g : Gauge) (wanted : Wanted) (functions : List FunctionDecl) (calls : ℕ → ℕ) (pieces : List Piece) → NoneAdvances functions → IsRow g functions calls → IsTopTo g wanted functions pieces (pieces_tops g wanted calls pieces).to
+pub top_to : (g : Gauge) (wanted : Option ℕ) (functions : List FunctionDecl) (calls : ℕ → ℕ) (pieces : List Piece) → NoneAdvances functions → IsRow g functions calls → IsTopTo g wanted functions pieces (pieces_tops g wanted calls pieces).to
 top_to g wanted functions calls pieces none row =
     let ways : ℕ → Way = callee_ways functions in
     let course : Course = courses_through (piece_course ways) pieces in

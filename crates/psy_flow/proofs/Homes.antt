@@ -8,7 +8,6 @@ use Rattle.psy_meaning.specs.Paths.{one_of, holds_step, holds}
 use Rattle.psy_meaning.proofs.NoWays.{or_false}
 use Rattle.psy_flow.specs.declared.gauge.Gauge.{Gauge}
 use Rattle.psy_flow.specs.declared.tops.Tops.{Tops}
-use Rattle.psy_flow.specs.declared.wanted.Wanted.{Wanted}
 use Rattle.psy_flow.specs.Tops.{in_step, in_send, expr_most, plus, greater, falling, behind, on_from, leaving, or_else, and_on, turning, tops_through, stmt_tops_step, stmt_tops, stmts_tops}
 
 abbrev pub IsThere : Option ℕ → Type 0
@@ -56,7 +55,7 @@ home_turning g (suc more) test body =
 
 -- ---- statements
 
-module _ (g : Gauge) (wanted : Wanted) (calls : ℕ → ℕ) where
+module _ (g : Gauge) (wanted : Option ℕ) (calls : ℕ → ℕ) where
   abbrev top : Stmt → Tops
   top stmt = stmt_tops g wanted calls stmt
 

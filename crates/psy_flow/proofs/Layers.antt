@@ -1,15 +1,14 @@
 -- The tops of a statement by those of its parts.
-use Rattle.std.proofs.Common.{◌≡◌, ℕ, ◌+◌, List, Some, sym, ap, ◌∙◌}
+use Rattle.std.proofs.Common.{◌≡◌, ℕ, ◌+◌, List, Option, Some, sym, ap, ◌∙◌}
 use Rattle.psy_tree.specs.declared.unit.Expr.{Expr}
 use Rattle.psy_tree.specs.declared.unit.Stmt.{Stmt, fold-roll-Stmt}
 use Rattle.psy_tree.specs.declared.unit.Stmt.TheVariants as stmt
 use Rattle.psy_tree.specs.declared.unit.Stmt.TheOpen.{Stmt-F}
 use Rattle.psy_flow.specs.declared.gauge.Gauge.{Gauge}
 use Rattle.psy_flow.specs.declared.tops.Tops.{Tops}
-use Rattle.psy_flow.specs.declared.wanted.Wanted.{Wanted}
 use Rattle.psy_flow.specs.Tops.{in_step, falling, behind, or_else, and_on, turning, expr_most, stmt_tops_step, stmt_tops, stmts_tops}
 
-module _ (g : Gauge) (wanted : Wanted) (calls : ℕ → ℕ) where
+module _ (g : Gauge) (wanted : Option ℕ) (calls : ℕ → ℕ) where
   pub tops_if_else : (test : Expr) (branch other : List Stmt) →
       stmt_tops g wanted calls (stmt.If test branch (Some other))
       ≡ behind (expr_most g calls test + in_step g) (or_else (and_on (stmts_tops g wanted calls branch) (falling (in_step g))) (stmts_tops g wanted calls other))

@@ -9,10 +9,15 @@ mod Homes
 mod Layers
 mod Limits
 mod Lists
+mod MarkedNumbers
+mod Marks
 mod MostWays
 mod NextPoints
-mod Passing
 mod PointTops
+mod ReachPieces
+mod ReachRests
+mod ReachTops
+mod ReachVariants
 mod Related
 mod Rests
 mod Rows

@@ -11,7 +11,6 @@ use Rattle.psy_tree.specs.Paths.{total}
 use Rattle.psy_meaning.specs.Statements.{Piece, Do, Hop}
 use Rattle.psy_flow.specs.declared.gauge.Gauge.{Gauge}
 use Rattle.psy_flow.specs.declared.tops.Tops.{Tops}
-use Rattle.psy_flow.specs.declared.wanted.Wanted.{Wanted}
 use Rattle.psy_flow.specs.Tops.{in_step, in_send, in_look, binary_most, expr_most_step, expr_most, nowhere, falling, returning, reaching, plus, greater, behind, or_else, leaving, on_from, and_on, tops_through, turning, meets, stmt_tops_step, stmt_tops, stmts_tops, piece_tops, pieces_tops, count_or_zero, call_most, called}
 
 module _ (R : ℕ → ℕ → Type 0) (same : (n : ℕ) → R n n) (sums : (a b c d : ℕ) → R a b → R c d → R (a + c) (b + d)) (maxima : (a b c d : ℕ) → R a b → R c d → R (max a c) (max b d)) where
@@ -159,7 +158,7 @@ module _ (R : ℕ → ℕ → Type 0) (same : (n : ℕ) → R n n) (sums : (a b 
 
     -- ---- statements
 
-    module _ (w : Wanted) where
+    module _ (w : Option ℕ) where
       abbrev tops_a : Stmt → Tops
       tops_a = stmt_tops g w a
 

@@ -14,10 +14,9 @@ use Rattle.psy_meaning.specs.Ways.{Sending, Meter, IsWay, callee_ways}
 use Rattle.psy_flow.specs.declared.gauge.Gauge.{Gauge}
 use Rattle.psy_flow.specs.declared.gauge.Gauge.TheVariants as gauge
 use Rattle.psy_flow.specs.declared.tops.Tops.{Tops}
-use Rattle.psy_flow.specs.declared.wanted.Wanted.TheVariants as ask
 use Rattle.psy_flow.specs.Flow.{IsKnown, IsMostSends, MayLook}
 use Rattle.psy_flow.specs.Tops.{count_of, called, capped_count, capped_tops, pieces_tops}
-use Rattle.psy_flow.proofs.Greatest.{IsRow, IsTopTo, meets_one, only_one, top_to, row_of}
+use Rattle.psy_flow.proofs.Greatest.{IsRow, IsTopTo, top_to, row_of}
 use Rattle.psy_flow.proofs.Still.{Left, Still, still_calls}
 
 -- What is counted doesn't change where looks and sends don't.
@@ -62,29 +61,30 @@ module _ (unit : Whole) (number : ℕ) (agent : AgentDecl) (its : IsKnown unit n
 
   -- ---- sends
 
-  most_cut : (to stream : ℕ) (o : Option ℕ) → IsTopTo (gauge.Sends stream) (ask.Between to to) unit.functions (rest agent.stmts point) o → IsMostSends unit.functions agent point to stream (unwrap_or (capped_count (gauge.Sends stream) o) 0)
-  most_cut to stream None top = inl ((λ next. top to next.0 (meets_one to) next.1), refl)
+  most_cut : (to stream : ℕ) (o : Option ℕ) → IsTopTo (gauge.Sends stream) (Some to) unit.functions (rest agent.stmts point) o → IsMostSends unit.functions agent point to stream (unwrap_or (capped_count (gauge.Sends stream) o) 0)
+  most_cut to stream None top = let e : (to == to) ≡ true = grind arith in inl ((λ next. top to next.0 e next.1), refl)
   most_cut to stream (Some n) ((p, met, asked, way, same), most) =
-      let e = only_one p to asked in
+      let e : p ≡ to = grind (arith, asked) in
+      let asks : (to == to) ≡ true = grind arith in
       inr (
         n,
         record {
           one = (met, subst (λ q. IsWay unit.functions (rest agent.stmts point) q met) e way, same);
-          most = λ m has. omega (arith, most to has.0 (meets_one to) has.1, has.2);
+          most = λ m has. omega (arith, most to has.0 asks has.1, has.2);
         },
         refl,
       )
 
-  pub most_of_tops : (to stream : ℕ) (t : Tops) → t ≡ capped_tops (gauge.Sends stream) (pieces_tops (gauge.Sends stream) (ask.Between to to) (called []) (rest agent.stmts point)) → IsMostSends unit.functions agent point to stream (unwrap_or t.to 0)
+  pub most_of_tops : (to stream : ℕ) (t : Tops) → t ≡ capped_tops (gauge.Sends stream) (pieces_tops (gauge.Sends stream) (Some to) (called []) (rest agent.stmts point)) → IsMostSends unit.functions agent point to stream (unwrap_or t.to 0)
   most_of_tops to stream t h =
       let g = gauge.Sends stream in
       subst (λ o. IsMostSends unit.functions agent point to stream (unwrap_or o 0)) (sym (ap (λ (u : Tops). u.to) h))
-      (most_cut to stream (pieces_tops g (ask.Between to to) (called []) (rest agent.stmts point)).to
-      (top_to g (ask.Between to to) unit.functions (called []) (rest agent.stmts point) its.none (calls g (sends_same stream))))
+      (most_cut to stream (pieces_tops g (Some to) (called []) (rest agent.stmts point)).to
+      (top_to g (Some to) unit.functions (called []) (rest agent.stmts point) its.none (calls g (sends_same stream))))
 
   -- ---- looks
 
-  looks_by : (variable : ℕ) (o : Option ℕ) → IsTopTo (gauge.Looks variable) ask.Any unit.functions (rest agent.stmts point) o → (nat_lt 0 (unwrap_or (capped_count (gauge.Looks variable) o) 0) ≡ true) ↔ MayLook unit.functions agent point variable
+  looks_by : (variable : ℕ) (o : Option ℕ) → IsTopTo (gauge.Looks variable) None unit.functions (rest agent.stmts point) o → (nat_lt 0 (unwrap_or (capped_count (gauge.Looks variable) o) 0) ≡ true) ↔ MayLook unit.functions agent point variable
   looks_by variable None top = ((λ h. absurd (false≢true h)), (λ may. absurd (top may.0 may.1 refl may.2)))
   looks_by variable (Some n) ((to, met, asked, way, same), most) = (
     (λ h. let (look, c, is) = counted (λ (l : Looked). l.variable == variable) met.looks (let more : 0 < n = grind (arith, h) in omega (arith, more, same)) in (to, met, way, look, c, grind (arith, is))),
@@ -95,9 +95,9 @@ module _ (unit : Whole) (number : ℕ) (agent : AgentDecl) (its : IsKnown unit n
         grind (arith, some)),
   )
 
-  pub looks_of_tops : (variable : ℕ) (t : Tops) → t ≡ capped_tops (gauge.Looks variable) (pieces_tops (gauge.Looks variable) ask.Any (called []) (rest agent.stmts point)) → (nat_lt 0 (unwrap_or t.to 0) ≡ true) ↔ MayLook unit.functions agent point variable
+  pub looks_of_tops : (variable : ℕ) (t : Tops) → t ≡ capped_tops (gauge.Looks variable) (pieces_tops (gauge.Looks variable) None (called []) (rest agent.stmts point)) → (nat_lt 0 (unwrap_or t.to 0) ≡ true) ↔ MayLook unit.functions agent point variable
   looks_of_tops variable t h =
       let g = gauge.Looks variable in
       subst (λ o. (nat_lt 0 (unwrap_or o 0) ≡ true) ↔ MayLook unit.functions agent point variable) (sym (ap (λ (u : Tops). u.to) h))
-      (looks_by variable (pieces_tops g ask.Any (called []) (rest agent.stmts point)).to
-      (top_to g ask.Any unit.functions (called []) (rest agent.stmts point) its.none (calls g (looks_same variable))))
+      (looks_by variable (pieces_tops g None (called []) (rest agent.stmts point)).to
+      (top_to g None unit.functions (called []) (rest agent.stmts point) its.none (calls g (looks_same variable))))

@@ -8,7 +8,6 @@ use Rattle.psy_meaning.specs.Statements.{Piece, Do, Hop}
 use Rattle.psy_meaning.specs.Ways.{Sending, Meter, Way, Course, Fell, Back, To, here, one, sending, both, either, falling, returning, reaching, leaving, behind, and_on, or_else, courses_through, turning, expr_way, course_step, course_by, piece_course}
 use Rattle.psy_flow.specs.declared.gauge.Gauge.{Gauge}
 use Rattle.psy_flow.specs.declared.tops.Tops.{Tops}
-use Rattle.psy_flow.specs.declared.wanted.Wanted.{Wanted}
 use Rattle.psy_flow.specs.Tops.{in_step, in_send, expr_most, plus, greater, on_from, tops_through, meets, stmt_tops_step, stmt_tops, stmts_tops, piece_tops, pieces_tops}
 use Rattle.psy_flow.specs.Tops as tops
 use Rattle.psy_meaning.proofs.Layers.{natural_stmt}
@@ -20,11 +19,11 @@ IsTop g way None = (before now : Meter) → way before now → ⊥
 IsTop g way (Some n) = IsMost g way n
 
 -- The ways to a point that is asked for
-abbrev pub asked : Wanted → Course → Way
+abbrev pub asked : Option ℕ → Course → Way
 asked wanted course before now = (point : ℕ) × (meets wanted point ≡ true) × course (To point) before now
 
 -- The greatest counts of a course, by its ends
-pub record AreTops (g : Gauge) (wanted : Wanted) (course : Course) (t : Tops) : Type 0 where
+pub record AreTops (g : Gauge) (wanted : Option ℕ) (course : Course) (t : Tops) : Type 0 where
   pub fell : IsTop g (course Fell) t.fell
   pub back : IsTop g (course Back) t.back
   pub to : IsTop g (asked wanted course) t.to
@@ -48,7 +47,7 @@ top_behind g first second n (Some b) p q = most_both g first second n b p q
 
 -- ---- tops of courses
 
-module _ (g : Gauge) (wanted : Wanted) where
+module _ (g : Gauge) (wanted : Option ℕ) where
   abbrev Fits : Course → Tops → Type 0
   Fits course t = AreTops g wanted course t
 

@@ -2,3 +2,4 @@ pub mod Counted
 pub mod Tops
 pub mod Flow
 pub mod Behind
+pub mod Reach

@@ -1,5 +1,5 @@
 -- The greatest counts of the ways of statements, by how these end.
-use Rattle.std.specs.Prelude.{ℕ, zero, suc, ◌+◌, min, max, Bool, true, ◌&&◌, ◌==◌, nat_le, if◌then◌else◌, List, [], ◌∷◌, ◌++◌, map, Option, Some, None, is_some, slice_index_or}
+use Rattle.std.specs.Prelude.{ℕ, zero, suc, ◌+◌, min, max, Bool, true, ◌==◌, if◌then◌else◌, List, [], ◌∷◌, ◌++◌, map, Option, Some, None, slice_index_or}
 use Rattle.std.specs.List.{count_by}
 use Rattle.psy_base.specs.declared.limits.TheConstants.{COST, SENDS}
 use Rattle.psy_arith.specs.declared.operators.Op2.{Op2}
@@ -15,8 +15,6 @@ use Rattle.psy_meaning.specs.Ways.{Meter}
 use Rattle.psy_flow.specs.declared.gauge.Gauge.{Gauge}
 use Rattle.psy_flow.specs.declared.gauge.Gauge.TheVariants as gauge
 use Rattle.psy_flow.specs.declared.tops.Tops.{Tops}
-use Rattle.psy_flow.specs.declared.wanted.Wanted.{Wanted}
-use Rattle.psy_flow.specs.declared.wanted.Wanted.TheVariants as ask
 
 -- ---- what is counted
 
@@ -135,10 +133,10 @@ turning g (suc more) test body =
 
 -- ---- statements
 
--- The point is one that is asked for.
-abbrev pub meets : Wanted → ℕ → Bool
-meets ask.Any point = true
-meets (ask.Between least most) point = nat_le least point && nat_le point most
+-- The point is the one that is asked for, or any is.
+abbrev pub meets : Option ℕ → ℕ → Bool
+meets None point = true
+meets (Some wanted) point = point == wanted
 
 -- A jump follows a first branch that has a second.
 abbrev pub branching : Gauge → Tops → Option (List Tops) → Tops
@@ -146,7 +144,7 @@ branching g branch None = or_else branch (falling 0)
 branching g branch (Some other) = or_else (and_on branch (falling (in_step g))) (tops_through other)
 
 -- The tops of a statement, once those of its parts are known
-abbrev pub stmt_tops_step : Gauge → Wanted → (ℕ → ℕ) → Stmt-F Tops → Tops
+abbrev pub stmt_tops_step : Gauge → Option ℕ → (ℕ → ℕ) → Stmt-F Tops → Tops
 stmt_tops_step g wanted calls (Stmt-F.Set slot value) = falling (expr_most g calls value + in_step g)
 stmt_tops_step g wanted calls (Stmt-F.SetCopy variable value) = falling (expr_most g calls value + in_step g)
 stmt_tops_step g wanted calls (Stmt-F.SetCell slot index value) = falling (expr_most g calls index + (expr_most g calls value + in_step g))
@@ -158,20 +156,20 @@ stmt_tops_step g wanted calls (Stmt-F.Advance point) = if meets wanted point the
 stmt_tops_step g wanted calls (Stmt-F.Return value) = returning (expr_most g calls value + in_step g)
 
 -- The tops of a statement
-abbrev pub stmt_tops : Gauge → Wanted → (ℕ → ℕ) → Stmt → Tops
+abbrev pub stmt_tops : Gauge → Option ℕ → (ℕ → ℕ) → Stmt → Tops
 stmt_tops g wanted calls = fold-Stmt Tops (stmt_tops_step g wanted calls)
 
 -- The tops of statements
-abbrev pub stmts_tops : Gauge → Wanted → (ℕ → ℕ) → List Stmt → Tops
+abbrev pub stmts_tops : Gauge → Option ℕ → (ℕ → ℕ) → List Stmt → Tops
 stmts_tops g wanted calls stmts = tops_through (map (stmt_tops g wanted calls) stmts)
 
 -- The tops of a statement or a jump
-abbrev pub piece_tops : Gauge → Wanted → (ℕ → ℕ) → Piece → Tops
+abbrev pub piece_tops : Gauge → Option ℕ → (ℕ → ℕ) → Piece → Tops
 piece_tops g wanted calls (Do stmt) = stmt_tops g wanted calls stmt
 piece_tops g wanted calls Hop = falling (in_step g)
 
 -- The tops of pieces
-abbrev pub pieces_tops : Gauge → Wanted → (ℕ → ℕ) → List Piece → Tops
+abbrev pub pieces_tops : Gauge → Option ℕ → (ℕ → ℕ) → List Piece → Tops
 pieces_tops g wanted calls pieces = tops_through (map (piece_tops g wanted calls) pieces)
 
 -- ---- functions
@@ -192,17 +190,11 @@ called row function = slice_index_or row function 0
 -- The greatest counts of the functions' calls, in order; each function calls those above it.
 abbrev pub calls_from : Gauge → List ℕ → List FunctionDecl → List ℕ
 calls_from g above [] = above
-calls_from g above (f ∷ rest) = calls_from g (above ++ call_most g (stmts_tops g ask.Any (called above) f.stmts) ∷ []) rest
+calls_from g above (f ∷ rest) = calls_from g (above ++ call_most g (stmts_tops g None (called above) f.stmts) ∷ []) rest
 
 -- Those of all functions of a unit
 abbrev pub calls_most : Gauge → List FunctionDecl → List ℕ
 calls_most g functions = calls_from g [] functions
-
--- ---- where a way goes
-
--- A way through the pieces goes to the point first, whatever calls count.
-abbrev pub goes_to : List Piece → ℕ → Bool
-goes_to pieces point = is_some (pieces_tops gauge.Steps (ask.Between point point) (called []) pieces).to
 
 -- ---- as far as is counted
 
@@ -218,4 +210,4 @@ capped_tops g t = record { fell = capped_count g t.fell; back = capped_count g t
 -- The greatest counts of the functions' calls, each as far as is counted
 abbrev pub capped_from : Gauge → List ℕ → List FunctionDecl → List ℕ
 capped_from g above [] = above
-capped_from g above (f ∷ rest) = capped_from g (above ++ min (call_most g (stmts_tops g ask.Any (called above) f.stmts)) (limit_of g) ∷ []) rest
+capped_from g above (f ∷ rest) = capped_from g (above ++ min (call_most g (stmts_tops g None (called above) f.stmts)) (limit_of g) ∷ []) rest

@@ -1,12 +1,10 @@
 //! The greatest costs of the functions' calls.
 
-ghost use Rattle.std.specs.Prelude.{◌≡◌, ◌≤◌, [], min, take, length};
+ghost use Rattle.std.specs.Prelude.{◌≡◌, ◌≤◌, [], None, min, take, length};
 ghost use Rattle.psy_base.specs.declared.limits.TheConstants.{FUNCTIONS};
-ghost use Rattle.psy_flow.specs.declared.wanted.Wanted.TheVariants as ask;
 ghost use Rattle.psy_flow.specs.Tops.{limit_of, called, call_most, stmts_tops, capped_from};
 
 use crate::gauge::Gauge;
-use crate::wanted::Wanted;
 use crate::ways::tops_of_stmts;
 use psy_base::limits;
 use psy_tree::FunctionDecl;
@@ -16,9 +14,9 @@ pub type Costs = [u64; limits::FUNCTIONS];
 
 // The greatest count of a call, where `above` has those of the functions above this one.
 fn most_of_function(gauge: Gauge, above: &[u64], function: &FunctionDecl) -> u64
-    ensures { result ≡ min (call_most gauge (stmts_tops gauge ask.Any (called above.now) function.now.stmts)) (limit_of gauge) }
+    ensures { result ≡ min (call_most gauge (stmts_tops gauge None (called above.now) function.now.stmts)) (limit_of gauge) }
 {
-    let tops = tops_of_stmts(gauge, Wanted::Any, above, function.stmts.as_slice());
+    let tops = tops_of_stmts(gauge, None, above, function.stmts.as_slice());
     let two = gauge.sum(gauge.step(), gauge.step());
     match (tops.back, tops.fell) {
         (None, None) => 0,

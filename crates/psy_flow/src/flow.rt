@@ -11,7 +11,6 @@ use crate::costs::costs_of_calls;
 use crate::gauge::Gauge;
 use crate::laws::known;
 use crate::points::tops_from;
-use crate::wanted::Wanted;
 use psy_tree::{AgentDecl, Unit};
 
 /// The greatest cost of an action from a point, in instructions, cut at 1,000,000,000.
@@ -26,13 +25,7 @@ pub fn worst(unit: &Unit, agent: u32, point: u32) -> u64
     let costs = costs_of_calls(Gauge::Steps, functions);
     let agent = &unit.agents.as_slice()[agent as usize];
     let row = &costs[..functions.len()];
-    let tops = tops_from(
-        Gauge::Steps,
-        Wanted::Any,
-        row,
-        agent.stmts.as_slice(),
-        point,
-    );
+    let tops = tops_from(Gauge::Steps, None, row, agent.stmts.as_slice(), point);
     tops.to.unwrap_or(0)
 }
 
@@ -46,7 +39,7 @@ pub fn most_sends(agent: &AgentDecl, point: u32, to: u32, stream: u32) -> u64
     known();
     let tops = tops_from(
         Gauge::Sends(stream),
-        Wanted::Between(to, to),
+        Some(to),
         &[],
         agent.stmts.as_slice(),
         point,
@@ -63,7 +56,7 @@ pub fn looks(agent: &AgentDecl, point: u32, variable: u32) -> bool
     known();
     let tops = tops_from(
         Gauge::Looks(variable),
-        Wanted::Any,
+        None,
         &[],
         agent.stmts.as_slice(),
         point,

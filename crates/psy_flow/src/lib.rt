@@ -11,10 +11,10 @@ mod gauge;
 mod laws;
 mod next;
 mod points;
+mod reach;
 mod stack;
 mod statements;
 mod tops;
-mod wanted;
 mod ways;
 
 pub use depths::Depths;

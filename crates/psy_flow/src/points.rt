@@ -7,7 +7,6 @@ ghost use Rattle.psy_flow.specs.Behind.{IsBehind};
 
 use crate::gauge::Gauge;
 use crate::tops::Tops;
-use crate::wanted::Wanted;
 use crate::ways::{tops_of_stmt, tops_of_stmts};
 use psy_tree::Stmt;
 
@@ -21,7 +20,7 @@ pub enum Search {
 }
 
 #[cycle(behind)]
-fn behind_in(gauge: Gauge, wanted: Wanted, row: &[u64], stmt: &Stmt, number: u32) -> Search
+fn behind_in(gauge: Gauge, wanted: Option<u32>, row: &[u64], stmt: &Stmt, number: u32) -> Search
     ensures { IsBehind gauge wanted (called row.now) (rests_of stmt.now) number result }
 {
     match stmt {
@@ -56,7 +55,7 @@ fn behind_in(gauge: Gauge, wanted: Wanted, row: &[u64], stmt: &Stmt, number: u32
 }
 
 #[cycle(behind)]
-fn behind(gauge: Gauge, wanted: Wanted, row: &[u64], stmts: &[Stmt], number: u32) -> Search
+fn behind(gauge: Gauge, wanted: Option<u32>, row: &[u64], stmts: &[Stmt], number: u32) -> Search
     ensures { IsBehind gauge wanted (called row.now) (rests_of_list stmts.now) number result }
 {
     let mut left = number;
@@ -74,7 +73,7 @@ fn behind(gauge: Gauge, wanted: Wanted, row: &[u64], stmts: &[Stmt], number: u32
 
 /// The greatest counts of what stands behind a point: the body for point 0, and else what is behind that
 /// `advance`, a jump, and the body again.
-pub fn tops_from(gauge: Gauge, wanted: Wanted, row: &[u64], stmts: &[Stmt], point: u32) -> Tops
+pub fn tops_from(gauge: Gauge, wanted: Option<u32>, row: &[u64], stmts: &[Stmt], point: u32) -> Tops
     requires { point ≤ length (rests_of_list stmts.now) }
     ensures { result ≡ capped_tops gauge (pieces_tops gauge wanted (called row.now) (rest stmts.now point)) }
 {

@@ -7,7 +7,6 @@ ghost use Rattle.psy_flow.specs.Tops as tops;
 
 use crate::gauge::Gauge;
 use crate::tops::{NO_WAY, Tops};
-use crate::wanted::Wanted;
 use psy_arith::Op2;
 use psy_tree::{Expr, Stmt};
 
@@ -99,7 +98,7 @@ fn turning(gauge: Gauge, most: u32, test: u64, body: Tops) -> Tops
 }
 
 #[cycle(stmt)]
-pub fn tops_of_stmt(gauge: Gauge, wanted: Wanted, row: &[u64], stmt: &Stmt) -> Tops
+pub fn tops_of_stmt(gauge: Gauge, wanted: Option<u32>, row: &[u64], stmt: &Stmt) -> Tops
     ensures { result ≡ capped_tops gauge (stmt_tops gauge wanted (called row.now) stmt.now) }
 {
     let step = gauge.step();
@@ -141,12 +140,12 @@ pub fn tops_of_stmt(gauge: Gauge, wanted: Wanted, row: &[u64], stmt: &Stmt) -> T
     }
 }
 
-fn tops_of_advance(gauge: Gauge, wanted: Wanted, point: u32) -> Tops
+fn tops_of_advance(gauge: Gauge, wanted: Option<u32>, point: u32) -> Tops
     ensures { result ≡ capped_tops gauge (if meets wanted point then reaching (tops.in_step gauge) else nowhere) }
 {
     let meets = match wanted {
-        Wanted::Any => true,
-        Wanted::Between(least, most) => least <= point && point <= most,
+        None => true,
+        Some(wanted) => point == wanted,
     };
     if meets {
         return Tops::reaching(gauge.step());
@@ -156,7 +155,7 @@ fn tops_of_advance(gauge: Gauge, wanted: Wanted, point: u32) -> Tops
 
 /// The greatest counts of statements one after the other.
 #[cycle(stmt)]
-pub fn tops_of_stmts(gauge: Gauge, wanted: Wanted, row: &[u64], stmts: &[Stmt]) -> Tops
+pub fn tops_of_stmts(gauge: Gauge, wanted: Option<u32>, row: &[u64], stmts: &[Stmt]) -> Tops
     ensures { result ≡ capped_tops gauge (stmts_tops gauge wanted (called row.now) stmts.now) }
 {
     let mut tops = Tops::falling(0);

@@ -1,8 +1,7 @@
-use Rattle.std.proofs.Common.{◌≡◌, true, [], sym, ap, subst, ◌∙◌, arith}
+use Rattle.std.proofs.Common.{◌≡◌, true, None, [], sym, ap, subst, ◌∙◌, arith}
 use Rattle.std.specs.Prelude.{◌↔◌, nat_lt}
 use Rattle.psy_meaning.specs.Rest.{rest}
 use Rattle.psy_flow.specs.declared.gauge.Gauge.TheVariants as gauge
-use Rattle.psy_flow.specs.declared.wanted.Wanted.TheVariants as ask
 use Rattle.psy_flow.specs.Flow.{MayLook}
 use Rattle.psy_flow.specs.Tops.{called, capped_tops, pieces_tops}
 use Rattle.psy_flow.proofs.NextPoints.{points_of}
@@ -19,4 +18,4 @@ returns c unit number its =
     let g = gauge.Looks c.args.variable in
     subst (λ n. (nat_lt 0 n ≡ true) ↔ MayLook unit.functions c.args.agent.now c.args.point c.args.variable) (sym c.unwrap_or.ensures)
     (looks_of_tops unit number c.args.agent.now (c.known.ensures unit number c.args.agent.now its) c.args.point c.args.variable c.tops_from-tops.result
-    (c.tops_from-tops.ensures ∙ ap (λ stmts. capped_tops g (pieces_tops g ask.Any (called []) (rest stmts c.args.point))) c.as_slice.ensures))
+    (c.tops_from-tops.ensures ∙ ap (λ stmts. capped_tops g (pieces_tops g None (called []) (rest stmts c.args.point))) c.as_slice.ensures))

@@ -1,7 +1,6 @@
-use Rattle.std.proofs.Common.{[], sym, ap, subst, ◌∙◌, arith}
+use Rattle.std.proofs.Common.{Some, [], sym, ap, subst, ◌∙◌, arith}
 use Rattle.psy_meaning.specs.Rest.{rest}
 use Rattle.psy_flow.specs.declared.gauge.Gauge.TheVariants as gauge
-use Rattle.psy_flow.specs.declared.wanted.Wanted.TheVariants as ask
 use Rattle.psy_flow.specs.Flow.{IsMostSends}
 use Rattle.psy_flow.specs.Tops.{called, capped_tops, pieces_tops}
 use Rattle.psy_flow.proofs.NextPoints.{points_of}
@@ -18,4 +17,4 @@ returns c unit number its =
     let g = gauge.Sends c.args.stream in
     subst (IsMostSends unit.functions c.args.agent.now c.args.point c.args.to c.args.stream) (sym c.unwrap_or.ensures)
     (most_of_tops unit number c.args.agent.now (c.known.ensures unit number c.args.agent.now its) c.args.point c.args.to c.args.stream c.tops_from-tops.result
-    (c.tops_from-tops.ensures ∙ ap (λ stmts. capped_tops g (pieces_tops g (ask.Between c.args.to c.args.to) (called []) (rest stmts c.args.point))) c.as_slice.ensures))
+    (c.tops_from-tops.ensures ∙ ap (λ stmts. capped_tops g (pieces_tops g (Some c.args.to) (called []) (rest stmts c.args.point))) c.as_slice.ensures))

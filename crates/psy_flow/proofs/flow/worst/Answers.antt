@@ -1,10 +1,9 @@
-use Rattle.std.proofs.Common.{◌≡◌, ℕ, List, [], take, length, get_or, refl, sym, ap, subst, ◌∙◌, arith}
+use Rattle.std.proofs.Common.{◌≡◌, ℕ, List, [], None, take, length, get_or, refl, sym, ap, subst, ◌∙◌, arith}
 use Rattle.std.proofs.lemmas.Option.{get_or_from_slice_get, slice_get_read}
 use Rattle.psy_base.specs.declared.limits.TheConstants.{COST}
 use Rattle.psy_tree.specs.declared.unit.AgentDecl.{AgentDecl}
 use Rattle.psy_meaning.specs.Rest.{rest}
 use Rattle.psy_flow.specs.declared.gauge.Gauge.TheVariants as gauge
-use Rattle.psy_flow.specs.declared.wanted.Wanted.TheVariants as ask
 use Rattle.psy_flow.specs.Flow.{IsAgentOf, HasCost, IsCut}
 use Rattle.psy_flow.specs.Tops.{called, capped_tops, capped_from, pieces_tops}
 use Rattle.psy_flow.proofs.CappedCosts.{worst_cut}
@@ -26,4 +25,4 @@ returns c a got =
     let row : List ℕ = take (length c.as_slice-functions.result.now) c.costs_of_calls-costs.result in
     subst (IsCut (HasCost c.args.unit.now.functions a c.args.point) COST) (sym c.unwrap_or.ensures)
     (worst_cut c.args.unit.now.functions a c.args.point c.tops_from-tops.result row k.none (k.goes_on c.args.point) (c.costs_of_calls-costs.ensures ∙ ap (capped_from gauge.Steps []) c.as_slice-functions.ensures)
-    (c.tops_from-tops.ensures ∙ ap (λ stmts. capped_tops gauge.Steps (pieces_tops gauge.Steps ask.Any (called row) (rest stmts c.args.point))) (c.as_slice-2.ensures ∙ ap (λ (x : AgentDecl). x.stmts) same)))
+    (c.tops_from-tops.ensures ∙ ap (λ stmts. capped_tops gauge.Steps (pieces_tops gauge.Steps None (called row) (rest stmts c.args.point))) (c.as_slice-2.ensures ∙ ap (λ (x : AgentDecl). x.stmts) same)))
