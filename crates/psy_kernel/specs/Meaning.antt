@@ -2,17 +2,18 @@
 -- cycle of execution, but for the finish of an action, by which slack is measured.
 use Rattle.std.specs.Prelude.{zero, suc, ℕ, ◌+◌, ◌-◌, ◌*◌, ◌==◌, nat_le, if◌then◌else◌, List, [], ◌∷◌, map, filter, find, fold, min, Option, None, Some, option_map, ℤ, pos, ◌+ℤ◌, ◌++◌, ◌≤◌, ◌<◌, ◌≤ℤ◌, negsuc}
 use Rattle.std.specs.Int.{int_wrap, w32}
+use Rattle.psy_base.specs.declared.limits.TheConstants.{BUDGET, PERIOD, UNTIL}
 use Rattle.psy_kernel.specs.declared.first.First.{First}
 
 -- the numbers of such a program are in their ranges
 pub record InRange (program : First) : Type 0 where
   pub quantum : (1 ≤ program.quantum) × (program.quantum ≤ 1000)
-  pub period : (1 ≤ program.period) × (program.period ≤ 10000)
+  pub period : (1 ≤ program.period) × (program.period ≤ PERIOD)
   pub phase : program.first < program.period
   pub init : (negsuc 2147483646 ≤ℤ program.init) × (program.init ≤ℤ pos 2147483647)
   pub add : program.add ≤ 2147483647
-  pub budget : (8 ≤ program.budget) × (program.budget ≤ 1000000)
-  pub until : program.until ≤ 100000
+  pub budget : (8 ≤ program.budget) × (program.budget ≤ BUDGET)
+  pub until : program.until ≤ UNTIL
 
 -- the processor meets each deadline up to the last date: an action fits between two dates
 abbrev pub IsFeasible : First → Type 0
