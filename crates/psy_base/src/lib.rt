@@ -2,10 +2,14 @@
 //! and the list and box that contracts see as plain data.
 #![tactic(auto)]
 
+mod edge;
 pub mod limits;
 mod memory;
+mod message;
 mod text;
 
+pub use edge::Edge;
 pub use memory::Memory;
+pub use message::Message;
 pub use sqlite_items::{Boxed, Items};
 pub use text::Text;

@@ -1,4 +1,5 @@
-//! The limits of the profile. Each is the greatest number that is accepted.
+//! The limits of the profile. Each is the greatest number that is accepted, but for the two measures of nesting, at which
+//! a text is refused, and the two counts that are cut.
 
 /// Bytes of a program, of an inputs file or of a script.
 pub const FILE_BYTES: usize = 262_144;
@@ -81,6 +82,27 @@ pub const WORD_DIGITS: usize = 12;
 /// The last date of a run.
 pub const UNTIL: u32 = 100_000;
 
+/// Nodes of one agent's action graph.
+pub const NODES: u32 = 512;
+
+/// Edges of one agent's action graph.
+pub const EDGES: u32 = 4_096;
+
+/// Places of a ring.
+pub const RING: u32 = 65_536;
+
+/// Places of a queue.
+pub const QUEUE: u32 = 65_536;
+
+/// Cells of a table of windows: its nodes times its lengths.
+pub const WINDOW_CELLS: u64 = 4_000_000;
+
+/// Lines of an inputs file or of a script.
+pub const LINES: usize = 10_000;
+
+/// Cycles of a run.
+pub const RUN: u64 = 100_000_000;
+
 #[cfg(test)]
 mod tests {
     use super::*;
@@ -98,6 +120,7 @@ mod tests {
             (POINTS, 256, "points"),
             (WORD_BYTES, 32, "bytes of a word"),
             (WORD_DIGITS, 12, "digits of a word"),
+            (LINES, 10_000, "lines of a file"),
         ];
         for (limit, number, name) in sizes {
             assert_eq!(rt; limit, number, "{name}");
@@ -117,6 +140,10 @@ mod tests {
             (OPERATORS, 256, "operators"),
             (OPEN_CALLS, 64, "open calls"),
             (UNTIL, 100_000, "last date"),
+            (NODES, 512, "nodes of a graph"),
+            (EDGES, 4_096, "edges of a graph"),
+            (RING, 65_536, "places of a ring"),
+            (QUEUE, 65_536, "places of a queue"),
         ];
         for (limit, number, name) in numbers {
             assert_eq!(rt; limit, number, "{name}");
@@ -124,5 +151,7 @@ mod tests {
         assert_eq!(rt; UNIT_SIZE, 1_048_576, "size of a unit");
         assert_eq!(rt; COST, 1_000_000_000, "cost of an action");
         assert_eq!(rt; SENDS, 65_537, "sends of an action");
+        assert_eq!(rt; WINDOW_CELLS, 4_000_000, "cells of a table of windows");
+        assert_eq!(rt; RUN, 100_000_000, "cycles of a run");
     }
 }
