@@ -80,3 +80,6 @@ pub const WORD_DIGITS: usize = 12;
 
 /// The last date of a run.
 pub const UNTIL: u32 = 100_000;
+
+/// Places of a ring.
+pub const RING: u32 = 65_536;
