@@ -4,8 +4,10 @@
 
 pub mod limits;
 mod memory;
+mod message;
 mod text;
 
 pub use memory::Memory;
+pub use message::Message;
 pub use sqlite_items::{Boxed, Items};
 pub use text::Text;

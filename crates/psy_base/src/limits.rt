@@ -83,3 +83,6 @@ pub const UNTIL: u32 = 100_000;
 
 /// Places of a ring.
 pub const RING: u32 = 65_536;
+
+/// Places of a queue.
+pub const QUEUE: u32 = 65_536;

@@ -64,16 +64,16 @@ module _ (action n : ℕ) where
   not_here : (s : Stall) → IsAtLeast action n s → (s.action ≡ action → s.instr ≡ n → ⊥) → IsAtLeast action (n + 1) s
   not_here s (inl h) none = inl h
   not_here s (inr h) none = elim (cases_order s.instr n) [
-      inl same ↦ absurd (none h.0 same)
+    | inl same ↦ absurd (none h.0 same)
     | inr other ↦ elim other [ inl first ↦ absurd (omega (arith, first, h.1)) | inr last ↦ inr (h.0, omega (arith, last)) ]
-    ]
+  ]
 
   -- a place, and those before it
   each_side : (P : Stall → Type 0) (stalls : List Stall) (place : ℕ) → ((k : ℕ) (d : Stall) → k < place → P (get_or stalls k d)) → ((d : Stall) → P (get_or stalls place d)) → (k : ℕ) (d : Stall) → k < place + 1 → P (get_or stalls k d)
   each_side P stalls place before here k d less =
       elim (cases_order k place) [
-        inl same ↦ subst (λ m. P (get_or stalls m d)) (sym same) (here d)
-      | inr other ↦ elim other [ inl first ↦ before k d first | inr last ↦ absurd (omega (arith, less, last)) ]
+        | inl same ↦ subst (λ m. P (get_or stalls m d)) (sym same) (here d)
+        | inr other ↦ elim other [ inl first ↦ before k d first | inr last ↦ absurd (omega (arith, less, last)) ]
       ]
 
   -- The stall at the place is the one before instruction n.
@@ -83,36 +83,55 @@ module _ (action n : ℕ) where
       let small : place < length stalls = slice_get_within stalls place s at in
       let is : (d : Stall) → get_or stalls place d ≡ s = λ d. get_or_from_slice_get stalls place s d at in
       let later : (k : ℕ) (d : Stall) → place < k → k < length stalls → IsAtLeast action (n + 1) (get_or stalls k d) =
-        λ k d more less. right_behind s (get_or stalls k d) a i (subst (λ t. IsBelow (get_or stalls k d).action (get_or stalls k d).instr t) (is d) (rise place k d more less)) in
+      λ k d more less. right_behind s (get_or stalls k d) a i (subst (λ t. IsBelow (get_or stalls k d).action (get_or stalls k d).instr t) (is d) (rise place k d more less)) in
       let here : (d : Stall) → IsBelow action (n + 1) (get_or stalls place d) = λ d. subst (IsBelow action (n + 1)) (sym (is d)) (inr (a, omega (arith, i))) in
       let earlier : (k : ℕ) (d : Stall) → k < place → IsBelow action (n + 1) (get_or stalls k d) = λ k d less. below_more (get_or stalls k d) (split.below k d less) in
       let costs : (d : Stall) → cost (n + 1) (get_or stalls place d) ≡ cost n (get_or stalls place d) + s.cycles = λ d. subst (λ t. cost (n + 1) t ≡ cost n t + s.cycles) (sym (is d)) (pays s a i) in
       let others : (k : ℕ) (d : Stall) → k < length stalls → (k ≡ place → ⊥) → cost (n + 1) (get_or stalls k d) ≡ cost n (get_or stalls k d) =
-        λ k d less differs. elim (cases_order k place) [
-          inl same ↦ absurd (differs same)
+      λ k d less differs. elim (cases_order k place) [
+        | inl same ↦ absurd (differs same)
         | inr other ↦ elim other [ inl first ↦ below_costs (get_or stalls k d) (split.below k d first) | inr last ↦ others_cost (get_or stalls k d) (later k d last less) ]
-        ] in
-      (record { within = omega (arith, small); below = each_side (IsBelow action (n + 1)) stalls place earlier here; others = λ k d more less. later k d (omega (arith, more)) less },
-       sum_one (cost (n + 1)) (cost n) stalls place s.cycles small others costs)
+      ] in (
+        record { within = omega (arith, small); below = each_side (IsBelow action (n + 1)) stalls place earlier here; others = λ k d more less. later k d (omega (arith, more)) less },
+        sum_one (cost (n + 1)) (cost n) stalls place s.cycles small others costs,
+      )
 
   -- No stall stands before instruction n: none at the place does.
   pub none_more : (stalls : List Stall) (place : ℕ) → Rise stalls → AreSplit stalls place action n → ((s : Stall) → slice_get stalls place ≡ Some s → s.action ≡ action → s.instr ≡ n → ⊥)
       → AreSplit stalls place action (n + 1) × (stalled stalls action (n + 1) ≡ stalled stalls action n)
   none_more stalls place rise split none =
       let at : (d : Stall) → place < length stalls → IsAtLeast action (n + 1) (get_or stalls place d) =
-        λ d less. not_here (get_or stalls place d) (split.others place d (omega arith) less) (none (get_or stalls place d) (slice_get-get_or stalls place d less)) in
+      λ d less. not_here (get_or stalls place d) (split.others place d (omega arith) less) (none (get_or stalls place d) (slice_get-get_or stalls place d less)) in
       let later : (k : ℕ) (d : Stall) → place ≤ k → k < length stalls → IsAtLeast action (n + 1) (get_or stalls k d) =
-        λ k d more less. elim (cases_order k place) [
-          inl same ↦ subst (λ m. IsAtLeast action (n + 1) (get_or stalls m d)) (sym same) (at d (omega (arith, same, less)))
+      λ k d more less. elim (cases_order k place) [
+        | inl same ↦ subst (λ m. IsAtLeast action (n + 1) (get_or stalls m d)) (sym same) (at d (omega (arith, same, less)))
         | inr other ↦ elim other [
-            inl first ↦ absurd (omega (arith, more, first))
+          | inl first ↦ absurd (omega (arith, more, first))
           | inr last ↦ behind (n + 1) (get_or stalls place d) (get_or stalls k d) (at d (omega (arith, last, less))) (rise place k d last less)
-          ]
-        ] in
+        ]
+      ] in
       let each : (k : ℕ) (d : Stall) → k < length stalls → cost (n + 1) (get_or stalls k d) ≡ cost n (get_or stalls k d) =
-        λ k d less. elim (cases_order k place) [
-          inl same ↦ others_cost (get_or stalls k d) (later k d (omega (arith, same)) less)
+      λ k d less. elim (cases_order k place) [
+        | inl same ↦ others_cost (get_or stalls k d) (later k d (omega (arith, same)) less)
         | inr other ↦ elim other [ inl first ↦ below_costs (get_or stalls k d) (split.below k d first) | inr last ↦ others_cost (get_or stalls k d) (later k d (omega (arith, last)) less) ]
-        ] in
-      (record { within = split.within; below = λ k d less. below_more (get_or stalls k d) (split.below k d less); others = later },
-       sum_same (cost (n + 1)) (cost n) stalls each)
+      ] in (
+        record { within = split.within; below = λ k d less. below_more (get_or stalls k d) (split.below k d less); others = later },
+        sum_same (cost (n + 1)) (cost n) stalls each,
+      )
+
+none_costs : (action : ℕ) (s : Stall) → cost action 0 0 s ≡ 0
+none_costs action s = grind (arith, nat_tests)
+
+-- Before no instruction nothing is stalled.
+pub none_stalled : (action : ℕ) (stalls : List Stall) → stalled stalls action 0 ≡ 0
+none_stalled action [] = refl
+none_stalled action (s ∷ stalls) = omega (arith, sum_by-cons (cost action 0 0) s stalls, none_costs action s, none_stalled action stalls)
+
+more_cost : (action n m : ℕ) (s : Stall) → n ≤ m → cost action 0 n s ≤ cost action 0 m s
+more_cost action n m s more = grind (arith, nat_tests)
+
+-- Before more instructions no less is stalled.
+pub more_stalled : (action n m : ℕ) (stalls : List Stall) → n ≤ m → stalled stalls action n ≤ stalled stalls action m
+more_stalled action n m [] more = omega arith
+more_stalled action n m (s ∷ stalls) more =
+    omega (arith, sum_by-cons (cost action 0 n) s stalls, sum_by-cons (cost action 0 m) s stalls, more_cost action n m s more, more_stalled action n m stalls more)

@@ -1,5 +1,5 @@
 -- What the cycles of an agent's action go to: the stalls before each instruction, then the instruction itself.
-use Rattle.std.specs.Prelude.{ℕ, ◌+◌, ◌-◌, ◌^◌, ◌<◌, ◌⊎◌, ◌≡◌, min, ◌==◌, ◌&&◌, nat_lt, if◌then◌else◌, List}
+use Rattle.std.specs.Prelude.{ℕ, zero, suc, ◌+◌, ◌-◌, ◌^◌, ◌<◌, ◌⊎◌, ◌≡◌, min, ◌==◌, ◌&&◌, nat_lt, if◌then◌else◌, List}
 use Rattle.std.specs.List.{AllPairs, sum_by}
 use Rattle.psy_budget.specs.declared.charge.Stall.{Stall}
 use Rattle.psy_budget.specs.declared.charge.Tick.{Tick}
@@ -17,7 +17,7 @@ pub record Charged : Type 0 where
   -- how many instructions these paid
   pub paid : ℕ
 
--- A stall stands before an instruction of an action, or before an earlier one.
+-- A stall of an earlier action, or one of this action before an earlier instruction
 abbrev pub IsBelow : ℕ → ℕ → Stall → Type 0
 IsBelow action instr s = (s.action < action) ⊎ ((s.action ≡ action) × (s.instr < instr))
 
@@ -25,7 +25,7 @@ IsBelow action instr s = (s.action < action) ⊎ ((s.action ≡ action) × (s.in
 abbrev pub Rise : List Stall → Type 0
 Rise = AllPairs (λ s t. IsBelow t.action t.instr s)
 
--- The cycles of an action's stalls before its first n instructions.
+-- The cycles of an action's stalls before its instructions 0 to n - 1
 abbrev pub stalled : List Stall → ℕ → ℕ → ℕ
 stalled stalls action n = sum_by (λ s. if s.action == action && nat_lt s.instr n then s.cycles else 0) stalls
 
@@ -50,3 +50,17 @@ after_tick c tick.Spent = c
 -- The next action begins. The count of actions stays at 2^64 - 1.
 abbrev pub begun : Charged → ℕ → Charged
 begun c budget = record c { started = min (c.started + 1) (2 ^ 64 - 1); budget = budget; consumed = 0; paid = 0 }
+
+-- The charge after so many cycles
+abbrev pub ticked : Charged → ℕ → Charged
+ticked c zero = c
+ticked c (suc n) = after_tick (ticked c n) (tick_of (ticked c n))
+
+-- The next cycle is the one that pays this instruction.
+abbrev pub Pays : Charged → ℕ → Type 0
+Pays c instr = (tick_of c ≡ tick.Paid) × (c.paid ≡ instr)
+
+-- The number of the cycle of an action that pays an instruction: before it come the instructions before, and the stalls up to
+-- and with its own.
+abbrev pub cycle_of : List Stall → ℕ → ℕ → ℕ
+cycle_of stalls action instr = instr + stalled stalls action (instr + 1)

@@ -134,7 +134,12 @@ impl Charge {
             return Tick::Stalled;
         }
         self.paid += 1;
-        let next = next_stall(self.stalls.as_slice(), self.passed, self.started - 1, self.paid);
+        let next = next_stall(
+            self.stalls.as_slice(),
+            self.passed,
+            self.started - 1,
+            self.paid,
+        );
         self.passed = next.passed;
         self.left = next.cycles;
         Tick::Paid
@@ -146,5 +151,4 @@ impl Charge {
     {
         self.consumed == u64::from(self.budget)
     }
-
 }

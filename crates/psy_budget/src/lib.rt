@@ -3,6 +3,7 @@
 #![tactic(auto)]
 
 mod charge;
+pub mod laws;
 #[cfg(test)]
 mod tests;
 
