@@ -67,7 +67,8 @@ impl Ready {
     pub fn add(&mut self, agent: u32, deadline: u64)
         requires within { agent < length self.old }
         requires free { deadline_of self.old agent ≡ None }
-        ensures { self.new ≡ slice_set self.old agent (Some deadline) }
+        ensures pending { self.new ≡ slice_set self.old agent (Some deadline) }
+        ensures agents { length self.new ≡ length self.old }
     {
         self.deadlines[agent as usize] = Some(deadline);
     }
@@ -75,7 +76,8 @@ impl Ready {
     /// A pending agent is no longer so.
     pub fn drop_agent(&mut self, agent: u32)
         requires { (deadline : ℕ) × (deadline_of self.old agent ≡ Some deadline) }
-        ensures { self.new ≡ slice_set self.old agent None }
+        ensures pending { self.new ≡ slice_set self.old agent None }
+        ensures agents { length self.new ≡ length self.old }
     {
         self.deadlines[agent as usize] = None;
     }

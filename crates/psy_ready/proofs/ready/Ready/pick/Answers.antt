@@ -1,6 +1,5 @@
-use Rattle.std.proofs.Common.{◌≡◌, ℕ, ◌+◌, ◌≤◌, List, length, Option, Some, None, get_or, slice_get, sym, ap, ◌∙◌, subst, arith}
+use Rattle.std.proofs.Common.{◌≡◌, ℕ, ◌+◌, List, length, Option, Some, None, get_or, sym, ap, ◌∙◌, subst, arith}
 use Rattle.std.proofs.lemmas.Option.{slice_get-get_or}
-use Rattle.psy_ready.specs.declared.ready.Pending.{Pending}
 use Rattle.psy_ready.specs.Choice.{deadline_of}
 use Rattle.psy_ready.specs.Walk.{sooner}
 use Rattle.psy_ready.proofs.Walks.{IsFirst, one_more, nobody, picked}

@@ -1,4 +1,3 @@
-use Rattle.std.proofs.Common.{◌≡◌}
 use Rattle.psy_ready.proofs.Walks.{IsFirst}
 use Rattle.psy_ready.proofs.ready.Ready.pick.Given as goal
 
