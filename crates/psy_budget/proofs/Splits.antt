@@ -1,13 +1,12 @@
 -- What the stalls of an action cost before one instruction more.
-use Rattle.std.proofs.Common.{◌≡◌, ◌⊎◌, ℕ, zero, suc, ◌+◌, ◌<◌, ◌≤◌, Bool, true, false, cond, ◌==◌, ◌&&◌, nat_lt, List, [], ◌∷◌, length, Option, Some, None, get_or, slice_get, refl, sym, ap, ◌∙◌, subst, inl, inr, arith}
-use Rattle.std.specs.Prelude.{◌≢◌}
+use Rattle.std.proofs.Common.{◌≡◌, ℕ, zero, suc, ◌+◌, ◌<◌, ◌≤◌, cond, ◌==◌, ◌&&◌, nat_lt, List, [], ◌∷◌, length, Some, get_or, slice_get, refl, sym, ◌∙◌, subst, inl, inr, arith}
 use Rattle.std.specs.List.{sum_by}
 use Rattle.std.proofs.lemmas.Bool.{cases_order}
 use Rattle.std.proofs.lemmas.Bool.Decides.{nat_tests}
 use Rattle.std.proofs.lemmas.Option.{slice_get_within, get_or_from_slice_get, slice_get-get_or}
 use Rattle.std.proofs.lemmas.List.Sums.{sum_by-cons}
 use Rattle.psy_budget.specs.declared.charge.Stall.{Stall}
-use Rattle.psy_budget.specs.Charges.{IsBelow, Rise, stalled}
+use Rattle.psy_budget.specs.Charges.{IsBelow, StallsRise, stalled}
 use Rattle.psy_budget.specs.Standing.{IsAtLeast, AreSplit}
 
 -- Two sums over the same items are the same where each item counts the same.
@@ -77,7 +76,7 @@ module _ (action n : ℕ) where
       ]
 
   -- The stall at the place is the one before instruction n.
-  pub one_more : (stalls : List Stall) (place : ℕ) (s : Stall) → Rise stalls → AreSplit stalls place action n → slice_get stalls place ≡ Some s → s.action ≡ action → s.instr ≡ n
+  pub one_more : (stalls : List Stall) (place : ℕ) (s : Stall) → StallsRise stalls → AreSplit stalls place action n → slice_get stalls place ≡ Some s → s.action ≡ action → s.instr ≡ n
       → AreSplit stalls (place + 1) action (n + 1) × (stalled stalls action (n + 1) ≡ stalled stalls action n + s.cycles)
   one_more stalls place s rise split at a i =
       let small : place < length stalls = slice_get_within stalls place s at in
@@ -97,7 +96,7 @@ module _ (action n : ℕ) where
       )
 
   -- No stall stands before instruction n: none at the place does.
-  pub none_more : (stalls : List Stall) (place : ℕ) → Rise stalls → AreSplit stalls place action n → ((s : Stall) → slice_get stalls place ≡ Some s → s.action ≡ action → s.instr ≡ n → ⊥)
+  pub none_more : (stalls : List Stall) (place : ℕ) → StallsRise stalls → AreSplit stalls place action n → ((s : Stall) → slice_get stalls place ≡ Some s → s.action ≡ action → s.instr ≡ n → ⊥)
       → AreSplit stalls place action (n + 1) × (stalled stalls action (n + 1) ≡ stalled stalls action n)
   none_more stalls place rise split none =
       let at : (d : Stall) → place < length stalls → IsAtLeast action (n + 1) (get_or stalls place d) =

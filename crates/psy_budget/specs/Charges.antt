@@ -22,8 +22,8 @@ abbrev pub IsBelow : ℕ → ℕ → Stall → Type 0
 IsBelow action instr s = (s.action < action) ⊎ ((s.action ≡ action) × (s.instr < instr))
 
 -- Stalls rise strictly by action, then by instruction.
-abbrev pub Rise : List Stall → Type 0
-Rise = AllPairs (λ s t. IsBelow t.action t.instr s)
+abbrev pub StallsRise : List Stall → Type 0
+StallsRise = AllPairs (λ s t. IsBelow t.action t.instr s)
 
 -- The cycles of an action's stalls before its instructions 0 to n - 1
 abbrev pub stalled : List Stall → ℕ → ℕ → ℕ
@@ -48,8 +48,8 @@ after_tick c tick.Stalled = record c { consumed = c.consumed + 1 }
 after_tick c tick.Spent = c
 
 -- The next action begins. The count of actions stays at 2^64 - 1.
-abbrev pub begun : Charged → ℕ → Charged
-begun c budget = record c { started = min (c.started + 1) (2 ^ 64 - 1); budget = budget; consumed = 0; paid = 0 }
+abbrev pub after_start : Charged → ℕ → Charged
+after_start c budget = record c { started = min (c.started + 1) (2 ^ 64 - 1); budget = budget; consumed = 0; paid = 0 }
 
 -- The charge after so many cycles
 abbrev pub ticked : Charged → ℕ → Charged

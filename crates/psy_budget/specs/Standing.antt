@@ -2,7 +2,7 @@
 use Rattle.std.specs.Prelude.{ℕ, ◌≡◌, ◌+◌, ◌-◌, ◌<◌, ◌≤◌, ◌⊎◌, List, length, slice_index_or}
 use Rattle.psy_budget.specs.declared.charge.Stall.{Stall}
 use Rattle.psy_budget.specs.declared.charge.Charge.TheInside.{Inside}
-use Rattle.psy_budget.specs.Charges.{Charged, IsBelow, Rise, stalled}
+use Rattle.psy_budget.specs.Charges.{Charged, IsBelow, StallsRise, stalled}
 
 -- A stall stands before an instruction of an action, or behind it.
 abbrev pub IsAtLeast : ℕ → ℕ → Stall → Type 0
@@ -21,7 +21,7 @@ charged c = record { stalls = c.stalls; started = c.started; budget = c.budget; 
 -- No more cycles are consumed than the budget has. Where an action has started, those stalls are passed that stand up to its
 -- next instruction, and what these still cost is left.
 pub record IsCharge (c : Inside) : Type 0 where
-  pub rise : Rise c.stalls
+  pub rise : StallsRise c.stalls
   pub within : c.consumed ≤ c.budget
   pub unstarted : (c.started ≡ 0 → c.budget ≡ 0)
   pub split : (0 < c.started → AreSplit c.stalls c.passed (c.started - 1) (c.paid + 1))

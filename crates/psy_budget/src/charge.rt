@@ -1,5 +1,5 @@
 ghost use Rattle.std.specs.Prelude.{◌≡◌, ◌+◌, ◌==◌};
-ghost use Rattle.psy_budget.specs.Charges.{Rise, stalled, tick_of, after_tick, begun};
+ghost use Rattle.psy_budget.specs.Charges.{StallsRise, stalled, tick_of, after_tick, after_start};
 ghost use Rattle.psy_budget.specs.Standing.{AreSplit};
 
 use psy_base::Items;
@@ -53,7 +53,7 @@ impl Model for Charge {
 
 /// How many stalls are those of earlier actions.
 fn earlier(stalls: &[Stall], action: u64) -> usize
-    requires { Rise stalls.now }
+    requires { StallsRise stalls.now }
     ensures { AreSplit stalls.now result action 0 }
 {
     stalls.partition_point(|stall| stall.action < action)
@@ -70,7 +70,7 @@ struct Next {
 
 /// The stall before instruction `instr` of an action, given how many stalls stand below that instruction.
 fn next_stall(stalls: &[Stall], place: usize, action: u64, instr: u64) -> Next
-    requires rise { Rise stalls.now }
+    requires rise { StallsRise stalls.now }
     requires split { AreSplit stalls.now place action instr }
     ensures split { AreSplit stalls.now result.passed action (instr + 1) }
     ensures cycles { stalled stalls.now action (instr + 1) ≡ stalled stalls.now action instr + result.cycles }
@@ -90,7 +90,7 @@ fn next_stall(stalls: &[Stall], place: usize, action: u64, instr: u64) -> Next
 impl Charge {
     /// The charge of an agent with these stalls, none of whose actions has started.
     pub fn new(stalls: Items<Stall>) -> Charge
-        requires { Rise stalls }
+        requires { StallsRise stalls }
         ensures { result ≡ record { stalls = stalls; started = 0; budget = 0; consumed = 0; paid = 0 } }
     {
         Charge {
@@ -106,7 +106,7 @@ impl Charge {
 
     /// The next action begins, with its budget in cycles; the first one has number 0.
     pub fn start(&mut self, budget: u32)
-        ensures { self.new ≡ begun self.old budget }
+        ensures { self.new ≡ after_start self.old budget }
     {
         self.started = self.started.saturating_add(1);
         self.budget = budget;

@@ -8,21 +8,21 @@ abbrev pub less_then : ℕ → ℕ → Bool → Bool
 less_then a b rest = nat_lt a b || a == b && rest
 
 -- Messages are ordered by visibility, then entry, then sender, then number.
-abbrev pub before : Message → Message → Bool
-before m n = less_then m.visible n.visible (less_then m.entry n.entry (less_then m.sender n.sender (nat_lt m.number n.number)))
+abbrev pub comes_before : Message → Message → Bool
+comes_before m n = less_then m.visible n.visible (less_then m.entry n.entry (less_then m.sender n.sender (nat_lt m.number n.number)))
 
 -- A message is put before the first one that comes after it.
-abbrev pub place : Message → List Message → List Message
-place m [] = m ∷ []
-place m (n ∷ ns) = if before m n then m ∷ n ∷ ns else n ∷ place m ns
+abbrev pub put_in_order : Message → List Message → List Message
+put_in_order m [] = m ∷ []
+put_in_order m (n ∷ ns) = if comes_before m n then m ∷ n ∷ ns else n ∷ put_in_order m ns
 
 -- No message comes before an earlier one.
-abbrev pub Rises : List Message → Type 0
-Rises = AllPairs (λ m n. before n m ≡ false)
+abbrev pub AreInOrder : List Message → Type 0
+AreInOrder = AllPairs (λ m n. comes_before n m ≡ false)
 
 -- The values of messages
-abbrev pub values : List Message → List ℤ
-values = map (λ (m : Message). m.value)
+abbrev pub message_values : List Message → List ℤ
+message_values = map (λ (m : Message). m.value)
 
 -- A queue
 pub record Queued : Type 0 where

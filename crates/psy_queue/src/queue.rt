@@ -2,7 +2,7 @@ ghost use Rattle.std.specs.Prelude.{◌≡◌, ◌<◌, ◌≤◌, true, false, 
 ghost use Rattle.std.specs.List.Sorted.{IsPartitionPoint};
 ghost use Rattle.psy_base.specs.declared.limits.TheConstants.{QUEUE};
 ghost use Rattle.psy_base.specs.declared.message.Message.{Message};
-ghost use Rattle.psy_queue.specs.Order.{Rises, before, place, values};
+ghost use Rattle.psy_queue.specs.Order.{AreInOrder, comes_before, put_in_order, message_values};
 
 use psy_base::{Memory, Message};
 use std::alloc::Global;
@@ -29,7 +29,7 @@ impl Model for Queue {
 
 /// Whether a message comes before another.
 fn is_before(one: &Message, other: &Message) -> bool
-    ensures { result ≡ before one.now other.now }
+    ensures { result ≡ comes_before one.now other.now }
 {
     one.visible < other.visible
         || one.visible == other.visible
@@ -41,16 +41,16 @@ fn is_before(one: &Message, other: &Message) -> bool
 
 /// How many messages stand before the place of a new one.
 fn place_of(messages: &[Message], message: &Message) -> usize
-    requires { Rises messages.now }
-    ensures point { IsPartitionPoint (λ n. before message.now n ≡ false) (λ n. before message.now n ≡ true) messages.now result }
+    requires { AreInOrder messages.now }
+    ensures point { IsPartitionPoint (λ n. comes_before message.now n ≡ false) (λ n. comes_before message.now n ≡ true) messages.now result }
     ensures within { result ≤ length messages.now }
 {
     messages.partition_point(|other| !is_before(message, other))
 }
 
-/// How many messages can be seen at a date.
+/// How many messages are visible at a date or before it.
 fn seen_in(messages: &[Message], start: u64) -> usize
-    requires { Rises messages.now }
+    requires { AreInOrder messages.now }
     ensures number { result ≡ length (filter (λ (m : Message). nat_le m.visible start) messages.now) }
     ensures within { result ≤ length messages.now }
 {
@@ -89,7 +89,7 @@ impl Queue {
     /// A message goes to its place.
     pub fn enter(&mut self, message: Message)
         requires { length self.old.messages < self.old.size }
-        ensures { self.new ≡ record self.old { messages = place message self.old.messages } }
+        ensures { self.new ≡ record self.old { messages = put_in_order message self.old.messages } }
     {
         let place = place_of(self.messages.as_slice(), &message);
         // There is room, so this takes no memory.
@@ -105,7 +105,7 @@ impl Queue {
         drop_expired(&mut self.messages, date);
     }
 
-    /// How many messages can be seen by an action that starts at this date, if none has expired.
+    /// How many messages are visible at this date or before it.
     pub fn seen(&self, start: u64) -> u32
         ensures { result ≡ length (filter (λ (m : Message). nat_le m.visible start) self.now.messages) }
     {
@@ -115,7 +115,7 @@ impl Queue {
     /// The value of the message at a place, the first one standing at 0.
     pub fn value(&self, place: u32) -> i32
         requires { place < length self.now.messages }
-        ensures { slice_get (values self.now.messages) place ≡ Some result }
+        ensures { slice_get (message_values self.now.messages) place ≡ Some result }
     {
         self.messages[place as usize].value
     }

@@ -4,20 +4,20 @@ use Rattle.std.proofs.lemmas.Bool.{cases_lt, cases_order, ltb-true, ltb-false}
 use Rattle.std.proofs.lemmas.Option.{slice_get_within, slice_get-get_or}
 use Rattle.std.proofs.lemmas.List.{get_or_past}
 use Rattle.psy_ready.specs.declared.ready.Pending.{Pending}
-use Rattle.psy_ready.specs.Choice.{IsPick, ListsEach, NoLater, deadline_of}
+use Rattle.psy_ready.specs.Choice.{IsPick, ListsEach, NoLater, pending_deadline}
 use Rattle.psy_ready.specs.Walk.{sooner}
 
 -- the pick of the first n places
 pub record FirstWithin (pending : List (Option ℕ)) (order : List ℕ) (n agent deadline : ℕ) : Type 0 where
   pub place : ℕ
   pub at : slice_get order place ≡ Some agent
-  pub is_pending : deadline_of pending agent ≡ Some deadline
-  pub first : (p a d : ℕ) → p < n → slice_get order p ≡ Some a → deadline_of pending a ≡ Some d → NoLater place deadline p d
+  pub is_pending : pending_deadline pending agent ≡ Some deadline
+  pub first : (p a d : ℕ) → p < n → slice_get order p ≡ Some a → pending_deadline pending a ≡ Some d → NoLater place deadline p d
   pub within : place < n
 
 -- what the walk keeps
 abbrev pub IsFirst : List (Option ℕ) → List ℕ → ℕ → Option Pending → Type 0
-IsFirst pending order n None = (p a : ℕ) → p < n → slice_get order p ≡ Some a → deadline_of pending a ≡ None
+IsFirst pending order n None = (p a : ℕ) → p < n → slice_get order p ≡ Some a → pending_deadline pending a ≡ None
 IsFirst pending order n (Some f) = FirstWithin pending order n f.agent f.deadline
 
 module _ (pending : List (Option ℕ)) (order : List ℕ) (n agent : ℕ) (at : slice_get order n ≡ Some agent) where
@@ -28,29 +28,29 @@ module _ (pending : List (Option ℕ)) (order : List ℕ) (n agent : ℕ) (at : 
     | inr last ↦ let same : p ≡ n = omega (arith, less, last) in inr (same, let e : Some a ≡ Some agent = sym is ∙ ap (slice_get order) same ∙ at in cc)
   ]
 
-  none_none : deadline_of pending agent ≡ None → IsFirst pending order n None → IsFirst pending order (n + 1) None
-  none_none e h p a less is = elim (split p a less is) [ inl first ↦ h p a first is | inr here ↦ ap (deadline_of pending) here.1 ∙ e ]
+  none_none : pending_deadline pending agent ≡ None → IsFirst pending order n None → IsFirst pending order (n + 1) None
+  none_none e h p a less is = elim (split p a less is) [ inl first ↦ h p a first is | inr here ↦ ap (pending_deadline pending) here.1 ∙ e ]
 
-  none_some : (deadline : ℕ) → deadline_of pending agent ≡ Some deadline → IsFirst pending order n None → FirstWithin pending order (n + 1) agent deadline
+  none_some : (deadline : ℕ) → pending_deadline pending agent ≡ Some deadline → IsFirst pending order n None → FirstWithin pending order (n + 1) agent deadline
   none_some deadline e h = record {
     place = n;
     at = at;
     is_pending = e;
     first = λ p a d less is so. elim (split p a less is) [
       | inl first ↦ absurd (let wrong : Some d ≡ None = sym so ∙ h p a first is in cc)
-      | inr here ↦ inr (let same : Some d ≡ Some deadline = sym so ∙ ap (deadline_of pending) here.1 ∙ e in cc, omega (arith, here.0))
+      | inr here ↦ inr (let same : Some d ≡ Some deadline = sym so ∙ ap (pending_deadline pending) here.1 ∙ e in cc, omega (arith, here.0))
     ];
     within = omega arith;
   }
 
-  some_none : (f : Pending) → deadline_of pending agent ≡ None → FirstWithin pending order n f.agent f.deadline → FirstWithin pending order (n + 1) f.agent f.deadline
+  some_none : (f : Pending) → pending_deadline pending agent ≡ None → FirstWithin pending order n f.agent f.deadline → FirstWithin pending order (n + 1) f.agent f.deadline
   some_none f e h = record {
     place = h.place;
     at = h.at;
     is_pending = h.is_pending;
     first = λ p a d less is so. elim (split p a less is) [
       | inl first ↦ h.first p a d first is so
-      | inr here ↦ absurd (let wrong : Some d ≡ None = sym so ∙ ap (deadline_of pending) here.1 ∙ e in cc)
+      | inr here ↦ absurd (let wrong : Some d ≡ None = sym so ∙ ap (pending_deadline pending) here.1 ∙ e in cc)
     ];
     within = omega (arith, h.within);
   }
@@ -60,14 +60,14 @@ module _ (pending : List (Option ℕ)) (order : List ℕ) (n agent : ℕ) (at : 
   earlier place deadline d p e less (inl h) = omega (arith, less, h)
   earlier place deadline d p e less (inr h) = omega (arith, less, h.0)
 
-  takes : (f : Pending) (deadline : ℕ) → deadline < f.deadline → deadline_of pending agent ≡ Some deadline → FirstWithin pending order n f.agent f.deadline → FirstWithin pending order (n + 1) agent deadline
+  takes : (f : Pending) (deadline : ℕ) → deadline < f.deadline → pending_deadline pending agent ≡ Some deadline → FirstWithin pending order n f.agent f.deadline → FirstWithin pending order (n + 1) agent deadline
   takes f deadline soon e h = record {
     place = n;
     at = at;
     is_pending = e;
     first = λ p a d less is so. elim (split p a less is) [
       | inl first ↦ inl (earlier h.place f.deadline deadline p d soon (h.first p a d first is so))
-      | inr here ↦ inr (let same : Some d ≡ Some deadline = sym so ∙ ap (deadline_of pending) here.1 ∙ e in cc, omega (arith, here.0))
+      | inr here ↦ inr (let same : Some d ≡ Some deadline = sym so ∙ ap (pending_deadline pending) here.1 ∙ e in cc, omega (arith, here.0))
     ];
     within = omega arith;
   }
@@ -79,7 +79,7 @@ module _ (pending : List (Option ℕ)) (order : List ℕ) (n agent : ℕ) (at : 
     | inr other ↦ elim other [ inl first ↦ inl first | inr last ↦ absurd (omega (arith, more, last)) ]
   ]
 
-  keeps : (f : Pending) (deadline : ℕ) → f.deadline ≤ deadline → deadline_of pending agent ≡ Some deadline → FirstWithin pending order n f.agent f.deadline → FirstWithin pending order (n + 1) f.agent f.deadline
+  keeps : (f : Pending) (deadline : ℕ) → f.deadline ≤ deadline → pending_deadline pending agent ≡ Some deadline → FirstWithin pending order n f.agent f.deadline → FirstWithin pending order (n + 1) f.agent f.deadline
   keeps f deadline late e h = record {
     place = h.place;
     at = h.at;
@@ -87,29 +87,29 @@ module _ (pending : List (Option ℕ)) (order : List ℕ) (n agent : ℕ) (at : 
     first = λ p a d less is so. elim (split p a less is) [
       | inl first ↦ h.first p a d first is so
       | inr here ↦
-          let same : d ≡ deadline = (let is_same : Some d ≡ Some deadline = sym so ∙ ap (deadline_of pending) here.1 ∙ e in cc) in
+          let same : d ≡ deadline = (let is_same : Some d ≡ Some deadline = sym so ∙ ap (pending_deadline pending) here.1 ∙ e in cc) in
           subst (λ q. NoLater h.place f.deadline q d) (sym here.0) (stays h.place f.deadline d h.within (omega (arith, late, same)))
     ];
     within = omega (arith, h.within);
   }
 
-  chooses : (f : Pending) (deadline : ℕ) (test : Bool) → nat_lt deadline f.deadline ≡ test → deadline_of pending agent ≡ Some deadline → FirstWithin pending order n f.agent f.deadline
+  chooses : (f : Pending) (deadline : ℕ) (test : Bool) → nat_lt deadline f.deadline ≡ test → pending_deadline pending agent ≡ Some deadline → FirstWithin pending order n f.agent f.deadline
       → IsFirst pending order (n + 1) (if test then Some (record { agent = agent; deadline = deadline }) else Some f)
   chooses f deadline true is e h = takes f deadline (ltb-true deadline f.deadline is) e h
   chooses f deadline false is e h = keeps f deadline (ltb-false deadline f.deadline is) e h
 
-  more_by : (first : Option Pending) (next : Option ℕ) → deadline_of pending agent ≡ next → IsFirst pending order n first → IsFirst pending order (n + 1) (sooner first agent next)
+  more_by : (first : Option Pending) (next : Option ℕ) → pending_deadline pending agent ≡ next → IsFirst pending order n first → IsFirst pending order (n + 1) (sooner first agent next)
   more_by None None e h = none_none e h
   more_by (Some f) None e h = some_none f e h
   more_by None (Some deadline) e h = none_some deadline e h
   more_by (Some f) (Some deadline) e h = chooses f deadline (nat_lt deadline f.deadline) refl e h
 
   -- One place more
-  pub one_more : (first : Option Pending) → IsFirst pending order n first → IsFirst pending order (n + 1) (sooner first agent (deadline_of pending agent))
-  one_more first h = more_by first (deadline_of pending agent) refl h
+  pub one_more : (first : Option Pending) → IsFirst pending order n first → IsFirst pending order (n + 1) (sooner first agent (pending_deadline pending agent))
+  one_more first h = more_by first (pending_deadline pending agent) refl h
 
 module _ (pending : List (Option ℕ)) (order : List ℕ) (lists : ListsEach (length pending) order) where
-  pub nobody : IsFirst pending order (length order) None → (agent : ℕ) → deadline_of pending agent ≡ None
+  pub nobody : IsFirst pending order (length order) None → (agent : ℕ) → pending_deadline pending agent ≡ None
   nobody h agent = elim (cases_lt agent (length pending)) [
     | inl less ↦
         let w : (k : ℕ) × (k < length order) × (get_or order k agent ≡ agent) = lists.each agent less in

@@ -3,8 +3,8 @@ use Rattle.std.specs.Prelude.{ℕ, ◌≡◌, ◌≢◌, ◌<◌, ◌≤◌, ◌
 use Rattle.std.specs.List.{All, AllPairs, Contains}
 
 -- The deadline of an agent; None where it isn't pending
-abbrev pub deadline_of : List (Option ℕ) → ℕ → Option ℕ
-deadline_of pending agent = slice_index_or pending agent None
+abbrev pub pending_deadline : List (Option ℕ) → ℕ → Option ℕ
+pending_deadline pending agent = slice_index_or pending agent None
 
 -- An order lists each of so many agents once.
 pub record ListsEach (agents : ℕ) (order : List ℕ) : Type 0 where
@@ -21,5 +21,5 @@ pub record IsPick (pending : List (Option ℕ)) (order : List ℕ) (agent : ℕ)
   pub place : ℕ
   pub deadline : ℕ
   pub at : slice_get order place ≡ Some agent
-  pub is_pending : deadline_of pending agent ≡ Some deadline
-  pub first : (p a d : ℕ) → slice_get order p ≡ Some a → deadline_of pending a ≡ Some d → NoLater place deadline p d
+  pub is_pending : pending_deadline pending agent ≡ Some deadline
+  pub first : (p a d : ℕ) → slice_get order p ≡ Some a → pending_deadline pending a ≡ Some d → NoLater place deadline p d

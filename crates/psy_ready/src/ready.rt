@@ -1,5 +1,5 @@
 ghost use Rattle.std.specs.Prelude.{◌≡◌, ◌<◌, ℕ, Some, None, IfOk, MatchOption, length, replicate, slice_set};
-ghost use Rattle.psy_ready.specs.Choice.{IsPick, ListsEach, deadline_of};
+ghost use Rattle.psy_ready.specs.Choice.{IsPick, ListsEach, pending_deadline};
 ghost use Rattle.psy_ready.specs.Walk.{sooner};
 
 use psy_base::Memory;
@@ -29,8 +29,8 @@ struct Pending {
 }
 
 /// The deadline of an agent; None where it isn't pending.
-fn deadline_of(deadlines: &[Option<u64>], agent: u32) -> Option<u64>
-    ensures { result ≡ deadline_of deadlines.now agent }
+fn pending_deadline(deadlines: &[Option<u64>], agent: u32) -> Option<u64>
+    ensures { result ≡ pending_deadline deadlines.now agent }
 {
     match deadlines.get(agent as usize) {
         Some(deadline) => *deadline,
@@ -66,7 +66,7 @@ impl Ready {
     /// An agent that isn't pending becomes so.
     pub fn add(&mut self, agent: u32, deadline: u64)
         requires within { agent < length self.old }
-        requires free { deadline_of self.old agent ≡ None }
+        requires free { pending_deadline self.old agent ≡ None }
         ensures pending { self.new ≡ slice_set self.old agent (Some deadline) }
         ensures agents { length self.new ≡ length self.old }
     {
@@ -75,7 +75,7 @@ impl Ready {
 
     /// A pending agent is no longer so.
     pub fn drop_agent(&mut self, agent: u32)
-        requires { (deadline : ℕ) × (deadline_of self.old agent ≡ Some deadline) }
+        requires { (deadline : ℕ) × (pending_deadline self.old agent ≡ Some deadline) }
         ensures pending { self.new ≡ slice_set self.old agent None }
         ensures agents { length self.new ≡ length self.old }
     {
@@ -87,13 +87,13 @@ impl Ready {
     pub fn pick(&self, order: &[u32]) -> Option<u32>
         requires { ListsEach (length self.now) order.now }
         ensures { MatchOption result
-            ((agent : ℕ) → deadline_of self.now agent ≡ None)
+            ((agent : ℕ) → pending_deadline self.now agent ≡ None)
             (λ agent. IsPick self.now order.now agent) }
     {
         let deadlines = self.deadlines.as_slice();
         let mut first = None;
         for agent in order {
-            first = sooner(first, *agent, deadline_of(deadlines, *agent));
+            first = sooner(first, *agent, pending_deadline(deadlines, *agent));
         }
         match first {
             Some(pending) => Some(pending.agent),

@@ -1,11 +1,10 @@
-use Rattle.std.proofs.Common.{◌≡◌, ℕ, ◌+◌, ◌<◌, ◌≤◌, ltb, Bool, true, false, List, length, get_or, refl, sym, ap, ◌∙◌, subst, inl, inr, arith, rules, tests}
-use Rattle.std.proofs.lemmas.Bool.Decides.{nat_tests}
+use Rattle.std.proofs.Common.{◌≡◌, ℕ, ◌≤◌, ltb, true, false, List, get_or, sym, subst, inl, inr, arith, rules}
 use Rattle.std.proofs.lemmas.Bool.{cases_order, ltb-true, ltb-false}
 use Rattle.std.proofs.lemmas.List.Sorted.{IsPartitionedBy-ltb, IsPartitionPoint-from_clause}
 use Rattle.std.specs.List.Sorted.{IsNonDecreasingBy, IsPartitionedBy, IsPartitionPoint}
 use Rattle.psy_budget.specs.declared.charge.Stall.{Stall}
-use Rattle.psy_budget.specs.Charges.{IsBelow, Rise}
-use Rattle.psy_budget.specs.Standing.{IsAtLeast, AreSplit}
+use Rattle.psy_budget.specs.Charges.{IsBelow, StallsRise}
+use Rattle.psy_budget.specs.Standing.{IsAtLeast}
 use Rattle.psy_budget.proofs.charge.earlier.Goals as goal
 
 -- stalls rise by action
@@ -13,7 +12,7 @@ below : (s t : Stall) → IsBelow t.action t.instr s → s.action ≤ t.action
 below s t (inl h) = omega (arith, h)
 below s t (inr h) = omega (arith, h.0)
 
-rising : (stalls : List Stall) → Rise stalls → IsNonDecreasingBy (λ (s : Stall). s.action) stalls
+rising : (stalls : List Stall) → StallsRise stalls → IsNonDecreasingBy (λ (s : Stall). s.action) stalls
 rising stalls rise i j d less small = elim (cases_order i j) [
   | inl same ↦ subst (λ k. (get_or stalls i d).action ≤ (get_or stalls k d).action) same (omega arith)
   | inr other ↦ elim other [ inl first ↦ below (get_or stalls i d) (get_or stalls j d) (rise i j d first small) | inr last ↦ absurd (omega (arith, less, last)) ]

@@ -1,8 +1,6 @@
-use Rattle.std.proofs.Common.{◌≡◌, ℕ, ◌+◌, ◌<◌, ◌≤◌, List, length, Some, get_or, slice_get, refl, sym, ap, ◌∙◌, subst, arith}
+use Rattle.std.proofs.Common.{◌≡◌, Some, get_or, slice_get, ap, ◌∙◌, arith}
 use Rattle.std.proofs.lemmas.Option.{slice_get_within, get_or_from_slice_get, slice_get-get_or}
 use Rattle.psy_budget.specs.declared.charge.Stall.{Stall}
-use Rattle.psy_budget.specs.Charges.{stalled}
-use Rattle.psy_budget.specs.Standing.{AreSplit}
 use Rattle.psy_budget.proofs.Splits.{one_more, none_more}
 use Rattle.psy_budget.proofs.charge.next_stall.Goals as goal
 use Rattle.psy_budget.proofs.charge.next_stall.Goals.{else-place-stalls-via-then-place-stalls+then-stalls-place+else-stalls-place-2, else-place-stalls-via-then-place-stalls+else-stalls-place, else-place-stalls-via-else-place-stalls}

@@ -1,6 +1,6 @@
-use Rattle.std.proofs.Common.{◌≡◌, ℕ, ◌+◌, ◌-◌, ◌<◌, ◌≤◌, subst, arith, rules}
-use Rattle.psy_budget.specs.Charges.{Rise, stalled}
-use Rattle.psy_budget.specs.Standing.{AreSplit, IsCharge}
+use Rattle.std.proofs.Common.{◌≡◌, ℕ, ◌+◌, ◌-◌, subst, arith}
+use Rattle.psy_budget.specs.Charges.{stalled}
+use Rattle.psy_budget.specs.Standing.{AreSplit}
 use Rattle.psy_budget.proofs.Splits.{none_stalled}
 use Rattle.psy_budget.proofs.charge.Charge.start.Goals as goal
 

@@ -1,6 +1,6 @@
 use Rattle.std.proofs.Common.{◌≡◌, ℕ, ◌+◌, List, length, Option, Some, None, get_or, sym, ap, ◌∙◌, subst, arith}
 use Rattle.std.proofs.lemmas.Option.{slice_get-get_or}
-use Rattle.psy_ready.specs.Choice.{deadline_of}
+use Rattle.psy_ready.specs.Choice.{pending_deadline}
 use Rattle.psy_ready.specs.Walk.{sooner}
 use Rattle.psy_ready.proofs.Walks.{IsFirst, one_more, nobody, picked}
 use Rattle.psy_ready.proofs.ready.Ready.pick.Goals as goal
@@ -11,7 +11,7 @@ loop-agent-preserved c =
     let deadlines : List (Option ℕ) = c.as_slice-deadlines.result.now in
     let place : ℕ = c.loop-agent.agent-index in
     let agent : ℕ = get_or order place 0 in
-    let next : c.sooner-first.result ≡ sooner c.loop-agent.first agent (deadline_of deadlines agent) = c.sooner-first.ensures ∙ ap (sooner c.loop-agent.first agent) c.deadline_of.ensures in
+    let next : c.sooner-first.result ≡ sooner c.loop-agent.first agent (pending_deadline deadlines agent) = c.sooner-first.ensures ∙ ap (sooner c.loop-agent.first agent) c.pending_deadline.ensures in
     subst (IsFirst deadlines order (place + 1)) (sym next) (one_more deadlines order place agent (slice_get-get_or order place 0 c.loop-agent-test.true) c.loop-agent.first c.loop-agent.invariant)
 
 pub returns-in-Some : goal.returns-in-Some
