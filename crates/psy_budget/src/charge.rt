@@ -1,0 +1,154 @@
+ghost use Rattle.std.specs.Prelude.{◌≡◌, ◌+◌, ◌==◌};
+ghost use Rattle.psy_budget.specs.Charges.{StallsRise, stalled, tick_of, after_tick, after_start};
+ghost use Rattle.psy_budget.specs.Standing.{AreSplit};
+
+use psy_base::Items;
+use std::marker::Model;
+
+/// Cycles that pass before an instruction of an action and do nothing. Actions of the agent, and instructions
+/// of an action, are counted from 0.
+#[derive(Clone, Copy, Debug, PartialEq, Eq)]
+pub struct Stall {
+    pub agent: u32,
+    pub action: u64,
+    pub instr: u64,
+    pub cycles: u64,
+}
+
+/// What a cycle goes to.
+#[derive(Clone, Copy, Debug, PartialEq, Eq)]
+pub enum Tick {
+    /// The next instruction goes.
+    Paid,
+    /// A stall before the next instruction.
+    Stalled,
+    /// None: the budget is spent.
+    Spent,
+}
+
+/// What an agent's actions are charged. No call takes memory.
+#[derive(Drop)]
+pub struct Charge {
+    stalls: Items<Stall>,
+    /// How many stalls are before or at the next instruction, or were.
+    passed: usize,
+    /// Cycles that are left of the stalls before the next instruction.
+    left: u64,
+    started: u64,
+    budget: u32,
+    consumed: u64,
+    paid: u64,
+}
+
+impl Model for Charge {
+    ghost use Rattle.psy_budget.specs.Charges.{Charged};
+    ghost use Rattle.psy_budget.specs.Standing.{IsCharge, charged};
+
+    ghost Value = { Charged };
+
+    ghost view = { charged };
+
+    ghost invariant = { IsCharge };
+}
+
+/// How many stalls are those of earlier actions.
+fn earlier(stalls: &[Stall], action: u64) -> usize
+    requires { StallsRise stalls.now }
+    ensures { AreSplit stalls.now result action 0 }
+{
+    stalls.partition_point(|stall| stall.action < action)
+}
+
+/// The stall before an instruction, where there is one.
+#[derive(Clone, Copy, Debug)]
+struct Next {
+    /// How many stalls stand up to it.
+    passed: usize,
+    /// Its cycles; 0 where there is none.
+    cycles: u64,
+}
+
+/// The stall before instruction `instr` of an action, given how many stalls stand below that instruction.
+fn next_stall(stalls: &[Stall], place: usize, action: u64, instr: u64) -> Next
+    requires rise { StallsRise stalls.now }
+    requires split { AreSplit stalls.now place action instr }
+    ensures split { AreSplit stalls.now result.passed action (instr + 1) }
+    ensures cycles { stalled stalls.now action (instr + 1) ≡ stalled stalls.now action instr + result.cycles }
+{
+    if place < stalls.len() && stalls[place].action == action && stalls[place].instr == instr {
+        return Next {
+            passed: place + 1,
+            cycles: stalls[place].cycles,
+        };
+    }
+    Next {
+        passed: place,
+        cycles: 0,
+    }
+}
+
+impl Charge {
+    /// The charge of an agent with these stalls, none of whose actions has started.
+    pub fn new(stalls: Items<Stall>) -> Charge
+        requires { StallsRise stalls }
+        ensures { result ≡ record { stalls = stalls; started = 0; budget = 0; consumed = 0; paid = 0 } }
+    {
+        Charge {
+            stalls,
+            passed: 0,
+            left: 0,
+            started: 0,
+            budget: 0,
+            consumed: 0,
+            paid: 0,
+        }
+    }
+
+    /// The next action begins, with its budget in cycles; the first one has number 0.
+    pub fn start(&mut self, budget: u32)
+        ensures { self.new ≡ after_start self.old budget }
+    {
+        self.started = self.started.saturating_add(1);
+        self.budget = budget;
+        self.consumed = 0;
+        self.paid = 0;
+        let action = self.started - 1;
+        let stalls = self.stalls.as_slice();
+        let next = next_stall(stalls, earlier(stalls, action), action, 0);
+        self.passed = next.passed;
+        self.left = next.cycles;
+    }
+
+    /// What the next cycle of the action goes to; `Spent` exactly where its cycles equal the budget, and then nothing
+    /// changes.
+    pub fn tick(&mut self) -> Tick
+        ensures answer { result ≡ tick_of self.old }
+        ensures charge { self.new ≡ after_tick self.old result }
+    {
+        if self.spent() {
+            return Tick::Spent;
+        }
+        self.consumed += 1;
+        if self.left > 0 {
+            self.left -= 1;
+            return Tick::Stalled;
+        }
+        self.paid += 1;
+        let next = next_stall(
+            self.stalls.as_slice(),
+            self.passed,
+            self.started - 1,
+            self.paid,
+        );
+        self.passed = next.passed;
+        self.left = next.cycles;
+        Tick::Paid
+    }
+
+    /// Whether the budget is spent.
+    pub fn spent(&self) -> bool
+        ensures { result ≡ (self.now.consumed == self.now.budget) }
+    {
+        self.consumed == u64::from(self.budget)
+    }
+}

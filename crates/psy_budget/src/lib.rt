@@ -1,0 +1,10 @@
+//! What an agent's actions are charged: each instruction a cycle, and the cycles of a script's stalls before
+//! it, up to the budget of the action.
+#![tactic(auto)]
+
+mod charge;
+pub mod laws;
+#[cfg(test)]
+mod tests;
+
+pub use charge::{Charge, Stall, Tick};

@@ -1,0 +1,8 @@
+//! Whether the work that can fall due in each length fits into it.
+#![tactic(auto)]
+
+mod demand;
+#[cfg(test)]
+mod tests;
+
+pub use demand::{Verdict, feasible};

@@ -1,0 +1,130 @@
+ghost use Rattle.std.specs.Prelude.{◌≡◌, ◌<◌, ◌≤◌, true, false, [], Some, IfOk, drop, filter, length, nat_le, nat_lt, slice_get, vec_capacity};
+ghost use Rattle.std.specs.List.Sorted.{IsPartitionPoint};
+ghost use Rattle.psy_base.specs.declared.limits.TheConstants.{QUEUE};
+ghost use Rattle.psy_base.specs.declared.message.Message.{Message};
+ghost use Rattle.psy_queue.specs.Order.{AreInOrder, comes_before, put_in_order, message_values};
+
+use psy_base::{Memory, Message};
+use std::alloc::Global;
+use std::marker::Model;
+
+/// The messages of a stream, in order. Contracts see its size, the number of messages that it has room for, and
+/// the list of those that it holds.
+#[derive(Drop)]
+pub struct Queue {
+    size: u32,
+    messages: Vec<Message>,
+}
+
+impl Model for Queue {
+    ghost use Rattle.psy_queue.specs.Order.{Queued};
+    ghost use Rattle.psy_queue.specs.Standing.{IsQueue, queued};
+
+    ghost Value = { Queued };
+
+    ghost view = { queued };
+
+    ghost invariant = { IsQueue };
+}
+
+/// Whether a message comes before another.
+fn is_before(one: &Message, other: &Message) -> bool
+    ensures { result ≡ comes_before one.now other.now }
+{
+    one.visible < other.visible
+        || one.visible == other.visible
+            && (one.entry < other.entry
+                || one.entry == other.entry
+                    && (one.sender < other.sender
+                        || one.sender == other.sender && one.number < other.number))
+}
+
+/// How many messages stand before the place of a new one.
+fn place_of(messages: &[Message], message: &Message) -> usize
+    requires { AreInOrder messages.now }
+    ensures point { IsPartitionPoint (λ n. comes_before message.now n ≡ false) (λ n. comes_before message.now n ≡ true) messages.now result }
+    ensures within { result ≤ length messages.now }
+{
+    messages.partition_point(|other| !is_before(message, other))
+}
+
+/// How many messages are visible at a date or before it.
+fn seen_in(messages: &[Message], start: u64) -> usize
+    requires { AreInOrder messages.now }
+    ensures number { result ≡ length (filter (λ (m : Message). nat_le m.visible start) messages.now) }
+    ensures within { result ≤ length messages.now }
+{
+    messages.partition_point(|message| message.visible <= start)
+}
+
+/// The first messages go.
+fn drop_front(messages: &mut Vec<Message>, taken: usize)
+    requires { taken ≤ length messages.old.items }
+    ensures items { messages.new.items ≡ drop taken messages.old.items }
+    ensures capacity { vec_capacity messages.new ≡ vec_capacity messages.old }
+{
+    drop(messages.drain(..taken));
+}
+
+/// The messages that have expired go.
+fn drop_expired(messages: &mut Vec<Message>, date: u64)
+    ensures items { messages.new.items ≡ filter (λ (m : Message). nat_lt date m.expiry) messages.old.items }
+    ensures capacity { vec_capacity messages.new ≡ vec_capacity messages.old }
+{
+    messages.retain(|message| date < message.expiry);
+}
+
+impl Queue {
+    /// An empty queue of so many places, at most 65,536. The only error is want of memory; no other call takes any.
+    pub fn new(alloc: Global, size: u32) -> Result<Queue, Memory>
+        requires { size ≤ QUEUE }
+        ensures { IfOk result (λ queue. queue ≡ record { size = size; messages = [] }) }
+    {
+        Ok(Queue {
+            size,
+            messages: Vec::with_capacity(alloc, size as usize)?,
+        })
+    }
+
+    /// A message goes to its place.
+    pub fn enter(&mut self, message: Message)
+        requires { length self.old.messages < self.old.size }
+        ensures { self.new ≡ record self.old { messages = put_in_order message self.old.messages } }
+    {
+        let place = place_of(self.messages.as_slice(), &message);
+        // There is room, so this takes no memory.
+        let _ = self.messages.insert(place, message);
+    }
+
+    /// At a date the first messages go, which were taken, and then all that have expired.
+    pub fn settle(&mut self, date: u64, taken: u32)
+        requires { taken ≤ length self.old.messages }
+        ensures { self.new ≡ record self.old { messages = filter (λ (m : Message). nat_lt date m.expiry) (drop taken self.old.messages) } }
+    {
+        drop_front(&mut self.messages, taken as usize);
+        drop_expired(&mut self.messages, date);
+    }
+
+    /// How many messages are visible at this date or before it.
+    pub fn seen(&self, start: u64) -> u32
+        ensures { result ≡ length (filter (λ (m : Message). nat_le m.visible start) self.now.messages) }
+    {
+        seen_in(self.messages.as_slice(), start) as u32
+    }
+
+    /// The value of the message at a place, the first one standing at 0.
+    pub fn value(&self, place: u32) -> i32
+        requires { place < length self.now.messages }
+        ensures { slice_get (message_values self.now.messages) place ≡ Some result }
+    {
+        self.messages[place as usize].value
+    }
+
+    /// How many messages are held.
+    pub fn held(&self) -> u32
+        ensures number { result ≡ length self.now.messages }
+        ensures within { result ≤ self.now.size }
+    {
+        self.messages.len() as u32
+    }
+}

@@ -1,0 +1,8 @@
+//! The agents that wait for the processor, each with the deadline of its action, and which of them comes next.
+#![tactic(auto)]
+
+mod ready;
+#[cfg(test)]
+mod tests;
+
+pub use ready::Ready;

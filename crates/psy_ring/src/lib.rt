@@ -1,0 +1,9 @@
+//! The history of a temporal variable or an input: the values published last, as many as actions that may
+//! still look at them need.
+#![tactic(auto)]
+
+mod ring;
+#[cfg(test)]
+mod tests;
+
+pub use ring::Ring;
