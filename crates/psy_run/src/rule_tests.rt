@@ -3,7 +3,8 @@ use crate::refusal::Refusal;
 use crate::tests::{SOUND, compare};
 use psy_base::limits;
 use psy_tree::Count;
-use std::alloc::Global;
+use std::alloc::{AllocGlobal, Global};
+use std::process::Abort;
 use std::test::Fail;
 
 // A program, the number of the rule that it breaks, 0 where it keeps all, and the token that is named.
@@ -68,7 +69,7 @@ const BODIES: [Case; 44] = [
     ("while (v) max 1 { } advance 1 on c;", 0, 0),
 ];
 
-const PROGRAMS: [Case; 103] = [
+const PROGRAMS: [Case; 88] = [
     ("tick 0;", 12, 1),
     ("tick 1;", 0, 0),
     ("tick 1000000;", 0, 0),
@@ -389,6 +390,10 @@ const PROGRAMS: [Case; 103] = [
     ("tick 1; int f() { return f(); }", 10, 9),
     ("tick 1; int f() { } int g() { return g(); }", 10, 15),
     ("tick 1; int f() { if (f()) { } }", 10, 10),
+];
+
+/// Programs at which two rules meet, or where it isn't plain which of them speaks.
+const MEETINGS: [Case; 15] = [
     // Names in heads: a local of the agent isn't in reach there.
     (
         "tick 10; clock c = 1 * tick; agent A on x budget 9 { int x = 0; body { advance 1 on c; } }",
@@ -463,17 +468,39 @@ fn refusal(alloc: Global, rule: u32, token: u32) -> Result<String, Fail> {
     Ok(format!(in alloc; "refused rule {rule} at {token}\n")?)
 }
 
-#[test]
-fn the_least_fault_is_named(rt: HostRuntime) -> Result<(), Fail> {
+// The program is refused, or not built, with the text of the rule.
+fn expect_refusal(
+    rt: &(impl Abort + AllocGlobal),
+    program: &str,
+    rule: u32,
+    token: u32,
+) -> Result<(), Fail> {
     let words = ["run", "prog.psy", "20"];
+    let text = refusal(rt.alloc(), rule, token)?;
+    compare(rt, &words, program.as_bytes(), SOUND, 1, text.as_str())
+}
+
+#[test]
+fn the_least_fault_of_a_body_is_named(rt: HostRuntime) -> Result<(), Fail> {
     for (body, rule, token) in BODIES {
         let program = format!(in rt.alloc(); "{HEAD}{body} }} }}")?;
-        let text = refusal(rt.alloc(), rule, token)?;
-        compare(&rt, &words, program.as_bytes(), SOUND, 1, text.as_str())?;
+        expect_refusal(&rt, program.as_str(), rule, token)?;
     }
+    Ok(())
+}
+
+#[test]
+fn the_least_fault_of_a_program_is_named(rt: HostRuntime) -> Result<(), Fail> {
     for (program, rule, token) in PROGRAMS {
-        let text = refusal(rt.alloc(), rule, token)?;
-        compare(&rt, &words, program.as_bytes(), SOUND, 1, text.as_str())?;
+        expect_refusal(&rt, program, rule, token)?;
+    }
+    Ok(())
+}
+
+#[test]
+fn where_rules_meet_the_least_is_named(rt: HostRuntime) -> Result<(), Fail> {
+    for (program, rule, token) in MEETINGS {
+        expect_refusal(&rt, program, rule, token)?;
     }
     Ok(())
 }
