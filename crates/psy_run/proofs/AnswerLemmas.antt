@@ -1,5 +1,5 @@
 -- Words and the bytes of the file that they name have one answer at most.
-use Rattle.std.proofs.Common.{◌≡◌, ◌∙◌, sym, subst, ap, refl, ℕ, ◌*◌, ◌<◌, ◌≤◌, List, [], ◌∷◌, length, codes, arith, Some, None, slice_get}
+use Rattle.std.proofs.Common.{◌≡◌, ◌∙◌, sym, subst, ap, refl, ℕ, ◌*◌, ◌<◌, ◌≤◌, List, [], ◌∷◌, length, codes, arith, Some, slice_get}
 use Rattle.psy_base.specs.declared.limits.TheConstants.{FILE_BYTES}
 use Rattle.psy_tree.specs.declared.token.Token.{Token}
 use Rattle.psy_tree.specs.declared.raw.Raw.{Raw}
@@ -9,9 +9,6 @@ use Rattle.psy_tree.specs.declared.faults.LexKind.{LexKind}
 use Rattle.psy_tree.specs.Faults.{FirstFault}
 use Rattle.psy_tree.specs.Grammar.{Spells}
 use Rattle.psy_tree.specs.Deep as deep
-use Rattle.psy_token.proofs.Texts.{TokensOf-once, FirstFault-once, not_both}
-use Rattle.psy_parse.proofs.AgainItems.{Spells-unique}
-use Rattle.psy_rules.proofs.Verdicts.{Stands-once, LeastFault-once, count-once, stands_or_fault, stands_or_count, fault_or_none}
 use Rattle.psy_tree.specs.declared.unit.Unit.{Unit as Whole}
 use Rattle.psy_tree.specs.declared.rules.Count.{Count}
 use Rattle.psy_tree.specs.declared.rules.RuleKind.{RuleKind}
@@ -25,6 +22,25 @@ use Rattle.psy_run.specs.Form.{Program, IsForm, HaveNumbers}
 use Rattle.psy_run.specs.Log.{text_of}
 use Rattle.psy_run.specs.Answer.{Answers, unlisted, refused, ran, Refuses, status_of, line_of, lex_line, limit_line}
 use Rattle.psy_run.proofs.FormLemmas.{have_one_numbers, one_value}
+
+-- Each step that reads a file has one outcome at most.
+pub record StepsAgree : Type 0 where
+  pub tokens : (text : List ℕ) (some others : List Token) → TokensOf text some → TokensOf text others → some ≡ others
+  pub lexical : (text : List ℕ) (kind other : LexKind) (place elsewhere : ℕ) → FirstFault text kind place → FirstFault text other elsewhere → (kind ≡ other) × (place ≡ elsewhere)
+  pub tokens_or_lexical : (text : List ℕ) (tokens : List Token) (kind : LexKind) (place : ℕ) → TokensOf text tokens → FirstFault text kind place → ⊥
+  pub tree : (tokens : List Token) (raw other : Raw) → Spells raw tokens → Spells other tokens → raw ≡ other
+  pub first_deep : (tokens : List Token) (n other : ℕ) → deep.Deep tokens n → deep.Deep tokens other → n ≡ other
+  pub deep_or_shallow : (tokens : List Token) (n : ℕ) → deep.Deep tokens n → deep.Shallow tokens → ⊥
+  pub unit : (raw : Raw) (unit other : Whole) → Stands unit raw → Stands other raw → unit ≡ other
+  pub rule : (raw : Raw) (kind other : RuleKind) (token elsewhere : ℕ) → LeastFault raw kind token → LeastFault raw other elsewhere → (kind ≡ other) × (token ≡ elsewhere)
+  pub count : (raw : Raw) (count other : Count) → first_passed raw ≡ Some count → first_passed raw ≡ Some other → count ≡ other
+  pub unit_or_rule : (raw : Raw) (unit : Whole) (kind : RuleKind) (token : ℕ) → Stands unit raw → LeastFault raw kind token → ⊥
+  pub unit_or_count : (raw : Raw) (unit : Whole) (count : Count) → Stands unit raw → first_passed raw ≡ Some count → ⊥
+  pub rule_or_none : (raw : Raw) (kind : RuleKind) (token : ℕ) → LeastFault raw kind token → NoFault raw → ⊥
+
+-- Words and bytes have one answer at most.
+abbrev pub OneAnswer : Type 0
+OneAnswer = (words : List (List ℕ)) (bytes : List ℕ) (status other_status : ℕ) (text other_text : List ℕ) → Answers words bytes status text → Answers words bytes other_status other_text → (status ≡ other_status) × (text ≡ other_text)
 
 -- words ask for one run at most
 pub AsksRun-unique : (words : List (List ℕ)) (name other_name : List ℕ) (until other_until : ℕ) → AsksRun words name until → AsksRun words other_name other_until → (name ≡ other_name) × (until ≡ other_until)
@@ -48,16 +64,6 @@ IsForm-unique unit until program other a b =
     let named = a.names.0 ∙ ap (λ v. v.name) variable ∙ sym b.names.0 in
     let called = a.names.1 ∙ ap (λ g. g.name) agent ∙ sym b.names.1 in
     λ i. record { variable = named i; agent = called i; numbers = same i }
-
--- one token is the first that is too deep
-pub Deep-unique : (tokens : List Token) (n m : ℕ) → deep.Deep tokens n → deep.Deep tokens m → n ≡ m
-Deep-unique tokens n m a b =
-    let not_before : n < m → ⊥ = λ before. b.first n before a.reached in
-    let not_behind : m < n → ⊥ = λ behind. a.first m behind b.reached in
-    omega arith
-
-Deep-not_shallow : (tokens : List Token) (n : ℕ) → deep.Deep tokens n → deep.Shallow tokens → ⊥
-Deep-not_shallow tokens n a shallow = shallow n a.stands a.reached
 
 -- The steps that judge a file, the last first: each stops with a status and a text, or goes on to the one above it.
 
@@ -152,62 +158,62 @@ of_unit until unit s s' t t' (OfUnit.goes_on program form more) (OfUnit.goes_on 
     let same = IsForm-unique unit until program program' form form' in
     of_program program' s s' t t' (subst (λ p. OfProgram p s t) same more) more'
 
-of_tree : (until : ℕ) (raw : Raw) (s s' : ℕ) (t t' : List ℕ) → OfTree until raw s t → OfTree until raw s' t' → Same s s' t t'
-of_tree until raw s s' t t' (OfTree.breaks k n least) (OfTree.breaks l m again) =
-    let same = LeastFault-once raw k l n m least again in
-    (refl, λ i. line_of (Rule (same.0 i) (same.1 i)))
-of_tree until raw s s' t t' (OfTree.breaks k n least) (OfTree.passes count none passed) = absurd (fault_or_none raw k n least none)
-of_tree until raw s s' t t' (OfTree.breaks k n least) (OfTree.goes_on unit stands more) = absurd (stands_or_fault raw unit k n stands least)
-of_tree until raw s s' t t' (OfTree.passes count none passed) (OfTree.breaks k n least) = absurd (fault_or_none raw k n least none)
-of_tree until raw s s' t t' (OfTree.passes count none passed) (OfTree.passes other again passed') =
-    let same = count-once raw count other passed passed' in
-    (refl, ap limit_line same)
-of_tree until raw s s' t t' (OfTree.passes count none passed) (OfTree.goes_on unit stands more) = absurd (stands_or_count raw unit count stands passed)
-of_tree until raw s s' t t' (OfTree.goes_on unit stands more) (OfTree.breaks k n least) = absurd (stands_or_fault raw unit k n stands least)
-of_tree until raw s s' t t' (OfTree.goes_on unit stands more) (OfTree.passes count none passed) = absurd (stands_or_count raw unit count stands passed)
-of_tree until raw s s' t t' (OfTree.goes_on unit stands more) (OfTree.goes_on unit' stands' more') =
-    let same = Stands-once raw unit unit' stands stands' in
-    of_unit until unit' s s' t t' (subst (λ u. OfUnit until u s t) same more) more'
+module _ (steps : StepsAgree) where
+  of_tree : (until : ℕ) (raw : Raw) (s s' : ℕ) (t t' : List ℕ) → OfTree until raw s t → OfTree until raw s' t' → Same s s' t t'
+  of_tree until raw s s' t t' (OfTree.breaks k n least) (OfTree.breaks l m again) =
+      let same = steps.rule raw k l n m least again in
+      (refl, λ i. line_of (Rule (same.0 i) (same.1 i)))
+  of_tree until raw s s' t t' (OfTree.breaks k n least) (OfTree.passes count none passed) = absurd (steps.rule_or_none raw k n least none)
+  of_tree until raw s s' t t' (OfTree.breaks k n least) (OfTree.goes_on unit stands more) = absurd (steps.unit_or_rule raw unit k n stands least)
+  of_tree until raw s s' t t' (OfTree.passes count none passed) (OfTree.breaks k n least) = absurd (steps.rule_or_none raw k n least none)
+  of_tree until raw s s' t t' (OfTree.passes count none passed) (OfTree.passes other again passed') =
+      let same = steps.count raw count other passed passed' in
+      (refl, ap limit_line same)
+  of_tree until raw s s' t t' (OfTree.passes count none passed) (OfTree.goes_on unit stands more) = absurd (steps.unit_or_count raw unit count stands passed)
+  of_tree until raw s s' t t' (OfTree.goes_on unit stands more) (OfTree.breaks k n least) = absurd (steps.unit_or_rule raw unit k n stands least)
+  of_tree until raw s s' t t' (OfTree.goes_on unit stands more) (OfTree.passes count none passed) = absurd (steps.unit_or_count raw unit count stands passed)
+  of_tree until raw s s' t t' (OfTree.goes_on unit stands more) (OfTree.goes_on unit' stands' more') =
+      let same = steps.unit raw unit unit' stands stands' in
+      of_unit until unit' s s' t t' (subst (λ u. OfUnit until u s t) same more) more'
 
-of_shallow : (until : ℕ) (tokens : List Token) (s s' : ℕ) (t t' : List ℕ) → OfShallow until tokens s t → OfShallow until tokens s' t' → Same s s' t t'
-of_shallow until tokens s s' t t' (OfShallow.stops none) (OfShallow.stops again) = (refl, refl)
-of_shallow until tokens s s' t t' (OfShallow.stops none) (OfShallow.goes_on raw spells more) = absurd (none raw spells)
-of_shallow until tokens s s' t t' (OfShallow.goes_on raw spells more) (OfShallow.stops none) = absurd (none raw spells)
-of_shallow until tokens s s' t t' (OfShallow.goes_on raw spells more) (OfShallow.goes_on raw' spells' more') =
-    let same = Spells-unique tokens raw raw' spells spells' in
-    of_tree until raw' s s' t t' (subst (λ r. OfTree until r s t) same more) more'
+  of_shallow : (until : ℕ) (tokens : List Token) (s s' : ℕ) (t t' : List ℕ) → OfShallow until tokens s t → OfShallow until tokens s' t' → Same s s' t t'
+  of_shallow until tokens s s' t t' (OfShallow.stops none) (OfShallow.stops again) = (refl, refl)
+  of_shallow until tokens s s' t t' (OfShallow.stops none) (OfShallow.goes_on raw spells more) = absurd (none raw spells)
+  of_shallow until tokens s s' t t' (OfShallow.goes_on raw spells more) (OfShallow.stops none) = absurd (none raw spells)
+  of_shallow until tokens s s' t t' (OfShallow.goes_on raw spells more) (OfShallow.goes_on raw' spells' more') =
+      let same = steps.tree tokens raw raw' spells spells' in
+      of_tree until raw' s s' t t' (subst (λ r. OfTree until r s t) same more) more'
 
-of_tokens : (until : ℕ) (tokens : List Token) (s s' : ℕ) (t t' : List ℕ) → OfTokens until tokens s t → OfTokens until tokens s' t' → Same s s' t t'
-of_tokens until tokens s s' t t' (OfTokens.stops n too_deep) (OfTokens.stops m again) = let same = Deep-unique tokens n m too_deep again in (refl, ap (λ k. line_of (Deep k)) same)
-of_tokens until tokens s s' t t' (OfTokens.stops n too_deep) (OfTokens.goes_on shallow more) = absurd (Deep-not_shallow tokens n too_deep shallow)
-of_tokens until tokens s s' t t' (OfTokens.goes_on shallow more) (OfTokens.stops n too_deep) = absurd (Deep-not_shallow tokens n too_deep shallow)
-of_tokens until tokens s s' t t' (OfTokens.goes_on shallow more) (OfTokens.goes_on again more') = of_shallow until tokens s s' t t' more more'
+  of_tokens : (until : ℕ) (tokens : List Token) (s s' : ℕ) (t t' : List ℕ) → OfTokens until tokens s t → OfTokens until tokens s' t' → Same s s' t t'
+  of_tokens until tokens s s' t t' (OfTokens.stops n too_deep) (OfTokens.stops m again) = let same = steps.first_deep tokens n m too_deep again in (refl, ap (λ k. line_of (Deep k)) same)
+  of_tokens until tokens s s' t t' (OfTokens.stops n too_deep) (OfTokens.goes_on shallow more) = absurd (steps.deep_or_shallow tokens n too_deep shallow)
+  of_tokens until tokens s s' t t' (OfTokens.goes_on shallow more) (OfTokens.stops n too_deep) = absurd (steps.deep_or_shallow tokens n too_deep shallow)
+  of_tokens until tokens s s' t t' (OfTokens.goes_on shallow more) (OfTokens.goes_on again more') = of_shallow until tokens s s' t t' more more'
 
-of_short : (until : ℕ) (bytes : List ℕ) (s s' : ℕ) (t t' : List ℕ) → OfShort until bytes s t → OfShort until bytes s' t' → Same s s' t t'
-of_short until bytes s s' t t' (OfShort.stops f p at) (OfShort.stops g q again) =
-    let same = FirstFault-once bytes f g p q at again in
-    (refl, λ i. lex_line (same.0 i) (same.1 i))
-of_short until bytes s s' t t' (OfShort.stops f p at) (OfShort.goes_on tokens has more) = absurd (not_both bytes tokens f p has at)
-of_short until bytes s s' t t' (OfShort.goes_on tokens has more) (OfShort.stops f p at) = absurd (not_both bytes tokens f p has at)
-of_short until bytes s s' t t' (OfShort.goes_on tokens has more) (OfShort.goes_on tokens' has' more') =
-    let same = TokensOf-once bytes tokens tokens' has has' in
-    of_tokens until tokens' s s' t t' (subst (λ ts. OfTokens until ts s t) same more) more'
+  of_short : (until : ℕ) (bytes : List ℕ) (s s' : ℕ) (t t' : List ℕ) → OfShort until bytes s t → OfShort until bytes s' t' → Same s s' t t'
+  of_short until bytes s s' t t' (OfShort.stops f p at) (OfShort.stops g q again) =
+      let same = steps.lexical bytes f g p q at again in
+      (refl, λ i. lex_line (same.0 i) (same.1 i))
+  of_short until bytes s s' t t' (OfShort.stops f p at) (OfShort.goes_on tokens has more) = absurd (steps.tokens_or_lexical bytes tokens f p has at)
+  of_short until bytes s s' t t' (OfShort.goes_on tokens has more) (OfShort.stops f p at) = absurd (steps.tokens_or_lexical bytes tokens f p has at)
+  of_short until bytes s s' t t' (OfShort.goes_on tokens has more) (OfShort.goes_on tokens' has' more') =
+      let same = steps.tokens bytes tokens tokens' has has' in
+      of_tokens until tokens' s s' t t' (subst (λ ts. OfTokens until ts s t) same more) more'
 
-of_file : (until : ℕ) (bytes : List ℕ) (s s' : ℕ) (t t' : List ℕ) → OfFile until bytes s t → OfFile until bytes s' t' → Same s s' t t'
-of_file until bytes s s' t t' (OfFile.stops long) (OfFile.stops again) = (refl, refl)
-of_file until bytes s s' t t' (OfFile.stops long) (OfFile.goes_on short more) = absurd (omega arith)
-of_file until bytes s s' t t' (OfFile.goes_on short more) (OfFile.stops long) = absurd (omega arith)
-of_file until bytes s s' t t' (OfFile.goes_on short more) (OfFile.goes_on again more') = of_short until bytes s s' t t' more more'
+  of_file : (until : ℕ) (bytes : List ℕ) (s s' : ℕ) (t t' : List ℕ) → OfFile until bytes s t → OfFile until bytes s' t' → Same s s' t t'
+  of_file until bytes s s' t t' (OfFile.stops long) (OfFile.stops again) = (refl, refl)
+  of_file until bytes s s' t t' (OfFile.stops long) (OfFile.goes_on short more) = absurd (omega arith)
+  of_file until bytes s s' t t' (OfFile.goes_on short more) (OfFile.stops long) = absurd (omega arith)
+  of_file until bytes s s' t t' (OfFile.goes_on short more) (OfFile.goes_on again more') = of_short until bytes s s' t t' more more'
 
-of_words : (words : List (List ℕ)) (bytes : List ℕ) (s s' : ℕ) (t t' : List ℕ) → OfWords words bytes s t → OfWords words bytes s' t' → Same s s' t t'
-of_words words bytes s s' t t' (OfWords.stops nothing) (OfWords.stops again) = (refl, refl)
-of_words words bytes s s' t t' (OfWords.stops nothing) (OfWords.goes_on name until asks more) = absurd (nothing name until asks)
-of_words words bytes s s' t t' (OfWords.goes_on name until asks more) (OfWords.stops nothing) = absurd (nothing name until asks)
-of_words words bytes s s' t t' (OfWords.goes_on name until asks more) (OfWords.goes_on name' until' asks' more') =
-    let same = (AsksRun-unique words name name' until until' asks asks').1 in
-    of_file until' bytes s s' t t' (subst (λ u. OfFile u bytes s t) same more) more'
+  of_words : (words : List (List ℕ)) (bytes : List ℕ) (s s' : ℕ) (t t' : List ℕ) → OfWords words bytes s t → OfWords words bytes s' t' → Same s s' t t'
+  of_words words bytes s s' t t' (OfWords.stops nothing) (OfWords.stops again) = (refl, refl)
+  of_words words bytes s s' t t' (OfWords.stops nothing) (OfWords.goes_on name until asks more) = absurd (nothing name until asks)
+  of_words words bytes s s' t t' (OfWords.goes_on name until asks more) (OfWords.stops nothing) = absurd (nothing name until asks)
+  of_words words bytes s s' t t' (OfWords.goes_on name until asks more) (OfWords.goes_on name' until' asks' more') =
+      let same = (AsksRun-unique words name name' until until' asks asks').1 in
+      of_file until' bytes s s' t t' (subst (λ u. OfFile u bytes s t) same more) more'
 
--- words and bytes have one answer at most
-pub Answers-unique : (words : List (List ℕ)) (bytes : List ℕ) (status other_status : ℕ) (text other_text : List ℕ) → Answers words bytes status text → Answers words bytes other_status other_text → (status ≡ other_status) × (text ≡ other_text)
-Answers-unique words bytes status other_status text other_text a b =
-    of_words words bytes status other_status text other_text (of_answer words bytes status text a) (of_answer words bytes other_status other_text b)
+  pub Answers-unique : OneAnswer
+  Answers-unique words bytes status other_status text other_text a b =
+      of_words words bytes status other_status text other_text (of_answer words bytes status text a) (of_answer words bytes other_status other_text b)

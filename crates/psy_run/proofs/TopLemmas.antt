@@ -15,7 +15,7 @@ use Rattle.psy_run.specs.Answer.{Answers, unlisted, refused, ran, AreNamed, Refu
 use Rattle.psy_run.specs.Outcome as outcome
 use Rattle.psy_run.specs.Outcome.{Says, Ends, IsUnread, MayWrite, DidRun}
 use Rattle.psy_run.proofs.GrowthLemmas.{Grew-nothing}
-use Rattle.psy_run.proofs.AnswerLemmas.{Answers-unique, AsksRun-unique}
+use Rattle.psy_run.proofs.AnswerLemmas.{OneAnswer, AsksRun-unique}
 
 -- no refusal of a program's bytes has the status of a failed call
 status_of_refusal : (bytes : List ℕ) (until : ℕ) (refusal : Refusal) → Refuses bytes until refusal → status_of refusal ≢ 4
@@ -58,14 +58,14 @@ Answers-named words held bytes other status text named named' (ran name until pr
     ran name until program asks (subst (λ b. IsAccepted b until program) (named' name until asks ∙ sym (named name until asks)) accepted)
 
 -- what is defined was said, where no write failed
-pub said_complete : (words : List (List ℕ)) (files : Option Files) (bytes : List ℕ) (old now : Option (List ℕ)) (before after answer status : ℕ) (text : List ℕ)
+pub said_complete : OneAnswer → (words : List (List ℕ)) (files : Option Files) (bytes : List ℕ) (old now : Option (List ℕ)) (before after answer status : ℕ) (text : List ℕ)
     → AreNamed words files bytes → Answers words bytes status text → Says old now before after answer status text → (Rose before after → ⊥)
     → (held : Files) (other : List ℕ) (other_text : List ℕ) (other_status : ℕ) → files ≡ Some held → AreNamed words (Some held) other → Answers words other other_status other_text
     → (answer ≡ other_status) × Grew old now other_text
-said_complete words files bytes old now before after answer status text named answers (inr (four, rose, front)) fine held other other_text other_status is named' answers' = absurd (fine rose)
-said_complete words files bytes old now before after answer status text named answers (inl (same, grew)) fine held other other_text other_status is named' answers' =
+said_complete one_answer words files bytes old now before after answer status text named answers (inr (four, rose, front)) fine held other other_text other_status is named' answers' = absurd (fine rose)
+said_complete one_answer words files bytes old now before after answer status text named answers (inl (same, grew)) fine held other other_text other_status is named' answers' =
     let here : AreNamed words (Some held) bytes = subst (λ f. AreNamed words f bytes) is named in
-    let one = Answers-unique words bytes status other_status text other_text answers (Answers-named words held bytes other other_status other_text here named' answers') in
+    let one = one_answer words bytes status other_status text other_text answers (Answers-named words held bytes other other_status other_text here named' answers') in
     (same ∙ one.0, subst (Grew old now) one.1 grew)
 
 -- the bytes under the name that is asked for are those that the words name

@@ -13,6 +13,7 @@ ghost use Rattle.psy_kernel.specs.declared.stage.Stage.TheVariants.{Over};
 use crate::asked::read_words;
 use crate::form::read_form;
 use crate::judge::{Stop, overload, unit};
+use crate::laws::one_answer;
 use crate::refusal::Refusal;
 use crate::run::run_loop;
 use crate::write::write_all_of;
@@ -120,6 +121,7 @@ pub fn psyc<F: Shelf, S: Sink>(
     ensures shelf { (F.faults shelf.old ≤ F.faults shelf.new) × (F.files shelf.new ≡ F.files shelf.old) }
     ensures sink { S.faults out.old ≤ S.faults out.new }
 {
+    one_answer();
     *left = None;
     let Some(asked) = read_words(words) else {
         return refuse(Refusal::Words, out);

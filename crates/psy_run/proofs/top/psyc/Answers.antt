@@ -17,7 +17,7 @@ pub returns-in_default-clause-complete : goal.returns-in_default-clause-complete
 returns-in_default-clause-complete g c held bytes text status is named answers read written =
     let words = map (string_bytes {Z = Global}) c.args.words.now in
     let files = g.F.Shelf.files c.args.shelf.now in
-    inl (said_complete words files [] _ _ _ _ c.refuse.result 2 (line_of Words) (unnamed words files [] c.in_default.ensures) (unlisted c.in_default.ensures) c.refuse.ensures.said written held bytes text status is named answers)
+    inl (said_complete c.one_answer.ensures words files [] _ _ _ _ c.refuse.result 2 (line_of Words) (unnamed words files [] c.in_default.ensures) (unlisted c.in_default.ensures) c.refuse.ensures.said written held bytes text status is named answers)
 
 pub returns-in_default-clause-cut_short : goal.returns-in_default-clause-cut_short
 returns-in_default-clause-cut_short g c four =
@@ -48,7 +48,7 @@ returns-in-Ok-clause-complete g c held other text status is named' answers read 
     let named = named_of words files asked.program.now bytes asked.until c.in-Some.ensures whole in
     elim (ends_said words asked.program.now bytes asked.until _ _ _ _ c.run.result c.run.new.left c.in-Some.ensures c.run.ensures.ends) [
       | inl memory ↦ inr memory.0
-      | inr said ↦ inl (said_complete words files bytes _ _ _ _ c.run.result said.0 said.1 named said.2 said.3 written held other text status is named' answers)
+      | inr said ↦ inl (said_complete c.one_answer.ensures words files bytes _ _ _ _ c.run.result said.0 said.1 named said.2 said.3 written held other text status is named' answers)
     ]
 
 pub returns-in-Ok-clause-cut_short : goal.returns-in-Ok-clause-cut_short
