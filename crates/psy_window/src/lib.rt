@@ -1,0 +1,14 @@
+//! The greatest weights of the paths of a graph that fit a length, at each length up to a greatest one.
+#![tactic(auto)]
+
+mod fault;
+mod greatest;
+mod span;
+mod table;
+#[cfg(test)]
+mod tests;
+mod windows;
+
+pub use fault::WindowFault;
+pub use span::Span;
+pub use windows::weights;
