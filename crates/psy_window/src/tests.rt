@@ -1,9 +1,18 @@
+ghost use Rattle.std.specs.Prelude.{◌<◌, ◌≤◌};
+ghost use Rattle.psy_base.specs.declared.limits.TheConstants.{BUDGET};
+ghost use Rattle.psy_window.specs.Windows.{IsEdge};
+
 use super::*;
 use psy_base::Edge;
 use std::test::Fail;
 
 /// An edge of a graph of one point: it leads from node 0 to node 0.
-const fn again(len: u64, due: u64, weight: u64) -> Edge {
+const fn again(len: u64, due: u64, weight: u64) -> Edge
+    requires after { 1 ≤ due }
+    requires due { due ≤ len }
+    requires weight { weight ≤ BUDGET }
+    ensures { IsEdge 1 result }
+{
     Edge {
         from: 0,
         to: 0,
@@ -38,6 +47,48 @@ fn the_weights_are_those_made_by_hand(rt: HostRuntime) -> Result<(), Fail> {
         free.as_slice(),
         [14, 14, 14, 28, 28, 28, 42].as_slice(),
         "the first edge free"
+    );
+    Ok(())
+}
+
+/// An edge of the graph of a program whose agent has two dates: an advance of three ticks leads to node 1, one of a
+/// tick to node 2. Each action is due a tick after its start.
+const fn advance(from: u32, to: u32, len: u64) -> Edge
+    requires from { from < 3 }
+    requires to { to < 3 }
+    requires len { 1 ≤ len }
+    ensures { IsEdge 3 result }
+{
+    Edge {
+        from,
+        to,
+        len,
+        due: 1,
+        weight: 14,
+    }
+}
+
+#[test]
+fn short_advances_weigh_most(rt: HostRuntime) -> Result<(), Fail> {
+    let graph = [
+        advance(0, 1, 3),
+        advance(0, 2, 1),
+        advance(1, 1, 3),
+        advance(1, 2, 1),
+        advance(2, 1, 3),
+        advance(2, 2, 1),
+    ];
+    let due = weights(rt.alloc(), &graph, 3, Span::DueLast, 5)?;
+    assert_eq!(rt;
+        due.as_slice(),
+        [0, 14, 28, 42, 56, 70].as_slice(),
+        "an action a tick"
+    );
+    let free = weights(rt.alloc(), &graph, 3, Span::FirstFree, 5)?;
+    assert_eq!(rt;
+        free.as_slice(),
+        [14, 28, 42, 56, 70, 84].as_slice(),
+        "one action more"
     );
     Ok(())
 }
