@@ -1,3 +1,4 @@
+-- The dates of clocks, how many stand up to a time, and which come after it.
 use Rattle.std.specs.Prelude.{◌≡◌, ℕ, ◌+◌, ◌-◌, ◌*◌, ◌<◌, ◌≤◌, List, map, nat_le, nat_lt}
 use Rattle.std.specs.List.{count_by, range_with_len}
 use Rattle.psy_base.specs.declared.limits.TheConstants.{PERIOD}
@@ -12,6 +13,7 @@ pub record IsClock (c : Clock) : Type 0 where
 abbrev pub date : Clock → ℕ → ℕ
 date c i = c.first + i * c.period
 
+-- t is one of the clock's dates.
 abbrev pub IsDate : Clock → ℕ → Type 0
 IsDate c t = (i : ℕ) × (t ≡ date c i)
 
@@ -36,10 +38,11 @@ IsAfter c t k d = IsDate c d × (t < d) × (count c d ≡ count c t + k)
 abbrev pub IsFrom : Clock → ℕ → ℕ → ℕ → Type 0
 IsFrom c t k d = IsDate c d × (t ≤ d) × (count_below c d ≡ count_below c t + k)
 
--- The same as functions: the dates up to t have the numbers below their count.
+-- The k-th date above t as a function: the dates up to t have the numbers below their count.
 abbrev pub after_date : Clock → ℕ → ℕ → ℕ
 after_date c t k = date c (count c t + (k - 1))
 
+-- The k-th date at or above t, from 0, as a function: the dates below t have the numbers below their count.
 abbrev pub from_date : Clock → ℕ → ℕ → ℕ
 from_date c t k = date c (count_below c t + k)
 

@@ -7,12 +7,14 @@ use Rattle.psy_tree.specs.declared.token.Kind.TheVariants as kinds
 use Rattle.psy_tree.specs.declared.token.Sign.TheVariants as signs
 use Rattle.psy_tree.specs.Grammar.{unary_of, binary_of}
 
+-- `(`, `[` or `{`
 abbrev pub opens : Kind → Bool
 opens (kinds.Sign signs.OpenRound) = true
 opens (kinds.Sign signs.OpenSquare) = true
 opens (kinds.Sign signs.OpenBrace) = true
 opens _ = false
 
+-- `)`, `]` or `}`
 abbrev pub closes : Kind → Bool
 closes (kinds.Sign signs.CloseRound) = true
 closes (kinds.Sign signs.CloseSquare) = true

@@ -34,17 +34,19 @@ abbrev pub numbered : ℕ → List Token → List Numbered
 numbered n [] = []
 numbered n (token ∷ tokens) = (n, token.kind) ∷ numbered (suc n) tokens
 
--- the token of a name, and that of a number
+-- the token of a name
 abbrev pub named : Name → Numbered
 named x = (x.token, kinds.Name x.text)
 
+-- the token of a number
 abbrev pub numeral : Lit → Numbered
 numeral k = (k.token, kinds.Number k.value)
 
--- a reserved word, and a sign
+-- token number n, where it is a reserved word
 abbrev pub word : ℕ → Word → Numbered
 word n w = (n, kinds.Word w)
 
+-- token number n, where it is a sign
 abbrev pub sign : ℕ → Sign → Numbered
 sign n s = (n, kinds.Sign s)
 

@@ -32,10 +32,12 @@ abbrev pub total : List ℕ → ℕ
 total [] = 0
 total (n ∷ ns) = n + total ns
 
+-- Their sum, or 0 where there is no list.
 abbrev pub total_or_none : Option (List ℕ) → ℕ
 total_or_none None = 0
 total_or_none (Some ns) = total ns
 
+-- An `advance` is one. An `if` holds those of its branches, a loop those of its body, and all else none.
 abbrev pub advances_step : RawStmt-F ℕ → ℕ
 advances_step (RawStmt-F.Advance token n clock budget) = 1
 advances_step (RawStmt-F.If test branch other) = total branch + total_or_none other
@@ -46,5 +48,6 @@ advances_step _ = 0
 abbrev pub advances : RawStmt → ℕ
 advances = fold-RawStmt ℕ advances_step
 
+-- How many stand in a list of statements, at any depth.
 abbrev pub advances_list : List RawStmt → ℕ
 advances_list stmts = total (map advances stmts)

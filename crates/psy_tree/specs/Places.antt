@@ -17,6 +17,7 @@ use Rattle.psy_tree.specs.declared.reach.Asks.TheVariants as asks
 use Rattle.psy_tree.specs.Scope.{SlotName, slots_of, Site}
 use Rattle.psy_tree.specs.Paths.{quiet_list, advances_list}
 
+-- A place that rules speak of: a name, a word or a number, and what they must know of it.
 pub data Place : Type 0 where
   -- the name that a declaration gives
   NamesItem : (name : Name) → Place
@@ -53,10 +54,12 @@ token_of (Loops token bounded advances quiet) = token
 token_of (HasBody token quiet) = token
 token_of (Ranges number low high) = number.token
 
+-- The lists as one, each behind the one before it.
 abbrev pub joined : {A : Type 0} → List (List A) → List A
 joined [] = []
 joined (xs ∷ xss) = xs ++ joined xss
 
+-- The same, and the empty list where there are none.
 abbrev pub joined_or_none : {A : Type 0} → Option (List (List A)) → List A
 joined_or_none None = []
 joined_or_none (Some xss) = joined xss
@@ -73,13 +76,16 @@ expr_places_step (RawExpr-F.Unary op operand) = operand
 expr_places_step (RawExpr-F.Binary op left right) = left ++ right
 expr_places_step (RawExpr-F.Call name arguments) = Uses name (asks.Call (length arguments)) ∷ joined arguments
 
+-- All places of an expression
 abbrev pub expr_places : RawExpr → List Place
 expr_places = fold-RawExpr (List Place) expr_places_step
 
+-- Of the budget of an `advance`, where one is written
 abbrev pub budget_places : Option Lit → List Place
 budget_places None = []
 budget_places (Some budget) = Ranges budget 1 BUDGET ∷ []
 
+-- Of the number behind `max`, where a loop has one
 abbrev pub most_places : Option Lit → List Place
 most_places None = []
 most_places (Some most) = Ranges most 1 TURNS ∷ []
@@ -99,17 +105,20 @@ stmt_places_step (RawStmt-F.Advance token count clock budget) =
     Acts token ∷ (Ranges count 1 ADVANCE ∷ (Uses clock asks.Clock ∷ budget_places budget))
 stmt_places_step (RawStmt-F.Return token value) = Returns token ∷ expr_places value
 
+-- All places of a statement
 abbrev pub stmt_places : RawStmt → List Place
 stmt_places = para-RawStmt (List Place) stmt_places_step
 
+-- All places of a list of statements
 abbrev pub stmts_places : List RawStmt → List Place
 stmts_places stmts = joined (map stmt_places stmts)
 
--- Of a declaration's head
+-- Of a clock's parent, where it isn't `tick`
 abbrev pub parent_places : Option Name → List Place
 parent_places None = []
 parent_places (Some parent) = Uses parent asks.Parent ∷ []
 
+-- Of a declaration's head
 abbrev pub head_places : Item → List Place
 head_places (item.Clock name by parent shift) = NamesItem name ∷ (Derives name ∷ parent_places parent)
 head_places (item.Temporal name owner clock init depth) = NamesItem name ∷ (Uses owner asks.Agent ∷ (Uses clock asks.Clock ∷ (Ranges depth 1 DEPTH ∷ [])))
@@ -118,21 +127,24 @@ head_places (item.Stream name receiver keep clock) = NamesItem name ∷ (Uses re
 head_places (item.Function name params locals stmts) = NamesItem name ∷ []
 head_places (item.Agent name clock budget locals body stmts) = NamesItem name ∷ (Uses clock asks.Clock ∷ (Ranges budget 1 BUDGET ∷ []))
 
--- Of what stands inside its braces
+-- Of the names of slots, from number k on
 abbrev pub slot_places : ℕ → List SlotName → List Place
 slot_places k [] = []
 slot_places k (s ∷ ss) = NamesSlot k s.name ∷ slot_places (k + 1) ss
 
+-- Of the numbers of cells of the arrays among local declarations
 abbrev pub cells_places : List Local → List Place
 cells_places [] = []
 cells_places (local.Scalar name init ∷ ls) = cells_places ls
 cells_places (local.Array name cells ∷ ls) = Ranges cells 1 CELLS ∷ cells_places ls
 
+-- Of an agent's or a function's arrays and statements, and of an agent's word `body`
 abbrev pub body_places : Item → List Place
 body_places (item.Function name params locals stmts) = cells_places locals ++ stmts_places stmts
 body_places (item.Agent name clock budget locals body stmts) = cells_places locals ++ (stmts_places stmts ++ HasBody body (quiet_list stmts) ∷ [])
 body_places _ = []
 
+-- Of what stands inside its braces, the names of its slots first
 abbrev pub inside_places : Item → List Place
 inside_places i = slot_places 0 (slots_of i) ++ body_places i
 
@@ -141,9 +153,11 @@ pub record Sited : Type 0 where
   pub site : Site
   pub place : Place
 
+-- The places, all of them at one site
 abbrev pub all_at : Site → List Place → List Sited
 all_at site places = map (λ p. record { site = site; place = p }) places
 
+-- Of declaration number k: those of its head, and then those inside its braces
 abbrev pub item_places : List Item → ℕ → Item → List Sited
 item_places items k i =
     all_at (record { items = items; at = k; inside = false }) (head_places i)

@@ -22,22 +22,27 @@ use Rattle.psy_tree.specs.Places.{Place, NamesItem, NamesSlot, Derives, Uses, Lo
 
 -- ---- what is declared
 
+-- There is a declaration, and it is a clock.
 abbrev pub is_clock : Option Item → Bool
 is_clock (Some (item.Clock name by parent shift)) = true
 is_clock _ = false
 
+-- There is a declaration, and it is an agent.
 abbrev pub is_agent : Option Item → Bool
 is_agent (Some (item.Agent name clock budget locals body stmts)) = true
 is_agent _ = false
 
+-- There is a declaration, and it is a function.
 abbrev pub is_function : Option Item → Bool
 is_function (Some (item.Function name params locals stmts)) = true
 is_function _ = false
 
+-- There is a declaration, and it is a stream.
 abbrev pub is_stream : Option Item → Bool
 is_stream (Some (item.Stream name receiver keep clock)) = true
 is_stream _ = false
 
+-- There is a declaration, and it is a temporal variable. An input is none.
 abbrev pub is_temporal : Option Item → Bool
 is_temporal (Some (item.Temporal name owner clock init depth)) = true
 is_temporal _ = false
@@ -48,13 +53,16 @@ declared_depth (Some (item.Temporal name owner clock init depth)) = Some depth.v
 declared_depth (Some (item.Input name clock init depth)) = Some depth.value
 declared_depth _ = None
 
+-- There is a declaration, and it is a function with n parameters.
 abbrev pub has_params : ℕ → Option Item → Bool
 has_params n (Some (item.Function name params locals stmts)) = nat_eq (length params) n
 has_params n _ = false
 
+-- The site is inside an agent.
 abbrev pub in_agent : Site → Bool
 in_agent site = site.inside && is_agent (own_item site)
 
+-- The site is inside a function.
 abbrev pub in_function : Site → Bool
 in_function site = site.inside && is_function (own_item site)
 
@@ -83,32 +91,39 @@ abbrev pub other_agent : Site → Option Found → Bool
 other_agent site (Some (found.Item k)) = is_agent (slice_get site.items k) && not (nat_eq k site.at)
 other_agent site _ = false
 
+-- It is a temporal variable, and its owner is another agent than the one here.
 abbrev pub owner_elsewhere : Site → Option Item → Bool
 owner_elsewhere site (Some (item.Temporal name owner clock init depth)) = other_agent site (stands_globally site.items owner.text)
 owner_elsewhere site _ = false
 
+-- It is a stream, and its receiver is another agent than the one here.
 abbrev pub receiver_elsewhere : Site → Option Item → Bool
 receiver_elsewhere site (Some (item.Stream name receiver keep clock)) = other_agent site (stands_globally site.items receiver.text)
 receiver_elsewhere site _ = false
 
+-- The name stands in `past`.
 abbrev pub is_past : Asks → Bool
 is_past asks.Past = true
 is_past _ = false
 
+-- The name is that of a clock's parent.
 abbrev pub is_parent : Asks → Bool
 is_parent asks.Parent = true
 is_parent _ = false
 
+-- The name stands in `ready` or `take`.
 abbrev pub is_messages : Asks → Bool
 is_messages asks.Messages = true
 is_messages _ = false
 
+-- The name is that of what is called.
 abbrev pub is_call : Asks → Bool
 is_call (asks.Call n) = true
 is_call _ = false
 
 -- ---- sound clocks
 
+-- A clock's shift, which is 0 where none is written.
 abbrev pub shift_of : Option Lit → ℕ
 shift_of None = 0
 shift_of (Some shift) = shift.value
@@ -118,18 +133,21 @@ abbrev pub lawful : Option Clock → ℕ → ℕ → Option Clock
 lawful None n m = None
 lawful (Some c) n m = if nat_lt m n && nat_le (n * c.period) PERIOD then Some (derived c n m) else None
 
+-- The inner option, and None where the outer one is empty.
 abbrev pub flat : {A : Type 0} → Option (Option A) → Option A
 flat None = None
 flat (Some x) = x
 
+-- The clock that `tick` stands for: each tick is a date.
 abbrev pub base : Clock
 base = record { period = 1; first = 0 }
 
--- The clock that a parent stands for, given the sound clocks above: tick, or a sound clock above.
+-- The known clock that was found, where what was found is one.
 abbrev pub sound_found : List (Option Clock) → Option Found → Option Clock
 sound_found known (Some (found.Item k)) = flat (slice_get known k)
 sound_found known _ = None
 
+-- The clock that a parent stands for, given the sound clocks above: tick, or a sound clock above.
 abbrev pub sound_parent : List Item → List (Option Clock) → Option Name → Option Clock
 sound_parent items known None = Some base
 sound_parent items known (Some parent) = sound_found known (stands_globally items parent.text)
@@ -139,6 +157,7 @@ abbrev pub sound : List Item → List (Option Clock) → Item → Option Clock
 sound items known (item.Clock name by parent shift) = lawful (sound_parent items known parent) by.value (shift_of shift)
 sound items known _ = None
 
+-- The known clocks, and then by declaration the sound clock that it is, given all before it.
 abbrev pub sounds_from : List Item → List (Option Clock) → List Item → List (Option Clock)
 sounds_from items known [] = known
 sounds_from items known (i ∷ is) = sounds_from items (known ++ sound items known i ∷ []) is
@@ -151,10 +170,12 @@ sound_clocks items n = sounds_from items [] (take n items)
 abbrev pub AreClocks : List (Option Clock) → Type 0
 AreClocks known = (k : ℕ) (c : Clock) → slice_get known k ≡ Some (Some c) → IsClock c
 
+-- There is a clock, and n of its periods are longer than a period may be.
 abbrev pub too_slow : Option Clock → ℕ → Bool
 too_slow None n = false
 too_slow (Some c) n = nat_lt PERIOD (n * c.period)
 
+-- It is a clock, and its shift isn't below its factor, or its parent is sound and its period too long.
 abbrev pub clock_at_fault : Site → Option Item → Bool
 clock_at_fault site (Some (item.Clock name by parent shift)) =
     nat_le by.value (shift_of shift) || too_slow (sound_parent site.items (sound_clocks site.items site.at) parent) by.value
@@ -162,9 +183,11 @@ clock_at_fault site _ = false
 
 -- ---- the kinds
 
+-- The declaration gives this name.
 abbrev pub declares : List ℕ → Item → Bool
 declares text i = bytes_eq text (item_name i).text
 
+-- The slot has this name.
 abbrev pub names_slot : List ℕ → SlotName → Bool
 names_slot text s = bytes_eq text s.name.text
 
@@ -175,21 +198,23 @@ is_twice site (NamesItem name) = list_any (λ i. declares name.text i || list_an
 is_twice site (NamesSlot k name) = list_any (declares name.text) (take (site.at + 1) site.items) || list_any (names_slot name.text) (take k (own_slots site))
 is_twice site _ = false
 
--- 2 Unknown, where no declaration in reach has the name, or a clock's parent names a clock at or below it.
+-- What was found is a clock, at the place's own declaration or below it.
 abbrev pub below : Site → Option Found → Bool
 below site (Some (found.Item k)) = is_clock (slice_get site.items k) && nat_le site.at k
 below site _ = false
 
+-- 2 Unknown, where no declaration in reach has the name, or a clock's parent names a clock at or below it.
 abbrev pub is_unknown : Site → Place → Bool
 is_unknown site (Uses name what) = is_none (stands_for site name.text) || (is_parent what && below site (stands_for site name.text))
 is_unknown site _ = false
 
--- 3 WrongKind, where a name is declared but not of the kind that the place asks for, a call's number of
--- arguments among that; and where a word of agents stands in a function, or `return` in an agent.
+-- Something was found, and it isn't what the place asks for.
 abbrev pub unsuited : Site → Asks → Option Found → Bool
 unsuited site what None = false
 unsuited site what (Some f) = not (suits_by site what f)
 
+-- 3 WrongKind, where a name is declared but not of the kind that the place asks for, a call's number of
+-- arguments among that; and where a word of agents stands in a function, or `return` in an agent.
 abbrev pub is_wrong_kind : Site → Place → Bool
 is_wrong_kind site (Uses name what) = unsuited site what (stands_for site name.text)
 is_wrong_kind site (Acts token) = in_function site
@@ -206,11 +231,12 @@ abbrev pub is_not_receiver : Site → Place → Bool
 is_not_receiver site (Uses name what) = in_agent site && is_messages what && receiver_elsewhere site (item_at site.items (stands_for site name.text))
 is_not_receiver site _ = false
 
--- 6 TooDeep, at the number of a `past` that is at least the depth.
+-- There is a depth, and the number is at least it.
 abbrev pub reaches : ℕ → Option ℕ → Bool
 reaches back None = false
 reaches back (Some depth) = nat_le depth back
 
+-- 6 TooDeep, at the number of a `past` that is at least the depth.
 abbrev pub is_too_deep : Site → Place → Bool
 is_too_deep site (LooksBack name back) = reaches back.value (declared_depth (item_at site.items (stands_for site name.text)))
 is_too_deep site _ = false
@@ -231,11 +257,12 @@ abbrev pub is_no_advance : Site → Place → Bool
 is_no_advance site (HasBody token quiet) = quiet
 is_no_advance site _ = false
 
--- 10 CallsDown, where a function calls one that doesn't stand above it.
+-- What was found is a function, at the place's own declaration or below it.
 abbrev pub function_from : Site → Option Found → Bool
 function_from site (Some (found.Item k)) = is_function (slice_get site.items k) && nat_le site.at k
 function_from site _ = false
 
+-- 10 CallsDown, where a function calls one that doesn't stand above it.
 abbrev pub is_calls_down : Site → Place → Bool
 is_calls_down site (Uses name what) = in_function site && is_call what && function_from site (stands_for site name.text)
 is_calls_down site _ = false
@@ -251,6 +278,7 @@ abbrev pub is_bad_number : Site → Place → Bool
 is_bad_number site (Ranges number low high) = nat_lt number.value low || nat_lt high number.value
 is_bad_number site _ = false
 
+-- The place has a fault of this kind.
 abbrev pub is_fault : RuleKind → Site → Place → Bool
 is_fault kind.Twice = is_twice
 is_fault kind.Unknown = is_unknown
@@ -293,5 +321,6 @@ pub record LeastFault (raw : Raw) (kind : RuleKind) (token : ℕ) : Type 0 where
   pub present : IsFault raw kind token
   pub least : (other : RuleKind) (at : ℕ) → IsFault raw other at → NotAfter kind token other at
 
+-- It has no fault of any kind.
 abbrev pub NoFault : Raw → Type 0
 NoFault raw = (kind : RuleKind) (token : ℕ) → IsFault raw kind token → ⊥

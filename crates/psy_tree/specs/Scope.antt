@@ -41,9 +41,11 @@ pub record SlotName : Type 0 where
   pub name : Name
   pub array : Bool
 
+-- The slot of a scalar with this name.
 abbrev pub scalar : Name → SlotName
 scalar name = record { name = name; array = false }
 
+-- The slot of a local declaration.
 abbrev pub local_slot : Local → SlotName
 local_slot (local.Scalar name init) = record { name = name; array = false }
 local_slot (local.Array name cells) = record { name = name; array = true }
@@ -61,9 +63,11 @@ pub record Site : Type 0 where
   pub at : ℕ
   pub inside : Bool
 
+-- The declaration that a site is in.
 abbrev pub own_item : Site → Option Item
 own_item site = slice_get site.items site.at
 
+-- The slots of a declaration, none where there is no declaration.
 abbrev pub slots_at : Option Item → List SlotName
 slots_at None = []
 slots_at (Some owner) = slots_of owner
@@ -82,6 +86,7 @@ abbrev pub item_entries : ℕ → List Item → List Entry
 item_entries k [] = []
 item_entries k (i ∷ is) = record { text = (item_name i).text; found = found.Item k } ∷ item_entries (k + 1) is
 
+-- The slots from number k on.
 abbrev pub slot_entries : ℕ → List SlotName → List Entry
 slot_entries k [] = []
 slot_entries k (s ∷ ss) = record { text = s.name.text; found = found.Slot k } ∷ slot_entries (k + 1) ss
@@ -94,6 +99,7 @@ in_reach site =
     ++ slot_entries 0 (own_slots site)
     ++ item_entries (site.at + 1) (drop (site.at + 1) site.items)
 
+-- What the first of the entries with this name stands for.
 abbrev pub first_named : List ℕ → List Entry → Option Found
 first_named text [] = None
 first_named text (e ∷ es) = if bytes_eq text e.text then Some e.found else first_named text es
@@ -106,6 +112,7 @@ stands_for site text = first_named text (in_reach site)
 abbrev pub stands_globally : List Item → List ℕ → Option Found
 stands_globally items text = first_named text (item_entries 0 items)
 
+-- The declaration that was found, where what was found is one.
 abbrev pub item_at : List Item → Option Found → Option Item
 item_at items (Some (found.Item k)) = slice_get items k
 item_at items _ = None

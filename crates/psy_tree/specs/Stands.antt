@@ -36,11 +36,13 @@ use Rattle.psy_tree.specs.Rules.{is_clock, is_agent, is_function, is_stream, sou
 
 -- ---- counts and their limits
 
+-- There is a declaration, and it is a temporal variable or an input.
 abbrev pub is_variable : Option Item → Bool
 is_variable (Some (item.Temporal name owner clock init depth)) = true
 is_variable (Some (item.Input name clock init depth)) = true
 is_variable _ = false
 
+-- How many of the declarations are such.
 abbrev pub counting : (Option Item → Bool) → List Item → ℕ
 counting p items = count_by (λ i. p (Some i)) items
 
@@ -74,6 +76,7 @@ first_passed raw = find (passes raw.items) counts
 abbrev pub signed : Lit → ℤ
 signed l = cast_signed w32 l.value
 
+-- A first value as a signed number of 32 bits.
 abbrev pub first_value : Init → ℤ
 first_value i = if i.minus then int_wrapping_neg w32 (signed i.value) else signed i.value
 
@@ -82,12 +85,15 @@ abbrev pub number_of_item : (Option Item → Bool) → List Item → Option Foun
 number_of_item p items (Some (found.Item k)) = counting p (take k items)
 number_of_item p items _ = 0
 
+-- The number of the one that a name stands for among the program's declarations alone.
 abbrev pub global_number : (Option Item → Bool) → List Item → Name → ℕ
 global_number p items name = number_of_item p items (stands_globally items name.text)
 
+-- The number of the one that a name stands for at a site.
 abbrev pub number_at : (Option Item → Bool) → Site → Name → ℕ
 number_at p site name = number_of_item p site.items (stands_for site name.text)
 
+-- The number of a slot, and 0 where none was found.
 abbrev pub slot_number : Option Found → ℕ
 slot_number (Some (found.Slot k)) = k
 slot_number _ = 0
@@ -99,6 +105,7 @@ abbrev pub value_of : Site → Option Found → Expr
 value_of site (Some (found.Item k)) = roll-Expr (Expr-F.Copy (counting is_variable (take k site.items)))
 value_of site f = roll-Expr (Expr-F.Slot (slot_number f))
 
+-- An expression, given those that its parts stand for
 abbrev pub expr_step : Site → RawExpr-F Expr → Expr
 expr_step site (RawExpr-F.Number number) = roll-Expr (Expr-F.Number (signed number))
 expr_step site (RawExpr-F.Var name) = value_of site (stands_for site name.text)
@@ -110,41 +117,50 @@ expr_step site (RawExpr-F.Unary op operand) = roll-Expr (Expr-F.Unary op operand
 expr_step site (RawExpr-F.Binary op left right) = roll-Expr (Expr-F.Binary op left right)
 expr_step site (RawExpr-F.Call name arguments) = roll-Expr (Expr-F.Call (number_at is_function site name) arguments)
 
+-- What an expression of the program's text stands for at a site
 abbrev pub expr_of : Site → RawExpr → Expr
 expr_of site = fold-RawExpr Expr (expr_step site)
 
 -- ---- statements: each with the points before it, and these with its own behind them
 
+-- Given the points before it, what something stands for, and these points with its own behind them.
 abbrev pub Numbering : Type 0 → Type 0
 Numbering A = List Point → A × List Point
 
+-- Something made of the first, with the same points.
 abbrev pub with_value : {A B : Type 0} → (A → B) → A × List Point → B × List Point
 with_value f r = (f r.0, r.1)
 
+-- One more at the front of the list, with the same points.
 abbrev pub and_more : {A : Type 0} → A → List A × List Point → List A × List Point
 and_more a r = (a ∷ r.0, r.1)
 
+-- All of them in a row: each is given the points that the one before it leaves.
 abbrev pub in_turn : {A : Type 0} → List (Numbering A) → Numbering (List A)
 in_turn [] points = ([], points)
 in_turn (n ∷ ns) points = and_more (n points).0 (in_turn ns (n points).1)
 
--- The budget that an `advance` gives the next action: its own, or the agent's.
+-- The budget of an agent, 0 where it is none.
 abbrev pub agent_budget : Option Item → ℕ
 agent_budget (Some (item.Agent name clock budget locals body stmts)) = budget.value
 agent_budget _ = 0
 
+-- The budget that an `advance` gives the next action: its own, or the agent's.
 abbrev pub budget_of : Site → Option Lit → ℕ
 budget_of site None = agent_budget (slice_get site.items site.at)
 budget_of site (Some budget) = budget.value
 
+-- An assignment to a variable that the agent owns, or else to a slot.
 abbrev pub set_by : Site → Option Found → Expr → Stmt
 set_by site (Some (found.Item k)) value = roll-Stmt (Stmt-F.SetCopy (counting is_variable (take k site.items)) value)
 set_by site f value = roll-Stmt (Stmt-F.Set (slot_number f) value)
 
+-- A loop without `max`, or one with its greatest number of turns.
 abbrev pub while_of : Option Lit → Expr → List Stmt → Stmt
 while_of None test body = roll-Stmt (Stmt-F.Timed test body)
 while_of (Some most) test body = roll-Stmt (Stmt-F.Bounded test most.value body)
 
+-- A statement, given what the statements inside it stand for
 abbrev pub stmt_step : Site → RawStmt-F (Numbering Stmt) → Numbering Stmt
 stmt_step site (RawStmt-F.Set name value) points = (set_by site (stands_for site name.text) (expr_of site value), points)
 stmt_step site (RawStmt-F.SetCell name index value) points =
@@ -163,26 +179,32 @@ stmt_step site (RawStmt-F.Advance token count clock budget) points = (
 )
 stmt_step site (RawStmt-F.Return token value) points = (roll-Stmt (Stmt-F.Return (expr_of site value)), points)
 
+-- What a statement of the program's text stands for at a site
 abbrev pub stmt_of : Site → RawStmt → Numbering Stmt
 stmt_of site = fold-RawStmt (Numbering Stmt) (stmt_step site)
 
+-- What a list of statements stands for at a site
 abbrev pub stmts_of : Site → List RawStmt → Numbering (List Stmt)
 stmts_of site stmts = in_turn (map (stmt_of site) stmts)
 
 -- ---- declarations
 
+-- An agent's local with its cells: a variable has one, with its first value, and those of an array begin at 0.
 abbrev pub slot_of : Local → Slots
 slot_of (local.Scalar name init) = record { name = name.text; cells = 1; init = first_value init; array = false }
 slot_of (local.Array name cells) = record { name = name.text; cells = cells.value; init = pos 0; array = true }
 
+-- The first value of a local, 0 where it is an array.
 abbrev pub local_value : Local → ℤ
 local_value (local.Scalar name init) = first_value init
 local_value (local.Array name cells) = pos 0
 
+-- The name of a clock, where the declaration is one.
 abbrev pub clock_names : Item → List (List ℕ)
 clock_names (item.Clock name by parent shift) = name.text ∷ []
 clock_names _ = []
 
+-- The temporal variable or input that a declaration is, where it is one. An input has no owner.
 abbrev pub variables : List Item → Item → List VarDecl
 variables items (item.Temporal name owner clock init depth) =
     record { name = name.text; owner = Some (global_number is_agent items owner); clock = global_number is_clock items clock; init = first_value init; depth = depth.value } ∷ []
@@ -190,14 +212,17 @@ variables items (item.Input name clock init depth) =
     record { name = name.text; owner = None; clock = global_number is_clock items clock; init = first_value init; depth = depth.value } ∷ []
 variables items _ = []
 
+-- The stream that a declaration is, where it is one.
 abbrev pub streams : List Item → Item → List StreamDecl
 streams items (item.Stream name receiver keep clock) =
     record { name = name.text; receiver = global_number is_agent items receiver; keep = keep.value; clock = global_number is_clock items clock } ∷ []
 streams items _ = []
 
+-- The site inside declaration number k.
 abbrev pub inside_of : List Item → ℕ → Site
 inside_of items k = record { items = items; at = k; inside = true }
 
+-- The function that declaration number k is, where it is one.
 abbrev pub functions : List Item → ℕ → Item → List FunctionDecl
 functions items k (item.Function name params locals stmts) =
     record { name = name.text; params = length params; locals = map local_value locals; stmts = (stmts_of (inside_of items k) stmts []).0 } ∷ []
@@ -207,10 +232,12 @@ functions items k _ = []
 abbrev pub head_point : ℕ → ℕ → Point
 head_point clock budget = record { count = 0; clock = clock; budget = budget }
 
+-- An agent with its statements and its points.
 abbrev pub agent_with : List Item → Name → Name → Lit → List Local → List Stmt × List Point → AgentDecl
 agent_with items name clock budget locals body =
     record { name = name.text; clock = global_number is_clock items clock; budget = budget.value; slots = map slot_of locals; points = body.1; stmts = body.0 }
 
+-- The agent that declaration number k is, where it is one.
 abbrev pub agents : List Item → ℕ → Item → List AgentDecl
 agents items k (item.Agent name clock budget locals body stmts) =
     agent_with items name clock budget locals (stmts_of (inside_of items k) stmts (head_point (global_number is_clock items clock) budget.value ∷ [])) ∷ []
@@ -221,6 +248,7 @@ abbrev pub each_from : {A : Type 0} → (ℕ → Item → List A) → ℕ → Li
 each_from f k [] = []
 each_from f k (i ∷ is) = f k i ++ each_from f (k + 1) is
 
+-- The unit of a program: its declarations by kind, each kind in the order of the text.
 abbrev pub unit_of : Raw → Whole
 unit_of raw = record {
   quantum = raw.quantum.value;

@@ -9,10 +9,12 @@ pub data Piece : Type 0 where
   Separator : List ℕ → Piece
   Lexeme : Kind → List ℕ → Piece
 
+-- the bytes of a piece
 abbrev pub bytes_of : Piece → List ℕ
 bytes_of (Separator bytes) = bytes
 bytes_of (Lexeme kind bytes) = bytes
 
+-- the bytes of all pieces, one behind the other
 abbrev pub text_of : List Piece → List ℕ
 text_of pieces = flat_map bytes_of pieces
 

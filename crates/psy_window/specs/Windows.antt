@@ -1,3 +1,4 @@
+-- The edges of a graph, and which of its paths fit a length.
 use Rattle.std.specs.Prelude.{ℕ, ◌<◌, ◌≤◌, List}
 use Rattle.psy_base.specs.declared.edge.Edge.{Edge}
 use Rattle.psy_base.specs.declared.limits.TheConstants.{BUDGET}
