@@ -28,6 +28,7 @@ use Rattle.psy_parse.specs.declared.fault.Failure.{Failure}
 use Rattle.psy_parse.specs.declared.fault.Failure.TheVariants as faults
 
 infixl 10 ◌>>=◌
+-- goes on with what was read, or stays stuck
 abbrev pub ◌>>=◌ : {A B : Type 0} → Result A ℕ → (A → Result B ℕ) → Result B ℕ
 (Ok x) >>= f = f x
 (Err e) >>= f = Err e
@@ -37,15 +38,17 @@ abbrev pub given : {A B : Type 0} → Option A → (A → B) → B → B
 given (Some x) f other = f x
 given None f other = other
 
--- what a function returned, seen by view, is what reading gives, unless memory ran out
+-- the failure is want of memory, or says where reading is stuck
 abbrev pub Fails : {Y : Type 0} → Failure → Result Y ℕ → Type 0
 Fails faults.Memory read = Unit {0}
 Fails (faults.Stuck n) read = read ≡ Err n
 
+-- what a function returned, seen by view, is what reading gives, unless memory ran out
 abbrev pub Gives : {X Y : Type 0} → (X → Y) → Result X Failure → Result Y ℕ → Type 0
 Gives view (Ok x) read = read ≡ Ok (view x)
 Gives view (Err e) read = Fails e read
 
+-- what a function found, seen by view, is what reading finds, or both find nothing
 abbrev pub Finds : {X Y : Type 0} → (X → Y) → Option X → Option Y → Type 0
 Finds view (Some x) found = found ≡ Some (view x)
 Finds view None found = found ≡ None
@@ -54,6 +57,7 @@ Finds view None found = found ≡ None
 abbrev pub left : Cursor → List Numbered
 left c = numbered c.number c.rest.now
 
+-- reading can't go on, with these tokens left
 abbrev pub stuck : {A : Type 0} → List Numbered → Result A ℕ
 stuck ts = Err (length ts)
 
@@ -64,6 +68,7 @@ or_stuck ts None = stuck ts
 
 -- one token
 
+-- the name that has to stand at the front, and the tokens behind it
 unfoldable pub name_at : List Numbered → Result (Name × List Numbered) ℕ
 name_at [] = stuck []
 name_at ((n, kinds.Name t) ∷ ts) = Ok (record { text = t; token = n }, ts)
@@ -71,35 +76,44 @@ name_at ((n, kinds.Word w) ∷ ts) = stuck ((n, kinds.Word w) ∷ ts)
 name_at ((n, kinds.Number v) ∷ ts) = stuck ((n, kinds.Number v) ∷ ts)
 name_at ((n, kinds.Sign s) ∷ ts) = stuck ((n, kinds.Sign s) ∷ ts)
 
+-- the number at the front and the tokens behind it, if a number stands there
 unfoldable pub after_number : List Numbered → Option (Lit × List Numbered)
 after_number ((n, kinds.Number v) ∷ ts) = Some (record { value = v; token = n }, ts)
 after_number _ = None
 
+-- the number of this word's token and the tokens behind it, if the word stands at the front
 unfoldable pub after_word : Word → List Numbered → Option (ℕ × List Numbered)
 after_word w ((n, kinds.Word v) ∷ ts) = if sameb word_kind.the_type v w then Some (n, ts) else None
 after_word w _ = None
 
+-- the tokens behind this sign, if it stands at the front
 unfoldable pub after_sign : Sign → List Numbered → Option (List Numbered)
 after_sign s ((n, kinds.Sign r) ∷ ts) = if sameb sign_kind.the_type r s then Some ts else None
 after_sign s _ = None
 
+-- the number that has to stand at the front, and the tokens behind it
 unfoldable pub number_at : List Numbered → Result (Lit × List Numbered) ℕ
 number_at ts = or_stuck ts (after_number ts)
 
+-- the number of the token of this word, which has to stand at the front, and the tokens behind it
 unfoldable pub word_at : Word → List Numbered → Result (ℕ × List Numbered) ℕ
 word_at w ts = or_stuck ts (after_word w ts)
 
+-- the tokens behind this sign, which has to stand at the front
 unfoldable pub sign_at : Sign → List Numbered → Result (List Numbered) ℕ
 sign_at s ts = or_stuck ts (after_sign s ts)
 
+-- the operator before an operand and the tokens behind it, if one stands at the front
 unfoldable pub unary_at_front : List Numbered → Option (Op1 × List Numbered)
 unary_at_front ((n, kinds.Sign s) ∷ ts) = given (unary_of s) (λ op. Some (op, ts)) None
 unary_at_front _ = None
 
+-- the level, the operator between operands and the tokens behind it, if one of a level below this stands at the front
 unfoldable pub binary_at_front : ℕ → List Numbered → Option (ℕ × Op2 × List Numbered)
 binary_at_front level ((n, kinds.Sign s) ∷ ts) = given (binary_of s) (λ o. if nat_le level o.0 then None else Some (o.0, o.1, ts)) None
 binary_at_front level _ = None
 
+-- no tokens are left
 unfoldable pub is_end : List Numbered → Bool
 is_end [] = true
 is_end (t ∷ ts) = false
@@ -108,11 +122,13 @@ is_end (t ∷ ts) = false
 abbrev pub Reads : Type 0 → Type 0
 Reads A = List Numbered → Result (A × List Numbered) ℕ
 
+-- `WORD N` or nothing, for this word: the number, if the word stands there
 unfoldable pub optional_at : Word → Reads (Option Lit)
 optional_at w ts = given (after_word w ts) (λ u. number_at u.1 >>= λ k. Ok (Some k.0, k.1)) (Ok (None, ts))
 
 -- expressions
 
+-- `(NAME)`
 unfoldable pub in_brackets_at : Reads Name
 in_brackets_at ts = do
   us ← sign_at signs.OpenRound ts
@@ -120,6 +136,7 @@ in_brackets_at ts = do
   vs ← sign_at signs.CloseRound x.1
   Ok (x.0, vs)
 
+-- `past(NAME, N)` behind its first word, token n
 unfoldable pub past_at : ℕ → Reads RawExpr
 past_at n ts = do
   us ← sign_at signs.OpenRound ts
@@ -129,17 +146,20 @@ past_at n ts = do
   ws ← sign_at signs.CloseRound k.1
   Ok (Past n x.0 k.0, ws)
 
+-- `E, E)`: the arguments of a call, of which there may be none, and the closing bracket
 unfoldable pub args_at : Reads RawExpr → (List RawExpr → Reads (List RawExpr)) → Reads (List RawExpr)
 args_at expr others ts =
     given (after_sign signs.CloseRound ts) (λ us. Ok ([], us))
     (expr ts >>= λ e. others (e.0 ∷ []) e.1)
 
+-- what begins with this name, behind it: `NAME[E]`, `NAME(E, E)` or `NAME` alone
 unfoldable pub behind_name_at : Reads RawExpr → (List RawExpr → Reads (List RawExpr)) → Name → Reads RawExpr
 behind_name_at expr others x ts =
     given (after_sign signs.OpenSquare ts) (λ us. expr us >>= λ e. sign_at signs.CloseSquare e.1 >>= λ vs. Ok (Cell x e.0, vs))
     (given (after_sign signs.OpenRound ts) (λ us. args_at expr others us >>= λ es. Ok (Call x es.0, es.1))
     (Ok (Var x, ts)))
 
+-- an operand with no operators before it: `(E)`, `past`, `ready`, `take`, a number, or what begins with a name
 unfoldable pub primary_at : Reads RawExpr → (List RawExpr → Reads (List RawExpr)) → Reads RawExpr
 primary_at expr others ts =
     given (after_sign signs.OpenRound ts) (λ us. expr us >>= λ e. sign_at signs.CloseRound e.1 >>= λ vs. Ok (e.0, vs))
@@ -177,6 +197,7 @@ unfoldable mutual
 
 -- statements
 
+-- `(E)`, the test of an `if` or a `while`
 unfoldable pub test_at : Reads RawExpr → Reads RawExpr
 test_at expr ts = do
   us ← sign_at signs.OpenRound ts
@@ -184,15 +205,18 @@ test_at expr ts = do
   vs ← sign_at signs.CloseRound e.1
   Ok (e.0, vs)
 
+-- `{ STATEMENTS }`, where what is given reads all behind the opening brace
 unfoldable pub block_in_braces_at : Reads (List RawStmt) → Reads (List RawStmt)
 block_in_braces_at block ts = sign_at signs.OpenBrace ts >>= λ us. block us
 
+-- `if (E) { STATEMENTS } else { STATEMENTS }` behind its first word; the `else` with its block may be missing
 unfoldable pub if_at : Reads RawExpr → Reads (List RawStmt) → Reads RawStmt
 if_at expr block ts = do
   e ← test_at expr ts
   body ← block_in_braces_at block e.1
   given (after_word words.Else body.1) (λ w. block_in_braces_at block w.1 >>= λ other. Ok (If e.0 body.0 (Some other.0), other.1)) (Ok (If e.0 body.0 None, body.1))
 
+-- `while (E) max N { STATEMENTS }` behind its first word, token n; `max N` may be missing
 unfoldable pub while_at : Reads RawExpr → Reads (List RawStmt) → ℕ → Reads RawStmt
 while_at expr block n ts = do
   e ← test_at expr ts
@@ -200,6 +224,7 @@ while_at expr block n ts = do
   body ← block_in_braces_at block most.1
   Ok (While n e.0 most.0 body.0, body.1)
 
+-- `send E to STREAM after N on CLOCK;` behind its first word, token n
 unfoldable pub send_at : Reads RawExpr → ℕ → Reads RawStmt
 send_at expr n ts = do
   e ← expr ts
@@ -212,6 +237,7 @@ send_at expr n ts = do
   us ← sign_at signs.Semicolon clock.1
   Ok (Send n e.0 stream.0 after.0 clock.0, us)
 
+-- `advance N on CLOCK budget M;` behind its first word, token n; `budget M` may be missing
 unfoldable pub advance_at : ℕ → Reads RawStmt
 advance_at n ts = do
   count ← number_at ts
@@ -221,12 +247,14 @@ advance_at n ts = do
   us ← sign_at signs.Semicolon budget.1
   Ok (Advance n count.0 clock.0 budget.0, us)
 
+-- `return E;` behind its first word, token n
 unfoldable pub return_at : Reads RawExpr → ℕ → Reads RawStmt
 return_at expr n ts = do
   e ← expr ts
   us ← sign_at signs.Semicolon e.1
   Ok (Return n e.0, us)
 
+-- `NAME = E;` behind its name
 unfoldable pub set_at : Reads RawExpr → Name → Reads RawStmt
 set_at expr x ts = do
   us ← sign_at signs.Assign ts
@@ -234,6 +262,7 @@ set_at expr x ts = do
   vs ← sign_at signs.Semicolon e.1
   Ok (Set x e.0, vs)
 
+-- `NAME[E] = E;` behind its opening bracket
 unfoldable pub set_cell_at : Reads RawExpr → Name → Reads RawStmt
 set_cell_at expr x ts = do
   i ← expr ts
@@ -243,6 +272,7 @@ set_cell_at expr x ts = do
   ws ← sign_at signs.Semicolon e.1
   Ok (SetCell x i.0 e.0, ws)
 
+-- a statement, by its first word; where none of those words stands, an assignment
 unfoldable pub stmt_at : Reads RawExpr → Reads (List RawStmt) → Reads RawStmt
 stmt_at expr block ts =
     given (after_word words.If ts) (λ w. if_at expr block w.1)
@@ -261,11 +291,13 @@ block_at (suc n) front ts =
 
 -- declarations
 
+-- a first value: `N` or `-N`
 unfoldable pub start_at : Reads Init
 start_at ts =
     given (after_sign signs.Minus ts) (λ us. number_at us >>= λ k. Ok (record { minus = true; value = k.0 }, k.1))
     (number_at ts >>= λ k. Ok (record { minus = false; value = k.0 }, k.1))
 
+-- `int NAME[N];` behind its opening bracket
 unfoldable pub array_at : Name → Reads Local
 array_at x ts = do
   k ← number_at ts
@@ -273,6 +305,7 @@ array_at x ts = do
   vs ← sign_at signs.Semicolon us
   Ok (Array x k.0, vs)
 
+-- `int NAME = FIRST;` behind its name
 unfoldable pub scalar_at : Name → Reads Local
 scalar_at x ts = do
   us ← sign_at signs.Assign ts
@@ -293,6 +326,7 @@ locals_at arrays (suc n) front ts =
     given (after_word words.Int ts) (λ w. local_at arrays w.1 >>= λ x. locals_at arrays n (front ++ x.0 ∷ []) x.1)
     (Ok (front, ts))
 
+-- `int NAME`, a parameter
 unfoldable pub param_at : Reads Name
 param_at ts = word_at words.Int ts >>= λ w. name_at w.1
 
@@ -303,21 +337,25 @@ further_at (suc n) front ts =
     given (after_sign signs.CloseRound ts) (λ us. Ok (front, us))
     (sign_at signs.Comma ts >>= λ us. param_at us >>= λ x. further_at n (front ++ x.0 ∷ []) x.1)
 
+-- `int NAME, int NAME)`: the parameters of a function, of which there may be none, and the closing bracket
 unfoldable pub params_at : ℕ → Reads (List Name)
 params_at n ts =
     given (after_sign signs.CloseRound ts) (λ us. Ok ([], us))
     (param_at ts >>= λ x. further_at n (x.0 ∷ []) x.1)
 
+-- the parent of a clock: `NAME`, or `tick`, for which there is none
 unfoldable pub parent_at : Reads (Option Name)
 parent_at ts =
     given (after_word words.Tick ts) (λ w. Ok (None, w.1))
     (name_at ts >>= λ x. Ok (Some x.0, x.1))
 
+-- `+ M;` or `;`: the shift of a clock, if it has one, and the semicolon
 unfoldable pub shift_at : Reads (Option Lit)
 shift_at ts =
     given (after_sign signs.Plus ts) (λ us. number_at us >>= λ k. sign_at signs.Semicolon k.1 >>= λ vs. Ok (Some k.0, vs))
     (sign_at signs.Semicolon ts >>= λ us. Ok (None, us))
 
+-- `clock NAME = N * PARENT + M;` behind its first word; `+ M` may be missing
 unfoldable pub clock_at : Reads Item
 clock_at ts = do
   name ← name_at ts
@@ -328,6 +366,7 @@ clock_at ts = do
   shift ← shift_at parent.1
   Ok (Clock name.0 by.0 parent.0 shift.0, shift.1)
 
+-- `temporal NAME of AGENT on CLOCK = FIRST depth N;` behind its first word
 unfoldable pub temporal_at : Reads Item
 temporal_at ts = do
   name ← name_at ts
@@ -342,6 +381,7 @@ temporal_at ts = do
   vs ← sign_at signs.Semicolon depth.1
   Ok (Temporal name.0 owner.0 clock.0 init.0 depth.0, vs)
 
+-- `input NAME on CLOCK = FIRST depth N;` behind its first word
 unfoldable pub input_at : Reads Item
 input_at ts = do
   name ← name_at ts
@@ -354,6 +394,7 @@ input_at ts = do
   vs ← sign_at signs.Semicolon depth.1
   Ok (Input name.0 clock.0 init.0 depth.0, vs)
 
+-- `stream NAME to AGENT keep N on CLOCK;` behind its first word
 unfoldable pub stream_at : Reads Item
 stream_at ts = do
   name ← name_at ts
@@ -366,6 +407,7 @@ stream_at ts = do
   us ← sign_at signs.Semicolon clock.1
   Ok (Stream name.0 receiver.0 keep.0 clock.0, us)
 
+-- `int NAME(PARAMETERS) { LOCALS STATEMENTS }` behind its first word; its locals are no arrays
 unfoldable pub function_at : ℕ → Reads Item
 function_at n ts = do
   name ← name_at ts
@@ -376,6 +418,7 @@ function_at n ts = do
   stmts ← block_at n [] locals.1
   Ok (Function name.0 params.0 locals.0 stmts.0, stmts.1)
 
+-- `agent NAME on CLOCK budget N { LOCALS body { STATEMENTS } }` behind its first word
 unfoldable pub agent_at : ℕ → Reads Item
 agent_at n ts = do
   name ← name_at ts
@@ -391,6 +434,7 @@ agent_at n ts = do
   ws ← sign_at signs.CloseBrace stmts.1
   Ok (Agent name.0 clock.0 budget.0 locals.0 body.0 stmts.0, ws)
 
+-- a declaration, by its first word
 unfoldable pub declaration_at : ℕ → Reads Item
 declaration_at n ts =
     given (after_word words.Clock ts) (λ w. clock_at w.1)
@@ -416,6 +460,7 @@ quantum_at ts = do
   us ← sign_at signs.Semicolon quantum.1
   Ok (quantum.0, us)
 
+-- a whole program: `tick N;` and the declarations up to the end
 unfoldable pub text_at : ℕ → List Numbered → Result Raw ℕ
 text_at n ts = do
   quantum ← quantum_at ts

@@ -6,6 +6,7 @@ use Rattle.psy_tree.specs.declared.rules.Count.TheVariants.{Clocks, Agents, Vari
 use Rattle.psy_tree.specs.Rules.{is_clock, is_agent, is_stream, is_function}
 use Rattle.psy_tree.specs.Stands.{is_variable}
 
+-- The count counts this declaration; those of names and points count none.
 abbrev pub counts_as : Count → Item → Bool
 counts_as Clocks = λ i. is_clock (Some i)
 counts_as Agents = λ i. is_agent (Some i)

@@ -13,6 +13,7 @@ abbrev pub item_below : ℕ → Option Found → Bool
 item_below k (Some (found.Item j)) = nat_lt j k
 item_below k _ = false
 
+-- It is a slot of a lesser number.
 abbrev pub slot_below : ℕ → Option Found → Bool
 slot_below k (Some (found.Slot j)) = nat_lt j k
 slot_below k _ = false

@@ -7,6 +7,7 @@ use Rattle.psy_tree.specs.declared.raw.Item.TheVariants as item
 use Rattle.psy_tree.specs.declared.reach.Asks.TheVariants as asks
 use Rattle.psy_tree.specs.Places.{Place, NamesSlot, Derives, Uses, Ranges, parent_places}
 
+-- The places of a declaration's head, but for that of the name it gives.
 abbrev pub after_name : Item → List Place
 after_name (item.Clock name by parent shift) = Derives name ∷ parent_places parent
 after_name (item.Temporal name owner clock init depth) = Uses owner asks.Agent ∷ (Uses clock asks.Clock ∷ (Ranges depth 1 DEPTH ∷ []))
@@ -15,6 +16,7 @@ after_name (item.Stream name receiver keep clock) = Uses receiver asks.Agent ∷
 after_name (item.Function name params locals stmts) = []
 after_name (item.Agent name clock budget locals body stmts) = Uses clock asks.Clock ∷ (Ranges budget 1 BUDGET ∷ [])
 
+-- The places where names are given to slots, numbered from k on.
 abbrev pub name_places : ℕ → List Name → List Place
 name_places k [] = []
 name_places k (n ∷ ns) = NamesSlot k n ∷ name_places (k + 1) ns

@@ -11,9 +11,11 @@ use Rattle.psy_rules.specs.Tables.{StandsFor}
 use Rattle.psy_rules.specs.Sites.{site_of, IsScope}
 use Rattle.psy_rules.specs.Numbering.{AreNumbers}
 
+-- Where the places of the numbered scope stand.
 abbrev pub site : Numbered → Site
 site n = site_of n.scope
 
+-- The scope is one, the numbers are those of its declarations, the names inside are few, the budget is the agent's.
 pub record IsNumbered (n : Numbered) : Type 0 where
   pub scope : IsScope n.scope
   pub numbers : AreNumbers n.scope.items.now n.before.now

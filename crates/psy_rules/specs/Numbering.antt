@@ -8,6 +8,7 @@ use Rattle.psy_tree.specs.Rules.{is_clock, is_agent, is_function, is_stream}
 use Rattle.psy_tree.specs.Stands.{counting, is_variable}
 use Rattle.psy_rules.specs.declared.numbers.Before.{Before}
 
+-- How many declarations of each kind stand before number k.
 abbrev pub before_at : List Item → ℕ → Before
 before_at items k = record {
   clocks = counting is_clock (take k items);
@@ -51,6 +52,7 @@ pub record AreFew (items : List Item) : Type 0 where
   pub streams : counting is_stream items ≤ STREAMS
   pub functions : counting is_function items ≤ FUNCTIONS
 
+-- How many of each kind stand before what was found, if it is a declaration.
 abbrev pub before_of : List Item → Option Found → Option Before
 before_of items (Some (found.Item k)) = Some (before_at items k)
 before_of items _ = None

@@ -4,6 +4,7 @@ use Rattle.psy_tree.specs.Scope.{Site, own_slots, item_entries, slot_entries}
 use Rattle.psy_rules.specs.declared.scope.Scope.{Scope}
 use Rattle.psy_rules.specs.Tables.{StandsFor}
 
+-- Where the places of the scope stand.
 abbrev pub site_of : Scope → Site
 site_of s = record { items = s.items.now; at = s.at; inside = s.inside }
 
