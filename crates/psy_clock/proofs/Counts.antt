@@ -33,13 +33,13 @@ date-rises c i j h l =
     let s : suc i * c.period ≡ i * c.period + c.period = suc-mul i c.period in
     omega arith
 
-date-rises_or_stays : (c : Clock) (i j : ℕ) → i ≤ j → date c i ≤ date c j
+pub date-rises_or_stays : (c : Clock) (i j : ℕ) → i ≤ j → date c i ≤ date c j
 date-rises_or_stays c i j l =
     let e : i * c.period ≤ j * c.period = mul-le-mul_right c.period l in
     omega arith
 
 -- The number that divides the dates' numbers at t is the count.
-count_is : (c : Clock) (t q : ℕ) → IsClock c → ((i : ℕ) → i < q → date c i ≤ t) → ((i : ℕ) → q ≤ i → t < date c i) → count c t ≡ q
+pub count_is : (c : Clock) (t q : ℕ) → IsClock c → ((i : ℕ) → i < q → date c i ≤ t) → ((i : ℕ) → q ≤ i → t < date c i) → count c t ≡ q
 count_is c t q h passes fails =
     let e : count c t ≡ min q (0 + (t + 1)) - 0 = count_front (λ d. leb d t) (date c) q 0 (t + 1) (λ i l. le-leb (date c i) t (passes i l)) (λ i l. lt-leb (date c i) t (fails i l)) in
     elim (leb_tells q (t + 1)) [

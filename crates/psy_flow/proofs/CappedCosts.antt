@@ -10,7 +10,7 @@ use Rattle.psy_meaning.specs.Statements.{Piece}
 use Rattle.psy_flow.specs.declared.gauge.Gauge.{Gauge}
 use Rattle.psy_flow.specs.declared.gauge.Gauge.TheVariants as gauge
 use Rattle.psy_flow.specs.declared.tops.Tops.{Tops}
-use Rattle.psy_flow.specs.Flow.{IsNext, HasCost, IsCut}
+use Rattle.psy_meaning.specs.Flow.{IsNext, HasCost, IsCut}
 use Rattle.psy_flow.specs.Tops.{limit_of, called, call_most, stmts_tops, pieces_tops, calls_from, calls_most, capped_count, capped_tops, capped_from}
 use Rattle.psy_flow.proofs.Greatest.{IsTopTo, top_to, row_of}
 use Rattle.psy_flow.proofs.Related.{Either, Related, Rows, call_related, rows_more, row_related, stmts_related, pieces_related}

@@ -4,7 +4,7 @@ use Rattle.std.specs.Prelude.{slice_get, replicate}
 use Rattle.std.specs.List.{Contains}
 use Rattle.std.proofs.lemmas.Bool.{false≢true}
 use Rattle.std.proofs.lemmas.Option.{none-some, same_Some}
-use Rattle.psy_flow.specs.Flow.{Rises}
+use Rattle.psy_meaning.specs.Flow.{Rises}
 use Rattle.psy_flow.specs.Reach.{marked, marked_from, numbers_from, numbers_of}
 
 -- ---- which are there

@@ -18,7 +18,8 @@ use Rattle.psy_meaning.specs.Units.{IsBareAgent}
 use Rattle.psy_meaning.specs.Ways.{Meter, unmetered, IsWay, callee_ways}
 use Rattle.psy_meaning.proofs.RestsOf.{rests_count}
 use Rattle.psy_flow.specs.declared.gauge.Gauge.TheVariants as gauge
-use Rattle.psy_flow.specs.Flow.{IsAgentOf, IsNext, IsKnown}
+use Rattle.psy_flow.specs.Agents.{IsAgentOf, IsKnown}
+use Rattle.psy_meaning.specs.Flow.{IsNext}
 use Rattle.psy_flow.specs.Reach.{marked, pieces_reach, numbers_of}
 use Rattle.psy_flow.specs.Tops.{called, calls_most, pieces_tops}
 use Rattle.psy_flow.proofs.Bounds.{way_fine}

@@ -14,7 +14,8 @@ use Rattle.psy_meaning.specs.Ways.{Sending, Meter, IsWay, callee_ways}
 use Rattle.psy_flow.specs.declared.gauge.Gauge.{Gauge}
 use Rattle.psy_flow.specs.declared.gauge.Gauge.TheVariants as gauge
 use Rattle.psy_flow.specs.declared.tops.Tops.{Tops}
-use Rattle.psy_flow.specs.Flow.{IsKnown, IsMostSends, MayLook}
+use Rattle.psy_flow.specs.Agents.{IsKnown}
+use Rattle.psy_meaning.specs.Flow.{IsMostSends, MayLook}
 use Rattle.psy_flow.specs.Tops.{count_of, called, capped_count, capped_tops, pieces_tops}
 use Rattle.psy_flow.proofs.Greatest.{IsRow, IsTopTo, top_to, row_of}
 use Rattle.psy_flow.proofs.Still.{Left, Still, still_calls}

@@ -1,5 +1,5 @@
-pub mod Counted
-pub mod Tops
-pub mod Flow
+pub mod Agents
 pub mod Behind
+pub mod Counted
 pub mod Reach
+pub mod Tops

@@ -5,7 +5,8 @@ ghost use Rattle.psy_base.specs.declared.limits.TheConstants.{COST};
 ghost use Rattle.psy_tree.specs.declared.unit.AgentDecl.{AgentDecl};
 ghost use Rattle.psy_tree.specs.declared.unit.Unit.{Unit as Whole};
 ghost use Rattle.psy_meaning.specs.Units.{IsOfText};
-ghost use Rattle.psy_flow.specs.Flow.{IsOfSome, IsAgentOf, HasCost, IsCut, IsMostSends, MayLook};
+ghost use Rattle.psy_flow.specs.Agents.{IsOfSome, IsAgentOf};
+ghost use Rattle.psy_meaning.specs.Flow.{HasCost, IsCut, IsMostSends, MayLook};
 
 use crate::costs::costs_of_calls;
 use crate::gauge::Gauge;

@@ -3,7 +3,7 @@
 ghost use Rattle.std.specs.Prelude.{ℕ};
 ghost use Rattle.psy_tree.specs.declared.unit.AgentDecl.{AgentDecl};
 ghost use Rattle.psy_tree.specs.declared.unit.Unit.{Unit as Whole};
-ghost use Rattle.psy_flow.specs.Flow.{IsAgentOf, IsKnown};
+ghost use Rattle.psy_flow.specs.Agents.{IsAgentOf, IsKnown};
 
 use psy_meaning::laws::{ends, sound, traps, ways};
 

@@ -4,7 +4,8 @@ ghost use Rattle.std.specs.Prelude.{◌≡◌, ◌<◌, ◌≤◌, ◌↔◌, �
 ghost use Rattle.std.specs.List.{All, Contains};
 ghost use Rattle.psy_base.specs.declared.limits.TheConstants.{POINTS};
 ghost use Rattle.psy_tree.specs.declared.unit.Unit.{Unit as Whole};
-ghost use Rattle.psy_flow.specs.Flow.{IsOfSome, IsAgentOf, IsNext, Rises};
+ghost use Rattle.psy_flow.specs.Agents.{IsOfSome, IsAgentOf};
+ghost use Rattle.psy_meaning.specs.Flow.{IsNext, Rises};
 ghost use Rattle.psy_flow.specs.Reach.{numbers_of};
 
 use crate::laws::known;

@@ -1,12 +1,16 @@
 pub mod Alike
+pub mod Demand
 pub mod Depths
 pub mod Expressions
+pub mod Flow
+pub mod Graph
 pub mod Kept
 pub mod Paths
 pub mod Rest
 pub mod Sizes
 pub mod Sound
-pub mod States
 pub mod Statements
+pub mod States
+pub mod Timing
 pub mod Units
 pub mod Ways

@@ -1,6 +1,6 @@
 ghost use Rattle.std.specs.Prelude.{◌≡◌, slice_get, Some, IfOk};
 ghost use Rattle.psy_meaning.specs.Units.{IsOfText};
-ghost use Rattle.psy_flow.specs.Flow.{IsOfSome};
+ghost use Rattle.psy_flow.specs.Agents.{IsOfSome};
 
 use crate::texts::unit_of;
 use psy_flow::{looks, most_sends, next_points, worst};

@@ -2,7 +2,7 @@ use Rattle.std.proofs.Common.{◌≡◌, true, None, [], sym, ap, subst, ◌∙�
 use Rattle.std.specs.Prelude.{◌↔◌, nat_lt}
 use Rattle.psy_meaning.specs.Rest.{rest}
 use Rattle.psy_flow.specs.declared.gauge.Gauge.TheVariants as gauge
-use Rattle.psy_flow.specs.Flow.{MayLook}
+use Rattle.psy_meaning.specs.Flow.{MayLook}
 use Rattle.psy_flow.specs.Tops.{called, capped_tops, pieces_tops}
 use Rattle.psy_flow.proofs.NextPoints.{points_of}
 use Rattle.psy_flow.proofs.Silent.{looks_of_tops}

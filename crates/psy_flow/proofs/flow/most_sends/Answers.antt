@@ -1,7 +1,7 @@
 use Rattle.std.proofs.Common.{Some, [], sym, ap, subst, ◌∙◌, arith}
 use Rattle.psy_meaning.specs.Rest.{rest}
 use Rattle.psy_flow.specs.declared.gauge.Gauge.TheVariants as gauge
-use Rattle.psy_flow.specs.Flow.{IsMostSends}
+use Rattle.psy_meaning.specs.Flow.{IsMostSends}
 use Rattle.psy_flow.specs.Tops.{called, capped_tops, pieces_tops}
 use Rattle.psy_flow.proofs.NextPoints.{points_of}
 use Rattle.psy_flow.proofs.Silent.{most_of_tops}

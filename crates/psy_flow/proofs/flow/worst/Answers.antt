@@ -4,7 +4,8 @@ use Rattle.psy_base.specs.declared.limits.TheConstants.{COST}
 use Rattle.psy_tree.specs.declared.unit.AgentDecl.{AgentDecl}
 use Rattle.psy_meaning.specs.Rest.{rest}
 use Rattle.psy_flow.specs.declared.gauge.Gauge.TheVariants as gauge
-use Rattle.psy_flow.specs.Flow.{IsAgentOf, HasCost, IsCut}
+use Rattle.psy_flow.specs.Agents.{IsAgentOf}
+use Rattle.psy_meaning.specs.Flow.{HasCost, IsCut}
 use Rattle.psy_flow.specs.Tops.{called, capped_tops, capped_from, pieces_tops}
 use Rattle.psy_flow.proofs.CappedCosts.{worst_cut}
 use Rattle.psy_flow.proofs.NextPoints.{points_of}

@@ -6,7 +6,7 @@ use Rattle.psy_meaning.specs.Sound.{IsSoundUnit}
 use Rattle.psy_meaning.specs.States.{State, Final, Ended, Trapped, Halts}
 use Rattle.psy_meaning.specs.Statements.{act}
 use Rattle.psy_meaning.specs.Ways.{met_by}
-use Rattle.psy_flow.specs.Flow.{IsNext}
+use Rattle.psy_meaning.specs.Flow.{IsNext}
 use Rattle.psy_flow.proofs.laws.known.Goals as goal
 
 -- Any state to begin with

@@ -4,7 +4,7 @@ use Rattle.std.specs.List.{All}
 use Rattle.std.proofs.lemmas.List.{length-replicate}
 use Rattle.std.proofs.lemmas.Result.{IfOk-weaker}
 use Rattle.psy_meaning.specs.Rest.{rest}
-use Rattle.psy_flow.specs.Flow.{Rises}
+use Rattle.psy_meaning.specs.Flow.{Rises}
 use Rattle.psy_flow.specs.Reach.{marked, pieces_reach, numbers_of}
 use Rattle.psy_flow.proofs.MarkedNumbers.{numbers_rise, length-marked}
 use Rattle.psy_flow.proofs.NextPoints.{IsInner, marks_are, points_of, few_points, numbers_next, some_next, inner_next}

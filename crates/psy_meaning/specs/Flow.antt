@@ -1,24 +1,12 @@
--- What follows each point of an agent's body, on all ways.
-use Rattle.std.specs.Prelude.{◌≡◌, ◌⊎◌, ℕ, ◌<◌, ◌≤◌, min, ◌==◌, List, Some, slice_get}
+-- What follows a point of an agent, on all ways: the points that may come next, and the most that a way there costs and sends.
+use Rattle.std.specs.Prelude.{◌≡◌, ◌⊎◌, ℕ, ◌<◌, ◌≤◌, min, ◌==◌, List, Some, length, slice_get, ◌↔◌}
 use Rattle.std.specs.List.{count_by, Contains}
 use Rattle.psy_base.specs.declared.limits.TheConstants.{SENDS}
 use Rattle.psy_code.specs.Views.{Looked}
 use Rattle.psy_tree.specs.declared.unit.AgentDecl.{AgentDecl}
 use Rattle.psy_tree.specs.declared.unit.FunctionDecl.{FunctionDecl}
-use Rattle.psy_tree.specs.declared.unit.Unit.{Unit as Whole}
-use Rattle.psy_meaning.specs.Paths.{NoneAdvances}
 use Rattle.psy_meaning.specs.Rest.{rest}
-use Rattle.psy_meaning.specs.Sound.{IsSoundUnit}
-use Rattle.psy_meaning.specs.Units.{IsOfText}
 use Rattle.psy_meaning.specs.Ways.{Meter, IsWay}
-
--- The agent is one of a unit of a text, by its number.
-abbrev pub IsAgentOf : Whole → ℕ → AgentDecl → Type 0
-IsAgentOf unit number agent = IsOfText unit × (slice_get unit.agents number ≡ Some agent)
-
--- Some unit of a text has the agent.
-abbrev pub IsOfSome : AgentDecl → Type 0
-IsOfSome agent = (unit : Whole) × (number : ℕ) × IsAgentOf unit number agent
 
 -- A way from a point of an agent to the next one, and what it meets
 abbrev pub IsWayFrom : List FunctionDecl → AgentDecl → ℕ → ℕ → Meter → Type 0
@@ -27,13 +15,6 @@ IsWayFrom functions agent from to met = IsWay functions (rest agent.stmts from) 
 -- The code behind a point may reach this one first.
 abbrev pub IsNext : List FunctionDecl → AgentDecl → ℕ → ℕ → Type 0
 IsNext functions agent from to = (met : Meter) × IsWayFrom functions agent from to met
-
--- What is known of an agent of a text: its unit is sound, no function of it advances, and from each point a way goes on to
--- some point.
-pub record IsKnown (unit : Whole) (number : ℕ) (agent : AgentDecl) : Type 0 where
-  pub sound : IsSoundUnit unit
-  pub none : NoneAdvances unit.functions
-  pub goes_on : (point : ℕ) → (to : ℕ) × IsNext unit.functions agent point to
 
 -- A way from a point has this cost.
 abbrev pub HasCost : List FunctionDecl → AgentDecl → ℕ → ℕ → Type 0
@@ -64,3 +45,9 @@ IsMostSends functions agent from to stream result =
 -- The numbers rise.
 abbrev pub Rises : List ℕ → Type 0
 Rises xs = (i j m n : ℕ) → i < j → slice_get xs i ≡ Some m → slice_get xs j ≡ Some n → m < n
+
+-- What may follow each point of an agent, as lists by point: the numbers of the next points, rising.
+pub record AreNexts (functions : List FunctionDecl) (agent : AgentDecl) (nexts : List (List ℕ)) : Type 0 where
+  pub length : length nexts ≡ length agent.points
+  pub rise : (point : ℕ) (list : List ℕ) → slice_get nexts point ≡ Some list → Rises list
+  pub each : (point : ℕ) (list : List ℕ) → slice_get nexts point ≡ Some list → (to : ℕ) → Contains list to ↔ IsNext functions agent point to
