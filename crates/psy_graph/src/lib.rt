@@ -1,0 +1,8 @@
+//! The action graphs of a program's agents: which actions an agent may start, by point and phase, and which may follow which.
+#![tactic(auto)]
+
+mod fault;
+mod graph;
+
+pub use fault::GraphFault;
+pub use graph::{Graph, Node};
