@@ -12,12 +12,18 @@ pub record IsDate (word : List ℕ) (date : ℕ) : Type 0 where
   pub value : date ≡ decimal_value word
   pub most : date ≤ UNTIL
 
--- the words ask for a run of the program in the file of this name, up to this date
-pub record AsksRun (words : List (List ℕ)) (name : List ℕ) (until : ℕ) : Type 0 where
-  pub date : List ℕ
-  pub three : words ≡ codes "run" ∷ name ∷ date ∷ []
-  pub is_date : IsDate date until
+-- a command, with the names of its files and its numbers
+pub data Command : Type 0 where
+  Run : (program : List ℕ) (until : ℕ) → Command
+  Check : (program : List ℕ) (until : ℕ) → Command
+  Graph : (program : List ℕ) → Command
+
+-- the words ask for a command: `run PROG UNTIL`, `check PROG UNTIL` or `graph PROG`
+pub data Asks (words : List (List ℕ)) : Command → Type 0 where
+  asks_run : (program date : List ℕ) (until : ℕ) → words ≡ codes "run" ∷ program ∷ date ∷ [] → IsDate date until → Asks words (Run program until)
+  asks_check : (program date : List ℕ) (until : ℕ) → words ≡ codes "check" ∷ program ∷ date ∷ [] → IsDate date until → Asks words (Check program until)
+  asks_graph : (program : List ℕ) → words ≡ codes "graph" ∷ program ∷ [] → Asks words (Graph program)
 
 -- the words are of no listed form
 abbrev pub AskNothing : List (List ℕ) → Type 0
-AskNothing words = (name : List ℕ) (until : ℕ) → AsksRun words name until → ⊥
+AskNothing words = (command : Command) → Asks words command → ⊥

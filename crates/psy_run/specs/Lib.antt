@@ -1,6 +1,10 @@
 pub mod Answer
 pub mod Asked
+pub mod Built
+pub mod Courses
 pub mod Form
 pub mod Log
 pub mod Outcome
-pub mod Writing
+pub mod Refusals
+pub mod Steps
+pub mod Texts

@@ -1,49 +1,53 @@
 -- How a call of the top ends. The counts of faults are those of the shelf and the sink before and after it.
-use Rattle.std.specs.Prelude.{◌≡◌, ℕ, List, [], Option, None, Some, ◌⊎◌}
+use Rattle.std.specs.Prelude.{◌≡◌, ℕ, List, [], Option, None}
 use Rattle.psy_door.specs.Faults.{Rose}
 use Rattle.psy_door.specs.Files.{Files}
 use Rattle.psy_door.specs.Growth.{Grew, GrewByFront}
-use Rattle.psy_kernel.specs.Standing.{Progress, ended}
+use Rattle.psy_kernel.specs.Standing.{Progress}
+use Rattle.psy_log.specs.Forms.{read_line}
+use Rattle.psy_run.specs.declared.refusal.File.{File}
 use Rattle.psy_run.specs.declared.refusal.Refusal.{Refusal}
-use Rattle.psy_run.specs.declared.refusal.Refusal.TheVariants.{ReadProgram}
-use Rattle.psy_run.specs.Asked.{AsksRun}
-use Rattle.psy_run.specs.Form.{Program}
-use Rattle.psy_run.specs.Log.{text_of}
-use Rattle.psy_run.specs.Answer.{IsAccepted, Refuses, Answers, AreNamed, status_of, line_of}
+use Rattle.psy_run.specs.declared.refusal.Stop.{Stop}
+use Rattle.psy_run.specs.declared.refusal.Stop.TheVariants as stop
+use Rattle.psy_run.specs.Answer.{Served, answering, text_of, left_of}
+use Rattle.psy_run.specs.Asked.{Command, Asks}
+use Rattle.psy_run.specs.Courses.{Course}
+use Rattle.psy_run.specs.Refusals.{status_of, line_of, file_name}
 
--- the file that the words name couldn't be read: the shelf's count rose, and that name failed last
-pub record IsUnread (words : List (List ℕ)) (failed_name : List ℕ) (before after : ℕ) : Type 0 where
-  pub name : List ℕ
-  pub until : ℕ
-  pub asked : AsksRun words name until
-  pub failed : failed_name ≡ name
-  pub rose : Rose before after
+-- A course was left before its end: a step of it refused, or the read of the file that it had come to failed, or memory ran out.
+pub data Halts {X : Type 0} (course : Course X) (failed : List ℕ) (before after : ℕ) : Stop → Type 0 where
+  halts_refused : (refusal : Refusal) → course.stops refusal → Halts course failed before after (stop.Refused refusal)
+  halts_unread : (file : File) → course.reads file failed → Rose before after → Halts course failed before after (stop.Unread file)
+  halts_memory : Halts course failed before after stop.Memory
 
--- a text that belongs to the words: the defined one, or that of a file that couldn't be read
-abbrev pub MayWrite : List (List ℕ) → Option Files → List ℕ → ℕ → ℕ → List ℕ → Type 0
-MayWrite words files failed_name before after text =
-    ((bytes : List ℕ) × (status : ℕ) × AreNamed words files bytes × Answers words bytes status text)
-    ⊎ (IsUnread words failed_name before after × (text ≡ line_of ReadProgram))
+-- What a call is given and meets: the words, the files where they are told, the shelf's counts of faults, and the name that
+-- failed last.
+pub record Seen : Type 0 where
+  pub words : List (List ℕ)
+  pub files : Option Files
+  pub failed : List ℕ
+  pub before : ℕ
+  pub after : ℕ
 
--- the kernel that is left did the whole run of the program that the words name
-pub record DidRun (words : List (List ℕ)) (files : Option Files) (progress : Progress) : Type 0 where
-  pub name : List ℕ
-  pub until : ℕ
-  pub bytes : List ℕ
-  pub program : Program
-  pub asked : AsksRun words name until
-  pub named : AreNamed words files bytes
-  pub accepted : IsAccepted bytes until program
-  pub over : progress ≡ ended program.numbers
+-- What the words come to
+abbrev pub coming : Seen → Course Served
+coming seen = answering seen.words seen.files
 
--- the status is that one and the text was added, or a write failed: then it is 4, and a front was added
-abbrev pub Says : Option (List ℕ) → Option (List ℕ) → ℕ → ℕ → ℕ → ℕ → List ℕ → Type 0
-Says old now before after answer status text =
-    ((answer ≡ status) × Grew old now text) ⊎ ((answer ≡ 4) × Rose before after × GrewByFront old now text)
+-- A file that the words name couldn't be read, and no step before that read refuses.
+pub record IsUnread (seen : Seen) (file : File) : Type 0 where
+  pub reads : (coming seen).reads file seen.failed
+  pub rose : Rose seen.before seen.after
 
--- How a run of a program's bytes ends: memory ran out, a refusal was said, or the program was run.
-pub data Ends (bytes : List ℕ) (until : ℕ) (old now : Option (List ℕ)) (before after : ℕ) : ℕ → Option Progress → Type 0 where
-  memory : Grew old now [] → Ends bytes until old now before after 8 None
-  refused : (status : ℕ) (refusal : Refusal) → Refuses bytes until refusal → Says old now before after status (status_of refusal) (line_of refusal) → Ends bytes until old now before after status None
-  done : (program : Program) → IsAccepted bytes until program → Grew old now (text_of program.numbers program.variable program.agent) → Ends bytes until old now before after 0 (Some (ended program.numbers))
-  cut : (program : Program) → IsAccepted bytes until program → Rose before after → GrewByFront old now (text_of program.numbers program.variable program.agent) → Ends bytes until old now before after 4 None
+-- A status and a text that may answer the words, and the kernel that is then left: the defined one, or the line of a file that
+-- couldn't be read
+pub data MayAnswer (seen : Seen) : ℕ → List ℕ → Option Progress → Type 0 where
+  may_refuse : (refusal : Refusal) → (coming seen).stops refusal → MayAnswer seen (status_of refusal) (line_of refusal) None
+  may_miss : (file : File) → IsUnread seen file → MayAnswer seen 3 (read_line (file_name file)) None
+  may_serve : (done : Served) → (coming seen).gives done → MayAnswer seen 0 (text_of done) (left_of done)
+
+-- How a call ends, by what the sink held and counted before and after it: memory ran out for a command, or the text was
+-- written, or a write of it failed.
+pub data Ends (seen : Seen) (old now : Option (List ℕ)) (before after : ℕ) : ℕ → Option Progress → Type 0 where
+  ends_memory : (command : Command) → Asks seen.words command → Grew old now [] → Ends seen old now before after 8 None
+  ends_said : (status : ℕ) (text : List ℕ) (left : Option Progress) → MayAnswer seen status text left → Grew old now text → Ends seen old now before after status left
+  ends_cut : (status : ℕ) (text : List ℕ) (left : Option Progress) → MayAnswer seen status text left → Rose before after → GrewByFront old now text → Ends seen old now before after 4 None

@@ -1,0 +1,66 @@
+-- The status and the line of each refusal.
+use Rattle.std.specs.Prelude.{ℕ, List, codes, None, Some}
+use Rattle.psy_base.specs.declared.limits.TheConstants as limit
+use Rattle.psy_tree.specs.declared.rules.Count.{Count}
+use Rattle.psy_tree.specs.declared.rules.Count.TheVariants.{Clocks, Agents, Variables, Streams, Functions, Names, Points}
+use Rattle.psy_tree.specs.Faults.{lex_number}
+use Rattle.psy_tree.specs.Rules.{rule_number}
+use Rattle.psy_log.specs.Forms.{words_line, limit_line, refused_line, not_built_line, infeasible_line, read_line}
+use Rattle.psy_run.specs.declared.refusal.File.{File}
+use Rattle.psy_run.specs.declared.refusal.File.TheVariants.{Program}
+use Rattle.psy_run.specs.declared.refusal.Refusal.{Refusal}
+use Rattle.psy_run.specs.declared.refusal.Refusal.TheVariants.{Words, TooLong, Lexical, Syntax, Deep, Rule, Many, NotBuilt, Nodes, Edges, Cells, Infeasible}
+
+-- the status of each refusal
+abbrev pub status_of : Refusal → ℕ
+status_of Words = 2
+status_of (TooLong file) = 7
+status_of (Lexical kind place) = 1
+status_of Syntax = 1
+status_of (Deep token) = 1
+status_of (Rule kind token) = 1
+status_of (Many count) = 7
+status_of NotBuilt = 1
+status_of Nodes = 7
+status_of Edges = 7
+status_of Cells = 7
+status_of (Infeasible length demand supply) = 5
+
+-- what a file is called
+abbrev pub file_name : File → List ℕ
+file_name Program = codes "program"
+
+-- what a count is called
+abbrev pub count_name : Count → List ℕ
+count_name Clocks = codes "clocks"
+count_name Agents = codes "agents"
+count_name Variables = codes "variables"
+count_name Streams = codes "streams"
+count_name Functions = codes "functions"
+count_name Names = codes "names"
+count_name Points = codes "points"
+
+-- the greatest number that a count may have
+abbrev pub count_limit : Count → ℕ
+count_limit Clocks = limit.CLOCKS
+count_limit Agents = limit.AGENTS
+count_limit Variables = limit.VARIABLES
+count_limit Streams = limit.STREAMS
+count_limit Functions = limit.FUNCTIONS
+count_limit Names = limit.NAMES
+count_limit Points = limit.POINTS
+
+-- the line of each refusal
+abbrev pub line_of : Refusal → List ℕ
+line_of Words = words_line
+line_of (TooLong file) = limit_line (file_name file) limit.FILE_BYTES
+line_of (Lexical kind place) = refused_line (codes "lex") (lex_number kind) (Some place)
+line_of Syntax = refused_line (codes "parse") 1 None
+line_of (Deep token) = refused_line (codes "parse") 2 (Some token)
+line_of (Rule kind token) = refused_line (codes "rule") (rule_number kind) (Some token)
+line_of (Many count) = limit_line (count_name count) (count_limit count)
+line_of NotBuilt = not_built_line
+line_of Nodes = limit_line (codes "nodes") limit.NODES
+line_of Edges = limit_line (codes "edges") limit.EDGES
+line_of Cells = limit_line (codes "cells") limit.WINDOW_CELLS
+line_of (Infeasible length demand supply) = infeasible_line length demand supply None

@@ -1,0 +1,115 @@
+-- The steps that judge a command, each with its refusal.
+use Rattle.std.specs.Prelude.{◌≡◌, ℕ, ◌+◌, ◌*◌, ◌<◌, ◌≤◌, List, map, length, Some, Option, slice_get}
+use Rattle.std.specs.List.{All, Any}
+use Rattle.psy_base.specs.declared.edge.Edge.{Edge}
+use Rattle.psy_base.specs.declared.limits.TheConstants.{COST, FILE_BYTES, WINDOW_CELLS}
+use Rattle.psy_door.specs.Files.{Files, WhereTold, bytes_under}
+use Rattle.psy_tree.specs.declared.raw.Raw.{Raw}
+use Rattle.psy_tree.specs.declared.token.Token.{Token}
+use Rattle.psy_tree.specs.declared.unit.AgentDecl.{AgentDecl}
+use Rattle.psy_tree.specs.declared.unit.Unit.{Unit as Whole}
+use Rattle.psy_tree.specs.Deep as deep
+use Rattle.psy_tree.specs.Faults as faults
+use Rattle.psy_tree.specs.Grammar.{Spells}
+use Rattle.psy_tree.specs.Rules.{LeastFault, NoFault}
+use Rattle.psy_tree.specs.Stands.{Stands, first_passed}
+use Rattle.psy_tree.specs.Tokens.{TokensOf}
+use Rattle.psy_meaning.specs.Demand.{IsFeasible, IsOverload}
+use Rattle.psy_meaning.specs.Flow.{IsCut, HasCost}
+use Rattle.psy_graph.specs.declared.fault.GraphFault.TheVariants as fault
+use Rattle.psy_graph.specs.declared.graph.Graph.{Graph}
+use Rattle.psy_graph.specs.Graphs.{AreGraphs, IsCause}
+use Rattle.psy_run.specs.declared.refusal.File.{File}
+use Rattle.psy_run.specs.declared.refusal.Refusal.{Refusal}
+use Rattle.psy_run.specs.declared.refusal.Refusal.TheVariants.{Words, TooLong, Lexical, Syntax, Deep, Rule, Many, NotBuilt, Nodes, Edges, Cells, Infeasible}
+use Rattle.psy_run.specs.Asked.{Command, Asks, AskNothing}
+use Rattle.psy_run.specs.Courses.{Course, step, unless}
+
+-- What the words ask for
+abbrev pub asking : List (List ℕ) → Course Command
+asking words = step (Asks words) (λ refusal. (refusal ≡ Words) × AskNothing words)
+
+-- The bytes of the file with this name, at most 262,144: where files are told those under the name, else some.
+abbrev pub reading : Option Files → File → List ℕ → Course (List ℕ)
+reading files file name = record {
+  gives = λ bytes. (length bytes ≤ FILE_BYTES) × WhereTold files (λ held. bytes ≡ bytes_under held name);
+  stops = λ refusal. (refusal ≡ TooLong file) × WhereTold files (λ held. FILE_BYTES < length (bytes_under held name));
+  reads = λ asked under. (asked ≡ file) × (under ≡ name);
+}
+
+-- the first fault of a text
+abbrev pub IsLexical : List ℕ → Refusal → Type 0
+IsLexical bytes (Lexical kind place) = faults.FirstFault bytes kind place
+IsLexical bytes _ = ⊥
+
+-- The tokens of a text
+abbrev pub lexing : List ℕ → Course (List Token)
+lexing bytes = step (TokensOf bytes) (IsLexical bytes)
+
+-- where they are nested too deep, or else are those of no program
+abbrev pub IsUnparsed : List Token → Refusal → Type 0
+IsUnparsed tokens (Deep token) = deep.Deep tokens token
+IsUnparsed tokens Syntax = deep.Shallow tokens × ((raw : Raw) → Spells raw tokens → ⊥)
+IsUnparsed tokens _ = ⊥
+
+-- The tree of tokens
+abbrev pub parsing : List Token → Course Raw
+parsing tokens = step (λ raw. deep.Shallow tokens × Spells raw tokens) (IsUnparsed tokens)
+
+-- the least breach of a rule, or else the first count of declarations that passes its limit
+abbrev pub IsUnlawful : Raw → Refusal → Type 0
+IsUnlawful raw (Rule kind token) = LeastFault raw kind token
+IsUnlawful raw (Many count) = NoFault raw × (first_passed raw ≡ Some count)
+IsUnlawful raw _ = ⊥
+
+-- The program that a tree stands for, with numbers for names
+abbrev pub resolving : Raw → Course Whole
+resolving raw = step (λ unit. Stands unit raw) (IsUnlawful raw)
+
+-- the first agent whose graph would have more than 512 nodes, or else more than 4,096 edges
+abbrev pub IsUndrawn : Whole → Refusal → Type 0
+IsUndrawn unit Nodes = (agent : ℕ) × IsCause unit (fault.Nodes agent)
+IsUndrawn unit Edges = (agent : ℕ) × IsCause unit (fault.Edges agent)
+IsUndrawn unit _ = ⊥
+
+-- The action graphs of a program's agents
+abbrev pub graphing : Whole → Course (List Graph)
+graphing unit = step (AreGraphs unit) (IsUndrawn unit)
+
+-- The greatest cost of an action from each point of an agent, cut at 1,000,000,000
+pub record AreCosts (unit : Whole) (agent : AgentDecl) (costs : List ℕ) : Type 0 where
+  pub count : length costs ≡ length agent.points
+  pub each : (point cost : ℕ) → slice_get costs point ≡ Some cost → IsCut (HasCost unit.functions agent point) COST cost
+
+-- The greatest costs, by agent and point
+pub record AreAllCosts (unit : Whole) (costs : List (List ℕ)) : Type 0 where
+  pub count : length costs ≡ length unit.agents
+  pub each : (number : ℕ) (agent : AgentDecl) (list : List ℕ) → slice_get unit.agents number ≡ Some agent → slice_get costs number ≡ Some list → AreCosts unit agent list
+
+-- They are there for each program.
+abbrev pub costing : Whole → Course (List (List ℕ))
+costing unit = step (AreAllCosts unit) (λ refusal. ⊥)
+
+-- The tables by which the demand is found have at most 4,000,000 cells each: a graph's nodes times the lengths from 0 on.
+abbrev pub HasCells : ℕ → Graph → Type 0
+HasCells until graph = length graph.nodes * (until + 1) ≤ WINDOW_CELLS
+
+-- One of them would have more.
+abbrev pub PassesCells : ℕ → Graph → Type 0
+PassesCells until graph = WINDOW_CELLS < length graph.nodes * (until + 1)
+
+abbrev pub windowing : List Graph → ℕ → Course (Unit {0})
+windowing graphs until = unless (All (HasCells until) graphs) (Any (PassesCells until) graphs) Cells
+
+-- the edges of each graph
+abbrev pub edges_of : List Graph → List (List Edge)
+edges_of graphs = map (λ graph. graph.edges) graphs
+
+-- the least length over which the processor can't supply what the agents may demand
+abbrev pub IsOverloaded : Whole → List Graph → ℕ → Refusal → Type 0
+IsOverloaded unit graphs until (Infeasible length demand supply) = IsOverload (edges_of graphs) unit.quantum until length demand × (supply ≡ unit.quantum * length)
+IsOverloaded unit graphs until _ = ⊥
+
+-- The processor demand criterion up to the last date
+abbrev pub demanding : Whole → List Graph → ℕ → Course (Unit {0})
+demanding unit graphs until = step (λ done. IsFeasible (edges_of graphs) unit.quantum until) (IsOverloaded unit graphs until)

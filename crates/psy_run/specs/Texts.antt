@@ -1,0 +1,39 @@
+-- The texts of `check` and `graph`.
+use Rattle.std.specs.Prelude.{ℕ, ◌+◌, List, [], ◌∷◌, ◌++◌, length, flat_map, get_or}
+use Rattle.psy_base.specs.declared.edge.Edge.{Edge}
+use Rattle.psy_tree.specs.declared.unit.AgentDecl.{AgentDecl}
+use Rattle.psy_tree.specs.declared.unit.Unit.{Unit as Whole}
+use Rattle.psy_tree.specs.declared.unit.VarDecl.{VarDecl}
+use Rattle.psy_log.specs.Forms.{variable_size_line, feasible_line, agent_graph_line, node_line, edge_line}
+use Rattle.psy_graph.specs.declared.graph.Graph.{Graph}
+use Rattle.psy_graph.specs.declared.graph.Node.{Node}
+
+-- ---- check
+
+-- the size of a variable's ring: its depth, where nobody looks at it
+abbrev pub size_line : VarDecl → List ℕ
+size_line variable = variable_size_line variable.name variable.depth
+
+-- the sizes, and the verdict
+abbrev pub check_text : Whole → ℕ → List ℕ
+check_text unit until = flat_map size_line unit.variables ++ feasible_line until
+
+-- ---- graph
+
+-- the lines of nodes, numbered from here on, with the greatest cost from the point of each
+abbrev pub nodes_text : List ℕ → ℕ → List Node → List ℕ
+nodes_text costs number [] = []
+nodes_text costs number (node ∷ rest) = node_line number node.point node.phase node.budget (get_or costs node.point 0) node.due ++ nodes_text costs (number + 1) rest
+
+-- the line of an edge
+abbrev pub edge_text : Edge → List ℕ
+edge_text edge = edge_line edge.from edge.to edge.len
+
+-- the lines of an agent: its graph's counts, its nodes and its edges
+abbrev pub agent_text : AgentDecl → Graph → List ℕ → List ℕ
+agent_text agent graph costs = agent_graph_line agent.name (length graph.nodes) (length graph.edges) ++ (nodes_text costs 0 graph.nodes ++ flat_map edge_text graph.edges)
+
+-- the lines of all agents
+abbrev pub graph_text : List AgentDecl → List Graph → List (List ℕ) → List ℕ
+graph_text (agent ∷ agents) (graph ∷ graphs) (list ∷ costs) = agent_text agent graph list ++ graph_text agents graphs costs
+graph_text _ _ _ = []
