@@ -1,13 +1,13 @@
 //! The lines that psyc writes, byte by byte, and how a text is brought to a sink. Nothing here takes memory.
 #![tactic(auto)]
 
+mod check;
 mod dated;
 mod graph;
 mod line;
 mod note;
 mod refusal;
 mod set;
-mod sizes;
 mod summary;
 #[cfg(test)]
 mod tests;

@@ -59,7 +59,7 @@ pub enum Note<'a> {
         stream: &'a [u8],
         size: u32,
     },
-    /// The line that bounds an agent's demand, in parts of which a cycle has 2^20.
+    /// In any L ticks an agent needs at most (rate * L + intercept) / 2^20 cycles.
     Rate {
         agent: &'a [u8],
         rate: u64,

@@ -1,4 +1,4 @@
-//! The lines of refusals, and of what is judged.
+//! The lines of what is refused, and of a trace that isn't.
 
 ghost use Rattle.std.specs.Prelude.{◌≡◌, ◌+◌, ◌≤◌, ◌++◌, length};
 ghost use Rattle.psy_base.specs.declared.limits.TheConstants.{WORD_BYTES};

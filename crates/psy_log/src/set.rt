@@ -4,7 +4,7 @@ ghost use Rattle.psy_log.specs.Forms.{line_of, name_of};
 
 use crate::line::Line;
 use crate::note::Note;
-use crate::{dated, graph, refusal, sizes, summary};
+use crate::{check, dated, graph, refusal, summary};
 
 impl Line {
     /// Makes this the line that says the note, its line feed included. The caller knows that a name in the
@@ -40,21 +40,21 @@ impl Line {
             Note::StreamEnd { stream, size, held } => {
                 summary::set_stream(self, stream, size, held)
             }
-            Note::VariableSize { variable, size } => sizes::set_variable_size(self, variable, size),
-            Note::StreamSize { stream, size } => sizes::set_stream_size(self, stream, size),
+            Note::VariableSize { variable, size } => check::set_variable_size(self, variable, size),
+            Note::StreamSize { stream, size } => check::set_stream_size(self, stream, size),
             Note::Rate {
                 agent,
                 rate,
                 intercept,
-            } => sizes::set_rate(self, agent, rate, intercept),
+            } => check::set_rate(self, agent, rate, intercept),
             Note::Always => self.start(b"feasible always\n"),
-            Note::Feasible { until } => sizes::set_feasible(self, until),
+            Note::Feasible { until } => check::set_feasible(self, until),
             Note::Infeasible {
                 length,
                 demand,
                 supply,
                 processor,
-            } => sizes::set_infeasible(self, length, demand, supply, processor),
+            } => check::set_infeasible(self, length, demand, supply, processor),
             Note::AgentGraph {
                 agent,
                 nodes,
