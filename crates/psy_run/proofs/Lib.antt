@@ -1,7 +1,3 @@
-pub mod AnswerLemmas
 pub mod AskedLemmas
 pub mod FormLemmas
 pub mod GrowthLemmas
-pub mod LogLemmas
-pub mod TopLemmas
-pub mod WritingLemmas

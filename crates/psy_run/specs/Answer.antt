@@ -10,7 +10,10 @@ use Rattle.psy_run.specs.declared.refusal.Refusal.TheVariants.{NotBuilt}
 use Rattle.psy_run.specs.Asked.{Command, Run, Check, Graph as Draw}
 use Rattle.psy_run.specs.Built.{IsBuilt}
 use Rattle.psy_run.specs.Courses.{Course, step, pure, unless, ◌>>=◌}
-use Rattle.psy_run.specs.Form.{Program, IsForm}
+use Rattle.psy_run.specs.declared.form.Program.{Program}
+use Rattle.psy_run.specs.declared.served.Served.{Served}
+use Rattle.psy_run.specs.declared.served.Served.TheVariants.{Ran, Checked, Drawn}
+use Rattle.psy_run.specs.Form.{IsForm}
 use Rattle.psy_run.specs.Log.{run_text}
 use Rattle.psy_run.specs.Refusals.{status_of, line_of}
 use Rattle.psy_run.specs.Steps.{asking, reading, lexing, parsing, resolving, graphing, costing, windowing, demanding}
@@ -33,12 +36,6 @@ supplying unit until = do
   _ ← windowing graphs until
   _ ← demanding unit graphs until
   pure graphs
-
--- What a command does, once nothing refuses it: a run, the sizes and the verdict of a check, or graphs.
-pub data Served : Type 0 where
-  Ran : (program : Program) → Served
-  Checked : (unit : Whole) (until : ℕ) → Served
-  Drawn : (unit : Whole) (graphs : List Graph) (costs : List (List ℕ)) → Served
 
 -- `run PROG UNTIL`: so far a program of one form alone is run
 abbrev pub running : Option Files → List ℕ → ℕ → Course Served

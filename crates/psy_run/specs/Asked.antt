@@ -3,6 +3,8 @@ use Rattle.std.specs.Prelude.{◌≡◌, ℕ, ◌≤◌, List, [], ◌∷◌, le
 use Rattle.std.specs.Char.{is_ascii_digit}
 use Rattle.psy_base.specs.declared.limits.TheConstants.{WORD_DIGITS, UNTIL}
 use Rattle.psy_tree.specs.Lexemes.{Each, decimal_value}
+use Rattle.psy_run.specs.declared.asked.Command.{Command as Read}
+use Rattle.psy_run.specs.declared.asked.Command.TheVariants as read
 
 -- the word is a date up to which a program may run: 1 to 12 digits, with a value of at most 100,000
 pub record IsDate (word : List ℕ) (date : ℕ) : Type 0 where
@@ -27,3 +29,9 @@ pub data Asks (words : List (List ℕ)) : Command → Type 0 where
 -- the words are of no listed form
 abbrev pub AskNothing : List (List ℕ) → Type 0
 AskNothing words = (command : Command) → Asks words command → ⊥
+
+-- The command that was read from words
+abbrev pub asked_by : Read → Command
+asked_by (read.Run program until) = Run program.now until
+asked_by (read.Check program until) = Check program.now until
+asked_by (read.Graph program) = Graph program.now

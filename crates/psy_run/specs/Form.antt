@@ -11,12 +11,7 @@ use Rattle.psy_tree.specs.declared.unit.Expr.{Expr}
 use Rattle.psy_tree.specs.declared.unit.Expr.TheVariants.{Number, Copy, Binary}
 use Rattle.psy_kernel.specs.declared.first.First.{First}
 use Rattle.psy_kernel.specs.Meaning.{InRange}
-
--- such a program: the names of its variable and its agent, and its numbers with the last date
-pub record Program : Type 0 where
-  pub variable : List ℕ
-  pub agent : List ℕ
-  pub numbers : First
+use Rattle.psy_run.specs.declared.form.Program.{Program}
 
 -- the expression is variable 0 and a number, or a number alone
 pub data Adds : Expr → Bool → ℕ → Type 0 where

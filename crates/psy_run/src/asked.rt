@@ -1,15 +1,24 @@
 //! The words of the command line.
-ghost use Rattle.std.specs.Prelude.{◌≡◌, ℕ, ◌≤◌, List, length, map, MatchOption, string_bytes};
-ghost use Rattle.psy_run.specs.Asked.{AsksRun, IsDate, AskNothing};
+ghost use Rattle.std.specs.Prelude.{ℕ, [], ◌∷◌, map, MatchOption, string_bytes};
+ghost use Rattle.psy_run.specs.Asked.{Asks, IsDate, AskNothing, asked_by};
 
 use psy_base::limits;
 use psy_token::decimal_value;
 
-/// A run that the words ask for: the name of the program's file, and the last date.
+/// What the words ask for, with the name of the program's file and the last date.
 #[derive(Clone, Copy)]
-pub struct Asked<'a> {
-    pub program: &'a str,
-    pub until: u32,
+pub enum Command<'a> {
+    Run {
+        program: &'a str,
+        until: u32,
+    },
+    Check {
+        program: &'a str,
+        until: u32,
+    },
+    Graph {
+        program: &'a str,
+    },
 }
 
 // The date that a word is.
@@ -30,19 +39,37 @@ fn date(word: &[u8]) -> Option<u32>
     }
 }
 
-/// The run that the words ask for; None exactly where they are of no listed form.
-pub fn read_words(words: &[String]) -> Option<Asked<'_>>
-    ensures { MatchOption result (AskNothing (map string_bytes words.now)) (λ a. AsksRun (map string_bytes words.now) a.program.now a.until) }
+// `graph PROG`
+fn of_two<'a>(command: &'a str, program: &'a str) -> Option<Command<'a>>
+    ensures { MatchOption result (AskNothing (command.now ∷ program.now ∷ [])) (λ c. Asks (command.now ∷ program.now ∷ []) (asked_by c)) }
 {
-    let [command, program, until] = words else {
-        return None;
-    };
-    if command.as_str() != "run" {
-        return None;
+    if command == "graph" {
+        return Some(Command::Graph { program });
     }
+    None
+}
+
+// `run PROG UNTIL` or `check PROG UNTIL`
+fn of_three<'a>(command: &'a str, program: &'a str, until: &'a str) -> Option<Command<'a>>
+    ensures { MatchOption result (AskNothing (command.now ∷ program.now ∷ until.now ∷ [])) (λ c. Asks (command.now ∷ program.now ∷ until.now ∷ []) (asked_by c)) }
+{
     let until = date(until.as_bytes())?;
-    Some(Asked {
-        program: program.as_str(),
-        until,
-    })
+    if command == "run" {
+        return Some(Command::Run { program, until });
+    }
+    if command == "check" {
+        return Some(Command::Check { program, until });
+    }
+    None
+}
+
+/// The command that the words ask for; None exactly where they are of no listed form.
+pub fn read_words(words: &[String]) -> Option<Command<'_>>
+    ensures { MatchOption result (AskNothing (map string_bytes words.now)) (λ c. Asks (map string_bytes words.now) (asked_by c)) }
+{
+    match words {
+        [command, program] => of_two(command.as_str(), program.as_str()),
+        [command, program, until] => of_three(command.as_str(), program.as_str(), until.as_str()),
+        _ => None,
+    }
 }

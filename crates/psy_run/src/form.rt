@@ -1,19 +1,20 @@
 //! The form of program that is served so far: one agent and one temporal variable, on one of its clocks.
-ghost use Rattle.std.specs.Prelude.{◌≡◌, ◌≢◌, ℕ, ◌≤◌, ◌↔◌, Bool, IsTrue, length, [], ◌∷◌, MatchOption, Some, pos};
+ghost use Rattle.std.specs.Prelude.{◌≡◌, ◌≢◌, ℕ, ◌≤◌, ◌↔◌, Bool, IsTrue, length, [], ◌∷◌, IfOk, MatchOption, Some, pos};
 ghost use Rattle.psy_base.specs.declared.limits.TheConstants.{WORD_BYTES};
 ghost use Rattle.psy_kernel.specs.Meaning.{InRange};
 ghost use Rattle.psy_tree.specs.declared.unit.Expr.{Expr};
 ghost use Rattle.psy_tree.specs.declared.unit.Point.{Point};
 ghost use Rattle.psy_tree.specs.declared.unit.Stmt.{Stmt};
-ghost use Rattle.psy_run.specs.Form as spec;
+ghost use Rattle.psy_run.specs.declared.form.Program.{Program as Form};
 ghost use Rattle.psy_run.specs.Form.{Adds, DoesOne, IsOwn, HaveNumbers, IsForm};
 ghost use Rattle.psy_kernel.specs.declared.first.First.{First as Numbers};
 
 use psy_arith::Op2;
-use psy_base::{Text, limits};
+use psy_base::{Memory, Text, limits};
 use psy_clock::Clock;
 use psy_kernel::First;
 use psy_tree::{AgentDecl, Expr, Point, Stmt, Unit, VarDecl};
+use std::alloc::Global;
 
 // A sum: its two sides.
 fn sides(value: &Expr) -> Option<(&Expr, &Expr)>
@@ -140,11 +141,11 @@ fn is_own(variable: &VarDecl, clock: u32) -> bool
     variable.owner == Some(0) && variable.depth == 1 && variable.clock == clock
 }
 
-/// A program of the form that is served: the names of its variable and its agent, and its numbers.
-#[derive(Clone, Copy)]
-pub struct Form<'a> {
-    pub variable: &'a [u8],
-    pub agent: &'a [u8],
+/// A program of the form that is run: the names of its variable and its agent, and its numbers.
+#[derive(Debug, Drop)]
+pub struct Program {
+    pub variable: Text,
+    pub agent: Text,
     pub numbers: First,
 }
 
@@ -179,36 +180,37 @@ fn read_numbers(
     }
 }
 
-/// The program that the unit is, to be run up to this date; None exactly where it has another form.
-pub fn read_form(unit: &Unit, until: u32) -> Option<Form<'_>>
-    ensures { MatchOption result ((program : spec.Program) → IsForm unit.now until program → ⊥) (λ f. IsForm unit.now until (record { variable = f.variable.now; agent = f.agent.now; numbers = f.numbers })) }
+/// The program that the unit is, to be run up to this date; None exactly where it has another form. The only error is want of
+/// memory.
+pub fn read_form(alloc: Global, unit: &Unit, until: u32) -> Result<Option<Program>, Memory>
+    ensures { IfOk result (λ form. MatchOption form ((program : Form) → IsForm unit.now until program → ⊥) (IsForm unit.now until)) }
 {
     let [variable] = unit.variables.as_slice() else {
-        return None;
+        return Ok(None);
     };
     let [agent] = unit.agents.as_slice() else {
-        return None;
+        return Ok(None);
     };
     if !unit.streams.is_empty() {
-        return None;
+        return Ok(None);
     }
     if !unit.functions.is_empty() {
-        return None;
+        return Ok(None);
     }
     if !is_own(variable, agent.clock) {
-        return None;
+        return Ok(None);
     }
     let Some(value) = read_agent(agent) else {
-        return None;
+        return Ok(None);
     };
     let Some(clock) = unit.clocks.get(agent.clock as usize) else {
-        return None;
+        return Ok(None);
     };
     if !is_short(&variable.name) {
-        return None;
+        return Ok(None);
     }
     if !is_short(&agent.name) {
-        return None;
+        return Ok(None);
     }
     let Some(numbers) = read_numbers(
         unit.quantum,
@@ -218,11 +220,11 @@ pub fn read_form(unit: &Unit, until: u32) -> Option<Form<'_>>
         *clock,
         value,
     ) else {
-        return None;
+        return Ok(None);
     };
-    Some(Form {
-        variable: variable.name.bytes(),
-        agent: agent.name.bytes(),
+    Ok(Some(Program {
+        variable: Text::from_bytes(alloc, variable.name.bytes())?,
+        agent: Text::from_bytes(alloc, agent.name.bytes())?,
         numbers,
-    })
+    }))
 }

@@ -3,18 +3,5 @@
 
 mod asked;
 mod form;
-mod judge;
-pub mod laws;
-mod line;
-mod log;
 mod refusal;
-#[cfg(test)]
-mod rule_tests;
-mod run;
-#[cfg(test)]
-mod tests;
-mod top;
-mod write;
-
-pub use top::psyc;
-pub use write::{WriteFault, write_all_of};
+mod served;

@@ -1,19 +1,40 @@
+//! Why a command isn't served.
 ghost use Rattle.std.specs.Prelude.{◌≡◌, ◌≤◌, length};
-ghost use Rattle.psy_run.specs.Answer.{status_of, line_of, lex_line, limit_line};
+ghost use Rattle.psy_base.specs.declared.limits.TheConstants.{WORD_BYTES};
+ghost use Rattle.psy_run.specs.Refusals.{status_of, line_of, file_name, count_name, count_limit};
+ghost use Rattle.psy_log.specs.Forms.{name_of, limit_line, read_line, refused_line};
+ghost use Rattle.psy_log.specs.Forms.{line_of as note_line};
 
-use crate::line::Line;
+use psy_base::limits;
+use psy_log::{Line, Note};
 use psy_tree::{Count, LexKind, RuleKind};
 
-/// Why the words, or the program that they name, aren't run. Contracts read the status and the line of
-/// each from one definition.
+/// What a file is read for.
+#[derive(Clone, Copy, Debug, PartialEq, Eq)]
+pub enum File {
+    Program,
+}
+
+impl File {
+    /// What it is called in a line.
+    pub fn name(self) -> &'static [u8]
+        ensures name { result.now ≡ file_name self }
+        ensures short { length result.now ≤ WORD_BYTES }
+    {
+        match self {
+            File::Program => b"program",
+        }
+    }
+}
+
+/// What is refused, of the words and the files that they name. Contracts read the status and the line of each from one
+/// definition.
 #[derive(Clone, Copy, Debug, PartialEq, Eq)]
 pub enum Refusal {
     /// The words are of no listed form.
     Words,
-    /// The program's file can't be read.
-    ReadProgram,
-    /// The program's file is too long.
-    LongProgram,
+    /// The file has more than 262,144 bytes.
+    TooLong(File),
     /// The first fault of the text, after so many bytes.
     Lexical {
         kind: LexKind,
@@ -32,12 +53,28 @@ pub enum Refusal {
     Many(Count),
     /// The program isn't of a form that is served so far.
     NotBuilt,
-    /// The work due in a window of so many ticks needs more cycles than it has.
+    /// The action graph of an agent would have more than 512 nodes.
+    Nodes,
+    /// It has no more than 512 nodes, but more than 4,096 edges.
+    Edges,
+    /// The table of an agent's demand would have more than 4,000,000 cells.
+    Cells,
+    /// Over so many ticks the agents may demand more cycles than the processor supplies.
     Infeasible {
         length: u32,
-        demand: u32,
-        supply: u32,
+        demand: u64,
+        supply: u64,
     },
+}
+
+/// Why a command stopped before anything was written.
+#[derive(Clone, Copy, Debug, PartialEq, Eq)]
+pub enum Stop {
+    Refused(Refusal),
+    /// A file that the words name couldn't be read.
+    Unread(File),
+    /// Want of memory.
+    Memory,
 }
 
 impl Refusal {
@@ -52,9 +89,12 @@ impl Refusal {
             | Refusal::Rule { .. }
             | Refusal::NotBuilt => 1,
             Refusal::Words => 2,
-            Refusal::ReadProgram => 3,
             Refusal::Infeasible { .. } => 5,
-            Refusal::LongProgram | Refusal::Many(_) => 7,
+            Refusal::TooLong(_)
+            | Refusal::Many(_)
+            | Refusal::Nodes
+            | Refusal::Edges
+            | Refusal::Cells => 7,
         }
     }
 
@@ -63,15 +103,17 @@ impl Refusal {
         ensures { result ≡ line_of self }
     {
         match self {
-            Refusal::Words => text(b"words\n"),
-            Refusal::ReadProgram => text(b"read program\n"),
-            Refusal::LongProgram => text(b"limit program 262144\n"),
-            Refusal::Lexical { kind, place } => lexical(kind, place),
-            Refusal::Deep(token) => deep(token),
-            Refusal::Syntax => text(b"refused parse 1\n"),
-            Refusal::Rule { kind, token } => rule(kind, token),
-            Refusal::Many(count) => limit(count),
-            Refusal::NotBuilt => text(b"not built\n"),
+            Refusal::Words => line(&Note::Words),
+            Refusal::NotBuilt => line(&Note::NotBuilt),
+            Refusal::TooLong(file) => limit(file.name(), limits::FILE_BYTES as u64),
+            Refusal::Lexical { kind, place } => refused(b"lex", kind.number(), Some(place)),
+            Refusal::Deep(token) => refused(b"parse", 2, Some(token)),
+            Refusal::Syntax => refused(b"parse", 1, None),
+            Refusal::Rule { kind, token } => refused(b"rule", kind.number(), Some(token)),
+            Refusal::Many(count) => limit(count_word(count), most_of(count)),
+            Refusal::Nodes => limit(b"nodes", u64::from(limits::NODES)),
+            Refusal::Edges => limit(b"edges", u64::from(limits::EDGES)),
+            Refusal::Cells => limit(b"cells", limits::WINDOW_CELLS),
             Refusal::Infeasible {
                 length,
                 demand,
@@ -81,71 +123,76 @@ impl Refusal {
     }
 }
 
-fn text(bytes: &[u8]) -> Line
-    requires { length bytes.now ≤ 128 }
-    ensures { result ≡ bytes.now }
+/// The line that says that a file couldn't be read.
+pub fn unread_line(file: File) -> Line
+    ensures { result ≡ read_line (file_name file) }
+{
+    line(&Note::Read { file: file.name() })
+}
+
+/// The line that says a note.
+pub fn line(note: &Note) -> Line
+    requires { length (name_of note.now) ≤ WORD_BYTES }
+    ensures { result ≡ note_line note.now }
 {
     let mut line = Line::new();
-    line.add(bytes);
+    line.set(note);
     line
 }
 
-fn lexical(kind: LexKind, place: u32) -> Line
-    ensures { result ≡ lex_line kind place }
+fn limit(name: &[u8], number: u64) -> Line
+    requires { length name.now ≤ WORD_BYTES }
+    ensures { result ≡ limit_line name.now number }
 {
-    let number = u64::from(kind.number());
-    let mut line = text(b"refused lex ");
-    line.add_number(number);
-    line.add(b" at ");
-    line.add_number(u64::from(place));
-    line.add(b"\n");
-    line
+    line(&Note::Limit { name, number })
 }
 
-fn deep(token: u32) -> Line
-    ensures { result ≡ line_of (Refusal.Deep token) }
+fn refused(what: &[u8], number: u32, at: Option<u32>) -> Line
+    requires { length what.now ≤ WORD_BYTES }
+    ensures { result ≡ refused_line what.now number at }
 {
-    let mut line = text(b"refused parse 2 at ");
-    line.add_number(u64::from(token));
-    line.add(b"\n");
-    line
+    line(&Note::Refused { what, number, at })
 }
 
-fn infeasible(length: u32, demand: u32, supply: u32) -> Line
+fn infeasible(length: u32, demand: u64, supply: u64) -> Line
     ensures { result ≡ line_of (Refusal.Infeasible length demand supply) }
 {
-    let mut line = text(b"infeasible ");
-    line.add_number(u64::from(length));
-    line.add(b" ");
-    line.add_number(u64::from(demand));
-    line.add(b" ");
-    line.add_number(u64::from(supply));
-    line.add(b"\n");
-    line
+    line(&Note::Infeasible {
+        length: u64::from(length),
+        demand,
+        supply,
+        processor: None,
+    })
 }
 
-fn rule(kind: RuleKind, token: u32) -> Line
-    ensures { result ≡ line_of (Refusal.Rule kind token) }
-{
-    let mut line = text(b"refused rule ");
-    line.add_number(u64::from(kind.number()));
-    line.add(b" at ");
-    line.add_number(u64::from(token));
-    line.add(b"\n");
-    line
-}
-
-// The line of a count that passes its limit.
-fn limit(count: Count) -> Line
-    ensures { result ≡ limit_line count }
+// What a count is called in a line.
+fn count_word(count: Count) -> &'static [u8]
+    ensures name { result.now ≡ count_name count }
+    ensures short { length result.now ≤ WORD_BYTES }
 {
     match count {
-        Count::Clocks => text(b"limit clocks 64\n"),
-        Count::Agents => text(b"limit agents 64\n"),
-        Count::Variables => text(b"limit variables 256\n"),
-        Count::Streams => text(b"limit streams 64\n"),
-        Count::Functions => text(b"limit functions 64\n"),
-        Count::Names => text(b"limit names 64\n"),
-        Count::Points => text(b"limit points 256\n"),
+        Count::Clocks => b"clocks",
+        Count::Agents => b"agents",
+        Count::Variables => b"variables",
+        Count::Streams => b"streams",
+        Count::Functions => b"functions",
+        Count::Names => b"names",
+        Count::Points => b"points",
     }
+}
+
+// The greatest number that a count may have.
+fn most_of(count: Count) -> u64
+    ensures { result ≡ count_limit count }
+{
+    let most = match count {
+        Count::Clocks => limits::CLOCKS,
+        Count::Agents => limits::AGENTS,
+        Count::Variables => limits::VARIABLES,
+        Count::Streams => limits::STREAMS,
+        Count::Functions => limits::FUNCTIONS,
+        Count::Names => limits::NAMES,
+        Count::Points => limits::POINTS,
+    };
+    most as u64
 }

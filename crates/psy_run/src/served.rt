@@ -1,0 +1,23 @@
+//! What the commands come to.
+use crate::form::Program;
+use psy_base::Items;
+use psy_graph::Graph;
+use psy_tree::Unit;
+
+/// What a command does, once nothing refuses it.
+#[derive(Debug, Drop)]
+pub enum Served {
+    /// Runs a program.
+    Ran(Program),
+    /// Writes the sizes of a program, and that its demand can be met up to a date.
+    Checked {
+        unit: Unit,
+        until: u32,
+    },
+    /// Writes the graphs of a program's agents, with the greatest costs by agent and point, in instructions.
+    Drawn {
+        unit: Unit,
+        graphs: Items<Graph>,
+        costs: Items<Items<u64>>,
+    },
+}
