@@ -1,0 +1,15 @@
+use Rattle.std.proofs.Common.{◌≤◌, ◌-◌, length, take}
+use Rattle.psy_door.specs.Growth.{Grew}
+use Rattle.psy_log.proofs.write.write_all_of.Given as goal
+
+abbrev pub invariant-writing : goal.invariant-writing
+invariant-writing g l =
+    record {
+      within : l.taken ≤ length l.piece;
+      counted : g.S.Sink.faults l.fn.out ≤ g.S.Sink.faults l.out;
+      grew : Grew (g.S.Sink.held l.fn.out) (g.S.Sink.held l.out) (take l.taken l.piece);
+    }
+
+-- what is left to write
+abbrev pub decreases-writing : goal.decreases-writing
+decreases-writing g l = length l.piece - l.taken

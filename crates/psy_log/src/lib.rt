@@ -1,0 +1,18 @@
+//! The lines that psyc writes, byte by byte, and how a text is brought to a sink. Nothing here takes memory.
+#![tactic(auto)]
+
+mod check;
+mod dated;
+mod graph;
+mod line;
+mod note;
+mod refusal;
+mod set;
+mod summary;
+#[cfg(test)]
+mod tests;
+mod write;
+
+pub use line::{LINE_BYTES, Line};
+pub use note::Note;
+pub use write::{WriteFault, write_all_of};
