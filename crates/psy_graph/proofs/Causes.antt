@@ -105,9 +105,9 @@ graphs_apart unit graphs Memory are cause = absurd cause
 -- A graph with no more nodes than it may have keeps the limit of edges or passes it.
 small_or_edges : (timing : Timing) (graph : Graph) → IsGraphOf timing graph → length graph.nodes ≤ NODES → IsSmall graph ⊎ PassesEdges timing
 small_or_edges timing graph its few = elim (cases_lt EDGES (length graph.edges)) [
-    inl many ↦ let small : length (map spot_of graph.nodes) ≤ NODES = omega (arith, few, length-map graph.nodes spot_of) in inr (map spot_of graph.nodes, graph.edges, its.drawn, small, many)
-    | inr fit ↦ inl (few, fit)
-    ]
+  | inl many ↦ let small : length (map spot_of graph.nodes) ≤ NODES = omega (arith, few, length-map graph.nodes spot_of) in inr (map spot_of graph.nodes, graph.edges, its.drawn, small, many)
+  | inr fit ↦ inl (few, fit)
+]
 
 module _ (unit : Whole) where
   -- The agent has a graph within the limits, or passes one.
@@ -128,9 +128,9 @@ module _ (unit : Whole) where
 
   one_more : (number : ℕ) (graph : Graph) → HaveGraphsBefore unit number → HasGraph unit number graph → HaveGraphsBefore unit (suc number)
   one_more number graph before has k less = elim (eq-or-lt_of_le {n = k} {m = number} (omega (arith, less))) [
-      inl is ↦ (graph, subst (λ n. HasGraph unit n graph) (sym is) has)
-      | inr under ↦ before k under
-      ]
+    | inl is ↦ (graph, subst (λ n. HasGraph unit n graph) (sym is) has)
+    | inr under ↦ before k under
+  ]
 
   next_told : (number : ℕ) → HaveGraphsBefore unit number → Told number → HaveGraphsBefore unit (suc number) ⊎ ((fault : GraphFault) × IsCause unit fault)
   next_told number before (inl (graph, has)) = inl (one_more number graph before has)
@@ -139,9 +139,9 @@ module _ (unit : Whole) where
   before_or_cause : ((number : ℕ) → number < length unit.agents → Told number) → (number : ℕ) → number ≤ length unit.agents → HaveGraphsBefore unit number ⊎ ((fault : GraphFault) × IsCause unit fault)
   before_or_cause each zero few = inl (λ k less. absurd (omega (arith, less)))
   before_or_cause each (suc number) few = elim (before_or_cause each number (omega (arith, few))) [
-      inl before ↦ next_told number before (each number (omega (arith, few)))
-      | inr cause ↦ inr cause
-      ]
+    | inl before ↦ next_told number before (each number (omega (arith, few)))
+    | inr cause ↦ inr cause
+  ]
 
   graphs_listed : HaveGraphsBefore unit (length unit.agents) → (graphs : List Graph) × AreGraphs unit graphs
   graphs_listed before = let (graphs, count, each) = listed (HasGraph unit) (length unit.agents) before in (graphs, record { count = count; each = each })
@@ -150,6 +150,6 @@ module _ (unit : Whole) where
   graphs_or_cause each =
       let known = λ (number : ℕ) (less : number < length unit.agents). (let (timing, its, timed) = each number less in told number timing its (explored timing timed)) in
       elim (before_or_cause known (length unit.agents) (omega arith)) [
-      inl before ↦ inl (graphs_listed before)
-      | inr cause ↦ inr cause
+        | inl before ↦ inl (graphs_listed before)
+        | inr cause ↦ inr cause
       ]

@@ -1,5 +1,5 @@
 -- Every timing of an agent of a text has a graph, or passes the limit of nodes.
-use Rattle.std.specs.Prelude.{ℕ, ◌≤◌, ◌⊎◌, length}
+use Rattle.std.specs.Prelude.{◌≤◌, ◌⊎◌, length}
 use Rattle.psy_base.specs.declared.limits.TheConstants.{NODES}
 use Rattle.psy_meaning.specs.Graph.{PassesNodes}
 use Rattle.psy_meaning.specs.Timing.{Timing}

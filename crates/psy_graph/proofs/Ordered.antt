@@ -1,6 +1,6 @@
 -- Lists that rise by an order that never holds both ways.
-use Rattle.std.proofs.Common.{◌≡◌, ℕ, zero, suc, ◌<◌, ◌≤◌, ◌⊎◌, ◌↔◌, inl, inr, List, [], ◌∷◌, length, refl, sym, ap, subst, ◌∙◌, arith}
-use Rattle.std.specs.List.{All, AllPairs, Contains}
+use Rattle.std.proofs.Common.{◌≡◌, zero, suc, ◌≤◌, ◌⊎◌, ◌↔◌, inl, inr, List, [], ◌∷◌, length, refl, sym, ap, subst, ◌∙◌, arith}
+use Rattle.std.specs.List.{AllPairs, Contains}
 
 pub first_or_later : {X : Type 0} (y : X) (ys : List X) (x : X) → Contains (y ∷ ys) x → (y ≡ x) ⊎ Contains ys x
 first_or_later y ys x (zero, less, is) = inl is
@@ -61,11 +61,11 @@ module _ {X : Type 0} (Before : X → X → Type 0) (strict : (x y : X) → Befo
   fewer ys [] b a each = omega arith
   fewer [] (x ∷ xs) b a each = absurd (in_none x (each x (at_first x xs)))
   fewer (y ∷ ys) (x ∷ xs) b a each = elim (first_or_later y ys x (each x (at_first x xs))) [
-      inl is ↦
+    | inl is ↦
         let shorter = fewer ys xs (pairs_later y ys b) (pairs_later x xs a) (λ z c. not_first x y xs ys z (sym is) a c (first_or_later y ys z (each z (at_later x xs z c)))) in
         omega (arith, shorter)
-      | inr c ↦
+    | inr c ↦
         let r = before_later y ys x b c in
         let shorter = fewer ys (x ∷ xs) (pairs_later y ys b) a (λ z d. past_first x y xs ys z a r (first_or_later x xs z d) (first_or_later y ys z (each z d))) in
         omega (arith, shorter)
-      ]
+  ]
