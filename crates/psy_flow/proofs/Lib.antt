@@ -1,3 +1,4 @@
+mod AllNexts
 mod BehindTops
 mod Bounds
 mod CallTops

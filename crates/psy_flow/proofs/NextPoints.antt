@@ -92,7 +92,7 @@ module _ (unit : Whole) (number : ℕ) (agent : AgentDecl) (its : IsAgentOf unit
       let known = subst (IsBareAgent unit) (get_or_from_slice_get unit.agents number agent agent its.1) bare in
       known.limit
 
-  next_inner : (point to : ℕ) → IsNext unit.functions agent point to → IsInner agent to
+  pub next_inner : (point to : ℕ) → IsNext unit.functions agent point to → IsInner agent to
   next_inner point to (met, way) =
       let inner = inner_range agent 1 (length (advances_in agent.stmts)) (omega arith) (omega (arith, own.points)) in
       way_fine (IsInner agent) (callee_ways unit.functions) agent.stmts point to unmetered met (subst (Each (IsInner agent)) (sym own.numbered) inner) way

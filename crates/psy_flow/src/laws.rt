@@ -1,8 +1,9 @@
 //! What the laws of the definitions say of the agents of a text.
 
-ghost use Rattle.std.specs.Prelude.{ℕ};
+ghost use Rattle.std.specs.Prelude.{◌<◌, ◌≤◌, ℕ, List, length};
 ghost use Rattle.psy_tree.specs.declared.unit.AgentDecl.{AgentDecl};
 ghost use Rattle.psy_tree.specs.declared.unit.Unit.{Unit as Whole};
+ghost use Rattle.psy_meaning.specs.Flow.{AreNexts, IsNext};
 ghost use Rattle.psy_flow.specs.Agents.{IsAgentOf, IsKnown};
 
 use psy_meaning::laws::{ends, sound, traps, ways};
@@ -15,4 +16,12 @@ pub fn known()
     ends();
     ways();
     traps();
+}
+
+/// The points that may follow each point of an agent of a text can be listed, and none of them is the head of its body.
+pub fn nexts()
+    ensures some { (unit : Whole) (number : ℕ) (agent : AgentDecl) → IsAgentOf unit number agent → (nexts : List (List ℕ)) × AreNexts unit.functions agent nexts }
+    ensures within { (unit : Whole) (number : ℕ) (agent : AgentDecl) → IsAgentOf unit number agent → (point to : ℕ) → IsNext unit.functions agent point to → (1 ≤ to) × (to < length agent.points) }
+{
+    known();
 }

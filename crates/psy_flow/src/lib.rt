@@ -8,7 +8,7 @@ mod depths;
 mod expressions;
 mod flow;
 mod gauge;
-mod laws;
+pub mod laws;
 mod next;
 mod points;
 mod reach;

@@ -3,6 +3,7 @@
 
 mod fault;
 mod graph;
+pub mod laws;
 
 pub use fault::GraphFault;
 pub use graph::{Graph, Node};

@@ -1,6 +1,7 @@
 mod AgentNames
 mod Bare
 pub mod CalleeRuns
+pub mod Demands
 pub mod Eaches
 pub mod Endings
 pub mod Fronts

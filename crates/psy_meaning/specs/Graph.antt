@@ -5,7 +5,7 @@ use Prim.Native.Nat.{◌∣◌}
 use Rattle.std.specs.List.{All, AllPairs, Contains}
 use Rattle.psy_base.specs.declared.edge.Edge.{Edge}
 use Rattle.psy_base.specs.declared.limits.TheConstants.{NODES, EDGES}
-use Rattle.psy_meaning.specs.Timing.{Timing, point_at, clock_at, following, budget_at, end_date, deadline, MayStart}
+use Rattle.psy_meaning.specs.Timing.{Timing, clock_at, following, budget_at, end_date, deadline, MayStart}
 
 -- The periods of the clocks that the agent's `advance`s name
 abbrev pub periods : Timing → List ℕ

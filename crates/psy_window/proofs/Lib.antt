@@ -1,4 +1,5 @@
 pub mod Cells
+pub mod Existence
 pub mod Lists
 pub mod Paths
 pub mod Tops

@@ -3,6 +3,7 @@
 
 mod fault;
 mod greatest;
+pub mod laws;
 mod span;
 mod table;
 #[cfg(test)]

@@ -1,0 +1,5 @@
+mod Causes
+mod Explored
+mod Ordered
+mod Timed
+mod Unique
