@@ -1,9 +1,10 @@
 //! The action graphs of a program's agents: which actions an agent may start, by point and phase, and which may follow which.
 #![tactic(auto)]
 
+mod build;
 mod fault;
 mod graph;
-pub mod laws;
 
+pub use build::build;
 pub use fault::GraphFault;
 pub use graph::{Graph, Node};

@@ -1,5 +1,0 @@
-mod Causes
-mod Explored
-mod Ordered
-mod Timed
-mod Unique
