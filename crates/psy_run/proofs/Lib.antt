@@ -1,3 +1,4 @@
 pub mod AskedLemmas
+pub mod Courses
 pub mod FormLemmas
 pub mod GrowthLemmas

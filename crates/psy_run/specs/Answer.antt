@@ -37,11 +37,19 @@ supplying unit until = do
   _ ← demanding unit graphs until
   pure graphs
 
--- `run PROG UNTIL`: so far a program of one form alone is run
+-- The program of the one form that is run so far
+abbrev pub forming : Whole → ℕ → Course Program
+forming unit until = step (IsForm unit until) (λ refusal. (refusal ≡ NotBuilt) × ((program : Program) → IsForm unit until program → ⊥))
+
+-- A program of those that are checked so far
+abbrev pub building : Whole → Course (Unit {0})
+building unit = unless (IsBuilt unit) (IsBuilt unit → ⊥) NotBuilt
+
+-- `run PROG UNTIL`
 abbrev pub running : Option Files → List ℕ → ℕ → Course Served
 running files name until = do
   unit ← compiling files name
-  program ← step (IsForm unit until) (λ refusal. (refusal ≡ NotBuilt) × ((program : Program) → IsForm unit until program → ⊥))
+  program ← forming unit until
   _ ← supplying unit until
   pure (Ran program)
 
@@ -49,7 +57,7 @@ running files name until = do
 abbrev pub checking : Option Files → List ℕ → ℕ → Course Served
 checking files name until = do
   unit ← compiling files name
-  _ ← unless (IsBuilt unit) (IsBuilt unit → ⊥) NotBuilt
+  _ ← building unit
   _ ← supplying unit until
   pure (Checked unit until)
 

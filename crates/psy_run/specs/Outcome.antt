@@ -1,15 +1,23 @@
 -- How a call of the top ends. The counts of faults are those of the shelf and the sink before and after it.
-use Rattle.std.specs.Prelude.{◌≡◌, ℕ, List, [], Option, None}
+use Rattle.std.specs.Prelude.{◌≡◌, ◌⊎◌, ℕ, ◌≤◌, List, [], length, Option, None}
+use Rattle.std.specs.List.{All}
+use Rattle.psy_base.specs.declared.limits.TheConstants.{WORD_BYTES}
 use Rattle.psy_door.specs.Faults.{Rose}
 use Rattle.psy_door.specs.Files.{Files}
 use Rattle.psy_door.specs.Growth.{Grew, GrewByFront}
+use Rattle.psy_kernel.specs.Meaning.{InRange, IsFeasible}
 use Rattle.psy_kernel.specs.Standing.{Progress}
 use Rattle.psy_log.specs.Forms.{read_line}
 use Rattle.psy_run.specs.declared.refusal.File.{File}
 use Rattle.psy_run.specs.declared.refusal.Refusal.{Refusal}
 use Rattle.psy_run.specs.declared.refusal.Stop.{Stop}
 use Rattle.psy_run.specs.declared.refusal.Stop.TheVariants as stop
-use Rattle.psy_run.specs.Answer.{Served, answering, text_of, left_of}
+use Rattle.psy_meaning.specs.Units.{IsBare}
+use Rattle.psy_graph.specs.Graphs.{IsSmall}
+use Rattle.psy_run.specs.declared.form.Program.{Program}
+use Rattle.psy_run.specs.declared.served.Served.{Served}
+use Rattle.psy_run.specs.declared.served.Served.TheVariants.{Ran, Checked, Drawn}
+use Rattle.psy_run.specs.Answer.{answering, text_of, left_of}
 use Rattle.psy_run.specs.Asked.{Command, Asks}
 use Rattle.psy_run.specs.Courses.{Course}
 use Rattle.psy_run.specs.Refusals.{status_of, line_of, file_name}
@@ -51,3 +59,20 @@ pub data Ends (seen : Seen) (old now : Option (List ℕ)) (before after : ℕ) :
   ends_memory : (command : Command) → Asks seen.words command → Grew old now [] → Ends seen old now before after 8 None
   ends_said : (status : ℕ) (text : List ℕ) (left : Option Progress) → MayAnswer seen status text left → Grew old now text → Ends seen old now before after status left
   ends_cut : (status : ℕ) (text : List ℕ) (left : Option Progress) → MayAnswer seen status text left → Rose before after → GrewByFront old now text → Ends seen old now before after 4 None
+
+-- The status is that one and the text was added, or a write failed: then it is 4, and a front was added.
+abbrev pub Says : Option (List ℕ) → Option (List ℕ) → ℕ → ℕ → ℕ → ℕ → List ℕ → Type 0
+Says old now before after answer status text = ((answer ≡ status) × Grew old now text) ⊎ ((answer ≡ 4) × Rose before after × GrewByFront old now text)
+
+-- A program can be run: its numbers are in their ranges, its actions fit between their dates, and its names are short.
+pub record CanRun (program : Program) : Type 0 where
+  pub range : InRange program.numbers
+  pub fits : IsFeasible program.numbers
+  pub variable : length program.variable ≤ WORD_BYTES
+  pub agent : length program.agent ≤ WORD_BYTES
+
+-- What is served can be: a program can be run, and the names of a unit are short.
+abbrev pub CanServe : Served → Type 0
+CanServe (Ran program) = CanRun program
+CanServe (Checked unit until) = IsBare unit
+CanServe (Drawn unit graphs costs) = IsBare unit × All IsSmall graphs

@@ -1,15 +1,15 @@
 //! The steps that judge a program's file, each with its refusal.
-ghost use Rattle.std.specs.Prelude.{ℕ, ◌×◌, ◌≡◌, ◌≤◌, List, length, IfOk, IfErr};
+ghost use Rattle.std.specs.Prelude.{ℕ, ◌≡◌, ◌≤◌, List, length, IfOk, IfErr};
 ghost use Rattle.psy_base.specs.declared.limits.TheConstants.{FILE_BYTES};
-ghost use Rattle.psy_tree.specs.declared.unit.Unit.{Unit as Whole};
+ghost use Rattle.psy_meaning.specs.Units.{IsOfText};
 ghost use Rattle.psy_run.specs.Answer.{compiling};
-ghost use Rattle.psy_run.specs.Courses.{Course};
 ghost use Rattle.psy_run.specs.Outcome.{Halts};
 ghost use Rattle.psy_run.specs.Steps.{reading, lexing, parsing, resolving};
 
 use crate::refusal::{File, Refusal, Stop};
 use psy_base::Items;
 use psy_door::{FetchFault, Shelf};
+use psy_meaning::laws::of_text;
 use psy_parse::ParseFault;
 use psy_rules::RuleFault;
 use psy_token::LexFault;
@@ -62,7 +62,6 @@ fn parse(alloc: Global, tokens: &Items<Token>) -> Result<Raw, Stop>
 
 // The program that a tree stands for.
 fn resolve(alloc: Global, raw: &Raw) -> Result<Unit, Stop>
-    requires { LawfulRaw raw.now }
     ensures ok { IfOk result (λ unit. (resolving raw.now).gives unit) }
     ensures err { (failed : List ℕ) (before after : ℕ) → IfErr result (Halts (resolving raw.now) failed before after) }
 {
@@ -77,9 +76,11 @@ fn resolve(alloc: Global, raw: &Raw) -> Result<Unit, Stop>
 /// The program in the file with this name.
 pub fn compile<F: Shelf>(alloc: Global, shelf: &mut F, name: &str) -> Result<Unit, Stop>
     ensures ok { IfOk result (λ unit. (compiling (F.files shelf.old) name.now).gives unit) }
+    ensures text { IfOk result IsOfText }
     ensures err { IfErr result (Halts (compiling (F.files shelf.old) name.now) (F.failed_name shelf.new) (F.faults shelf.old) (F.faults shelf.new)) }
     ensures shelf { (F.faults shelf.old ≤ F.faults shelf.new) × (F.files shelf.new ≡ F.files shelf.old) }
 {
+    of_text();
     let bytes = read(alloc, shelf, File::Program, name)?;
     let tokens = lex(alloc, &bytes)?;
     let raw = parse(alloc, &tokens)?;

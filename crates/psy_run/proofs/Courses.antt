@@ -1,0 +1,68 @@
+-- Courses step by step: how they are left, that they come to one end, and that they come to some.
+use Rattle.std.proofs.Common.{◌≡◌, subst, ℕ, List, ◌⊎◌, inl, inr}
+use Rattle.psy_door.specs.Faults.{Rose}
+use Rattle.psy_run.specs.declared.refusal.File.{File}
+use Rattle.psy_run.specs.declared.refusal.Refusal.{Refusal}
+use Rattle.psy_run.specs.declared.refusal.Stop.{Stop}
+use Rattle.psy_run.specs.Courses.{Course, in_row}
+use Rattle.psy_run.specs.Outcome.{Halts, halts_refused, halts_unread, halts_memory}
+
+-- ---- in a row
+
+pub gives_then : {X Y : Type 0} (c : Course X) (f : X → Course Y) (x : X) (y : Y) → c.gives x → (f x).gives y → (in_row c f).gives y
+unfolding in_row
+gives_then c f x y first later = (x, first, later)
+
+pub halts_first : {X Y : Type 0} (c : Course X) (f : X → Course Y) (failed : List ℕ) (before after : ℕ) (stop : Stop) → Halts c failed before after stop → Halts (in_row c f) failed before after stop
+unfolding in_row
+halts_first c f failed before after _ (halts_refused refusal stops) = halts_refused refusal (inl stops)
+halts_first c f failed before after _ (halts_unread file reads rose) = halts_unread file (inl reads) rose
+halts_first c f failed before after _ halts_memory = halts_memory
+
+pub halts_later : {X Y : Type 0} (c : Course X) (f : X → Course Y) (failed : List ℕ) (before after : ℕ) (x : X) (stop : Stop) → c.gives x → Halts (f x) failed before after stop → Halts (in_row c f) failed before after stop
+unfolding in_row
+halts_later c f failed before after x _ gives (halts_refused refusal stops) = halts_refused refusal (inr (x, gives, stops))
+halts_later c f failed before after x _ gives (halts_unread file reads rose) = halts_unread file (inr (x, gives, reads)) rose
+halts_later c f failed before after x _ gives halts_memory = halts_memory
+
+-- ---- one end
+
+-- It gives one thing at most, and stops with one refusal at most, and not both.
+pub record IsOne {X : Type 0} (c : Course X) : Type 0 where
+  pub gift : (x y : X) → c.gives x → c.gives y → x ≡ y
+  pub stop : (r s : Refusal) → c.stops r → c.stops s → r ≡ s
+  pub apart : (x : X) (r : Refusal) → c.gives x → c.stops r → ⊥
+
+pub one_then : {X Y : Type 0} (c : Course X) (f : X → Course Y) → IsOne c → ((x : X) → c.gives x → IsOne (f x)) → IsOne (in_row c f)
+unfolding in_row
+one_then c f one later = record {
+  gift = λ x y p q. (later q.0 q.1.0).gift x y (subst (λ z. (f z).gives x) (one.gift p.0 q.0 p.1.0 q.1.0) p.1.1) q.1.1;
+  stop = λ r s p q. elim p [
+    | inl u ↦ elim q [
+      | inl v ↦ one.stop r s u v
+      | inr v ↦ absurd (one.apart v.0 r v.1.0 u)
+    ]
+    | inr u ↦ elim q [
+      | inl v ↦ absurd (one.apart u.0 s u.1.0 v)
+      | inr v ↦ (later v.0 v.1.0).stop r s (subst (λ z. (f z).stops r) (one.gift u.0 v.0 u.1.0 v.1.0) u.1.1) v.1.1
+    ]
+  ];
+  apart = λ y r p q. elim q [
+    | inl u ↦ one.apart p.0 r p.1.0 u
+    | inr u ↦ (later u.0 u.1.0).apart y r (subst (λ z. (f z).gives y) (one.gift p.0 u.0 p.1.0 u.1.0) p.1.1) u.1.1
+  ];
+}
+
+-- ---- some end
+
+-- It gives something, or stops with a refusal.
+abbrev pub IsSome : {X : Type 0} → Course X → Type 0
+IsSome {X = X} c = ((x : X) × c.gives x) ⊎ ((refusal : Refusal) × c.stops refusal)
+
+pub some_then : {X Y : Type 0} (c : Course X) (f : X → Course Y) → IsSome c → ((x : X) → c.gives x → IsSome (f x)) → IsSome (in_row c f)
+unfolding in_row
+some_then c f (inr stop) later = inr (stop.0, inl stop.1)
+some_then c f (inl gift) later = elim (later gift.0 gift.1) [
+  | inl next ↦ inl (next.0, gift.0, gift.1, next.1)
+  | inr stop ↦ inr (stop.0, inr (gift.0, gift.1, stop.1))
+]
