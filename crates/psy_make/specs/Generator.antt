@@ -1,5 +1,5 @@
--- The numbers that a program is made from: those of a linear congruential generator (Lehmer 1951), with the multiplier
--- 1664525 and the increment 1013904223.
+-- The numbers of a program for trials: a linear congruential generator, with the constants of Press et al., Numerical
+-- Recipes, 1992, and what is drawn from it.
 use Rattle.std.specs.Prelude.{ℕ, zero, suc, ◌+◌, ◌*◌, ◌/◌, ◌%◌, ◌^◌, List, map}
 use Rattle.std.specs.List.{range_with_len}
 use Rattle.psy_make.specs.declared.agent.Agent.{Agent}
@@ -8,20 +8,20 @@ use Rattle.psy_make.specs.declared.agent.Agent.{Agent}
 abbrev pub next : ℕ → ℕ
 next x = (x * 1664525 + 1013904223) % 2 ^ 32
 
--- The i-th number from the seed, which is the 0th.
+-- The i-th number; the 0th is the seed.
 abbrev pub drawn : ℕ → ℕ → ℕ
 drawn seed zero = seed
 drawn seed (suc i) = next (drawn seed i)
 
--- The i-th draw, counted from 1, if it is a draw of n: the upper half of that number, modulo n.
+-- What the i-th draw gives, counted from 1, where it is a draw of n: the upper half of the i-th number, modulo n.
 abbrev pub draw : ℕ → ℕ → ℕ → ℕ
 draw seed i n = drawn seed i / 2 ^ 16 % n
 
--- How many agents there are: draw 1.
+-- How many agents there are: the first draw.
 abbrev pub count_of : ℕ → ℕ
 count_of seed = 8 + draw seed 1 9
 
--- The numbers of agent i: three draws, behind those of the agents before it.
+-- Agent i: its numbers are three draws, behind those of the agents before it.
 abbrev pub agent_of : ℕ → ℕ → Agent
 agent_of seed i = record {
   number = i;

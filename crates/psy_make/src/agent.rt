@@ -8,13 +8,13 @@ use std::alloc::Global;
 /// The numbers of an agent of the made program, and of the variable that it owns.
 #[derive(Clone, Copy, Debug, PartialEq, Eq)]
 pub struct Agent {
-    /// Its place among the agents, from 0: it is named A and its variable v with this number.
+    /// Its place among the agents, from 0. Its name is A with this number, and that of its variable v with it.
     pub number: u32,
-    /// The clock that it advances by: c0, c1 or c2.
+    /// The number of its clock: 0, 1 or 2.
     pub clock: u32,
-    /// The variable that it looks at.
+    /// The number of the variable that it looks at.
     pub looks_at: u32,
-    /// What it multiplies by.
+    /// What it multiplies by, from 1 to 9.
     pub factor: u32,
 }
 

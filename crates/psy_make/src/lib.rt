@@ -1,8 +1,9 @@
-//! A program made from a number: the text of a large program that is valid whatever the number is.
+//! Programs for trials, made from numbers: for each seed the text of one with 8 to 16 agents.
 #![tactic(auto)]
 
 mod agent;
 mod generator;
+pub mod laws;
 mod lines;
 #[cfg(test)]
 mod tests;
