@@ -72,10 +72,20 @@ cut_of functions agent point (Some n) next ((to, met, asked, way, same), most) =
   refl,
 )
 
+-- The greatest cost from a point, cut at its limit, is what the tops of its rest say.
+pub greatest_cost : (functions : List FunctionDecl) (agent : AgentDecl) (point : ℕ) → NoneAdvances functions → (to : ℕ) × IsNext functions agent point to → IsCut (HasCost functions agent point) COST (unwrap_or (capped_count gauge.Steps (pieces_tops gauge.Steps None (called (calls_most gauge.Steps functions)) (rest agent.stmts point)).to) 0)
+greatest_cost functions agent point none next =
+    let pieces = rest agent.stmts point in
+    let calls = called (calls_most gauge.Steps functions) in
+    cut_of functions agent point (pieces_tops gauge.Steps None calls pieces).to next (top_to gauge.Steps None functions calls pieces none (row_of gauge.Steps functions none))
+
+pub some_cost : (functions : List FunctionDecl) (agent : AgentDecl) (point : ℕ) → NoneAdvances functions → (to : ℕ) × IsNext functions agent point to → (cost : ℕ) × IsCut (HasCost functions agent point) COST cost
+some_cost functions agent point none next = (_, greatest_cost functions agent point none next)
+
 pub worst_cut : (functions : List FunctionDecl) (agent : AgentDecl) (point : ℕ) (t : Tops) (row : List ℕ) → NoneAdvances functions → (to : ℕ) × IsNext functions agent point to → row ≡ capped_from gauge.Steps [] functions → t ≡ capped_tops gauge.Steps (pieces_tops gauge.Steps None (called row) (rest agent.stmts point)) → IsCut (HasCost functions agent point) COST (unwrap_or t.to 0)
 worst_cut functions agent point t row none next e h =
     let pieces = rest agent.stmts point in
     let calls = called (calls_most gauge.Steps functions) in
     let there : t ≡ capped_tops gauge.Steps (pieces_tops gauge.Steps None calls pieces) = h ∙ ap (λ r. capped_tops gauge.Steps (pieces_tops gauge.Steps None (called r) pieces)) e ∙ capped_calls gauge.Steps None functions pieces in
     subst (λ o. IsCut (HasCost functions agent point) COST (unwrap_or o 0)) (sym (ap (λ (u : Tops). u.to) there))
-    (cut_of functions agent point (pieces_tops gauge.Steps None calls pieces).to next (top_to gauge.Steps None functions calls pieces none (row_of gauge.Steps functions none)))
+    (greatest_cost functions agent point none next)

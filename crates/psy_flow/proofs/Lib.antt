@@ -5,6 +5,7 @@ mod CallTops
 mod Capped
 mod CappedCosts
 mod CostRows
+mod Cuts
 mod Greatest
 mod Homes
 mod Layers

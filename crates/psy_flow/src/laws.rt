@@ -1,9 +1,10 @@
 //! What the laws of the definitions say of the agents of a text.
 
-ghost use Rattle.std.specs.Prelude.{◌<◌, ◌≤◌, ℕ, List, length};
+ghost use Rattle.std.specs.Prelude.{◌≡◌, ◌<◌, ◌≤◌, ℕ, List, length};
+ghost use Rattle.psy_base.specs.declared.limits.TheConstants.{COST};
 ghost use Rattle.psy_tree.specs.declared.unit.AgentDecl.{AgentDecl};
 ghost use Rattle.psy_tree.specs.declared.unit.Unit.{Unit as Whole};
-ghost use Rattle.psy_meaning.specs.Flow.{AreNexts, IsNext};
+ghost use Rattle.psy_meaning.specs.Flow.{AreNexts, HasCost, IsCut, IsNext};
 ghost use Rattle.psy_flow.specs.Agents.{IsAgentOf, IsKnown};
 
 use psy_meaning::laws::{ends, sound, traps, ways};
@@ -22,6 +23,14 @@ pub fn known()
 pub fn nexts()
     ensures some { (unit : Whole) (number : ℕ) (agent : AgentDecl) → IsAgentOf unit number agent → (nexts : List (List ℕ)) × AreNexts unit.functions agent nexts }
     ensures within { (unit : Whole) (number : ℕ) (agent : AgentDecl) → IsAgentOf unit number agent → (point to : ℕ) → IsNext unit.functions agent point to → (1 ≤ to) × (to < length agent.points) }
+{
+    known();
+}
+
+/// From each point of an agent of a text an action has a greatest cost, cut at 1,000,000,000, and just one.
+pub fn costs()
+    ensures some { (unit : Whole) (number : ℕ) (agent : AgentDecl) (point : ℕ) → IsAgentOf unit number agent → point < length agent.points → (cost : ℕ) × IsCut (HasCost unit.functions agent point) COST cost }
+    ensures one { (unit : Whole) (number : ℕ) (agent : AgentDecl) (point cost other : ℕ) → IsAgentOf unit number agent → IsCut (HasCost unit.functions agent point) COST cost → IsCut (HasCost unit.functions agent point) COST other → cost ≡ other }
 {
     known();
 }

@@ -1,0 +1,12 @@
+//! Programs for trials, made from numbers: for each seed the text of one with 8 to 16 agents.
+#![tactic(auto)]
+
+mod agent;
+mod generator;
+pub mod laws;
+mod lines;
+#[cfg(test)]
+mod tests;
+mod text;
+
+pub use text::make;
