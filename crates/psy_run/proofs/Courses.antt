@@ -36,20 +36,20 @@ pub record IsOne {X : Type 0} (c : Course X) : Type 0 where
 pub one_then : {X Y : Type 0} (c : Course X) (f : X → Course Y) → IsOne c → ((x : X) → c.gives x → IsOne (f x)) → IsOne (in_row c f)
 unfolding in_row
 one_then c f one later = record {
-  gift = λ x y p q. (later q.0 q.1.0).gift x y (subst (λ z. (f z).gives x) (one.gift p.0 q.0 p.1.0 q.1.0) p.1.1) q.1.1;
+  gift = λ x y p q. (later q.0 q.1).gift x y (subst (λ z. (f z).gives x) (one.gift p.0 q.0 p.1 q.1) p.2) q.2;
   stop = λ r s p q. elim p [
     | inl u ↦ elim q [
       | inl v ↦ one.stop r s u v
-      | inr v ↦ absurd (one.apart v.0 r v.1.0 u)
+      | inr v ↦ absurd (one.apart v.0 r v.1 u)
     ]
     | inr u ↦ elim q [
-      | inl v ↦ absurd (one.apart u.0 s u.1.0 v)
-      | inr v ↦ (later v.0 v.1.0).stop r s (subst (λ z. (f z).stops r) (one.gift u.0 v.0 u.1.0 v.1.0) u.1.1) v.1.1
+      | inl v ↦ absurd (one.apart u.0 s u.1 v)
+      | inr v ↦ (later v.0 v.1).stop r s (subst (λ z. (f z).stops r) (one.gift u.0 v.0 u.1 v.1) u.2) v.2
     ]
   ];
   apart = λ y r p q. elim q [
-    | inl u ↦ one.apart p.0 r p.1.0 u
-    | inr u ↦ (later u.0 u.1.0).apart y r (subst (λ z. (f z).gives y) (one.gift p.0 u.0 p.1.0 u.1.0) p.1.1) u.1.1
+    | inl u ↦ one.apart p.0 r p.1 u
+    | inr u ↦ (later u.0 u.1).apart y r (subst (λ z. (f z).gives y) (one.gift p.0 u.0 p.1 u.1) p.2) u.2
   ];
 }
 
@@ -63,6 +63,6 @@ pub some_then : {X Y : Type 0} (c : Course X) (f : X → Course Y) → IsSome c 
 unfolding in_row
 some_then c f (inr stop) later = inr (stop.0, inl stop.1)
 some_then c f (inl gift) later = elim (later gift.0 gift.1) [
-  | inl next ↦ inl (next.0, gift.0, gift.1, next.1)
+  | inl next ↦ inl (next.0, (gift.0, gift.1, next.1))
   | inr stop ↦ inr (stop.0, inr (gift.0, gift.1, stop.1))
 ]

@@ -5,3 +5,4 @@ mod asked;
 mod form;
 mod refusal;
 mod served;
+mod steps;

@@ -18,7 +18,7 @@ use std::alloc::Global;
 
 // The bytes of a file.
 fn read<F: Shelf>(alloc: Global, shelf: &mut F, file: File, name: &str) -> Result<Vec<u8>, Stop>
-    ensures ok { IfOk result (λ bytes. (reading (F.files shelf.old) file name.now).gives bytes) }
+    ensures ok { IfOk result (λ bytes. (reading (F.files shelf.old) file name.now).gives bytes.items) }
     ensures err { IfErr result (Halts (reading (F.files shelf.old) file name.now) (F.failed_name shelf.new) (F.faults shelf.old) (F.faults shelf.new)) }
     ensures shelf { (F.faults shelf.old ≤ F.faults shelf.new) × (F.files shelf.new ≡ F.files shelf.old) }
 {
@@ -32,10 +32,10 @@ fn read<F: Shelf>(alloc: Global, shelf: &mut F, file: File, name: &str) -> Resul
 
 // The tokens of a text.
 fn lex(alloc: Global, bytes: &Vec<u8>) -> Result<Items<Token>, Stop>
-    requires { length bytes.now ≤ FILE_BYTES }
-    ensures ok { IfOk result (λ tokens. (lexing bytes.now).gives tokens) }
+    requires { length bytes.now.items ≤ FILE_BYTES }
+    ensures ok { IfOk result (λ tokens. (lexing bytes.now.items).gives tokens) }
     ensures few { IfOk result (λ tokens. length tokens ≤ FILE_BYTES) }
-    ensures err { (failed : List ℕ) (before after : ℕ) → IfErr result (Halts (lexing bytes.now) failed before after) }
+    ensures err { (failed : List ℕ) (before after : ℕ) → IfErr result (Halts (lexing bytes.now.items) failed before after) }
 {
     match psy_token::lex(alloc, bytes.as_slice()) {
         Ok(tokens) => Ok(tokens),
