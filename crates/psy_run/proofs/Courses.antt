@@ -1,5 +1,6 @@
 -- Courses step by step: how they are left, that they come to one end, and that they come to some.
-use Rattle.std.proofs.Common.{◌≡◌, subst, ℕ, List, ◌⊎◌, inl, inr}
+use Rattle.std.proofs.Common.{◌≡◌, sym, subst, ℕ, List, ◌⊎◌, inl, inr, Result, Ok, Err, IfOk, IfErr}
+use Rattle.std.specs.Result.{IsErrAnd}
 use Rattle.psy_door.specs.Faults.{Rose}
 use Rattle.psy_run.specs.declared.refusal.File.{File}
 use Rattle.psy_run.specs.declared.refusal.Refusal.{Refusal}
@@ -24,6 +25,20 @@ unfolding in_row
 halts_later c f failed before after x _ gives (halts_refused refusal stops) = halts_refused refusal (inr (x, gives, stops))
 halts_later c f failed before after x _ gives (halts_unread file reads rose) = halts_unread file (inr (x, gives, reads)) rose
 halts_later c f failed before after x _ gives halts_memory = halts_memory
+
+-- what `?` hands on, where it hands on the stop itself
+pub halts_exit : {X Y : Type 0} (c : Course X) (failed : List ℕ) (before after : ℕ) (stop : Stop) (result : Result Y Stop) → IsErrAnd result (λ handed. handed ≡ stop) → Halts c failed before after stop → IfErr result (Halts c failed before after)
+halts_exit c failed before after stop (Ok y) is halts = absurd is
+halts_exit c failed before after stop (Err handed) is halts = subst (Halts c failed before after) (sym is) halts
+
+-- the last of the steps in a row
+pub halts_last : {X Y Z : Type 0} (c : Course X) (f : X → Course Y) (failed : List ℕ) (before after : ℕ) (x : X) (result : Result Z Stop) → c.gives x → IfErr result (Halts (f x) failed before after) → IfErr result (Halts (in_row c f) failed before after)
+halts_last c f failed before after x (Ok z) gives halts = tt
+halts_last c f failed before after x (Err stop) gives halts = halts_later c f failed before after x stop gives halts
+
+pub gives_last : {X Y : Type 0} {E : Type 0} (c : Course X) (f : X → Course Y) (x : X) (result : Result Y E) → c.gives x → IfOk result (λ y. (f x).gives y) → IfOk result (λ y. (in_row c f).gives y)
+gives_last c f x (Ok y) first later = gives_then c f x y first later
+gives_last c f x (Err e) first later = tt
 
 -- ---- one end
 
