@@ -5,6 +5,7 @@ use Rattle.psy_door.specs.Faults.{Rose}
 use Rattle.psy_run.specs.declared.refusal.File.{File}
 use Rattle.psy_run.specs.declared.refusal.Refusal.{Refusal}
 use Rattle.psy_run.specs.declared.refusal.Stop.{Stop}
+use Rattle.psy_run.specs.declared.refusal.Stop.TheVariants.{Memory}
 use Rattle.psy_run.specs.Courses.{Course, in_row}
 use Rattle.psy_run.specs.Outcome.{Halts, halts_refused, halts_unread, halts_memory}
 
@@ -25,6 +26,10 @@ unfolding in_row
 halts_later c f failed before after x _ gives (halts_refused refusal stops) = halts_refused refusal (inr (x, gives, stops))
 halts_later c f failed before after x _ gives (halts_unread file reads rose) = halts_unread file (inr (x, gives, reads)) rose
 halts_later c f failed before after x _ gives halts_memory = halts_memory
+
+-- want of memory, wherever it comes
+pub halts_for_memory : {X : Type 0} (c : Course X) (failed : List ℕ) (before after : ℕ) (stop : Stop) → stop ≡ Memory → Halts c failed before after stop
+halts_for_memory c failed before after stop is = subst (Halts c failed before after) (sym is) halts_memory
 
 -- what `?` hands on, where it hands on the stop itself
 pub halts_exit : {X Y : Type 0} (c : Course X) (failed : List ℕ) (before after : ℕ) (stop : Stop) (result : Result Y Stop) → IsErrAnd result (λ handed. handed ≡ stop) → Halts c failed before after stop → IfErr result (Halts c failed before after)

@@ -1,4 +1,7 @@
 pub mod AskedLemmas
 pub mod Courses
+pub mod FormDemand
 pub mod FormLemmas
 pub mod GrowthLemmas
+pub mod LookLemmas
+pub mod Supplied

@@ -2,7 +2,11 @@
 #![tactic(auto)]
 
 mod asked;
+mod built;
+mod commands;
+mod costs;
 mod form;
 mod refusal;
 mod served;
 mod steps;
+mod supply;

@@ -1,0 +1,21 @@
+use Rattle.std.proofs.Common.{◌≡◌, refl, sym, subst}
+use Rattle.psy_run.specs.declared.refusal.Stop.TheVariants.{Memory}
+use Rattle.psy_run.specs.Answer.{compiling}
+use Rattle.psy_run.specs.Outcome.{halts_memory}
+use Rattle.psy_run.specs.Steps.{graphing, costing}
+use Rattle.psy_run.proofs.Courses.{gives_then, halts_exit, halts_first, halts_later, halts_for_memory}
+use Rattle.psy_run.proofs.commands.draw.Goals as goal
+
+pub returns-in_err-unit-clause-err : goal.returns-in_err-unit-clause-err
+returns-in_err-unit-clause-err g c = halts_exit _ _ _ _ _ _ c.from_residual.ensures.1 (halts_first (compiling _ _) _ _ _ _ _ c.in_err-unit.ensures.err)
+
+pub returns-in_err-graphs-clause-err : goal.returns-in_err-graphs-clause-err
+returns-in_err-graphs-clause-err g c = halts_exit _ _ _ _ _ _ c.from_residual-in_err-graphs.ensures.1
+    (halts_later (compiling _ _) _ _ _ _ _ _ c.in_ok-unit.ensures.ok (halts_first (graphing _) _ _ _ _ _ (c.in_err-graphs.ensures.err _ _ _)))
+
+pub returns-in_err-costs-clause-err : goal.returns-in_err-costs-clause-err
+returns-in_err-costs-clause-err g c = halts_exit _ _ _ _ _ _ c.from_residual-in_err-costs.ensures.1 (halts_for_memory _ _ _ _ _ c.in_err-costs.ensures.err)
+
+pub returns-clause-ok : goal.returns-clause-ok
+returns-clause-ok g c =
+    gives_then (compiling _ _) _ _ _ c.in_ok-unit.ensures.ok (gives_then (graphing _) _ _ _ c.in_ok-graphs.ensures.ok (gives_then (costing _) _ _ _ c.in_ok-costs.ensures.ok refl))
