@@ -2,3 +2,6 @@ pub mod AskedLemmas
 pub mod Courses
 pub mod FormLemmas
 pub mod GrowthLemmas
+mod WritingLemmas
+mod LookLemmas
+mod TextLemmas

@@ -2,7 +2,9 @@
 #![tactic(auto)]
 
 mod asked;
+mod built;
 mod form;
 mod refusal;
 mod served;
 mod steps;
+mod texts;
