@@ -5,3 +5,4 @@ pub mod GrowthLemmas
 mod WritingLemmas
 mod LookLemmas
 mod TextLemmas
+mod RowLemmas

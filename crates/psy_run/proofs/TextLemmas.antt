@@ -43,24 +43,41 @@ nodes_split costs xs n = ap (nodes_text costs 0) (sym (take-append-drop n xs)) �
 
 -- ---- agents, with graphs and costs
 
+agents_next : (agents : List AgentDecl) (graphs : List Graph) (costs : List (List ℕ)) (i : ℕ) (agent : AgentDecl) (graph : Graph) (list : List ℕ)
+    → i < length agents → i < length graphs → i < length costs
+    → graph_text (take (suc i) agents) (take (suc i) graphs) (take (suc i) costs)
+        ≡ graph_text (take i agents) (take i graphs) (take i costs) ++ agent_text (get_or agents i agent) (get_or graphs i graph) (get_or costs i list)
+agents_next [] graphs costs i agent graph list less less' less'' = absurd (omega (arith, less))
+agents_next (a ∷ ms) [] costs i agent graph list less less' less'' = absurd (omega (arith, less'))
+agents_next (a ∷ ms) (g ∷ gs) [] i agent graph list less less' less'' = absurd (omega (arith, less''))
+agents_next (a ∷ ms) (g ∷ gs) (l ∷ ls) zero agent graph list less less' less'' = append-nil (agent_text a g l)
+agents_next (a ∷ ms) (g ∷ gs) (l ∷ ls) (suc i) agent graph list less less' less'' =
+    ap (λ rest. agent_text a g l ++ rest) (agents_next ms gs ls i agent graph list (omega (arith, less)) (omega (arith, less')) (omega (arith, less'')))
+    ∙ sym (append_assoc (agent_text a g l) (graph_text (take i ms) (take i gs) (take i ls)) (agent_text (get_or ms i agent) (get_or gs i graph) (get_or ls i list)))
+
 pub agents_more : (agents : List AgentDecl) (graphs : List Graph) (costs : List (List ℕ)) (i : ℕ) (agent : AgentDecl) (graph : Graph) (list : List ℕ)
     → i < length agents → i < length graphs → i < length costs
     → graph_text (take (i + 1) agents) (take (i + 1) graphs) (take (i + 1) costs)
         ≡ graph_text (take i agents) (take i graphs) (take i costs) ++ agent_text (get_or agents i agent) (get_or graphs i graph) (get_or costs i list)
-agents_more [] graphs costs i agent graph list less less' less'' = absurd (omega (arith, less))
-agents_more (a ∷ ms) [] costs i agent graph list less less' less'' = absurd (omega (arith, less'))
-agents_more (a ∷ ms) (g ∷ gs) [] i agent graph list less less' less'' = absurd (omega (arith, less''))
-agents_more (a ∷ ms) (g ∷ gs) (l ∷ ls) zero agent graph list less less' less'' = append-nil (agent_text a g l)
-agents_more (a ∷ ms) (g ∷ gs) (l ∷ ls) (suc i) agent graph list less less' less'' =
-    ap (λ rest. agent_text a g l ++ rest) (agents_more ms gs ls i agent graph list (omega (arith, less)) (omega (arith, less')) (omega (arith, less'')))
-    ∙ sym (append_assoc (agent_text a g l) (graph_text (take i ms) (take i gs) (take i ls)) (agent_text (get_or ms i agent) (get_or gs i graph) (get_or ls i list)))
+agents_more agents graphs costs i agent graph list less less' less'' =
+    let on : i + 1 ≡ suc i = omega arith in
+    ap (λ n. graph_text (take n agents) (take n graphs) (take n costs)) on ∙ agents_next agents graphs costs i agent graph list less less' less''
+
+no_graphs : (agents : List AgentDecl) (costs : List (List ℕ)) → graph_text agents [] costs ≡ []
+no_graphs [] costs = refl
+no_graphs (a ∷ ms) costs = refl
+
+no_costs : (agents : List AgentDecl) (graphs : List Graph) → graph_text agents graphs [] ≡ []
+no_costs [] graphs = refl
+no_costs (a ∷ ms) [] = refl
+no_costs (a ∷ ms) (g ∷ gs) = refl
 
 pub agents_split : (agents : List AgentDecl) (graphs : List Graph) (costs : List (List ℕ)) (n : ℕ)
     → graph_text agents graphs costs ≡ graph_text (take n agents) (take n graphs) (take n costs) ++ graph_text (drop n agents) (drop n graphs) (drop n costs)
 agents_split agents graphs costs zero = refl
 agents_split [] graphs costs (suc n) = refl
-agents_split (a ∷ ms) [] costs (suc n) = refl
-agents_split (a ∷ ms) (g ∷ gs) [] (suc n) = refl
+agents_split (a ∷ ms) [] costs (suc n) = sym (no_graphs (drop n ms) (drop (suc n) costs))
+agents_split (a ∷ ms) (g ∷ gs) [] (suc n) = sym (no_costs (drop n ms) (drop n gs))
 agents_split (a ∷ ms) (g ∷ gs) (l ∷ ls) (suc n) =
     ap (λ rest. agent_text a g l ++ rest) (agents_split ms gs ls n) ∙ sym (append_assoc (agent_text a g l) (graph_text (take n ms) (take n gs) (take n ls)) (graph_text (drop n ms) (drop n gs) (drop n ls)))
 

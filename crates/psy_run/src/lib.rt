@@ -3,6 +3,7 @@
 
 mod asked;
 mod built;
+mod costs;
 mod form;
 mod refusal;
 mod served;
