@@ -8,4 +8,5 @@ mod form;
 mod refusal;
 mod served;
 mod steps;
+mod supply;
 mod texts;
