@@ -1,3 +1,7 @@
+mod LookLemmas
+mod RowLemmas
+mod TextLemmas
+mod WritingLemmas
 pub mod AskedLemmas
 pub mod Courses
 pub mod FormDemand

@@ -8,3 +8,4 @@ pub mod Outcome
 pub mod Refusals
 pub mod Steps
 pub mod Texts
+pub mod Tables

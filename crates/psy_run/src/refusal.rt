@@ -4,8 +4,9 @@ ghost use Rattle.psy_base.specs.declared.limits.TheConstants.{WORD_BYTES};
 ghost use Rattle.psy_run.specs.Refusals.{status_of, line_of, file_name, count_name, count_limit};
 ghost use Rattle.psy_log.specs.Forms.{name_of, limit_line, read_line, refused_line};
 ghost use Rattle.psy_log.specs.Forms.{line_of as note_line};
+ghost use Rattle.psy_run.specs.declared.refusal.Stop.TheVariants.{Memory as no_memory};
 
-use psy_base::limits;
+use psy_base::{Memory, limits};
 use psy_log::{Line, Note};
 use psy_tree::{Count, LexKind, RuleKind};
 
@@ -75,6 +76,14 @@ pub enum Stop {
     Unread(File),
     /// Want of memory.
     Memory,
+}
+
+impl From<Memory> for Stop {
+    ghost from_gives = { λ _ stop. stop ≡ no_memory };
+
+    fn from(_memory: Memory) -> Stop {
+        Stop::Memory
+    }
 }
 
 impl Refusal {

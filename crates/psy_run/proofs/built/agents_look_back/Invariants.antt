@@ -1,0 +1,7 @@
+use Rattle.std.proofs.Common.{◌≡◌, false, take}
+use Rattle.std.specs.List.{list_any}
+use Rattle.psy_run.specs.Built.{agent_looks}
+use Rattle.psy_run.proofs.built.agents_look_back.Given as goal
+
+abbrev pub invariant-agents : goal.invariant-agents
+invariant-agents l = list_any agent_looks (take l.agent-index l.agents) ≡ false

@@ -1,0 +1,11 @@
+use Rattle.std.proofs.Common.{◌≡◌, ℕ, ◌<◌, List, length, get_or, slice_get, Some, take}
+use Rattle.psy_graph.specs.declared.graph.Graph.{Graph}
+use Rattle.psy_run.specs.Tables.{AreWeights}
+use Rattle.psy_run.proofs.supply.all_weights.Given as goal
+
+abbrev pub invariant-graphs : goal.invariant-graphs
+invariant-graphs l =
+    record {
+      count : length l.lists ≡ l.graph-index;
+      each : (i : ℕ) (list : List ℕ) → slice_get l.lists i ≡ Some list → (graph : Graph) → slice_get l.fn.graphs.now i ≡ Some graph → AreWeights l.until graph list;
+    }

@@ -1,0 +1,11 @@
+use Rattle.std.proofs.Common.{◌≤◌, take}
+use Rattle.psy_door.specs.Growth.{Grew}
+use Rattle.psy_run.specs.Texts.{graph_text}
+use Rattle.psy_run.proofs.texts.write_graph.Given as goal
+
+abbrev pub invariant-agents : goal.invariant-agents
+invariant-agents g l =
+    record {
+      counted : g.S.Sink.faults l.fn.out ≤ g.S.Sink.faults l.out;
+      grew : Grew (g.S.Sink.held l.fn.out) (g.S.Sink.held l.out) (graph_text (take l.number l.unit.agents) (take l.number l.graphs) (take l.number l.costs));
+    }

@@ -1,0 +1,113 @@
+//! The steps on the action graphs of a program: whether the processor can supply what its agents may demand.
+ghost use Rattle.std.specs.Prelude.{ℕ, ◌≡◌, ◌+◌, ◌^◌, ◌<◌, ◌≤◌, ◌⊎◌, List, [], ◌∷◌, ◌++◌, length, IfOk, IfErr, OnOk};
+ghost use Rattle.std.specs.List.{All, Any};
+ghost use Rattle.psy_base.specs.declared.limits.TheConstants.{AGENTS};
+ghost use Rattle.psy_graph.specs.declared.graph.Graph.{Graph as Drawn};
+ghost use Rattle.psy_graph.specs.Graphs.{IsSmall};
+ghost use Rattle.psy_meaning.specs.Units.{IsOfText};
+ghost use Rattle.psy_run.specs.Answer.{supplying};
+ghost use Rattle.psy_run.specs.Outcome.{Halts};
+ghost use Rattle.psy_run.specs.Steps.{graphing, demanding, PassesCells};
+ghost use Rattle.psy_run.specs.Tables.{IsDrawn, AreWeights, AreAllWeights};
+
+use crate::refusal::{Refusal, Stop};
+use psy_base::{Items, Memory};
+use psy_demand::{Verdict, feasible};
+use psy_graph::{Graph, GraphFault, build};
+use psy_tree::Unit;
+use psy_window::{Span, WindowFault, weights};
+use std::alloc::Global;
+
+/// The action graphs of a program's agents.
+pub fn graphs(alloc: Global, unit: &Unit) -> Result<Items<Graph>, Stop>
+    requires text { IsOfText unit.now }
+    ensures ok { IfOk result (λ graphs. (graphing unit.now).gives graphs) }
+    ensures edges { IfOk result (All IsDrawn) }
+    ensures small { IfOk result (All IsSmall) }
+    ensures err { (failed : List ℕ) (before after : ℕ) → IfErr result (Halts (graphing unit.now) failed before after) }
+{
+    match build(alloc, unit) {
+        Ok(graphs) => Ok(graphs),
+        Err(GraphFault::Nodes(_)) => Err(Stop::Refused(Refusal::Nodes)),
+        Err(GraphFault::Edges(_)) => Err(Stop::Refused(Refusal::Edges)),
+        Err(GraphFault::Memory) => Err(Stop::Memory),
+    }
+}
+
+// The greatest budgets of an agent's paths whose last action is due within each length up to this one.
+fn weights_of(alloc: Global, graph: &Graph, until: u32) -> Result<Items<u64>, Stop>
+    requires edges { IsDrawn graph.now }
+    requires few { IsSmall graph.now }
+    ensures ok { IfOk result (AreWeights until graph.now) }
+    ensures err { IfErr result (λ stop. (stop ≡ Stop.Memory) ⊎ ((stop ≡ Stop.Refused Refusal.Cells) × PassesCells until graph.now)) }
+{
+    let nodes = graph.nodes.len() as u32;
+    match weights(alloc, graph.edges.as_slice(), nodes, Span::DueLast, until) {
+        Ok(weights) => Ok(weights),
+        Err(WindowFault::Cells) => Err(Stop::Refused(Refusal::Cells)),
+        Err(WindowFault::Memory) => Err(Stop::Memory),
+    }
+}
+
+// A list more.
+fn add(lists: &mut Items<Items<u64>>, list: Items<u64>) -> Result<(), Stop>
+    ensures ok { OnOk result (lists.new ≡ lists.old ++ list ∷ []) }
+    ensures err { IfErr result (λ stop. stop ≡ Stop.Memory) }
+{
+    push(lists, list)?;
+    Ok(())
+}
+
+fn push(lists: &mut Items<Items<u64>>, list: Items<u64>) -> Result<(), Memory>
+    ensures { OnOk result (lists.new ≡ lists.old ++ list ∷ []) }
+{
+    lists.push(list)?;
+    Ok(())
+}
+
+// The same of all agents.
+fn all_weights(alloc: Global, graphs: &Items<Graph>, until: u32) -> Result<Items<Items<u64>>, Stop>
+    requires edges { All IsDrawn graphs.now }
+    requires few { All IsSmall graphs.now }
+    ensures ok { IfOk result (AreAllWeights until graphs.now) }
+    ensures err { IfErr result (λ stop. (stop ≡ Stop.Memory) ⊎ ((stop ≡ Stop.Refused Refusal.Cells) × Any (PassesCells until) graphs.now)) }
+{
+    let mut lists = Items::new(alloc);
+    'graphs: for graph in graphs.as_slice() {
+        let list = weights_of(alloc, graph, until)?;
+        add(&mut lists, list)?;
+    }
+    Ok(lists)
+}
+
+// Whether the processor can supply the demand over each length up to this one, by the lists of all agents.
+fn demand(unit: &Unit, lists: &Items<Items<u64>>, until: u32) -> Result<(), Stop>
+    requires few { length lists.now ≤ AGENTS }
+    requires long { All (λ list. length list ≡ until + 1) lists.now }
+    requires small { All (All (λ weight. weight < 2 ^ 50)) lists.now }
+    ensures ok { (graphs : List Drawn) → AreAllWeights until graphs lists.now → IfOk result (λ done. (demanding unit.now graphs until).gives done) }
+    ensures err { (graphs : List Drawn) (failed : List ℕ) (before after : ℕ) → AreAllWeights until graphs lists.now → IfErr result (Halts (demanding unit.now graphs until) failed before after) }
+{
+    match feasible(lists.as_slice(), unit.quantum, until) {
+        Verdict::Yes => Ok(()),
+        Verdict::No { length, demand } => {
+            let supply = u64::from(unit.quantum) * u64::from(length);
+            Err(Stop::Refused(Refusal::Infeasible {
+                length,
+                demand,
+                supply,
+            }))
+        }
+    }
+}
+
+/// Whether the processor can supply what a program's agents may demand over each length up to a date.
+pub fn supply(alloc: Global, unit: &Unit, until: u32) -> Result<(), Stop>
+    requires text { IsOfText unit.now }
+    ensures ok { IfOk result (λ done. (graphs : List Drawn) × (supplying unit.now until).gives graphs) }
+    ensures err { (failed : List ℕ) (before after : ℕ) → IfErr result (Halts (supplying unit.now until) failed before after) }
+{
+    let graphs = graphs(alloc, unit)?;
+    let lists = all_weights(alloc, &graphs, until)?;
+    demand(unit, &lists, until)
+}

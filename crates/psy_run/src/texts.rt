@@ -1,0 +1,176 @@
+//! The texts of `check` and `graph`.
+ghost use Rattle.std.specs.Prelude.{◌≡◌, ◌≤◌, ◌++◌, flat_map, length, take, OnErr};
+ghost use Rattle.psy_base.specs.declared.limits.TheConstants.{WORD_BYTES};
+ghost use Rattle.psy_door.specs.Faults.{Rose};
+ghost use Rattle.psy_log.specs.Forms.{line_of, name_of};
+ghost use Rattle.psy_log.specs.Writing.{Written};
+ghost use Rattle.psy_meaning.specs.Units.{IsBare};
+ghost use Rattle.std.specs.List.{All};
+ghost use Rattle.std.specs.Prelude.{get_or};
+ghost use Rattle.psy_base.specs.declared.limits.TheConstants.{NODES};
+ghost use Rattle.psy_graph.specs.Graphs.{IsSmall};
+ghost use Rattle.psy_log.specs.Forms.{node_line};
+ghost use Rattle.psy_run.specs.Texts.{size_line, check_text, nodes_text, edge_text, agent_text, graph_text};
+
+use psy_base::{Edge, Items};
+use psy_door::Sink;
+use psy_graph::{Graph, Node};
+use psy_log::{Line, Note, WriteFault, write_all_of};
+use psy_tree::{AgentDecl, Unit, VarDecl};
+
+/// Writes the line that says a note.
+pub fn write_note<S: Sink>(out: &mut S, note: &Note) -> Result<(), WriteFault>
+    requires { length (name_of note.now) ≤ WORD_BYTES }
+    ensures counted { S.faults out.old ≤ S.faults out.new }
+    ensures failed { OnErr result (Rose (S.faults out.old) (S.faults out.new)) }
+    ensures written { Written (S.held out.old) (S.held out.new) result (line_of note.now) }
+{
+    let mut line = Line::new();
+    line.set(note);
+    write_all_of(out, line.bytes())
+}
+
+// Writes the sizes of variables, in their order.
+fn write_sizes<S: Sink>(variables: &[VarDecl], out: &mut S) -> Result<(), WriteFault>
+    requires { All (λ v. length v.name ≤ WORD_BYTES) variables.now }
+    ensures counted { S.faults out.old ≤ S.faults out.new }
+    ensures failed { OnErr result (Rose (S.faults out.old) (S.faults out.new)) }
+    ensures written { Written (S.held out.old) (S.held out.new) result (flat_map size_line variables.now) }
+{
+    'variables: for variable in variables {
+        let note = Note::VariableSize {
+            variable: variable.name.bytes(),
+            size: variable.depth,
+        };
+        if let Err(fault) = write_note(out, &note) {
+            return Err(fault);
+        }
+    }
+    Ok(())
+}
+
+/// Writes the sizes of a program's buffers, and that its demand can be met up to this date.
+pub fn write_check<S: Sink>(unit: &Unit, until: u32, out: &mut S) -> Result<(), WriteFault>
+    requires { IsBare unit.now }
+    ensures counted { S.faults out.old ≤ S.faults out.new }
+    ensures failed { OnErr result (Rose (S.faults out.old) (S.faults out.new)) }
+    ensures written { Written (S.held out.old) (S.held out.new) result (check_text unit.now until) }
+{
+    if let Err(fault) = write_sizes(unit.variables.as_slice(), out) {
+        return Err(fault);
+    }
+    write_note(
+        out,
+        &Note::Feasible {
+            until: u64::from(until),
+        },
+    )
+}
+
+// Writes the line of a node, with the greatest cost from its point.
+fn write_node<S: Sink>(number: u32, node: &Node, costs: &[u64], out: &mut S) -> Result<(), WriteFault>
+    ensures counted { S.faults out.old ≤ S.faults out.new }
+    ensures failed { OnErr result (Rose (S.faults out.old) (S.faults out.new)) }
+    ensures written { Written (S.held out.old) (S.held out.new) result (node_line number node.now.point node.now.phase node.now.budget (get_or costs.now node.now.point 0) node.now.due) }
+{
+    let worst = match costs.get(node.point as usize) {
+        Some(worst) => *worst,
+        None => 0,
+    };
+    write_note(
+        out,
+        &Note::Node {
+            number,
+            point: node.point,
+            phase: node.phase,
+            budget: node.budget,
+            worst,
+            due: node.due,
+        },
+    )
+}
+
+// Writes the lines of an agent's nodes, numbered from 0.
+fn write_nodes<S: Sink>(nodes: &[Node], costs: &[u64], out: &mut S) -> Result<(), WriteFault>
+    requires { length nodes.now ≤ NODES }
+    ensures counted { S.faults out.old ≤ S.faults out.new }
+    ensures failed { OnErr result (Rose (S.faults out.old) (S.faults out.new)) }
+    ensures written { Written (S.held out.old) (S.held out.new) result (nodes_text costs.now 0 nodes.now) }
+{
+    'nodes: for (number, node) in nodes.iter().enumerate() {
+        if let Err(fault) = write_node(number as u32, node, costs, out) {
+            return Err(fault);
+        }
+    }
+    Ok(())
+}
+
+// Writes the lines of an agent's edges.
+fn write_edges<S: Sink>(edges: &[Edge], out: &mut S) -> Result<(), WriteFault>
+    ensures counted { S.faults out.old ≤ S.faults out.new }
+    ensures failed { OnErr result (Rose (S.faults out.old) (S.faults out.new)) }
+    ensures written { Written (S.held out.old) (S.held out.new) result (flat_map edge_text edges.now) }
+{
+    'edges: for edge in edges {
+        let note = Note::EdgeOf {
+            from: edge.from,
+            to: edge.to,
+            len: edge.len,
+        };
+        if let Err(fault) = write_note(out, &note) {
+            return Err(fault);
+        }
+    }
+    Ok(())
+}
+
+// Writes the lines of an agent: the counts of its graph, its nodes and its edges.
+fn write_agent<S: Sink>(
+    agent: &AgentDecl,
+    graph: &Graph,
+    costs: &[u64],
+    out: &mut S,
+) -> Result<(), WriteFault>
+    requires name { length agent.now.name ≤ WORD_BYTES }
+    requires small { IsSmall graph.now }
+    ensures counted { S.faults out.old ≤ S.faults out.new }
+    ensures failed { OnErr result (Rose (S.faults out.old) (S.faults out.new)) }
+    ensures written { Written (S.held out.old) (S.held out.new) result (agent_text agent.now graph.now costs.now) }
+{
+    let note = Note::AgentGraph {
+        agent: agent.name.bytes(),
+        nodes: graph.nodes.len() as u32,
+        edges: graph.edges.len() as u32,
+    };
+    if let Err(fault) = write_note(out, &note) {
+        return Err(fault);
+    }
+    if let Err(fault) = write_nodes(graph.nodes.as_slice(), costs, out) {
+        return Err(fault);
+    }
+    write_edges(graph.edges.as_slice(), out)
+}
+
+/// Writes the graphs of a program's agents, with the greatest costs by agent and point.
+pub fn write_graph<S: Sink>(
+    unit: &Unit,
+    graphs: &[Graph],
+    costs: &[Items<u64>],
+    out: &mut S,
+) -> Result<(), WriteFault>
+    requires bare { IsBare unit.now }
+    requires small { All IsSmall graphs.now }
+    ensures counted { S.faults out.old ≤ S.faults out.new }
+    ensures failed { OnErr result (Rose (S.faults out.old) (S.faults out.new)) }
+    ensures written { Written (S.held out.old) (S.held out.new) result (graph_text unit.now.agents graphs.now costs.now) }
+{
+    let agents = unit.agents.as_slice();
+    let count = agents.len().min(graphs.len()).min(costs.len());
+    'agents: for number in 0..count {
+        let costs = costs[number].as_slice();
+        if let Err(fault) = write_agent(&agents[number], &graphs[number], costs, out) {
+            return Err(fault);
+        }
+    }
+    Ok(())
+}

@@ -1,0 +1,160 @@
+//! The top call.
+ghost use Rattle.std.specs.Prelude.{◌≡◌, ◌≢◌, ℕ, ◌≤◌, ◌⊎◌, List, [], map, string_bytes, Option, None, Some, IfSome, OnErr, MatchResult};
+ghost use Rattle.psy_door.specs.Faults.{Rose};
+ghost use Rattle.psy_door.specs.Files.{Files};
+ghost use Rattle.psy_door.specs.Growth.{Grew, GrewByFront};
+ghost use Rattle.psy_kernel.specs.declared.stage.Stage.TheVariants.{Over};
+ghost use Rattle.psy_kernel.specs.Standing.{Progress, stage_of};
+ghost use Rattle.psy_log.specs.Forms.{read_line};
+ghost use Rattle.psy_log.specs.Writing.{Written};
+ghost use Rattle.psy_run.specs.declared.served.Served.{Served as Done};
+ghost use Rattle.psy_run.specs.declared.refusal.File.{File as Role};
+ghost use Rattle.psy_run.specs.Answer.{Answers, answering, text_of, left_of};
+ghost use Rattle.psy_run.specs.Asked.{AskNothing};
+ghost use Rattle.psy_run.specs.Outcome.{CanRun, CanServe, Ends, IsUnread, MayAnswer, Says};
+ghost use Rattle.psy_run.specs.Refusals.{status_of, line_of, file_name};
+
+use crate::commands::judge;
+use crate::form::Program;
+use crate::refusal::{Stop, unread_line};
+use crate::run::run_loop;
+use crate::served::Served;
+use crate::texts::{write_check, write_graph};
+use psy_door::{Shelf, Sink};
+use psy_kernel::Kernel;
+use psy_log::{Line, WriteFault, write_all_of};
+use std::alloc::Global;
+
+// Writes a line and answers with this status.
+fn say<S: Sink>(line: &Line, status: u8, out: &mut S) -> u8
+    ensures counted { S.faults out.old ≤ S.faults out.new }
+    ensures said { Says (S.held out.old) (S.held out.new) (S.faults out.old) (S.faults out.new) result status line.now }
+{
+    match write_all_of(out, line.bytes()) {
+        Ok(()) => status,
+        Err(_) => 4,
+    }
+}
+
+// Answers where a command stopped.
+fn refuse<S: Sink>(stop: Stop, out: &mut S) -> u8
+    ensures counted { S.faults out.old ≤ S.faults out.new }
+    ensures refused { (refusal : Refusal) → stop ≡ Stop.Refused refusal → Says (S.held out.old) (S.held out.new) (S.faults out.old) (S.faults out.new) result (status_of refusal) (line_of refusal) }
+    ensures unread { (file : Role) → stop ≡ Stop.Unread file → Says (S.held out.old) (S.held out.new) (S.faults out.old) (S.faults out.new) result 3 (read_line (file_name file)) }
+    ensures memory { stop ≡ Stop.Memory → (result ≡ 8) × Grew (S.held out.old) (S.held out.new) [] }
+{
+    match stop {
+        Stop::Refused(refusal) => say(&refusal.line(), refusal.status(), out),
+        Stop::Unread(file) => say(&unread_line(file), 3, out),
+        Stop::Memory => 8,
+    }
+}
+
+// Runs a program and leaves the kernel that did it.
+fn run<S: Sink>(program: &Program, out: &mut S, left: &mut Option<Kernel>) -> Result<(), WriteFault>
+    requires can { CanRun program.now }
+    requires empty { left.old ≡ None }
+    ensures counted { S.faults out.old ≤ S.faults out.new }
+    ensures failed { OnErr result (Rose (S.faults out.old) (S.faults out.new)) }
+    ensures written { Written (S.held out.old) (S.held out.new) result (text_of (Served.Ran program.now)) }
+    ensures over { MatchResult result (λ done. left.new ≡ left_of (Served.Ran program.now)) (λ fault. left.new ≡ None) }
+{
+    let mut kernel = Kernel::boot(program.numbers);
+    let variable = program.variable.bytes();
+    let agent = program.agent.bytes();
+    if let Err(fault) = run_loop(&mut kernel, program.numbers.until, variable, agent, out) {
+        return Err(fault);
+    }
+    *left = Some(kernel);
+    Ok(())
+}
+
+// Does what is served, and writes its text.
+fn serve<S: Sink>(served: &Served, out: &mut S, left: &mut Option<Kernel>) -> Result<(), WriteFault>
+    requires can { CanServe served.now }
+    requires empty { left.old ≡ None }
+    ensures counted { S.faults out.old ≤ S.faults out.new }
+    ensures failed { OnErr result (Rose (S.faults out.old) (S.faults out.new)) }
+    ensures written { Written (S.held out.old) (S.held out.new) result (text_of served.now) }
+    ensures over { MatchResult result (λ done. left.new ≡ left_of served.now) (λ fault. left.new ≡ None) }
+{
+    match served {
+        Served::Ran(program) => run(program, out, left),
+        Served::Checked { unit, until } => write_check(unit, *until, out),
+        Served::Drawn { unit, graphs, costs } => {
+            write_graph(unit, graphs.as_slice(), costs.as_slice(), out)
+        }
+    }
+}
+
+// Answers the words. Everything is judged before the first byte is written.
+fn answer<F: Shelf, S: Sink>(
+    alloc: Global,
+    words: &[String],
+    shelf: &mut F,
+    out: &mut S,
+    left: &mut Option<Kernel>,
+) -> u8
+    requires empty { left.old ≡ None }
+    ensures ends { Ends (record { words = map string_bytes words.now; files = F.files shelf.old; failed = F.failed_name shelf.new; before = F.faults shelf.old; after = F.faults shelf.new })
+        (S.held out.old) (S.held out.new) (S.faults out.old) (S.faults out.new) result left.new }
+    ensures shelf { (F.faults shelf.old ≤ F.faults shelf.new) × (F.files shelf.new ≡ F.files shelf.old) }
+    ensures sink { S.faults out.old ≤ S.faults out.new }
+{
+    match judge(alloc, words, shelf) {
+        Err(stop) => refuse(stop, out),
+        Ok(served) => match serve(&served, out, left) {
+            Ok(()) => 0,
+            Err(_) => 4,
+        },
+    }
+}
+
+/// Does what the words ask for, and answers the status with which the program ends.
+pub fn psyc<F: Shelf, S: Sink>(
+    alloc: Global,
+    words: &[String],
+    shelf: &mut F,
+    out: &mut S,
+    left: &mut Option<Kernel>,
+) -> u8
+    // The status and the text are the defined ones, for the files where they are told.
+    ensures answered { result ≢ 3 → result ≢ 4 → result ≢ 8 → (text : List ℕ)
+        × Answers (map string_bytes words.now) (F.files shelf.old) result text
+        × Grew (S.held out.old) (S.held out.new) text }
+
+    // What is defined is answered, where files are told and no call failed, unless memory runs out.
+    ensures complete { (files : Files) (status : ℕ) (text : List ℕ) → F.files shelf.old ≡ Some files
+        → Answers (map string_bytes words.now) (Some files) status text
+        → (Rose (F.faults shelf.old) (F.faults shelf.new) → ⊥) → (Rose (S.faults out.old) (S.faults out.new) → ⊥)
+        → ((result ≡ status) × Grew (S.held out.old) (S.held out.new) text) ⊎ (result ≡ 8) }
+
+    // Where no call failed, the whole text of a defined answer was written, unless memory ran out.
+    ensures done { (Rose (F.faults shelf.old) (F.faults shelf.new) → ⊥) → (Rose (S.faults out.old) (S.faults out.new) → ⊥)
+        → ((text : List ℕ) × Answers (map string_bytes words.now) (F.files shelf.old) result text × Grew (S.held out.old) (S.held out.new) text) ⊎ (result ≡ 8) }
+
+    // Words of no listed form are refused whatever the shelf does.
+    ensures words { AskNothing (map string_bytes words.now) → (result ≡ 2) ⊎ (result ≡ 4) }
+    ensures listed { result ≡ 2 → AskNothing (map string_bytes words.now) }
+
+    // A file that the words name couldn't be read, and no step before that read refuses.
+    ensures read { result ≡ 3 → (file : Role)
+        × IsUnread (record { words = map string_bytes words.now; files = F.files shelf.old; failed = F.failed_name shelf.new; before = F.faults shelf.old; after = F.faults shelf.new }) file
+        × Grew (S.held out.old) (S.held out.new) (read_line (file_name file)) }
+    ensures write { result ≡ 4 → Rose (S.faults out.old) (S.faults out.new) }
+    ensures cut_short { result ≡ 4 → (status : ℕ) (text : List ℕ) (kernel : Option Progress)
+        × MayAnswer (record { words = map string_bytes words.now; files = F.files shelf.old; failed = F.failed_name shelf.new; before = F.faults shelf.old; after = F.faults shelf.new }) status text kernel
+        × GrewByFront (S.held out.old) (S.held out.new) text }
+    ensures memory { result ≡ 8 → Grew (S.held out.old) (S.held out.new) [] }
+
+    // What is left did what the text tells, is over, and is there after a run alone.
+    ensures left { result ≡ 0 → (done : Done) × (answering (map string_bytes words.now) (F.files shelf.old)).gives done
+        × Grew (S.held out.old) (S.held out.new) (text_of done) × (left.new ≡ left_of done) }
+    ensures over { IfSome left.new (λ kernel. stage_of kernel ≡ Over) }
+    ensures none_left { result ≢ 0 → left.new ≡ None }
+    ensures shelf { (F.faults shelf.old ≤ F.faults shelf.new) × (F.files shelf.new ≡ F.files shelf.old) }
+    ensures sink { S.faults out.old ≤ S.faults out.new }
+{
+    *left = None;
+    answer(alloc, words, shelf, out, left)
+}
