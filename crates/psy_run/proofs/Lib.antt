@@ -1,11 +1,12 @@
-mod LookLemmas
-mod RowLemmas
-mod TextLemmas
-mod WritingLemmas
 pub mod AskedLemmas
 pub mod Courses
 pub mod FormDemand
 pub mod FormLemmas
 pub mod GrowthLemmas
+pub mod LogLemmas
 pub mod LookLemmas
+pub mod RowLemmas
 pub mod Supplied
+pub mod TextLemmas
+pub mod TopLemmas
+pub mod WritingLemmas

@@ -9,6 +9,7 @@ ghost use Rattle.psy_log.specs.Forms.{read_line};
 ghost use Rattle.psy_log.specs.Writing.{Written};
 ghost use Rattle.psy_run.specs.declared.served.Served.{Served as Done};
 ghost use Rattle.psy_run.specs.declared.refusal.File.{File as Role};
+ghost use Rattle.psy_run.specs.declared.refusal.Refusal.{Refusal as Cause};
 ghost use Rattle.psy_run.specs.Answer.{Answers, answering, text_of, left_of};
 ghost use Rattle.psy_run.specs.Asked.{AskNothing};
 ghost use Rattle.psy_run.specs.Outcome.{CanRun, CanServe, Ends, IsUnread, MayAnswer, Says};
@@ -39,7 +40,7 @@ fn say<S: Sink>(line: &Line, status: u8, out: &mut S) -> u8
 // Answers where a command stopped.
 fn refuse<S: Sink>(stop: Stop, out: &mut S) -> u8
     ensures counted { S.faults out.old ≤ S.faults out.new }
-    ensures refused { (refusal : Refusal) → stop ≡ Stop.Refused refusal → Says (S.held out.old) (S.held out.new) (S.faults out.old) (S.faults out.new) result (status_of refusal) (line_of refusal) }
+    ensures refused { (refusal : Cause) → stop ≡ Stop.Refused refusal → Says (S.held out.old) (S.held out.new) (S.faults out.old) (S.faults out.new) result (status_of refusal) (line_of refusal) }
     ensures unread { (file : Role) → stop ≡ Stop.Unread file → Says (S.held out.old) (S.held out.new) (S.faults out.old) (S.faults out.new) result 3 (read_line (file_name file)) }
     ensures memory { stop ≡ Stop.Memory → (result ≡ 8) × Grew (S.held out.old) (S.held out.new) [] }
 {
@@ -142,7 +143,7 @@ pub fn psyc<F: Shelf, S: Sink>(
         × IsUnread (record { words = map string_bytes words.now; files = F.files shelf.old; failed = F.failed_name shelf.new; before = F.faults shelf.old; after = F.faults shelf.new }) file
         × Grew (S.held out.old) (S.held out.new) (read_line (file_name file)) }
     ensures write { result ≡ 4 → Rose (S.faults out.old) (S.faults out.new) }
-    ensures cut_short { result ≡ 4 → (status : ℕ) (text : List ℕ) (kernel : Option Progress)
+    ensures cut_short { result ≡ 4 → (status : ℕ) × (text : List ℕ) × (kernel : Option Progress)
         × MayAnswer (record { words = map string_bytes words.now; files = F.files shelf.old; failed = F.failed_name shelf.new; before = F.faults shelf.old; after = F.faults shelf.new }) status text kernel
         × GrewByFront (S.held out.old) (S.held out.new) text }
     ensures memory { result ≡ 8 → Grew (S.held out.old) (S.held out.new) [] }

@@ -1,6 +1,6 @@
 use Rattle.std.proofs.Common.{ap, subst, ◌+◌}
 use Rattle.psy_run.specs.Log.{log_of, summary_of}
-use Rattle.psy_run.specs.Writing.{Written}
+use Rattle.psy_log.specs.Writing.{Written}
 use Rattle.psy_run.proofs.WritingLemmas.{GrewByFront-append, Written-append}
 use Rattle.psy_run.proofs.run.run_loop.Goals as goal
 

@@ -1,0 +1,239 @@
+-- How the top call ends, clause by clause.
+use Rattle.std.proofs.Common.{◌≡◌, ◌≢◌, ◌∙◌, sym, ap, subst, refl, ℕ, List, [], Option, None, Some, ◌⊎◌, inl, inr, IfSome, arith}
+use Rattle.std.proofs.lemmas.Bool.Decides.{nat_tests}
+use Rattle.psy_door.specs.Faults.{Rose}
+use Rattle.psy_door.specs.Files.{Files}
+use Rattle.psy_door.specs.Growth.{Grew, GrewByFront}
+use Rattle.psy_kernel.specs.declared.stage.Stage.TheVariants.{Over}
+use Rattle.psy_kernel.specs.Standing.{Progress, stage_of}
+use Rattle.psy_log.specs.Forms.{read_line}
+use Rattle.psy_tree.specs.declared.unit.Unit.{Unit as Whole}
+use Rattle.psy_run.specs.declared.refusal.File.{File}
+use Rattle.psy_run.specs.declared.refusal.File.TheVariants.{Program}
+use Rattle.psy_run.specs.declared.refusal.Refusal.{Refusal}
+use Rattle.psy_run.specs.declared.refusal.Refusal.TheVariants.{Words, TooLong, Lexical, Syntax, Deep, Rule, Many, NotBuilt, Nodes, Edges, Cells, Infeasible}
+use Rattle.psy_run.specs.declared.refusal.Stop.{Stop}
+use Rattle.psy_run.specs.declared.refusal.Stop.TheVariants as stop
+use Rattle.psy_run.specs.declared.served.Served.{Served}
+use Rattle.psy_run.specs.declared.served.Served.TheVariants.{Ran, Checked, Drawn}
+use Rattle.psy_run.specs.Answer.{Answers, refused, served, text_of, left_of, compiling, supplying, forming, building, serving, answering}
+use Rattle.psy_run.specs.Asked.{Command, Asks, AskNothing, Run, Check, Graph}
+use Rattle.psy_run.specs.Courses.{Course, in_row}
+use Rattle.psy_run.specs.Outcome.{Halts, halts_refused, halts_unread, halts_memory, Seen, coming, IsUnread, MayAnswer, may_refuse, may_miss, may_serve, Ends, ends_memory, ends_said, ends_cut, Says}
+use Rattle.psy_run.specs.Refusals.{status_of, line_of, file_name}
+use Rattle.psy_run.specs.Steps.{reading, lexing, parsing, graphing, costing, windowing, demanding}
+
+-- ---- the statuses of refusals
+
+-- 1, 2 for the words alone, 5 or 7
+data IsStatus : Refusal → ℕ → Type 0 where
+  of_words : IsStatus Words 2
+  of_other : (refusal : Refusal) (status : ℕ) → status ≢ 0 → status ≢ 2 → status ≢ 3 → status ≢ 4 → status ≢ 8 → IsStatus refusal status
+
+one : (refusal : Refusal) → IsStatus refusal 1
+one refusal = of_other refusal 1 (λ e. absurd (omega arith)) (λ e. absurd (omega arith)) (λ e. absurd (omega arith)) (λ e. absurd (omega arith)) (λ e. absurd (omega arith))
+
+five : (refusal : Refusal) → IsStatus refusal 5
+five refusal = of_other refusal 5 (λ e. absurd (omega arith)) (λ e. absurd (omega arith)) (λ e. absurd (omega arith)) (λ e. absurd (omega arith)) (λ e. absurd (omega arith))
+
+seven : (refusal : Refusal) → IsStatus refusal 7
+seven refusal = of_other refusal 7 (λ e. absurd (omega arith)) (λ e. absurd (omega arith)) (λ e. absurd (omega arith)) (λ e. absurd (omega arith)) (λ e. absurd (omega arith))
+
+is_status : (refusal : Refusal) → IsStatus refusal (status_of refusal)
+is_status Words = of_words
+is_status (TooLong file) = seven (TooLong file)
+is_status (Lexical kind place) = one (Lexical kind place)
+is_status Syntax = one Syntax
+is_status (Deep token) = one (Deep token)
+is_status (Rule kind token) = one (Rule kind token)
+is_status (Many count) = seven (Many count)
+is_status NotBuilt = one NotBuilt
+is_status Nodes = seven Nodes
+is_status Edges = seven Edges
+is_status Cells = seven Cells
+is_status (Infeasible length demand supply) = five (Infeasible length demand supply)
+
+not_by : (refusal : Refusal) (status answer : ℕ) → IsStatus refusal status → answer ≢ 2 → (answer ≡ 0) ⊎ ((answer ≡ 3) ⊎ ((answer ≡ 4) ⊎ (answer ≡ 8))) → status ≢ answer
+not_by _ _ answer of_words two which e = two (sym e)
+not_by _ _ answer (of_other refusal status a b c d f) two which e = elim which [
+  | inl zero ↦ a (e ∙ zero)
+  | inr (inl three) ↦ c (e ∙ three)
+  | inr (inr (inl four)) ↦ d (e ∙ four)
+  | inr (inr (inr eight)) ↦ f (e ∙ eight)
+]
+
+two_by : (refusal : Refusal) (status : ℕ) → IsStatus refusal status → status ≡ 2 → refusal ≡ Words
+two_by _ _ of_words e = refl
+two_by _ _ (of_other refusal status a b c d f) e = absurd (b e)
+
+-- ---- from a stop, and from what is served, to an end
+
+ends_by : (seen : Seen) (old now : Option (List ℕ)) (before after answer status : ℕ) (text : List ℕ) → MayAnswer seen status text None → Says old now before after answer status text → Ends seen old now before after answer None
+ends_by seen old now before after answer status text may (inl (is, grew)) = subst (λ s. Ends seen old now before after s None) (sym is) (ends_said status text None may grew)
+ends_by seen old now before after answer status text may (inr (four, rose, front)) = subst (λ s. Ends seen old now before after s None) (sym four) (ends_cut status text None may rose front)
+
+pub ends_stopped : (seen : Seen) (old now : Option (List ℕ)) (before after answer : ℕ) (at : Stop) → Halts (coming seen) seen.failed seen.before seen.after at
+    → (at ≡ stop.Memory → (command : Command) × Asks seen.words command)
+    → ((refusal : Refusal) → at ≡ stop.Refused refusal → Says old now before after answer (status_of refusal) (line_of refusal))
+    → ((file : File) → at ≡ stop.Unread file → Says old now before after answer 3 (read_line (file_name file)))
+    → (at ≡ stop.Memory → (answer ≡ 8) × Grew old now [])
+    → Ends seen old now before after answer None
+ends_stopped seen old now before after answer _ (halts_refused refusal stops) asked says reads memory = ends_by seen old now before after answer _ _ (may_refuse refusal stops) (says refusal refl)
+ends_stopped seen old now before after answer _ (halts_unread file read rose) asked says reads memory = ends_by seen old now before after answer _ _ (may_miss file (record { reads = read; rose = rose })) (reads file refl)
+ends_stopped seen old now before after answer _ halts_memory asked says reads memory =
+    let asks = asked refl in
+    let eight = memory refl in
+    subst (λ s. Ends seen old now before after s None) (sym eight.0) (ends_memory asks.0 asks.1 eight.1)
+
+pub ends_served : (seen : Seen) (old now : Option (List ℕ)) (before after : ℕ) (left : Option Progress) (done : Served) → (coming seen).gives done → Grew old now (text_of done) → left ≡ left_of done → Ends seen old now before after 0 left
+ends_served seen old now before after left done gives grew is = subst (Ends seen old now before after 0) (sym is) (ends_said 0 (text_of done) (left_of done) (may_serve done gives) grew)
+
+pub ends_unwritten : (seen : Seen) (old now : Option (List ℕ)) (before after : ℕ) (left : Option Progress) (done : Served) → (coming seen).gives done → Rose before after → GrewByFront old now (text_of done) → left ≡ None → Ends seen old now before after 4 left
+ends_unwritten seen old now before after left done gives rose front is = subst (Ends seen old now before after 4) (sym is) (ends_cut 0 (text_of done) (left_of done) (may_serve done gives) rose front)
+
+-- ---- the clauses
+
+-- Where no file is missing, no write failed and memory didn't run out, the answer is a defined one.
+pub ends_answered : (seen : Seen) (old now : Option (List ℕ)) (before after answer : ℕ) (left : Option Progress) → Ends seen old now before after answer left → answer ≢ 3 → answer ≢ 4 → answer ≢ 8
+    → (text : List ℕ) × Answers seen.words seen.files answer text × Grew old now text
+ends_answered seen old now before after _ left (ends_memory command asks grew) three four eight = absurd (eight refl)
+ends_answered seen old now before after _ _ (ends_said _ _ _ (may_refuse refusal stops) grew) three four eight = (line_of refusal, refused refusal stops, grew)
+ends_answered seen old now before after _ _ (ends_said _ _ _ (may_miss file unread) grew) three four eight = absurd (three refl)
+ends_answered seen old now before after _ _ (ends_said _ _ _ (may_serve done gives) grew) three four eight = (text_of done, served done gives, grew)
+ends_answered seen old now before after _ _ (ends_cut status text left may rose front) three four eight = absurd (four refl)
+
+pub ends_done : (seen : Seen) (old now : Option (List ℕ)) (before after answer : ℕ) (left : Option Progress) → Ends seen old now before after answer left → (Rose seen.before seen.after → ⊥) → (Rose before after → ⊥)
+    → ((text : List ℕ) × Answers seen.words seen.files answer text × Grew old now text) ⊎ (answer ≡ 8)
+ends_done seen old now before after _ left (ends_memory command asks grew) shelf sink = inr refl
+ends_done seen old now before after _ _ (ends_said _ _ _ (may_refuse refusal stops) grew) shelf sink = inl (line_of refusal, refused refusal stops, grew)
+ends_done seen old now before after _ _ (ends_said _ _ _ (may_miss file unread) grew) shelf sink = absurd (shelf unread.rose)
+ends_done seen old now before after _ _ (ends_said _ _ _ (may_serve done gives) grew) shelf sink = inl (text_of done, served done gives, grew)
+ends_done seen old now before after _ _ (ends_cut status text left may rose front) shelf sink = absurd (sink rose)
+
+-- Words have one answer at most, where files are told.
+abbrev pub OneAnswer : Type 0
+OneAnswer = (words : List (List ℕ)) (files : Files) (status other : ℕ) (text another : List ℕ) → Answers words (Some files) status text → Answers words (Some files) other another → (status ≡ other) × (text ≡ another)
+
+pub ends_complete : OneAnswer → (seen : Seen) (old now : Option (List ℕ)) (before after answer : ℕ) (left : Option Progress) → Ends seen old now before after answer left
+    → (files : Files) (status : ℕ) (text : List ℕ) → seen.files ≡ Some files → Answers seen.words (Some files) status text → (Rose seen.before seen.after → ⊥) → (Rose before after → ⊥)
+    → ((answer ≡ status) × Grew old now text) ⊎ (answer ≡ 8)
+ends_complete one_answer seen old now before after answer left ends files status text told answers shelf sink = elim (ends_done seen old now before after answer left ends shelf sink) [
+  | inr eight ↦ inr eight
+  | inl (said, is, grew) ↦
+      let same = one_answer seen.words files answer status said text (subst (λ f. Answers seen.words f answer said) told is) answers in
+      inl (same.0, subst (Grew old now) same.1 grew)
+]
+
+-- Words of no listed form are refused, whatever else.
+pub ends_words : (seen : Seen) (old now : Option (List ℕ)) (before after answer : ℕ) (left : Option Progress) → Ends seen old now before after answer left → AskNothing seen.words → (answer ≡ 2) ⊎ (answer ≡ 4)
+unfolding in_row
+ends_words seen old now before after _ left (ends_memory command asks grew) nothing = absurd (nothing command asks)
+ends_words seen old now before after _ _ (ends_said _ _ _ (may_refuse refusal (inl (is, none))) grew) nothing = inl (λ i. status_of (is i))
+ends_words seen old now before after _ _ (ends_said _ _ _ (may_refuse refusal (inr (command, asks, later))) grew) nothing = absurd (nothing command asks)
+ends_words seen old now before after _ _ (ends_said _ _ _ (may_miss file unread) grew) nothing = elim unread.reads [
+  | inl none ↦ absurd none
+  | inr (command, asks, later) ↦ absurd (nothing command asks)
+]
+ends_words seen old now before after _ _ (ends_said _ _ _ (may_serve done (command, asks, later)) grew) nothing = absurd (nothing command asks)
+ends_words seen old now before after _ _ (ends_cut status text left may rose front) nothing = inr refl
+
+-- No step behind the words stops with a refusal of them.
+abbrev Never : {X : Type 0} → Course X → Type 0
+Never c = c.stops Words → ⊥
+
+never_then : {X Y : Type 0} (c : Course X) (f : X → Course Y) → Never c → ((x : X) → Never (f x)) → Never (in_row c f)
+unfolding in_row
+never_then c f first later (inl stops) = first stops
+never_then c f first later (inr (x, gives, stops)) = later x stops
+
+-- The words' refusal is none that has another status.
+apart : (refusal : Refusal) → status_of refusal ≢ 2 → Words ≡ refusal → ⊥
+apart refusal two e = two (sym (ap status_of e))
+
+compiling_never : (files : Option Files) (name : List ℕ) → Never (compiling files name)
+compiling_never files name =
+    never_then (reading files Program name) _ (λ stops. apart (TooLong Program) (λ e. absurd (omega arith)) stops.0)
+    (λ bytes. never_then (lexing bytes) _ (λ stops. stops) (λ tokens. never_then (parsing tokens) _ (λ stops. stops) (λ raw stops. stops)))
+
+supplying_never : (unit : Whole) (until : ℕ) → Never (supplying unit until)
+supplying_never unit until =
+    never_then (graphing unit) _ (λ stops. stops)
+    (λ graphs. never_then (windowing graphs until) _ (λ stops. apart Cells (λ e. absurd (omega arith)) stops.0) (λ done. never_then (demanding unit graphs until) _ (λ stops. stops) (λ again stops. stops)))
+
+serving_never : (files : Option Files) (command : Command) → Never (serving files command)
+serving_never files (Run name until) =
+    never_then (compiling files name) _ (compiling_never files name)
+    (λ unit. never_then (forming unit until) _ (λ stops. apart NotBuilt (λ e. absurd (omega arith)) stops.0) (λ program. never_then (supplying unit until) _ (supplying_never unit until) (λ graphs stops. stops)))
+serving_never files (Check name until) =
+    never_then (compiling files name) _ (compiling_never files name)
+    (λ unit. never_then (building unit) _ (λ stops. apart NotBuilt (λ e. absurd (omega arith)) stops.0) (λ done. never_then (supplying unit until) _ (supplying_never unit until) (λ graphs stops. stops)))
+serving_never files (Graph name) =
+    never_then (compiling files name) _ (compiling_never files name) (λ unit. never_then (graphing unit) _ (λ stops. stops) (λ graphs. never_then (costing unit) _ (λ stops. stops) (λ costs stops. stops)))
+
+nothing_asked : (words : List (List ℕ)) (files : Option Files) → (answering words files).stops Words → AskNothing words
+unfolding in_row
+nothing_asked words files (inl (is, none)) = none
+nothing_asked words files (inr (command, asks, stops)) = absurd (serving_never files command stops)
+
+-- 2 is answered for such words alone.
+pub ends_listed : (seen : Seen) (old now : Option (List ℕ)) (before after answer : ℕ) (left : Option Progress) → Ends seen old now before after answer left → answer ≡ 2 → AskNothing seen.words
+ends_listed seen old now before after _ left (ends_memory command asks grew) two = absurd (omega (arith, two))
+ends_listed seen old now before after _ _ (ends_said _ _ _ (may_refuse refusal stops) grew) two =
+    nothing_asked seen.words seen.files (subst (λ r. (coming seen).stops r) (two_by refusal _ (is_status refusal) two) stops)
+ends_listed seen old now before after _ _ (ends_said _ _ _ (may_miss file unread) grew) two = absurd (omega (arith, two))
+ends_listed seen old now before after _ _ (ends_said _ _ _ (may_serve done gives) grew) two = absurd (omega (arith, two))
+ends_listed seen old now before after _ _ (ends_cut status text left may rose front) two = absurd (omega (arith, two))
+
+-- 3 is answered for a file that couldn't be read, with its line.
+pub ends_read : (seen : Seen) (old now : Option (List ℕ)) (before after answer : ℕ) (left : Option Progress) → Ends seen old now before after answer left → answer ≡ 3 → (file : File) × IsUnread seen file × Grew old now (read_line (file_name file))
+ends_read seen old now before after _ left (ends_memory command asks grew) three = absurd (omega (arith, three))
+ends_read seen old now before after _ _ (ends_said _ _ _ (may_refuse refusal stops) grew) three = absurd (not_by refusal _ 3 (is_status refusal) (λ e. absurd (omega arith)) (inr (inl refl)) three)
+ends_read seen old now before after _ _ (ends_said _ _ _ (may_miss file unread) grew) three = (file, unread, grew)
+ends_read seen old now before after _ _ (ends_said _ _ _ (may_serve done gives) grew) three = absurd (omega (arith, three))
+ends_read seen old now before after _ _ (ends_cut status text left may rose front) three = absurd (omega (arith, three))
+
+-- 4 is answered where a write failed: then a front of a text that may answer the words was written.
+pub ends_cut_short : (seen : Seen) (old now : Option (List ℕ)) (before after answer : ℕ) (left : Option Progress) → Ends seen old now before after answer left → answer ≡ 4
+    → Rose before after × ((status : ℕ) × (text : List ℕ) × (kernel : Option Progress) × MayAnswer seen status text kernel × GrewByFront old now text)
+ends_cut_short seen old now before after _ left (ends_memory command asks grew) four = absurd (omega (arith, four))
+ends_cut_short seen old now before after _ _ (ends_said _ _ _ (may_refuse refusal stops) grew) four = absurd (not_by refusal _ 4 (is_status refusal) (λ e. absurd (omega arith)) (inr (inr (inl refl))) four)
+ends_cut_short seen old now before after _ _ (ends_said _ _ _ (may_miss file unread) grew) four = absurd (omega (arith, four))
+ends_cut_short seen old now before after _ _ (ends_said _ _ _ (may_serve done gives) grew) four = absurd (omega (arith, four))
+ends_cut_short seen old now before after _ _ (ends_cut status text left may rose front) four = (rose, (status, text, left, may, front))
+
+-- 8 is answered with nothing written.
+pub ends_for_memory : (seen : Seen) (old now : Option (List ℕ)) (before after answer : ℕ) (left : Option Progress) → Ends seen old now before after answer left → answer ≡ 8 → Grew old now []
+ends_for_memory seen old now before after _ left (ends_memory command asks grew) eight = grew
+ends_for_memory seen old now before after _ _ (ends_said _ _ _ (may_refuse refusal stops) grew) eight = absurd (not_by refusal _ 8 (is_status refusal) (λ e. absurd (omega arith)) (inr (inr (inr refl))) eight)
+ends_for_memory seen old now before after _ _ (ends_said _ _ _ (may_miss file unread) grew) eight = absurd (omega (arith, eight))
+ends_for_memory seen old now before after _ _ (ends_said _ _ _ (may_serve done gives) grew) eight = absurd (omega (arith, eight))
+ends_for_memory seen old now before after _ _ (ends_cut status text left may rose front) eight = absurd (omega (arith, eight))
+
+-- 0 is answered where the whole text of what is served was written, and what is left did it.
+pub ends_left : (seen : Seen) (old now : Option (List ℕ)) (before after answer : ℕ) (left : Option Progress) → Ends seen old now before after answer left → answer ≡ 0
+    → (done : Served) × (coming seen).gives done × Grew old now (text_of done) × (left ≡ left_of done)
+ends_left seen old now before after _ left (ends_memory command asks grew) zero = absurd (omega (arith, zero))
+ends_left seen old now before after _ _ (ends_said _ _ _ (may_refuse refusal stops) grew) zero = absurd (not_by refusal _ 0 (is_status refusal) (λ e. absurd (omega arith)) (inl refl) zero)
+ends_left seen old now before after _ _ (ends_said _ _ _ (may_miss file unread) grew) zero = absurd (omega (arith, zero))
+ends_left seen old now before after _ _ (ends_said _ _ _ (may_serve done gives) grew) zero = (done, gives, grew, refl)
+ends_left seen old now before after _ _ (ends_cut status text left may rose front) zero = absurd (omega (arith, zero))
+
+-- A kernel is left by a run alone, and is over.
+over_of : (done : Served) → IfSome (left_of done) (λ kernel. stage_of kernel ≡ Over)
+over_of (Ran program) = grind (arith, nat_tests)
+over_of (Checked unit until) = tt
+over_of (Drawn unit graphs costs) = tt
+
+pub ends_over : (seen : Seen) (old now : Option (List ℕ)) (before after answer : ℕ) (left : Option Progress) → Ends seen old now before after answer left → IfSome left (λ kernel. stage_of kernel ≡ Over)
+ends_over seen old now before after _ _ (ends_memory command asks grew) = tt
+ends_over seen old now before after _ _ (ends_said _ _ _ (may_refuse refusal stops) grew) = tt
+ends_over seen old now before after _ _ (ends_said _ _ _ (may_miss file unread) grew) = tt
+ends_over seen old now before after _ _ (ends_said _ _ _ (may_serve done gives) grew) = over_of done
+ends_over seen old now before after _ _ (ends_cut status text left may rose front) = tt
+
+pub ends_none_left : (seen : Seen) (old now : Option (List ℕ)) (before after answer : ℕ) (left : Option Progress) → Ends seen old now before after answer left → answer ≢ 0 → left ≡ None
+ends_none_left seen old now before after _ _ (ends_memory command asks grew) some = refl
+ends_none_left seen old now before after _ _ (ends_said _ _ _ (may_refuse refusal stops) grew) some = refl
+ends_none_left seen old now before after _ _ (ends_said _ _ _ (may_miss file unread) grew) some = refl
+ends_none_left seen old now before after _ _ (ends_said _ _ _ (may_serve done gives) grew) some = absurd (some refl)
+ends_none_left seen old now before after _ _ (ends_cut status text left may rose front) some = refl
