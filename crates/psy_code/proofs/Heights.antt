@@ -125,24 +125,9 @@ module _ (code : Code) (agent : AgentCode) (view : View) (m : Machine) where
   grows (instr.Unary one.Neg) h = g_one (value1 w32 one.Neg)
   grows (instr.Unary one.Flip) h = g_one (value1 w32 one.Flip)
   grows (instr.Unary one.Not) h = g_one (value1 w32 one.Not)
+  -- the line below is tried at each other operator
   grows (instr.Binary op.Mul) h = g_binary op.Mul
-  grows (instr.Binary op.Div) h = g_binary op.Div
-  grows (instr.Binary op.Rem) h = g_binary op.Rem
-  grows (instr.Binary op.Add) h = g_binary op.Add
-  grows (instr.Binary op.Sub) h = g_binary op.Sub
-  grows (instr.Binary op.Shl) h = g_binary op.Shl
-  grows (instr.Binary op.Shr) h = g_binary op.Shr
-  grows (instr.Binary op.Lt) h = g_binary op.Lt
-  grows (instr.Binary op.Le) h = g_binary op.Le
-  grows (instr.Binary op.Gt) h = g_binary op.Gt
-  grows (instr.Binary op.Ge) h = g_binary op.Ge
-  grows (instr.Binary op.Eq) h = g_binary op.Eq
-  grows (instr.Binary op.Ne) h = g_binary op.Ne
-  grows (instr.Binary op.And) h = g_binary op.And
-  grows (instr.Binary op.Xor) h = g_binary op.Xor
-  grows (instr.Binary op.Or) h = g_binary op.Or
-  grows (instr.Binary op.AndAnd) h = g_binary op.AndAnd
-  grows (instr.Binary op.OrOr) h = g_binary op.OrOr
+  grows (instr.Binary operator) h = g_binary operator
 
   pub heights : (i : Instr) (n : Machine) (r : Row) → is_plain i ≡ true → row_of (byte_of i) rows ≡ Some r → does code agent view i m ≡ Went n → length n.operands + r.pops ≡ length m.operands + r.pushes
   heights i n r h e d = subst (Grows r.pops r.pushes (length m.operands)) d (subst (λ (x : Row). Grows x.pops x.pushes (length m.operands) (does code agent view i m)) (ap or_row e) (grows i h))
