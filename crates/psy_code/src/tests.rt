@@ -88,12 +88,12 @@ fn a_binary_operator_has_its_byte(rt: HostRuntime) {
         (Op2::Xor, 0x2E),
         (Op2::Or, 0x2F),
     ] {
-        let operator = Binary::new(op);
-        assert_eq!(rt; operator.map(Binary::op), Some(op), "operator of {op:?}");
+        let operator = Binary::new(op).expect(&rt, "an instruction's operator");
+        assert_eq!(rt; operator.op(), op, "operator of {operator:?}");
         assert_eq!(rt;
-            operator.map(|binary| Instr::Binary(binary).byte()),
-            Some(byte),
-            "byte of {op:?}"
+            Instr::Binary(operator).byte(),
+            byte,
+            "byte of {operator:?}"
         );
         assert_eq!(rt;
             table.find(byte),
