@@ -46,7 +46,7 @@ abbrev pub edges_from : Timing → List Place → ℕ → List Edge
 edges_from timing places from = map (edge_to timing places from) (following timing (place_of places from).point)
 
 -- The edges from the first places
-pub first_edges : Timing → List Place → ℕ → List Edge
+unfoldable pub first_edges : Timing → List Place → ℕ → List Edge
 first_edges timing places zero = []
 first_edges timing places (suc n) = first_edges timing places n ++ edges_from timing places n
 

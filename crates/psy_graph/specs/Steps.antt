@@ -1,5 +1,5 @@
 -- How far dates lie from each other, and what an agent's dates are counted by.
-use Rattle.std.specs.Prelude.{◌≡◌, ℕ, zero, suc, ◌+◌, ◌*◌, ◌/◌, ◌^◌, ◌≤◌, ◌%◌, ◌==◌, List, [], ◌∷◌, if◌then◌else◌}
+use Rattle.std.specs.Prelude.{◌≡◌, ℕ, zero, suc, ◌+◌, ◌*◌, ◌/◌, ◌^◌, ◌≤◌, ◌%◌, List, [], ◌∷◌}
 use Rattle.psy_base.specs.declared.limits.TheConstants.{ADVANCE, NODES, PERIOD}
 use Rattle.psy_graph.specs.declared.cycle.TheConstants.{FAR}
 use Rattle.psy_graph.specs.declared.times.Times.{Times}
@@ -15,21 +15,22 @@ abbrev pub STEP : ℕ
 STEP = ADVANCE * PERIOD
 
 -- Euclid's algorithm in so many steps: the greatest common divisor, where there are as many as the second number
-pub divisor : ℕ → ℕ → ℕ → ℕ
+unfoldable pub divisor : ℕ → ℕ → ℕ → ℕ
 divisor zero a b = a
-divisor (suc n) a b = if b == 0 then a else divisor n b (a % b)
+divisor (suc n) a zero = a
+divisor (suc n) a (suc b) = divisor n (suc b) (a % suc b)
 
 -- The least common multiple of two numbers
-pub joined : ℕ → ℕ → ℕ
+unfoldable pub joined : ℕ → ℕ → ℕ
 joined a b = a / divisor b a b * b
 
 -- The least common multiple of some numbers
-pub multiple_of : List ℕ → ℕ
+unfoldable pub multiple_of : List ℕ → ℕ
 multiple_of [] = 1
 multiple_of (n ∷ numbers) = joined (multiple_of numbers) n
 
 -- The cycle of an agent
-pub cycle_of : Timing → ℕ
+unfoldable pub cycle_of : Timing → ℕ
 cycle_of timing = multiple_of (periods timing)
 
 -- What is taken for the cycle: up to a far date both leave the same remainders.

@@ -18,7 +18,7 @@ fn common_divisor(a: u64, b: u64) -> u64
 {
     let mut x = a;
     let mut y = b;
-    while y != 0 {
+    'steps: while y != 0 {
         (x, y) = (y, x % y);
     }
     x
@@ -28,10 +28,11 @@ fn common_divisor(a: u64, b: u64) -> u64
 fn common_multiple(a: u64, b: u32) -> u64
     requires far { a ≤ FAR }
     requires period { b ≤ PERIOD }
-    requires some { 1 ≤ b }
+    requires some { (1 ≤ a) × (1 ≤ b) }
     ensures { result ≡ joined a b }
 {
-    a / common_divisor(a, u64::from(b)) * u64::from(b)
+    let period = u64::from(b);
+    a / common_divisor(a, period) * period
 }
 
 /// What stands for the cycle of an agent, the least common multiple of the periods of the clocks that its `advance`s name:
@@ -41,7 +42,7 @@ pub fn modulus(times: &Times) -> u64
     ensures { IsModulus (timing_by times.now) result }
 {
     let mut multiple = 1u64;
-    for point in 1..times.points.len() {
+    'points: for point in 1..times.points.len() {
         multiple = common_multiple(multiple, times.clock(point as u32).period);
         if multiple > FAR {
             return FAR + 1;
