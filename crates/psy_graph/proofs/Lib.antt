@@ -1,2 +1,5 @@
 pub mod Cycles
+pub mod Explored
 pub mod Periods
+pub mod Phases
+pub mod Rooms

@@ -45,6 +45,10 @@ IsAdded place work places work_new places_new =
 abbrev pub HasFollowers : Timing → List Place → Place → Type 0
 HasFollowers timing places place = (to : ℕ) → Contains (following timing place.point) to → Contains places (place_at timing to (end_date timing place.phase to))
 
+-- Phases lie no farther than that many found places can.
+abbrev pub AreNear : List Place → Type 0
+AreNear places = All (λ place. place.phase ≤ STEP * NODES) places
+
 -- What was found so far, in the order of finding and in order of point and phase. Each was found from one before it, so the
 -- number of those before it tells how late its date may be.
 pub record AreFound (timing : Timing) (work places : List Place) : Type 0 where
@@ -53,7 +57,6 @@ pub record AreFound (timing : Timing) (work places : List Place) : Type 0 where
   pub rise : AllPairs Before places
   pub same : (place : Place) → Contains work place ↔ Contains places place
   pub count : length work ≡ length places
-  pub few : length places ≤ NODES
   pub near : (i : ℕ) (d : Place) → i < length work → (slice_index_or work i d).phase ≤ STEP * (i + 1)
 
 -- All places where actions start, in order
@@ -61,6 +64,4 @@ pub record ArePlaces (timing : Timing) (places : List Place) : Type 0 where
   pub met : All (IsMetAt timing) places
   pub first : Contains places (place_at timing 0 (first_date timing))
   pub rise : AllPairs Before places
-  pub few : length places ≤ NODES
-  pub near : All (λ place. place.phase ≤ STEP * NODES) places
   pub closed : All (HasFollowers timing places) places

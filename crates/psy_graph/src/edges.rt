@@ -1,12 +1,12 @@
 //! The graph of the places where an agent's actions start.
 
 ghost use Rattle.std.specs.Prelude.{◌≡◌, ◌⊎◌, ℕ, ◌+◌, ◌*◌, ◌<◌, ◌≤◌, [], ◌∷◌, ◌++◌, length, map, IfOk, OnOk, IfErr};
-ghost use Rattle.psy_base.specs.declared.limits.TheConstants.{EDGES};
+ghost use Rattle.psy_base.specs.declared.limits.TheConstants.{EDGES, NODES};
 ghost use Rattle.psy_meaning.specs.Timing.{following, least, end_date};
 ghost use Rattle.psy_graph.specs.declared.fault.GraphFault.TheVariants.{Edges as many_edges, Memory as no_memory};
 ghost use Rattle.psy_graph.specs.Graphs.{IsTimed};
 ghost use Rattle.psy_graph.specs.Steps.{timing_by, IsModulus};
-ghost use Rattle.psy_graph.specs.Places.{ArePlaces};
+ghost use Rattle.psy_graph.specs.Places.{ArePlaces, AreNear};
 ghost use Rattle.psy_graph.specs.Drawn.{place_of, node_of, edges_from, first_edges, drawn};
 
 use crate::fault::GraphFault;
@@ -42,6 +42,8 @@ fn add_edges(
     requires timed { IsTimed (timing_by times.now) }
     requires modulus { IsModulus (timing_by times.now) modulus }
     requires places { ArePlaces (timing_by times.now) places.now }
+    requires few { length places.now ≤ NODES }
+    requires near { AreNear places.now }
     requires from { from < length places.now }
     requires node { node ≡ node_of (timing_by times.now) (place_of places.now from) }
     requires ends { ends.now ≡ map (end_date (timing_by times.now) node.phase) (following (timing_by times.now) node.point) }
@@ -73,6 +75,8 @@ fn add_node(
     requires timed { IsTimed (timing_by times.now) }
     requires modulus { IsModulus (timing_by times.now) modulus }
     requires places { ArePlaces (timing_by times.now) places.now }
+    requires few { length places.now ≤ NODES }
+    requires near { AreNear places.now }
     requires from { from < length places.now }
     ensures nodes { OnOk result (graph.new.nodes ≡ graph.old.nodes ++ node_of (timing_by times.now) (place_of places.now from) ∷ []) }
     ensures edges { OnOk result (graph.new.edges ≡ graph.old.edges ++ edges_from (timing_by times.now) places.now from) }
@@ -100,6 +104,8 @@ pub fn draw(
     requires timed { IsTimed (timing_by times.now) }
     requires modulus { IsModulus (timing_by times.now) modulus }
     requires places { ArePlaces (timing_by times.now) places.now }
+    requires few { length places.now ≤ NODES }
+    requires near { AreNear places.now }
     ensures graph { IfOk result (λ graph. graph ≡ drawn (timing_by times.now) places.now) }
     ensures few { IfOk result (λ graph. length graph.edges ≤ EDGES) }
     ensures cause { IfErr result (λ fault. (fault ≡ no_memory) ⊎ ((fault ≡ many_edges agent) × (EDGES < length (first_edges (timing_by times.now) places.now (length places.now))))) }

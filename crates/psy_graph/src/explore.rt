@@ -8,7 +8,7 @@ ghost use Rattle.psy_graph.specs.declared.fault.GraphFault.TheVariants.{Nodes as
 ghost use Rattle.psy_graph.specs.declared.place.Place.{Place as Where};
 ghost use Rattle.psy_graph.specs.Graphs.{IsTimed};
 ghost use Rattle.psy_graph.specs.Steps.{timing_by, IsModulus, STEP};
-ghost use Rattle.psy_graph.specs.Places.{Before, IsRoom, IsAdded, IsMetAt, HasFollowers, AreFound, ArePlaces, place_at};
+ghost use Rattle.psy_graph.specs.Places.{Before, IsRoom, IsAdded, IsMetAt, HasFollowers, AreFound, ArePlaces, AreNear, place_at};
 
 use crate::fault::GraphFault;
 use crate::place::{Place, seek, stands_at};
@@ -73,6 +73,8 @@ impl Found {
         requires modulus { IsModulus (timing_by times.now) modulus }
         requires at { at < length self.old.work.items }
         requires found { AreFound (timing_by times.now) self.old.work.items self.old.places.items }
+        requires few { length self.old.places.items ≤ NODES }
+        ensures few { OnOk result (length self.new.places.items ≤ NODES) }
         ensures found { OnOk result (AreFound (timing_by times.now) self.new.work.items self.new.places.items) }
         ensures kept { OnOk result ((i : ℕ) (d : Where) → i < length self.old.work.items → (i < length self.new.work.items) × (slice_index_or self.new.work.items i d ≡ slice_index_or self.old.work.items i d)) }
         ensures grown { OnOk result ((place : Where) → Contains self.old.places.items place → Contains self.new.places.items place) }
@@ -98,6 +100,8 @@ pub fn explore(
     requires timed { IsTimed (timing_by times.now) }
     requires modulus { IsModulus (timing_by times.now) modulus }
     ensures places { IfOk result (ArePlaces (timing_by times.now)) }
+    ensures few { IfOk result (λ places. length places ≤ NODES) }
+    ensures near { IfOk result AreNear }
     ensures cause { IfErr result (λ fault. (fault ≡ no_memory) ⊎ ((fault ≡ many_nodes agent) × PassesNodes (timing_by times.now))) }
 {
     let first = Place { point: 0, phase: times.first() % modulus };

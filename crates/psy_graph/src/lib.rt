@@ -8,6 +8,7 @@ mod explore;
 mod fault;
 mod graph;
 mod place;
+mod scratch;
 mod times;
 
 pub use agents::build;
