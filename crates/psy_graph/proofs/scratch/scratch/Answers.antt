@@ -1,9 +1,8 @@
-use Rattle.psy_graph.proofs.Rooms.{room_for}
-use Rattle.psy_graph.proofs.Explored.{all_places}
+use Rattle.psy_graph.proofs.Drawings.{explored, edges_fit}
 use Rattle.psy_graph.proofs.scratch.scratch.Goals as goal
 
-pub returns-clause-rooms : goal.returns-clause-rooms
-returns-clause-rooms c = room_for
+pub returns-clause-edges : goal.returns-clause-edges
+returns-clause-edges c = edges_fit c.distances.ensures.late
 
 pub returns-clause-explored : goal.returns-clause-explored
-returns-clause-explored c = all_places c.distances.ensures.again
+returns-clause-explored c = explored c.distances.ensures.again c.distances.ensures.late
