@@ -1,8 +1,9 @@
 pub mod Cycles
-pub mod Drawings
 pub mod Explored
+pub mod Leasts
 pub mod Links
 pub mod Numbers
 pub mod Periods
 pub mod Phases
+pub mod Reached
 pub mod Rooms

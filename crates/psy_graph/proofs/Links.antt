@@ -17,9 +17,10 @@ use Rattle.psy_graph.specs.Steps.{cycle_of}
 use Rattle.psy_graph.specs.Places.{spot_by, place_at, Before, IsMetAt, HasFollowers, ArePlaces}
 use Rattle.psy_graph.specs.Drawn.{number_of, place_of, edge_to, edges_from, first_edges}
 use Rattle.psy_graph.proofs.Periods.{clock_lawful}
+use Rattle.psy_graph.proofs.Leasts.{least_below}
 use Rattle.psy_graph.proofs.Phases.{ComesAgain, phase_and_cycles, end_of_phase, deadline_of_phase, same_phase}
 use Rattle.psy_graph.proofs.Rooms.{same_place}
-use Rattle.psy_graph.proofs.Explored.{may_point, all_there}
+use Rattle.psy_graph.proofs.Reached.{may_point, all_there}
 use Rattle.psy_graph.proofs.Numbers.{number_at, number_is, number_rises, place_there}
 
 -- ---- lists
@@ -69,13 +70,6 @@ least_above b (x ∷ y ∷ xs) some all =
     let head : b < x = All-head (λ n. b < n) x (y ∷ xs) all in
     let rest : b < least (y ∷ xs) = least_above b (y ∷ xs) (omega arith) (All-tail (λ n. b < n) x (y ∷ xs) all) in
     omega (arith, head, rest)
-
-pub least_below : (xs : List ℕ) (n : ℕ) → Contains xs n → least xs ≤ n
-least_below [] n (k, l, e) = absurd (omega (arith, l))
-least_below (x ∷ []) n (zero, l, e) = omega (arith, e)
-least_below (x ∷ []) n (suc k, l, e) = absurd (omega (arith, l))
-least_below (x ∷ y ∷ xs) n (zero, l, e) = omega (arith, e)
-least_below (x ∷ y ∷ xs) n (suc k, l, e) = let rest : least (y ∷ xs) ≤ n = least_below (y ∷ xs) n (k, omega (arith, l), e) in omega (arith, rest)
 
 pub deadline_late : ComesLate → (timing : Timing) → IsTimed timing → (point start : ℕ) → point < length timing.points → start < deadline timing point start
 deadline_late late timing timed point start h =

@@ -2,7 +2,7 @@
 use Rattle.std.proofs.Common.{◌≡◌, ℕ, zero, suc, ◌+◌, ◌-◌, ◌*◌, ◌/◌, ◌%◌, ◌<◌, ◌≤◌, min, List, [], ◌∷◌, All, map, drop, length, get_or, refl, sym, ap, subst, ◌∙◌, arith}
 use Rattle.std.specs.Int.{◌∣◌}
 use Rattle.std.specs.List.{Contains}
-use Rattle.std.proofs.Math.Nat.{mul_assoc, div-add-mod', add-mul-mod_self_right, div-mul_cancel, add_comm}
+use Rattle.std.proofs.Math.Nat.{mul_assoc, div-add-mod', add-mul-mod_self_right, div-mul_cancel, add_comm, mul-le-mul}
 use Rattle.std.proofs.lemmas.List.{get_or-map, get_or-drop, length-drop, length-map}
 use Rattle.std.proofs.lemmas.List.Elements.{All-head, All-tail, All-weaker, All-contains_itself}
 use Rattle.psy_clock.specs.declared.clock.Clock.{Clock}
@@ -11,7 +11,7 @@ use Rattle.psy_tree.specs.declared.unit.Point.{Point}
 use Rattle.psy_meaning.specs.Timing.{Timing, point_at, clock_at, following, end_date, least, deadline}
 use Rattle.psy_meaning.specs.Graph.{periods}
 use Rattle.psy_graph.specs.Graphs.{IsTimed}
-use Rattle.psy_graph.specs.Steps.{cycle_of}
+use Rattle.psy_graph.specs.Steps.{STEP, cycle_of}
 use Rattle.psy_graph.proofs.Periods.{period_of, clock_lawful, cycle_is}
 
 -- The dates of a clock come again period by period.
@@ -73,3 +73,16 @@ deadline_of_phase again timing timed point start h =
         λ to c. (let w = timed.within point to c in end_of_phase again timing timed start to w.0 w.1) in
     least_later (end_date timing start) (end_date timing (start % cycle)) (start / cycle * cycle) (following timing point) (timed.some point h)
         (All-weaker (Contains (following timing point)) (λ to. end_date timing start to ≡ end_date timing (start % cycle) to + start / cycle * cycle) later (following timing point) (All-contains_itself (following timing point)))
+
+-- So many dates of a clock lie within so many periods.
+abbrev pub ComesNear : Type 0
+ComesNear = (c : Clock) (t k : ℕ) → IsClock c → 1 ≤ k → after_date c t k ≤ t + k * c.period
+
+pub end_near : ComesNear → (timing : Timing) → IsTimed timing → (start to : ℕ) → 1 ≤ to → to < length timing.points → end_date timing start to ≤ start + STEP
+end_near near timing timed start to some h =
+    let clock = clock_at timing (point_at timing to).clock in
+    let lawful = clock_lawful timing timed to h in
+    let count = timed.counts to some h in
+    let l : end_date timing start to ≤ start + (point_at timing to).count * clock.period = near clock start (point_at timing to).count lawful count.0 in
+    let m : (point_at timing to).count * clock.period ≤ STEP = mul-le-mul count.1 lawful.period in
+    omega (arith, l, m)

@@ -45,7 +45,7 @@ fn nexts_of(alloc: Global, agent: &AgentDecl) -> Result<Items<Items<u32>>, Memor
     ensures { IfOk result (λ nexts. (unit : Whole) (number : ℕ) → IsAgentOf unit number agent.now → AreNexts unit.functions agent.now nexts) }
 {
     let mut nexts = Items::new(alloc);
-    for point in 0..agent.points.len() {
+    'points: for point in 0..agent.points.len() {
         nexts.push(next_points(alloc, agent, point as u32)?)?;
     }
     Ok(nexts)
@@ -85,7 +85,7 @@ pub fn build(alloc: Global, unit: &Unit) -> Result<Items<Graph>, GraphFault>
     ensures cause { IfErr result (λ fault. (fault ≡ no_memory) ⊎ IsCause unit.now fault) }
 {
     let mut graphs = Items::new(alloc);
-    for number in 0..unit.agents.len() {
+    'agents: for number in 0..unit.agents.len() {
         push(&mut graphs, graph_of(alloc, unit, number as u32)?)?;
     }
     Ok(graphs)

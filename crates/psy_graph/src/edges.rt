@@ -23,7 +23,7 @@ fn least_of(numbers: &[u64]) -> u64
     ensures { result ≡ least numbers.now }
 {
     let mut least = numbers[0];
-    for number in numbers {
+    'numbers: for number in numbers {
         least = least.min(*number);
     }
     least
@@ -50,7 +50,7 @@ fn add_edges(
     ensures { OnOk result (edges.new ≡ edges.old ++ edges_from (timing_by times.now) places.now from) }
 {
     let points = times.next(node.point);
-    for k in 0..points.len() {
+    'points: for k in 0..points.len() {
         let place = Place { point: points[k], phase: ends[k] % modulus };
         edges.push(Edge {
             from,
@@ -111,7 +111,7 @@ pub fn draw(
     ensures cause { IfErr result (λ fault. (fault ≡ no_memory) ⊎ ((fault ≡ many_edges agent) × (EDGES < length (first_edges (timing_by times.now) places.now (length places.now))))) }
 {
     let mut graph = Graph { nodes: Items::new(alloc), edges: Items::new(alloc) };
-    for from in 0..places.len() {
+    'places: for from in 0..places.len() {
         if graph.edges.len() + times.next(places[from].point).len() > EDGES as usize {
             return Err(GraphFault::Edges(agent));
         }

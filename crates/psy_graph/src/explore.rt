@@ -82,7 +82,7 @@ impl Found {
         ensures cause { IfErr result (λ fault. (fault ≡ no_memory) ⊎ ((fault ≡ many_nodes agent) × PassesNodes (timing_by times.now))) }
     {
         let from = self.work[at];
-        for to in times.next(from.point) {
+        'next: for to in times.next(from.point) {
             let end = times.end(from.phase, *to);
             self.add(Place { point: *to, phase: end % modulus }, agent)?;
         }

@@ -44,6 +44,14 @@ impl Times<'_> {
         self.points[point as usize].budget
     }
 
+    /// The dates by which a point's `advance` goes on.
+    fn count(&self, point: u32) -> u32
+        requires { point < length self.now.points.now }
+        ensures { result ≡ (point_at (timing_by self.now) point).count }
+    {
+        self.points[point as usize].count
+    }
+
     /// The points that may follow a point.
     pub fn next(&self, point: u32) -> &[u32]
         requires { point < length self.now.nexts.now }
@@ -63,7 +71,7 @@ impl Times<'_> {
         ensures near { result ≤ start + STEP }
     {
         psy_clock::laws::distances();
-        self.clock(to).after(start, self.points[to as usize].count)
+        self.clock(to).after(start, self.count(to))
     }
 
     /// The dates at which an action from a point that started at a date may end, by the points that may follow.
@@ -74,7 +82,7 @@ impl Times<'_> {
         ensures { IfOk result (λ ends. ends ≡ map (end_date (timing_by self.now) start) (following (timing_by self.now) point)) }
     {
         let mut ends = Items::new(alloc);
-        for to in self.next(point) {
+        'next: for to in self.next(point) {
             ends.push(self.end(start, *to))?;
         }
         Ok(ends)

@@ -1,4 +1,4 @@
-use Rattle.psy_graph.proofs.Drawings.{explored, edges_fit}
+use Rattle.psy_graph.proofs.Explored.{explored, edges_fit}
 use Rattle.psy_graph.proofs.scratch.scratch.Goals as goal
 
 pub returns-clause-edges : goal.returns-clause-edges
