@@ -1,5 +1,6 @@
 pub mod Cycles
 pub mod Explored
+pub mod Finding
 pub mod Leasts
 pub mod Links
 pub mod Numbers

@@ -47,7 +47,7 @@ all_there again timing timed places are point start (later from begun to may fol
 
 -- ---- a place put among others
 
-insert_all : (P : Place → Type 0) (places : List Place) (p : Place) (at : ℕ) → All P places → P p → All P (insert places at p)
+pub insert_all : (P : Place → Type 0) (places : List Place) (p : Place) (at : ℕ) → All P places → P p → All P (insert places at p)
 insert_all P places p at all one = All-permutation P (p ∷ places) (insert places at p) (IsPermutation-insert places at p) (All-cons P p places one all)
 
 pub insert_kept : (places : List Place) (p : Place) (at : ℕ) (q : Place) → Contains places q → Contains (insert places at p) q

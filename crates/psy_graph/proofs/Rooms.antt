@@ -3,6 +3,7 @@ use Rattle.std.proofs.Common.{◌≡◌, ◌⊎◌, ℕ, zero, suc, ◌+◌, ◌
 use Rattle.std.specs.List.{AllPairs, Contains, insert, slice_get}
 use Rattle.std.proofs.lemmas.Bool.{cases_lt, cases_order}
 use Rattle.std.proofs.lemmas.Option.{slice_get-get_or}
+use Rattle.std.proofs.lemmas.List.{get_or_default}
 use Rattle.std.proofs.lemmas.List.Edits.{length-insert, get_or-insert_below, get_or-insert_at, get_or-insert_above}
 use Rattle.psy_graph.specs.declared.place.Place.{Place}
 use Rattle.psy_graph.specs.Places.{Before, IsSought, IsRoom}
@@ -121,3 +122,23 @@ room_for (x ∷ xs) p rise = elim (order x p) [
     | inr b ↦ inr (0, record { within = omega arith; below = λ i d l. absurd (omega (arith, l)); above = λ i d a l. room_front x xs p rise b i d l })
   ]
 ]
+
+-- ---- the search
+
+-- Where the place in the middle stands before the one that is sought, so do those up to it.
+pub search_low : (places : List Place) (p : Place) (middle : ℕ) (d : Place) → AllPairs Before places → middle < length places → Before (get_or places middle d) p → (i : ℕ) (e : Place) → i < middle + 1 → Before (get_or places i e) p
+search_low places p middle d rise l b i e il =
+    let at : Before (get_or places middle e) p = subst (λ q. Before q p) (get_or_default places middle d e l) b in
+    elim (cases_lt i middle) [
+      | inl m ↦ before_chain (get_or places i e) (get_or places middle e) p (rise i middle e m l) at
+      | inr m ↦ (let is : i ≡ middle = omega (arith, il, m) in subst (λ k. Before (get_or places k e) p) (sym is) at)
+    ]
+
+-- Where it doesn't, those behind it don't either.
+pub search_high : (places : List Place) (p : Place) (middle : ℕ) (d : Place) → AllPairs Before places → middle < length places → (Before (get_or places middle d) p → ⊥) → (i : ℕ) (e : Place) → middle ≤ i → i < length places → Before (get_or places i e) p → ⊥
+search_high places p middle d rise l other i e mi il b =
+    let at : Before (get_or places middle e) p → ⊥ = λ h. other (subst (λ q. Before q p) (get_or_default places middle e d l) h) in
+    elim (cases_lt middle i) [
+      | inl m ↦ at (before_chain (get_or places middle e) (get_or places i e) p (rise middle i e m il) b)
+      | inr m ↦ (let is : i ≡ middle = omega (arith, mi, m) in at (subst (λ k. Before (get_or places k e) p) is b))
+    ]
