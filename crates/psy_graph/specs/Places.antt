@@ -41,9 +41,17 @@ IsAdded place work places work_new places_new =
     (Contains places place × (work_new ≡ work) × (places_new ≡ places))
     ⊎ ((at : ℕ) × IsRoom places place at × (work_new ≡ work ++ place ∷ []) × (places_new ≡ insert places at place))
 
+-- Where an action from this place that reaches a point is followed
+abbrev pub follower : Timing → Place → ℕ → Place
+follower timing place to = place_at timing to (end_date timing place.phase to)
+
 -- The places of all actions that may follow one from this place are found.
 abbrev pub HasFollowers : Timing → List Place → Place → Type 0
-HasFollowers timing places place = (to : ℕ) → Contains (following timing place.point) to → Contains places (place_at timing to (end_date timing place.phase to))
+HasFollowers timing places place = (to : ℕ) → Contains (following timing place.point) to → Contains places (follower timing place to)
+
+-- The items of a list stand at the front of another.
+abbrev pub IsFront : List Place → List Place → Type 0
+IsFront front work = (i : ℕ) (d : Place) → i < length front → (i < length work) × (slice_index_or work i d ≡ slice_index_or front i d)
 
 -- Phases lie no farther than that many found places can.
 abbrev pub AreNear : List Place → Type 0

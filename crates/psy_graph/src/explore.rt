@@ -3,18 +3,20 @@
 ghost use Rattle.std.specs.Prelude.{◌≡◌, ◌⊎◌, ℕ, ◌+◌, ◌*◌, ◌<◌, ◌≤◌, [], ◌∷◌, ◌++◌, length, IfOk, OnOk, OnErr, IfErr, take, slice_index_or};
 ghost use Rattle.std.specs.List.{AllPairs, Contains, insert};
 ghost use Rattle.psy_base.specs.declared.limits.TheConstants.{NODES};
+ghost use Rattle.psy_meaning.specs.Timing.{following};
 ghost use Rattle.psy_meaning.specs.Graph.{PassesNodes};
 ghost use Rattle.psy_graph.specs.declared.fault.GraphFault.TheVariants.{Nodes as many_nodes, Memory as no_memory};
 ghost use Rattle.psy_graph.specs.declared.place.Place.{Place as Where};
 ghost use Rattle.psy_graph.specs.Graphs.{IsTimed};
 ghost use Rattle.psy_graph.specs.Steps.{timing_by, IsModulus, STEP};
-ghost use Rattle.psy_graph.specs.Places.{Before, IsRoom, IsAdded, IsMetAt, HasFollowers, AreFound, ArePlaces, AreNear, place_at};
+ghost use Rattle.psy_graph.specs.Places.{Before, IsRoom, IsAdded, IsMetAt, HasFollowers, AreFound, ArePlaces, AreNear, IsFront, follower};
 
 use crate::fault::GraphFault;
 use crate::place::{Place, seek, stands_at};
 use crate::times::Times;
 use psy_base::limits::NODES;
 use psy_base::{Items, Memory};
+use psy_clock::laws::distances;
 use std::alloc::Global;
 
 /// The places that were found so far.
@@ -67,24 +69,61 @@ impl Found {
         Ok(())
     }
 
-    /// Finds the places of all actions that may follow one from the place of this number.
-    fn follow(&mut self, at: usize, times: &Times, modulus: u64, agent: u32) -> Result<(), GraphFault>
+    /// Finds the place where an action from the place of this number is followed that reaches a point.
+    fn reach(
+        &mut self,
+        at: usize,
+        to: u32,
+        times: &Times,
+        modulus: u64,
+        agent: u32,
+    ) -> Result<(), GraphFault>
         requires timed { IsTimed (timing_by times.now) }
         requires modulus { IsModulus (timing_by times.now) modulus }
         requires at { at < length self.old.work.items }
         requires found { AreFound (timing_by times.now) self.old.work.items self.old.places.items }
         requires few { length self.old.places.items ≤ NODES }
-        ensures few { OnOk result (length self.new.places.items ≤ NODES) }
+        requires follows { (d : Where) → Contains (following (timing_by times.now) (slice_index_or self.old.work.items at d).point) to }
         ensures found { OnOk result (AreFound (timing_by times.now) self.new.work.items self.new.places.items) }
-        ensures kept { OnOk result ((i : ℕ) (d : Where) → i < length self.old.work.items → (i < length self.new.work.items) × (slice_index_or self.new.work.items i d ≡ slice_index_or self.old.work.items i d)) }
+        ensures few { OnOk result (length self.new.places.items ≤ NODES) }
+        ensures front { OnOk result (IsFront self.old.work.items self.new.work.items) }
+        ensures grown { OnOk result ((place : Where) → Contains self.old.places.items place → Contains self.new.places.items place) }
+        ensures reached { OnOk result ((d : Where) → Contains self.new.places.items (follower (timing_by times.now) (slice_index_or self.old.work.items at d) to)) }
+        ensures cause { IfErr result (λ fault. (fault ≡ no_memory) ⊎ ((fault ≡ many_nodes agent) × PassesNodes (timing_by times.now))) }
+    {
+        distances();
+        let from = self.work[at];
+        let end = times.end(from.phase, to);
+        let place = Place {
+            point: to,
+            phase: end % modulus,
+        };
+        self.add(place, agent)
+    }
+
+    /// Finds the places of all actions that may follow one from the place of this number.
+    fn follow(
+        &mut self,
+        at: usize,
+        times: &Times,
+        modulus: u64,
+        agent: u32,
+    ) -> Result<(), GraphFault>
+        requires timed { IsTimed (timing_by times.now) }
+        requires modulus { IsModulus (timing_by times.now) modulus }
+        requires at { at < length self.old.work.items }
+        requires found { AreFound (timing_by times.now) self.old.work.items self.old.places.items }
+        requires few { length self.old.places.items ≤ NODES }
+        ensures found { OnOk result (AreFound (timing_by times.now) self.new.work.items self.new.places.items) }
+        ensures few { OnOk result (length self.new.places.items ≤ NODES) }
+        ensures front { OnOk result (IsFront self.old.work.items self.new.work.items) }
         ensures grown { OnOk result ((place : Where) → Contains self.old.places.items place → Contains self.new.places.items place) }
         ensures followers { OnOk result ((d : Where) → HasFollowers (timing_by times.now) self.new.places.items (slice_index_or self.old.work.items at d)) }
         ensures cause { IfErr result (λ fault. (fault ≡ no_memory) ⊎ ((fault ≡ many_nodes agent) × PassesNodes (timing_by times.now))) }
     {
         let from = self.work[at];
         'next: for to in times.next(from.point) {
-            let end = times.end(from.phase, *to);
-            self.add(Place { point: *to, phase: end % modulus }, agent)?;
+            self.reach(at, *to, times, modulus, agent)?;
         }
         Ok(())
     }

@@ -5,6 +5,7 @@ ghost use Rattle.psy_graph.specs.Steps.{timing_by, STEP};
 
 use psy_base::{Items, Memory};
 use psy_clock::Clock;
+use psy_clock::laws::distances;
 use psy_tree::Point;
 use std::alloc::Global;
 
@@ -70,7 +71,7 @@ impl Times<'_> {
         ensures late { start < result }
         ensures near { result ≤ start + STEP }
     {
-        psy_clock::laws::distances();
+        distances();
         self.clock(to).after(start, self.count(to))
     }
 
