@@ -5,16 +5,17 @@ use Rattle.std.proofs.Math.Nat.{mod-le, mul-le-mul_left}
 use Rattle.std.proofs.lemmas.Bool.{cases_lt}
 use Rattle.std.proofs.lemmas.List.{get_or_append_left, get_or_push, get_or_default}
 use Rattle.std.proofs.lemmas.List.Edits.{length-insert}
-use Rattle.std.proofs.lemmas.List.Elements.{All-contains, Contains-append_left, Contains-push, Contains-push_cases}
-use Rattle.psy_base.specs.declared.limits.TheConstants.{NODES}
+use Rattle.std.proofs.lemmas.List.Elements.{All-nil, All-cons, All-contains, All-contains_itself, All-weaker, Contains-append_left, Contains-push, Contains-push_cases}
+use Rattle.psy_base.specs.declared.limits.TheConstants.{NODES, PERIOD}
 use Rattle.psy_meaning.specs.Timing.{Timing, following, first_date, end_date}
 use Rattle.psy_graph.specs.declared.cycle.TheConstants.{FAR}
 use Rattle.psy_graph.specs.declared.place.Place.{Place}
 use Rattle.psy_graph.specs.Graphs.{IsTimed}
 use Rattle.psy_graph.specs.Steps.{STEP, IsModulus, cycle_of}
-use Rattle.psy_graph.specs.Places.{place_at, Before, IsMetAt, IsRoom, IsAdded, HasFollowers, AreFound}
+use Rattle.psy_graph.specs.Places.{place_at, Before, IsMetAt, IsRoom, IsAdded, IsFront, HasFollowers, AreFound, ArePlaces, AreNear, follower}
+use Rattle.psy_graph.proofs.Periods.{clock_lawful}
 use Rattle.psy_graph.proofs.Rooms.{room_rise}
-use Rattle.psy_graph.proofs.Reached.{insert_all, insert_kept, insert_has, insert_cases}
+use Rattle.psy_graph.proofs.Reached.{first_met, insert_all, insert_kept, insert_has, insert_cases}
 
 abbrev place : ℕ → ℕ → Place
 place point phase = record { point = point; phase = phase }
@@ -100,3 +101,62 @@ all_done timing places p done to c =
     let tos = following timing p.point in
     let is : get_or tos c.0 0 ≡ to = get_or_default tos c.0 0 to c.1 ∙ c.2 in
     subst (λ n. Contains places (place_at timing n (end_date timing p.phase n))) is (done c.0 c.1)
+
+-- ---- the whole work
+
+-- The first place is found.
+pub found_first : (timing : Timing) (p : Place) → p ≡ place_at timing 0 (first_date timing) → p.phase ≤ STEP → AreFound timing (p ∷ []) (p ∷ [])
+found_first timing p is near = record {
+  met = subst (λ q. All (IsMetAt timing) (q ∷ [])) (sym is) (All-cons (IsMetAt timing) (place_at timing 0 (first_date timing)) [] (first_met timing) (All-nil (IsMetAt timing)));
+  first = subst (Contains (p ∷ [])) is (0, omega arith, refl);
+  rise = λ i j d ij jl. absurd (omega (arith, ij, jl));
+  same = λ q. (λ c. c, λ c. c);
+  count = refl;
+  near = near_push [] p (λ i d l. absurd (omega (arith, l))) (omega (arith, near));
+}
+
+-- The first date is near.
+pub first_near : (timing : Timing) → IsTimed timing → first_date timing ≤ PERIOD
+first_near timing timed =
+    let lawful = clock_lawful timing timed 0 (omega (arith, timed.head)) in omega (arith, lawful.first, lawful.period)
+
+-- The place where the first action starts, as it is made
+pub first_made : (timing : Timing) (modulus date : ℕ) → IsTimed timing → IsModulus timing modulus → date ≡ first_date timing → place 0 (date % modulus) ≡ place_at timing 0 (first_date timing)
+first_made timing modulus date timed m e =
+    let near = first_near timing timed in
+    ap (place 0) (m.agrees date (omega (arith, near, e)) ∙ ap (λ n. n % cycle_of timing) e)
+
+-- Followers stay found where more is.
+followers_kept : (timing : Timing) (places more : List Place) (p : Place) → ((q : Place) → Contains places q → Contains more q) → HasFollowers timing places p → HasFollowers timing more p
+followers_kept timing places more p kept h to c = kept (follower timing p to) (h to c)
+
+-- One place of the work is done.
+pub work_more : (timing : Timing) (work places more_work more_places : List Place) (at : ℕ) →
+    ((i : ℕ) (d : Place) → i < at → i < length work → HasFollowers timing places (get_or work i d)) → at < length work →
+    IsFront work more_work → ((q : Place) → Contains places q → Contains more_places q) → ((d : Place) → HasFollowers timing more_places (get_or work at d)) →
+    (i : ℕ) (d : Place) → i < at + 1 → i < length more_work → HasFollowers timing more_places (get_or more_work i d)
+work_more timing work places more_work more_places at done l front kept one i d il _ =
+    let within : i < length work = omega (arith, il, l) in
+    let same : get_or more_work i d ≡ get_or work i d = (front i d within).1 in
+    subst (HasFollowers timing more_places) (sym same) (elim (cases_lt i at) [
+      | inl m ↦ followers_kept timing places more_places (get_or work i d) kept (done i d m within)
+      | inr m ↦ (let is : i ≡ at = omega (arith, il, m) in subst (λ k. HasFollowers timing more_places (get_or work k d)) (sym is) (one d))
+    ])
+
+-- What holds of each item of the work holds of each place.
+each_place : (P : Place → Type 0) (timing : Timing) (work places : List Place) → AreFound timing work places → ((i : ℕ) (d : Place) → i < length work → P (get_or work i d)) → All P places
+each_place P timing work places found each =
+    All-weaker (Contains places) P (λ p c. (let w = (found.same p).1 c in subst P w.2 (each w.0 p w.1))) places (All-contains_itself places)
+
+-- When all work is done, all places are found.
+pub work_done : (timing : Timing) (work places : List Place) → AreFound timing work places → ((i : ℕ) (d : Place) → i < length work → HasFollowers timing places (get_or work i d)) → ArePlaces timing places
+work_done timing work places found done = record {
+  met = found.met;
+  first = found.first;
+  rise = found.rise;
+  closed = each_place (HasFollowers timing places) timing work places found done;
+}
+
+pub work_near : (timing : Timing) (work places : List Place) → AreFound timing work places → length places ≤ NODES → AreNear places
+work_near timing work places found few =
+    each_place (λ p. p.phase ≤ STEP * NODES) timing work places found (λ i d l. (let n = found.near i d l in omega (arith, n, l, few, found.count)))

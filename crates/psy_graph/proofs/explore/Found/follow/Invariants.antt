@@ -12,5 +12,5 @@ invariant-next l = record {
   few : length l.self.places.items ≤ NODES;
   front : IsFront l.fn.self.work.items l.self.work.items;
   grown : (p : Place) → Contains l.fn.self.places.items p → Contains l.self.places.items p;
-  done : (k : ℕ) → k < l.to-index → Contains l.self.places.items (follower (timing_by l.times) l.from (get_or l.to-items k 0));
+  done : (d : Place) (k : ℕ) → k < l.to-index → Contains l.self.places.items (follower (timing_by l.times) (get_or l.fn.self.work.items l.at d) (get_or l.to-items k 0));
 }
