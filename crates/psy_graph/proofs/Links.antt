@@ -1,27 +1,30 @@
 -- The edges of the graph: those that are made from the places are those of the actions that may start.
-use Rattle.std.proofs.Common.{◌≡◌, ◌⊎◌, ◌≢◌, ℕ, zero, suc, ◌+◌, ◌-◌, ◌*◌, ◌/◌, ◌%◌, ◌<◌, ◌≤◌, min, List, [], ◌∷◌, ◌++◌, All, map, length, get_or, refl, sym, ap, subst, ◌∙◌, inl, inr, Some, arith, length-append}
+use Rattle.std.proofs.Common.{◌≡◌, ◌⊎◌, ◌≢◌, ℕ, zero, suc, ◌+◌, ◌-◌, ◌*◌, ◌/◌, ◌%◌, ◌<◌, ◌≤◌, min, List, [], ◌∷◌, ◌++◌, All, map, length, get_or, take, append_assoc, refl, sym, ap, subst, ◌∙◌, inl, inr, Some, arith, length-append}
 use Rattle.std.specs.List.{AllPairs, Contains, slice_get}
 use Rattle.std.proofs.lemmas.Bool.{cases_lt}
 use Rattle.std.proofs.lemmas.Option.{slice_get-get_or, slice_get_within, get_or_from_slice_get}
-use Rattle.std.proofs.lemmas.List.{get_or-map, length-map, get_or_append_left, get_or-append_right, get_or_default}
+use Rattle.std.proofs.lemmas.List.{map_more, get_or-map, length-map, get_or_append_left, get_or-append_right, get_or_default}
 use Rattle.std.proofs.lemmas.List.Elements.{All-nil, All-head, All-tail, All-map, All-contains, All-contains_itself, All-weaker, All-get_or, Contains-append_left, Contains-append_right, Contains-append_cases}
 use Rattle.psy_base.specs.declared.edge.Edge.{Edge}
+use Rattle.psy_base.specs.declared.limits.TheConstants.{NODES}
 use Rattle.psy_clock.specs.declared.clock.Clock.{Clock}
 use Rattle.psy_clock.specs.Dates.{IsClock, after_date}
 use Rattle.psy_meaning.specs.Flow.{Rises}
 use Rattle.psy_meaning.specs.Timing.{Timing, point_at, clock_at, following, budget_at, end_date, least, deadline, MayStart}
 use Rattle.psy_meaning.specs.Graph.{Spot, spot_at, IsEdgeOf, EdgeBefore, AreEdges}
+use Rattle.psy_graph.specs.declared.cycle.TheConstants.{FAR}
+use Rattle.psy_graph.specs.declared.graph.Node.{Node}
 use Rattle.psy_graph.specs.declared.place.Place.{Place}
 use Rattle.psy_graph.specs.Graphs.{IsTimed}
-use Rattle.psy_graph.specs.Steps.{cycle_of}
-use Rattle.psy_graph.specs.Places.{spot_by, place_at, Before, IsMetAt, HasFollowers, ArePlaces}
-use Rattle.psy_graph.specs.Drawn.{number_of, place_of, edge_to, edges_from, first_edges}
+use Rattle.psy_graph.specs.Steps.{STEP, IsModulus, cycle_of}
+use Rattle.psy_graph.specs.Places.{spot_by, place_at, Before, IsMetAt, IsSought, HasFollowers, ArePlaces, AreNear}
+use Rattle.psy_graph.specs.Drawn.{number_of, place_of, node_of, edge_to, edges_from, first_edges}
 use Rattle.psy_graph.proofs.Periods.{clock_lawful}
 use Rattle.psy_graph.proofs.Leasts.{least_below}
-use Rattle.psy_graph.proofs.Phases.{ComesAgain, phase_and_cycles, end_of_phase, deadline_of_phase, same_phase}
+use Rattle.psy_graph.proofs.Phases.{ComesAgain, ComesNear, end_near, phase_and_cycles, end_of_phase, deadline_of_phase, same_phase}
 use Rattle.psy_graph.proofs.Rooms.{same_place}
 use Rattle.psy_graph.proofs.Reached.{may_point, all_there}
-use Rattle.psy_graph.proofs.Numbers.{number_at, number_is, number_rises, place_there}
+use Rattle.psy_graph.proofs.Numbers.{number_at, number_is, number_rises, place_there, sought_at}
 
 -- ---- lists
 
@@ -239,3 +242,51 @@ are_edges again late timing timed places are = record {
     λ is. edge_made again timing timed places are is.0 is.1 is.2 e is.3,
   );
 }
+
+-- ---- edges as they are made
+
+-- The point of a place is one of the agent's.
+pub place_point : (timing : Timing) → IsTimed timing → (places : List Place) → ArePlaces timing places → (from : ℕ) → from < length places → (place_of places from).point < length timing.points
+place_point timing timed places are from l =
+    let p = place_of places from in
+    let met : IsMetAt timing p = All-contains (IsMetAt timing) places p are.met (place_contained places from l) in
+    may_point timing timed p.point met.0 met.1
+
+-- An end date of an action that starts at a place lies near.
+pub place_end : ComesNear → (timing : Timing) → IsTimed timing → (places : List Place) → AreNear places → (from to : ℕ) → from < length places → Contains (following timing (place_of places from).point) to → end_date timing (place_of places from).phase to ≤ FAR
+place_end near timing timed places are from to l c =
+    let p = place_of places from in
+    let w = timed.within p.point to c in
+    let phase : p.phase ≤ STEP * NODES = are from (record { point = 0; phase = 0 }) l in
+    omega (arith, phase, end_near near timing timed p.phase to w.0 w.1)
+
+abbrev place : ℕ → ℕ → Place
+place point phase = record { point = point; phase = phase }
+
+-- The search finds the number of the place to which an edge leads.
+pub leads_to : ComesNear → (timing : Timing) → IsTimed timing → (modulus : ℕ) → IsModulus timing modulus → (places : List Place) → ArePlaces timing places → AreNear places → (from to end number : ℕ) → from < length places →
+    Contains (following timing (place_of places from).point) to → end ≡ end_date timing (place_of places from).phase to → IsSought places (place to (end % modulus)) number → number ≡ number_of places (next timing (place_of places from) to)
+leads_to near timing timed modulus m places are close from to end number l c e sought =
+    let p = place_of places from in
+    let far : end ≤ FAR = omega (arith, e, place_end near timing timed places close from to l c) in
+    let is : place to (end % modulus) ≡ next timing p to = ap (place to) (m.agrees end far ∙ ap (λ n. n % cycle_of timing) e) in
+    sought_at places (next timing p to) number are.rise (subst (λ q. IsSought places q number) is sought) (next_contained timing places are from to l c)
+
+-- An edge from a node
+pub edge_same : (timing : Timing) (places : List Place) (from to end number : ℕ) (node : Node) → node ≡ node_of timing (place_of places from) → end ≡ end_date timing (place_of places from).phase to → number ≡ number_of places (next timing (place_of places from) to) →
+    (e : Edge) → e ≡ record { from = from; to = number; len = end - node.phase; due = node.due; weight = node.budget } → e ≡ edge_to timing places from to
+edge_same timing places from to end number node is ends leads e made =
+    let phase : node.phase ≡ (place_of places from).phase = ap (λ n. n.phase) is in
+    let made_edge : Edge = record { from = from; to = number; len = end - node.phase; due = node.due; weight = node.budget } in
+    made ∙ same_edge made_edge (edge_to timing places from to) refl leads (omega (arith, phase, ends)) (ap (λ n. n.due) is) (ap (λ n. n.budget) is)
+
+pub ends_at : (f : ℕ → ℕ) (ends tos points : List ℕ) (k : ℕ) → ends ≡ map f tos → points ≡ tos → k < length points → get_or ends k 0 ≡ f (get_or points k 0)
+ends_at f ends tos points k e pe l =
+    let lt : k < length tos = subst (λ xs. k < length xs) pe l in
+    ap (λ xs. get_or xs k 0) e ∙ get_or-map f tos k 0 0 lt ∙ ap (λ xs. f (get_or xs k 0)) (sym pe)
+
+-- One more edge
+pub edges_more : {X Y : Type 0} (make : X → Y) (old edges new : List Y) (e : Y) (points : List X) (k : ℕ) (d : X) → k < length points → edges ≡ old ++ map make (take k points) → new ≡ edges ++ e ∷ [] → e ≡ make (get_or points k d) → new ≡ old ++ map make (take (k + 1) points)
+edges_more make old edges new e points k d l before pushed is =
+    pushed ∙ ap (λ x. edges ++ x ∷ []) is ∙ ap (λ xs. xs ++ make (get_or points k d) ∷ []) before
+        ∙ append_assoc old (map make (take k points)) (make (get_or points k d) ∷ []) ∙ ap (λ xs. old ++ xs) (sym (map_more make points k d l))

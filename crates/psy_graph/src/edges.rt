@@ -15,6 +15,7 @@ use crate::place::{Place, seek};
 use crate::times::Times;
 use psy_base::limits::EDGES;
 use psy_base::{Edge, Items, Memory};
+use psy_clock::laws::distances;
 use std::alloc::Global;
 
 /// The least of some numbers.
@@ -49,16 +50,18 @@ fn add_edges(
     requires ends { ends.now ≡ map (end_date (timing_by times.now) node.phase) (following (timing_by times.now) node.point) }
     ensures { OnOk result (edges.new ≡ edges.old ++ edges_from (timing_by times.now) places.now from) }
 {
+    distances();
     let points = times.next(node.point);
     'points: for k in 0..points.len() {
         let place = Place { point: points[k], phase: ends[k] % modulus };
-        edges.push(Edge {
+        let edge = Edge {
             from,
             to: seek(places, place) as u32,
             len: ends[k] - node.phase,
             due: node.due,
             weight: u64::from(node.budget),
-        })?;
+        };
+        edges.push(edge)?;
     }
     Ok(())
 }
