@@ -290,3 +290,26 @@ pub edges_more : {X Y : Type 0} (make : X → Y) (old edges new : List Y) (e : Y
 edges_more make old edges new e points k d l before pushed is =
     pushed ∙ ap (λ x. edges ++ x ∷ []) is ∙ ap (λ xs. xs ++ make (get_or points k d) ∷ []) before
         ∙ append_assoc old (map make (take k points)) (make (get_or points k d) ∷ []) ∙ ap (λ xs. old ++ xs) (sym (map_more make points k d l))
+
+-- ---- the edges of the first places
+
+pub first_none : (timing : Timing) (places : List Place) → [] ≡ first_edges timing places 0
+unfolding first_edges
+first_none timing places = refl
+
+first_next : (timing : Timing) (places : List Place) (n : ℕ) → first_edges timing places (suc n) ≡ first_edges timing places n ++ edges_from timing places n
+unfolding first_edges
+first_next timing places n = refl
+
+pub first_more : (timing : Timing) (places : List Place) (n : ℕ) → first_edges timing places (n + 1) ≡ first_edges timing places n ++ edges_from timing places n
+first_more timing places n = let e : n + 1 ≡ suc n = omega arith in ap (first_edges timing places) e ∙ first_next timing places n
+
+pub first_longer : (timing : Timing) (places : List Place) (n m : ℕ) → n ≤ m → length (first_edges timing places n) ≤ length (first_edges timing places m)
+first_longer timing places n zero l = let e : n ≡ 0 = omega (arith, l) in subst (λ k. length (first_edges timing places k) ≤ length (first_edges timing places 0)) (sym e) (omega arith)
+first_longer timing places n (suc m) l = elim (cases_lt m n) [
+  | inl h ↦ (let e : n ≡ suc m = omega (arith, l, h) in subst (λ k. length (first_edges timing places k) ≤ length (first_edges timing places (suc m))) (sym e) (omega arith))
+  | inr h ↦ (
+      let rest : length (first_edges timing places n) ≤ length (first_edges timing places m) = first_longer timing places n m h in
+      let more : length (first_edges timing places (suc m)) ≡ length (first_edges timing places m ++ edges_from timing places m) = ap length (first_next timing places m) in
+      omega (arith, rest, more, length-append (first_edges timing places m) (edges_from timing places m)))
+]

@@ -84,6 +84,7 @@ fn add_node(
     ensures nodes { OnOk result (graph.new.nodes ≡ graph.old.nodes ++ node_of (timing_by times.now) (place_of places.now from) ∷ []) }
     ensures edges { OnOk result (graph.new.edges ≡ graph.old.edges ++ edges_from (timing_by times.now) places.now from) }
 {
+    distances();
     let place = places[from as usize];
     let ends = times.ends(alloc, place.point, place.phase)?;
     let node = Node {
