@@ -22,6 +22,7 @@ use crate::fault::GraphFault;
 use crate::graph::Graph;
 use crate::times::Times;
 use psy_base::{Items, Memory};
+use psy_clock::laws::distances;
 use psy_flow::next_points;
 use psy_tree::{AgentDecl, Unit};
 use std::alloc::Global;
@@ -34,6 +35,7 @@ fn graph_by(alloc: Global, times: &Times, agent: u32) -> Result<Graph, GraphFaul
     ensures edges { IfOk result (λ graph. All (IsEdge (length graph.nodes)) graph.edges) }
     ensures cause { IfErr result (λ fault. (fault ≡ no_memory) ⊎ IsFaultOf (timing_by times.now) agent fault) }
 {
+    distances();
     let modulus = modulus(times);
     let places = explore(alloc, times, modulus, agent)?;
     draw(alloc, times, modulus, places.as_slice(), agent)
