@@ -8,3 +8,4 @@ pub mod Periods
 pub mod Phases
 pub mod Reached
 pub mod Rooms
+pub mod Timings

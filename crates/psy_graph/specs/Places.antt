@@ -7,6 +7,10 @@ use Rattle.psy_meaning.specs.Graph.{Spot, SpotBefore, IsMet}
 use Rattle.psy_graph.specs.declared.place.Place.{Place}
 use Rattle.psy_graph.specs.Steps.{STEP, cycle_of}
 
+-- The points that may follow one of an agent with so many points: some, and none of them the head
+abbrev pub IsList : ℕ → List ℕ → Type 0
+IsList points list = (0 < length list) × All (λ to. (1 ≤ to) × (to < points)) list
+
 -- The spot of a place
 abbrev pub spot_by : Place → Spot
 spot_by place = record { point = place.point; phase = place.phase }

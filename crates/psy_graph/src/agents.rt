@@ -13,6 +13,7 @@ ghost use Rattle.psy_graph.specs.declared.fault.GraphFault.{GraphFault as Fault}
 ghost use Rattle.psy_graph.specs.declared.fault.GraphFault.TheVariants.{Nodes as many_nodes, Edges as many_edges, Memory as no_memory};
 ghost use Rattle.psy_graph.specs.Graphs.{IsTimed, IsGraphOf, IsSmall, IsTimingOf, HasGraph, AreGraphs, IsCause};
 ghost use Rattle.psy_graph.specs.Steps.{timing_by};
+ghost use Rattle.psy_graph.specs.Places.{IsList};
 ghost use Rattle.psy_graph.specs.Faults.{IsFaultOf, HasFault};
 
 use crate::cycle::modulus;
@@ -44,7 +45,8 @@ fn graph_by(alloc: Global, times: &Times, agent: u32) -> Result<Graph, GraphFaul
 /// The points that may follow each point of an agent.
 fn nexts_of(alloc: Global, agent: &AgentDecl) -> Result<Items<Items<u32>>, Memory>
     requires { IsOfSome agent.now }
-    ensures { IfOk result (λ nexts. (unit : Whole) (number : ℕ) → IsAgentOf unit number agent.now → AreNexts unit.functions agent.now nexts) }
+    ensures nexts { IfOk result (λ nexts. (unit : Whole) (number : ℕ) → IsAgentOf unit number agent.now → AreNexts unit.functions agent.now nexts) }
+    ensures lists { IfOk result (All (IsList (length agent.now.points))) }
 {
     let mut nexts = Items::new(alloc);
     'points: for point in 0..agent.points.len() {
