@@ -8,7 +8,6 @@ mod explore;
 mod fault;
 mod graph;
 mod place;
-mod scratch;
 mod times;
 
 pub use agents::build;
