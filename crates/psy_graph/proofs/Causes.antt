@@ -13,6 +13,8 @@ use Rattle.psy_graph.specs.declared.fault.GraphFault.TheVariants.{Nodes, Edges, 
 use Rattle.psy_graph.specs.declared.graph.Graph.{Graph}
 use Rattle.psy_graph.specs.Graphs.{spot_of, IsGraphOf, IsSmall, IsTimed, IsTimingOf, HasGraph, AreGraphs, HaveGraphsBefore, IsCause}
 use Rattle.psy_graph.proofs.Explored.{explored}
+use Rattle.psy_graph.proofs.Links.{ComesLate}
+use Rattle.psy_graph.proofs.Phases.{ComesAgain}
 use Rattle.psy_graph.proofs.Unique.{same_timing, one_has, small_passes_no_nodes, small_passes_no_edges, one_passed}
 
 -- For each number below a bound there is one of these: so there is a list of them.
@@ -146,9 +148,9 @@ module _ (unit : Whole) where
   graphs_listed : HaveGraphsBefore unit (length unit.agents) → (graphs : List Graph) × AreGraphs unit graphs
   graphs_listed before = let (graphs, count, each) = listed (HasGraph unit) (length unit.agents) before in (graphs, record { count = count; each = each })
 
-  pub graphs_or_cause : ((number : ℕ) → number < length unit.agents → (timing : Timing) × IsTimingOf unit number timing × IsTimed timing) → ((graphs : List Graph) × AreGraphs unit graphs) ⊎ ((fault : GraphFault) × IsCause unit fault)
-  graphs_or_cause each =
-      let known = λ (number : ℕ) (less : number < length unit.agents). (let (timing, its, timed) = each number less in told number timing its (explored timing timed)) in
+  pub graphs_or_cause : ComesAgain → ComesLate → ((number : ℕ) → number < length unit.agents → (timing : Timing) × IsTimingOf unit number timing × IsTimed timing) → ((graphs : List Graph) × AreGraphs unit graphs) ⊎ ((fault : GraphFault) × IsCause unit fault)
+  graphs_or_cause again late each =
+      let known = λ (number : ℕ) (less : number < length unit.agents). (let (timing, its, timed) = each number less in told number timing its (explored again late timing timed)) in
       elim (before_or_cause known (length unit.agents) (omega arith)) [
         | inl before ↦ inl (graphs_listed before)
         | inr cause ↦ inr cause

@@ -1,6 +1,9 @@
-use Rattle.std.proofs.Common.{refl}
+use Rattle.std.proofs.Common.{refl, sym, subst, slice_index_or}
+use Rattle.std.proofs.lemmas.Option.{slice_get-get_or}
 use Rattle.psy_meaning.specs.Timing.{timing_of}
 use Rattle.psy_graph.proofs.Causes.{there, same_graphs, graphs_apart, same_cause, graphs_or_cause}
+use Rattle.psy_graph.specs.Graphs.{IsTimed}
+use Rattle.psy_graph.proofs.EdgesKept.{edges_kept}
 use Rattle.psy_graph.proofs.Timed.{timed}
 use Rattle.psy_graph.proofs.laws.one_graph.Goals as goal
 
@@ -14,7 +17,13 @@ pub returns-clause-cause : goal.returns-clause-cause
 returns-clause-cause c unit fault other text = same_cause unit fault other
 
 pub returns-clause-some : goal.returns-clause-some
-returns-clause-some c unit text = graphs_or_cause unit (λ number less.
+returns-clause-some c unit text = graphs_or_cause unit c.distances.ensures.again c.distances.ensures.late (λ number less.
     let (agent, got) = there unit.agents number less in
     let (nexts, are) = c.nexts.ensures.some unit number agent (text, got) in
     (timing_of unit agent nexts, (agent, nexts, got, are, refl), timed unit number agent nexts (text, got) are (c.known.ensures unit number agent (text, got)) (c.nexts.ensures.within unit number agent (text, got))))
+
+pub returns-clause-edges : goal.returns-clause-edges
+returns-clause-edges c unit graphs text are number d less =
+    let (timing, (agent, nexts, got, follow, is), drawn, small) = are.each number (slice_index_or graphs number d) (slice_get-get_or graphs number d less) in
+    let its = timed unit number agent nexts (text, got) follow (c.known.ensures unit number agent (text, got)) (c.nexts.ensures.within unit number agent (text, got)) in
+    edges_kept c.distances.ensures.late timing (slice_index_or graphs number d) (subst IsTimed (sym is) its) drawn
