@@ -1,10 +1,10 @@
 -- The code of a loop, and how its machine stands at each of its places.
 use Rattle.std.specs.Prelude.{◌≡◌, ℕ, ◌≤◌, List, [], ◌∷◌, Option, Some, None, ℤ, pos, ⊤}
+use Rattle.psy_arith.specs.declared.operators.Op2.TheVariants as op
 use Rattle.psy_code.specs.declared.code.Code.{Code}
 use Rattle.psy_code.specs.declared.code.AgentCode.{AgentCode}
 use Rattle.psy_code.specs.declared.code.CopyInit.{CopyInit}
 use Rattle.psy_code.specs.declared.code.FunctionCode.{FunctionCode}
-use Rattle.psy_code.specs.declared.instr.Binary.TheVariants as two
 use Rattle.psy_code.specs.declared.instr.Instr.{Instr}
 use Rattle.psy_code.specs.declared.instr.Instr.TheVariants as instr
 use Rattle.psy_code.specs.Execution.{Machine, OpenCall, Next, Went, Ended, Trapped, Stuck}
@@ -16,12 +16,12 @@ use Rattle.psy_bench.specs.declared.still.Still.{Still}
 -- The instructions of the agent, and behind them those of the function
 abbrev pub instrs : List Instr
 instrs =
-    instr.Zero 0 ∷ instr.Load 0 ∷ instr.Push (pos 8) ∷ instr.Binary two.Lt ∷ instr.Guard 0 8 ∷ instr.JumpZero 21 ∷
-    instr.Load 1 ∷ instr.Load 0 ∷ instr.Call 0 ∷ instr.Binary two.Add ∷ instr.Store 1 ∷ instr.Load 0 ∷
-    instr.Push (pos 3) ∷ instr.Binary two.And ∷ instr.Load 1 ∷ instr.StoreCell 2 4 ∷ instr.Load 0 ∷
-    instr.Push (pos 1) ∷ instr.Binary two.Add ∷ instr.Store 0 ∷ instr.Jump 1 ∷ instr.Push (pos 0) ∷
+    instr.Zero 0 ∷ instr.Load 0 ∷ instr.Push (pos 8) ∷ instr.Binary op.Lt ∷ instr.Guard 0 8 ∷ instr.JumpZero 21 ∷
+    instr.Load 1 ∷ instr.Load 0 ∷ instr.Call 0 ∷ instr.Binary op.Add ∷ instr.Store 1 ∷ instr.Load 0 ∷
+    instr.Push (pos 3) ∷ instr.Binary op.And ∷ instr.Load 1 ∷ instr.StoreCell 2 4 ∷ instr.Load 0 ∷
+    instr.Push (pos 1) ∷ instr.Binary op.Add ∷ instr.Store 0 ∷ instr.Jump 1 ∷ instr.Push (pos 0) ∷
     instr.Store 0 ∷ instr.Load 1 ∷ instr.StoreCopy 0 ∷ instr.Advance 1 ∷ instr.Jump 0 ∷ instr.Load 0 ∷
-    instr.Push (pos 3) ∷ instr.Binary two.Mul ∷ instr.Load 1 ∷ instr.Binary two.Sub ∷ instr.Return ∷ []
+    instr.Push (pos 3) ∷ instr.Binary op.Mul ∷ instr.Load 1 ∷ instr.Binary op.Sub ∷ instr.Return ∷ []
 
 -- The agent's one working copy, 0 at first
 abbrev pub first_copy : CopyInit

@@ -1,54 +1,70 @@
-ghost use Rattle.std.specs.Prelude.{◌≡◌, IfOk};
-ghost use Rattle.psy_bench.specs.Loop.{loop_code};
+ghost use Rattle.std.specs.Prelude.{◌≡◌, ◌≢◌, IfOk};
+ghost use Rattle.psy_arith.specs.declared.operators.Op2.TheVariants.{AndAnd, OrOr};
+ghost use Rattle.psy_code.specs.declared.instr.Instr.TheVariants as instr;
+ghost use Rattle.psy_bench.specs.Loop.{instrs, loop_code};
 
+use psy_arith::Op2;
 use psy_base::{Items, Memory};
 use psy_code::{AgentCode, Binary, Code, CopyInit, FunctionCode, Instr};
 use std::alloc::Global;
 
-const INSTRS: [Instr; 33] = [
-    Instr::Zero(0),
-    // while (n < 8) max 8
-    Instr::Load(0),
-    Instr::Push(8),
-    Instr::Binary(Binary::Lt),
-    Instr::Guard {
-        counter: 0,
-        bound: 8,
-    },
-    Instr::JumpZero(21),
-    // total = total + f(n);
-    Instr::Load(1),
-    Instr::Load(0),
-    Instr::Call(0),
-    Instr::Binary(Binary::Add),
-    Instr::Store(1),
-    // a[n & 3] = total;
-    Instr::Load(0),
-    Instr::Push(3),
-    Instr::Binary(Binary::And),
-    Instr::Load(1),
-    Instr::StoreCell { base: 2, cells: 4 },
-    // n = n + 1;
-    Instr::Load(0),
-    Instr::Push(1),
-    Instr::Binary(Binary::Add),
-    Instr::Store(0),
-    Instr::Jump(1),
-    // n = 0; v = total; advance
-    Instr::Push(0),
-    Instr::Store(0),
-    Instr::Load(1),
-    Instr::StoreCopy(0),
-    Instr::Advance(1),
-    Instr::Jump(0),
-    // f(x) with `int c = 5;`: return x * 3 - c;
-    Instr::Load(0),
-    Instr::Push(3),
-    Instr::Binary(Binary::Mul),
-    Instr::Load(1),
-    Instr::Binary(Binary::Sub),
-    Instr::Return,
-];
+// The instruction of an operator that takes both its operands
+fn binary(op: Op2) -> Instr
+    requires { (op ≢ AndAnd) × (op ≢ OrOr) }
+    ensures { result ≡ instr.Binary op }
+{
+    Instr::Binary(Binary::new(op).unwrap())
+}
+
+// The agent's instructions, and behind them those of the function
+fn instrs() -> [Instr; 33]
+    ensures { result ≡ instrs }
+{
+    [
+        Instr::Zero(0),
+        // while (n < 8) max 8
+        Instr::Load(0),
+        Instr::Push(8),
+        binary(Op2::Lt),
+        Instr::Guard {
+            counter: 0,
+            bound: 8,
+        },
+        Instr::JumpZero(21),
+        // total = total + f(n);
+        Instr::Load(1),
+        Instr::Load(0),
+        Instr::Call(0),
+        binary(Op2::Add),
+        Instr::Store(1),
+        // a[n & 3] = total;
+        Instr::Load(0),
+        Instr::Push(3),
+        binary(Op2::And),
+        Instr::Load(1),
+        Instr::StoreCell { base: 2, cells: 4 },
+        // n = n + 1;
+        Instr::Load(0),
+        Instr::Push(1),
+        binary(Op2::Add),
+        Instr::Store(0),
+        Instr::Jump(1),
+        // n = 0; v = total; advance
+        Instr::Push(0),
+        Instr::Store(0),
+        Instr::Load(1),
+        Instr::StoreCopy(0),
+        Instr::Advance(1),
+        Instr::Jump(0),
+        // f(x) with `int c = 5;`: return x * 3 - c;
+        Instr::Load(0),
+        Instr::Push(3),
+        binary(Op2::Mul),
+        Instr::Load(1),
+        binary(Op2::Sub),
+        Instr::Return,
+    ]
+}
 
 /// The code of an agent that adds up a function of 0 to 7 at each action.
 pub fn code(alloc: Global) -> Result<Code, Memory>
@@ -77,7 +93,7 @@ pub fn code(alloc: Global) -> Result<Code, Memory>
         counters: 0,
     })?;
     Ok(Code {
-        instrs: Items::from_slice(alloc, &INSTRS)?,
+        instrs: Items::from_slice(alloc, &instrs())?,
         agents,
         functions,
     })

@@ -4,6 +4,7 @@ use Rattle.std.specs.Prelude.{ℕ, ◌+◌, ◌==◌, nat_lt, Bool, true, false,
 use Rattle.std.specs.Int.{w32}
 use Rattle.psy_arith.specs.declared.operators.Op1.TheVariants as one
 use Rattle.psy_arith.specs.declared.operators.Op2.{Op2}
+use Rattle.psy_arith.specs.declared.operators.Op2.TheVariants as op
 use Rattle.psy_arith.specs.declared.operators.Trap.{Trap}
 use Rattle.psy_arith.specs.declared.operators.Trap.TheVariants as trap
 use Rattle.psy_arith.specs.declared.table.Row.{Row}
@@ -11,11 +12,10 @@ use Rattle.psy_arith.specs.Operators.{is_zero, truth, value1, value2}
 use Rattle.psy_arith.specs.Tables.{row_of}
 use Rattle.psy_code.specs.declared.code.AgentCode.{AgentCode}
 use Rattle.psy_code.specs.declared.code.Code.{Code}
-use Rattle.psy_code.specs.declared.instr.Binary.TheVariants as two
 use Rattle.psy_code.specs.declared.instr.Instr.{Instr}
 use Rattle.psy_code.specs.declared.instr.Instr.TheVariants as instr
 use Rattle.psy_code.specs.Views.{View, past_of, messages_of, first_of}
-use Rattle.psy_code.specs.Execution.{Machine, OpenCall, Next, Went, Ended, Trapped, Stuck, need, or_trap, with_top, with_two, onward, jump, index_in, load, store, load_cell, store_cell, copy_of, jump_zero, guard, back_from, op_of, binary, does, present}
+use Rattle.psy_code.specs.Execution.{Machine, OpenCall, Next, Went, Ended, Trapped, Stuck, need, or_trap, with_top, with_two, onward, jump, index_in, load, store, load_cell, store_cell, copy_of, jump_zero, guard, back_from, binary, does, present}
 use Rattle.psy_code.specs.Rows.{byte_of, rows, is_plain}
 
 -- Where it goes on, so many operands were popped and pushed.
@@ -125,22 +125,9 @@ module _ (code : Code) (agent : AgentCode) (view : View) (m : Machine) where
   grows (instr.Unary one.Neg) h = g_one (value1 w32 one.Neg)
   grows (instr.Unary one.Flip) h = g_one (value1 w32 one.Flip)
   grows (instr.Unary one.Not) h = g_one (value1 w32 one.Not)
-  grows (instr.Binary two.Mul) h = g_binary (op_of two.Mul)
-  grows (instr.Binary two.Div) h = g_binary (op_of two.Div)
-  grows (instr.Binary two.Rem) h = g_binary (op_of two.Rem)
-  grows (instr.Binary two.Add) h = g_binary (op_of two.Add)
-  grows (instr.Binary two.Sub) h = g_binary (op_of two.Sub)
-  grows (instr.Binary two.Shl) h = g_binary (op_of two.Shl)
-  grows (instr.Binary two.Shr) h = g_binary (op_of two.Shr)
-  grows (instr.Binary two.Lt) h = g_binary (op_of two.Lt)
-  grows (instr.Binary two.Le) h = g_binary (op_of two.Le)
-  grows (instr.Binary two.Gt) h = g_binary (op_of two.Gt)
-  grows (instr.Binary two.Ge) h = g_binary (op_of two.Ge)
-  grows (instr.Binary two.Eq) h = g_binary (op_of two.Eq)
-  grows (instr.Binary two.Ne) h = g_binary (op_of two.Ne)
-  grows (instr.Binary two.And) h = g_binary (op_of two.And)
-  grows (instr.Binary two.Xor) h = g_binary (op_of two.Xor)
-  grows (instr.Binary two.Or) h = g_binary (op_of two.Or)
+  -- the line below is tried at each other operator
+  grows (instr.Binary op.Mul) h = g_binary op.Mul
+  grows (instr.Binary operator) h = g_binary operator
 
   pub heights : (i : Instr) (n : Machine) (r : Row) → is_plain i ≡ true → row_of (byte_of i) rows ≡ Some r → does code agent view i m ≡ Went n → length n.operands + r.pops ≡ length m.operands + r.pushes
   heights i n r h e d = subst (Grows r.pops r.pushes (length m.operands)) d (subst (λ (x : Row). Grows x.pops x.pushes (length m.operands) (does code agent view i m)) (ap or_row e) (grows i h))

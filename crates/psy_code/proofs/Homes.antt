@@ -12,7 +12,7 @@ use Rattle.psy_code.specs.declared.code.FunctionCode.{FunctionCode}
 use Rattle.psy_code.specs.declared.instr.Instr.{Instr}
 use Rattle.psy_code.specs.declared.instr.Instr.TheVariants as instr
 use Rattle.psy_code.specs.Views.{View, past_of, messages_of, first_of}
-use Rattle.psy_code.specs.Execution.{Machine, Frame, OpenCall, Copy, RunState, Run, Running, RanTo, TrappedBy, NoRun, Next, Went, Ended, Trapped, Stuck, need, or_trap, with_top, in_code, within, does, next_of, call_of, run_by, run_code, go_on, innermost_frame, home_with, with_counter, copy_of, with_copy, onward, present, index_in, op_of, jump, guard, load, store, call, back_from, begun_at, has_room, instr_at}
+use Rattle.psy_code.specs.Execution.{Machine, Frame, OpenCall, Copy, RunState, Run, Running, RanTo, TrappedBy, NoRun, Next, Went, Ended, Trapped, Stuck, need, or_trap, with_top, in_code, within, does, next_of, call_of, run_by, run_code, go_on, innermost_frame, home_with, with_counter, copy_of, with_copy, onward, present, index_in, jump, guard, load, store, call, back_from, begun_at, has_room, instr_at}
 use Rattle.psy_code.specs.Lasting.{StandsAt}
 
 -- As many cells and counters, and copies of the same variables
@@ -140,7 +140,7 @@ module _ (code : Code) (agent : AgentCode) (m : Machine) where
   leaves view (instr.Call function) = l_need (slice_get code.functions function) _ l_call
   leaves view instr.Return = l_top m.operands _ (λ v rest. l_back m.calls)
   leaves view (instr.Advance point) = l_advance point
-  leaves view (instr.Binary operator) = l_top m.operands _ (λ b below. l_top below _ (λ a rest. l_trap trap.Divide (value2 w32 (op_of operator) a b) _ (λ v. alike refl refl)))
+  leaves view (instr.Binary operator) = l_top m.operands _ (λ b below. l_top below _ (λ a rest. l_trap trap.Divide (value2 w32 operator a b) _ (λ v. alike refl refl)))
   leaves view (instr.Unary operator) = l_top m.operands _ (λ a rest. alike refl refl)
 
   l_within : (next : Next) → Leaves agent m next → Leaves agent m (within agent next)

@@ -2,9 +2,9 @@
 use Rattle.std.specs.Prelude.{◌≡◌, Some}
 use Rattle.std.proofs.Common.{refl}
 use Rattle.psy_arith.specs.declared.operators.Op1.TheVariants as one
+use Rattle.psy_arith.specs.declared.operators.Op2.TheVariants as op
 use Rattle.psy_arith.specs.declared.table.Row.{Row}
 use Rattle.psy_arith.specs.Tables.{row_of}
-use Rattle.psy_code.specs.declared.instr.Binary.TheVariants as two
 use Rattle.psy_code.specs.declared.instr.Instr.{Instr}
 use Rattle.psy_code.specs.declared.instr.Instr.TheVariants as instr
 use Rattle.psy_code.specs.Rows.{byte_of, rows}
@@ -31,22 +31,9 @@ has_row (instr.Guard c b) = (_, refl)
 has_row (instr.Call f) = (_, refl)
 has_row instr.Return = (_, refl)
 has_row (instr.Advance p) = (_, refl)
-has_row (instr.Binary two.Mul) = (_, refl)
-has_row (instr.Binary two.Div) = (_, refl)
-has_row (instr.Binary two.Rem) = (_, refl)
-has_row (instr.Binary two.Add) = (_, refl)
-has_row (instr.Binary two.Sub) = (_, refl)
-has_row (instr.Binary two.Shl) = (_, refl)
-has_row (instr.Binary two.Shr) = (_, refl)
-has_row (instr.Binary two.Lt) = (_, refl)
-has_row (instr.Binary two.Le) = (_, refl)
-has_row (instr.Binary two.Gt) = (_, refl)
-has_row (instr.Binary two.Ge) = (_, refl)
-has_row (instr.Binary two.Eq) = (_, refl)
-has_row (instr.Binary two.Ne) = (_, refl)
-has_row (instr.Binary two.And) = (_, refl)
-has_row (instr.Binary two.Xor) = (_, refl)
-has_row (instr.Binary two.Or) = (_, refl)
+-- the line below is tried at each other operator
+has_row (instr.Binary op.Mul) = (_, refl)
+has_row (instr.Binary operator) = (_, refl)
 has_row (instr.Unary one.Neg) = (_, refl)
 has_row (instr.Unary one.Flip) = (_, refl)
 has_row (instr.Unary one.Not) = (_, refl)

@@ -3,7 +3,6 @@ use Rattle.std.specs.Prelude.{ℕ, zero, suc, ◌+◌, ◌%◌, ◌^◌, Bool, n
 use Rattle.std.specs.Int.{w32}
 use Rattle.psy_arith.specs.declared.operators.Op1.{Op1}
 use Rattle.psy_arith.specs.declared.operators.Op2.{Op2}
-use Rattle.psy_arith.specs.declared.operators.Op2.TheVariants as op
 use Rattle.psy_arith.specs.declared.operators.Trap.{Trap}
 use Rattle.psy_arith.specs.declared.operators.Trap.TheVariants as trap
 use Rattle.psy_arith.specs.Operators.{truth, is_zero, value1, value2}
@@ -12,8 +11,6 @@ use Rattle.psy_code.specs.declared.code.Code.{Code}
 use Rattle.psy_code.specs.declared.code.AgentCode.{AgentCode}
 use Rattle.psy_code.specs.declared.code.CopyInit.{CopyInit}
 use Rattle.psy_code.specs.declared.code.FunctionCode.{FunctionCode}
-use Rattle.psy_code.specs.declared.instr.Binary.{Binary}
-use Rattle.psy_code.specs.declared.instr.Binary.TheVariants as two
 use Rattle.psy_code.specs.declared.instr.Instr.{Instr}
 use Rattle.psy_code.specs.declared.instr.Instr.TheVariants as instr
 use Rattle.psy_code.specs.Views.{View, Call, Past, Ready, Take, Send, Deeds, past_of, messages_of, count_as_value, first_of, view_after, tick, done, found_in}
@@ -217,25 +214,6 @@ cleared frame = record frame { counters = replicate (length frame.counters) 0 }
 abbrev pub begun_at : ℕ → Machine → Machine
 begun_at place m = record m { place = place; operands = []; home = cleared m.home; calls = [] }
 
--- The operator of the language that an instruction names.
-abbrev pub op_of : Binary → Op2
-op_of two.Mul = op.Mul
-op_of two.Div = op.Div
-op_of two.Rem = op.Rem
-op_of two.Add = op.Add
-op_of two.Sub = op.Sub
-op_of two.Shl = op.Shl
-op_of two.Shr = op.Shr
-op_of two.Lt = op.Lt
-op_of two.Le = op.Le
-op_of two.Gt = op.Gt
-op_of two.Ge = op.Ge
-op_of two.Eq = op.Eq
-op_of two.Ne = op.Ne
-op_of two.And = op.And
-op_of two.Xor = op.Xor
-op_of two.Or = op.Or
-
 -- An operator on the two values on top, the lower one being its left side
 abbrev pub binary : Op2 → Machine → Next
 binary operator m = with_two m.operands (λ a b rest. or_trap trap.Divide (value2 w32 operator a b) (λ v. onward (v ∷ rest) m))
@@ -269,7 +247,7 @@ does code agent view (instr.Guard counter bound) m = guard counter bound m
 does code agent view (instr.Call function) m = need (slice_get code.functions function) (λ f. call f m)
 does code agent view instr.Return m = with_top m.operands (λ v rest. back_from m.calls m)
 does code agent view (instr.Advance point) m = need (slice_get agent.points point) (λ place. Ended point (begun_at place m))
-does code agent view (instr.Binary operator) m = binary (op_of operator) m
+does code agent view (instr.Binary operator) m = binary operator m
 does code agent view (instr.Unary operator) m = unary operator m
 
 -- How many cells and counters the open calls have.

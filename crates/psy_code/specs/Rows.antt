@@ -1,10 +1,32 @@
 -- The bytes of the instructions, and how many operands each pops and pushes.
 use Rattle.std.specs.Prelude.{ℕ, Bool, true, false, List, [], ◌∷◌}
 use Rattle.psy_arith.specs.declared.operators.Op1.TheVariants as one
+use Rattle.psy_arith.specs.declared.operators.Op2.{Op2}
+use Rattle.psy_arith.specs.declared.operators.Op2.TheVariants as op
 use Rattle.psy_arith.specs.declared.table.Row.{Row}
-use Rattle.psy_code.specs.declared.instr.Binary.TheVariants as two
 use Rattle.psy_code.specs.declared.instr.Instr.{Instr}
 use Rattle.psy_code.specs.declared.instr.Instr.TheVariants as instr
+
+-- The byte of an operator on two operands; `&&` and `||`, which no instruction has, as `&` and `|`.
+abbrev pub byte_of_operator : Op2 → ℕ
+byte_of_operator op.Mul = 32
+byte_of_operator op.Div = 33
+byte_of_operator op.Rem = 34
+byte_of_operator op.Add = 35
+byte_of_operator op.Sub = 36
+byte_of_operator op.Shl = 37
+byte_of_operator op.Shr = 38
+byte_of_operator op.Lt = 39
+byte_of_operator op.Le = 40
+byte_of_operator op.Gt = 41
+byte_of_operator op.Ge = 42
+byte_of_operator op.Eq = 43
+byte_of_operator op.Ne = 44
+byte_of_operator op.And = 45
+byte_of_operator op.Xor = 46
+byte_of_operator op.Or = 47
+byte_of_operator op.AndAnd = 45
+byte_of_operator op.OrOr = 47
 
 -- The byte of an instruction.
 abbrev pub byte_of : Instr → ℕ
@@ -29,22 +51,7 @@ byte_of (instr.Guard counter bound) = 18
 byte_of (instr.Call function) = 19
 byte_of instr.Return = 20
 byte_of (instr.Advance point) = 21
-byte_of (instr.Binary two.Mul) = 32
-byte_of (instr.Binary two.Div) = 33
-byte_of (instr.Binary two.Rem) = 34
-byte_of (instr.Binary two.Add) = 35
-byte_of (instr.Binary two.Sub) = 36
-byte_of (instr.Binary two.Shl) = 37
-byte_of (instr.Binary two.Shr) = 38
-byte_of (instr.Binary two.Lt) = 39
-byte_of (instr.Binary two.Le) = 40
-byte_of (instr.Binary two.Gt) = 41
-byte_of (instr.Binary two.Ge) = 42
-byte_of (instr.Binary two.Eq) = 43
-byte_of (instr.Binary two.Ne) = 44
-byte_of (instr.Binary two.And) = 45
-byte_of (instr.Binary two.Xor) = 46
-byte_of (instr.Binary two.Or) = 47
+byte_of (instr.Binary operator) = byte_of_operator operator
 byte_of (instr.Unary one.Neg) = 48
 byte_of (instr.Unary one.Flip) = 49
 byte_of (instr.Unary one.Not) = 50

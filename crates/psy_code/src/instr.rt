@@ -1,44 +1,80 @@
-ghost use Rattle.std.specs.Prelude.{◌≡◌};
-ghost use Rattle.psy_code.specs.Execution.{op_of};
-ghost use Rattle.psy_code.specs.Rows.{byte_of};
+ghost use Rattle.std.specs.Prelude.{◌≡◌, ◌≢◌, ◌⊎◌, MatchOption};
+ghost use Rattle.psy_arith.specs.declared.operators.Op2.TheVariants.{AndAnd, OrOr};
+ghost use Rattle.psy_code.specs.Rows.{byte_of, byte_of_operator};
 
 use psy_arith::{Op1, Op2};
+use std::marker::Model;
 
 /// An operator that takes both its operands from the stack. `&&` and `||` are none of these: their
-/// right side may not be evaluated, so they are a test with a jump.
+/// right side may not be evaluated, so they are a test with a jump. Contracts see it as the operator.
 #[derive(Clone, Copy, Debug, PartialEq, Eq)]
-pub enum Binary {
-    Mul,
-    Div,
-    Rem,
-    Add,
-    Sub,
-    Shl,
-    Shr,
-    Lt,
-    Le,
-    Gt,
-    Ge,
-    Eq,
-    Ne,
-    And,
-    Xor,
-    Or,
+pub struct Binary {
+    op: Op2,
+}
+
+impl Model for Binary {
+    ghost use Rattle.std.specs.Prelude.{◌≢◌};
+    ghost use Rattle.psy_arith.specs.declared.operators.Op2.{Op2};
+    ghost use Rattle.psy_arith.specs.declared.operators.Op2.TheVariants.{AndAnd, OrOr};
+
+    ghost Value = { Op2 };
+
+    ghost view = { λ b. b.op };
+
+    ghost inverse = { λ op. record { op = op } };
+
+    ghost invariant = { λ b. (b.op ≢ AndAnd) × (b.op ≢ OrOr) };
 }
 
 impl Binary {
-    /// The operator of the language.
-    pub fn op(self) -> Op2
-        ensures { result ≡ op_of self }
+    /// The operator as that of an instruction; `None` exactly for `&&` and `||`.
+    pub fn new(op: Op2) -> Option<Binary>
+        ensures { MatchOption result ((op ≡ AndAnd) ⊎ (op ≡ OrOr)) (λ b. (b ≡ op) × ((op ≢ AndAnd) × (op ≢ OrOr))) }
     {
-        macro_rules! same_name {
-            ($($name:ident)*) => {
-                match self {
-                    $(Binary::$name => Op2::$name,)*
+        match op {
+            Op2::AndAnd | Op2::OrOr => None,
+            _ => Some(Binary { op }),
+        }
+    }
+
+    /// The operator of the language, neither `&&` nor `||`.
+    pub fn op(self) -> Op2
+        ensures same { result ≡ self }
+        ensures eager { (result ≢ AndAnd) × (result ≢ OrOr) }
+    {
+        self.op
+    }
+
+    /// The byte of the instruction.
+    fn byte(self) -> u8
+        ensures { result ≡ byte_of_operator self }
+    {
+        macro_rules! bytes {
+            ($($name:ident => $byte:literal;)*) => {
+                match self.op {
+                    $(Op2::$name => $byte,)*
+                    Op2::AndAnd | Op2::OrOr => unreachable!(),
                 }
             };
         }
-        same_name!(Mul Div Rem Add Sub Shl Shr Lt Le Gt Ge Eq Ne And Xor Or)
+        bytes! {
+            Mul => 0x20;
+            Div => 0x21;
+            Rem => 0x22;
+            Add => 0x23;
+            Sub => 0x24;
+            Shl => 0x25;
+            Shr => 0x26;
+            Lt => 0x27;
+            Le => 0x28;
+            Gt => 0x29;
+            Ge => 0x2A;
+            Eq => 0x2B;
+            Ne => 0x2C;
+            And => 0x2D;
+            Xor => 0x2E;
+            Or => 0x2F;
+        }
     }
 }
 
@@ -99,7 +135,7 @@ impl Instr {
         ensures { result ≡ byte_of self.now }
     {
         macro_rules! bytes {
-            ($($form:pat => $byte:literal;)*) => {
+            ($($form:pat => $byte:expr;)*) => {
                 match self {
                     $($form => $byte,)*
                 }
@@ -127,22 +163,7 @@ impl Instr {
             Instr::Call(..) => 0x13;
             Instr::Return => 0x14;
             Instr::Advance(..) => 0x15;
-            Instr::Binary(Binary::Mul) => 0x20;
-            Instr::Binary(Binary::Div) => 0x21;
-            Instr::Binary(Binary::Rem) => 0x22;
-            Instr::Binary(Binary::Add) => 0x23;
-            Instr::Binary(Binary::Sub) => 0x24;
-            Instr::Binary(Binary::Shl) => 0x25;
-            Instr::Binary(Binary::Shr) => 0x26;
-            Instr::Binary(Binary::Lt) => 0x27;
-            Instr::Binary(Binary::Le) => 0x28;
-            Instr::Binary(Binary::Gt) => 0x29;
-            Instr::Binary(Binary::Ge) => 0x2A;
-            Instr::Binary(Binary::Eq) => 0x2B;
-            Instr::Binary(Binary::Ne) => 0x2C;
-            Instr::Binary(Binary::And) => 0x2D;
-            Instr::Binary(Binary::Xor) => 0x2E;
-            Instr::Binary(Binary::Or) => 0x2F;
+            Instr::Binary(operator) => operator.byte();
             Instr::Unary(Op1::Neg) => 0x30;
             Instr::Unary(Op1::Flip) => 0x31;
             Instr::Unary(Op1::Not) => 0x32;

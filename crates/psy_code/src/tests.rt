@@ -68,26 +68,28 @@ fn an_instruction_has_its_byte_and_its_row(rt: HostRuntime) {
 }
 
 #[test]
-fn a_binary_operator_has_its_byte_and_its_name(rt: HostRuntime) {
+fn a_binary_operator_has_its_byte(rt: HostRuntime) {
     let table = instructions();
-    for (operator, byte, op) in [
-        (Binary::Mul, 0x20, Op2::Mul),
-        (Binary::Div, 0x21, Op2::Div),
-        (Binary::Rem, 0x22, Op2::Rem),
-        (Binary::Add, 0x23, Op2::Add),
-        (Binary::Sub, 0x24, Op2::Sub),
-        (Binary::Shl, 0x25, Op2::Shl),
-        (Binary::Shr, 0x26, Op2::Shr),
-        (Binary::Lt, 0x27, Op2::Lt),
-        (Binary::Le, 0x28, Op2::Le),
-        (Binary::Gt, 0x29, Op2::Gt),
-        (Binary::Ge, 0x2A, Op2::Ge),
-        (Binary::Eq, 0x2B, Op2::Eq),
-        (Binary::Ne, 0x2C, Op2::Ne),
-        (Binary::And, 0x2D, Op2::And),
-        (Binary::Xor, 0x2E, Op2::Xor),
-        (Binary::Or, 0x2F, Op2::Or),
+    for (op, byte) in [
+        (Op2::Mul, 0x20),
+        (Op2::Div, 0x21),
+        (Op2::Rem, 0x22),
+        (Op2::Add, 0x23),
+        (Op2::Sub, 0x24),
+        (Op2::Shl, 0x25),
+        (Op2::Shr, 0x26),
+        (Op2::Lt, 0x27),
+        (Op2::Le, 0x28),
+        (Op2::Gt, 0x29),
+        (Op2::Ge, 0x2A),
+        (Op2::Eq, 0x2B),
+        (Op2::Ne, 0x2C),
+        (Op2::And, 0x2D),
+        (Op2::Xor, 0x2E),
+        (Op2::Or, 0x2F),
     ] {
+        let operator = Binary::new(op).expect(&rt, "an instruction's operator");
+        assert_eq!(rt; operator.op(), op, "operator of {operator:?}");
         assert_eq!(rt;
             Instr::Binary(operator).byte(),
             byte,
@@ -100,8 +102,10 @@ fn a_binary_operator_has_its_byte_and_its_name(rt: HostRuntime) {
                 pops: 2,
                 pushes: 1
             }),
-            "row of {operator:?}"
+            "row of {op:?}"
         );
-        assert_eq!(rt; operator.op(), op, "name of {operator:?}");
+    }
+    for op in [Op2::AndAnd, Op2::OrOr] {
+        assert_eq!(rt; Binary::new(op), None, "no instruction has {op:?}");
     }
 }

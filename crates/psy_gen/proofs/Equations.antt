@@ -1,6 +1,6 @@
 -- The code and the size of each kind of expression and statement.
-use Rattle.std.proofs.Common.{◌≡◌, ℕ, ◌+◌, List, [], ◌∷◌, ◌++◌, map, refl, sym, ap, ◌∙◌, arith, append_assoc}
-use Rattle.std.specs.Prelude.{Option, Some, None, ℤ, ◌≤◌}
+use Rattle.std.proofs.Common.{◌≡◌, ℕ, ◌+◌, List, [], ◌∷◌, ◌++◌, map, refl, sym, ap, ◌∙◌, inl, inr, arith, append_assoc}
+use Rattle.std.specs.Prelude.{◌⊎◌, Option, Some, None, ℤ, ◌≤◌}
 use Rattle.psy_arith.specs.declared.operators.Op1.{Op1}
 use Rattle.psy_arith.specs.declared.operators.Op2.{Op2}
 use Rattle.psy_arith.specs.declared.operators.Op2.TheVariants as op
@@ -15,7 +15,7 @@ use Rattle.psy_tree.specs.declared.unit.Stmt.TheOpen.{Stmt-F}
 use Rattle.psy_tree.specs.Paths.{total}
 use Rattle.psy_meaning.specs.Sizes.{binary_size, expr_size, expr_size_step, stmt_size, stmt_size_step, stmts_size}
 use Rattle.psy_meaning.specs.Depths.{loops, loops_in, loops_step}
-use Rattle.psy_gen.specs.Emission.{Layout, Emit, Operand, Coded, Part, Places, Placed, base_of, cells_in_slot, named, expr_code, expr_code_step, binary_code, arguments_code, stmt_code, stmt_code_step, stmts_code, block_size, block_loops, places_of, places_step, stmts_places, placed_size}
+use Rattle.psy_gen.specs.Emission.{Layout, Emit, Operand, Coded, Part, Places, Placed, base_of, cells_in_slot, expr_code, expr_code_step, binary_code, arguments_code, stmt_code, stmt_code_step, stmts_code, block_size, block_loops, places_of, places_step, stmts_places, placed_size}
 
 -- ---- expressions
 
@@ -57,7 +57,7 @@ pub code_binary : (layout : Layout) (o : Op2) (l r : Expr) (p : ℕ) → expr_co
 code_binary layout o l r p = code_rolled layout (expr.Binary o l r) (Expr-F.Binary o l r) p (expr.rolls-Binary o l r)
 
 -- an operator that evaluates both its sides
-pub binary_eager : (o : Op2) (l r : Operand) (p : ℕ) → (o ≡ op.AndAnd → ⊥) → (o ≡ op.OrOr → ⊥) → binary_code o l r p ≡ l.1 p ++ (r.1 (p + expr_size l.0) ++ instr.Binary (named o) ∷ [])
+pub binary_eager : (o : Op2) (l r : Operand) (p : ℕ) → (o ≡ op.AndAnd → ⊥) → (o ≡ op.OrOr → ⊥) → binary_code o l r p ≡ l.1 p ++ (r.1 (p + expr_size l.0) ++ instr.Binary o ∷ [])
 binary_eager op.AndAnd l r p x y = elim (x refl) [ ]
 binary_eager op.OrOr l r p x y = elim (y refl) [ ]
 binary_eager o l r p x y = refl
@@ -79,6 +79,11 @@ size_unary o e = size_rolled (expr.Unary o e) (Expr-F.Unary o e) (expr.rolls-Una
 
 pub size_binary : (o : Op2) (l r : Expr) → expr_size (expr.Binary o l r) ≡ expr_size l + (expr_size r + binary_size o)
 size_binary o l r = size_rolled (expr.Binary o l r) (Expr-F.Binary o l r) (expr.rolls-Binary o l r)
+
+-- a test and the truth of the right side
+pub size_lazy : (o : Op2) → (o ≡ op.AndAnd) ⊎ (o ≡ op.OrOr) → binary_size o ≡ 2
+size_lazy o (inl is) = ap binary_size is
+size_lazy o (inr is) = ap binary_size is
 
 pub size_call : (function : ℕ) (arguments : List Expr) → expr_size (expr.Call function arguments) ≡ total (map expr_size arguments) + 1
 size_call function arguments = size_rolled (expr.Call function arguments) (Expr-F.Call function arguments) (expr.rolls-Call function arguments)

@@ -16,7 +16,7 @@ use Rattle.psy_code.specs.declared.code.AgentCode.{AgentCode}
 use Rattle.psy_code.specs.declared.instr.Instr.{Instr}
 use Rattle.psy_code.specs.declared.instr.Instr.TheVariants as instr
 use Rattle.psy_code.specs.Views.{Past, Ready, Take, past_of, messages_of, count_as_value, first_of, found_in}
-use Rattle.psy_code.specs.Execution.{index_in, copy_of, op_of, present, does, Went, Trapped}
+use Rattle.psy_code.specs.Execution.{index_in, copy_of, present, does, Went, Trapped}
 use Rattle.psy_code.specs.Execution as code
 use Rattle.psy_tree.specs.Paths.{total}
 use Rattle.psy_meaning.specs.Sizes.{expr_size, expr_size_step}
@@ -25,7 +25,7 @@ use Rattle.psy_meaning.specs.Sound.{Scope, HasSlot, HasCopy, HasPast, HasStream,
 use Rattle.psy_meaning.specs.States.{Store, State, Got, Value, Eval, Callee, and_then, cost_1, asking, or_stop, value_at, copy_at, value_or_zero}
 use Rattle.psy_meaning.specs.Expressions.{eval, expr_step, element, messages_at, take_from, applied, truth_of, in_order}
 use Rattle.psy_meaning.proofs.SoundParts.{exprs_natural}
-use Rattle.psy_gen.specs.Emission.{Emit, Operand, base_of, cells_in_slot, named, arguments_code, expr_code_step, expr_code}
+use Rattle.psy_gen.specs.Emission.{Emit, Operand, base_of, cells_in_slot, arguments_code, expr_code_step, expr_code}
 use Rattle.psy_gen.proofs.Contexts.{Context, Home, Room, joined, machine_in, at, frame_size, present_in, copies_in, HasAt, has-first, has-second, Shape, GotAfter, got_leads, got_bind, got_before}
 use Rattle.psy_gen.proofs.Lookups.{cell_is, cells_are, copy_is, past_is, messages_are, taken_there, got_is, index_small}
 use Rattle.psy_gen.proofs.Steps.{step, traps}
@@ -175,20 +175,20 @@ module _ (whole : Code) (its : AgentCode) (sc : Scope) (k : Context) (callees : 
 
   -- ---- two operands
 
-  applied_step : (operator : Op2) (i : Instr) (named_it : i ≡ instr.Binary (named operator)) → op_of (named operator) ≡ operator → (a b : ℤ) (q : ℕ) (operands : List ℤ) (counters : List ℕ) (before t : State)
-      → slice_get whole.instrs q ≡ Some (instr.Binary (named operator)) → t.store ≡ before.store → Shape sc t
+  applied_step : (operator : Op2) (a b : ℤ) (q : ℕ) (operands : List ℤ) (counters : List ℕ) (before t : State)
+      → slice_get whole.instrs q ≡ Some (instr.Binary operator) → t.store ≡ before.store → Shape sc t
       → Room its k (frame_size before.store counters) (length operands + 1) 0 more → GotAfter whole its sc k (q + 1) operands counters before (at k q (b ∷ (a ∷ operands)) t counters) (applied operator a b t)
-  applied_step operator i named_it same_op a b q operands counters before t here same sh r = from (value2 w32 operator a b) refl
+  applied_step operator a b q operands counters before t here same sh r = from (value2 w32 operator a b) refl
     where
       from : (o : Option ℤ) → value2 w32 operator a b ≡ o → GotAfter whole its sc k (q + 1) operands counters before (at k q (b ∷ (a ∷ operands)) t counters) (or_stop trap.Divide o t (λ v. Value v (cost_1 t)))
-      from None f = traps whole its k sc q (b ∷ (a ∷ operands)) counters t (instr.Binary (named operator)) trap.Divide here (rw (same_op, f) refl)
+      from None f = traps whole its k sc q (b ∷ (a ∷ operands)) counters t (instr.Binary operator) trap.Divide here (rw f refl)
       from (Some v) f =
-          value_step (instr.Binary (named operator)) v before t (cost_1 t) q operands (b ∷ (a ∷ operands)) counters (length operands + 1) here (rw (same_op, f) refl) refl same (ticked t sh) r (omega arith)
+          value_step (instr.Binary operator) v before t (cost_1 t) q operands (b ∷ (a ∷ operands)) counters (length operands + 1) here (rw f refl) refl same (ticked t sh) r (omega arith)
 
-  both_runs : (operator : Op2) → op_of (named operator) ≡ operator → (cl cr : Emit) (nl nr : ℕ) (dl dr : Depth) (el er : Eval) → Goes cl nl dl el → Goes cr nr dr er
-      → Runs (λ p. cl p ++ (cr (p + nl) ++ instr.Binary (named operator) ∷ [])) (nl + (nr + 1)) (deeper dl (on_top_of 1 dr)) (λ s. and_then (el s) (λ a t. and_then (er t) (λ b u. applied operator a b u)))
-  both_runs operator same_op cl cr nl nr dl dr el er (lsized, ldeep, lruns) (rsized, rdeep, rruns) p operands counters s h small shape room =
-      let i = instr.Binary (named operator) in
+  both_runs : (operator : Op2) → (cl cr : Emit) (nl nr : ℕ) (dl dr : Depth) (el er : Eval) → Goes cl nl dl el → Goes cr nr dr er
+      → Runs (λ p. cl p ++ (cr (p + nl) ++ instr.Binary operator ∷ [])) (nl + (nr + 1)) (deeper dl (on_top_of 1 dr)) (λ s. and_then (el s) (λ a t. and_then (er t) (λ b u. applied operator a b u)))
+  both_runs operator cl cr nl nr dl dr el er (lsized, ldeep, lruns) (rsized, rdeep, rruns) p operands counters s h small shape room =
+      let i = instr.Binary operator in
       let d = deeper dl (on_top_of 1 dr) in
       let left = has-first whole.instrs p (cl p) (cr (p + nl) ++ i ∷ []) h in
       let right = behind cl nl p (cr (p + nl) ++ i ∷ []) lsized h in
@@ -203,7 +203,7 @@ module _ (whole : Code) (its : AgentCode) (sc : Scope) (k : Context) (callees : 
       (got_before whole its sc k (p + nl + nr) (a ∷ operands) counters s t (at k (p + nl) (a ∷ operands) t counters) (er t) same
       (rruns (p + nl) (a ∷ operands) counters t (has-first whole.instrs (p + nl) (cr (p + nl)) (i ∷ []) right) (omega (arith, small)) sh
       (room_in s.store t.store counters (length (a ∷ operands) + dr.operands) dr.cells same (fewer (frame_size s.store counters) (length operands + d.operands) (length (a ∷ operands) + dr.operands) d.cells dr.cells room (omega arith) (omega arith)))))
-      (λ b u same' sh'. applied_step operator i refl same_op a b (p + nl + nr) operands counters s u last.0 same' sh' r1)))
+      (λ b u same' sh'. applied_step operator a b (p + nl + nr) operands counters s u last.0 same' sh' r1)))
 
   -- `&&` and `||`
   abbrev end_of : ℕ → ℕ → ℕ → ℕ
@@ -369,13 +369,13 @@ module _ (whole : Code) (its : AgentCode) (sc : Scope) (k : Context) (callees : 
       Sized c n × (1 ≤ d.operands) × (sound_expr_step sc Expr (λ e. e) (IsSoundExpr sc) x → Runs c n d (expr_step callees (map-Expr Expr Eval (eval callees) x)))
 
   module _ (calls : CallsRun) (home : AtHome) where
-    both_layer : (operator : Op2) → op_of (named operator) ≡ operator → (l r : Known) → let n = expr_size l.0 + (expr_size r.0 + 1) in let c : Emit = (λ p. expr_code sc.layout l.0 p ++ (expr_code sc.layout r.0 (p + expr_size l.0) ++ instr.Binary (named operator) ∷ [])) in
+    both_layer : (operator : Op2) → (l r : Known) → let n = expr_size l.0 + (expr_size r.0 + 1) in let c : Emit = (λ p. expr_code sc.layout l.0 p ++ (expr_code sc.layout r.0 (p + expr_size l.0) ++ instr.Binary operator ∷ [])) in
         let d = deeper (expr_depth depths l.0) (on_top_of 1 (expr_depth depths r.0)) in
         Sized c n × (1 ≤ d.operands) × (IsSoundExpr sc l.0 × IsSoundExpr sc r.0 → Runs c n d (λ s. and_then (eval callees l.0 s) (λ a t. and_then (eval callees r.0 t) (λ b u. applied operator a b u))))
-    both_layer operator same l r = (
-      λ p. length-append (expr_code sc.layout l.0 p) _ ∙ omega (arith, l.1.0 p, len-one (expr_code sc.layout r.0 (p + expr_size l.0)) (instr.Binary (named operator)) (expr_size r.0) (r.1.0 (p + expr_size l.0))),
+    both_layer operator l r = (
+      λ p. length-append (expr_code sc.layout l.0 p) _ ∙ omega (arith, l.1.0 p, len-one (expr_code sc.layout r.0 (p + expr_size l.0)) (instr.Binary operator) (expr_size r.0) (r.1.0 (p + expr_size l.0))),
       omega (arith, l.1.1),
-      λ sound. both_runs operator same (expr_code sc.layout l.0) (expr_code sc.layout r.0) (expr_size l.0) (expr_size r.0) (expr_depth depths l.0) (expr_depth depths r.0) (eval callees l.0) (eval callees r.0) (goes_of l sound.0) (goes_of r sound.1),
+      λ sound. both_runs operator (expr_code sc.layout l.0) (expr_code sc.layout r.0) (expr_size l.0) (expr_size r.0) (expr_depth depths l.0) (expr_depth depths r.0) (eval callees l.0) (eval callees r.0) (goes_of l sound.0) (goes_of r sound.1),
     )
 
     lazy_sized : (test : ℕ → Instr) (l r : Known) → Sized (λ p. expr_code sc.layout l.0 p ++ (test (p + expr_size l.0 + 1 + expr_size r.0 + 1) ∷ (expr_code sc.layout r.0 (p + expr_size l.0 + 1) ++ instr.Truth ∷ []))) (expr_size l.0 + (expr_size r.0 + 2))
@@ -395,22 +395,7 @@ module _ (whole : Code) (its : AgentCode) (sc : Scope) (k : Context) (callees : 
       λ sound. lazy_runs instr.OrTest (expr_code sc.layout l.0) (expr_code sc.layout r.0) (expr_size l.0) (expr_size r.0) (expr_depth depths l.0) (expr_depth depths r.0) (eval callees l.0) (eval callees r.0) _ (goes_of l sound.0) (goes_of r sound.1)
           (λ v q operands counters before t here h small same sh room. or_choice (expr_code sc.layout r.0) (expr_size r.0) (expr_depth depths r.0) (eval callees r.0) (goes_of r sound.1) v q operands counters before t here h small same sh room),
     )
-    binary_layer op.Mul l r = both_layer op.Mul refl l r
-    binary_layer op.Div l r = both_layer op.Div refl l r
-    binary_layer op.Rem l r = both_layer op.Rem refl l r
-    binary_layer op.Add l r = both_layer op.Add refl l r
-    binary_layer op.Sub l r = both_layer op.Sub refl l r
-    binary_layer op.Shl l r = both_layer op.Shl refl l r
-    binary_layer op.Shr l r = both_layer op.Shr refl l r
-    binary_layer op.Lt l r = both_layer op.Lt refl l r
-    binary_layer op.Le l r = both_layer op.Le refl l r
-    binary_layer op.Gt l r = both_layer op.Gt refl l r
-    binary_layer op.Ge l r = both_layer op.Ge refl l r
-    binary_layer op.Eq l r = both_layer op.Eq refl l r
-    binary_layer op.Ne l r = both_layer op.Ne refl l r
-    binary_layer op.And l r = both_layer op.And refl l r
-    binary_layer op.Xor l r = both_layer op.Xor refl l r
-    binary_layer op.Or l r = both_layer op.Or refl l r
+    binary_layer operator l r = both_layer operator l r
 
     layer_runs : (y : Expr-F Known) → Layer (map-Expr Known Expr tree y)
     layer_runs (Expr-F.Number number) = (λ p. refl, omega arith, λ sound. number_runs number)

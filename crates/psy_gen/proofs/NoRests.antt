@@ -10,7 +10,8 @@ use Rattle.psy_meaning.proofs.RestsOf.{rests_count}
 use Rattle.psy_gen.specs.Emission.{places_in}
 use Rattle.psy_meaning.proofs.NoWays.{or_false}
 use Rattle.psy_gen.proofs.Basics.{differ}
-use Rattle.psy_gen.proofs.PlaceCounts.{placed, places_count}
+use Rattle.psy_gen.proofs.Equations.{placed}
+use Rattle.psy_gen.proofs.PlaceCounts.{places_count}
 
 abbrev Q : Stmt → Type 0
 Q stmt = holds true false stmt ≡ false → advances_of stmt ≡ []

@@ -1,8 +1,10 @@
 -- A jump is kept a place, and set once its target is known.
-use Rattle.std.proofs.Common.{◌≡◌, ℕ, ◌+◌, ◌<◌, List, drop, get_or, [], ◌∷◌, ◌++◌, length, refl, sym, ap, ◌∙◌, arith, append_assoc, length-append, length-set}
-use Rattle.std.specs.Prelude.{slice_set, Some, None}
+use Rattle.std.proofs.Common.{◌≡◌, ℕ, ◌+◌, ◌<◌, List, drop, get_or, [], ◌∷◌, ◌++◌, length, refl, sym, ap, ◌∙◌, inl, inr, arith, append_assoc, length-append, length-set}
+use Rattle.std.specs.Prelude.{◌⊎◌, slice_set, Some, None}
 use Rattle.std.proofs.lemmas.List.{drop_more}
 use Rattle.std.proofs.Math.Seq.{set-append_seam}
+use Rattle.psy_arith.specs.declared.operators.Op2.{Op2}
+use Rattle.psy_arith.specs.declared.operators.Op2.TheVariants as op
 use Rattle.psy_code.specs.declared.instr.Instr.{Instr}
 use Rattle.psy_code.specs.declared.instr.Instr.TheVariants as instr
 use Rattle.psy_tree.specs.declared.unit.Expr.{Expr}
@@ -10,7 +12,7 @@ use Rattle.psy_tree.specs.declared.unit.Stmt.{Stmt}
 use Rattle.psy_tree.specs.declared.unit.Stmt.TheVariants as stmt
 use Rattle.psy_meaning.specs.Sizes.{expr_size, stmt_size, stmts_size}
 use Rattle.psy_meaning.specs.Depths.{loops, loops_in}
-use Rattle.psy_gen.specs.Emission.{Layout, expr_code, exprs_code, lazy_code, stmt_code, stmts_code, places_of, stmts_places}
+use Rattle.psy_gen.specs.Emission.{Layout, expr_code, exprs_code, lazy_code, binary_code, stmt_code, stmts_code, places_of, stmts_places}
 use Rattle.psy_gen.proofs.Equations.{operand, code_if, code_if_else, code_bounded, code_timed}
 use Rattle.psy_gen.proofs.Lengths.{expr_length, stmt_length, stmts_length}
 
@@ -80,6 +82,12 @@ module _ (layout : Layout) where
       ∙ append_assoc c0 (expr_code layout l p) (test (length c4) ∷ right)
       ∙ ap (λ n. c0 ++ (expr_code layout l p ++ test n ∷ right)) to_end
       ∙ ap (λ n. c0 ++ (expr_code layout l p ++ test (p + expr_size l + 1 + expr_size r + 1) ∷ (expr_code layout r n ++ instr.Truth ∷ []))) to_middle
+
+  pub patch_either : (o : Op2) (x : Instr) (l r : Expr) (c0 c1 c2 c3 c4 : List Instr) (at : ℕ) → (o ≡ op.AndAnd) ⊎ (o ≡ op.OrOr) → (o ≡ op.AndAnd → x ≡ instr.AndTest (length c4)) → (o ≡ op.OrOr → x ≡ instr.OrTest (length c4)) →
+      c1 ≡ c0 ++ expr_code layout l (length c0) → at ≡ length c1 → c2 ≡ c1 ++ instr.Jump 0 ∷ [] → c3 ≡ c2 ++ expr_code layout r (length c2) → c4 ≡ c3 ++ instr.Truth ∷ [] →
+      slice_set c4 at x ≡ c0 ++ binary_code o (operand layout l) (operand layout r) (length c0)
+  patch_either o x l r c0 c1 c2 c3 c4 at (inl is) and or e1 m e2 e3 e4 = rw (and is, is) (patch_lazy instr.AndTest l r c0 c1 c2 c3 c4 at e1 m e2 e3 e4)
+  patch_either o x l r c0 c1 c2 c3 c4 at (inr is) and or e1 m e2 e3 e4 = rw (or is, is) (patch_lazy instr.OrTest l r c0 c1 c2 c3 c4 at e1 m e2 e3 e4)
 
   pub then_operator : (l r : Expr) (x : Instr) (c0 c1 c2 c3 : List Instr) →
       c1 ≡ c0 ++ expr_code layout l (length c0) → c2 ≡ c1 ++ expr_code layout r (length c1) → c3 ≡ c2 ++ x ∷ [] →

@@ -7,6 +7,7 @@ use Rattle.psy_tree.specs.declared.unit.Stmt.TheOpen.{Stmt-F}
 use Rattle.psy_meaning.specs.Sizes.{expr_size, stmt_size}
 use Rattle.psy_meaning.specs.Paths.{advances_step, advances_of, advances_in}
 use Rattle.psy_gen.specs.Emission.{Places, Placed, places_in, placed_size, places_step, places_of}
+use Rattle.psy_gen.proofs.Equations.{placed}
 
 abbrev Q : Stmt → Type 0
 Q stmt = (p : ℕ) → length (places_of stmt p) ≡ length (advances_of stmt)
@@ -16,9 +17,6 @@ Known = (stmt : Stmt) × Q stmt
 
 abbrev tree : Known → Stmt
 tree x = x.0
-
-abbrev pub placed : Stmt → Placed
-placed s = (s, places_of s)
 
 in_list : (ks : List Known) (p : ℕ) → length (places_in (map placed (map tree ks)) p) ≡ length (advances_in (map tree ks))
 in_list [] p = refl

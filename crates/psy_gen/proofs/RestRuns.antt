@@ -19,12 +19,12 @@ use Rattle.psy_meaning.specs.Rest.{Rests, each_then, pieces_of, stmts_in, rests_
 use Rattle.psy_meaning.specs.Rest as rest
 use Rattle.psy_meaning.specs.Paths.{holds_advance}
 use Rattle.psy_meaning.proofs.SoundParts.{stmts_natural}
-use Rattle.psy_gen.specs.Emission.{Coded, Places, Placed, expr_code, block_code, block_size, block_loops, placed_size, stmt_code_step, stmt_code, stmts_code, places_in, places_step, places_of}
+use Rattle.psy_gen.specs.Emission.{Coded, Places, Placed, expr_code, block_size, block_loops, placed_size, stmt_code_step, stmt_code, stmts_code, places_in, places_step, places_of}
 use Rattle.psy_gen.specs.Emission as emission
+use Rattle.psy_gen.proofs.Equations.{part, placed, block_size_is, block_loops_is, placed_size_is}
 use Rattle.psy_gen.proofs.Contexts.{Home, Room, at, HasAt, has-first, has-second, Shape}
 use Rattle.psy_gen.proofs.Leads.{here}
 use Rattle.psy_gen.proofs.NoRests.{all_none}
-use Rattle.psy_gen.proofs.PlaceCounts.{placed}
 use Rattle.psy_gen.proofs.StmtRuns.{ExprKnown, AtHome, AtWork, AllPoints, stmt_runs, all_runs, all_sized, hop_after}
 use Rattle.psy_gen.proofs.Outcomes.{keeps_same, After, after_keeps, then_after}
 
@@ -46,21 +46,6 @@ stmts_are (x ∷ xs) = ap (λ l. x ∷ l) (stmts_are xs)
 pieces_are : (callees : ℕ → Callee) (stmts : List Stmt) → map (piece_by callees) (pieces_of stmts) ≡ map (act_by callees) stmts
 pieces_are callees [] = refl
 pieces_are callees (x ∷ xs) = ap (λ l. act_by callees x ∷ l) (pieces_are callees xs)
-
-abbrev part_in : List ℕ → Stmt → emission.Part
-part_in layout s = (s, stmt_code layout s)
-
-block_same : (layout : List ℕ) (stmts : List Stmt) → block_size (map (part_in layout) stmts) ≡ stmts_size stmts
-block_same layout [] = refl
-block_same layout (x ∷ xs) = ap (λ n. stmt_size x + n) (block_same layout xs)
-
-loops_same : (layout : List ℕ) (stmts : List Stmt) → block_loops (map (part_in layout) stmts) ≡ loops_in stmts
-loops_same layout [] = refl
-loops_same layout (x ∷ xs) = ap (λ n. loops x + n) (loops_same layout xs)
-
-placed_same : (stmts : List Stmt) → placed_size (map placed stmts) ≡ stmts_size stmts
-placed_same [] = refl
-placed_same (x ∷ xs) = ap (λ n. stmt_size x + n) (placed_same xs)
 
 deeper_shallow : (d : Depth) → deeper d shallow ≡ d
 deeper_shallow d = let a : max d.operands 0 ≡ d.operands = omega arith in let b : max d.cells 0 ≡ d.cells = omega arith in ap (λ x. record { operands = x; cells = max d.cells 0 }) a ∙ ap (λ x. record { operands = d.operands; cells = x }) b
@@ -158,7 +143,7 @@ module _ (whole : Code) (its : AgentCode) (sc : Scope) (callees : ℕ → Callee
   test_sized e p = (exprs e).0 p
 
   abbrev code_step : Stmt-F Stmt → Coded
-  code_step x = stmt_code_step sc.layout (map-Stmt Stmt emission.Part (part_in sc.layout) x)
+  code_step x = stmt_code_step sc.layout (map-Stmt Stmt emission.Part (part sc.layout) x)
 
   abbrev size_step : Stmt-F Stmt → ℕ
   size_step x = stmt_size_step (map-Stmt Stmt ℕ stmt_size x)
@@ -185,20 +170,20 @@ module _ (whole : Code) (its : AgentCode) (sc : Scope) (callees : ℕ → Callee
   if_else_layer test ks os c p h small enough sound fits self =
       let b = stmts_size (map tree ks) in
       let o = stmts_size (map tree os) in
-      let l = block_loops (map (part_in sc.layout) (map tree ks)) in
+      let l = block_loops (map (part sc.layout) (map tree ks)) in
       let first = p + expr_size test + 1 in
-      let second = first + block_size (map (part_in sc.layout) (map tree ks)) + 1 in
-      let end = second + block_size (map (part_in sc.layout) (map tree os)) in
+      let second = first + block_size (map (part sc.layout) (map tree ks)) + 1 in
+      let end = second + block_size (map (part sc.layout) (map tree os)) in
       let jump = instr.Jump end ∷ stmts_code sc.layout (map tree os) (c + l) second in
       let code = stmts_code sc.layout (map tree ks) c first ++ jump in
       let there = behind_test test _ p code h in
       let has_jump = subst (λ y. HasAt whole.instrs (first + y) jump) (list_sized (map tree ks) c first) (has-second whole.instrs first (stmts_code sc.layout (map tree ks) c first) jump there) in
-      let bs = block_same sc.layout (map tree ks) in
-      let os' = block_same sc.layout (map tree os) in
-      let ls = loops_same sc.layout (map tree ks) in
+      let bs = block_size_is sc.layout (map tree ks) in
+      let os' = block_size_is sc.layout (map tree os) in
+      let ls = block_loops_is sc.layout (map tree ks) in
       let from_second : second ≡ first + b + 1 = omega (arith, bs) in
       let ends : end ≡ p + (expr_size test + 1 + (b + (o + 1))) = omega (arith, bs, os') in
-      let places_from : second ≡ first + placed_size (map placed (map tree ks)) + 1 = omega (arith, bs, placed_same (map tree ks)) in
+      let places_from : second ≡ first + placed_size (map placed (map tree ks)) + 1 = omega (arith, bs, placed_size_is (map tree ks)) in
       let others_end : second + o ≡ end = omega (arith, os') in
       each_at _ _ end (p + (expr_size test + 1 + (b + (o + 1)))) ends
       (each-append (each_then (rests_in (map with_rests (map tree ks))) (Hop ∷ [])) (rests_in (map with_rests (map tree os))) (places_in (map placed (map tree ks)) first) (places_in (map placed (map tree os)) (first + placed_size (map placed (map tree ks)) + 1)) end

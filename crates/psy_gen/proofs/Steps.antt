@@ -6,7 +6,7 @@ use Rattle.psy_code.specs.declared.code.Code.{Code}
 use Rattle.psy_code.specs.declared.code.AgentCode.{AgentCode}
 use Rattle.psy_code.specs.declared.instr.Instr.{Instr}
 use Rattle.psy_code.specs.Views.{tick}
-use Rattle.psy_code.specs.Execution.{Machine, Next, Went, Trapped, TrappedBy, does, run_one, run_code, present, index_in, copy_of, op_of, call_by, state_then}
+use Rattle.psy_code.specs.Execution.{Machine, Next, Went, Trapped, TrappedBy, does, run_one, run_code, present, index_in, copy_of, call_by, state_then}
 use Rattle.psy_code.specs.Execution as code
 use Rattle.psy_meaning.specs.Sound.{Scope}
 use Rattle.psy_meaning.specs.States.{State, cost_1, trapping}

@@ -13,7 +13,7 @@ use Rattle.psy_code.specs.declared.code.AgentCode.{AgentCode}
 use Rattle.psy_code.specs.declared.instr.Instr.{Instr}
 use Rattle.psy_code.specs.declared.instr.Instr.TheVariants as instr
 use Rattle.psy_code.specs.Views.{Send}
-use Rattle.psy_code.specs.Execution.{index_in, copy_of, with_copy, present, does, Went, Trapped, op_of}
+use Rattle.psy_code.specs.Execution.{index_in, copy_of, with_copy, present, does, Went, Trapped}
 use Rattle.psy_code.specs.Execution as code
 use Rattle.psy_tree.specs.Paths.{total}
 use Rattle.psy_meaning.specs.Sizes.{expr_size, stmt_size, stmts_size, stmt_size_step}

@@ -15,8 +15,6 @@ use Rattle.psy_code.specs.declared.code.Code.{Code}
 use Rattle.psy_code.specs.declared.code.AgentCode.{AgentCode}
 use Rattle.psy_code.specs.declared.code.CopyInit.{CopyInit}
 use Rattle.psy_code.specs.declared.code.FunctionCode.{FunctionCode}
-use Rattle.psy_code.specs.declared.instr.Binary.{Binary}
-use Rattle.psy_code.specs.declared.instr.Binary.TheVariants as two
 use Rattle.psy_code.specs.declared.instr.Instr.{Instr}
 use Rattle.psy_code.specs.declared.instr.Instr.TheVariants as instr
 use Rattle.psy_code.specs.Execution.{Copy}
@@ -43,27 +41,6 @@ cells_in_slot layout slot = slice_index_or layout slot 0
 
 -- ---- expressions
 
--- The operator that an instruction names; `&&` and `||` have none.
-abbrev pub named : Op2 → Binary
-named op.Mul = two.Mul
-named op.Div = two.Div
-named op.Rem = two.Rem
-named op.Add = two.Add
-named op.Sub = two.Sub
-named op.Shl = two.Shl
-named op.Shr = two.Shr
-named op.Lt = two.Lt
-named op.Le = two.Le
-named op.Gt = two.Gt
-named op.Ge = two.Ge
-named op.Eq = two.Eq
-named op.Ne = two.Ne
-named op.And = two.And
-named op.Xor = two.Xor
-named op.Or = two.Or
-named op.AndAnd = two.And
-named op.OrOr = two.Or
-
 -- An expression beside its code
 abbrev pub Operand : Type 0
 Operand = Expr × Emit
@@ -78,7 +55,7 @@ lazy_code test left right p =
 abbrev pub binary_code : Op2 → Operand → Operand → Emit
 binary_code op.AndAnd left right p = lazy_code instr.AndTest left right p
 binary_code op.OrOr left right p = lazy_code instr.OrTest left right p
-binary_code operator left right p = left.1 p ++ (right.1 (p + expr_size left.0) ++ instr.Binary (named operator) ∷ [])
+binary_code operator left right p = left.1 p ++ (right.1 (p + expr_size left.0) ++ instr.Binary operator ∷ [])
 
 -- All arguments, from left to right, and what stands behind them
 abbrev pub arguments_code : List Operand → List Instr → Emit

@@ -1,9 +1,11 @@
 //! The code of expressions.
 
 ghost use Rattle.std.specs.Prelude.{◌≡◌, ◌+◌, ◌<◌, ◌^◌, [], ◌++◌, map, length, OnOk};
+ghost use Rattle.psy_arith.specs.declared.operators.Op2.TheVariants.{AndAnd, OrOr};
+ghost use Rattle.psy_code.specs.declared.instr.Instr.TheVariants.{AndTest, OrTest};
 ghost use Rattle.psy_tree.specs.Paths.{total};
 ghost use Rattle.psy_meaning.specs.Sizes.{expr_size};
-ghost use Rattle.psy_gen.specs.Emission.{named, expr_code, exprs_code};
+ghost use Rattle.psy_gen.specs.Emission.{expr_code, exprs_code};
 
 use crate::instrs::Instrs;
 use crate::layout::Layout;
@@ -12,20 +14,15 @@ use psy_base::Memory;
 use psy_code::{Binary, Instr};
 use psy_tree::Expr;
 
-/// The operator that an instruction names; `&&` and `||` have none.
-fn binary_of(op: Op2) -> Binary
-    ensures { result ≡ named op }
+/// The test with a jump that `&&` or `||` is.
+fn lazy_test(op: Op2, to: u32) -> Instr
+    ensures and { op ≡ AndAnd → result ≡ AndTest to }
+    ensures or { op ≡ OrOr → result ≡ OrTest to }
 {
-    macro_rules! same_name {
-        ($($name:ident)*) => {
-            match op {
-                $(Op2::$name => Binary::$name,)*
-                Op2::AndAnd => Binary::And,
-                Op2::OrOr => Binary::Or,
-            }
-        };
+    match op {
+        Op2::AndAnd => Instr::AndTest(to),
+        _ => Instr::OrTest(to),
     }
-    same_name!(Mul Div Rem Add Sub Shl Shr Lt Le Gt Ge Eq Ne And Xor Or)
 }
 
 #[cycle(emit_expr)]
@@ -56,24 +53,17 @@ pub fn emit_expr(code: &mut Instrs, layout: &Layout, expr: &Expr) -> Result<(), 
         }
         Expr::Binary(op, left, right) => {
             emit_expr(code, layout, left.get())?;
-            match op {
-                Op2::AndAnd => {
+            match Binary::new(*op) {
+                Some(operator) => {
+                    emit_expr(code, layout, right.get())?;
+                    code.push(Instr::Binary(operator))
+                }
+                None => {
                     let test = code.hold()?;
                     emit_expr(code, layout, right.get())?;
                     code.push(Instr::Truth)?;
-                    code.set(test, Instr::AndTest(code.place()));
+                    code.set(test, lazy_test(*op, code.place()));
                     Ok(())
-                }
-                Op2::OrOr => {
-                    let test = code.hold()?;
-                    emit_expr(code, layout, right.get())?;
-                    code.push(Instr::Truth)?;
-                    code.set(test, Instr::OrTest(code.place()));
-                    Ok(())
-                }
-                _ => {
-                    emit_expr(code, layout, right.get())?;
-                    code.push(Instr::Binary(binary_of(*op)))
                 }
             }
         }

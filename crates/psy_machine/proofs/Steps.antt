@@ -2,7 +2,7 @@
 use Rattle.std.proofs.Common.{◌≡◌, ◌≢◌, ℕ, ◌<◌, ◌≤◌, ◌^◌, Bool, true, false, cond, List, length, get_or, Option, Some, refl, sym, ap, ◌∙◌, None, arith}
 use Rattle.std.specs.Prelude.{slice_get}
 use Rattle.std.proofs.lemmas.Bool.Decides.{nat_tests}
-use Rattle.std.proofs.lemmas.Option.{slice_get_within, slice_get_read, slice_get-get_or, same_Some}
+use Rattle.std.proofs.lemmas.Option.{slice_get_within, slice_get_read, same_Some}
 use Rattle.psy_base.specs.declared.limits.TheConstants.{OPEN_CALLS}
 use Rattle.psy_code.specs.declared.code.Code.{Code}
 use Rattle.psy_code.specs.declared.code.AgentCode.{AgentCode}
@@ -48,8 +48,8 @@ pub record Fetched (code : Code) (view : View) (m : AgentMachine) (agent : Agent
   pub next : next_for code view m ≡ does code agent view i m.machine
   pub call : call_of code m.machine ≡ call_by i m.machine.operands
 
-pub fetched : (code : Code) (view : View) (m : AgentMachine) (agents : List AgentCode) (instrs : List Instr) (number place : ℕ) (agent : AgentCode) (d : Instr) → agents ≡ code.agents → instrs ≡ code.instrs → number ≡ m.agent → place ≡ m.machine.place → agent ≡ get_or agents number agent → length instrs < 2 ^ 64 → IsOf code m → next_for code view m ≢ Stuck → Fetched code view m agent (get_or instrs place d)
-fetched code view m agents instrs number place agent d ea ei en ep read small of h =
+pub fetched : (code : Code) (view : View) (m : AgentMachine) (agents : List AgentCode) (instrs : List Instr) (number place : ℕ) (agent : AgentCode) (i : Instr) → agents ≡ code.agents → instrs ≡ code.instrs → number ≡ m.agent → place ≡ m.machine.place → agent ≡ get_or agents number agent → i ≡ get_or instrs place i → length instrs < 2 ^ 64 → IsOf code m → next_for code view m ≢ Stuck → Fetched code view m agent i
+fetched code view m agents instrs number place agent i ea ei en ep read fetch small of h =
     let here : m.agent < length code.agents = slice_get_within code.agents m.agent of.0 of.1 in
     let back : agent ≡ get_or code.agents m.agent agent = read ∙ ap (λ xs. get_or xs number agent) ea ∙ ap (λ n. get_or code.agents n agent) en in
     let own : slice_get code.agents m.agent ≡ Some agent = slice_get_read code.agents _ m.agent agent refl here back in
@@ -58,12 +58,12 @@ fetched code view m agents instrs number place agent d ea ei en ep read small of
     let after = rw own at h in
     let some = needed (slice_get code.instrs m.machine.place) _ after in
     let within_code : m.machine.place < length code.instrs = slice_get_within code.instrs m.machine.place some.0 some.1 in
-    let at : get_or instrs place d ≡ get_or code.instrs m.machine.place d = ap (λ xs. get_or xs place d) ei ∙ ap (λ n. get_or code.instrs n d) ep in
-    let instr : slice_get code.instrs m.machine.place ≡ Some (get_or instrs place d) = slice_get-get_or code.instrs m.machine.place d within_code ∙ ap Some (sym at) in
-    let next = next_is code view m agent (get_or instrs place d) own instr in
-    let does_it = able agent m (does code agent view (get_or instrs place d) m.machine) room.0 room.1 (rw next at h) in
+    let at : i ≡ get_or code.instrs m.machine.place i = fetch ∙ ap (λ xs. get_or xs place i) ei ∙ ap (λ n. get_or code.instrs n i) ep in
+    let instr : slice_get code.instrs m.machine.place ≡ Some i = slice_get_read code.instrs _ m.machine.place i refl within_code at in
+    let next = next_is code view m agent i own instr in
+    let does_it = able agent m (does code agent view i m.machine) room.0 room.1 (rw next at h) in
     record {
       can = record { place = omega (arith, within_code, small, ap length ei); room = does_it.finds };
       next = next ∙ does_it.same;
-      call = call_is code m.machine (get_or instrs place d) instr;
+      call = call_is code m.machine i instr;
     }

@@ -1,5 +1,5 @@
 use crate::texts::unit_of;
-use psy_arith::Op1;
+use psy_arith::{Op1, Op2};
 use psy_code::{Binary, Code, CopyInit, Instr};
 use psy_gen::generate;
 use std::alloc::AllocGlobal;
@@ -40,6 +40,11 @@ fn code_of(rt: &(impl Abort + AllocGlobal), rest: &str) -> Result<Code, Fail> {
     Ok(generate(rt.alloc(), &unit)?)
 }
 
+// The instruction of an operator that takes both its operands.
+fn binary(rt: &impl Abort, op: Op2) -> Instr {
+    Instr::Binary(Binary::new(op).expect(rt, "an operator that takes both its operands"))
+}
+
 // Compares the code, and where the actions of the last agent begin.
 fn compare(
     rt: &(impl Abort + AllocGlobal),
@@ -61,7 +66,7 @@ fn statements_in_a_row(rt: HostRuntime) -> Result<(), Fail> {
     let counter = [
         Instr::Load(0),
         Instr::Push(1),
-        Instr::Binary(Binary::Add),
+        binary(&rt, Op2::Add),
         Instr::Store(0),
         Instr::Load(0),
         Instr::StoreCopy(0),
@@ -81,14 +86,14 @@ fn statements_in_a_row(rt: HostRuntime) -> Result<(), Fail> {
     let stream = [
         Instr::Ready(0),
         Instr::Take(0),
-        Instr::Binary(Binary::Add),
+        binary(&rt, Op2::Add),
         Instr::Store(0),
         Instr::Past {
             variable: 0,
             back: 1,
         },
         Instr::LoadCopy(0),
-        Instr::Binary(Binary::Add),
+        binary(&rt, Op2::Add),
         Instr::StoreCopy(0),
         Instr::Load(0),
         Instr::Send {
@@ -107,7 +112,7 @@ fn choices(rt: HostRuntime) -> Result<(), Fail> {
     let choice = [
         Instr::Load(0),
         Instr::Push(2),
-        Instr::Binary(Binary::Lt),
+        binary(&rt, Op2::Lt),
         Instr::JumpZero(7),
         Instr::Push(1),
         Instr::Unary(Op1::Neg),
@@ -202,7 +207,7 @@ fn functions_and_agents(rt: HostRuntime) -> Result<(), Fail> {
         Instr::JumpZero(9),
         Instr::Load(0),
         Instr::Load(1),
-        Instr::Binary(Binary::Sub),
+        binary(&rt, Op2::Sub),
         Instr::Return,
         Instr::Jump(1),
         Instr::Load(0),

@@ -1,12 +1,11 @@
 use Rattle.std.proofs.Common.{rules, ◌+◌, List, ◌++◌, drop, map, length, ap, sym, ◌∙◌, arith}
 use Rattle.std.proofs.lemmas.Result.{on_ok_weaker}
-use Rattle.psy_code.specs.declared.instr.Instr.TheVariants as instr
 use Rattle.psy_tree.specs.declared.unit.Expr.{Expr, the_lemmas}
 use Rattle.psy_tree.specs.Paths.{total}
-use Rattle.psy_meaning.specs.Sizes.{binary_size, expr_size}
+use Rattle.psy_meaning.specs.Sizes.{expr_size}
 use Rattle.psy_gen.specs.Emission.{exprs_code}
-use Rattle.psy_gen.proofs.Equations.{operand, code_number, code_slot, code_copy, code_cell, code_past, code_ready, code_take, code_unary, code_binary, code_call, arguments_behind, binary_eager, size_binary}
-use Rattle.psy_gen.proofs.Patches.{then_one, patch_lazy, then_operator, exprs_more, drop_read, behind_expr, behind_one}
+use Rattle.psy_gen.proofs.Equations.{operand, code_number, code_slot, code_copy, code_cell, code_past, code_ready, code_take, code_unary, code_binary, code_call, arguments_behind, binary_eager, size_binary, size_lazy}
+use Rattle.psy_gen.proofs.Patches.{then_one, patch_either, then_operator, exprs_more, drop_read, behind_expr, behind_one}
 use Rattle.psy_gen.proofs.Small.{exprs_left}
 use Rattle.psy_gen.proofs.expressions.+emit_expr.Goals as goal
 
@@ -45,43 +44,40 @@ emit_exprs-loop-expr-preserved t c =
     let next = exprs_more c.args.layout.now c.expr-item.result (drop (c.loop-expr.expr-index + 1) c.args.exprs.now) c.loop-expr.code c.emit_expr.new.code c.in_ok-emit_expr.ensures in
     next ∙ ap (λ es. c.loop-expr.code ++ exprs_code c.args.layout.now es (length c.loop-expr.code)) (sym (drop_read c.args.exprs.now c.loop-expr.expr-index c.expr-item.result c.loop-expr-test.true c.expr-item.is)) ∙ c.loop-expr.invariant
 
-pub emit_expr-returns-in_ok-push-in-AndAnd : goal.emit_expr-returns-in_ok-push-in-AndAnd
-emit_expr-returns-in_ok-push-in-AndAnd t c =
-    rw (c.set.ensures, c.place.ensures, c.in-Binary.is, code_binary, c.in-AndAnd.is, ← c.get-in-Binary.ensures, ← c.get-in-AndAnd.ensures)
-    (patch_lazy c.args.layout.now instr.AndTest _ _ _ _ _ _ _ _ c.in_ok-emit_expr-in-Binary.ensures c.in_ok-test-in-AndAnd.ensures.place c.in_ok-test-in-AndAnd.ensures.held c.in_ok-emit_expr-in-AndAnd.ensures c.in_ok-push-in-AndAnd.ensures)
+pub emit_expr-returns-in_ok-push-in-None : goal.emit_expr-returns-in_ok-push-in-None
+emit_expr-returns-in_ok-push-in-None t c =
+    let new = rw c.in-None.is at c.new.ensures in
+    rw (c.set.ensures, c.in-Binary.is, code_binary, ← c.get-in-Binary.ensures, ← c.get-in-None.ensures)
+    (patch_either c.args.layout.now c.in-Binary.op c.lazy_test.result _ _ _ _ _ _ _ _ new (rw c.place.ensures at c.lazy_test.ensures.and) (rw c.place.ensures at c.lazy_test.ensures.or) c.in_ok-emit_expr-in-Binary.ensures c.in_ok-test-in-None.ensures.place c.in_ok-test-in-None.ensures.held c.in_ok-emit_expr-in-None.ensures c.in_ok-push-in-None.ensures)
 
-pub emit_expr-returns-in_ok-push-in-OrOr : goal.emit_expr-returns-in_ok-push-in-OrOr
-emit_expr-returns-in_ok-push-in-OrOr t c =
-    rw (c.set-in-OrOr.ensures, c.place-in-OrOr.ensures, c.in-Binary.is, code_binary, c.in-OrOr.is, ← c.get-in-Binary.ensures, ← c.get-in-OrOr.ensures)
-    (patch_lazy c.args.layout.now instr.OrTest _ _ _ _ _ _ _ _ c.in_ok-emit_expr-in-Binary.ensures c.in_ok-test-in-OrOr.ensures.place c.in_ok-test-in-OrOr.ensures.held c.in_ok-emit_expr-in-OrOr.ensures c.in_ok-push-in-OrOr.ensures)
-
-pub emit_expr-returns-in_ok-emit_expr-in_default : goal.emit_expr-returns-in_ok-emit_expr-in_default
-emit_expr-returns-in_ok-emit_expr-in_default t c =
+pub emit_expr-returns-in_ok-emit_expr-in-Some : goal.emit_expr-returns-in_ok-emit_expr-in-Some
+emit_expr-returns-in_ok-emit_expr-in-Some t c =
     let layout = c.args.layout.now in
     let p = length c.args.code.now in
-    let eager = binary_eager c.in-Binary.op (operand layout c.in-Binary.left) (operand layout c.in-Binary.right) p c.in_default.not-AndAnd c.in_default.not-OrOr in
-    rw (c.in-Binary.is, code_binary, eager, ← c.get-in-Binary.ensures, ← c.get-in_default.ensures, ← c.binary_of.ensures)
-    (on_ok_weaker c.push-in_default.result (then_operator layout _ _ _ _ _ _ _ c.in_ok-emit_expr-in-Binary.ensures c.in_ok-emit_expr-in_default.ensures) c.push-in_default.ensures)
+    let new = rw c.in-Some.is at c.new.ensures in
+    let eager = binary_eager c.in-Binary.op (operand layout c.in-Binary.left) (operand layout c.in-Binary.right) p new.1.0 new.1.1 in
+    rw (c.in-Binary.is, code_binary, eager, ← c.get-in-Binary.ensures, ← c.get-in-Some.ensures, ← new.0)
+    (on_ok_weaker c.push-in-Some.result (then_operator layout _ _ _ _ _ _ _ c.in_ok-emit_expr-in-Binary.ensures c.in_ok-emit_expr-in-Some.ensures) c.push-in-Some.ensures)
 
 -- ---- places are numbers of 32 bits
 
 pub emit_expr-hold-requires : goal.emit_expr-hold-requires
 emit_expr-hold-requires t c =
-    omega (arith, c.requires, ap expr_size c.in-Binary.is, size_binary c.in-Binary.op c.in-Binary.left c.in-Binary.right, ap expr_size c.get-in-Binary.ensures, behind_expr _ _ _ _ c.in_ok-emit_expr-in-Binary.ensures)
+    omega (arith, c.requires, ap expr_size c.in-Binary.is, size_binary c.in-Binary.op c.in-Binary.left c.in-Binary.right, size_lazy c.in-Binary.op (rw c.in-None.is at c.new.ensures), ap expr_size c.get-in-Binary.ensures, behind_expr _ _ _ _ c.in_ok-emit_expr-in-Binary.ensures)
 
-pub emit_expr-emit_expr-requires-in-AndAnd : goal.emit_expr-emit_expr-requires-in-AndAnd
-emit_expr-emit_expr-requires-in-AndAnd t c = (
+pub emit_expr-emit_expr-requires-in-None : goal.emit_expr-emit_expr-requires-in-None
+emit_expr-emit_expr-requires-in-None t c = (
   search (rules, the_lemmas),
   omega (
     arith,
     c.requires,
     ap expr_size c.in-Binary.is,
     size_binary c.in-Binary.op c.in-Binary.left c.in-Binary.right,
-    ap binary_size c.in-AndAnd.is,
+    size_lazy c.in-Binary.op (rw c.in-None.is at c.new.ensures),
     ap expr_size c.get-in-Binary.ensures,
-    ap expr_size c.get-in-AndAnd.ensures,
+    ap expr_size c.get-in-None.ensures,
     behind_expr _ _ _ _ c.in_ok-emit_expr-in-Binary.ensures,
-    behind_one _ _ _ c.in_ok-test-in-AndAnd.ensures.held,
+    behind_one _ _ _ c.in_ok-test-in-None.ensures.held,
   ),
 )
 
@@ -92,54 +88,18 @@ emit_expr-place-requires t c =
       c.requires,
       ap expr_size c.in-Binary.is,
       size_binary c.in-Binary.op c.in-Binary.left c.in-Binary.right,
-      ap binary_size c.in-AndAnd.is,
+      size_lazy c.in-Binary.op (rw c.in-None.is at c.new.ensures),
       ap expr_size c.get-in-Binary.ensures,
-      ap expr_size c.get-in-AndAnd.ensures,
+      ap expr_size c.get-in-None.ensures,
       behind_expr _ _ _ _ c.in_ok-emit_expr-in-Binary.ensures,
-      behind_one _ _ _ c.in_ok-test-in-AndAnd.ensures.held,
-      behind_expr _ _ _ _ c.in_ok-emit_expr-in-AndAnd.ensures,
-      behind_one _ _ _ c.in_ok-push-in-AndAnd.ensures,
+      behind_one _ _ _ c.in_ok-test-in-None.ensures.held,
+      behind_expr _ _ _ _ c.in_ok-emit_expr-in-None.ensures,
+      behind_one _ _ _ c.in_ok-push-in-None.ensures,
     )
 
-pub emit_expr-hold-requires-in-OrOr : goal.emit_expr-hold-requires-in-OrOr
-emit_expr-hold-requires-in-OrOr t c =
-    omega (arith, c.requires, ap expr_size c.in-Binary.is, size_binary c.in-Binary.op c.in-Binary.left c.in-Binary.right, ap expr_size c.get-in-Binary.ensures, behind_expr _ _ _ _ c.in_ok-emit_expr-in-Binary.ensures)
-
-pub emit_expr-emit_expr-requires-in-OrOr : goal.emit_expr-emit_expr-requires-in-OrOr
-emit_expr-emit_expr-requires-in-OrOr t c = (
-  search (rules, the_lemmas),
-  omega (
-    arith,
-    c.requires,
-    ap expr_size c.in-Binary.is,
-    size_binary c.in-Binary.op c.in-Binary.left c.in-Binary.right,
-    ap binary_size c.in-OrOr.is,
-    ap expr_size c.get-in-Binary.ensures,
-    ap expr_size c.get-in-OrOr.ensures,
-    behind_expr _ _ _ _ c.in_ok-emit_expr-in-Binary.ensures,
-    behind_one _ _ _ c.in_ok-test-in-OrOr.ensures.held,
-  ),
-)
-
-pub emit_expr-place-requires-in-OrOr : goal.emit_expr-place-requires-in-OrOr
-emit_expr-place-requires-in-OrOr t c =
-    omega (
-      arith,
-      c.requires,
-      ap expr_size c.in-Binary.is,
-      size_binary c.in-Binary.op c.in-Binary.left c.in-Binary.right,
-      ap binary_size c.in-OrOr.is,
-      ap expr_size c.get-in-Binary.ensures,
-      ap expr_size c.get-in-OrOr.ensures,
-      behind_expr _ _ _ _ c.in_ok-emit_expr-in-Binary.ensures,
-      behind_one _ _ _ c.in_ok-test-in-OrOr.ensures.held,
-      behind_expr _ _ _ _ c.in_ok-emit_expr-in-OrOr.ensures,
-      behind_one _ _ _ c.in_ok-push-in-OrOr.ensures,
-    )
-
-pub emit_expr-emit_expr-requires-in_default : goal.emit_expr-emit_expr-requires-in_default
-emit_expr-emit_expr-requires-in_default t c =
-    (search (rules, the_lemmas), omega (arith, c.requires, ap expr_size c.in-Binary.is, size_binary c.in-Binary.op c.in-Binary.left c.in-Binary.right, ap expr_size c.get-in-Binary.ensures, ap expr_size c.get-in_default.ensures, behind_expr _ _ _ _ c.in_ok-emit_expr-in-Binary.ensures))
+pub emit_expr-emit_expr-requires-in-Some : goal.emit_expr-emit_expr-requires-in-Some
+emit_expr-emit_expr-requires-in-Some t c =
+    (search (rules, the_lemmas), omega (arith, c.requires, ap expr_size c.in-Binary.is, size_binary c.in-Binary.op c.in-Binary.left c.in-Binary.right, ap expr_size c.get-in-Binary.ensures, ap expr_size c.get-in-Some.ensures, behind_expr _ _ _ _ c.in_ok-emit_expr-in-Binary.ensures))
 
 pub emit_exprs-emit_expr-requires : goal.emit_exprs-emit_expr-requires
 emit_exprs-emit_expr-requires t c =

@@ -1,0 +1,16 @@
+pub mod Causes
+pub mod Cycles
+pub mod EdgesKept
+pub mod Explored
+pub mod Finding
+pub mod Leasts
+pub mod Links
+pub mod Numbers
+pub mod Ordered
+pub mod Periods
+pub mod Phases
+pub mod Reached
+pub mod Rooms
+pub mod Timed
+pub mod Timings
+pub mod Unique

@@ -1,0 +1,70 @@
+-- What is known of the timing of an agent of a text.
+use Rattle.std.proofs.Common.{◌≡◌, ℕ, zero, suc, ◌+◌, ◌-◌, ◌<◌, ◌≤◌, List, [], ◌∷◌, ◌++◌, All, length, length-append, get_or, refl, sym, ap, subst, ◌∙◌, inl, inr, Some, arith}
+use Rattle.std.specs.List.{Contains, slice_get}
+use Rattle.std.proofs.lemmas.Bool.{cases_lt}
+use Rattle.std.proofs.lemmas.Option.{slice_get_within, get_or_from_slice_get, slice_get-get_or}
+use Rattle.std.proofs.lemmas.List.{get_or_append_left, get_or_push, get_or_past}
+use Rattle.std.proofs.lemmas.List.Elements.{All-cons, All-contains, All-weaker, All-get_or}
+use Rattle.psy_base.specs.declared.limits.TheConstants.{ADVANCE, BUDGET, POINTS}
+use Rattle.psy_tree.specs.declared.unit.AgentDecl.{AgentDecl}
+use Rattle.psy_tree.specs.declared.unit.Point.{Point}
+use Rattle.psy_tree.specs.declared.unit.Unit.{Unit}
+use Rattle.psy_flow.specs.Agents.{IsAgentOf}
+use Rattle.psy_meaning.specs.Flow.{AreNexts, Rises}
+use Rattle.psy_meaning.specs.Timing.{timing_of}
+use Rattle.psy_meaning.specs.Units.{HasHead, IsBareAgent, IsBarePoint}
+use Rattle.psy_graph.specs.Graphs.{IsTimed}
+use Rattle.psy_graph.specs.Places.{IsList}
+
+-- What holds by number of each item holds of one more.
+pub each_more : {X : Type 0} (P : ℕ → X → Type 0) (xs ys : List X) (x : X) (n : ℕ) → length xs ≡ n → ((i : ℕ) (d : X) → i < n → P i (get_or xs i d)) → P n x → ys ≡ xs ++ x ∷ [] → (i : ℕ) (d : X) → i < n + 1 → P i (get_or ys i d)
+each_more P xs ys x n count each one pushed i d l = elim (cases_lt i n) [
+  | inl h ↦ subst (P i) (sym (ap (λ zs. get_or zs i d) pushed ∙ get_or_append_left xs (x ∷ []) d i (omega (arith, h, count)))) (each i d h)
+  | inr h ↦ (let is : i ≡ n = omega (arith, l, h) in
+      subst (P i) (sym (ap (λ zs. get_or zs i d) pushed ∙ get_or_push xs x d i (count ∙ sym is))) (subst (λ k. P k x) (sym is) one))
+]
+
+
+points_named : (unit : Unit) (agent : AgentDecl) (points : List Point) → HasHead agent points (IsBarePoint unit) → agent.clock < length unit.clocks → All (λ p. p.clock < length unit.clocks) points
+points_named unit agent [] h l = elim h [ ]
+points_named unit agent (p ∷ points) h l = All-cons (λ q. q.clock < length unit.clocks) p points (omega (arith, ap (λ q. q.clock) h.0, l)) (All-weaker (IsBarePoint unit) (λ q. q.clock < length unit.clocks) (λ q b. b.clock) points h.1)
+
+points_budget : (unit : Unit) (agent : AgentDecl) (points : List Point) → HasHead agent points (IsBarePoint unit) → agent.budget ≤ BUDGET → All (λ p. p.budget ≤ BUDGET) points
+points_budget unit agent [] h l = elim h [ ]
+points_budget unit agent (p ∷ points) h l = All-cons (λ q. q.budget ≤ BUDGET) p points (omega (arith, ap (λ q. q.budget) h.0, l)) (All-weaker (IsBarePoint unit) (λ q. q.budget ≤ BUDGET) (λ q b. b.budget.1) points h.1)
+
+points_head : (unit : Unit) (agent : AgentDecl) (points : List Point) → HasHead agent points (IsBarePoint unit) → 1 ≤ length points
+points_head unit agent [] h = elim h [ ]
+points_head unit agent (p ∷ points) h = omega arith
+
+points_count : (unit : Unit) (agent : AgentDecl) (points : List Point) (d : Point) → HasHead agent points (IsBarePoint unit) → (point : ℕ) → 1 ≤ point → point < length points → (1 ≤ (get_or points point d).count) × ((get_or points point d).count ≤ ADVANCE)
+points_count unit agent [] d h point some l = elim h [ ]
+points_count unit agent (p ∷ points) d h zero some l = absurd (omega (arith, some))
+points_count unit agent (p ∷ points) d h (suc point) some l = (h.1 point d (omega (arith, l))).count
+
+nothing_rises : (xs : List ℕ) → length xs ≡ 0 → Rises xs
+nothing_rises xs none i j m n ij ei ej = absurd (omega (arith, none, slice_get_within xs i m ei))
+
+pub timed_by : (unit : Unit) (number : ℕ) (agent : AgentDecl) (nexts : List (List ℕ)) → IsAgentOf unit number agent → AreNexts unit.functions agent nexts → All (IsList (length agent.points)) nexts → IsTimed (timing_of unit agent nexts)
+timed_by unit number agent nexts of are lists =
+    let bare = of.0.bare in
+    let l : number < length unit.agents = slice_get_within unit.agents number agent of.1 in
+    let here : IsBareAgent unit agent = subst (IsBareAgent unit) (get_or_from_slice_get unit.agents number agent agent of.1) (All-get_or (IsBareAgent unit) unit.agents number agent l bare.agents) in
+    record {
+      clocks = bare.clocks;
+      named = points_named unit agent agent.points here.points here.clock;
+      counts = points_count unit agent agent.points (record { count = 1; clock = 0; budget = 0 }) here.points;
+      budgets = points_budget unit agent agent.points here.points here.budget.1;
+      head = points_head unit agent agent.points here.points;
+      few = here.limit;
+      lists = are.length;
+      some = λ point h. (lists point [] (omega (arith, h, are.length))).0;
+      within = λ point to c. elim (cases_lt point (length nexts)) [
+        | inl h ↦ All-contains (λ q. (1 ≤ q) × (q < length agent.points)) (get_or nexts point []) to (lists point [] h).1 c
+        | inr h ↦ (let none : length (get_or nexts point []) ≡ 0 = ap length (get_or_past nexts point [] h) in absurd (omega (arith, none, c.1)))
+      ];
+      rise = λ point. elim (cases_lt point (length nexts)) [
+        | inl h ↦ are.rise point (get_or nexts point []) (slice_get-get_or nexts point [] h)
+        | inr h ↦ nothing_rises (get_or nexts point []) (ap length (get_or_past nexts point [] h))
+      ];
+    }

@@ -1,0 +1,12 @@
+use Rattle.std.proofs.Common.{◌≡◌, ℕ, ◌<◌, All, length, get_or}
+use Rattle.psy_window.specs.Windows.{IsEdge}
+use Rattle.psy_graph.specs.declared.graph.Graph.{Graph}
+use Rattle.psy_graph.specs.Graphs.{HasGraph}
+use Rattle.psy_graph.proofs.agents.build.Given as goal
+
+abbrev pub invariant-agents : goal.invariant-agents
+invariant-agents l = record {
+  count : length l.graphs ≡ l.number;
+  each : (number : ℕ) (d : Graph) → number < l.number → HasGraph l.unit number (get_or l.graphs number d);
+  edges : All (λ graph. All (IsEdge (length graph.nodes)) graph.edges) l.graphs;
+}

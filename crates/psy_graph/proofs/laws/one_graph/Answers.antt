@@ -1,0 +1,29 @@
+use Rattle.std.proofs.Common.{refl, sym, subst, slice_index_or}
+use Rattle.std.proofs.lemmas.Option.{slice_get-get_or}
+use Rattle.psy_meaning.specs.Timing.{timing_of}
+use Rattle.psy_graph.proofs.Causes.{there, same_graphs, graphs_apart, same_cause, graphs_or_cause}
+use Rattle.psy_graph.specs.Graphs.{IsTimed}
+use Rattle.psy_graph.proofs.EdgesKept.{edges_kept}
+use Rattle.psy_graph.proofs.Timed.{timed}
+use Rattle.psy_graph.proofs.laws.one_graph.Goals as goal
+
+pub returns-clause-same : goal.returns-clause-same
+returns-clause-same c unit graphs others text = same_graphs unit graphs others
+
+pub returns-clause-apart : goal.returns-clause-apart
+returns-clause-apart c unit graphs fault text = graphs_apart unit graphs fault
+
+pub returns-clause-cause : goal.returns-clause-cause
+returns-clause-cause c unit fault other text = same_cause unit fault other
+
+pub returns-clause-some : goal.returns-clause-some
+returns-clause-some c unit text = graphs_or_cause unit c.distances.ensures.again c.distances.ensures.late (λ number less.
+    let (agent, got) = there unit.agents number less in
+    let (nexts, are) = c.nexts.ensures.some unit number agent (text, got) in
+    (timing_of unit agent nexts, (agent, nexts, got, are, refl), timed unit number agent nexts (text, got) are (c.known.ensures unit number agent (text, got)) (c.nexts.ensures.within unit number agent (text, got))))
+
+pub returns-clause-edges : goal.returns-clause-edges
+returns-clause-edges c unit graphs text are number d less =
+    let (timing, (agent, nexts, got, follow, is), drawn, small) = are.each number (slice_index_or graphs number d) (slice_get-get_or graphs number d less) in
+    let its = timed unit number agent nexts (text, got) follow (c.known.ensures unit number agent (text, got)) (c.nexts.ensures.within unit number agent (text, got)) in
+    edges_kept c.distances.ensures.late timing (slice_index_or graphs number d) (subst IsTimed (sym is) its) drawn

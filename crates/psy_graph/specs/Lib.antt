@@ -1,0 +1,5 @@
+pub mod Drawn
+pub mod Faults
+pub mod Graphs
+pub mod Places
+pub mod Steps

@@ -1,0 +1,28 @@
+//! Laws of the definitions, each the contract of a function that does nothing.
+
+ghost use Rattle.std.specs.Prelude.{◌≡◌, ◌⊎◌, List, length};
+ghost use Rattle.std.specs.List.{All};
+ghost use Rattle.psy_tree.specs.declared.unit.Unit.{Unit as Whole};
+ghost use Rattle.psy_meaning.specs.Units.{IsOfText};
+ghost use Rattle.psy_window.specs.Windows.{IsEdge};
+ghost use Rattle.psy_graph.specs.declared.fault.GraphFault.{GraphFault};
+ghost use Rattle.psy_graph.specs.declared.graph.Graph.{Graph};
+ghost use Rattle.psy_graph.specs.Graphs.{AreGraphs, IsCause};
+
+use psy_clock::laws::distances;
+use psy_flow::laws::{known, nexts};
+
+/// The agents of a text have graphs that keep the limits, or a first agent is at fault: one of both, and there is only one
+/// such list of graphs and one such fault.
+pub fn one_graph()
+    ensures same { (unit : Whole) (graphs others : List Graph) → IsOfText unit → AreGraphs unit graphs → AreGraphs unit others → graphs ≡ others }
+    ensures apart { (unit : Whole) (graphs : List Graph) (fault : GraphFault) → IsOfText unit → AreGraphs unit graphs → IsCause unit fault → ⊥ }
+    ensures cause { (unit : Whole) (fault other : GraphFault) → IsOfText unit → IsCause unit fault → IsCause unit other → fault ≡ other }
+    // Edges lead from node to node, an action is due behind its start and by its end, and its budget keeps the limit.
+    ensures edges { (unit : Whole) (graphs : List Graph) → IsOfText unit → AreGraphs unit graphs → All (λ graph. All (IsEdge (length graph.nodes)) graph.edges) graphs }
+    ensures some { (unit : Whole) → IsOfText unit → ((graphs : List Graph) × AreGraphs unit graphs) ⊎ ((fault : GraphFault) × IsCause unit fault) }
+{
+    known();
+    nexts();
+    distances();
+}

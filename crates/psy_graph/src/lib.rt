@@ -1,0 +1,16 @@
+//! The action graphs of a program's agents: which actions an agent may start, by point and phase, and which may follow which.
+#![tactic(auto)]
+
+mod agents;
+mod cycle;
+mod edges;
+mod explore;
+mod fault;
+mod graph;
+pub mod laws;
+mod place;
+mod times;
+
+pub use agents::build;
+pub use fault::GraphFault;
+pub use graph::{Graph, Node};
