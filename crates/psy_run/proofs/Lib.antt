@@ -6,3 +6,4 @@ mod WritingLemmas
 mod LookLemmas
 mod TextLemmas
 mod RowLemmas
+mod SupplyLemmas
