@@ -17,8 +17,8 @@ graphs-preserved c =
     let here : P i list = λ graph at. subst (λ g. AreWeights c.args.until g list) (read_is graphs i item graph within read at) c.in_ok-list.ensures.ok in
     let last : P (length lists) list = subst (λ n. P n list) (sym c.graphs.invariant.count) here in
     record {
-      count = omega (arith, ap length c.in_ok-add.ensures.ok, length-append lists (list ∷ []), c.graphs.invariant.count);
-      each = subst (λ more. (n : ℕ) (list' : List ℕ) → slice_get more n ≡ Some list' → P n list') (sym c.in_ok-add.ensures.ok) (each_pushed P lists list c.graphs.invariant.each last);
+      count = omega (arith, ap length c.in_ok-push.ensures, length-append lists (list ∷ []), c.graphs.invariant.count);
+      each = subst (λ more. (n : ℕ) (list' : List ℕ) → slice_get more n ≡ Some list' → P n list') (sym c.in_ok-push.ensures) (each_pushed P lists list c.graphs.invariant.each last);
     }
 
 pub returns-clause-ok : goal.returns-clause-ok
