@@ -1,5 +1,5 @@
 -- What the steps on action graphs come to: the graphs, the lists of weights, the demand.
-use Rattle.std.proofs.Common.{◌≡◌, ◌∙◌, ◌⊎◌, inl, inr, refl, sym, ap, subst, ℕ, zero, suc, ◌+◌, ◌*◌, ◌^◌, ◌<◌, ◌≤◌, List, [], ◌∷◌, length, map, get_or, slice_get, slice_index, Some, None, All, Any, arith, Result, Ok, Err, IfOk, IfErr, IsErrAnd}
+use Rattle.std.proofs.Common.{◌≡◌, ◌∙◌, ◌⊎◌, inl, inr, refl, sym, subst, ℕ, zero, suc, ◌+◌, ◌^◌, ◌<◌, List, [], ◌∷◌, length, get_or, slice_get, slice_index, Some, All, Any, arith, Result, Ok, Err, IfOk, IfErr, IsErrAnd}
 use Rattle.std.proofs.lemmas.List.{length-map}
 use Rattle.std.proofs.lemmas.Option.{slice_get-get_or}
 use Rattle.psy_base.specs.declared.edge.Edge.{Edge}
@@ -19,7 +19,7 @@ use Rattle.psy_run.specs.declared.refusal.Stop.TheVariants as stop
 use Rattle.psy_run.specs.Answer.{supplying}
 use Rattle.psy_run.specs.Outcome.{Halts, halts_refused, halts_memory}
 use Rattle.psy_run.specs.Steps.{graphing, windowing, demanding, edges_of, HasCells, PassesCells, IsUndrawn}
-use Rattle.psy_run.specs.Tables.{AreWeights, AreAllWeights}
+use Rattle.psy_run.specs.Tables.{AreAllWeights}
 use Rattle.psy_run.proofs.Courses.{gives_then, halts_first, halts_later}
 use Rattle.psy_run.proofs.RowLemmas.{there}
 

@@ -1,4 +1,4 @@
-use Rattle.std.proofs.Common.{◌≡◌, ℕ, ◌<◌, List, length, get_or, slice_get, Some, take}
+use Rattle.std.proofs.Common.{◌≡◌, ℕ, List, length, slice_get, Some}
 use Rattle.psy_graph.specs.declared.graph.Graph.{Graph}
 use Rattle.psy_run.specs.Tables.{AreWeights}
 use Rattle.psy_run.proofs.supply.all_weights.Given as goal

@@ -1,4 +1,4 @@
-use Rattle.std.proofs.Common.{◌≡◌, ◌∙◌, ap, subst, ◌*◌}
+use Rattle.std.proofs.Common.{◌≡◌, subst, ◌*◌}
 use Rattle.psy_demand.specs.Demand.{DemandFits, IsVerdict}
 use Rattle.psy_demand.specs.declared.demand.Verdict.TheVariants as verdict
 use Rattle.psy_run.specs.declared.refusal.Refusal.TheVariants.{Infeasible}

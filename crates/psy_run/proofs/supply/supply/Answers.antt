@@ -1,5 +1,3 @@
-use Rattle.std.proofs.Common.{◌≡◌, List, IfErr}
-use Rattle.psy_graph.specs.declared.graph.Graph.{Graph}
 use Rattle.psy_run.specs.Answer.{supplying}
 use Rattle.psy_run.specs.Outcome.{Halts}
 use Rattle.psy_run.proofs.SupplyLemmas.{all_have_cells, all_long, all_small, supply_undrawn, supply_unwindowed, supply_overloaded, supply_gives, if_ok, if_err, err_exit, unwindowed}
