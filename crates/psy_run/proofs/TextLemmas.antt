@@ -46,7 +46,7 @@ nodes_split costs xs n = ap (nodes_text costs 0) (sym (take-append-drop n xs)) �
 agents_next : (agents : List AgentDecl) (graphs : List Graph) (costs : List (List ℕ)) (i : ℕ) (agent : AgentDecl) (graph : Graph) (list : List ℕ)
     → i < length agents → i < length graphs → i < length costs
     → graph_text (take (suc i) agents) (take (suc i) graphs) (take (suc i) costs)
-        ≡ graph_text (take i agents) (take i graphs) (take i costs) ++ agent_text (get_or agents i agent) (get_or graphs i graph) (get_or costs i list)
+    ≡ graph_text (take i agents) (take i graphs) (take i costs) ++ agent_text (get_or agents i agent) (get_or graphs i graph) (get_or costs i list)
 agents_next [] graphs costs i agent graph list less less' less'' = absurd (omega (arith, less))
 agents_next (a ∷ ms) [] costs i agent graph list less less' less'' = absurd (omega (arith, less'))
 agents_next (a ∷ ms) (g ∷ gs) [] i agent graph list less less' less'' = absurd (omega (arith, less''))
@@ -58,7 +58,7 @@ agents_next (a ∷ ms) (g ∷ gs) (l ∷ ls) (suc i) agent graph list less less'
 pub agents_more : (agents : List AgentDecl) (graphs : List Graph) (costs : List (List ℕ)) (i : ℕ) (agent : AgentDecl) (graph : Graph) (list : List ℕ)
     → i < length agents → i < length graphs → i < length costs
     → graph_text (take (i + 1) agents) (take (i + 1) graphs) (take (i + 1) costs)
-        ≡ graph_text (take i agents) (take i graphs) (take i costs) ++ agent_text (get_or agents i agent) (get_or graphs i graph) (get_or costs i list)
+    ≡ graph_text (take i agents) (take i graphs) (take i costs) ++ agent_text (get_or agents i agent) (get_or graphs i graph) (get_or costs i list)
 agents_more agents graphs costs i agent graph list less less' less'' =
     let on : i + 1 ≡ suc i = omega arith in
     ap (λ n. graph_text (take n agents) (take n graphs) (take n costs)) on ∙ agents_next agents graphs costs i agent graph list less less' less''

@@ -1,5 +1,5 @@
 -- The tables of the greatest budgets of an agent's paths, by length.
-use Rattle.std.specs.Prelude.{◌≡◌, ℕ, ◌+◌, ◌^◌, ◌<◌, ◌≤◌, List, length, slice_get, slice_index, Some}
+use Rattle.std.specs.Prelude.{◌≡◌, ℕ, ◌+◌, ◌^◌, ◌<◌, List, length, slice_get, slice_index, Some}
 use Rattle.std.specs.List.{All}
 use Rattle.psy_base.specs.Paths.{FitsDueLast, IsGreatestWeight}
 use Rattle.psy_graph.specs.declared.graph.Graph.{Graph}

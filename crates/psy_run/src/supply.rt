@@ -50,14 +50,6 @@ fn weights_of(alloc: Global, graph: &Graph, until: u32) -> Result<Items<u64>, St
 }
 
 // A list more.
-fn add(lists: &mut Items<Items<u64>>, list: Items<u64>) -> Result<(), Stop>
-    ensures ok { OnOk result (lists.new ≡ lists.old ++ list ∷ []) }
-    ensures err { IfErr result (λ stop. stop ≡ Stop.Memory) }
-{
-    push(lists, list)?;
-    Ok(())
-}
-
 fn push(lists: &mut Items<Items<u64>>, list: Items<u64>) -> Result<(), Memory>
     ensures { OnOk result (lists.new ≡ lists.old ++ list ∷ []) }
 {
@@ -75,7 +67,7 @@ fn all_weights(alloc: Global, graphs: &Items<Graph>, until: u32) -> Result<Items
     let mut lists = Items::new(alloc);
     'graphs: for graph in graphs.as_slice() {
         let list = weights_of(alloc, graph, until)?;
-        add(&mut lists, list)?;
+        push(&mut lists, list)?;
     }
     Ok(lists)
 }

@@ -68,7 +68,12 @@ pub fn write_check<S: Sink>(unit: &Unit, until: u32, out: &mut S) -> Result<(), 
 }
 
 // Writes the line of a node, with the greatest cost from its point.
-fn write_node<S: Sink>(number: u32, node: &Node, costs: &[u64], out: &mut S) -> Result<(), WriteFault>
+fn write_node<S: Sink>(
+    number: u32,
+    node: &Node,
+    costs: &[u64],
+    out: &mut S,
+) -> Result<(), WriteFault>
     ensures counted { S.faults out.old ≤ S.faults out.new }
     ensures failed { OnErr result (Rose (S.faults out.old) (S.faults out.new)) }
     ensures written { Written (S.held out.old) (S.held out.new) result (node_line number node.now.point node.now.phase node.now.budget (get_or costs.now node.now.point 0) node.now.due) }

@@ -1,0 +1,115 @@
+-- What the steps on action graphs come to: the graphs, the lists of weights, the demand.
+use Rattle.std.proofs.Common.{◌≡◌, ◌∙◌, ◌⊎◌, inl, inr, refl, sym, subst, ℕ, zero, suc, ◌+◌, ◌^◌, ◌<◌, List, [], ◌∷◌, length, get_or, slice_get, slice_index, Some, All, Any, arith, Result, Ok, Err, IfOk, IfErr, IsErrAnd}
+use Rattle.std.proofs.lemmas.List.{length-map}
+use Rattle.std.proofs.lemmas.Option.{slice_get-get_or}
+use Rattle.psy_base.specs.declared.edge.Edge.{Edge}
+use Rattle.psy_base.specs.Paths.{FitsDueLast, IsGreatestWeight}
+use Rattle.psy_tree.specs.declared.unit.Unit.{Unit as Whole}
+use Rattle.psy_demand.specs.Demand.{DemandFits, IsVerdict}
+use Rattle.psy_demand.specs.declared.demand.Verdict.TheVariants as verdict
+use Rattle.psy_graph.specs.declared.fault.GraphFault.{GraphFault}
+use Rattle.psy_graph.specs.declared.fault.GraphFault.TheVariants as fault
+use Rattle.psy_graph.specs.declared.graph.Graph.{Graph}
+use Rattle.psy_graph.specs.Graphs.{AreGraphs, IsCause, IsSmall}
+use Rattle.psy_meaning.specs.Demand.{IsFeasible, IsOverload}
+use Rattle.psy_meaning.proofs.Demands.{AreGreatest, feasible-is, overload-is}
+use Rattle.psy_run.specs.declared.refusal.Refusal.TheVariants.{Nodes, Edges, Cells}
+use Rattle.psy_run.specs.declared.refusal.Stop.{Stop}
+use Rattle.psy_run.specs.declared.refusal.Stop.TheVariants as stop
+use Rattle.psy_run.specs.Answer.{supplying}
+use Rattle.psy_run.specs.Outcome.{Halts, halts_refused, halts_memory}
+use Rattle.psy_run.specs.Steps.{graphing, windowing, demanding, edges_of, HasCells, PassesCells, IsUndrawn}
+use Rattle.psy_run.specs.Tables.{AreAllWeights}
+use Rattle.psy_run.proofs.Courses.{gives_then, halts_first, halts_later}
+use Rattle.psy_run.proofs.RowLemmas.{there}
+
+-- ---- graphs
+
+pub undrawn_nodes : (unit : Whole) (f : GraphFault) (agent : ℕ) → f ≡ fault.Nodes agent → (f ≡ fault.Memory) ⊎ IsCause unit f → IsUndrawn unit Nodes
+undrawn_nodes unit f agent is (inl memory) = let no : fault.Nodes agent ≡ fault.Memory = sym is ∙ memory in absurd cc
+undrawn_nodes unit f agent is (inr cause) = (agent, subst (IsCause unit) is cause)
+
+pub undrawn_edges : (unit : Whole) (f : GraphFault) (agent : ℕ) → f ≡ fault.Edges agent → (f ≡ fault.Memory) ⊎ IsCause unit f → IsUndrawn unit Edges
+undrawn_edges unit f agent is (inl memory) = let no : fault.Edges agent ≡ fault.Memory = sym is ∙ memory in absurd cc
+undrawn_edges unit f agent is (inr cause) = (agent, subst (IsCause unit) is cause)
+
+pub small_graphs : (unit : Whole) (graphs : List Graph) → AreGraphs unit graphs → All IsSmall graphs
+small_graphs unit graphs are k d less = (are.each k (get_or graphs k d) (slice_get-get_or graphs k d less)).3
+
+-- ---- lists of weights
+
+module _ (until : ℕ) (graphs : List Graph) (lists : List (List ℕ)) (are : AreAllWeights until graphs lists) where
+  pub all_have_cells : All (HasCells until) graphs
+  all_have_cells k d less =
+      let list = there lists k (omega (arith, less, are.count)) in
+      (are.each k (get_or graphs k d) list.0 (slice_get-get_or graphs k d less) list.1).cells
+
+  pub all_long : All (λ list. length list ≡ until + 1) lists
+  all_long k d less =
+      let graph = there graphs k (omega (arith, less, are.count)) in
+      (are.each k graph.0 (get_or lists k d) graph.1 (slice_get-get_or lists k d less)).count
+
+  pub all_small : All (All (λ weight. weight < 2 ^ 50)) lists
+  all_small k d less =
+      let graph = there graphs k (omega (arith, less, are.count)) in
+      (are.each k graph.0 (get_or lists k d) graph.1 (slice_get-get_or lists k d less)).small
+
+-- ---- demand
+
+-- the edges by a number are those of a graph
+edges_at : (graphs : List Graph) (i : ℕ) (edges : List Edge) → slice_get (edges_of graphs) i ≡ Some edges → (graph : Graph) × (slice_get graphs i ≡ Some graph) × (graph.edges ≡ edges)
+edges_at [] i edges at = cc
+edges_at (graph ∷ graphs) zero edges at = (graph, refl, cc)
+edges_at (graph ∷ graphs) (suc i) edges at = edges_at graphs i edges at
+
+pub are_greatest : (until : ℕ) (graphs : List Graph) (lists : List (List ℕ)) → AreAllWeights until graphs lists → AreGreatest (edges_of graphs) lists until
+are_greatest until graphs lists are i edges list at at' within less =
+    let graph = edges_at graphs i edges at in
+    let weights = are.each i graph.0 list graph.1 at' in
+    subst (λ es. IsGreatestWeight es (FitsDueLast within) (slice_index list within)) graph.2 (weights.greatest within (omega (arith, less)))
+
+pub demand_fits : (until quantum : ℕ) (graphs : List Graph) (lists : List (List ℕ)) → AreAllWeights until graphs lists → DemandFits lists quantum until → IsFeasible (edges_of graphs) quantum until
+demand_fits until quantum graphs lists are fits =
+    feasible-is (edges_of graphs) lists quantum until (are.count ∙ sym (length-map graphs (λ graph. graph.edges))) (are_greatest until graphs lists are) fits
+
+pub demand_passes : (until quantum within passed : ℕ) (graphs : List Graph) (lists : List (List ℕ)) → AreAllWeights until graphs lists → IsVerdict lists quantum until (verdict.No within passed) → IsOverload (edges_of graphs) quantum until within passed
+demand_passes until quantum within passed graphs lists are (above, below, is, passes, least) =
+    overload-is (edges_of graphs) lists quantum until within passed (are.count ∙ sym (length-map graphs (λ graph. graph.edges))) (are_greatest until graphs lists are) above below is passes least
+
+-- ---- the chain
+
+module _ (unit : Whole) (until : ℕ) (failed : List ℕ) (before after : ℕ) (s : Stop) where
+  pub supply_undrawn : Halts (graphing unit) failed before after s → Halts (supplying unit until) failed before after s
+  supply_undrawn halts = halts_first _ _ failed before after s halts
+
+  pub supply_unwindowed : (graphs : List Graph) → AreGraphs unit graphs → Halts (windowing graphs until) failed before after s → Halts (supplying unit until) failed before after s
+  supply_unwindowed graphs are halts = halts_later _ _ failed before after graphs s are (halts_first _ _ failed before after s halts)
+
+  pub supply_overloaded : (graphs : List Graph) → AreGraphs unit graphs → All (HasCells until) graphs → Halts (demanding unit graphs until) failed before after s → Halts (supplying unit until) failed before after s
+  supply_overloaded graphs are cells halts = halts_later _ _ failed before after graphs s are (halts_later _ _ failed before after tt s cells (halts_first _ _ failed before after s halts))
+
+pub supply_gives : (unit : Whole) (until : ℕ) (graphs : List Graph) → AreGraphs unit graphs → All (HasCells until) graphs → IsFeasible (edges_of graphs) unit.quantum until → (supplying unit until).gives graphs
+supply_gives unit until graphs are cells feasible = gives_then _ _ graphs graphs are (gives_then _ _ tt graphs cells (gives_then _ _ tt graphs feasible refl))
+
+-- ---- outcomes
+
+pub if_ok : {A E : Type 0} {P Q : A → Type 0} (result : Result A E) → IfOk result P → ((x : A) → P x → Q x) → IfOk result Q
+if_ok (Ok x) holds more = more x holds
+if_ok (Err e) holds more = holds
+
+pub if_err : {A E : Type 0} {P Q : E → Type 0} (result : Result A E) → IfErr result P → ((e : E) → P e → Q e) → IfErr result Q
+if_err (Ok x) holds more = holds
+if_err (Err e) holds more = more e holds
+
+pub ok_no_err : {A E : Type 0} (result : Result A E) (x : A) (e : E) → result ≡ Ok x → result ≡ Err e → ⊥
+ok_no_err result x e is other = let no = sym is ∙ other in cc
+
+-- an error that is passed on
+pub err_exit : {A E : Type 0} (P : E → Type 0) (result : Result A E) (x : E) → IsErrAnd result (λ e. e ≡ x) → P x → IfErr result P
+err_exit P (Ok y) x is holds = tt
+err_exit P (Err e) x is holds = subst P (sym is) holds
+
+-- a list of weights that isn't made
+pub unwindowed : (until : ℕ) (graphs : List Graph) (failed : List ℕ) (before after : ℕ) (s : Stop) → (s ≡ stop.Memory) ⊎ ((s ≡ stop.Refused Cells) × Any (PassesCells until) graphs) → Halts (windowing graphs until) failed before after s
+unwindowed until graphs failed before after s (inl memory) = subst (Halts (windowing graphs until) failed before after) (sym memory) halts_memory
+unwindowed until graphs failed before after s (inr (is, passes)) = subst (Halts (windowing graphs until) failed before after) (sym is) (halts_refused Cells (refl, passes))
