@@ -1,4 +1,13 @@
 pub mod AskedLemmas
 pub mod Courses
+pub mod Decisions
+pub mod Edges
 pub mod FormLemmas
 pub mod GrowthLemmas
+pub mod OneAnswer
+pub mod OneForm
+pub mod OneStep
+pub mod Shapes
+pub mod SomeAnswer
+pub mod SomeForm
+pub mod SomeStep
