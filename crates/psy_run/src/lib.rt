@@ -3,6 +3,7 @@
 
 mod asked;
 mod form;
+pub mod laws;
 mod refusal;
 mod served;
 mod steps;
