@@ -6,6 +6,7 @@ mod built;
 mod commands;
 mod costs;
 mod form;
+pub mod laws;
 mod refusal;
 mod run;
 mod served;

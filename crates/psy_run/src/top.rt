@@ -17,6 +17,7 @@ ghost use Rattle.psy_run.specs.Refusals.{status_of, line_of, file_name};
 
 use crate::commands::judge;
 use crate::form::Program;
+use crate::laws::one_answer;
 use crate::refusal::{Stop, unread_line};
 use crate::run::run_loop;
 use crate::served::Served;
@@ -156,6 +157,7 @@ pub fn psyc<F: Shelf, S: Sink>(
     ensures shelf { (F.faults shelf.old ≤ F.faults shelf.new) × (F.files shelf.new ≡ F.files shelf.old) }
     ensures sink { S.faults out.old ≤ S.faults out.new }
 {
+    one_answer();
     *left = None;
     answer(alloc, words, shelf, out, left)
 }

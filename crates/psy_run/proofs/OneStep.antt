@@ -1,0 +1,297 @@
+-- Each step comes to one end at most.
+use Rattle.std.proofs.Common.{◌≡◌, ◌∙◌, sym, subst, ap, refl, ℕ, ◌*◌, ◌<◌, ◌≤◌, List, [], ◌∷◌, length, ◌⊎◌, inl, inr, Option, Some, None, if◌then◌else◌, bytes_eq, codes, zero, suc, slice_get, arith}
+use Rattle.std.proofs.lemmas.Option.{slice_get_within}
+use Rattle.psy_base.specs.declared.limits.TheConstants.{COST, FILE_BYTES}
+use Rattle.psy_door.specs.Files.{Files, bytes_under}
+use Rattle.psy_tree.specs.declared.faults.LexKind.{LexKind}
+use Rattle.psy_tree.specs.declared.raw.Raw.{Raw}
+use Rattle.psy_tree.specs.declared.rules.Count.{Count}
+use Rattle.psy_tree.specs.declared.rules.RuleKind.{RuleKind}
+use Rattle.psy_tree.specs.declared.token.Token.{Token}
+use Rattle.psy_tree.specs.declared.unit.AgentDecl.{AgentDecl}
+use Rattle.psy_tree.specs.declared.unit.Unit.{Unit as Whole}
+use Rattle.psy_tree.specs.Deep as deep
+use Rattle.psy_tree.specs.Faults.{FirstFault}
+use Rattle.psy_tree.specs.Grammar.{Spells}
+use Rattle.psy_tree.specs.Lexemes.{decimal_value}
+use Rattle.psy_tree.specs.Rules.{LeastFault, NoFault}
+use Rattle.psy_tree.specs.Stands.{Stands, first_passed}
+use Rattle.psy_tree.specs.Tokens.{TokensOf}
+use Rattle.psy_flow.specs.Agents.{IsAgentOf}
+use Rattle.psy_meaning.specs.Demand.{IsOverload}
+use Rattle.psy_meaning.specs.Flow.{IsCut, HasCost}
+use Rattle.psy_meaning.specs.Units.{IsOfText}
+use Rattle.psy_meaning.proofs.Demands.{feasible-no-overload, overload-one}
+use Rattle.psy_graph.specs.declared.fault.GraphFault.{GraphFault}
+use Rattle.psy_graph.specs.declared.fault.GraphFault.TheVariants as fault
+use Rattle.psy_graph.specs.declared.graph.Graph.{Graph}
+use Rattle.psy_graph.specs.Graphs.{AreGraphs, IsCause}
+use Rattle.psy_run.specs.declared.refusal.File.{File}
+use Rattle.psy_run.specs.declared.refusal.Refusal.{Refusal}
+use Rattle.psy_run.specs.declared.refusal.Refusal.TheVariants.{Words, TooLong, Lexical, Syntax, Deep, Rule, Many, NotBuilt, Nodes, Edges, Cells, Infeasible}
+use Rattle.psy_run.specs.Answer.{forming, building}
+use Rattle.psy_run.specs.Asked.{Command, Run, Check, Graph as Draw, Asks, asks_run, asks_check, asks_graph}
+use Rattle.psy_run.specs.Steps.{asking, reading, lexing, IsLexical, parsing, IsUnparsed, resolving, IsUnlawful, graphing, IsUndrawn, costing, AreCosts, windowing, HasCells, demanding, IsOverloaded, edges_of}
+use Rattle.psy_run.proofs.Courses.{IsOne}
+use Rattle.psy_run.proofs.OneForm.{IsForm-unique}
+
+-- What the laws of the steps say of one end.
+pub record StepsAgree : Type 0 where
+  pub tokens : (text : List ℕ) (some others : List Token) → TokensOf text some → TokensOf text others → some ≡ others
+  pub lexical : (text : List ℕ) (kind other : LexKind) (place elsewhere : ℕ) → FirstFault text kind place → FirstFault text other elsewhere → (kind ≡ other) × (place ≡ elsewhere)
+  pub tokens_or_lexical : (text : List ℕ) (tokens : List Token) (kind : LexKind) (place : ℕ) → TokensOf text tokens → FirstFault text kind place → ⊥
+  pub tree : (tokens : List Token) (raw other : Raw) → Spells raw tokens → Spells other tokens → raw ≡ other
+  pub first_deep : (tokens : List Token) (n other : ℕ) → deep.Deep tokens n → deep.Deep tokens other → n ≡ other
+  pub deep_or_shallow : (tokens : List Token) (n : ℕ) → deep.Deep tokens n → deep.Shallow tokens → ⊥
+  pub unit : (raw : Raw) (unit other : Whole) → Stands unit raw → Stands other raw → unit ≡ other
+  pub rule : (raw : Raw) (kind other : RuleKind) (token elsewhere : ℕ) → LeastFault raw kind token → LeastFault raw other elsewhere → (kind ≡ other) × (token ≡ elsewhere)
+  pub count : (raw : Raw) (count other : Count) → first_passed raw ≡ Some count → first_passed raw ≡ Some other → count ≡ other
+  pub unit_or_rule : (raw : Raw) (unit : Whole) (kind : RuleKind) (token : ℕ) → Stands unit raw → LeastFault raw kind token → ⊥
+  pub unit_or_count : (raw : Raw) (unit : Whole) (count : Count) → Stands unit raw → first_passed raw ≡ Some count → ⊥
+  pub rule_or_none : (raw : Raw) (kind : RuleKind) (token : ℕ) → LeastFault raw kind token → NoFault raw → ⊥
+  pub of_text : (bytes : List ℕ) (tokens : List Token) (raw : Raw) (unit : Whole) → length bytes ≤ FILE_BYTES → TokensOf bytes tokens → Spells raw tokens → Stands unit raw → IsOfText unit
+  pub graphs : (unit : Whole) (graphs others : List Graph) → IsOfText unit → AreGraphs unit graphs → AreGraphs unit others → graphs ≡ others
+  pub graphs_or_cause : (unit : Whole) (graphs : List Graph) (fault : GraphFault) → IsOfText unit → AreGraphs unit graphs → IsCause unit fault → ⊥
+  pub cause : (unit : Whole) (fault other : GraphFault) → IsOfText unit → IsCause unit fault → IsCause unit other → fault ≡ other
+  pub cost : (unit : Whole) (number : ℕ) (agent : AgentDecl) (point cost other : ℕ) → IsAgentOf unit number agent → IsCut (HasCost unit.functions agent point) COST cost → IsCut (HasCost unit.functions agent point) COST other → cost ≡ other
+
+-- ---- lists
+
+-- Lists of one length are the same that have the same at each place.
+same_list : {X : Type 0} (xs ys : List X) → length xs ≡ length ys → ((k : ℕ) (x y : X) → slice_get xs k ≡ Some x → slice_get ys k ≡ Some y → x ≡ y) → xs ≡ ys
+same_list [] [] long same = refl
+same_list [] (y ∷ ys) long same = absurd (omega (arith, long))
+same_list (x ∷ xs) [] long same = absurd (omega (arith, long))
+same_list (x ∷ xs) (y ∷ ys) long same = λ i. same 0 x y refl refl i ∷ same_list xs ys (omega (arith, long)) (λ k. same (suc k)) i
+
+-- Where a list of that length has something, this one has.
+there : {X Y : Type 0} (xs : List X) (ys : List Y) (k : ℕ) (y : Y) → length xs ≡ length ys → slice_get ys k ≡ Some y → (x : X) × (slice_get xs k ≡ Some x)
+there xs ys k y long at = slice_get_some xs k (let less : k < length ys = slice_get_within ys k y at in omega (arith, less, long))
+  where
+    slice_get_some : {X : Type 0} (xs : List X) (k : ℕ) → k < length xs → (x : X) × (slice_get xs k ≡ Some x)
+    slice_get_some [] k less = absurd (omega (arith, less))
+    slice_get_some (x ∷ xs) zero less = (x, refl)
+    slice_get_some (x ∷ xs) (suc k) less = slice_get_some xs k (omega (arith, less))
+
+-- ---- words
+
+-- What words would ask for, told by their number and the first of them
+command_of : List (List ℕ) → Option Command
+command_of (command ∷ program ∷ []) = Some (Draw program)
+command_of (command ∷ program ∷ date ∷ []) = Some (if bytes_eq command (codes "run") then Run program (decimal_value date) else Check program (decimal_value date))
+command_of _ = None
+
+asked : (words : List (List ℕ)) (command : Command) → Asks words command → command_of words ≡ Some command
+unfolding command_of
+asked words command (asks_run program date until is that) = ap command_of is ∙ ap (λ n. Some (Run program n)) (sym that.value)
+asked words command (asks_check program date until is that) = ap command_of is ∙ ap (λ n. Some (Check program n)) (sym that.value)
+asked words command (asks_graph program is) = ap command_of is
+
+pub one_asking : (words : List (List ℕ)) → IsOne (asking words)
+one_asking words = record {
+  gift = λ x y p q. let e : Some x ≡ Some y = sym (asked words x p) ∙ asked words y q in cc;
+  stop = λ r s p q. p.0 ∙ sym q.0;
+  apart = λ x r p q. q.1 x p;
+}
+
+-- ---- the file
+
+pub one_reading : (files : Files) (file : File) (name : List ℕ) → IsOne (reading (Some files) file name)
+one_reading files file name = record {
+  gift = λ x y p q. p.1 ∙ sym q.1;
+  stop = λ r s p q. p.0 ∙ sym q.0;
+  apart = λ x r p q. let e : length x ≡ length (bytes_under files name) = ap length p.1 in absurd (omega (arith, e, p.0, q.1));
+}
+
+-- ---- the text
+
+lexical_is : (bytes : List ℕ) (refusal : Refusal) → IsLexical bytes refusal → (kind : LexKind) × (place : ℕ) × (refusal ≡ Lexical kind place) × FirstFault bytes kind place
+lexical_is bytes Words never = absurd never
+lexical_is bytes (TooLong file) never = absurd never
+lexical_is bytes (Lexical kind place) at = (kind, place, refl, at)
+lexical_is bytes (Deep token) never = absurd never
+lexical_is bytes Syntax never = absurd never
+lexical_is bytes (Rule kind token) never = absurd never
+lexical_is bytes (Many count) never = absurd never
+lexical_is bytes NotBuilt never = absurd never
+lexical_is bytes Nodes never = absurd never
+lexical_is bytes Edges never = absurd never
+lexical_is bytes Cells never = absurd never
+lexical_is bytes (Infeasible length demand supply) never = absurd never
+
+unparsed_is : (tokens : List Token) (refusal : Refusal) → IsUnparsed tokens refusal → ((token : ℕ) × (refusal ≡ Deep token) × deep.Deep tokens token) ⊎ ((refusal ≡ Syntax) × deep.Shallow tokens × ((raw : Raw) → Spells raw tokens → ⊥))
+unparsed_is tokens Words never = absurd never
+unparsed_is tokens (TooLong file) never = absurd never
+unparsed_is tokens (Lexical kind place) never = absurd never
+unparsed_is tokens (Deep token) at = inl (token, refl, at)
+unparsed_is tokens Syntax none = inr (refl, none.0, none.1)
+unparsed_is tokens (Rule kind token) never = absurd never
+unparsed_is tokens (Many count) never = absurd never
+unparsed_is tokens NotBuilt never = absurd never
+unparsed_is tokens Nodes never = absurd never
+unparsed_is tokens Edges never = absurd never
+unparsed_is tokens Cells never = absurd never
+unparsed_is tokens (Infeasible length demand supply) never = absurd never
+
+unlawful_is : (raw : Raw) (refusal : Refusal) → IsUnlawful raw refusal → ((kind : RuleKind) × (token : ℕ) × (refusal ≡ Rule kind token) × LeastFault raw kind token) ⊎ ((count : Count) × (refusal ≡ Many count) × NoFault raw × (first_passed raw ≡ Some count))
+unlawful_is raw Words never = absurd never
+unlawful_is raw (TooLong file) never = absurd never
+unlawful_is raw (Lexical kind place) never = absurd never
+unlawful_is raw (Deep token) never = absurd never
+unlawful_is raw Syntax never = absurd never
+unlawful_is raw (Rule kind token) least = inl (kind, token, refl, least)
+unlawful_is raw (Many count) passed = inr (count, refl, passed.0, passed.1)
+unlawful_is raw NotBuilt never = absurd never
+unlawful_is raw Nodes never = absurd never
+unlawful_is raw Edges never = absurd never
+unlawful_is raw Cells never = absurd never
+unlawful_is raw (Infeasible length demand supply) never = absurd never
+
+-- the refusal of a fault
+undrawn_by : GraphFault → Refusal
+undrawn_by (fault.Nodes agent) = Nodes
+undrawn_by (fault.Edges agent) = Edges
+undrawn_by fault.Memory = Cells
+
+undrawn_is : (unit : Whole) (refusal : Refusal) → IsUndrawn unit refusal → (cause : GraphFault) × (refusal ≡ undrawn_by cause) × IsCause unit cause
+unfolding undrawn_by
+undrawn_is unit Words never = absurd never
+undrawn_is unit (TooLong file) never = absurd never
+undrawn_is unit (Lexical kind place) never = absurd never
+undrawn_is unit (Deep token) never = absurd never
+undrawn_is unit Syntax never = absurd never
+undrawn_is unit (Rule kind token) never = absurd never
+undrawn_is unit (Many count) never = absurd never
+undrawn_is unit NotBuilt never = absurd never
+undrawn_is unit Nodes it = (fault.Nodes it.0, refl, it.1)
+undrawn_is unit Edges it = (fault.Edges it.0, refl, it.1)
+undrawn_is unit Cells never = absurd never
+undrawn_is unit (Infeasible length demand supply) never = absurd never
+
+overloaded_is : (unit : Whole) (graphs : List Graph) (until : ℕ) (refusal : Refusal) → IsOverloaded unit graphs until refusal → (within : ℕ) × (demand : ℕ) × (refusal ≡ Infeasible within demand (unit.quantum * within)) × IsOverload (edges_of graphs) unit.quantum until within demand
+overloaded_is unit graphs until Words never = absurd never
+overloaded_is unit graphs until (TooLong file) never = absurd never
+overloaded_is unit graphs until (Lexical kind place) never = absurd never
+overloaded_is unit graphs until (Deep token) never = absurd never
+overloaded_is unit graphs until Syntax never = absurd never
+overloaded_is unit graphs until (Rule kind token) never = absurd never
+overloaded_is unit graphs until (Many count) never = absurd never
+overloaded_is unit graphs until NotBuilt never = absurd never
+overloaded_is unit graphs until Nodes never = absurd never
+overloaded_is unit graphs until Edges never = absurd never
+overloaded_is unit graphs until Cells never = absurd never
+overloaded_is unit graphs until (Infeasible length demand supply) it = (length, demand, ap (Infeasible length demand) it.1, it.0)
+
+module _ (agree : StepsAgree) where
+  pub one_lexing : (bytes : List ℕ) → IsOne (lexing bytes)
+  one_lexing bytes = record {
+    gift = λ x y p q. agree.tokens bytes x y p q;
+    stop = λ r s p q.
+        let (kind, place, is, at) = lexical_is bytes r p in
+        let (other, elsewhere, is', at') = lexical_is bytes s q in
+        let same = agree.lexical bytes kind other place elsewhere at at' in
+        is ∙ (λ i. Lexical (same.0 i) (same.1 i)) ∙ sym is';
+    apart = λ x r p q. let (kind, place, is, at) = lexical_is bytes r q in agree.tokens_or_lexical bytes x kind place p at;
+  }
+
+  pub one_parsing : (tokens : List Token) → IsOne (parsing tokens)
+  one_parsing tokens = record {
+    gift = λ x y p q. agree.tree tokens x y p.1 q.1;
+    stop = λ r s p q. elim (unparsed_is tokens r p) [
+      | inl a ↦ elim (unparsed_is tokens s q) [
+        | inl b ↦ a.1 ∙ ap Deep (agree.first_deep tokens a.0 b.0 a.2 b.2) ∙ sym b.1
+        | inr b ↦ absurd (agree.deep_or_shallow tokens a.0 a.2 b.1)
+      ]
+      | inr a ↦ elim (unparsed_is tokens s q) [
+        | inl b ↦ absurd (agree.deep_or_shallow tokens b.0 b.2 a.1)
+        | inr b ↦ a.0 ∙ sym b.0
+      ]
+    ];
+    apart = λ x r p q. elim (unparsed_is tokens r q) [
+      | inl a ↦ agree.deep_or_shallow tokens a.0 a.2 p.0
+      | inr a ↦ a.2 x p.1
+    ];
+  }
+
+  pub one_resolving : (raw : Raw) → IsOne (resolving raw)
+  one_resolving raw = record {
+    gift = λ x y p q. agree.unit raw x y p q;
+    stop = λ r s p q. elim (unlawful_is raw r p) [
+      | inl a ↦ elim (unlawful_is raw s q) [
+        | inl b ↦ let same = agree.rule raw a.0 b.0 a.1 b.1 a.3 b.3 in a.2 ∙ (λ i. Rule (same.0 i) (same.1 i)) ∙ sym b.2
+        | inr b ↦ absurd (agree.rule_or_none raw a.0 a.1 a.3 b.2)
+      ]
+      | inr a ↦ elim (unlawful_is raw s q) [
+        | inl b ↦ absurd (agree.rule_or_none raw b.0 b.1 b.3 a.2)
+        | inr b ↦ a.1 ∙ ap Many (agree.count raw a.0 b.0 a.3 b.3) ∙ sym b.1
+      ]
+    ];
+    apart = λ x r p q. elim (unlawful_is raw r q) [
+      | inl a ↦ agree.unit_or_rule raw x a.0 a.1 p a.3
+      | inr a ↦ agree.unit_or_count raw x a.0 p a.3
+    ];
+  }
+
+  -- ---- the program of a text
+
+  pub one_graphing : (unit : Whole) → IsOfText unit → IsOne (graphing unit)
+  one_graphing unit of = record {
+    gift = λ x y p q. agree.graphs unit x y of p q;
+    stop = λ r s p q.
+        let (cause, is, it) = undrawn_is unit r p in
+        let (other, is', it') = undrawn_is unit s q in
+        is ∙ ap undrawn_by (agree.cause unit cause other of it it') ∙ sym is';
+    apart = λ x r p q. let (cause, is, it) = undrawn_is unit r q in agree.graphs_or_cause unit x cause of p it;
+  }
+
+  one_costs : (unit : Whole) (number : ℕ) (agent : AgentDecl) → IsAgentOf unit number agent → (costs others : List ℕ) → AreCosts unit agent costs → AreCosts unit agent others → costs ≡ others
+  one_costs unit number agent its costs others a b = same_list costs others (a.count ∙ sym b.count) (λ point cost other at at'.
+      agree.cost unit number agent point cost other its (a.each point cost at) (b.each point other at'))
+
+  pub one_costing : (unit : Whole) → IsOfText unit → IsOne (costing unit)
+  one_costing unit of = record {
+    gift = λ x y p q. same_list x y (p.count ∙ sym q.count) (λ number costs others at at'.
+        let (agent, its) = there unit.agents x number costs (sym p.count) at in
+        one_costs unit number agent (of, its) costs others (p.each number agent costs its at) (q.each number agent others its at'));
+    stop = λ r s p q. absurd p;
+    apart = λ x r p q. q;
+  }
+
+-- ---- its demand
+
+pub one_windowing : (graphs : List Graph) (until : ℕ) → IsOne (windowing graphs until)
+one_windowing graphs until = record {
+  gift = λ x y p q. refl;
+  stop = λ r s p q. p.0 ∙ sym q.0;
+  apart = λ x r p q.
+      let (number, graph, less, is, more) = q.1 in
+      let few : HasCells until graph = subst (HasCells until) is (p number graph less) in
+      absurd (omega (arith, few, more));
+}
+
+pub one_demanding : (unit : Whole) (graphs : List Graph) (until : ℕ) → IsOne (demanding unit graphs until)
+one_demanding unit graphs until = record {
+  gift = λ x y p q. refl;
+  stop = λ r s p q.
+      let (within, demand, is, over) = overloaded_is unit graphs until r p in
+      let (other, more, is', over') = overloaded_is unit graphs until s q in
+      let same = overload-one (edges_of graphs) unit.quantum until within other demand more over over' in
+      is ∙ (λ i. Infeasible (same.0 i) (same.1 i) (unit.quantum * same.0 i)) ∙ sym is';
+  apart = λ x r p q. let (within, demand, is, over) = overloaded_is unit graphs until r q in feasible-no-overload (edges_of graphs) unit.quantum until within demand p over;
+}
+
+-- ---- what is built so far
+
+pub one_forming : (unit : Whole) (until : ℕ) → IsOne (forming unit until)
+one_forming unit until = record {
+  gift = λ x y p q. IsForm-unique unit until x y p q;
+  stop = λ r s p q. p.0 ∙ sym q.0;
+  apart = λ x r p q. q.1 x p;
+}
+
+pub one_building : (unit : Whole) → IsOne (building unit)
+one_building unit = record {
+  gift = λ x y p q. refl;
+  stop = λ r s p q. p.0 ∙ sym q.0;
+  apart = λ x r p q. q.1 p;
+}

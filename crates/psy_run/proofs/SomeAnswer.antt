@@ -1,0 +1,63 @@
+-- Words have some answer, where files are told.
+use Rattle.std.proofs.Common.{refl, ℕ, List, Some, inl, inr}
+use Rattle.psy_door.specs.Files.{Files}
+use Rattle.psy_meaning.specs.Units.{IsOfText}
+use Rattle.psy_tree.specs.declared.unit.Unit.{Unit as Whole}
+use Rattle.psy_run.specs.declared.refusal.File.TheVariants as file
+use Rattle.psy_run.specs.declared.served.Served.TheVariants.{Ran, Checked, Drawn}
+use Rattle.psy_run.specs.Answer.{Answers, refused, served, answering, serving, compiling, supplying, running, checking, drawing, text_of}
+use Rattle.psy_run.specs.Asked.{Command, Run, Check, Graph as Draw}
+use Rattle.psy_run.specs.Courses.{pure}
+use Rattle.psy_run.specs.Refusals.{status_of, line_of}
+use Rattle.psy_run.proofs.Courses.{IsSome, some_then}
+use Rattle.psy_run.proofs.OneAnswer.{compiled}
+use Rattle.psy_run.proofs.SomeForm.{some_forming}
+use Rattle.psy_run.proofs.SomeStep.{StepsEnd, some_asking, some_reading, some_lexing, some_parsing, some_resolving, some_graphing, some_costing, some_windowing, some_demanding, some_building}
+
+some_pure : {X : Type 0} (x : X) → IsSome (pure x)
+some_pure x = inl (x, refl)
+
+module _ (ends : StepsEnd) (files : Files) where
+  some_compiling : (name : List ℕ) → IsSome (compiling (Some files) name)
+  some_compiling name = some_then _ _ (some_reading files file.Program name) (λ bytes read.
+      some_then _ _ (some_lexing ends bytes) (λ tokens lexed.
+      some_then _ _ (some_parsing ends tokens) (λ raw parsed.
+      some_resolving ends raw)))
+
+  some_supplying : (unit : Whole) (until : ℕ) → IsOfText unit → IsSome (supplying unit until)
+  some_supplying unit until of = some_then _ _ (some_graphing ends unit of) (λ graphs drawn.
+      some_then _ _ (some_windowing graphs until) (λ few held.
+      some_then _ _ (some_demanding ends unit graphs until of drawn) (λ done feasible.
+      some_pure graphs)))
+
+  some_running : (name : List ℕ) (until : ℕ) → IsSome (running (Some files) name until)
+  some_running name until = some_then _ _ (some_compiling name) (λ unit made.
+      some_then _ _ (some_forming unit until) (λ program formed.
+      some_then _ _ (some_supplying unit until (compiled ends.of_text (Some files) name unit made)) (λ graphs supplied.
+      some_pure (Ran program))))
+
+  some_checking : (name : List ℕ) (until : ℕ) → IsSome (checking (Some files) name until)
+  some_checking name until = some_then _ _ (some_compiling name) (λ unit made.
+      some_then _ _ (some_building unit) (λ done built.
+      some_then _ _ (some_supplying unit until (compiled ends.of_text (Some files) name unit made)) (λ graphs supplied.
+      some_pure (Checked unit until))))
+
+  some_drawing : (name : List ℕ) → IsSome (drawing (Some files) name)
+  some_drawing name = some_then _ _ (some_compiling name) (λ unit made.
+      some_then _ _ (some_graphing ends unit (compiled ends.of_text (Some files) name unit made)) (λ graphs drawn.
+      some_then _ _ (some_costing ends unit (compiled ends.of_text (Some files) name unit made)) (λ costs found.
+      some_pure (Drawn unit graphs costs))))
+
+  some_serving : (command : Command) → IsSome (serving (Some files) command)
+  some_serving (Run program until) = some_running program until
+  some_serving (Check program until) = some_checking program until
+  some_serving (Draw program) = some_drawing program
+
+  some_answering : (words : List (List ℕ)) → IsSome (answering words (Some files))
+  some_answering words = some_then _ _ (some_asking words) (λ command asks. some_serving command)
+
+  pub Answers-some : (words : List (List ℕ)) → (status : ℕ) × (text : List ℕ) × Answers words (Some files) status text
+  Answers-some words = elim (some_answering words) [
+    | inl done ↦ (0, text_of done.0, served done.0 done.1)
+    | inr stop ↦ (status_of stop.0, line_of stop.0, refused stop.0 stop.1)
+  ]

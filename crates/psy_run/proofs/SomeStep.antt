@@ -1,0 +1,230 @@
+-- Each step comes to some end.
+use Rattle.std.proofs.Common.{◌≡◌, ◌∙◌, sym, subst, ap, refl, ℕ, zero, suc, ◌+◌, ◌*◌, ◌<◌, ◌≤◌, List, [], ◌∷◌, length, ◌⊎◌, inl, inr, Option, Some, None, Bool, true, false, bytes_eq, codes, slice_get, arith}
+use Rattle.std.specs.List.{All, list_any}
+use Rattle.std.specs.Char.{is_ascii_digit}
+use Rattle.std.proofs.lemmas.Bool.{cases_lt, false≢true}
+use Rattle.std.proofs.lemmas.Option.{same_Some, none-some}
+use Rattle.std.proofs.lemmas.Slice.Eq.{bytes_eq-Decides}
+use Rattle.psy_base.specs.declared.edge.Edge.{Edge}
+use Rattle.psy_base.specs.declared.limits.TheConstants.{COST, FILE_BYTES, UNTIL, WINDOW_CELLS, WORD_DIGITS}
+use Rattle.psy_base.specs.Paths.{FitsDueLast, IsGreatestWeight}
+use Rattle.psy_clock.specs.declared.clock.Clock.{Clock}
+use Rattle.psy_clock.specs.Dates.{IsClock, after_date}
+use Rattle.psy_door.specs.Files.{Files, bytes_under}
+use Rattle.psy_tree.specs.declared.faults.LexKind.{LexKind}
+use Rattle.psy_tree.specs.declared.raw.Raw.{Raw}
+use Rattle.psy_tree.specs.declared.rules.Count.{Count}
+use Rattle.psy_tree.specs.declared.rules.RuleKind.{RuleKind}
+use Rattle.psy_tree.specs.declared.token.Token.{Token}
+use Rattle.psy_tree.specs.declared.unit.AgentDecl.{AgentDecl}
+use Rattle.psy_tree.specs.declared.unit.Unit.{Unit as Whole}
+use Rattle.psy_tree.specs.Deep as deep
+use Rattle.psy_tree.specs.Faults.{FirstFault}
+use Rattle.psy_tree.specs.Grammar.{Spells}
+use Rattle.psy_tree.specs.Lexemes.{decimal_value}
+use Rattle.psy_tree.specs.Rules.{LeastFault, NoFault}
+use Rattle.psy_tree.specs.Stands.{Stands, first_passed}
+use Rattle.psy_tree.specs.Tokens.{TokensOf}
+use Rattle.psy_flow.specs.Agents.{IsAgentOf}
+use Rattle.psy_meaning.specs.Flow.{IsCut, HasCost}
+use Rattle.psy_meaning.specs.Timing.{Timing}
+use Rattle.psy_meaning.specs.Units.{IsOfText}
+use Rattle.psy_meaning.proofs.Demands.{demand-some, feasible-or-overload}
+use Rattle.psy_window.specs.declared.span.Span.{Span}
+use Rattle.psy_window.specs.declared.span.Span.TheVariants.{DueLast}
+use Rattle.psy_window.specs.Windows.{IsEdge, Fits}
+use Rattle.psy_graph.specs.declared.fault.GraphFault.{GraphFault}
+use Rattle.psy_graph.specs.declared.fault.GraphFault.TheVariants as fault
+use Rattle.psy_graph.specs.declared.graph.Graph.{Graph}
+use Rattle.psy_graph.specs.Graphs.{AreGraphs, IsCause, IsTimed, IsTimingOf}
+use Rattle.psy_run.specs.declared.refusal.File.{File}
+use Rattle.psy_run.specs.declared.refusal.Refusal.{Refusal}
+use Rattle.psy_run.specs.declared.refusal.Refusal.TheVariants.{Words, TooLong, Lexical, Syntax, Deep, Rule, Many, NotBuilt, Nodes, Edges, Cells, Infeasible}
+use Rattle.psy_run.specs.Answer.{building}
+use Rattle.psy_run.specs.Asked.{IsDate, Command, Run, Check, Graph as Draw, Asks, asks_run, asks_check, asks_graph}
+use Rattle.psy_run.specs.Built.{agent_looks}
+use Rattle.psy_run.specs.Steps.{asking, reading, lexing, parsing, resolving, graphing, IsUndrawn, costing, AreCosts, windowing, HasCells, PassesCells, demanding, edges_of}
+use Rattle.psy_run.proofs.Courses.{IsSome}
+use Rattle.psy_run.proofs.Decisions.{Decided, both, alike, decided_most, decided_each, decided_none, decided_false, all_or_any, list_of}
+use Rattle.std.proofs.lemmas.Option.{get_or_from_slice_get, slice_get_within}
+
+-- What the laws of the steps say of some end.
+pub record StepsEnd : Type 0 where
+  pub tokens_or_lexical : (text : List ℕ) → ((tokens : List Token) × TokensOf text tokens) ⊎ ((kind : LexKind) × (place : ℕ) × FirstFault text kind place)
+  pub deep_or_shallow : (tokens : List Token) → ((n : ℕ) × deep.Deep tokens n) ⊎ deep.Shallow tokens
+  pub tree_or_none : (tokens : List Token) → ((raw : Raw) × Spells raw tokens) ⊎ ((raw : Raw) → Spells raw tokens → ⊥)
+  pub verdict : (raw : Raw) → ((unit : Whole) × Stands unit raw) ⊎ (((kind : RuleKind) × (token : ℕ) × LeastFault raw kind token) ⊎ ((count : Count) × NoFault raw × (first_passed raw ≡ Some count)))
+  pub of_text : (bytes : List ℕ) (tokens : List Token) (raw : Raw) (unit : Whole) → length bytes ≤ FILE_BYTES → TokensOf bytes tokens → Spells raw tokens → Stands unit raw → IsOfText unit
+  pub graphs_or_cause : (unit : Whole) → IsOfText unit → ((graphs : List Graph) × AreGraphs unit graphs) ⊎ ((fault : GraphFault) × IsCause unit fault)
+  pub edges : (unit : Whole) (graphs : List Graph) → IsOfText unit → AreGraphs unit graphs → All (λ graph. All (IsEdge (length graph.nodes)) graph.edges) graphs
+  pub cost : (unit : Whole) (number : ℕ) (agent : AgentDecl) (point : ℕ) → IsAgentOf unit number agent → point < length agent.points → (cost : ℕ) × IsCut (HasCost unit.functions agent point) COST cost
+  pub greatest : (graph : List Edge) (nodes : ℕ) (span : Span) (within : ℕ) → All (IsEdge nodes) graph → (n : ℕ) × IsGreatestWeight graph (Fits span within) n
+
+-- ---- words
+
+decided_date : (word : List ℕ) → Decided ((date : ℕ) × IsDate word date)
+decided_date word = alike
+    (λ h. let (some, (few, (digits, most))) = h in (decimal_value word, record { some = some; few = few; digits = digits; value = refl; most = most }))
+    (λ d. (d.1.some, (d.1.few, (d.1.digits, subst (λ n. n ≤ UNTIL) d.1.value d.1.most))))
+    (both (decided_most 1 (length word)) (both (decided_most (length word) WORD_DIGITS) (both (decided_each is_ascii_digit word) (decided_most (decimal_value word) UNTIL))))
+
+decided_bytes : (a b : List ℕ) → Decided (a ≡ b)
+decided_bytes a b = by (bytes_eq a b) refl
+  where
+    by : (t : Bool) → bytes_eq a b ≡ t → Decided (a ≡ b)
+    by true e = inl ((bytes_eq-Decides a b).0 e)
+    by false e = inr (λ same. false≢true (sym e ∙ (bytes_eq-Decides a b).1 same))
+
+-- the words of a command are two or three
+asked_long : (words : List (List ℕ)) (command : Command) → Asks words command → (2 ≤ length words) × (length words ≤ 3)
+asked_long words command (asks_run program date until is that) = let l : length words ≡ 3 = ap length is in (omega (arith, l), omega (arith, l))
+asked_long words command (asks_check program date until is that) = let l : length words ≡ 3 = ap length is in (omega (arith, l), omega (arith, l))
+asked_long words command (asks_graph program is) = let l : length words ≡ 2 = ap length is in (omega (arith, l), omega (arith, l))
+
+-- two words ask for graphs
+asked_two : (c p : List ℕ) (command : Command) → Asks (c ∷ p ∷ []) command → c ≡ codes "graph"
+asked_two c p command (asks_run program date until is that) = let l : 2 ≡ 3 = ap length is in absurd (omega (arith, l))
+asked_two c p command (asks_check program date until is that) = let l : 2 ≡ 3 = ap length is in absurd (omega (arith, l))
+asked_two c p command (asks_graph program is) = let e : c ∷ p ∷ [] ≡ codes "graph" ∷ program ∷ [] = is in cc
+
+-- three words ask for a run or a check up to a date
+asked_three : (c p d : List ℕ) (command : Command) → Asks (c ∷ p ∷ d ∷ []) command → ((date : ℕ) × IsDate d date) × ((c ≡ codes "run") ⊎ (c ≡ codes "check"))
+asked_three c p d command (asks_run program date until is that) =
+    let e : c ∷ p ∷ d ∷ [] ≡ codes "run" ∷ program ∷ date ∷ [] = is in
+    let third : d ≡ date = cc in
+    let first : c ≡ codes "run" = cc in
+    ((until, subst (λ w. IsDate w until) (sym third) that), inl first)
+asked_three c p d command (asks_check program date until is that) =
+    let e : c ∷ p ∷ d ∷ [] ≡ codes "check" ∷ program ∷ date ∷ [] = is in
+    let third : d ≡ date = cc in
+    let first : c ≡ codes "check" = cc in
+    ((until, subst (λ w. IsDate w until) (sym third) that), inr first)
+asked_three c p d command (asks_graph program is) = let l : 3 ≡ 2 = ap length is in absurd (omega (arith, l))
+
+some_two : (c p : List ℕ) → IsSome (asking (c ∷ p ∷ []))
+some_two c p = elim (decided_bytes c (codes "graph")) [
+  | inl is ↦ inl (Draw p, asks_graph p (ap (λ w. w ∷ p ∷ []) is))
+  | inr other ↦ inr (Words, (refl, λ command asks. other (asked_two c p command asks)))
+]
+
+some_three : (c p d : List ℕ) → IsSome (asking (c ∷ p ∷ d ∷ []))
+some_three c p d = elim (decided_date d) [
+  | inr none ↦ inr (Words, (refl, λ command asks. none (asked_three c p d command asks).0))
+  | inl date ↦ elim (decided_bytes c (codes "run")) [
+    | inl is ↦ inl (Run p date.0, asks_run p d date.0 (ap (λ w. w ∷ p ∷ d ∷ []) is) date.1)
+    | inr other ↦ elim (decided_bytes c (codes "check")) [
+      | inl is ↦ inl (Check p date.0, asks_check p d date.0 (ap (λ w. w ∷ p ∷ d ∷ []) is) date.1)
+      | inr neither ↦ inr (Words, (refl, λ command asks. elim (asked_three c p d command asks).1 [ inl is ↦ other is | inr is ↦ neither is ]))
+    ]
+  ]
+]
+
+pub some_asking : (words : List (List ℕ)) → IsSome (asking words)
+some_asking [] = inr (Words, (refl, λ command asks. let l = (asked_long [] command asks).0 in omega (arith, l)))
+some_asking (c ∷ []) = inr (Words, (refl, λ command asks. let l = (asked_long (c ∷ []) command asks).0 in omega (arith, l)))
+some_asking (c ∷ p ∷ []) = some_two c p
+some_asking (c ∷ p ∷ d ∷ []) = some_three c p d
+some_asking (c ∷ p ∷ d ∷ w ∷ words) = inr (Words, (refl, λ command asks. let l = (asked_long (c ∷ p ∷ d ∷ w ∷ words) command asks).1 in omega (arith, l)))
+
+-- ---- the file
+
+pub some_reading : (files : Files) (file : File) (name : List ℕ) → IsSome (reading (Some files) file name)
+some_reading files file name = elim (cases_lt FILE_BYTES (length (bytes_under files name))) [
+  | inl long ↦ inr (TooLong file, (refl, long))
+  | inr short ↦ inl (bytes_under files name, (short, refl))
+]
+
+-- ---- what is built so far
+
+pub some_building : (unit : Whole) → IsSome (building unit)
+some_building unit = elim (both (decided_none unit.streams) (decided_false (list_any agent_looks unit.agents))) [
+  | inl is ↦ inl (tt, record { streams = is.0; looks = is.1 })
+  | inr none ↦ inr (NotBuilt, (refl, λ built. none (built.streams, built.looks)))
+]
+
+-- ---- its demand
+
+pub some_windowing : (graphs : List Graph) (until : ℕ) → IsSome (windowing graphs until)
+some_windowing graphs until = elim (all_or_any (HasCells until) (PassesCells until) each graphs) [
+  | inl all ↦ inl (tt, all)
+  | inr any ↦ inr (Cells, (refl, any))
+]
+  where
+    each : (graph : Graph) → HasCells until graph ⊎ PassesCells until graph
+    each graph = elim (cases_lt WINDOW_CELLS (length graph.nodes * (until + 1))) [ inl more ↦ inr more | inr few ↦ inl few ]
+
+undrawn : (unit : Whole) (cause : GraphFault) → IsCause unit cause → (refusal : Refusal) × IsUndrawn unit refusal
+undrawn unit (fault.Nodes agent) is = (Nodes, (agent, is))
+undrawn unit (fault.Edges agent) is = (Edges, (agent, is))
+undrawn unit fault.Memory never = absurd never
+
+-- the graph of an edge list
+graph_at : (graphs : List Graph) (number : ℕ) (edges : List Edge) → slice_get (edges_of graphs) number ≡ Some edges → (graph : Graph) × (slice_get graphs number ≡ Some graph) × (graph.edges ≡ edges)
+graph_at [] number edges at = absurd (none-some edges at)
+graph_at (graph ∷ graphs) zero edges at = (graph, refl, same_Some graph.edges edges at)
+graph_at (graph ∷ graphs) (suc number) edges at = graph_at graphs number edges at
+
+module _ (ends : StepsEnd) where
+  pub some_lexing : (bytes : List ℕ) → IsSome (lexing bytes)
+  some_lexing bytes = elim (ends.tokens_or_lexical bytes) [
+    | inl tokens ↦ inl tokens
+    | inr at ↦ inr (Lexical at.0 at.1, at.2)
+  ]
+
+  pub some_parsing : (tokens : List Token) → IsSome (parsing tokens)
+  some_parsing tokens = elim (ends.deep_or_shallow tokens) [
+    | inl at ↦ inr (Deep at.0, at.1)
+    | inr shallow ↦ elim (ends.tree_or_none tokens) [
+      | inl tree ↦ inl (tree.0, (shallow, tree.1))
+      | inr none ↦ inr (Syntax, (shallow, none))
+    ]
+  ]
+
+  pub some_resolving : (raw : Raw) → IsSome (resolving raw)
+  some_resolving raw = elim (ends.verdict raw) [
+    | inl unit ↦ inl unit
+    | inr other ↦ elim other [
+      | inl least ↦ inr (Rule least.0 least.1, least.2)
+      | inr passed ↦ inr (Many passed.0, (passed.1, passed.2))
+    ]
+  ]
+
+  pub some_graphing : (unit : Whole) → IsOfText unit → IsSome (graphing unit)
+  some_graphing unit of = elim (ends.graphs_or_cause unit of) [
+    | inl graphs ↦ inl graphs
+    | inr cause ↦ inr (undrawn unit cause.0 cause.1)
+  ]
+
+  -- the costs of an agent
+  some_costs : (unit : Whole) (number : ℕ) (agent : AgentDecl) → IsAgentOf unit number agent → (costs : List ℕ) × AreCosts unit agent costs
+  some_costs unit number agent its =
+      let (costs, long, each) = list_of (length agent.points) (λ point cost. IsCut (HasCost unit.functions agent point) COST cost) (λ point less. ends.cost unit number agent point its less) in
+      (costs, record { count = long; each = each })
+
+  some_listed : (unit : Whole) → IsOfText unit → (number : ℕ) → number < length unit.agents → (list : List ℕ) × ((agent : AgentDecl) → slice_get unit.agents number ≡ Some agent → AreCosts unit agent list)
+  some_listed unit of number less = by (slice_get unit.agents number) refl
+    where
+      by : (o : Option AgentDecl) → slice_get unit.agents number ≡ o → (list : List ℕ) × ((agent : AgentDecl) → slice_get unit.agents number ≡ Some agent → AreCosts unit agent list)
+      by None at = ([], λ agent other. absurd (none-some agent (sym at ∙ other)))
+      by (Some agent) at =
+          let (costs, are) = some_costs unit number agent (of, at) in
+          (costs, λ agent' other. subst (λ a. AreCosts unit a costs) (same_Some agent agent' (sym at ∙ other)) are)
+
+  pub some_costing : (unit : Whole) → IsOfText unit → IsSome (costing unit)
+  some_costing unit of =
+      let (costs, long, each) = list_of (length unit.agents) (λ number list. (agent : AgentDecl) → slice_get unit.agents number ≡ Some agent → AreCosts unit agent list) (some_listed unit of) in
+      inl (costs, record { count = long; each = λ number agent list its at. each number list at agent its })
+
+  -- each graph has a greatest weight of the paths that fit a length
+  some_weight : (unit : Whole) (graphs : List Graph) → IsOfText unit → AreGraphs unit graphs → (within number : ℕ) (edges : List Edge) → slice_get (edges_of graphs) number ≡ Some edges → (n : ℕ) × IsGreatestWeight edges (FitsDueLast within) n
+  some_weight unit graphs of are within number edges at =
+      let (graph, its, same) = graph_at graphs number edges at in
+      let fit = subst (λ g. All (IsEdge (length g.nodes)) g.edges) (get_or_from_slice_get graphs number graph graph its) (ends.edges unit graphs of are number graph (slice_get_within graphs number graph its)) in
+      subst (λ es. (n : ℕ) × IsGreatestWeight es (FitsDueLast within) n) same (ends.greatest graph.edges (length graph.nodes) DueLast within fit)
+
+  pub some_demanding : (unit : Whole) (graphs : List Graph) (until : ℕ) → IsOfText unit → AreGraphs unit graphs → IsSome (demanding unit graphs until)
+  some_demanding unit graphs until of are =
+      elim (feasible-or-overload (edges_of graphs) unit.quantum until (λ within above below. demand-some (edges_of graphs) within (some_weight unit graphs of are within))) [
+        | inl feasible ↦ inl (tt, feasible)
+        | inr over ↦ inr (Infeasible over.0 over.1 (unit.quantum * over.0), (over.2, refl))
+      ]
