@@ -14,3 +14,5 @@ mod steps;
 mod supply;
 mod texts;
 mod top;
+
+pub use top::psyc;
