@@ -3,15 +3,21 @@
 
 mod asked;
 mod built;
+#[cfg(test)]
+mod command_tests;
 mod commands;
 mod costs;
 mod form;
 pub mod laws;
 mod refusal;
+#[cfg(test)]
+mod rule_tests;
 mod run;
 mod served;
 mod steps;
 mod supply;
+#[cfg(test)]
+mod tests;
 mod texts;
 mod top;
 
