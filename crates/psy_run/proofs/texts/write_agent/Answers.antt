@@ -1,9 +1,8 @@
-use Rattle.std.proofs.Common.{◌∙◌, ◌≡◌, ◌++◌, List, ℕ, subst, ap, flat_map, length}
+use Rattle.std.proofs.Common.{◌≡◌, ◌++◌, List, ℕ, subst, flat_map, length}
 use Rattle.psy_door.specs.Growth.{Grew, GrewByFront}
 use Rattle.psy_log.specs.Forms.{agent_graph_line}
 use Rattle.psy_log.specs.Writing.{Written}
 use Rattle.psy_run.specs.Texts.{nodes_text, edge_text}
-use Rattle.psy_run.proofs.GrowthLemmas.{Grew-trans}
 use Rattle.psy_run.proofs.WritingLemmas.{GrewByFront-append, Grew-GrewByFront, Written-append}
 use Rattle.psy_run.proofs.texts.write_agent.Goals as goal
 

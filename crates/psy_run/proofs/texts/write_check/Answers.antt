@@ -1,4 +1,4 @@
-use Rattle.std.proofs.Common.{◌∙◌, ◌≡◌, subst, ap, flat_map}
+use Rattle.std.proofs.Common.{subst, flat_map}
 use Rattle.psy_door.specs.Growth.{Grew, GrewByFront}
 use Rattle.psy_log.specs.Forms.{feasible_line}
 use Rattle.psy_log.specs.Writing.{Written}

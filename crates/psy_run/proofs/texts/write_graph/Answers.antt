@@ -1,4 +1,4 @@
-use Rattle.std.proofs.Common.{◌≡◌, ◌∙◌, ap, sym, subst, ◌+◌, ◌<◌, List, ℕ, length, get_or, take, min, arith}
+use Rattle.std.proofs.Common.{◌≡◌, ◌∙◌, ap, subst, ◌+◌, ◌<◌, List, ℕ, length, get_or, take, min, arith}
 use Rattle.psy_door.specs.Growth.{Grew, GrewByFront}
 use Rattle.psy_tree.specs.declared.unit.AgentDecl.{AgentDecl}
 use Rattle.psy_graph.specs.declared.graph.Graph.{Graph}

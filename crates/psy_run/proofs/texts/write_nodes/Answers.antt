@@ -1,4 +1,4 @@
-use Rattle.std.proofs.Common.{◌+◌, ◌++◌, flat_map, take, drop, arith}
+use Rattle.std.proofs.Common.{◌+◌, take, arith}
 use Rattle.psy_run.specs.Texts.{nodes_text}
 use Rattle.psy_run.proofs.TextLemmas.{nodes_more, nodes_split}
 use Rattle.psy_run.proofs.WritingLemmas.{Grew-item, GrewByFront-item}
