@@ -1,8 +1,6 @@
 -- Courses step by step: how they are left, that they come to one end, and that they come to some.
 use Rattle.std.proofs.Common.{◌≡◌, sym, subst, ℕ, List, ◌⊎◌, inl, inr, Result, Ok, Err, IfOk, IfErr}
 use Rattle.std.specs.Result.{IsErrAnd}
-use Rattle.psy_door.specs.Faults.{Rose}
-use Rattle.psy_run.specs.declared.refusal.File.{File}
 use Rattle.psy_run.specs.declared.refusal.Refusal.{Refusal}
 use Rattle.psy_run.specs.declared.refusal.Stop.{Stop}
 use Rattle.psy_run.specs.declared.refusal.Stop.TheVariants.{Memory}

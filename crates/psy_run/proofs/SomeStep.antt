@@ -8,8 +8,6 @@ use Rattle.std.proofs.lemmas.Slice.Eq.{bytes_eq-Decides}
 use Rattle.psy_base.specs.declared.edge.Edge.{Edge}
 use Rattle.psy_base.specs.declared.limits.TheConstants.{COST, FILE_BYTES, UNTIL, WINDOW_CELLS, WORD_DIGITS}
 use Rattle.psy_base.specs.Paths.{FitsDueLast, IsGreatestWeight}
-use Rattle.psy_clock.specs.declared.clock.Clock.{Clock}
-use Rattle.psy_clock.specs.Dates.{IsClock, after_date}
 use Rattle.psy_door.specs.Files.{Files, bytes_under}
 use Rattle.psy_tree.specs.declared.faults.LexKind.{LexKind}
 use Rattle.psy_tree.specs.declared.raw.Raw.{Raw}
@@ -27,7 +25,6 @@ use Rattle.psy_tree.specs.Stands.{Stands, first_passed}
 use Rattle.psy_tree.specs.Tokens.{TokensOf}
 use Rattle.psy_flow.specs.Agents.{IsAgentOf}
 use Rattle.psy_meaning.specs.Flow.{IsCut, HasCost}
-use Rattle.psy_meaning.specs.Timing.{Timing}
 use Rattle.psy_meaning.specs.Units.{IsOfText}
 use Rattle.psy_meaning.proofs.Demands.{demand-some, feasible-or-overload}
 use Rattle.psy_window.specs.declared.span.Span.{Span}
@@ -36,7 +33,7 @@ use Rattle.psy_window.specs.Windows.{IsEdge, Fits}
 use Rattle.psy_graph.specs.declared.fault.GraphFault.{GraphFault}
 use Rattle.psy_graph.specs.declared.fault.GraphFault.TheVariants as fault
 use Rattle.psy_graph.specs.declared.graph.Graph.{Graph}
-use Rattle.psy_graph.specs.Graphs.{AreGraphs, IsCause, IsTimed, IsTimingOf}
+use Rattle.psy_graph.specs.Graphs.{AreGraphs, IsCause}
 use Rattle.psy_run.specs.declared.refusal.File.{File}
 use Rattle.psy_run.specs.declared.refusal.Refusal.{Refusal}
 use Rattle.psy_run.specs.declared.refusal.Refusal.TheVariants.{Words, TooLong, Lexical, Syntax, Deep, Rule, Many, NotBuilt, Nodes, Edges, Cells, Infeasible}

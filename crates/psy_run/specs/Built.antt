@@ -1,5 +1,5 @@
 -- The programs that are checked so far: those without streams that look at no other dates.
-use Rattle.std.specs.Prelude.{◌≡◌, Bool, true, false, ◌||◌, List, [], Some, None}
+use Rattle.std.specs.Prelude.{◌≡◌, Bool, true, false, ◌||◌, [], Some, None}
 use Rattle.std.specs.List.{list_any}
 use Rattle.psy_tree.specs.declared.unit.AgentDecl.{AgentDecl}
 use Rattle.psy_tree.specs.declared.unit.Expr.{Expr, fold-Expr}

@@ -33,6 +33,5 @@ in_row {X = X} {Y = Y} c f = record {
 }
 
 infixl 10 ◌>>=◌
-
 abbrev pub ◌>>=◌ : {X Y : Type 0} → Course X → (X → Course Y) → Course Y
 c >>= f = in_row c f

@@ -1,5 +1,5 @@
 -- The form of program that is served so far: one agent and one temporal variable, on one of its clocks.
-use Rattle.std.specs.Prelude.{◌≡◌, ℕ, ◌≤◌, Bool, true, false, List, [], ◌∷◌, length, Some, slice_get, pos, ℤ}
+use Rattle.std.specs.Prelude.{◌≡◌, ℕ, ◌≤◌, Bool, true, false, [], ◌∷◌, length, Some, slice_get, pos, ℤ}
 use Rattle.psy_base.specs.declared.limits.TheConstants.{WORD_BYTES}
 use Rattle.psy_arith.specs.declared.operators.Op2.TheVariants.{Add}
 use Rattle.psy_clock.specs.declared.clock.Clock.{Clock}

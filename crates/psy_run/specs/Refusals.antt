@@ -5,7 +5,7 @@ use Rattle.psy_tree.specs.declared.rules.Count.{Count}
 use Rattle.psy_tree.specs.declared.rules.Count.TheVariants.{Clocks, Agents, Variables, Streams, Functions, Names, Points}
 use Rattle.psy_tree.specs.Faults.{lex_number}
 use Rattle.psy_tree.specs.Rules.{rule_number}
-use Rattle.psy_log.specs.Forms.{words_line, limit_line, refused_line, not_built_line, infeasible_line, read_line}
+use Rattle.psy_log.specs.Forms.{words_line, limit_line, refused_line, not_built_line, infeasible_line}
 use Rattle.psy_run.specs.declared.refusal.File.{File}
 use Rattle.psy_run.specs.declared.refusal.File.TheVariants.{Program}
 use Rattle.psy_run.specs.declared.refusal.Refusal.{Refusal}

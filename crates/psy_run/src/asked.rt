@@ -8,17 +8,9 @@ use psy_token::decimal_value;
 /// What the words ask for, with the name of the program's file and the last date.
 #[derive(Clone, Copy)]
 pub enum Command<'a> {
-    Run {
-        program: &'a str,
-        until: u32,
-    },
-    Check {
-        program: &'a str,
-        until: u32,
-    },
-    Graph {
-        program: &'a str,
-    },
+    Run { program: &'a str, until: u32 },
+    Check { program: &'a str, until: u32 },
+    Graph { program: &'a str },
 }
 
 // The date that a word is.

@@ -2,7 +2,8 @@ use crate::tests::{Devices, SOUND, compare};
 use std::test::Fail;
 
 // A counter with a variable of its own.
-const COUNTS: &str = "tick 100; clock c = 10 * tick;\ntemporal v of A on c = 0 depth 1;\nagent A on c budget 40 { int n = 0; body { n = n + 1; v = n; advance 1 on c; } }\n";
+const COUNTS: &str =
+    "tick 100; clock c = 10 * tick;\ntemporal v of A on c = 0 depth 1;\nagent A on c budget 40 { int n = 0; body { n = n + 1; v = n; advance 1 on c; } }\n";
 
 // Every action is due one tick after its start, and ends one tick or three after it.
 const TWO_DATES: &str = "tick 20; clock c = 1 * tick; temporal v of A on c = 0 depth 1;
@@ -39,20 +40,24 @@ agent A on a budget 9 { body { advance 1 on a; } }
 agent B on a budget 9 { body { advance 1 on a; advance 1 on b; } }";
 
 // Six clocks whose least common multiple passes 64 bits.
-const SIX_CLOCKS: &str = "tick 100; clock a = 9973 * tick; clock b = 9967 * tick; clock c = 9949 * tick;
+const SIX_CLOCKS: &str =
+    "tick 100; clock a = 9973 * tick; clock b = 9967 * tick; clock c = 9949 * tick;
 clock d = 9941 * tick; clock e = 9931 * tick; clock f = 9929 * tick;
 agent A on a budget 9 { body { advance 1 on a; advance 1 on b; advance 1 on c; advance 1 on d; advance 1 on e; advance 1 on f; } }";
 
-const INPUTS: &str = "tick 10; clock c = 1 * tick; input x on c = 0 depth 3; temporal v of A on c = 0 depth 2;
+const INPUTS: &str =
+    "tick 10; clock c = 1 * tick; input x on c = 0 depth 3; temporal v of A on c = 0 depth 2;
 agent A on c budget 9 { body { v = 1; advance 1 on c; } }";
 
-const LOOKS: &str = "tick 10; clock c = 1 * tick; input x on c = 0 depth 3; temporal v of A on c = 0 depth 2;
+const LOOKS: &str =
+    "tick 10; clock c = 1 * tick; input x on c = 0 depth 3; temporal v of A on c = 0 depth 2;
 agent A on c budget 9 { body { while (v) max 2 { v = 1 + past(x, 0); } advance 1 on c; } }";
 
 const STREAM: &str = "tick 10; clock c = 1 * tick; stream s to A keep 1 on c;
 agent A on c budget 9 { body { advance 1 on c; } }";
 
-const COSTLY: &str = "tick 100; clock c = 10 * tick;\ntemporal v of A on c = 0 depth 1;\nagent A on c budget 1000001 { body { v = 1; advance 1 on c; } }\n";
+const COSTLY: &str =
+    "tick 100; clock c = 10 * tick;\ntemporal v of A on c = 0 depth 1;\nagent A on c budget 1000001 { body { v = 1; advance 1 on c; } }\n";
 
 // A check: the program, the last date, and the status and the text that are wanted.
 type Check = (&'static str, &'static str, u8, &'static str);
@@ -69,7 +74,12 @@ const CHECKED: [Check; 24] = [
         "variable x 1\nvariable y 1\nfeasible 1\n",
     ),
     (ONE_CYCLE_MORE, "1", 5, "infeasible 1 21 20\n"),
-    (ONE_CYCLE_MORE, "0", 0, "variable x 1\nvariable y 1\nfeasible 0\n"),
+    (
+        ONE_CYCLE_MORE,
+        "0",
+        0,
+        "variable x 1\nvariable y 1\nfeasible 0\n",
+    ),
     // The first length that fails is the last date, and then one behind it.
     (FIVE_TICKS, "5", 5, "infeasible 5 51 50\n"),
     (FIVE_TICKS, "4", 0, "variable v 1\nfeasible 4\n"),

@@ -80,7 +80,11 @@ fn draw<F: Shelf>(alloc: Global, shelf: &mut F, name: &str) -> Result<Served, St
     let unit = compile(alloc, shelf, name)?;
     let graphs = graphs(alloc, &unit)?;
     let costs = all_costs(alloc, &unit)?;
-    Ok(Served::Drawn { unit, graphs, costs })
+    Ok(Served::Drawn {
+        unit,
+        graphs,
+        costs,
+    })
 }
 
 /// What the words come to, before anything is written.

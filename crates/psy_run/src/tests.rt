@@ -49,6 +49,13 @@ fn files(alloc: Global, program: Vec<u8>) -> Result<Vec<(Text, Vec<u8>)>, Fail> 
     Ok(files)
 }
 
+fn is_run(words: &[&str]) -> bool {
+    match words {
+        [command, ..] => *command == "run",
+        [] => false,
+    }
+}
+
 // Whether a kernel is left, and is over, exactly where a program was run.
 fn is_left(left: &Option<Kernel>, ran: bool) -> bool {
     match left {
@@ -82,7 +89,7 @@ pub fn compare(
     );
     assert_eq!(rt; answer, status, "the status wanted with {text}");
     assert_eq!(rt; out.bytes(), text.as_bytes(), "the text {text}");
-    let ran = answer == 0 && words[0] == "run";
+    let ran = answer == 0 && is_run(words);
     assert!(rt; is_left(&left, ran), "what is left with {text}");
     Ok(())
 }

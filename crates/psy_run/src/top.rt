@@ -83,9 +83,11 @@ fn serve<S: Sink>(served: &Served, out: &mut S, left: &mut Option<Kernel>) -> Re
     match served {
         Served::Ran(program) => run(program, out, left),
         Served::Checked { unit, until } => write_check(unit, *until, out),
-        Served::Drawn { unit, graphs, costs } => {
-            write_graph(unit, graphs.as_slice(), costs.as_slice(), out)
-        }
+        Served::Drawn {
+            unit,
+            graphs,
+            costs,
+        } => { write_graph(unit, graphs.as_slice(), costs.as_slice(), out) }
     }
 }
 

@@ -1,7 +1,5 @@
-use Rattle.std.proofs.Common.{◌≡◌, refl, sym, subst}
-use Rattle.psy_run.specs.declared.refusal.Stop.TheVariants.{Memory}
+use Rattle.std.proofs.Common.{refl}
 use Rattle.psy_run.specs.Answer.{compiling}
-use Rattle.psy_run.specs.Outcome.{halts_memory}
 use Rattle.psy_run.specs.Steps.{graphing, costing}
 use Rattle.psy_run.proofs.Courses.{gives_then, halts_exit, halts_first, halts_later, halts_for_memory}
 use Rattle.psy_run.proofs.commands.draw.Goals as goal

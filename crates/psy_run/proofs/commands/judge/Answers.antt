@@ -1,7 +1,6 @@
 use Rattle.std.proofs.Common.{refl, subst}
-use Rattle.std.specs.Prelude.{List, ℕ, map, string_bytes}
+use Rattle.std.specs.Prelude.{map, string_bytes}
 use Rattle.psy_run.specs.declared.refusal.Refusal.TheVariants.{Words}
-use Rattle.psy_run.specs.Answer.{serving}
 use Rattle.psy_run.specs.Asked.{Asks, asked_by, Run, Check, Graph}
 use Rattle.psy_run.specs.Outcome.{halts_refused}
 use Rattle.psy_run.specs.Steps.{asking}

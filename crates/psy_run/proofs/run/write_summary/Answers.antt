@@ -2,7 +2,6 @@ use Rattle.std.proofs.Common.{None, ◌≡◌, ◌∙◌, ap, subst, List, ℕ, 
 use Rattle.psy_door.specs.Growth.{Grew, GrewByFront}
 use Rattle.psy_kernel.specs.Meaning.{due_by, least_slack}
 use Rattle.psy_log.specs.Forms.{end_line, agent_line, variable_line}
-use Rattle.psy_log.specs.Writing.{Written}
 use Rattle.psy_run.proofs.GrowthLemmas.{Grew-trans}
 use Rattle.psy_run.proofs.LogLemmas.{count_of-over, least_slack_of-over}
 use Rattle.psy_run.proofs.WritingLemmas.{GrewByFront-append, Grew-GrewByFront, Written-append}

@@ -1,7 +1,5 @@
 use Rattle.psy_run.specs.declared.refusal.File.TheVariants.{Program}
-use Rattle.psy_run.specs.Answer.{compiling}
-use Rattle.psy_run.specs.Courses.{in_row}
-use Rattle.psy_run.specs.Steps.{reading, lexing, parsing, resolving}
+use Rattle.psy_run.specs.Steps.{reading, lexing, parsing}
 use Rattle.psy_run.proofs.Courses.{halts_exit, halts_first, halts_later, halts_last, gives_last}
 use Rattle.psy_run.proofs.steps.compile.Goals as goal
 
