@@ -28,7 +28,7 @@ mod_scaled m a b some h =
     let q = a / b in let r = a % b in
     let parts : q * b + r ≡ a = div-add-mod' a b in
     let whole : m * a ≡ q * (m * b) + m * r =
-        ap (λ x. m * x) (sym parts) ∙ mul-add m (q * b) r ∙ ap (λ x. x + m * r) (sym (mul_assoc m q b) ∙ ap (λ x. x * b) (mul_comm m q) ∙ mul_assoc q m b) in
+    ap (λ x. m * x) (sym parts) ∙ mul-add m (q * b) r ∙ ap (λ x. x + m * r) (sym (mul_assoc m q b) ∙ ap (λ x. x * b) (mul_comm m q) ∙ mul_assoc q m b) in
     let l : r < b = mod-lt a h in
     ap (λ x. x % (m * b)) whole ∙ mul-add-mod_self_right q (m * b) (m * r) ∙ mod-eq_of_lt (mul-lt-mul_of_pos_left l some)
 

@@ -24,7 +24,6 @@ each_more P xs ys x n count each one pushed i d l = elim (cases_lt i n) [
       subst (P i) (sym (ap (λ zs. get_or zs i d) pushed ∙ get_or_push xs x d i (count ∙ sym is))) (subst (λ k. P k x) (sym is) one))
 ]
 
-
 points_named : (unit : Unit) (agent : AgentDecl) (points : List Point) → HasHead agent points (IsBarePoint unit) → agent.clock < length unit.clocks → All (λ p. p.clock < length unit.clocks) points
 points_named unit agent [] h l = elim h [ ]
 points_named unit agent (p ∷ points) h l = All-cons (λ q. q.clock < length unit.clocks) p points (omega (arith, ap (λ q. q.clock) h.0, l)) (All-weaker (IsBarePoint unit) (λ q. q.clock < length unit.clocks) (λ q b. b.clock) points h.1)

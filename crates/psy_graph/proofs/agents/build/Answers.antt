@@ -25,7 +25,7 @@ returns-in_err-graph_of-clause-cause c =
     let none : Graph = record { nodes = []; edges = [] } in
     let before : HaveGraphsBefore unit c.agents.number = λ n l. (get_or c.agents.graphs n none, c.agents.invariant.each n none l) in
     let Q : GraphFault → Type 0 = λ f. (f ≡ Memory) ⊎ IsCause unit f in
-    let is : Q fault = elim c.in_err-graph_of.ensures.cause [ | inl e ↦ inl e | inr h ↦ inr (cause_is unit c.agents.number fault before h) ] in
+    let is : Q fault = elim c.in_err-graph_of.ensures.cause [ inl e ↦ inl e | inr h ↦ inr (cause_is unit c.agents.number fault before h) ] in
     let e : c.from_residual.result ≡ Err fault = search rules in
     subst (λ r. IfErr r Q) (sym e) is
 
@@ -50,5 +50,5 @@ returns-clause-graphs c =
     record {
       count = omega (arith, c.agents.invariant.count, c.agents-test.false, c.agents.auto.number-end, c.len-number-end.ensures);
       each = λ n graph e. (let l = slice_get_within graphs n graph e in
-        subst (HasGraph unit n) (get_or_from_slice_get graphs n graph graph e) (c.agents.invariant.each n graph (omega (arith, l, c.agents.invariant.count))));
+          subst (HasGraph unit n) (get_or_from_slice_get graphs n graph graph e) (c.agents.invariant.each n graph (omega (arith, l, c.agents.invariant.count))));
     }

@@ -33,7 +33,7 @@ returns-clause-nexts c unit number of =
       length = omega (arith, kept.count, c.points-test.false, c.points.auto.point-end, c.len-point-end.ensures);
       rise = λ point list e. (let l = slice_get_within nexts point list e in subst Rises (get_or_from_slice_get nexts point list list e) (kept.rise point list (omega (arith, l, kept.count))));
       each = λ point list e. (let l = slice_get_within nexts point list e in
-        subst (λ xs. (to : ℕ) → Contains xs to ↔ IsNext unit.functions c.args.agent.now point to) (get_or_from_slice_get nexts point list list e) (kept.each point list (omega (arith, l, kept.count)) unit number of));
+          subst (λ xs. (to : ℕ) → Contains xs to ↔ IsNext unit.functions c.args.agent.now point to) (get_or_from_slice_get nexts point list list e) (kept.each point list (omega (arith, l, kept.count)) unit number of));
     }
 
 pub returns-clause-lists : goal.returns-clause-lists

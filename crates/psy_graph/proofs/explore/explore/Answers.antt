@@ -42,7 +42,7 @@ returns-clause-places c =
     let found = c.work.found in
     let all : length found.work.items ≤ c.work.at = omega (arith, c.work-test.false, c.len.ensures, found.work.ok.0) in
     subst (ArePlaces timing) (sym c.from_vec.ensures)
-        (work_done timing found.work.items found.places.items c.work.invariant.found (λ i d l. c.work.invariant.done i d (omega (arith, l, all)) l))
+    (work_done timing found.work.items found.places.items c.work.invariant.found (λ i d l. c.work.invariant.done i d (omega (arith, l, all)) l))
 
 pub returns-clause-near : goal.returns-clause-near
 returns-clause-near c =

@@ -12,7 +12,7 @@ room c =
     let places = c.args.self.now.places.items in
     let sought : IsSought places c.args.place c.seek-at.result = subst (λ xs. IsSought xs c.args.place c.seek-at.result) c.as_slice.ensures.value c.seek-at.ensures in
     let other : slice_get places c.seek-at.result ≡ Some c.args.place → ⊥ =
-        λ e. not_from_Decides c.stands_at.result c.stands_at.ensures c.if-stands_at.false (subst (λ xs. slice_get xs c.seek-at.result ≡ Some c.args.place) (sym c.as_slice-2.ensures.value) e) in
+    λ e. not_from_Decides c.stands_at.result c.stands_at.ensures c.if-stands_at.false (subst (λ xs. slice_get xs c.seek-at.result ≡ Some c.args.place) (sym c.as_slice-2.ensures.value) e) in
     room_sought places c.args.place c.seek-at.result c.requires.rise sought other
 
 pub returns-then-len-clause-full : goal.returns-then-len-clause-full
