@@ -1,25 +1,23 @@
 -- The graph that is made from the places where an agent's actions start is the agent's.
-use Rattle.std.proofs.Common.{◌≡◌, ◌⊎◌, ℕ, zero, suc, ◌+◌, ◌-◌, ◌*◌, ◌/◌, ◌%◌, ◌<◌, ◌≤◌, List, [], ◌∷◌, All, map, length, get_or, refl, sym, ap, subst, ◌∙◌, inl, inr, arith}
-use Rattle.std.specs.List.{AllPairs, Contains}
+use Rattle.std.proofs.Common.{◌≡◌, ◌⊎◌, ℕ, ◌+◌, ◌%◌, ◌<◌, ◌≤◌, List, [], ◌∷◌, All, map, length, refl, sym, ap, subst, ◌∙◌, inl, inr, arith}
+use Rattle.std.specs.List.{Contains}
 use Rattle.std.proofs.lemmas.List.{length-map}
-use Rattle.std.proofs.lemmas.List.Elements.{All-map, All-contains, All-contains_itself, All-weaker, All-get_or}
-use Rattle.psy_base.specs.declared.edge.Edge.{Edge}
+use Rattle.std.proofs.lemmas.List.Elements.{All-contains, All-contains_itself, All-weaker}
 use Rattle.psy_base.specs.declared.limits.TheConstants.{NODES, EDGES}
 use Rattle.psy_window.specs.Windows.{IsEdge}
-use Rattle.psy_meaning.specs.Timing.{Timing, point_at, following, budget_at, end_date, deadline, MayStart}
+use Rattle.psy_meaning.specs.Timing.{Timing, budget_at, end_date, deadline, MayStart}
 use Rattle.psy_meaning.specs.Graph.{IsCycle, IsGraph, PassesNodes, PassesEdges}
 use Rattle.psy_graph.specs.declared.graph.Graph.{Graph}
-use Rattle.psy_graph.specs.declared.graph.Node.{Node}
 use Rattle.psy_graph.specs.declared.place.Place.{Place}
 use Rattle.psy_graph.specs.Graphs.{IsTimed, IsGraphOf, spot_of}
 use Rattle.psy_graph.specs.Steps.{cycle_of}
-use Rattle.psy_graph.specs.Places.{spot_by, place_at, IsMetAt, HasFollowers, ArePlaces}
-use Rattle.psy_graph.specs.Drawn.{number_of, place_of, node_of, edge_to, first_edges, drawn}
+use Rattle.psy_graph.specs.Places.{spot_by, place_at, IsMetAt, ArePlaces}
+use Rattle.psy_graph.specs.Drawn.{place_of, node_of, edge_to, first_edges, drawn}
 use Rattle.psy_graph.proofs.Periods.{cycle_is, cycle_same}
 use Rattle.psy_graph.proofs.Phases.{ComesAgain}
 use Rattle.psy_graph.proofs.Reached.{may_point, all_places, are_spots}
 use Rattle.psy_graph.proofs.Numbers.{number_is}
-use Rattle.psy_graph.proofs.Links.{ComesLate, end_late, deadline_late, deadline_first, later_by, edge_in, are_edges, next_contained, place_contained, map_contains}
+use Rattle.psy_graph.proofs.Links.{ComesLate, deadline_late, deadline_first, later_by, edge_in, are_edges, next_contained, place_contained, map_contains}
 
 nodes_spots : (timing : Timing) (places : List Place) → map spot_of (map (node_of timing) places) ≡ map spot_by places
 nodes_spots timing [] = refl

@@ -1,29 +1,28 @@
 -- The edges of the graph: those that are made from the places are those of the actions that may start.
-use Rattle.std.proofs.Common.{◌≡◌, ◌⊎◌, ◌≢◌, ℕ, zero, suc, ◌+◌, ◌-◌, ◌*◌, ◌/◌, ◌%◌, ◌<◌, ◌≤◌, min, List, [], ◌∷◌, ◌++◌, All, map, length, get_or, take, append_assoc, refl, sym, ap, subst, ◌∙◌, inl, inr, Some, arith, length-append}
+use Rattle.std.proofs.Common.{◌≡◌, ℕ, zero, suc, ◌+◌, ◌-◌, ◌*◌, ◌/◌, ◌%◌, ◌<◌, ◌≤◌, List, [], ◌∷◌, ◌++◌, All, map, length, get_or, take, append_assoc, refl, sym, ap, subst, ◌∙◌, inl, inr, Some, arith, length-append}
 use Rattle.std.specs.List.{AllPairs, Contains, slice_get}
 use Rattle.std.proofs.lemmas.Bool.{cases_lt}
 use Rattle.std.proofs.lemmas.Option.{slice_get-get_or, slice_get_within, get_or_from_slice_get}
 use Rattle.std.proofs.lemmas.List.{map_more, get_or-map, length-map, get_or_append_left, get_or-append_right, get_or_default}
-use Rattle.std.proofs.lemmas.List.Elements.{All-nil, All-head, All-tail, All-map, All-contains, All-contains_itself, All-weaker, All-get_or, Contains-append_left, Contains-append_right, Contains-append_cases}
+use Rattle.std.proofs.lemmas.List.Elements.{All-head, All-tail, All-map, All-contains, All-contains_itself, All-weaker, Contains-append_left, Contains-append_right, Contains-append_cases}
 use Rattle.psy_base.specs.declared.edge.Edge.{Edge}
 use Rattle.psy_base.specs.declared.limits.TheConstants.{NODES}
 use Rattle.psy_clock.specs.declared.clock.Clock.{Clock}
 use Rattle.psy_clock.specs.Dates.{IsClock, after_date}
-use Rattle.psy_meaning.specs.Flow.{Rises}
-use Rattle.psy_meaning.specs.Timing.{Timing, point_at, clock_at, following, budget_at, end_date, least, deadline, MayStart}
+use Rattle.psy_meaning.specs.Timing.{Timing, point_at, clock_at, following, budget_at, end_date, least, deadline}
 use Rattle.psy_meaning.specs.Graph.{Spot, spot_at, IsEdgeOf, EdgeBefore, AreEdges}
 use Rattle.psy_graph.specs.declared.cycle.TheConstants.{FAR}
 use Rattle.psy_graph.specs.declared.graph.Node.{Node}
 use Rattle.psy_graph.specs.declared.place.Place.{Place}
 use Rattle.psy_graph.specs.Graphs.{IsTimed}
 use Rattle.psy_graph.specs.Steps.{STEP, IsModulus, cycle_of}
-use Rattle.psy_graph.specs.Places.{spot_by, place_at, Before, IsMetAt, IsSought, HasFollowers, ArePlaces, AreNear}
+use Rattle.psy_graph.specs.Places.{spot_by, place_at, IsMetAt, IsSought, HasFollowers, ArePlaces, AreNear}
 use Rattle.psy_graph.specs.Drawn.{number_of, place_of, node_of, edge_to, edges_from, first_edges}
 use Rattle.psy_graph.proofs.Periods.{clock_lawful}
 use Rattle.psy_graph.proofs.Leasts.{least_below}
 use Rattle.psy_graph.proofs.Phases.{ComesAgain, ComesNear, end_near, phase_and_cycles, end_of_phase, deadline_of_phase, same_phase}
 use Rattle.psy_graph.proofs.Rooms.{same_place}
-use Rattle.psy_graph.proofs.Reached.{may_point, all_there}
+use Rattle.psy_graph.proofs.Reached.{may_point}
 use Rattle.psy_graph.proofs.Numbers.{number_at, number_is, number_rises, place_there, sought_at}
 
 -- ---- lists

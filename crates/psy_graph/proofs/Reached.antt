@@ -1,14 +1,13 @@
 -- The places where actions start are found one by one: each that is found is met, and where no follower is missing all are there.
-use Rattle.std.proofs.Common.{◌≡◌, ◌⊎◌, ℕ, zero, suc, ◌+◌, ◌-◌, ◌*◌, ◌/◌, ◌%◌, ◌<◌, ◌≤◌, List, [], ◌∷◌, All, map, length, get_or, refl, sym, ap, subst, ◌∙◌, inl, inr, arith}
+use Rattle.std.proofs.Common.{◌≡◌, ◌⊎◌, ℕ, zero, suc, ◌+◌, ◌%◌, ◌<◌, ◌≤◌, List, [], ◌∷◌, All, map, length, get_or, refl, sym, ap, subst, ◌∙◌, inl, inr, arith}
 use Rattle.std.specs.List.{AllPairs, Contains, insert}
-use Rattle.std.specs.List.Sorted.{IsPermutation}
 use Rattle.std.proofs.lemmas.List.{get_or-map, length-map}
 use Rattle.std.proofs.lemmas.List.Edits.{length-insert}
-use Rattle.std.proofs.lemmas.List.Elements.{All-nil, All-cons, All-map, All-contains, All-contains_itself, All-weaker}
+use Rattle.std.proofs.lemmas.List.Elements.{All-nil, All-cons, All-map, All-contains}
 use Rattle.std.proofs.lemmas.List.Sorted.{All-permutation, Contains-permutation, IsPermutation-insert, IsPermutation-sym}
 use Rattle.psy_base.specs.declared.limits.TheConstants.{NODES}
 use Rattle.psy_meaning.specs.Timing.{Timing, following, first_date, end_date, MayStart, first, later}
-use Rattle.psy_meaning.specs.Graph.{Spot, SpotBefore, IsMet, AreSpots, PassesNodes}
+use Rattle.psy_meaning.specs.Graph.{SpotBefore, IsMet, AreSpots, PassesNodes}
 use Rattle.psy_graph.specs.declared.place.Place.{Place}
 use Rattle.psy_graph.specs.Graphs.{IsTimed}
 use Rattle.psy_graph.specs.Steps.{cycle_of}

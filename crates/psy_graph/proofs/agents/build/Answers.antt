@@ -1,5 +1,4 @@
-use Rattle.std.proofs.Common.{◌≡◌, ◌⊎◌, ℕ, ◌+◌, ◌<◌, List, [], ◌∷◌, ◌++◌, All, length, length-append, get_or, Some, Err, IfErr, ap, sym, subst, ◌∙◌, inl, inr, arith, rules}
-use Rattle.std.specs.List.{slice_get}
+use Rattle.std.proofs.Common.{◌≡◌, ◌⊎◌, ℕ, [], ◌∷◌, ◌++◌, All, length, length-append, get_or, Err, IfErr, ap, sym, subst, inl, inr, arith, rules}
 use Rattle.std.proofs.lemmas.Option.{slice_get_within, get_or_from_slice_get}
 use Rattle.std.proofs.lemmas.List.Elements.{All-push}
 use Rattle.psy_tree.specs.declared.unit.Unit.{Unit}

@@ -1,15 +1,13 @@
-use Rattle.std.proofs.Common.{◌≡◌, ◌⊎◌, ℕ, ◌<◌, List, length, Some, Ok, Err, Result, IfOk, ap, sym, subst, refl, ◌∙◌, inl, inr, arith}
+use Rattle.std.proofs.Common.{◌≡◌, ◌⊎◌, ℕ, List, length, Some, Ok, Err, Result, IfOk, ap, sym, subst, refl, ◌∙◌, inl, inr, arith}
 use Rattle.std.specs.List.{slice_get}
 use Rattle.std.proofs.lemmas.Option.{slice_get_read}
 use Rattle.std.proofs.lemmas.Result.{IfOk-weaker, IfErr-weaker}
 use Rattle.psy_clock.specs.declared.clock.Clock.{Clock}
-use Rattle.psy_tree.specs.declared.unit.AgentDecl.{AgentDecl}
 use Rattle.psy_tree.specs.declared.unit.Point.{Point}
 use Rattle.psy_flow.specs.Agents.{IsAgentOf}
 use Rattle.psy_meaning.specs.Timing.{Timing, timing_of}
 use Rattle.psy_graph.specs.declared.fault.GraphFault.{GraphFault}
 use Rattle.psy_graph.specs.declared.fault.GraphFault.TheVariants.{Memory as no_memory}
-use Rattle.psy_graph.specs.declared.graph.Graph.{Graph}
 use Rattle.psy_graph.specs.Graphs.{IsTimed, IsGraphOf, IsSmall, IsTimingOf, HasGraph}
 use Rattle.psy_graph.specs.Faults.{IsFaultOf, HasFault}
 use Rattle.psy_graph.proofs.Timings.{timed_by}

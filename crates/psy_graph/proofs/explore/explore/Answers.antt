@@ -1,4 +1,4 @@
-use Rattle.std.proofs.Common.{◌≡◌, ℕ, ◌+◌, ◌%◌, ◌<◌, ◌≤◌, List, [], ◌∷◌, length, ap, sym, subst, arith}
+use Rattle.std.proofs.Common.{◌≡◌, ℕ, ◌%◌, ◌<◌, ◌≤◌, [], ◌∷◌, length, ap, sym, subst, arith}
 use Rattle.std.proofs.Math.Nat.{mod-le}
 use Rattle.psy_graph.specs.declared.place.Place.{Place}
 use Rattle.psy_graph.specs.Steps.{STEP, timing_by}

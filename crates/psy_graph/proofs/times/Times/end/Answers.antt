@@ -1,4 +1,4 @@
-use Rattle.std.proofs.Common.{◌≡◌, ℕ, ◌+◌, ◌≤◌, ap, sym, subst, ◌∙◌}
+use Rattle.std.proofs.Common.{◌≡◌, ◌+◌, ◌≤◌, ap, sym, subst, ◌∙◌}
 use Rattle.psy_clock.specs.Dates.{after_date}
 use Rattle.psy_meaning.specs.Timing.{point_at, clock_at, end_date}
 use Rattle.psy_graph.specs.Steps.{timing_by, STEP}
