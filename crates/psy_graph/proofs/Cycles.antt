@@ -1,9 +1,9 @@
 -- Least common multiples, by Euclid's algorithm.
 use Rattle.std.proofs.Common.{◌≡◌, ℕ, zero, suc, ◌+◌, ◌*◌, ◌/◌, ◌%◌, ◌<◌, ◌≤◌, List, [], ◌∷◌, ◌++◌, All, length, length-append, refl, sym, ap, subst, ◌∙◌, arith}
 use Rattle.std.specs.Int.{IsGcd, ◌∣◌}
-use Rattle.std.proofs.Math.Nat.{mul_comm, mul_assoc, mul-zero, zero-mul, mul-add, mod-lt, mod-eq_of_lt, mod-zero, div-add-mod', mul-add-mod_self_right, div-mul_cancel, dvd-mul_left, dvd-mul_right, dvd_of_mul-dvd-mul_right, mul-dvd-mul_left, mul-dvd-mul_right, pos_of_dvd_of_pos, one-dvd, mul-lt-mul_of_pos_left, mul-pos, zero-lt-suc}
-use Rattle.std.proofs.lemmas.Nat.Gcd.{IsGcd-from_zero, IsGcd-from_mod, same_from_IsGcd, dvd_trans, dvd-zero, dvd_antisymm, le_of_dvd}
-use Rattle.std.proofs.lemmas.List.Elements.{All-nil, All-cons, All-head, All-tail, All-append, All-push}
+use Rattle.std.proofs.Math.Nat.{mul_comm, mul_assoc, mul-zero, mul-add, mod-lt, mod-eq_of_lt, div-add-mod', mul-add-mod_self_right, div-mul_cancel, dvd-mul_left, dvd-mul_right, dvd_of_mul-dvd-mul_right, mul-dvd-mul_left, mul-dvd-mul_right, pos_of_dvd_of_pos, one-dvd, mul-lt-mul_of_pos_left, mul-pos, zero-lt-suc}
+use Rattle.std.proofs.lemmas.Nat.Gcd.{IsGcd-from_zero, IsGcd-from_mod, same_from_IsGcd, dvd_trans, dvd-zero, dvd_antisymm}
+use Rattle.std.proofs.lemmas.List.Elements.{All-nil, All-cons, All-head, All-tail, All-push}
 use Rattle.std.proofs.lemmas.List.{get_or_append_left, get_or_push}
 use Rattle.psy_meaning.specs.Graph.{IsLeastCommonMultiple}
 use Rattle.psy_graph.specs.Steps.{divisor, joined, multiple_of}
@@ -28,7 +28,7 @@ mod_scaled m a b some h =
     let q = a / b in let r = a % b in
     let parts : q * b + r ≡ a = div-add-mod' a b in
     let whole : m * a ≡ q * (m * b) + m * r =
-        ap (λ x. m * x) (sym parts) ∙ mul-add m (q * b) r ∙ ap (λ x. x + m * r) (sym (mul_assoc m q b) ∙ ap (λ x. x * b) (mul_comm m q) ∙ mul_assoc q m b) in
+    ap (λ x. m * x) (sym parts) ∙ mul-add m (q * b) r ∙ ap (λ x. x + m * r) (sym (mul_assoc m q b) ∙ ap (λ x. x * b) (mul_comm m q) ∙ mul_assoc q m b) in
     let l : r < b = mod-lt a h in
     ap (λ x. x % (m * b)) whole ∙ mul-add-mod_self_right q (m * b) (m * r) ∙ mod-eq_of_lt (mul-lt-mul_of_pos_left l some)
 

@@ -1,25 +1,23 @@
 -- The graph that is made from the places where an agent's actions start is the agent's.
-use Rattle.std.proofs.Common.{◌≡◌, ◌⊎◌, ℕ, zero, suc, ◌+◌, ◌-◌, ◌*◌, ◌/◌, ◌%◌, ◌<◌, ◌≤◌, List, [], ◌∷◌, All, map, length, get_or, refl, sym, ap, subst, ◌∙◌, inl, inr, arith}
-use Rattle.std.specs.List.{AllPairs, Contains}
+use Rattle.std.proofs.Common.{◌≡◌, ◌⊎◌, ℕ, ◌+◌, ◌%◌, ◌<◌, ◌≤◌, List, [], ◌∷◌, All, map, length, refl, sym, ap, subst, ◌∙◌, inl, inr, arith}
+use Rattle.std.specs.List.{Contains}
 use Rattle.std.proofs.lemmas.List.{length-map}
-use Rattle.std.proofs.lemmas.List.Elements.{All-map, All-contains, All-contains_itself, All-weaker, All-get_or}
-use Rattle.psy_base.specs.declared.edge.Edge.{Edge}
+use Rattle.std.proofs.lemmas.List.Elements.{All-contains, All-contains_itself, All-weaker}
 use Rattle.psy_base.specs.declared.limits.TheConstants.{NODES, EDGES}
 use Rattle.psy_window.specs.Windows.{IsEdge}
-use Rattle.psy_meaning.specs.Timing.{Timing, point_at, following, budget_at, end_date, deadline, MayStart}
+use Rattle.psy_meaning.specs.Timing.{Timing, budget_at, end_date, deadline, MayStart}
 use Rattle.psy_meaning.specs.Graph.{IsCycle, IsGraph, PassesNodes, PassesEdges}
 use Rattle.psy_graph.specs.declared.graph.Graph.{Graph}
-use Rattle.psy_graph.specs.declared.graph.Node.{Node}
 use Rattle.psy_graph.specs.declared.place.Place.{Place}
 use Rattle.psy_graph.specs.Graphs.{IsTimed, IsGraphOf, spot_of}
 use Rattle.psy_graph.specs.Steps.{cycle_of}
-use Rattle.psy_graph.specs.Places.{spot_by, place_at, IsMetAt, HasFollowers, ArePlaces}
-use Rattle.psy_graph.specs.Drawn.{number_of, place_of, node_of, edge_to, first_edges, drawn}
+use Rattle.psy_graph.specs.Places.{spot_by, place_at, IsMetAt, ArePlaces}
+use Rattle.psy_graph.specs.Drawn.{place_of, node_of, edge_to, first_edges, drawn}
 use Rattle.psy_graph.proofs.Periods.{cycle_is, cycle_same}
 use Rattle.psy_graph.proofs.Phases.{ComesAgain}
 use Rattle.psy_graph.proofs.Reached.{may_point, all_places, are_spots}
 use Rattle.psy_graph.proofs.Numbers.{number_is}
-use Rattle.psy_graph.proofs.Links.{ComesLate, end_late, deadline_late, deadline_first, later_by, edge_in, are_edges, next_contained, place_contained, map_contains}
+use Rattle.psy_graph.proofs.Links.{ComesLate, deadline_late, deadline_first, later_by, edge_in, are_edges, next_contained, place_contained, map_contains}
 
 nodes_spots : (timing : Timing) (places : List Place) → map spot_of (map (node_of timing) places) ≡ map spot_by places
 nodes_spots timing [] = refl
@@ -46,11 +44,11 @@ pub graph_is : ComesAgain → ComesLate → (timing : Timing) → IsTimed timing
 graph_is again late timing timed places are = record {
   drawn = subst (λ spots. IsGraph timing spots (first_edges timing places (length places))) (sym (nodes_spots timing places)) (drawn_is again late timing timed places are);
   dues = λ cycle is node start c. (
-    let from = map_contains (node_of timing) places node c in
-    subst (λ n. MayStart timing n.point start → start % cycle ≡ n.phase → start + n.due ≡ deadline timing n.point start) from.2 (λ may e. node_due again late timing timed from.0 cycle start is may e));
+      let from = map_contains (node_of timing) places node c in
+      subst (λ n. MayStart timing n.point start → start % cycle ≡ n.phase → start + n.due ≡ deadline timing n.point start) from.2 (λ may e. node_due again late timing timed from.0 cycle start is may e));
   budgets = λ node c. (
-    let from = map_contains (node_of timing) places node c in
-    subst (λ n. n.budget ≡ budget_at timing n.point) from.2 refl);
+      let from = map_contains (node_of timing) places node c in
+      subst (λ n. n.budget ≡ budget_at timing n.point) from.2 refl);
 }
 
 -- Each agent of a text has its graph, or passes the nodes that one may have.
@@ -71,22 +69,22 @@ edges_fit late timing timed places are =
     let nodes : length (map (node_of timing) places) ≡ length places = length-map places (node_of timing) in
     let edges = first_edges timing places (length places) in
     All-weaker (Contains edges) (IsEdge (length (map (node_of timing) places))) (λ e c. (
-      let made = edge_in timing places (length places) e c in
-      let from = made.0 in let to = made.2.0 in
-      let p = place_of places from in
-      let met : IsMetAt timing p = All-contains (IsMetAt timing) places p are.met (place_contained places from made.1) in
-      let h : p.point < length timing.points = may_point timing timed p.point met.0 met.1 in
-      let w = timed.within p.point to made.2.1 in
-      let there = next_contained timing places are from to made.1 made.2.1 in
-      let number = (number_is places (place_at timing to (end_date timing p.phase to)) are.rise there).0 in
-      let due : p.phase < deadline timing p.point p.phase = deadline_late late timing timed p.point p.phase h in
-      let least : deadline timing p.point p.phase ≤ end_date timing p.phase to = deadline_first timing p.point p.phase to made.2.1 in
-      let budget = timed.budgets p.point (record { count = 1; clock = 0; budget = 0 }) h in
-      let fits : IsEdge (length (map (node_of timing) places)) (edge_to timing places from to) = record {
-        from = omega (arith, made.1, nodes);
-        to = omega (arith, number, nodes);
-        after = omega (arith, due);
-        due = omega (arith, due, least);
-        weight = budget;
-      } in
-      subst (IsEdge (length (map (node_of timing) places))) made.2.2 fits)) edges (All-contains_itself edges)
+    let made = edge_in timing places (length places) e c in
+    let from = made.0 in let to = made.2.0 in
+    let p = place_of places from in
+    let met : IsMetAt timing p = All-contains (IsMetAt timing) places p are.met (place_contained places from made.1) in
+    let h : p.point < length timing.points = may_point timing timed p.point met.0 met.1 in
+    let w = timed.within p.point to made.2.1 in
+    let there = next_contained timing places are from to made.1 made.2.1 in
+    let number = (number_is places (place_at timing to (end_date timing p.phase to)) are.rise there).0 in
+    let due : p.phase < deadline timing p.point p.phase = deadline_late late timing timed p.point p.phase h in
+    let least : deadline timing p.point p.phase ≤ end_date timing p.phase to = deadline_first timing p.point p.phase to made.2.1 in
+    let budget = timed.budgets p.point (record { count = 1; clock = 0; budget = 0 }) h in
+    let fits : IsEdge (length (map (node_of timing) places)) (edge_to timing places from to) = record {
+      from = omega (arith, made.1, nodes);
+      to = omega (arith, number, nodes);
+      after = omega (arith, due);
+      due = omega (arith, due, least);
+      weight = budget;
+    } in
+    subst (IsEdge (length (map (node_of timing) places))) made.2.2 fits)) edges (All-contains_itself edges)

@@ -1,18 +1,18 @@
 -- What a place that is found adds to what was found before.
-use Rattle.std.proofs.Common.{◌≡◌, ◌⊎◌, ℕ, zero, suc, ◌+◌, ◌*◌, ◌%◌, ◌<◌, ◌≤◌, List, [], ◌∷◌, ◌++◌, All, length, length-append, get_or, refl, sym, ap, subst, ◌∙◌, inl, inr, arith}
-use Rattle.std.specs.List.{AllPairs, Contains, insert}
-use Rattle.std.proofs.Math.Nat.{mod-le, mul-le-mul_left}
+use Rattle.std.proofs.Common.{◌≡◌, ℕ, ◌+◌, ◌*◌, ◌%◌, ◌<◌, ◌≤◌, List, [], ◌∷◌, ◌++◌, All, length, length-append, get_or, refl, sym, ap, subst, ◌∙◌, inl, inr, arith}
+use Rattle.std.specs.List.{Contains, insert}
+use Rattle.std.proofs.Math.Nat.{mod-le}
 use Rattle.std.proofs.lemmas.Bool.{cases_lt}
 use Rattle.std.proofs.lemmas.List.{get_or_append_left, get_or_push, get_or_default}
 use Rattle.std.proofs.lemmas.List.Edits.{length-insert}
-use Rattle.std.proofs.lemmas.List.Elements.{All-nil, All-cons, All-contains, All-contains_itself, All-weaker, Contains-append_left, Contains-push, Contains-push_cases}
+use Rattle.std.proofs.lemmas.List.Elements.{All-nil, All-cons, All-contains_itself, All-weaker, Contains-append_left, Contains-push, Contains-push_cases}
 use Rattle.psy_base.specs.declared.limits.TheConstants.{NODES, PERIOD}
 use Rattle.psy_meaning.specs.Timing.{Timing, following, first_date, end_date}
 use Rattle.psy_graph.specs.declared.cycle.TheConstants.{FAR}
 use Rattle.psy_graph.specs.declared.place.Place.{Place}
 use Rattle.psy_graph.specs.Graphs.{IsTimed}
 use Rattle.psy_graph.specs.Steps.{STEP, IsModulus, cycle_of}
-use Rattle.psy_graph.specs.Places.{place_at, Before, IsMetAt, IsRoom, IsAdded, IsFront, HasFollowers, AreFound, ArePlaces, AreNear, follower}
+use Rattle.psy_graph.specs.Places.{place_at, IsMetAt, IsRoom, IsAdded, IsFront, HasFollowers, AreFound, ArePlaces, AreNear, follower}
 use Rattle.psy_graph.proofs.Periods.{clock_lawful}
 use Rattle.psy_graph.proofs.Rooms.{room_rise}
 use Rattle.psy_graph.proofs.Reached.{first_met, insert_all, insert_kept, insert_has, insert_cases}

@@ -1,29 +1,28 @@
 -- The edges of the graph: those that are made from the places are those of the actions that may start.
-use Rattle.std.proofs.Common.{◌≡◌, ◌⊎◌, ◌≢◌, ℕ, zero, suc, ◌+◌, ◌-◌, ◌*◌, ◌/◌, ◌%◌, ◌<◌, ◌≤◌, min, List, [], ◌∷◌, ◌++◌, All, map, length, get_or, take, append_assoc, refl, sym, ap, subst, ◌∙◌, inl, inr, Some, arith, length-append}
+use Rattle.std.proofs.Common.{◌≡◌, ℕ, zero, suc, ◌+◌, ◌-◌, ◌*◌, ◌/◌, ◌%◌, ◌<◌, ◌≤◌, List, [], ◌∷◌, ◌++◌, All, map, length, get_or, take, append_assoc, refl, sym, ap, subst, ◌∙◌, inl, inr, Some, arith, length-append}
 use Rattle.std.specs.List.{AllPairs, Contains, slice_get}
 use Rattle.std.proofs.lemmas.Bool.{cases_lt}
 use Rattle.std.proofs.lemmas.Option.{slice_get-get_or, slice_get_within, get_or_from_slice_get}
 use Rattle.std.proofs.lemmas.List.{map_more, get_or-map, length-map, get_or_append_left, get_or-append_right, get_or_default}
-use Rattle.std.proofs.lemmas.List.Elements.{All-nil, All-head, All-tail, All-map, All-contains, All-contains_itself, All-weaker, All-get_or, Contains-append_left, Contains-append_right, Contains-append_cases}
+use Rattle.std.proofs.lemmas.List.Elements.{All-head, All-tail, All-map, All-contains, All-contains_itself, All-weaker, Contains-append_left, Contains-append_right, Contains-append_cases}
 use Rattle.psy_base.specs.declared.edge.Edge.{Edge}
 use Rattle.psy_base.specs.declared.limits.TheConstants.{NODES}
 use Rattle.psy_clock.specs.declared.clock.Clock.{Clock}
 use Rattle.psy_clock.specs.Dates.{IsClock, after_date}
-use Rattle.psy_meaning.specs.Flow.{Rises}
-use Rattle.psy_meaning.specs.Timing.{Timing, point_at, clock_at, following, budget_at, end_date, least, deadline, MayStart}
+use Rattle.psy_meaning.specs.Timing.{Timing, point_at, clock_at, following, budget_at, end_date, least, deadline}
 use Rattle.psy_meaning.specs.Graph.{Spot, spot_at, IsEdgeOf, EdgeBefore, AreEdges}
 use Rattle.psy_graph.specs.declared.cycle.TheConstants.{FAR}
 use Rattle.psy_graph.specs.declared.graph.Node.{Node}
 use Rattle.psy_graph.specs.declared.place.Place.{Place}
 use Rattle.psy_graph.specs.Graphs.{IsTimed}
 use Rattle.psy_graph.specs.Steps.{STEP, IsModulus, cycle_of}
-use Rattle.psy_graph.specs.Places.{spot_by, place_at, Before, IsMetAt, IsSought, HasFollowers, ArePlaces, AreNear}
+use Rattle.psy_graph.specs.Places.{spot_by, place_at, IsMetAt, IsSought, HasFollowers, ArePlaces, AreNear}
 use Rattle.psy_graph.specs.Drawn.{number_of, place_of, node_of, edge_to, edges_from, first_edges}
 use Rattle.psy_graph.proofs.Periods.{clock_lawful}
 use Rattle.psy_graph.proofs.Leasts.{least_below}
 use Rattle.psy_graph.proofs.Phases.{ComesAgain, ComesNear, end_near, phase_and_cycles, end_of_phase, deadline_of_phase, same_phase}
 use Rattle.psy_graph.proofs.Rooms.{same_place}
-use Rattle.psy_graph.proofs.Reached.{may_point, all_there}
+use Rattle.psy_graph.proofs.Reached.{may_point}
 use Rattle.psy_graph.proofs.Numbers.{number_at, number_is, number_rises, place_there, sought_at}
 
 -- ---- lists
@@ -77,10 +76,10 @@ least_above b (x ∷ y ∷ xs) some all =
 pub deadline_late : ComesLate → (timing : Timing) → IsTimed timing → (point start : ℕ) → point < length timing.points → start < deadline timing point start
 deadline_late late timing timed point start h =
     let later : (to : ℕ) → Contains (following timing point) to → start < end_date timing start to =
-        λ to c. (let w = timed.within point to c in end_late late timing timed start to w.0 w.1) in
+    λ to c. (let w = timed.within point to c in end_late late timing timed start to w.0 w.1) in
     least_above start (map (end_date timing start) (following timing point)) (omega (arith, timed.some point h, length-map (following timing point) (end_date timing start)))
-        (All-map (λ n. start < n) (end_date timing start) (following timing point)
-            (All-weaker (Contains (following timing point)) (λ to. start < end_date timing start to) later (following timing point) (All-contains_itself (following timing point))))
+    (All-map (λ n. start < n) (end_date timing start) (following timing point)
+    (All-weaker (Contains (following timing point)) (λ to. start < end_date timing start to) later (following timing point) (All-contains_itself (following timing point))))
 
 pub deadline_first : (timing : Timing) (point start to : ℕ) → Contains (following timing point) to → deadline timing point start ≤ end_date timing start to
 deadline_first timing point start to c = least_below (map (end_date timing start) (following timing point)) (end_date timing start to) (contains_map (end_date timing start) (following timing point) to c)
@@ -133,7 +132,7 @@ edges_from_rise timing timed places are from l i j d ij jl =
     let cb : Contains tos b = (j, jt, get_or_default tos j b 0 jt) in
     let ab : a < b = timed.rise p.point i j a b ij (slice_get-get_or tos i 0 it) (slice_get-get_or tos j 0 jt) in
     let rises : number_of places (next timing p a) < number_of places (next timing p b) =
-        number_rises places (next timing p a) (next timing p b) are.rise (next_contained timing places are from a l ca) (next_contained timing places are from b l cb) (inl ab) in
+    number_rises places (next timing p a) (next timing p b) are.rise (next_contained timing places are from a l ca) (next_contained timing places are from b l cb) (inl ab) in
     subst (λ e. EdgeBefore e (get_or (map make tos) j d)) (sym (get_or-map make tos i 0 d it)) (subst (λ e. EdgeBefore (make a) e) (sym (get_or-map make tos j 0 d jt)) (inr (refl, rises)))
 
 -- ---- all edges
@@ -153,7 +152,7 @@ edge_there timing places (suc n) from to l c = elim (cases_lt from n) [
   | inl m ↦ Contains-append_left (first_edges timing places n) (edges_from timing places n) (edge_to timing places from to) (edge_there timing places n from to m c)
   | inr m ↦ (let e : from ≡ n = omega (arith, l, m) in
       Contains-append_right (first_edges timing places n) (edges_from timing places n) (edge_to timing places from to)
-        (subst (λ k. Contains (edges_from timing places k) (edge_to timing places from to)) e (contains_map (edge_to timing places from) (following timing (place_of places from).point) to c)))
+      (subst (λ k. Contains (edges_from timing places k) (edge_to timing places from to)) e (contains_map (edge_to timing places from) (following timing (place_of places from).point) to c)))
 ]
 
 edges_rise : (timing : Timing) → IsTimed timing → (places : List Place) → ArePlaces timing places → (n : ℕ) → n ≤ length places → AllPairs EdgeBefore (first_edges timing places n)
@@ -161,12 +160,12 @@ unfolding first_edges
 edges_rise timing timed places are zero l = λ i j d ij jl. absurd (omega (arith, jl))
 edges_rise timing timed places are (suc n) l =
     pairs_append EdgeBefore (first_edges timing places n) (edges_from timing places n) (edges_rise timing timed places are n (omega (arith, l))) (edges_from_rise timing timed places are n (omega (arith, l)))
-        (λ a b ca cb. (
-          let front = edge_in timing places n a ca in
-          let back = map_contains (edge_to timing places n) (following timing (place_of places n).point) b cb in
-          let ea : front.0 ≡ a.from = ap (λ e. e.from) front.2.2 in
-          let eb : n ≡ b.from = ap (λ e. e.from) back.2 in
-          inl (omega (arith, front.1, ea, eb))))
+    (λ a b ca cb. (
+    let front = edge_in timing places n a ca in
+    let back = map_contains (edge_to timing places n) (following timing (place_of places n).point) b cb in
+    let ea : front.0 ≡ a.from = ap (λ e. e.from) front.2.2 in
+    let eb : n ≡ b.from = ap (λ e. e.from) back.2 in
+    inl (omega (arith, front.1, ea, eb))))
 
 spot_there : (places : List Place) (i : ℕ) (q : Place) → i < length places → place_of places i ≡ q → slice_get (map spot_by places) i ≡ Some (spot_by q)
 spot_there places i q l e =
@@ -199,16 +198,20 @@ edge_is again late timing timed places are from to l c =
     let q = next timing p to in
     let there : Contains places q = next_contained timing places are from to l c in
     let behind : p.phase < end_date timing p.phase to = end_late late timing timed p.phase to w.0 w.1 in
-    let due : p.phase < deadline timing p.point p.phase = deadline_late late timing timed p.point p.phase h in
-    (p.point, start, to, record {
-      starts = met.1;
-      follows = c;
-      from = spot_there places from p l refl ∙ ap (λ phase. Some (spot p.point phase)) met.2;
-      into = spot_there places (number_of places q) q (number_is places q are.rise there).0 (place_there places q are.rise there) ∙ ap (λ phase. Some (spot to phase)) (end_phase again timing timed p start to met.2 c);
-      len = omega (arith, later.begins, later.ends to c, behind);
-      due = omega (arith, later.begins, later.due, due);
-      weight = refl;
-    })
+    let due : p.phase < deadline timing p.point p.phase = deadline_late late timing timed p.point p.phase h in (
+      p.point,
+      start,
+      to,
+      record {
+        starts = met.1;
+        follows = c;
+        from = spot_there places from p l refl ∙ ap (λ phase. Some (spot p.point phase)) met.2;
+        into = spot_there places (number_of places q) q (number_is places q are.rise there).0 (place_there places q are.rise there) ∙ ap (λ phase. Some (spot to phase)) (end_phase again timing timed p start to met.2 c);
+        len = omega (arith, later.begins, later.ends to c, behind);
+        due = omega (arith, later.begins, later.due, due);
+        weight = refl;
+      },
+    )
 
 -- An edge of an action that may start is made from the place where it starts.
 edge_made : ComesAgain → (timing : Timing) → IsTimed timing → (places : List Place) → ArePlaces timing places → (point start to : ℕ) (e : Edge) → IsEdgeOf timing (cycle_of timing) (map spot_by places) point start to e → Contains (first_edges timing places (length places)) e
@@ -226,10 +229,10 @@ edge_made again timing timed places are point start to e is =
     let number : number_of places q ≡ e.to = number_at places q e.to are.rise into.0 (get_or_default places e.to q (record { point = 0; phase = 0 }) into.0) in
     let due_there : deadline timing p.point start ≡ deadline timing point start = ap (λ n. deadline timing n start) at_point in
     let same : edge_to timing places e.from to ≡ e = same_edge (edge_to timing places e.from to) e refl
-        (ap (number_of places) leads ∙ number)
-        (omega (arith, later.begins, later.ends to c, is.len))
-        (omega (arith, later.begins, later.due, is.due, due_there))
-        (ap (budget_at timing) at_point ∙ sym is.weight) in
+    (ap (number_of places) leads ∙ number)
+    (omega (arith, later.begins, later.ends to c, is.len))
+    (omega (arith, later.begins, later.due, is.due, due_there))
+    (ap (budget_at timing) at_point ∙ sym is.weight) in
     subst (Contains (first_edges timing places (length places))) same (edge_there timing places (length places) e.from to from.0 c)
 
 -- The edges that are made from all places are those of the graph.
@@ -238,7 +241,7 @@ are_edges again late timing timed places are = record {
   rise = edges_rise timing timed places are (length places) (omega arith);
   all = λ e. (
     λ c. (let made = edge_in timing places (length places) e c in
-      subst (λ x. (point start to : ℕ) × IsEdgeOf timing (cycle_of timing) (map spot_by places) point start to x) made.2.2 (edge_is again late timing timed places are made.0 made.2.0 made.1 made.2.1)),
+        subst (λ x. (point start to : ℕ) × IsEdgeOf timing (cycle_of timing) (map spot_by places) point start to x) made.2.2 (edge_is again late timing timed places are made.0 made.2.0 made.1 made.2.1)),
     λ is. edge_made again timing timed places are is.0 is.1 is.2 e is.3,
   );
 }
@@ -289,7 +292,7 @@ ends_at f ends tos points k e pe l =
 pub edges_more : {X Y : Type 0} (make : X → Y) (old edges new : List Y) (e : Y) (points : List X) (k : ℕ) (d : X) → k < length points → edges ≡ old ++ map make (take k points) → new ≡ edges ++ e ∷ [] → e ≡ make (get_or points k d) → new ≡ old ++ map make (take (k + 1) points)
 edges_more make old edges new e points k d l before pushed is =
     pushed ∙ ap (λ x. edges ++ x ∷ []) is ∙ ap (λ xs. xs ++ make (get_or points k d) ∷ []) before
-        ∙ append_assoc old (map make (take k points)) (make (get_or points k d) ∷ []) ∙ ap (λ xs. old ++ xs) (sym (map_more make points k d l))
+    ∙ append_assoc old (map make (take k points)) (make (get_or points k d) ∷ []) ∙ ap (λ xs. old ++ xs) (sym (map_more make points k d l))
 
 -- ---- the edges of the first places
 

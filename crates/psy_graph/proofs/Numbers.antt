@@ -1,7 +1,7 @@
 -- The numbers of places in order.
-use Rattle.std.proofs.Common.{◌≡◌, ◌⊎◌, ℕ, ◌+◌, ◌<◌, ◌≤◌, Bool, true, false, ◌==◌, Decides, List, [], ◌∷◌, length, get_or, refl, sym, ap, subst, ◌∙◌, inl, inr, Some, arith}
+use Rattle.std.proofs.Common.{◌≡◌, ℕ, ◌<◌, Bool, true, false, ◌==◌, Decides, List, length, get_or, refl, sym, ap, subst, ◌∙◌, inl, inr, arith}
 use Rattle.std.specs.List.{AllPairs, Contains}
-use Rattle.std.proofs.lemmas.Bool.{cases_lt, cases_order}
+use Rattle.std.proofs.lemmas.Bool.{cases_order}
 use Rattle.std.proofs.lemmas.Bool.Decides.{Decides-eqb, Decides-and}
 use Rattle.std.proofs.lemmas.List.{get_or_default}
 use Rattle.std.proofs.lemmas.List.Sums.{position_or_len_is}
@@ -27,8 +27,8 @@ place_differs p q b = false_by (is_place p q) (λ is. (let e = (is_place_decides
 pub number_at : (places : List Place) (p : Place) (i : ℕ) → AllPairs Before places → i < length places → get_or places i p ≡ p → number_of places p ≡ i
 number_at places p i rise l e =
     position_or_len_is (is_place p) places i p (omega (arith, l))
-        (λ k ki. place_differs p (get_or places k p) (subst (λ q. Before (get_or places k p) q) e (rise k i p ki l)))
-        (λ _. place_is p (get_or places i p) e)
+    (λ k ki. place_differs p (get_or places k p) (subst (λ q. Before (get_or places k p) q) e (rise k i p ki l)))
+    (λ _. place_is p (get_or places i p) e)
 
 pub number_is : (places : List Place) (p : Place) → AllPairs Before places → Contains places p → (number_of places p < length places) × (get_or places (number_of places p) p ≡ p)
 number_is places p rise c =

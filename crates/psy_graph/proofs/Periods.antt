@@ -1,11 +1,10 @@
 -- The periods of an agent's clocks, and the cycle that they make.
-use Rattle.std.proofs.Common.{◌≡◌, ℕ, ◌+◌, ◌-◌, ◌%◌, ◌<◌, ◌≤◌, List, [], ◌∷◌, ◌++◌, All, map, take, drop, length, get_or, refl, sym, ap, subst, ◌∙◌, arith}
+use Rattle.std.proofs.Common.{◌≡◌, ℕ, ◌+◌, ◌-◌, ◌%◌, ◌<◌, ◌≤◌, [], ◌∷◌, ◌++◌, All, map, take, drop, length, get_or, sym, ap, subst, ◌∙◌, arith}
 use Rattle.std.specs.Int.{◌∣◌}
 use Rattle.std.proofs.Math.Nat.{mod-eq_of_lt}
 use Rattle.std.proofs.lemmas.Nat.Gcd.{le_of_dvd}
 use Rattle.std.proofs.lemmas.List.{map_more, get_or-drop, take-map, length-drop}
 use Rattle.std.proofs.lemmas.List.Elements.{All-get_or, All-map, All-drop, All-take, All-weaker}
-use Rattle.psy_clock.specs.declared.clock.Clock.{Clock}
 use Rattle.psy_clock.specs.Dates.{IsClock}
 use Rattle.psy_tree.specs.declared.unit.Point.{Point}
 use Rattle.psy_meaning.specs.Timing.{Timing, point_at, clock_at}
@@ -30,7 +29,7 @@ pub periods_some : (timing : Timing) → IsTimed timing → All (λ n. 1 ≤ n) 
 periods_some timing timed =
     let positive : (p : Point) → p.clock < length timing.clocks → 1 ≤ period_of timing p = λ p h. (let l = named_lawful timing timed p.clock h in omega (arith, l.first)) in
     All-map (λ n. 1 ≤ n) (period_of timing) (drop 1 timing.points)
-        (All-drop (λ p. 1 ≤ period_of timing p) 1 timing.points (All-weaker (λ p. p.clock < length timing.clocks) (λ p. 1 ≤ period_of timing p) positive timing.points timed.named))
+    (All-drop (λ p. 1 ≤ period_of timing p) 1 timing.points (All-weaker (λ p. p.clock < length timing.clocks) (λ p. 1 ≤ period_of timing p) positive timing.points timed.named))
 
 pub cycle_is : (timing : Timing) → IsTimed timing → IsCycle timing (cycle_of timing)
 unfolding cycle_of
@@ -52,8 +51,8 @@ periods_more timing at some h =
     let one : at + 1 - 1 ≡ at - 1 + 1 = omega (arith, some) in
     let two : 1 + (at - 1) ≡ at = omega (arith, some) in
     ap (λ n. map (period_of timing) (take n (drop 1 points))) one
-        ∙ map_more (period_of timing) (drop 1 points) (at - 1) no (omega (arith, h, some, length-drop 1 points))
-        ∙ ap (λ p. map (period_of timing) (take (at - 1) (drop 1 points)) ++ period_of timing p ∷ []) (get_or-drop 1 points (at - 1) no ∙ ap (λ n. get_or points n no) two)
+    ∙ map_more (period_of timing) (drop 1 points) (at - 1) no (omega (arith, h, some, length-drop 1 points))
+    ∙ ap (λ p. map (period_of timing) (take (at - 1) (drop 1 points)) ++ period_of timing p ∷ []) (get_or-drop 1 points (at - 1) no ∙ ap (λ n. get_or points n no) two)
 
 pub multiple_more : (timing : Timing) (at m period : ℕ) → IsTimed timing → 1 ≤ at → at < length timing.points → 1 ≤ m → period ≡ period_of timing (point_at timing at) →
     IsLeastCommonMultiple (map (period_of timing) (take (at - 1) (drop 1 timing.points))) m →
@@ -76,7 +75,7 @@ modulus_far timing k m timed far lcm =
     let cycle = cycle_of timing in
     let all : All (λ n. n ∣ cycle) (periods timing) = (cycle_is timing timed).common in
     let front : All (λ n. n ∣ cycle) (map (period_of timing) (take k (drop 1 timing.points))) =
-        subst (All (λ n. n ∣ cycle)) (take-map (period_of timing) k (drop 1 timing.points)) (All-take (λ n. n ∣ cycle) k (periods timing) all) in
+    subst (All (λ n. n ∣ cycle)) (take-map (period_of timing) k (drop 1 timing.points)) (All-take (λ n. n ∣ cycle) k (periods timing) all) in
     let le : m ≤ cycle = le_of_dvd (cycle_some timing timed) (lcm.least cycle front) in
     record {
       some = omega arith;

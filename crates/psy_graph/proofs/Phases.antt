@@ -1,5 +1,5 @@
 -- Actions from one point whose dates differ by a multiple of the cycle are due and end alike.
-use Rattle.std.proofs.Common.{◌≡◌, ℕ, zero, suc, ◌+◌, ◌-◌, ◌*◌, ◌/◌, ◌%◌, ◌<◌, ◌≤◌, min, List, [], ◌∷◌, All, map, drop, length, get_or, refl, sym, ap, subst, ◌∙◌, arith}
+use Rattle.std.proofs.Common.{◌≡◌, ℕ, ◌+◌, ◌-◌, ◌*◌, ◌/◌, ◌%◌, ◌<◌, ◌≤◌, List, [], ◌∷◌, All, map, drop, length, get_or, sym, ap, subst, ◌∙◌, arith}
 use Rattle.std.specs.Int.{◌∣◌}
 use Rattle.std.specs.List.{Contains}
 use Rattle.std.proofs.Math.Nat.{mul_assoc, div-add-mod', add-mul-mod_self_right, div-mul_cancel, add_comm, mul-le-mul}
@@ -25,7 +25,7 @@ period_divides timing timed to some h =
     let points = timing.points in
     let l : to - 1 < length (drop 1 points) = omega (arith, length-drop 1 points, some, h) in
     let at : get_or (periods timing) (to - 1) 0 ≡ period_of timing (point_at timing to) =
-        get_or-map (period_of timing) (drop 1 points) (to - 1) no 0 l ∙ ap (period_of timing) (get_or-drop 1 points (to - 1) no ∙ ap (λ n. get_or points n no) (omega (arith, some))) in
+    get_or-map (period_of timing) (drop 1 points) (to - 1) no 0 l ∙ ap (period_of timing) (get_or-drop 1 points (to - 1) no ∙ ap (λ n. get_or points n no) (omega (arith, some))) in
     let all = (cycle_is timing timed).common (to - 1) 0 (omega (arith, l, length-map (drop 1 points) (period_of timing))) in
     subst (λ n. n ∣ cycle_of timing) at all
 
@@ -70,9 +70,9 @@ pub deadline_of_phase : ComesAgain → (timing : Timing) → IsTimed timing → 
 deadline_of_phase again timing timed point start h =
     let cycle = cycle_of timing in
     let later : (to : ℕ) → Contains (following timing point) to → end_date timing start to ≡ end_date timing (start % cycle) to + start / cycle * cycle =
-        λ to c. (let w = timed.within point to c in end_of_phase again timing timed start to w.0 w.1) in
+    λ to c. (let w = timed.within point to c in end_of_phase again timing timed start to w.0 w.1) in
     least_later (end_date timing start) (end_date timing (start % cycle)) (start / cycle * cycle) (following timing point) (timed.some point h)
-        (All-weaker (Contains (following timing point)) (λ to. end_date timing start to ≡ end_date timing (start % cycle) to + start / cycle * cycle) later (following timing point) (All-contains_itself (following timing point)))
+    (All-weaker (Contains (following timing point)) (λ to. end_date timing start to ≡ end_date timing (start % cycle) to + start / cycle * cycle) later (following timing point) (All-contains_itself (following timing point)))
 
 -- So many dates of a clock lie within so many periods.
 abbrev pub ComesNear : Type 0

@@ -1,14 +1,13 @@
 -- The places where actions start are found one by one: each that is found is met, and where no follower is missing all are there.
-use Rattle.std.proofs.Common.{◌≡◌, ◌⊎◌, ℕ, zero, suc, ◌+◌, ◌-◌, ◌*◌, ◌/◌, ◌%◌, ◌<◌, ◌≤◌, List, [], ◌∷◌, All, map, length, get_or, refl, sym, ap, subst, ◌∙◌, inl, inr, arith}
+use Rattle.std.proofs.Common.{◌≡◌, ◌⊎◌, ℕ, zero, suc, ◌+◌, ◌%◌, ◌<◌, ◌≤◌, List, [], ◌∷◌, All, map, length, get_or, refl, sym, ap, subst, ◌∙◌, inl, inr, arith}
 use Rattle.std.specs.List.{AllPairs, Contains, insert}
-use Rattle.std.specs.List.Sorted.{IsPermutation}
 use Rattle.std.proofs.lemmas.List.{get_or-map, length-map}
 use Rattle.std.proofs.lemmas.List.Edits.{length-insert}
-use Rattle.std.proofs.lemmas.List.Elements.{All-nil, All-cons, All-map, All-contains, All-contains_itself, All-weaker}
+use Rattle.std.proofs.lemmas.List.Elements.{All-nil, All-cons, All-map, All-contains}
 use Rattle.std.proofs.lemmas.List.Sorted.{All-permutation, Contains-permutation, IsPermutation-insert, IsPermutation-sym}
 use Rattle.psy_base.specs.declared.limits.TheConstants.{NODES}
 use Rattle.psy_meaning.specs.Timing.{Timing, following, first_date, end_date, MayStart, first, later}
-use Rattle.psy_meaning.specs.Graph.{Spot, SpotBefore, IsMet, AreSpots, PassesNodes}
+use Rattle.psy_meaning.specs.Graph.{SpotBefore, IsMet, AreSpots, PassesNodes}
 use Rattle.psy_graph.specs.declared.place.Place.{Place}
 use Rattle.psy_graph.specs.Graphs.{IsTimed}
 use Rattle.psy_graph.specs.Steps.{cycle_of}
@@ -42,7 +41,7 @@ all_there again timing timed places are point start (later from begun to may fol
     let here : Contains places (place_at timing from begun) = all_there again timing timed places are from begun may in
     let within = timed.within from point follows in
     let next : Contains places (place_at timing point (end_date timing (begun % cycle_of timing) point)) =
-        All-contains (HasFollowers timing places) places (place_at timing from begun) are.closed here point follows in
+    All-contains (HasFollowers timing places) places (place_at timing from begun) are.closed here point follows in
     subst (λ phase. Contains places (record { point = point; phase = phase })) (sym (same_phase again timing timed begun point within.0 within.1)) next
 
 -- ---- a place put among others
@@ -83,7 +82,7 @@ are_spots again timing timed places are = record {
   all = λ spot. (
     λ c. All-contains (IsMet timing (cycle_of timing)) (map spot_by places) spot (All-map (IsMet timing (cycle_of timing)) spot_by places are.met) c,
     λ met. (let c = contains_spot places (place_at timing spot.point met.0) (all_there again timing timed places are spot.point met.0 met.1) in
-      subst (λ phase. Contains (map spot_by places) (record { point = spot.point; phase = phase })) (sym met.2) c),
+        subst (λ phase. Contains (map spot_by places) (record { point = spot.point; phase = phase })) (sym met.2) c),
   );
 }
 
@@ -92,11 +91,14 @@ are_spots again timing timed places are = record {
 -- One more place that is met is too many.
 pub passes : (timing : Timing) → IsTimed timing → (places : List Place) (p : Place) (at : ℕ) → AllPairs Before places → All (IsMetAt timing) places → IsRoom places p at → IsMetAt timing p → NODES ≤ length places → PassesNodes timing
 passes timing timed places p at rise met room one many =
-    let new = insert places at p in
-    (cycle_of timing, cycle_is timing timed, map spot_by new,
+    let new = insert places at p in (
+      cycle_of timing,
+      cycle_is timing timed,
+      map spot_by new,
       spots_rise new (room_rise places p at rise room),
       All-map (IsMet timing (cycle_of timing)) spot_by new (insert_all (IsMetAt timing) places p at met one),
-      omega (arith, length-map new spot_by, length-insert places at p room.within, many))
+      omega (arith, length-map new spot_by, length-insert places at p room.within, many),
+    )
 
 too_many : (timing : Timing) → IsTimed timing → (places : List Place) → AllPairs Before places → All (IsMetAt timing) places → NODES < length places → PassesNodes timing
 too_many timing timed places rise met many =
@@ -142,10 +144,10 @@ grown again timing timed (suc n) places rise met begins count = elim (missing ti
       let p = m.0 in let to = m.2.0 in let at = m.2.2.0 in let room = m.2.2.1 in
       let one : IsMetAt timing (next timing p to) = follower_met again timing timed p to m.2.1 (All-contains (IsMetAt timing) places p met m.1) in
       grown again timing timed n (insert places at (next timing p to))
-        (room_rise places (next timing p to) at rise room)
-        (insert_all (IsMetAt timing) places (next timing p to) at met one)
-        (insert_kept places (next timing p to) at (place_at timing 0 (first_date timing)) begins)
-        (omega (arith, count, length-insert places at (next timing p to) room.within)))
+      (room_rise places (next timing p to) at rise room)
+      (insert_all (IsMetAt timing) places (next timing p to) at met one)
+      (insert_kept places (next timing p to) at (place_at timing 0 (first_date timing)) begins)
+      (omega (arith, count, length-insert places at (next timing p to) room.within)))
 ]
 
 -- The places where actions start are no more than a graph's nodes, or pass them.

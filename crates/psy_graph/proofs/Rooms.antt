@@ -1,5 +1,5 @@
 -- Places in order, and where another one stands among them.
-use Rattle.std.proofs.Common.{◌≡◌, ◌⊎◌, ℕ, zero, suc, ◌+◌, ◌-◌, ◌<◌, ◌≤◌, List, [], ◌∷◌, length, get_or, refl, sym, ap, subst, ◌∙◌, inl, inr, Some, arith}
+use Rattle.std.proofs.Common.{◌≡◌, ◌⊎◌, ℕ, zero, suc, ◌+◌, ◌-◌, ◌<◌, ◌≤◌, List, [], ◌∷◌, length, get_or, sym, ap, subst, ◌∙◌, inl, inr, Some, arith}
 use Rattle.std.specs.List.{AllPairs, Contains, insert, slice_get}
 use Rattle.std.proofs.lemmas.Bool.{cases_lt, cases_order}
 use Rattle.std.proofs.lemmas.Option.{slice_get-get_or}
@@ -15,21 +15,21 @@ pub same_place : (a b : Place) → a.point ≡ b.point → a.phase ≡ b.phase �
 same_place a b e f = ap (λ n. place n a.phase) e ∙ ap (λ n. place b.point n) f
 
 pub before_self : (a : Place) → Before a a → ⊥
-before_self a h = elim h [ | inl l ↦ omega (arith, l) | inr l ↦ omega (arith, l.1) ]
+before_self a h = elim h [ inl l ↦ omega (arith, l) | inr l ↦ omega (arith, l.1) ]
 
 pub before_chain : (a b c : Place) → Before a b → Before b c → Before a c
 before_chain a b c h k = elim h [
-  | inl l ↦ elim k [ | inl m ↦ inl (omega (arith, l, m)) | inr m ↦ inl (omega (arith, l, m.0)) ]
-  | inr l ↦ elim k [ | inl m ↦ inl (omega (arith, l.0, m)) | inr m ↦ inr (l.0 ∙ m.0, omega (arith, l.1, m.1)) ]
+  | inl l ↦ elim k [ inl m ↦ inl (omega (arith, l, m)) | inr m ↦ inl (omega (arith, l, m.0)) ]
+  | inr l ↦ elim k [ inl m ↦ inl (omega (arith, l.0, m)) | inr m ↦ inr (l.0 ∙ m.0, omega (arith, l.1, m.1)) ]
 ]
 
 pub order : (a b : Place) → Before a b ⊎ ((a ≡ b) ⊎ Before b a)
 order a b = elim (cases_order a.point b.point) [
   | inl e ↦ elim (cases_order a.phase b.phase) [
     | inl f ↦ inr (inl (same_place a b e f))
-    | inr h ↦ elim h [ | inl l ↦ inl (inr (e, l)) | inr l ↦ inr (inr (inr (sym e, l))) ]
+    | inr h ↦ elim h [ inl l ↦ inl (inr (e, l)) | inr l ↦ inr (inr (inr (sym e, l))) ]
   ]
-  | inr h ↦ elim h [ | inl l ↦ inl (inl l) | inr l ↦ inr (inr (inl l)) ]
+  | inr h ↦ elim h [ inl l ↦ inl (inl l) | inr l ↦ inr (inr (inl l)) ]
 ]
 
 before_at : (a b c d : Place) → c ≡ a → d ≡ b → Before a b → Before c d

@@ -1,11 +1,10 @@
 -- What is known of the timing of an agent of a text.
-use Rattle.std.proofs.Common.{◌≡◌, ℕ, zero, suc, ◌+◌, ◌-◌, ◌<◌, ◌≤◌, List, [], ◌∷◌, ◌++◌, All, length, length-append, get_or, refl, sym, ap, subst, ◌∙◌, inl, inr, Some, arith}
-use Rattle.std.specs.List.{Contains, slice_get}
+use Rattle.std.proofs.Common.{◌≡◌, ℕ, zero, suc, ◌+◌, ◌<◌, ◌≤◌, List, [], ◌∷◌, ◌++◌, All, length, get_or, sym, ap, subst, ◌∙◌, inl, inr, arith}
 use Rattle.std.proofs.lemmas.Bool.{cases_lt}
 use Rattle.std.proofs.lemmas.Option.{slice_get_within, get_or_from_slice_get, slice_get-get_or}
 use Rattle.std.proofs.lemmas.List.{get_or_append_left, get_or_push, get_or_past}
 use Rattle.std.proofs.lemmas.List.Elements.{All-cons, All-contains, All-weaker, All-get_or}
-use Rattle.psy_base.specs.declared.limits.TheConstants.{ADVANCE, BUDGET, POINTS}
+use Rattle.psy_base.specs.declared.limits.TheConstants.{ADVANCE, BUDGET}
 use Rattle.psy_tree.specs.declared.unit.AgentDecl.{AgentDecl}
 use Rattle.psy_tree.specs.declared.unit.Point.{Point}
 use Rattle.psy_tree.specs.declared.unit.Unit.{Unit}
@@ -23,7 +22,6 @@ each_more P xs ys x n count each one pushed i d l = elim (cases_lt i n) [
   | inr h ↦ (let is : i ≡ n = omega (arith, l, h) in
       subst (P i) (sym (ap (λ zs. get_or zs i d) pushed ∙ get_or_push xs x d i (count ∙ sym is))) (subst (λ k. P k x) (sym is) one))
 ]
-
 
 points_named : (unit : Unit) (agent : AgentDecl) (points : List Point) → HasHead agent points (IsBarePoint unit) → agent.clock < length unit.clocks → All (λ p. p.clock < length unit.clocks) points
 points_named unit agent [] h l = elim h [ ]

@@ -53,7 +53,10 @@ fn add_edges(
     distances();
     let points = times.next(node.point);
     'points: for k in 0..points.len() {
-        let place = Place { point: points[k], phase: ends[k] % modulus };
+        let place = Place {
+            point: points[k],
+            phase: ends[k] % modulus,
+        };
         let edge = Edge {
             from,
             to: seek(places, place) as u32,
@@ -94,7 +97,15 @@ fn add_node(
         budget: times.budget(place.point),
     };
     graph.nodes.push(node)?;
-    add_edges(&mut graph.edges, times, modulus, places, from, node, ends.as_slice())
+    add_edges(
+        &mut graph.edges,
+        times,
+        modulus,
+        places,
+        from,
+        node,
+        ends.as_slice(),
+    )
 }
 
 /// The graph of all places where the actions of an agent start.
@@ -114,7 +125,10 @@ pub fn draw(
     ensures few { IfOk result (λ graph. length graph.edges ≤ EDGES) }
     ensures cause { IfErr result (λ fault. (fault ≡ no_memory) ⊎ ((fault ≡ many_edges agent) × (EDGES < length (first_edges (timing_by times.now) places.now (length places.now))))) }
 {
-    let mut graph = Graph { nodes: Items::new(alloc), edges: Items::new(alloc) };
+    let mut graph = Graph {
+        nodes: Items::new(alloc),
+        edges: Items::new(alloc),
+    };
     'places: for from in 0..places.len() {
         if graph.edges.len() + times.next(places[from].point).len() > EDGES as usize {
             return Err(GraphFault::Edges(agent));

@@ -143,7 +143,10 @@ pub fn explore(
     ensures near { IfOk result AreNear }
     ensures cause { IfErr result (λ fault. (fault ≡ no_memory) ⊎ ((fault ≡ many_nodes agent) × PassesNodes (timing_by times.now))) }
 {
-    let first = Place { point: 0, phase: times.first() % modulus };
+    let first = Place {
+        point: 0,
+        phase: times.first() % modulus,
+    };
     let mut found = Found::new(alloc, first)?;
     let mut at = 0;
     'work: while at < found.work.len() {

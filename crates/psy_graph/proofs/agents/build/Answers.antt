@@ -1,5 +1,4 @@
-use Rattle.std.proofs.Common.{◌≡◌, ◌⊎◌, ℕ, ◌+◌, ◌<◌, List, [], ◌∷◌, ◌++◌, All, length, length-append, get_or, Some, Err, IfErr, ap, sym, subst, ◌∙◌, inl, inr, arith, rules}
-use Rattle.std.specs.List.{slice_get}
+use Rattle.std.proofs.Common.{◌≡◌, ◌⊎◌, ℕ, [], ◌∷◌, ◌++◌, All, length, length-append, get_or, Err, IfErr, ap, sym, subst, inl, inr, arith, rules}
 use Rattle.std.proofs.lemmas.Option.{slice_get_within, get_or_from_slice_get}
 use Rattle.std.proofs.lemmas.List.Elements.{All-push}
 use Rattle.psy_tree.specs.declared.unit.Unit.{Unit}
@@ -25,7 +24,7 @@ returns-in_err-graph_of-clause-cause c =
     let none : Graph = record { nodes = []; edges = [] } in
     let before : HaveGraphsBefore unit c.agents.number = λ n l. (get_or c.agents.graphs n none, c.agents.invariant.each n none l) in
     let Q : GraphFault → Type 0 = λ f. (f ≡ Memory) ⊎ IsCause unit f in
-    let is : Q fault = elim c.in_err-graph_of.ensures.cause [ | inl e ↦ inl e | inr h ↦ inr (cause_is unit c.agents.number fault before h) ] in
+    let is : Q fault = elim c.in_err-graph_of.ensures.cause [ inl e ↦ inl e | inr h ↦ inr (cause_is unit c.agents.number fault before h) ] in
     let e : c.from_residual.result ≡ Err fault = search rules in
     subst (λ r. IfErr r Q) (sym e) is
 
@@ -50,5 +49,5 @@ returns-clause-graphs c =
     record {
       count = omega (arith, c.agents.invariant.count, c.agents-test.false, c.agents.auto.number-end, c.len-number-end.ensures);
       each = λ n graph e. (let l = slice_get_within graphs n graph e in
-        subst (HasGraph unit n) (get_or_from_slice_get graphs n graph graph e) (c.agents.invariant.each n graph (omega (arith, l, c.agents.invariant.count))));
+          subst (HasGraph unit n) (get_or_from_slice_get graphs n graph graph e) (c.agents.invariant.each n graph (omega (arith, l, c.agents.invariant.count))));
     }

@@ -1,11 +1,10 @@
-use Rattle.std.proofs.Common.{◌≡◌, ◌⊎◌, ℕ, ◌<◌, ◌≤◌, List, All, length, sym, subst, refl, inl, inr, arith}
+use Rattle.std.proofs.Common.{◌≡◌, ◌⊎◌, ◌<◌, ◌≤◌, All, length, sym, subst, refl, inl, inr}
 use Rattle.std.proofs.lemmas.Result.{IfOk-weaker, IfErr-weaker}
 use Rattle.psy_base.specs.declared.limits.TheConstants.{NODES, EDGES}
 use Rattle.psy_window.specs.Windows.{IsEdge}
 use Rattle.psy_graph.specs.declared.fault.GraphFault.{GraphFault}
 use Rattle.psy_graph.specs.declared.fault.GraphFault.TheVariants.{Edges as many_edges, Memory as no_memory}
 use Rattle.psy_graph.specs.declared.graph.Graph.{Graph}
-use Rattle.psy_graph.specs.declared.place.Place.{Place}
 use Rattle.psy_graph.specs.Graphs.{IsGraphOf}
 use Rattle.psy_graph.specs.Faults.{IsFaultOf}
 use Rattle.psy_graph.specs.Steps.{timing_by}

@@ -1,15 +1,13 @@
-use Rattle.std.proofs.Common.{◌≡◌, ◌⊎◌, ℕ, ◌<◌, List, length, Some, Ok, Err, Result, IfOk, ap, sym, subst, refl, ◌∙◌, inl, inr, arith}
+use Rattle.std.proofs.Common.{◌≡◌, ◌⊎◌, ℕ, List, length, Some, Ok, Err, Result, IfOk, ap, sym, subst, refl, ◌∙◌, inl, inr, arith}
 use Rattle.std.specs.List.{slice_get}
 use Rattle.std.proofs.lemmas.Option.{slice_get_read}
 use Rattle.std.proofs.lemmas.Result.{IfOk-weaker, IfErr-weaker}
 use Rattle.psy_clock.specs.declared.clock.Clock.{Clock}
-use Rattle.psy_tree.specs.declared.unit.AgentDecl.{AgentDecl}
 use Rattle.psy_tree.specs.declared.unit.Point.{Point}
 use Rattle.psy_flow.specs.Agents.{IsAgentOf}
 use Rattle.psy_meaning.specs.Timing.{Timing, timing_of}
 use Rattle.psy_graph.specs.declared.fault.GraphFault.{GraphFault}
 use Rattle.psy_graph.specs.declared.fault.GraphFault.TheVariants.{Memory as no_memory}
-use Rattle.psy_graph.specs.declared.graph.Graph.{Graph}
 use Rattle.psy_graph.specs.Graphs.{IsTimed, IsGraphOf, IsSmall, IsTimingOf, HasGraph}
 use Rattle.psy_graph.specs.Faults.{IsFaultOf, HasFault}
 use Rattle.psy_graph.proofs.Timings.{timed_by}
@@ -24,15 +22,15 @@ agent_of c =
     let agents = c.args.unit.now.agents in
     let agent = c.index-as_slice-number.result in
     let at : slice_get c.as_slice.result.now c.args.number ≡ Some agent =
-        slice_get_read c.as_slice.result.now (length c.as_slice.result.now) c.args.number agent refl (omega (arith, c.requires.number, ap length c.as_slice.ensures)) c.index-as_slice-number.is in
+    slice_get_read c.as_slice.result.now (length c.as_slice.result.now) c.args.number agent refl (omega (arith, c.requires.number, ap length c.as_slice.ensures)) c.index-as_slice-number.is in
     (c.requires.text, subst (λ xs. slice_get xs c.args.number ≡ Some agent) c.as_slice.ensures at)
 
 -- the timing as it is told
 told : (c : After-as_slice-4) → timing c.as_slice-2.result.now c.as_slice-3.result.now c.as_slice-4.result.now ≡ timing_of c.args.unit.now c.index-as_slice-number.result c.in_ok-nexts.nexts
 told c =
     ap (λ xs. timing xs c.as_slice-3.result.now c.as_slice-4.result.now) c.as_slice-2.ensures
-        ∙ ap (λ xs. timing c.args.unit.now.clocks xs c.as_slice-4.result.now) c.as_slice-3.ensures
-        ∙ ap (timing c.args.unit.now.clocks c.index-as_slice-number.result.points) c.as_slice-4.ensures
+    ∙ ap (λ xs. timing c.args.unit.now.clocks xs c.as_slice-4.result.now) c.as_slice-3.ensures
+    ∙ ap (timing c.args.unit.now.clocks c.index-as_slice-number.result.points) c.as_slice-4.ensures
 
 timing_is : (c : After-as_slice-4) → IsTimingOf c.args.unit.now c.args.number (timing c.as_slice-2.result.now c.as_slice-3.result.now c.as_slice-4.result.now)
 timing_is c =
@@ -53,7 +51,7 @@ returns-clause-graph c =
     let t = timing c.as_slice-2.result.now c.as_slice-3.result.now c.as_slice-4.result.now in
     let is = timing_is (goal.at.returns-clause-graph c).After-as_slice-4 in
     IfOk-weaker c.graph_by.result (λ graph. IsGraphOf t graph × IsSmall graph) (HasGraph c.args.unit.now c.args.number) (λ graph h. (t, is, h.0, h.1))
-        (both c.graph_by.result (IsGraphOf t) IsSmall c.graph_by.ensures.graph c.graph_by.ensures.small)
+    (both c.graph_by.result (IsGraphOf t) IsSmall c.graph_by.ensures.graph c.graph_by.ensures.small)
 
 pub returns-clause-cause : goal.returns-clause-cause
 returns-clause-cause c =
@@ -61,4 +59,4 @@ returns-clause-cause c =
     let is = timing_is (goal.at.returns-clause-cause c).After-as_slice-4 in
     let P : GraphFault → Type 0 = λ fault. (fault ≡ no_memory) ⊎ IsFaultOf t c.args.number fault in
     let Q : GraphFault → Type 0 = λ fault. (fault ≡ no_memory) ⊎ HasFault c.args.unit.now c.args.number fault in
-    IfErr-weaker c.graph_by.result P Q (λ fault h. elim h [ | inl e ↦ inl e | inr m ↦ inr (t, is, m) ]) c.graph_by.ensures.cause
+    IfErr-weaker c.graph_by.result P Q (λ fault h. elim h [ inl e ↦ inl e | inr m ↦ inr (t, is, m) ]) c.graph_by.ensures.cause

@@ -1,5 +1,5 @@
-use Rattle.std.proofs.Common.{◌≡◌, ◌↔◌, ℕ, ◌<◌, List, [], ◌∷◌, ◌++◌, length, length-append, get_or, ap, sym, subst, ◌∙◌, arith}
-use Rattle.std.specs.List.{Contains, slice_get}
+use Rattle.std.proofs.Common.{◌≡◌, ◌↔◌, ℕ, List, [], ◌∷◌, ◌++◌, length, length-append, ap, subst, arith}
+use Rattle.std.specs.List.{Contains}
 use Rattle.std.proofs.lemmas.Option.{slice_get_within, get_or_from_slice_get}
 use Rattle.psy_tree.specs.declared.unit.Unit.{Unit}
 use Rattle.psy_flow.specs.Agents.{IsAgentOf}
@@ -33,7 +33,7 @@ returns-clause-nexts c unit number of =
       length = omega (arith, kept.count, c.points-test.false, c.points.auto.point-end, c.len-point-end.ensures);
       rise = λ point list e. (let l = slice_get_within nexts point list e in subst Rises (get_or_from_slice_get nexts point list list e) (kept.rise point list (omega (arith, l, kept.count))));
       each = λ point list e. (let l = slice_get_within nexts point list e in
-        subst (λ xs. (to : ℕ) → Contains xs to ↔ IsNext unit.functions c.args.agent.now point to) (get_or_from_slice_get nexts point list list e) (kept.each point list (omega (arith, l, kept.count)) unit number of));
+          subst (λ xs. (to : ℕ) → Contains xs to ↔ IsNext unit.functions c.args.agent.now point to) (get_or_from_slice_get nexts point list list e) (kept.each point list (omega (arith, l, kept.count)) unit number of));
     }
 
 pub returns-clause-lists : goal.returns-clause-lists

@@ -1,7 +1,6 @@
-use Rattle.std.proofs.Common.{◌≡◌, ℕ, ◌+◌, ◌-◌, ◌≤◌, map, take, drop, length, ap, sym, subst, ◌∙◌, arith, length-drop}
+use Rattle.std.proofs.Common.{◌≡◌, ◌+◌, ◌-◌, ◌≤◌, map, take, drop, ap, sym, subst, arith, length-drop}
 use Rattle.std.proofs.lemmas.List.{take_all}
 use Rattle.psy_meaning.specs.Graph.{IsLeastCommonMultiple}
-use Rattle.psy_graph.specs.declared.cycle.TheConstants.{FAR}
 use Rattle.psy_graph.specs.Steps.{timing_by, joined}
 use Rattle.psy_graph.proofs.Cycles.{least_nil}
 use Rattle.psy_graph.proofs.Periods.{period_of, multiple_more, modulus_near, modulus_far}

@@ -1,4 +1,4 @@
-use Rattle.std.proofs.Common.{ℕ, ◌-◌, ◌≤◌, map, take, drop}
+use Rattle.std.proofs.Common.{◌-◌, ◌≤◌, map, take, drop}
 use Rattle.psy_meaning.specs.Graph.{IsLeastCommonMultiple}
 use Rattle.psy_meaning.specs.Timing.{clock_at}
 use Rattle.psy_graph.specs.declared.cycle.TheConstants.{FAR}

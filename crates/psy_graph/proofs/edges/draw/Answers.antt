@@ -1,6 +1,5 @@
-use Rattle.std.proofs.Common.{◌≡◌, ◌⊎◌, ℕ, ◌+◌, ◌++◌, ◌<◌, ◌≤◌, List, [], ◌∷◌, map, take, length, length-append, ap, sym, subst, refl, ◌∙◌, inl, inr, arith}
+use Rattle.std.proofs.Common.{◌≡◌, ◌+◌, ◌++◌, ◌≤◌, [], ◌∷◌, length, length-append, ap, sym, refl, ◌∙◌, inr, arith}
 use Rattle.std.proofs.lemmas.List.{length-map, map_more}
-use Rattle.psy_base.specs.declared.limits.TheConstants.{EDGES}
 use Rattle.psy_meaning.specs.Timing.{following}
 use Rattle.psy_graph.specs.declared.place.Place.{Place}
 use Rattle.psy_graph.specs.Steps.{timing_by}

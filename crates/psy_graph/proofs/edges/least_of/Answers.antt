@@ -1,4 +1,4 @@
-use Rattle.std.proofs.Common.{ℕ, ◌<◌, get_or, arith}
+use Rattle.std.proofs.Common.{arith}
 use Rattle.psy_graph.proofs.Leasts.{least_is, least_one, least_more}
 use Rattle.psy_graph.proofs.edges.least_of.Goals as goal
 

@@ -1,4 +1,4 @@
-use Rattle.std.proofs.Common.{◌≡◌, ℕ, ◌+◌, ◌%◌, ◌<◌, ◌≤◌, List, [], ◌∷◌, length, ap, sym, subst, arith}
+use Rattle.std.proofs.Common.{◌≡◌, ℕ, ◌%◌, ◌<◌, ◌≤◌, [], ◌∷◌, length, ap, sym, subst, arith}
 use Rattle.std.proofs.Math.Nat.{mod-le}
 use Rattle.psy_graph.specs.declared.place.Place.{Place}
 use Rattle.psy_graph.specs.Steps.{STEP, timing_by}
@@ -42,7 +42,7 @@ returns-clause-places c =
     let found = c.work.found in
     let all : length found.work.items ≤ c.work.at = omega (arith, c.work-test.false, c.len.ensures, found.work.ok.0) in
     subst (ArePlaces timing) (sym c.from_vec.ensures)
-        (work_done timing found.work.items found.places.items c.work.invariant.found (λ i d l. c.work.invariant.done i d (omega (arith, l, all)) l))
+    (work_done timing found.work.items found.places.items c.work.invariant.found (λ i d l. c.work.invariant.done i d (omega (arith, l, all)) l))
 
 pub returns-clause-near : goal.returns-clause-near
 returns-clause-near c =

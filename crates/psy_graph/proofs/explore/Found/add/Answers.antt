@@ -1,7 +1,6 @@
-use Rattle.std.proofs.Common.{◌≡◌, ◌⊎◌, ℕ, List, Some, sym, subst, refl, inl, inr, arith}
-use Rattle.std.specs.List.{slice_get, insert}
+use Rattle.std.proofs.Common.{◌≡◌, Some, sym, subst, refl, inr, arith}
+use Rattle.std.specs.List.{slice_get}
 use Rattle.std.proofs.lemmas.Bool.Decides.{not_from_Decides}
-use Rattle.psy_graph.specs.declared.place.Place.{Place}
 use Rattle.psy_graph.specs.Places.{IsRoom, IsSought}
 use Rattle.psy_graph.proofs.Rooms.{room_sought}
 use Rattle.psy_graph.proofs.explore.Found.add.Goals as goal
@@ -12,7 +11,7 @@ room c =
     let places = c.args.self.now.places.items in
     let sought : IsSought places c.args.place c.seek-at.result = subst (λ xs. IsSought xs c.args.place c.seek-at.result) c.as_slice.ensures.value c.seek-at.ensures in
     let other : slice_get places c.seek-at.result ≡ Some c.args.place → ⊥ =
-        λ e. not_from_Decides c.stands_at.result c.stands_at.ensures c.if-stands_at.false (subst (λ xs. slice_get xs c.seek-at.result ≡ Some c.args.place) (sym c.as_slice-2.ensures.value) e) in
+    λ e. not_from_Decides c.stands_at.result c.stands_at.ensures c.if-stands_at.false (subst (λ xs. slice_get xs c.seek-at.result ≡ Some c.args.place) (sym c.as_slice-2.ensures.value) e) in
     room_sought places c.args.place c.seek-at.result c.requires.rise sought other
 
 pub returns-then-len-clause-full : goal.returns-then-len-clause-full

@@ -1,11 +1,11 @@
-use Rattle.std.proofs.Common.{◌≡◌, ◌⊎◌, ℕ, ◌+◌, ◌<◌, ◌≤◌, length, get_or, sym, ap, subst, ◌∙◌, arith}
+use Rattle.std.proofs.Common.{◌≡◌, ℕ, ◌<◌, length, get_or, sym, ap, subst, ◌∙◌, arith}
 use Rattle.std.specs.List.{Contains}
 use Rattle.std.proofs.lemmas.List.{get_or_read}
 use Rattle.std.proofs.lemmas.List.Elements.{All-contains, Contains-get_or}
 use Rattle.psy_meaning.specs.Timing.{following}
 use Rattle.psy_graph.specs.declared.place.Place.{Place}
 use Rattle.psy_graph.specs.Steps.{timing_by}
-use Rattle.psy_graph.specs.Places.{IsMetAt, HasFollowers, follower}
+use Rattle.psy_graph.specs.Places.{IsMetAt, follower}
 use Rattle.psy_graph.proofs.Reached.{may_point}
 use Rattle.psy_graph.proofs.Finding.{worked, done_more, all_done}
 use Rattle.psy_graph.proofs.explore.Found.follow.Goals as goal
@@ -39,7 +39,7 @@ reach-requires-clause-follows c d =
     let items = c.next-to-items.result.now in
     let to = get_or items c.next.to-index 0 in
     let same : c.index-from.result.now ≡ get_or c.next.self.work.items c.args.at d =
-        from_is (goal.at.reach-requires-clause-follows c).After-index-from d ∙ sym (c.next.invariant.front c.args.at d c.requires.at).1 in
+    from_is (goal.at.reach-requires-clause-follows c).After-index-from d ∙ sym (c.next.invariant.front c.args.at d c.requires.at).1 in
     subst (λ p. Contains (following timing p.point) to) same (subst (λ tos. Contains tos to) c.next-to-items.ensures (Contains-get_or items c.next.to-index 0 c.next-test.true))
 
 pub next-preserved : goal.next-preserved
@@ -66,5 +66,5 @@ returns-clause-followers c d =
     let places = c.next.self.places.items in
     let tos : c.next-to-items.result.now ≡ following timing p.point = c.next-to-items.ensures ∙ ap (λ q. following timing q.point) from in
     let done : (k : ℕ) → k < length (following timing p.point) → Contains places (follower timing p (get_or (following timing p.point) k 0)) =
-        λ k l. subst (λ xs. k < length xs → Contains places (follower timing p (get_or xs k 0))) tos (λ m. c.next.invariant.done d k (omega (arith, m, c.next-test.false))) l in
+    λ k l. subst (λ xs. k < length xs → Contains places (follower timing p (get_or xs k 0))) tos (λ m. c.next.invariant.done d k (omega (arith, m, c.next-test.false))) l in
     all_done timing places p done

@@ -1,10 +1,10 @@
-use Rattle.std.proofs.Common.{◌≡◌, ◌⊎◌, ℕ, ◌+◌, ◌*◌, ◌%◌, ◌<◌, ◌≤◌, length, get_or, sym, ap, subst, ◌∙◌, inl, inr, arith}
+use Rattle.std.proofs.Common.{◌≡◌, ◌⊎◌, ℕ, ◌+◌, ◌*◌, ◌%◌, ◌≤◌, length, get_or, sym, ap, subst, ◌∙◌, inl, inr, arith}
 use Rattle.std.specs.List.{Contains}
 use Rattle.std.proofs.lemmas.List.{get_or_read}
 use Rattle.std.proofs.lemmas.List.Elements.{All-contains}
 use Rattle.std.proofs.lemmas.Result.{IfOk-weaker, IfErr-weaker}
 use Rattle.psy_base.specs.declared.limits.TheConstants.{NODES}
-use Rattle.psy_meaning.specs.Timing.{following, end_date}
+use Rattle.psy_meaning.specs.Timing.{following}
 use Rattle.psy_meaning.specs.Graph.{PassesNodes}
 use Rattle.psy_graph.specs.declared.cycle.TheConstants.{FAR}
 use Rattle.psy_graph.specs.declared.fault.GraphFault.{GraphFault}
@@ -72,21 +72,21 @@ returns-clause-found c =
     let q = place c.args.to (c.end-end.result % c.args.modulus) in
     let at = (goal.at.returns-clause-found c).After-end-end in
     IfOk-weaker c.add.result (λ _. IsAdded q old.work.items old.places.items new.work.items new.places.items) (λ _. AreFound timing new.work.items new.places.items)
-        (λ _ added. found_added q old.work.items old.places.items new.work.items new.places.items timing c.requires.found (found_met at) (found_near at) added) c.add.ensures.added
+    (λ _ added. found_added q old.work.items old.places.items new.work.items new.places.items timing c.requires.found (found_met at) (found_near at) added) c.add.ensures.added
 
 pub returns-clause-front : goal.returns-clause-front
 returns-clause-front c =
     let old = c.args.self.now in let new = c.add.new.self in
     let q = place c.args.to (c.end-end.result % c.args.modulus) in
     IfOk-weaker c.add.result (λ _. IsAdded q old.work.items old.places.items new.work.items new.places.items) (λ _. IsFront old.work.items new.work.items)
-        (λ _ added. added_front q old.work.items old.places.items new.work.items new.places.items added) c.add.ensures.added
+    (λ _ added. added_front q old.work.items old.places.items new.work.items new.places.items added) c.add.ensures.added
 
 pub returns-clause-grown : goal.returns-clause-grown
 returns-clause-grown c =
     let old = c.args.self.now in let new = c.add.new.self in
     let q = place c.args.to (c.end-end.result % c.args.modulus) in
     IfOk-weaker c.add.result (λ _. IsAdded q old.work.items old.places.items new.work.items new.places.items) (λ _. (p : Place) → Contains old.places.items p → Contains new.places.items p)
-        (λ _ added. added_kept q old.work.items old.places.items new.work.items new.places.items added) c.add.ensures.added
+    (λ _ added. added_kept q old.work.items old.places.items new.work.items new.places.items added) c.add.ensures.added
 
 pub returns-clause-reached : goal.returns-clause-reached
 returns-clause-reached c =
@@ -96,7 +96,7 @@ returns-clause-reached c =
     let is = found_place (goal.at.returns-clause-reached c).After-end-end in
     let from = from_is (goal.at.returns-clause-reached c).After-index-from in
     IfOk-weaker c.add.result (λ _. IsAdded q old.work.items old.places.items new.work.items new.places.items) (λ _. (d : Place) → Contains new.places.items (follower timing (get_or old.work.items c.args.at d) c.args.to))
-        (λ _ added d. subst (Contains new.places.items) (is ∙ ap (λ p. follower timing p c.args.to) (from d)) (added_has q old.work.items old.places.items new.work.items new.places.items added)) c.add.ensures.added
+    (λ _ added d. subst (Contains new.places.items) (is ∙ ap (λ p. follower timing p c.args.to) (from d)) (added_has q old.work.items old.places.items new.work.items new.places.items added)) c.add.ensures.added
 
 pub returns-clause-cause : goal.returns-clause-cause
 returns-clause-cause c =
