@@ -13,17 +13,17 @@ def agent(number, clock, body):
 
 
 def quick_or_slow(agents, nodes):
-    """Agents that advance by one tick, at each date of the slow clock's period, or to its next date, of one
-    phase. With the head these are the nodes, and two edges leave each."""
+    """Agents of so many nodes: the head, each phase of a clock of one tick, and the one phase of a slow clock, whose
+    period is the number of those phases. Two edges leave each node."""
     body = "if (n) { advance 1 on one; } else { advance 1 on slow; }"
     clocks = HEAD + f"clock slow = {nodes - 2} * tick;\n"
     return clocks + "".join(agent(number, "one", body) for number in range(agents))
 
 
 def in_turn(dates):
-    """An agent that advances by two clocks in turn, whose periods, dates and dates + 1, have no common factor.
-    Each of the slower clock's phases, which are as many as dates, comes once, and a date of the other
-    one behind it: with the head 2 * dates + 1 nodes, and one edge leaves each."""
+    """An agent that advances by two clocks in turn, with periods of dates and dates + 1 ticks, which have no common
+    factor. In a round of both come so many dates of the slow clock, each at a phase of its own, and behind each the
+    next date of the fast one: with the head 2 * dates + 1 nodes, and one edge leaves each."""
     clocks = HEAD + f"clock fast = {dates} * tick;\nclock slow = {dates + 1} * tick;\n"
     return clocks + agent(0, "fast", "advance 1 on fast; advance 1 on slow;")
 
@@ -36,9 +36,10 @@ def choice(advances):
     return f"if (n) {{ {choice(half)} }} else {{ {choice(advances - half)} }}"
 
 
-def each_to_each(points):
-    """An agent whose actions, of one phase, may end at any point but the head: points * (points - 1) edges."""
-    return HEAD + agent(0, "one", choice(points - 1))
+def each_to_each(points, agents=1):
+    """Agents whose actions, of one phase, may end at any point but the head: points * (points - 1) edges each."""
+    body = choice(points - 1)
+    return HEAD + "".join(agent(number, "one", body) for number in range(agents))
 
 
 def in_a_row(points, size):
