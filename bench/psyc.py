@@ -22,9 +22,11 @@ def program():
     return PROVED
 
 
-def seconds(words, status, times=5):
-    """The least processor time of a process with these words, in seconds."""
-    least = None
+def measured(words, status, times=5):
+    """The least processor time of a process with these words, in seconds, and its greatest memory, in kilobytes.
+
+    The system counts as a process's memory no less than what this script had when it started it."""
+    least, most = None, 0
     for _ in range(times):
         running = subprocess.Popen(words, stdout=subprocess.DEVNULL)
         _, ended, used = os.wait4(running.pid, 0)
@@ -33,7 +35,17 @@ def seconds(words, status, times=5):
             sys.exit(f"status {running.returncode} in place of {status}: {' '.join(words)}")
         took = used.ru_utime + used.ru_stime
         least = took if least is None else min(least, took)
-    return least
+        most = max(most, used.ru_maxrss)
+    return least, most
+
+
+def seconds(words, status, times=5):
+    """The least processor time of a process with these words, in seconds."""
+    return measured(words, status, times)[0]
+
+
+def megabytes(kilobytes):
+    return f"{kilobytes / 1024:.1f} MB"
 
 
 def first_byte(words, times=5):
