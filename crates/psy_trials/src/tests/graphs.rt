@@ -97,7 +97,7 @@ fn graphs_have_their_nodes_and_edges(rt: HostRuntime) -> Result<(), Fail> {
     Ok(())
 }
 
-/// A clock, another one, and the declarations of the agents.
+// How many nodes and edges the graphs have of a program with these two clocks and these agents, or what is at fault.
 fn sizes_of(
     rt: &(impl Abort + AllocGlobal),
     clocks: (u32, u32),
