@@ -4,7 +4,7 @@ use psy_base::{Edge, Items};
 #[derive(Clone, Copy, Debug, PartialEq, Eq)]
 pub struct Node {
     pub point: u32,
-    /// The start date modulo the least common multiple of the periods of the clocks that the agent's `advance`s name.
+    /// The start date modulo the agent's cycle, in ticks: dates that differ by a cycle are alike for all clocks of its `advance`s.
     pub phase: u64,
     /// The ticks from the start date to the deadline.
     pub due: u64,

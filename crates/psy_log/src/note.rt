@@ -1,7 +1,6 @@
 use psy_arith::Trap;
 
-/// What a line says. It borrows its names as bytes, so that making one takes no memory. Dates are counted
-/// in ticks from 0.
+/// What a line says. Names are borrowed, so a note takes no memory to make. Dates are counted in ticks from 0.
 #[derive(Clone, Copy, Debug)]
 pub enum Note<'a> {
     /// From this date on the agent is silent, since its budget was spent.
