@@ -104,11 +104,6 @@ if_err (Err e) holds more = more e holds
 pub ok_no_err : {A E : Type 0} (result : Result A E) (x : A) (e : E) → result ≡ Ok x → result ≡ Err e → ⊥
 ok_no_err result x e is other = let no = sym is ∙ other in cc
 
--- an error that is passed on
-pub err_exit : {A E : Type 0} (P : E → Type 0) (result : Result A E) (x : E) → IsErrAnd result (λ e. e ≡ x) → P x → IfErr result P
-err_exit P (Ok y) x is holds = tt
-err_exit P (Err e) x is holds = subst P (sym is) holds
-
 -- a list of weights that isn't made
 pub unwindowed : (until : ℕ) (graphs : List Graph) (failed : List ℕ) (before after : ℕ) (s : Stop) → (s ≡ stop.Memory) ⊎ ((s ≡ stop.Refused Cells) × Any (PassesCells until) graphs) → Halts (windowing graphs until) failed before after s
 unwindowed until graphs failed before after s (inl memory) = subst (Halts (windowing graphs until) failed before after) (sym memory) halts_memory

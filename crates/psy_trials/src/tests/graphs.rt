@@ -23,14 +23,22 @@ type EdgeRow = (u32, u32, u64, u64, u64);
 fn expect_nodes(rt: &impl Abort, nodes: &[Node], wanted: &[NodeRow], text: &str) {
     assert_eq!(rt; nodes.len(), wanted.len(), "nodes of {text}");
     for (node, row) in nodes.iter().zip(wanted) {
-        assert_eq!(rt; (node.point, node.phase, node.due, node.budget), *row, "{text}");
+        assert_eq!(rt;
+            (node.point, node.phase, node.due, node.budget),
+            *row,
+            "{text}"
+        );
     }
 }
 
 fn expect_edges(rt: &impl Abort, edges: &[Edge], wanted: &[EdgeRow], text: &str) {
     assert_eq!(rt; edges.len(), wanted.len(), "edges of {text}");
     for (edge, row) in edges.iter().zip(wanted) {
-        assert_eq!(rt; (edge.from, edge.to, edge.len, edge.due, edge.weight), *row, "{text}");
+        assert_eq!(rt;
+            (edge.from, edge.to, edge.len, edge.due, edge.weight),
+            *row,
+            "{text}"
+        );
     }
 }
 
@@ -105,8 +113,7 @@ fn sizes_of(
 ) -> Result<Result<(usize, usize), GraphFault>, Fail> {
     let text = format!(in rt.alloc();
         "tick 100; clock c = {} * tick; clock d = {} * tick; {agents}",
-        clocks.0,
-        clocks.1,
+        clocks.0, clocks.1,
     )?;
     match graphs_of(rt, text.as_str())? {
         Ok(graphs) => {

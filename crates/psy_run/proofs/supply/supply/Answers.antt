@@ -1,18 +1,19 @@
 use Rattle.psy_run.specs.Answer.{supplying}
 use Rattle.psy_run.specs.Outcome.{Halts}
-use Rattle.psy_run.proofs.SupplyLemmas.{all_have_cells, all_long, all_small, supply_undrawn, supply_unwindowed, supply_overloaded, supply_gives, if_ok, if_err, err_exit, unwindowed}
+use Rattle.psy_run.proofs.Courses.{halts_exit}
+use Rattle.psy_run.proofs.SupplyLemmas.{all_have_cells, all_long, all_small, supply_undrawn, supply_unwindowed, supply_overloaded, supply_gives, if_ok, if_err, unwindowed}
 use Rattle.psy_run.proofs.supply.supply.Goals as goal
 
 pub returns-in_err-graphs-clause-err : goal.returns-in_err-graphs-clause-err
 returns-in_err-graphs-clause-err c failed before after =
     let stop = c.in_err-graphs.field-0.0 in
-    err_exit (Halts (supplying c.args.unit.now c.args.until) failed before after) c.from_residual.result stop c.from_residual.ensures.1 (supply_undrawn c.args.unit.now c.args.until failed before after stop (c.in_err-graphs.ensures.err failed before after))
+    halts_exit (supplying c.args.unit.now c.args.until) failed before after stop c.from_residual.result c.from_residual.ensures.1 (supply_undrawn c.args.unit.now c.args.until failed before after stop (c.in_err-graphs.ensures.err failed before after))
 
 pub returns-in_err-lists-clause-err : goal.returns-in_err-lists-clause-err
 returns-in_err-lists-clause-err c failed before after =
     let graphs = c.in_ok-graphs.graphs in
     let stop = c.in_err-lists.field-0.0 in
-    err_exit (Halts (supplying c.args.unit.now c.args.until) failed before after) c.from_residual-in_err-lists.result stop c.from_residual-in_err-lists.ensures.1
+    halts_exit (supplying c.args.unit.now c.args.until) failed before after stop c.from_residual-in_err-lists.result c.from_residual-in_err-lists.ensures.1
     (supply_unwindowed c.args.unit.now c.args.until failed before after stop graphs c.in_ok-graphs.ensures.ok (unwindowed c.args.until graphs failed before after stop c.in_err-lists.ensures.err))
 
 pub demand-requires-clause-long : goal.demand-requires-clause-long
