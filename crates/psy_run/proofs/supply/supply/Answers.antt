@@ -1,5 +1,4 @@
 use Rattle.psy_run.specs.Answer.{supplying}
-use Rattle.psy_run.specs.Outcome.{Halts}
 use Rattle.psy_run.proofs.Courses.{halts_exit}
 use Rattle.psy_run.proofs.SupplyLemmas.{all_have_cells, all_long, all_small, supply_undrawn, supply_unwindowed, supply_overloaded, supply_gives, if_ok, if_err, unwindowed}
 use Rattle.psy_run.proofs.supply.supply.Goals as goal
