@@ -45,6 +45,16 @@ const SIX_CLOCKS: &str =
 clock d = 9941 * tick; clock e = 9931 * tick; clock f = 9929 * tick;
 agent A on a budget 9 { body { advance 1 on a; advance 1 on b; advance 1 on c; advance 1 on d; advance 1 on e; advance 1 on f; } }";
 
+// The head, a node for each of 48 phases, and one for the slow clock's dates: 50.
+const FIFTY_NODES: &str = "tick 100; clock c = 1 * tick; clock d = 48 * tick;
+agent A on c budget 9 { body { if (1) { advance 1 on c; } else { advance 1 on d; } } }";
+
+const ONE_NODE_MORE: &str = "tick 100; clock c = 1 * tick; clock d = 49 * tick;
+agent A on c budget 9 { body { if (1) { advance 1 on c; } else { advance 1 on d; } } }";
+
+// The text is too deep at its token of number 66.
+const TOO_DEEP: &str = "tick 1; ((((((((((((((((((((((((((((((((((((((((((((((((((((((((((((((((";
+
 const INPUTS: &str =
     "tick 10; clock c = 1 * tick; input x on c = 0 depth 3; temporal v of A on c = 0 depth 2;
 agent A on c budget 9 { body { v = 1; advance 1 on c; } }";
@@ -62,7 +72,7 @@ const COSTLY: &str =
 // A check: the program, the last date, and the status and the text that are wanted.
 type Check = (&'static str, &'static str, u8, &'static str);
 
-const CHECKED: [Check; 24] = [
+const CHECKED: [Check; 27] = [
     (COUNTS, "20", 0, "variable v 1\nfeasible 20\n"),
     (COUNTS, "0", 0, "variable v 1\nfeasible 0\n"),
     (COUNTS, "100000", 0, "variable v 1\nfeasible 100000\n"),
@@ -92,10 +102,14 @@ const CHECKED: [Check; 24] = [
     (TWO_CLOCKS, "63491", 0, "feasible 63491\n"),
     (TWO_CLOCKS, "63492", 7, "limit cells 4000000\n"),
     (TWO_CLOCKS, "100000", 7, "limit cells 4000000\n"),
+    // 50 times 80,000 cells are as many as there may be.
+    (FIFTY_NODES, "79999", 0, "feasible 79999\n"),
+    (ONE_NODE_MORE, "79999", 7, "limit cells 4000000\n"),
     (TWO_SLOW_CLOCKS, "0", 7, "limit nodes 512\n"),
     (SECOND_AGENT, "0", 7, "limit nodes 512\n"),
     ("tick 10; $", "20", 1, "refused lex 1 at 9\n"),
     ("", "20", 1, "refused parse 1\n"),
+    (TOO_DEEP, "20", 1, "refused parse 2 at 66\n"),
     (COSTLY, "20", 1, "refused rule 12 at 26\n"),
     (
         "tick 10; clock c = 1 * tick; agent A on c budget 9 { body { } }",
@@ -123,7 +137,7 @@ fn a_check_tells_sizes_and_demand(rt: HostRuntime) -> Result<(), Fail> {
 // A graph: the program, and the status and the text that are wanted.
 type Drawing = (&'static str, u8, &'static str);
 
-const DRAWN: [Drawing; 11] = [
+const DRAWN: [Drawing; 13] = [
     (
         COUNTS,
         0,
@@ -155,6 +169,8 @@ const DRAWN: [Drawing; 11] = [
     (SECOND_AGENT, 7, "limit nodes 512\n"),
     (SIX_CLOCKS, 7, "limit nodes 512\n"),
     ("/* ", 1, "refused lex 4 at 0\n"),
+    ("", 1, "refused parse 1\n"),
+    (TOO_DEEP, 1, "refused parse 2 at 66\n"),
     (COSTLY, 1, "refused rule 12 at 26\n"),
 ];
 

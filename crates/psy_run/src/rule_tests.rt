@@ -603,7 +603,14 @@ fn counts_have_limits(rt: HostRuntime) -> Result<(), Fail> {
         let within = program_of(rt.alloc(), &counted, counted.many)?;
         compare(&rt, &words, within.as_bytes(), SOUND, 1, "not built\n")?;
         let beyond = program_of(rt.alloc(), &counted, counted.many + 1)?;
-        compare(&rt, &words, beyond.as_bytes(), SOUND, 7, counted.line)?;
+        let commands = [
+            words.as_slice(),
+            &["check", "prog.psy", "20"],
+            &["graph", "prog.psy"],
+        ];
+        for words in commands {
+            compare(&rt, words, beyond.as_bytes(), SOUND, 7, counted.line)?;
+        }
     }
     Ok(())
 }

@@ -327,6 +327,21 @@ fn a_program_has_at_most_so_many_bytes(rt: HostRuntime) -> Result<(), Fail> {
         let words = ["run", "prog.psy", "20"];
         compare(&rt, &words, program.as_slice(), SOUND, status, text)?;
     }
+    let mut long = Vec::from_slice(rt.alloc(), COUNTER.as_bytes())?;
+    long.resize(FILE_BYTES + 1, b' ')?;
+    for words in [
+        ["check", "prog.psy", "20"].as_slice(),
+        &["graph", "prog.psy"],
+    ] {
+        compare(
+            &rt,
+            words,
+            long.as_slice(),
+            SOUND,
+            7,
+            "limit program 262144\n",
+        )?;
+    }
     Ok(())
 }
 
