@@ -4,6 +4,7 @@ use Rattle.std.specs.Prelude.{◌≡◌, ℕ, List, ◌⊎◌}
 use Rattle.psy_run.specs.declared.refusal.File.{File}
 use Rattle.psy_run.specs.declared.refusal.Refusal.{Refusal}
 
+-- what a command, or some of its steps, comes to
 pub record Course (X : Type 0) : Type 1 where
   -- what it gives, where no step stops
   pub gives : X → Type 0
@@ -33,5 +34,6 @@ in_row {X = X} {Y = Y} c f = record {
 }
 
 infixl 10 ◌>>=◌
+-- the same as an operator, so that steps are written one below the other
 abbrev pub ◌>>=◌ : {X Y : Type 0} → Course X → (X → Course Y) → Course Y
 c >>= f = in_row c f

@@ -98,6 +98,7 @@ HasCells until graph = length graph.nodes * (until + 1) ≤ WINDOW_CELLS
 abbrev pub PassesCells : ℕ → Graph → Type 0
 PassesCells until graph = WINDOW_CELLS < length graph.nodes * (until + 1)
 
+-- All tables have at most so many.
 abbrev pub windowing : List Graph → ℕ → Course (Unit {0})
 windowing graphs until = unless (All (HasCells until) graphs) (Any (PassesCells until) graphs) Cells
 
