@@ -120,10 +120,11 @@ impl Queue {
         self.messages[place as usize].value
     }
 
-    /// How many messages are held.
+    /// How many messages are held. They stand in order.
     pub fn held(&self) -> u32
         ensures number { result ≡ length self.now.messages }
         ensures within { result ≤ self.now.size }
+        ensures order { AreInOrder self.now.messages }
     {
         self.messages.len() as u32
     }
