@@ -8,7 +8,7 @@ use Rattle.psy_make.specs.declared.agent.Agent.{Agent}
 abbrev pub next : ℕ → ℕ
 next x = (x * 1664525 + 1013904223) % 2 ^ 32
 
--- The i-th number; the 0th is the seed.
+-- The i-th number; the 0th is the one that is given.
 abbrev pub drawn : ℕ → ℕ → ℕ
 drawn seed zero = seed
 drawn seed (suc i) = next (drawn seed i)

@@ -35,7 +35,7 @@ fn draw_agent(generator: &mut Generator, number: u32, count: u32) -> Agent
     }
 }
 
-/// The agents that are made from the seed. The only error is want of memory.
+/// The agents that are made from this number. The only error is want of memory.
 pub fn draw_agents(alloc: Global, seed: u32) -> Result<Vec<Agent>, Memory>
     ensures { IfOk result (λ agents. agents.items ≡ agents_of seed) }
 {

@@ -4,7 +4,7 @@ ghost use Rattle.psy_make.specs.Generator.{next};
 /// A generator of numbers of 32 bits, each from the one before it. It gives the upper half of each.
 #[derive(Debug, Drop)]
 pub struct Generator {
-    /// The last number; the seed before the first.
+    /// The last number; the one that was given, before the first.
     pub x: u32,
 }
 

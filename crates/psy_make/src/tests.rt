@@ -71,7 +71,7 @@ fn numbers_are_drawn_one_from_the_other(rt: HostRuntime) {
     }
 }
 
-// Makes the text for the seed, and compares how many lines it has and what some of them are.
+// Makes the text for this number, and compares how many lines it has and what some of them are.
 fn compare(
     rt: &(impl Abort + AllocGlobal),
     seed: u32,

@@ -32,7 +32,7 @@ fn add_agents(text: &mut Vec<u8>, agents: &[Agent]) -> Result<(), Memory>
     Ok(())
 }
 
-/// The text of the program that is made from the seed. It has 8 to 16 agents, and is the same for the same seed. The
+/// The text of the program that is made from a number. It has 8 to 16 agents, and the same number gives the same text. The
 /// only error is want of memory.
 #[tactic(auto, unfolding(crate::specs::Text::made_text))]
 pub fn make(alloc: Global, seed: u32) -> Result<Vec<u8>, Memory>
