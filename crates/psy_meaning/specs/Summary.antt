@@ -1,0 +1,67 @@
+-- The summary of a run: how much slack its actions kept, and how much of each buffer was used.
+use Rattle.std.specs.Prelude.{ℕ, ◌+◌, ◌-◌, ◌*◌, ◌/◌, ◌==◌, nat_le, min, max, List, [], ◌∷◌, map, filter, length, Option, Some, None}
+use Rattle.std.specs.List.{flat_map, range_with_len}
+use Rattle.psy_budget.specs.Charges.{cycle_of}
+use Rattle.psy_clock.specs.Dates.{count}
+use Rattle.psy_code.specs.Views.{Looked}
+use Rattle.psy_meaning.specs.Actions.{Action, History, System, publishing}
+use Rattle.psy_meaning.specs.History.{history}
+use Rattle.psy_meaning.specs.Schedule.{Turn, cycle_of_unit, finish}
+use Rattle.psy_meaning.specs.Visible.{held}
+
+-- The lesser of a number and the least one so far
+abbrev pub lesser : ℕ → Option ℕ → Option ℕ
+lesser n None = Some n
+lesser n (Some least) = Some (min n least)
+
+-- The least of some numbers
+abbrev pub least_of : List ℕ → Option ℕ
+least_of [] = None
+least_of (n ∷ numbers) = lesser n (least_of numbers)
+
+-- The greater of a number and the greatest one so far
+abbrev pub greater : ℕ → Option ℕ → Option ℕ
+greater n None = Some n
+greater n (Some greatest) = Some (max n greatest)
+
+-- The greatest of some numbers
+abbrev pub greatest_of : List ℕ → Option ℕ
+greatest_of [] = None
+greatest_of (n ∷ numbers) = greater n (greatest_of numbers)
+
+-- The actions that are due by a date
+abbrev pub due_by : ℕ → List Action → List Action
+due_by until actions = filter (λ (r : Action). nat_le r.deadline until) actions
+
+-- The cycles from an action's finish to its deadline
+abbrev pub slack_of : ℕ → List (Option Turn) → Action → ℕ
+slack_of quantum turns r = r.deadline * quantum - finish r.agent r.number turns
+
+-- The least slack of some actions
+abbrev pub slack : ℕ → List (Option Turn) → List Action → Option ℕ
+slack quantum turns actions = least_of (map (slack_of quantum turns) actions)
+
+-- The age of the value that a look in this cycle finds: how many dates of the variable stand behind the one looked at
+abbrev pub age_in : System → Action → Looked → Option ℕ → List ℕ
+age_in s r look None = []
+age_in s r look (Some cycle) = (look.back + (count (publishing s look.variable) (cycle / s.unit.quantum) - count (publishing s look.variable) r.start)) ∷ []
+
+-- The ages of an action's looks at a variable that these cycles executed
+abbrev pub ages_of : System → List (Option Turn) → ℕ → Action → List ℕ
+ages_of s turns variable r =
+    flat_map (λ (look : Looked). age_in s r look (cycle_of_unit r.agent r.number (cycle_of (s.stalls r.agent) r.number look.number) turns))
+      (filter (λ (look : Looked). look.variable == variable) r.deeds.looks)
+
+-- How far back a variable's ring was reached for, in all looks that these cycles executed
+abbrev pub reach : System → List (Option Turn) → History → ℕ → Option ℕ
+reach s turns h variable =
+    greatest_of (flat_map (λ agent. flat_map (ages_of s turns variable) (h agent)) (range_with_len 0 (length s.unit.agents)))
+
+-- The greatest of some numbers, and 0 where there are none
+abbrev pub most_of : List ℕ → ℕ
+most_of [] = 0
+most_of (n ∷ numbers) = max n (most_of numbers)
+
+-- The greatest number of messages that a stream held at a date up to this one
+abbrev pub most_held : System → ℕ → ℕ → ℕ
+most_held s until stream = most_of (map (λ date. length (held s (history s (date + 1)) stream date)) (range_with_len 0 (until + 1)))
