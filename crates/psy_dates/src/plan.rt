@@ -1,0 +1,28 @@
+//! What a run is given.
+use psy_base::Items;
+use psy_code::Code;
+use psy_tree::Unit;
+
+/// How many places each buffer has: the ring of each variable, the queue of each stream, the outbox of each agent.
+#[derive(Debug, Drop)]
+pub struct Sizes {
+    pub rings: Items<u32>,
+    pub queues: Items<u32>,
+    pub outboxes: Items<u32>,
+}
+
+/// A program to run, with its code, by agent and point the points that may follow, its buffers, and the last date of the run.
+#[derive(Debug, Drop)]
+pub struct Plan {
+    pub unit: Unit,
+    pub code: Code,
+    pub nexts: Items<Items<Items<u32>>>,
+    pub sizes: Sizes,
+    pub until: u32,
+}
+
+/// By variable, the values of its list; empty where it has none.
+#[derive(Debug, Drop)]
+pub struct Inputs {
+    pub lists: Items<Items<i32>>,
+}

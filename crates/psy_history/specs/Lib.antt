@@ -1,0 +1,4 @@
+pub mod Compiled
+pub mod Regular
+pub mod Likeness
+pub mod Scheduled

@@ -1,0 +1,81 @@
+-- What the actions of a history keep: each begins where the one before it ended, at a date that the agent's graph knows, and its
+-- code runs to an end or a trap.
+use Rattle.std.specs.Prelude.{◌≡◌, ◌≢◌, ℕ, suc, ◌<◌, ◌≤◌, List, [], ◌∷◌, length, Option, Some, None, IsSome, slice_get, ⊤}
+use Rattle.std.specs.List.{All, Contains}
+use Rattle.psy_code.specs.declared.code.AgentCode.{AgentCode}
+use Rattle.psy_code.specs.declared.code.Code.{Code}
+use Rattle.psy_code.specs.Execution.{RunState, Running, RanTo, Stuck, call_of, copy_of, next_of as next_machine, run_code, run_one}
+use Rattle.psy_code.specs.Lasting.{IsOver}
+use Rattle.psy_code.specs.Views.{View}
+use Rattle.psy_tree.specs.declared.unit.VarDecl.{VarDecl}
+use Rattle.psy_meaning.specs.Actions.{Action, Next, System, Verdict, Done, next_of, timing}
+use Rattle.psy_meaning.specs.Alike.{started}
+use Rattle.psy_meaning.specs.Executors.{carried_by, machine_at}
+use Rattle.psy_meaning.specs.History.{action_of, history}
+use Rattle.psy_meaning.specs.Timing.{MayStart, budget_at, deadline, end_date, following}
+
+-- An action of the agent: it may start there and then, has that point's budget and deadline, and ends at a point that may follow.
+pub record IsRegular (s : System) (agent : ℕ) (r : Action) : Type 0 where
+  pub agent_is : r.agent ≡ agent
+  pub known : agent < length s.unit.agents
+  pub starts : MayStart (timing s agent) r.point r.start
+  pub budget : r.budget ≡ budget_at (timing s agent) r.point
+  pub deadline : r.deadline ≡ deadline (timing s agent) r.point r.start
+  pub due : r.start < r.deadline
+  -- it costs something, and may
+  pub granted : 1 ≤ r.budget
+  pub charged : 1 ≤ r.charge
+  pub ends : (point end : ℕ) → r.verdict ≡ Done point end → Contains (following (timing s agent) r.point) point × (end ≡ end_date (timing s agent) r.start point) × (r.deadline ≤ end)
+
+-- The action was started at one of the first dates, behind these actions of the agent, where the next one was to start.
+pub record WasStarted (s : System) (dates agent : ℕ) (before : List Action) (r : Action) : Type 0 where
+  pub next : Next
+  pub is_next : next_of s agent before ≡ Some next
+  pub at : next.start < dates
+  pub made : r ≡ action_of s (history s next.start) agent next
+  pub number : r.number ≡ length before
+
+-- So was each of these actions, the last of which comes first.
+abbrev pub WereStarted : System → ℕ → ℕ → List Action → Type 0
+WereStarted s dates agent [] = ⊤
+WereStarted s dates agent (r ∷ before) = WasStarted s dates agent before r × WereStarted s dates agent before
+
+-- The actions of an agent that are started at the first dates
+pub record AreRegular (s : System) (dates agent : ℕ) (actions : List Action) : Type 0 where
+  pub were_started : WereStarted s dates agent actions
+  pub each : All (IsRegular s agent) actions
+  -- no more than one a date
+  pub few : length actions ≤ dates
+
+-- A system whose actions are regular: where it begins, and at each date.
+pub record IsLawful (s : System) : Type 0 where
+  pub opening : (agent : ℕ) (n : Next) → s.opening.starts agent ≡ Some n → (agent < length s.unit.agents) × MayStart (timing s agent) n.point n.start × (n.number ≡ 0)
+  pub actions : (dates agent : ℕ) → AreRegular s dates agent (history s dates agent)
+
+-- ---- the code of an action
+
+-- An action of the code that has just begun
+abbrev pub begun_by : AgentCode → Action → RunState
+begun_by its r = started (machine_at its r.point r.before) r.view
+
+-- After so many instructions the action goes on: its next instruction can be executed, whatever there is to see, and asks nothing.
+pub record GoesAlone (code : Code) (its : AgentCode) (start : RunState) (n : ℕ) : Type 0 where
+  pub state : RunState
+  pub running : run_code code its start n ≡ Running state
+  pub next : run_code code its start (suc n) ≡ run_one code its state
+  pub able : next_machine code its state.view state.machine ≢ Stuck
+  pub same : (view : View) → next_machine code its view state.machine ≡ next_machine code its state.view state.machine
+  pub alone : call_of code state.machine ≡ None
+
+-- The code of an action runs to an end or a trap, whatever its budget, and asks nothing on the way. Where it ends, the machine
+-- stands at the point reached, as the next action begins, with copies of what the agent owns.
+pub record RunsAlone (s : System) (code : Code) (r : Action) : Type 0 where
+  pub its : AgentCode
+  pub of_code : slice_get code.agents r.agent ≡ Some its
+  pub steps : ℕ
+  pub last : RunState
+  pub over : IsOver (run_code code its (begun_by its r) steps) last
+  pub some : 1 ≤ steps
+  pub on_the_way : (n : ℕ) → n < steps → GoesAlone code its (begun_by its r) n
+  pub stands : (point : ℕ) → run_code code its (begun_by its r) steps ≡ RanTo point last → last.machine ≡ machine_at its point (carried_by last.machine)
+  pub copies : (variable : ℕ) (v : VarDecl) → slice_get s.unit.variables variable ≡ Some v → v.owner ≡ Some r.agent → IsSome (copy_of variable last.machine.copies)
