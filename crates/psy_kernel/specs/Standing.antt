@@ -1,39 +1,140 @@
--- Where a run stands, and what a kernel's fields stand for there.
-use Rattle.std.specs.Prelude.{zero, suc, ◌≢◌, ℕ, ◌+◌, ◌*◌, ◌==◌, if◌then◌else◌, length, Option, None, ℤ}
-use Rattle.psy_kernel.specs.declared.first.First.{First}
-use Rattle.psy_kernel.specs.declared.stage.Stage.{Stage}
-use Rattle.psy_kernel.specs.declared.stage.Stage.TheVariants.{DateDue, CycleDue, Over}
-use Rattle.psy_kernel.specs.Meaning.{date_of, published, due_by, least_slack}
+-- When a kernel stands for the dated history and the schedule.
+use Rattle.std.specs.Prelude.{◌≡◌, ℕ, zero, suc, ◌+◌, ◌-◌, ◌*◌, ◌<◌, ◌≤◌, Bool, true, false, not, if◌then◌else◌, List, [], ◌∷◌, ◌++◌, filter, length, take, Option, Some, None, slice_get, ⊤}
+use Rattle.std.specs.List.{All, flat_map, range_with_len}
+use Rattle.psy_budget.specs.Charges.{Charged, ticked}
+use Rattle.psy_code.specs.declared.code.AgentCode.{AgentCode}
+use Rattle.psy_code.specs.declared.code.Code.{Code}
+use Rattle.psy_code.specs.Execution.{RunState, Running, run_code}
+use Rattle.psy_machine.specs.Stepping.{AgentMachine, IsNew, IsOf}
+use Rattle.psy_ready.specs.Choice.{IsPick, pending_deadline}
+use Rattle.psy_meaning.specs.Actions.{Action, History, System, Verdict, Done}
+use Rattle.psy_meaning.specs.Executors.{agent_code_at, machine_at}
+use Rattle.psy_meaning.specs.History.{history}
+use Rattle.psy_meaning.specs.Lines.{Event, events_in, publications, stops_of}
+use Rattle.psy_meaning.specs.Schedule.{Turn, is_pending, units}
+use Rattle.psy_meaning.specs.Summary.{due_by, slack}
+use Rattle.psy_history.specs.Compiled.{AreInputs}
+use Rattle.psy_history.specs.Regular.{begun_by}
+use Rattle.psy_history.specs.Scheduled.{turns_of}
+use Rattle.psy_dates.specs.Plans.{IsPlan}
+use Rattle.psy_dates.specs.Standing.{SharedStands, dates_done}
+use Rattle.psy_kernel.specs.declared.kernel.Figure.{Figure}
+use Rattle.psy_kernel.specs.declared.kernel.Kernel.TheInside.{Inside}
+use Rattle.psy_kernel.specs.declared.script.Order.{Order}
+use Rattle.psy_kernel.specs.Progress.{Progress, order, system}
+use Rattle.psy_kernel.specs.Scripts.{IsScript}
 
--- a program with its last date, and how many dates and cycles of its run were done
-pub record Progress : Type 0 where
-  pub program : First
-  pub dates : ℕ
-  pub cycles : ℕ
+-- How far the run is
+abbrev pub progress_of : Inside → Progress
+progress_of k = record {
+  plan = k.plan;
+  inputs = k.shared.inputs.lists;
+  script = k.script;
+  dates = dates_done k.shared.date;
+  cycles = k.cycles;
+  given = k.given;
+}
 
--- a run whose last date was done
-abbrev pub ended : First → Progress
-ended program = record { program = program; dates = program.until + 1; cycles = program.until * program.quantum }
+-- ---- an agent
 
--- what is due next: date t once the dates before it and the cycles before t * Q were done
-abbrev pub stage_of : Progress → Stage
-stage_of progress =
-    if progress.dates == progress.program.until + 1 then Over
-    else if progress.cycles == progress.dates * progress.program.quantum then DateDue progress.dates
-    else CycleDue progress.cycles
+-- The charge of an action that had so many cycles
+abbrev pub charge_after : System → Action → ℕ → Charged
+charge_after s r had = ticked (record { stalls = s.stalls r.agent; started = r.number + 1; budget = r.budget; consumed = 0; paid = 0 }) had
 
--- the value published at the date done last
-abbrev pub value_of : Progress → Option ℤ
-value_of progress = elim progress.dates [ zero ↦ None | suc date ↦ published progress.program date ]
+-- The charge of an agent with these actions
+abbrev pub ChargeStands : System → List (Option Turn) → ℕ → List Action → Charged → Type 0
+ChargeStands s turns agent [] charge = charge ≡ record { stalls = s.stalls agent; started = 0; budget = 0; consumed = 0; paid = 0 }
+ChargeStands s turns agent (r ∷ before) charge = charge ≡ charge_after s r (units r.agent r.number turns)
 
--- the date done last is none of the clock's, or none was done
-abbrev pub IsOffClock : Progress → Type 0
-IsOffClock progress = (n : ℕ) → date_of progress.program n + 1 ≢ progress.dates
+-- The machine of an action that is pending is where its code is after the instructions that its cycles paid.
+abbrev pub IsRunning : Code → Action → ℕ → AgentMachine → Type 0
+IsRunning code r paid machine = (state : RunState) × (run_code code (agent_code_at code r.agent) (begun_by (agent_code_at code r.agent) r) paid ≡ Running state) × (state.machine ≡ machine.machine)
 
--- how many actions were due by the date done last
-abbrev pub count_of : Progress → ℕ
-count_of progress = elim progress.dates [ zero ↦ 0 | suc date ↦ length (due_by progress.program date) ]
+-- The machine behind an action that reached a point stands there, and carries what the agent does.
+abbrev pub IsAtEnd : Code → Action → Verdict → AgentMachine → Type 0
+IsAtEnd code r (Done point end) machine = machine.machine ≡ machine_at (agent_code_at code r.agent) point r.after
+IsAtEnd code r verdict machine = ⊤
 
--- the least slack of these, and None where there is none
-abbrev pub least_slack_of : Progress → Option ℕ
-least_slack_of progress = elim progress.dates [ zero ↦ None | suc date ↦ least_slack progress.program date ]
+-- The machine of an agent's last action, pending or not
+abbrev pub MachineIn : System → Code → List (Option Turn) → Action → Bool → AgentMachine → Type 0
+MachineIn s code turns r true machine = IsRunning code r (charge_after s r (units r.agent r.number turns)).paid machine
+MachineIn s code turns r false machine = IsAtEnd code r r.verdict machine
+
+-- The machine of an agent with these actions
+abbrev pub MachineStands : System → Code → List (Option Turn) → ℕ → List Action → AgentMachine → Type 0
+MachineStands s code turns agent [] machine = IsNew code agent machine
+MachineStands s code turns agent (r ∷ before) machine = MachineIn s code turns r (is_pending turns r) machine
+
+-- The deadline of an agent's last action, where it is pending
+abbrev pub deadline_of : List (Option Turn) → List Action → Option ℕ
+deadline_of turns [] = None
+deadline_of turns (r ∷ before) = if is_pending turns r then Some r.deadline else None
+
+-- The actions that are due by a date and are finished or stopped
+abbrev pub settled : List (Option Turn) → ℕ → List Action → List Action
+settled turns until actions = filter (λ r. not (is_pending turns r)) (due_by until actions)
+
+-- What an agent has, where its actions are these
+pub record AgentStands (s : System) (code : Code) (turns : List (Option Turn)) (until agent : ℕ) (actions : List Action) (charge : Charged) (machine : AgentMachine) (waits : Option ℕ) (figure : Figure) : Type 0 where
+  pub charged : ChargeStands s turns agent actions charge
+  pub is_agent : machine.agent ≡ agent
+  pub of_code : IsOf code machine
+  pub executes : MachineStands s code turns agent actions machine
+  pub ready : waits ≡ deadline_of turns actions
+  pub counted : figure.count ≡ length (settled turns until actions)
+  pub slacked : figure.slack ≡ slack s.unit.quantum turns (settled turns until actions)
+
+-- ---- the order and the choice
+
+-- So many of the orders have come into force by a cycle, and the others haven't.
+pub record AreInForce (orders : List Order) (passed cycle : ℕ) : Type 0 where
+  pub within : passed ≤ length orders
+  pub come : (place : ℕ) (o : Order) → slice_get orders place ≡ Some o → place < passed → o.cycle ≤ cycle
+  pub ahead : (place : ℕ) (o : Order) → slice_get orders place ≡ Some o → passed ≤ place → cycle < o.cycle
+
+-- The agent that is chosen for a cycle is the one of the earliest deadline; none where nobody waits.
+abbrev pub IsChosen : List (Option ℕ) → List ℕ → Option ℕ → Type 0
+IsChosen ready order None = (agent : ℕ) → pending_deadline ready agent ≡ None
+IsChosen ready order (Some agent) = IsPick ready order agent
+
+-- ---- lines
+
+-- What is told of a date at a place: first the stops by agent, then the publications by variable
+abbrev pub told_from : System → ℕ → ℕ → List Event
+told_from s date place =
+    let h = history s (date + 1) in
+    flat_map (λ agent. stops_of date (h agent)) (take place (range_with_len 0 (length s.unit.agents)))
+    ++ flat_map (publications s h date) (take (place - length s.unit.agents) (range_with_len 0 (length s.unit.variables)))
+
+-- How many lines were given of the last of so many dates
+abbrev pub given_at : System → ℕ → ℕ → ℕ
+given_at s zero place = 0
+given_at s (suc date) place = length (told_from s date place)
+
+-- ---- the kernel
+
+-- The cycles done lie between the dates done and the next one.
+abbrev pub InTick : ℕ → ℕ → ℕ → ℕ → Type 0
+InTick quantum until zero cycles = cycles ≡ 0
+InTick quantum until (suc date) cycles = (date ≤ until) × (date * quantum ≤ cycles) × (cycles ≤ (date + 1) * quantum) × (date ≡ until → cycles ≡ date * quantum)
+
+-- The kernel stands for the history of its plan's code, with its inputs and script, up to the date done last, and for the schedule
+-- before the next cycle.
+pub record KernelStands (k : Inside) : Type 0 where
+  pub plan : IsPlan k.plan
+  pub inputs : AreInputs k.plan.unit k.shared.inputs.lists
+  pub script : IsScript k.plan.unit k.script
+  pub in_tick : InTick k.plan.unit.quantum k.plan.until (dates_done k.shared.date) k.cycles
+  pub shared : SharedStands (system (progress_of k)) (turns_of (system (progress_of k)) (order (progress_of k)) k.cycles) (dates_done k.shared.date) k.shared
+  pub machined : length k.machines.items ≡ length k.plan.unit.agents
+  pub charges : length k.charges.items ≡ length k.plan.unit.agents
+  pub waiting : length k.ready ≡ length k.plan.unit.agents
+  pub figured : length k.figures.items ≡ length k.plan.unit.agents
+  pub agents : (agent : ℕ) (machine : AgentMachine) (charge : Charged) (waits : Option ℕ) (figure : Figure)
+      → slice_get k.machines.items agent ≡ Some machine → slice_get k.charges.items agent ≡ Some charge → slice_get k.ready agent ≡ Some waits → slice_get k.figures.items agent ≡ Some figure
+      → AgentStands (system (progress_of k)) k.plan.code (turns_of (system (progress_of k)) (order (progress_of k)) k.cycles) k.plan.until agent (history (system (progress_of k)) (dates_done k.shared.date) agent) charge machine waits figure
+  pub all : k.declared.items ≡ range_with_len 0 (length k.plan.unit.agents)
+  pub orders : AreInForce k.script.orders k.passed k.cycles
+  pub choice : k.stale ≡ false → IsChosen k.ready (order (progress_of k) k.cycles) k.chosen
+  pub place : k.place ≤ length k.plan.unit.agents + length k.plan.unit.variables
+  pub given : k.given ≡ given_at (system (progress_of k)) (dates_done k.shared.date) k.place

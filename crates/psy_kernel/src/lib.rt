@@ -1,12 +1,12 @@
-//! The kernel of a program with one clock, one agent and one temporal variable: it does dates and
-//! cycles one by one, and knows what was published and how much slack was left.
+//! The kernel: it runs the code of a program's agents under earliest deadline first and budgets, one date or processor cycle after the
+//! other, and tells what is published at each date.
 #![tactic(auto)]
 
-mod first;
 mod kernel;
-pub mod laws;
+mod script;
 mod stage;
 
-pub use first::First;
 pub use kernel::Kernel;
+pub use psy_budget::Stall;
+pub use script::{Order, Script};
 pub use stage::Stage;

@@ -1,0 +1,72 @@
+-- How far a run is, what is due next, and what was told.
+use Rattle.std.specs.Prelude.{ℕ, zero, suc, ◌+◌, ◌*◌, ◌==◌, if◌then◌else◌, List, [], map, ℤ}
+use Rattle.psy_meaning.specs.Actions.{System}
+use Rattle.psy_meaning.specs.Lines.{Event, events}
+use Rattle.psy_dates.specs.declared.plan.Plan.{Plan}
+use Rattle.psy_dates.specs.Plans.{system_of}
+use Rattle.psy_kernel.specs.declared.script.Script.{Script}
+use Rattle.psy_kernel.specs.declared.stage.Stage.{Stage}
+use Rattle.psy_kernel.specs.declared.stage.Stage.TheVariants.{DateDue, CycleDue, Over}
+use Rattle.psy_kernel.specs.Scripts.{order_of, stalls_of}
+use Rattle.psy_kernel.specs.Texts.{lines_of, summary_of}
+
+-- A run of a plan with these inputs and this script
+pub record Progress : Type 0 where
+  pub plan : Plan
+  pub inputs : List (List ℤ)
+  pub script : Script
+  -- how many dates and cycles were done
+  pub dates : ℕ
+  pub cycles : ℕ
+  -- how many lines of the date done last were given
+  pub given : ℕ
+
+-- The history that the run stands for
+abbrev pub system : Progress → System
+system p = system_of p.plan p.inputs (stalls_of p.script)
+
+-- The order of ties, by cycle
+abbrev pub order : Progress → ℕ → List ℕ
+order p = order_of p.plan.unit p.script
+
+-- Nothing was done.
+abbrev pub booted : Plan → List (List ℤ) → Script → Progress
+booted plan inputs script = record { plan = plan; inputs = inputs; script = script; dates = 0; cycles = 0; given = 0 }
+
+-- What is due next: nothing where date `until` was done; a date where all cycles before it were; else a cycle.
+abbrev pub stage_of : Progress → Stage
+stage_of p = if p.dates == p.plan.until + 1 then Over else if p.cycles == p.dates * p.plan.unit.quantum then DateDue p.dates else CycleDue p.cycles
+
+-- One date more, none of whose lines were given
+abbrev pub after_date : Progress → Progress
+after_date p = record p { dates = p.dates + 1; given = 0 }
+
+-- One cycle more
+abbrev pub after_cycle : Progress → Progress
+after_cycle p = record p { cycles = p.cycles + 1 }
+
+-- One line more
+abbrev pub after_line : Progress → Progress
+after_line p = record p { given = p.given + 1 }
+
+-- What is told of the last of so many dates; nothing before the first
+abbrev pub told_at : System → ℕ → List Event
+told_at s zero = []
+told_at s (suc date) = events s date
+
+-- What is told of the date done last
+abbrev pub told : Progress → List Event
+told p = told_at (system p) p.dates
+
+-- The lines of the last of so many dates
+abbrev pub lines_at : System → ℕ → List (List ℕ)
+lines_at s zero = []
+lines_at s (suc date) = lines_of s date
+
+-- The lines of the date done last
+abbrev pub lines_told : Progress → List (List ℕ)
+lines_told p = lines_at (system p) p.dates
+
+-- The lines of the summary
+abbrev pub summary_told : Progress → List (List ℕ)
+summary_told p = summary_of (system p) (order p) p.plan.sizes p.plan.until

@@ -1,0 +1,62 @@
+-- The text of a run: its lines date by date, and the summary.
+use Rattle.std.specs.Prelude.{ℕ, ◌+◌, ◌*◌, List, [], ◌∷◌, ◌++◌, map, length, get_or, Option, Some, None}
+use Rattle.std.specs.List.{flat_map, range_with_len}
+use Rattle.psy_log.specs.Forms.{stop_overrun_line, stop_trap_line, value_line, message_line, end_line, agent_line, variable_line, stream_line}
+use Rattle.psy_tree.specs.declared.unit.Unit.{Unit as Whole}
+use Rattle.psy_meaning.specs.Actions.{History, System, stream_of, variable_of}
+use Rattle.psy_meaning.specs.Executors.{agent_at}
+use Rattle.psy_meaning.specs.History.{history}
+use Rattle.psy_meaning.specs.Lines.{Event, Stop, Publish, Show, events}
+use Rattle.psy_meaning.specs.Schedule.{Turn}
+use Rattle.psy_meaning.specs.Summary.{due_by, most_held, reach, slack}
+use Rattle.psy_history.specs.Scheduled.{turns_of}
+use Rattle.psy_dates.specs.declared.plan.Sizes.{Sizes}
+
+-- The line that tells an event of a date
+abbrev pub event_line : System → ℕ → Event → List ℕ
+event_line s date (Stop agent None) = stop_overrun_line date (agent_at s.unit agent).name
+event_line s date (Stop agent (Some kind)) = stop_trap_line date (agent_at s.unit agent).name kind
+event_line s date (Publish variable value) = value_line date (variable_of s variable).name value
+event_line s date (Show stream value) = message_line date (stream_of s stream).name value
+
+-- The lines of a date
+abbrev pub lines_of : System → ℕ → List (List ℕ)
+lines_of s date = map (event_line s date) (events s date)
+
+-- An agent's line: how many of its actions are due by the last date, and the least slack among them
+abbrev pub agent_end : System → List (Option Turn) → ℕ → ℕ → List ℕ
+agent_end s turns until agent =
+    let due = due_by until (history s (until + 1) agent) in
+    agent_line (agent_at s.unit agent).name (length due) (slack s.unit.quantum turns due)
+
+-- A variable's line: the size of its ring, and how far back it was reached for
+abbrev pub variable_end : System → List (Option Turn) → Sizes → ℕ → ℕ → List ℕ
+variable_end s turns sizes until variable = variable_line (variable_of s variable).name (get_or sizes.rings variable 0) (reach s turns (history s (until + 1)) variable)
+
+-- A stream's line: the size of its queue, and the most messages that it held
+abbrev pub stream_end : System → Sizes → ℕ → ℕ → List ℕ
+stream_end s sizes until stream = stream_line (stream_of s stream).name (get_or sizes.queues stream 0) (most_held s until stream)
+
+-- The lines of the summary, where the cycles up to the last date went to these turns
+abbrev pub summary_by : System → List (Option Turn) → Sizes → ℕ → List (List ℕ)
+summary_by s turns sizes until =
+    end_line until
+    ∷ (map (agent_end s turns until) (range_with_len 0 (length s.unit.agents))
+    ++ (map (variable_end s turns sizes until) (range_with_len 0 (length s.unit.variables))
+    ++ map (stream_end s sizes until) (range_with_len 0 (length s.unit.streams))))
+
+-- The lines of the summary
+abbrev pub summary_of : System → (ℕ → List ℕ) → Sizes → ℕ → List (List ℕ)
+summary_of s order sizes until = summary_by s (turns_of s order (until * s.unit.quantum)) sizes until
+
+-- Lines one behind the other
+abbrev pub text_of : List (List ℕ) → List ℕ
+text_of = flat_map (λ line. line)
+
+-- The text of the first dates, of which there are so many: 0, 1 and so on
+abbrev pub log_of : System → ℕ → List ℕ
+log_of s dates = flat_map (λ date. text_of (lines_of s date)) (range_with_len 0 dates)
+
+-- The whole text of a run up to a date
+abbrev pub run_text : System → (ℕ → List ℕ) → Sizes → ℕ → List ℕ
+run_text s order sizes until = log_of s (until + 1) ++ text_of (summary_of s order sizes until)
