@@ -1,0 +1,3 @@
+pub mod GivenHistory
+pub mod Turns
+pub mod Given
