@@ -1,3 +1,5 @@
 pub mod GivenHistory
 pub mod Turns
 pub mod Given
+pub mod Earlier
+pub mod TurnsKept

@@ -1,7 +1,7 @@
 -- What a cycle goes to: a pending action, of those started by then.
-use Rattle.std.proofs.Common.{◌≡◌, ◌⊎◌, ℕ, zero, suc, ◌+◌, ◌/◌, ◌<◌, ◌≤◌, List, [], ◌∷◌, length, refl, sym, ap, ◌∙◌, subst, inl, inr, arith}
-use Rattle.std.specs.Prelude.{Bool, true, false, ◌==◌, ◌&&◌, nat_le, nat_lt, if◌then◌else◌, filter, Option, Some, None}
-use Rattle.std.specs.List.{Contains, flat_map}
+use Rattle.std.proofs.Common.{◌≡◌, ℕ, zero, suc, ◌+◌, ◌/◌, ◌≤◌, List, [], ◌∷◌, refl, sym, ◌∙◌, subst, inl, inr, arith}
+use Rattle.std.specs.Prelude.{true, false, ◌==◌, nat_le, filter, Option, Some, None}
+use Rattle.std.specs.List.{Contains}
 use Rattle.std.proofs.lemmas.Bool.{and_parts, cases_Bool, cases_lt, eqb-true, ltb-false, le-ltb}
 use Rattle.std.proofs.lemmas.List.Elements.{All-contains, All-contains_itself, All-filter, filter_passes, Contains-append_cases}
 use Rattle.psy_meaning.specs.Actions.{Action, History, System}
@@ -9,7 +9,7 @@ use Rattle.psy_meaning.specs.History.{history}
 use Rattle.psy_meaning.specs.Schedule.{Turn, is_of, is_pending, pending, sooner, soonest, turn_of, units, work}
 use Rattle.psy_history.specs.Regular.{IsLawful}
 use Rattle.psy_history.specs.Scheduled.{turns_of}
-use Rattle.psy_history.proofs.GivenHistory.{contains_behind, contains_front, contains_none, front_or_behind, one_of_number, regular_of}
+use Rattle.psy_history.proofs.GivenHistory.{contains_behind, contains_front, contains_none, one_of_number, regular_of}
 
 -- ---- the soonest of the pending actions is one of them
 
@@ -26,20 +26,20 @@ contains_soonest (p ∷ actions) r e = of (soonest actions) (contains_soonest ac
     of : (found : Option Action) → ((q : Action) → found ≡ Some q → Contains actions q) → sooner p found ≡ Some r → Contains (p ∷ actions) r
     of None there e = subst (Contains (p ∷ actions)) (some_same p r e) (contains_front p actions)
     of (Some q) there e = elim (cases_Bool (nat_le p.deadline q.deadline)) [
-        | inl t ↦ (let is : p ≡ r = some_same p r (sym (rw t refl) ∙ e) in subst (Contains (p ∷ actions)) is (contains_front p actions))
-        | inr f ↦ contains_behind p actions r (there r (sym (rw f refl) ∙ e))
-      ]
+      | inl t ↦ (let is : p ≡ r = some_same p r (sym (rw t refl) ∙ e) in subst (Contains (p ∷ actions)) is (contains_front p actions))
+      | inr f ↦ contains_behind p actions r (there r (sym (rw f refl) ∙ e))
+    ]
 
 pub contains_pending : (order : List ℕ) (turns : List (Option Turn)) (h : History) (r : Action) → Contains (pending order turns h) r → (agent : ℕ) × Contains (h agent) r × (is_pending turns r ≡ true)
 contains_pending [] turns h r c = absurd (contains_none r c)
 contains_pending (agent ∷ order) turns h r c = elim (Contains-append_cases (filter (is_pending turns) (h agent)) (pending order turns h) r c) [
-    | inl here ↦ (
-        agent,
-        All-contains (Contains (h agent)) (filter (is_pending turns) (h agent)) r (All-filter (is_pending turns) (Contains (h agent)) (h agent) (All-contains_itself (h agent))) here,
-        All-contains (λ q. is_pending turns q ≡ true) (filter (is_pending turns) (h agent)) r (filter_passes (is_pending turns) (h agent)) here
-      )
-    | inr there ↦ contains_pending order turns h r there
-  ]
+  | inl here ↦ (
+    agent,
+    All-contains (Contains (h agent)) (filter (is_pending turns) (h agent)) r (All-filter (is_pending turns) (Contains (h agent)) (h agent) (All-contains_itself (h agent))) here,
+    All-contains (λ q. is_pending turns q ≡ true) (filter (is_pending turns) (h agent)) r (filter_passes (is_pending turns) (h agent)) here,
+  )
+  | inr there ↦ contains_pending order turns h r there
+]
 
 -- ---- the next cycle
 
@@ -74,12 +74,12 @@ module _ (s : System) (lawful : IsLawful s) (order : ℕ → List ℕ) (cycles :
 pub units_rise : (s : System) (order : ℕ → List ℕ) (agent number cycles more : ℕ) → cycles ≤ more → units agent number (turns_of s order cycles) ≤ units agent number (turns_of s order more)
 units_rise s order agent number cycles zero l = (let same : cycles ≡ 0 = omega (arith, l) in subst (λ n. units agent number (turns_of s order n) ≤ 0) (sym same) (omega arith))
 units_rise s order agent number cycles (suc more) l = elim (cases_lt more cycles) [
-    | inl above ↦ (let same : cycles ≡ suc more = omega (arith, l, above) in subst (λ n. units agent number (turns_of s order cycles) ≤ units agent number (turns_of s order n)) same (omega arith))
-    | inr below ↦ elim (cases_Bool (is_of agent number (next_turn s order more))) [
-      | inl t ↦ (let rest = units_rise s order agent number cycles more below in rw t (omega (arith, rest)))
-      | inr f ↦ (let rest = units_rise s order agent number cycles more below in rw f rest)
-    ]
+  | inl above ↦ (let same : cycles ≡ suc more = omega (arith, l, above) in subst (λ n. units agent number (turns_of s order cycles) ≤ units agent number (turns_of s order n)) same (omega arith))
+  | inr below ↦ elim (cases_Bool (is_of agent number (next_turn s order more))) [
+    | inl t ↦ (let rest = units_rise s order agent number cycles more below in rw t (omega (arith, rest)))
+    | inr f ↦ (let rest = units_rise s order agent number cycles more below in rw f rest)
   ]
+]
 
 -- an action that is finished stays so
 pub stays_finished : (s : System) (order : ℕ → List ℕ) (cycles more : ℕ) (r : Action) → cycles ≤ more → is_pending (turns_of s order cycles) r ≡ false → is_pending (turns_of s order more) r ≡ false
