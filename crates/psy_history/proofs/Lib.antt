@@ -1,0 +1,3 @@
+mod PathShifts
+mod Edges
+mod Bounds

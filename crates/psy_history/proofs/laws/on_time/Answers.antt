@@ -1,0 +1,8 @@
+use Rattle.psy_history.proofs.Bounds.{covered_start}
+use Rattle.psy_history.proofs.laws.on_time.Goals as goal
+
+pub returns-clause-due : goal.returns-clause-due
+returns-clause-due c = ?
+
+pub returns-clause-earlier : goal.returns-clause-earlier
+returns-clause-earlier c = ?
