@@ -1,3 +1,6 @@
 mod PathShifts
 mod Edges
 mod Bounds
+mod Totals
+mod Soonest
+mod NextStarts

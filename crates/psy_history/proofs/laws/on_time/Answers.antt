@@ -1,4 +1,7 @@
 use Rattle.psy_history.proofs.Bounds.{covered_start}
+use Rattle.psy_history.proofs.Totals.{total}
+use Rattle.psy_history.proofs.Soonest.{soonest_is}
+use Rattle.psy_history.proofs.NextStarts.{older_due}
 use Rattle.psy_history.proofs.laws.on_time.Goals as goal
 
 pub returns-clause-due : goal.returns-clause-due
