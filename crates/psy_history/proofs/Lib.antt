@@ -4,3 +4,5 @@ mod Bounds
 mod Totals
 mod Soonest
 mod NextStarts
+mod KeptCycles
+mod KeptDates

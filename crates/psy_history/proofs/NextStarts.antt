@@ -53,7 +53,7 @@ module _ (s : System) (lawful : IsLawful s) where
         omega (arith, regular.due, starts.1, at, ends.2))
   ]
 
-  ends_before : (dates agent : ℕ) (actions : List Action) → WereStarted s dates agent actions → All (IsRegular s agent) actions → (n : Next) → next_of s agent actions ≡ Some n → (x : Action) → Contains actions x → x.deadline ≤ n.start
+  pub ends_before : (dates agent : ℕ) (actions : List Action) → WereStarted s dates agent actions → All (IsRegular s agent) actions → (n : Next) → next_of s agent actions ≡ Some n → (x : Action) → Contains actions x → x.deadline ≤ n.start
   ends_before dates agent [] were all n is x (k, l, e) = absurd (omega (arith, l))
   ends_before dates agent (r ∷ before) (was, were) all n is x c =
       let regular = All-head (IsRegular s agent) r before all in
