@@ -3,9 +3,9 @@ use Rattle.std.proofs.Common.{◌≡◌, ℕ, zero, suc, ◌+◌, ◌-◌, ◌<�
 use Rattle.std.specs.List.{Contains}
 use Rattle.std.proofs.lemmas.Option.{slice_get-get_or, slice_get_within}
 use Rattle.psy_base.specs.declared.edge.Edge.{Edge}
-use Rattle.psy_meaning.specs.Actions.{Action, Verdict, Done, System, timing}
+use Rattle.psy_meaning.specs.Actions.{Action, Done, System, timing}
 use Rattle.psy_meaning.specs.Graph.{Spot, IsEdgeOf, IsGraph, spot_at}
-use Rattle.psy_meaning.specs.Timing.{MayStart, budget_at, deadline, end_date, following, least, later}
+use Rattle.psy_meaning.specs.Timing.{MayStart, deadline, end_date, following, least, later}
 use Rattle.psy_history.specs.Compiled.{AreEdgesOf}
 use Rattle.psy_history.specs.Regular.{IsRegular}
 
@@ -60,8 +60,7 @@ module _ (s : System) (graphs : List (List Edge)) (agent : ℕ) (g : Drawn s gra
   step_to r regular to node follows into =
       let t = timing s agent in
       let from = node_of r.point r.start regular.starts in
-      let late : deadline t r.point r.start ≤ end_date t r.start to = least_below (end_date t r.start) (following t r.point) to follows in
-      (
+      let late : deadline t r.point r.start ≤ end_date t r.start to = least_below (end_date t r.start) (following t r.point) to follows in (
         record {
           from = from.0;
           to = node;

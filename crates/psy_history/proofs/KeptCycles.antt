@@ -1,5 +1,5 @@
 -- What a cycle leaves of the demand that is due by a date.
-use Rattle.std.proofs.Common.{◌≡◌, ◌⊎◌, ℕ, zero, suc, ◌+◌, ◌-◌, ◌*◌, ◌<◌, ◌≤◌, List, [], ◌∷◌, length, Option, Some, None, refl, sym, ap, ◌∙◌, subst, inl, inr, arith}
+use Rattle.std.proofs.Common.{◌≡◌, ◌⊎◌, ℕ, suc, ◌+◌, ◌-◌, ◌*◌, ◌<◌, ◌≤◌, List, [], ◌∷◌, length, Option, Some, None, refl, sym, ap, ◌∙◌, subst, inl, inr, arith}
 use Rattle.std.specs.Prelude.{◌==◌, if◌then◌else◌}
 use Rattle.std.specs.List.{All, Contains}
 use Rattle.std.proofs.lemmas.Bool.{cases_eq, cases_lt, eq-eqb, ne_eqb}
@@ -32,15 +32,12 @@ pub record Bounded (s : System) (graphs : List (List Edge)) (by cycle : ℕ) (tu
   pub enough : total bound (length graphs) + cycle ≤ s.unit.quantum * by
   pub covers : (agent : ℕ) (g : Drawn s graphs agent) → Covered s graphs agent g by (had_of turns (h agent)) (h agent) (bound agent)
 
--- One of both
+-- All is finished that is due by a date, or what agents may still ask until then is bounded.
 abbrev pub IsCovered : System → List (List Edge) → ℕ → ℕ → List (Option Turn) → History → Type 0
 IsCovered s graphs by cycle turns h = Quiet by turns h ⊎ Bounded s graphs by cycle turns h
 
 pub quiet_more : (by : ℕ) (turn : Option Turn) (turns : List (Option Turn)) (h : History) → Quiet by turns h → Quiet by (turn ∷ turns) h
 quiet_more by turn turns h quiet agent r c due = omega (arith, quiet agent r c due, units_more r.agent r.number turn turns)
-
-pub older_more : (turn : Option Turn) (turns : List (Option Turn)) (h : History) → Older turns h → Older (turn ∷ turns) h
-older_more turn turns h older agent r before e x c = omega (arith, older agent r before e x c, units_more x.agent x.number turn turns)
 
 -- What is pending is the last action.
 pub last_of : (turns : List (Option Turn)) (actions : List Action) (r : Action) → ((q : Action) (before : List Action) → actions ≡ q ∷ before → (x : Action) → Contains before x → work x ≤ units x.agent x.number turns)
@@ -49,6 +46,16 @@ last_of turns [] r older (k, l, e) less = absurd (omega (arith, l))
 last_of turns (q ∷ before) r older c less = elim (first_or_later q before r c) [
   | inl e ↦ (before, ap (λ x. x ∷ before) e)
   | inr rest ↦ absurd (omega (arith, older q before refl r rest, less))
+]
+
+-- One less for this agent
+abbrev one_less : (ℕ → ℕ) → ℕ → ℕ → ℕ
+one_less bound agent k = if agent == k then bound k - 1 else bound k
+
+one_most : (bound : ℕ → ℕ) (agent k : ℕ) → one_less bound agent k ≤ bound k
+one_most bound agent k = elim (cases_eq agent k) [
+  | inl same ↦ rw (eq-eqb agent k same) (omega arith)
+  | inr other ↦ rw (ne_eqb agent k other) (omega arith)
 ]
 
 module _ (s : System) (graphs : List (List Edge)) (h : History) (regular : (agent : ℕ) → All (IsRegular s agent) (h agent)) (turns : List (Option Turn)) (by : ℕ) where
@@ -62,9 +69,6 @@ module _ (s : System) (graphs : List (List Edge)) (h : History) (regular : (agen
       subst (λ xs. Covered s graphs agent g by (had_of turns xs) xs bound → Covered s graphs agent g by (had_of (turn_of (Some r) ∷ turns) xs) xs (bound - 1)) (sym e)
       (λ covered. subst (λ n. Covered s graphs agent g by n (r ∷ before) (bound - 1)) (sym (units_own r turns)) (covered_unit s graphs agent g by (units r.agent r.number turns) before r bound its less due covered))
 
-  abbrev one_less : (ℕ → ℕ) → ℕ → ℕ → ℕ
-  one_less bound agent k = if agent == k then bound k - 1 else bound k
-
   -- A cycle of an action that is due by the date
   bounded_unit : (cycle agent : ℕ) (r : Action) (before : List Action) → h agent ≡ r ∷ before → IsRegular s agent r → units r.agent r.number turns < work r → r.deadline ≤ by → Drawn s graphs agent
       → Bounded s graphs by cycle turns h → Bounded s graphs by (suc cycle) (turn_of (Some r) ∷ turns) h
@@ -74,8 +78,7 @@ module _ (s : System) (graphs : List (List Edge)) (h : History) (regular : (agen
       let covered : Covered s graphs agent g by (units r.agent r.number turns) (r ∷ before) (bound agent) = subst (λ xs. Covered s graphs agent g by (had_of turns xs) xs (bound agent)) e (bounded.covers agent g) in
       let some : 1 ≤ bound agent = covered_some s graphs agent g by (units r.agent r.number turns) before r (bound agent) its less due covered in
       let here : new agent ≡ bound agent - 1 = rw (eq-eqb agent agent refl) refl in
-      let at_most = λ (k : ℕ). one_most bound agent k in
-      let fewer : total new (length graphs) < total bound (length graphs) = total_less new bound (length graphs) agent (drawn_within s graphs agent g) (omega (arith, here, some)) at_most in
+      let fewer : total new (length graphs) < total bound (length graphs) = total_less new bound (length graphs) agent (drawn_within s graphs agent g) (omega (arith, here, some)) (one_most bound agent) in
       record {
         bound = new;
         enough = omega (arith, fewer, bounded.enough);
@@ -91,12 +94,6 @@ module _ (s : System) (graphs : List (List Edge)) (h : History) (regular : (agen
               subst (Covered s graphs k f by (had_of (turn_of (Some r) ∷ turns) (h k)) (h k)) (sym there) kept)
         ];
       }
-    where
-      one_most : (bound : ℕ → ℕ) (agent k : ℕ) → one_less bound agent k ≤ bound k
-      one_most bound agent k = elim (cases_eq agent k) [
-        | inl same ↦ rw (eq-eqb agent k same) (omega arith)
-        | inr other ↦ rw (ne_eqb agent k other) (omega arith)
-      ]
 
   module _ (order : List ℕ) (all : (agent : ℕ) → agent < length s.unit.agents → Contains order agent) (drawn : (agent : ℕ) → agent < length s.unit.agents → Drawn s graphs agent) (older : Older turns h) where
     its_regular : (agent : ℕ) (r : Action) → Contains (h agent) r → IsRegular s agent r

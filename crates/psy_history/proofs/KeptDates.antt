@@ -1,18 +1,17 @@
 -- What is due by a date is finished by then.
-use Rattle.std.proofs.Common.{◌≡◌, ◌⊎◌, ℕ, zero, suc, ◌+◌, ◌-◌, ◌*◌, ◌/◌, ◌<◌, ◌≤◌, false, List, [], ◌∷◌, length, get_or, Option, Some, refl, sym, ap, ◌∙◌, subst, inl, inr, arith}
+use Rattle.std.proofs.Common.{◌≡◌, ℕ, zero, suc, ◌+◌, ◌-◌, ◌*◌, ◌/◌, ◌<◌, ◌≤◌, List, [], ◌∷◌, length, get_or, Option, refl, sym, ap, ◌∙◌, subst, inl, inr, arith}
 use Rattle.std.specs.List.{All, Contains}
 use Rattle.std.proofs.lemmas.Bool.{cases_lt, le-ltb}
 use Rattle.std.proofs.lemmas.List.Elements.{All-contains, Contains-get_or}
 use Rattle.std.proofs.lemmas.Nat.{div-mul-add}
-use Rattle.psy_base.specs.declared.edge.Edge.{Edge}
-use Rattle.psy_meaning.specs.Actions.{Action, History, Next, System, next_of}
+use Rattle.psy_meaning.specs.Actions.{Action, History, System}
 use Rattle.psy_meaning.specs.History.{history}
 use Rattle.psy_meaning.specs.Schedule.{Turn, pending, soonest, turn_of, units, work}
 use Rattle.psy_history.specs.Regular.{IsRegular}
 use Rattle.psy_history.specs.Scheduled.{IsFinished, IsSupplied, turns_of}
 use Rattle.psy_history.proofs.Edges.{Drawn, drawn_of, drawn_within}
 use Rattle.psy_history.proofs.Bounds.{Covered, Rests, covered_quiet, covered_some, covered_start}
-use Rattle.psy_history.proofs.Totals.{demand_total, total, total_above}
+use Rattle.psy_history.proofs.Totals.{demand_total, total_above}
 use Rattle.psy_history.proofs.Soonest.{contains_first, units_more}
 use Rattle.psy_history.proofs.NextStarts.{IsGrown, ends_before, grown, next_late, older_due, regular_head}
 use Rattle.psy_history.proofs.KeptCycles.{Bounded, IsCovered, Older, Quiet, had_of, kept_cycle, last_of}
@@ -117,8 +116,8 @@ module _ (s : System) (order : ℕ → List ℕ) (until : ℕ) (supplied : IsSup
       covers agent g (inr (n, r, next, starts, more, its)) =
           let are = supplied.lawful.actions date agent in
           let rests = rests_of (at cycle) (history s date agent) (λ x c.
-              let ends = ends_before s supplied.lawful date agent (history s date agent) are.were_started are.each n next x c in
-              quiet agent x c (omega (arith, ends, starts))) in
+          let ends = ends_before s supplied.lawful date agent (history s date agent) are.were_started are.each n next x c in
+          quiet agent x c (omega (arith, ends, starts))) in
           let here = regular_head s supplied.lawful (suc date) agent r (history s date agent) more in
           let covered = covered_start s supplied.graphs agent g by (had_of (at cycle) (history s date agent)) (units r.agent r.number (at cycle)) (history s date agent) r n (bounded.bound agent) here next its.0 its.1 rests (bounded.covers agent g) in
           subst (λ xs. Covered s supplied.graphs agent g by (had_of (at cycle) xs) xs (bounded.bound agent)) (sym more) covered

@@ -1,13 +1,13 @@
 -- Where the actions of a lawful system start, one behind the other.
-use Rattle.std.proofs.Common.{◌≡◌, ◌⊎◌, ℕ, zero, suc, ◌<◌, ◌≤◌, Bool, true, false, List, [], ◌∷◌, drop, Option, Some, None, refl, sym, ap, ◌∙◌, subst, inl, inr, arith}
-use Rattle.std.specs.Prelude.{◌==◌, if◌then◌else◌}
+use Rattle.std.proofs.Common.{◌≡◌, ◌⊎◌, ℕ, zero, suc, ◌<◌, ◌≤◌, List, [], ◌∷◌, drop, Option, Some, None, refl, sym, ap, ◌∙◌, subst, inl, inr, arith}
+use Rattle.std.specs.Prelude.{◌==◌}
 use Rattle.std.specs.List.{All, Contains}
 use Rattle.std.proofs.lemmas.Bool.{cases_Bool, eqb-true, eqb-false}
 use Rattle.std.proofs.lemmas.List.Elements.{All-head, All-tail}
 use Rattle.std.proofs.lemmas.Option.{same_Some}
 use Rattle.psy_meaning.specs.Actions.{Action, History, Next, System, next_of}
 use Rattle.psy_meaning.specs.History.{action_of, history, with_start}
-use Rattle.psy_history.specs.Regular.{IsLawful, IsRegular, WasStarted, WereStarted}
+use Rattle.psy_history.specs.Regular.{IsLawful, IsRegular, WereStarted}
 use Rattle.psy_history.proofs.Bounds.{done_there}
 use Rattle.psy_history.proofs.Soonest.{contains_later, first_or_later}
 

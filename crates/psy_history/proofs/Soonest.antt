@@ -1,8 +1,8 @@
 -- Which action a cycle goes to.
-use Rattle.std.proofs.Common.{◌≡◌, ◌≢◌, ◌⊎◌, ℕ, zero, suc, ◌<◌, ◌≤◌, Bool, true, false, List, [], ◌∷◌, ◌++◌, length, Option, Some, None, refl, sym, ap, ◌∙◌, subst, inl, inr, arith}
-use Rattle.std.specs.Prelude.{if◌then◌else◌, nat_le, nat_lt, filter}
+use Rattle.std.proofs.Common.{◌≡◌, ◌⊎◌, ℕ, zero, suc, ◌<◌, ◌≤◌, Bool, true, List, [], ◌∷◌, Option, Some, None, refl, sym, ap, ◌∙◌, subst, inl, inr, arith}
+use Rattle.std.specs.Prelude.{nat_le, filter}
 use Rattle.std.specs.List.{Contains, flat_map}
-use Rattle.std.proofs.lemmas.Bool.{cases_Bool, leb-true, leb-false, ltb-true, ltb-false, lt-ltb, le-ltb, eq-eqb, ne_eqb}
+use Rattle.std.proofs.lemmas.Bool.{cases_Bool, leb-true, leb-false, ltb-true, lt-ltb, eq-eqb, ne_eqb}
 use Rattle.std.proofs.lemmas.List.Elements.{Contains-append_cases, Contains-append_left, Contains-append_right}
 use Rattle.psy_meaning.specs.Actions.{Action, History}
 use Rattle.psy_meaning.specs.Schedule.{Turn, is_of, is_pending, pending, soonest, sooner, turn_of, units, work}
@@ -72,20 +72,19 @@ abbrev pub IsSoonest : List Action → Option Action → Type 0
 IsSoonest actions None = (x : Action) → Contains actions x → ⊥
 IsSoonest actions (Some r) = Contains actions r × ((x : Action) → Contains actions x → r.deadline ≤ x.deadline)
 
+none_sooner : (q r : Action) (actions : List Action) → q.deadline ≤ r.deadline → ((x : Action) → Contains actions x → q.deadline ≤ x.deadline) → (x : Action) → Contains (r ∷ actions) x → q.deadline ≤ x.deadline
+none_sooner q r actions first rest x c = elim (first_or_later r actions x c) [
+  | inl e ↦ subst (λ (y : Action). q.deadline ≤ y.deadline) e first
+  | inr later ↦ rest x later
+]
+
 sooner_is : (r : Action) (actions : List Action) (o : Option Action) → IsSoonest actions o → IsSoonest (r ∷ actions) (sooner r o)
-sooner_is r actions None none = (contains_first r actions, λ x c. elim (first_or_later r actions x c) [
-  | inl e ↦ (let same = ap (λ (y : Action). y.deadline) e in omega (arith, same))
-  | inr rest ↦ absurd (none x rest)
-])
+sooner_is r actions None none = (contains_first r actions, none_sooner r r actions (omega arith) (λ x c. absurd (none x c)))
 sooner_is r actions (Some q) (there, first) = elim (cases_Bool (nat_le r.deadline q.deadline)) [
-  | inl t ↦ rw t (contains_first r actions, λ x c. elim (first_or_later r actions x c) [
-    | inl e ↦ (let same = ap (λ (y : Action). y.deadline) e in omega (arith, same))
-    | inr rest ↦ (let least = first x rest in omega (arith, least, leb-true r.deadline q.deadline t))
-  ])
-  | inr t ↦ rw t (contains_later r actions q there, λ x c. elim (first_or_later r actions x c) [
-    | inl e ↦ (let same = ap (λ (y : Action). y.deadline) e in omega (arith, same, leb-false r.deadline q.deadline t))
-    | inr rest ↦ first x rest
-  ])
+  | inl t ↦ (
+      let sooner : r.deadline ≤ q.deadline = leb-true r.deadline q.deadline t in
+      rw t (contains_first r actions, none_sooner r r actions (omega arith) (λ x c. let least = first x c in omega (arith, least, sooner))))
+  | inr t ↦ rw t (contains_later r actions q there, none_sooner q r actions (omega (arith, leb-false r.deadline q.deadline t)) first)
 ]
 
 pub soonest_is : (actions : List Action) → IsSoonest actions (soonest actions)
