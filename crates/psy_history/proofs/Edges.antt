@@ -1,0 +1,100 @@
+-- The edges of the graphs of a system's agents.
+use Rattle.std.proofs.Common.{◌≡◌, ℕ, zero, suc, ◌+◌, ◌-◌, ◌<◌, ◌≤◌, List, [], ◌∷◌, map, length, get_or, slice_get, Some, refl, sym, ap, ◌∙◌, subst, arith}
+use Rattle.std.specs.List.{Contains}
+use Rattle.std.proofs.lemmas.Option.{slice_get-get_or, slice_get_within}
+use Rattle.psy_base.specs.declared.edge.Edge.{Edge}
+use Rattle.psy_meaning.specs.Actions.{Action, Done, System, timing}
+use Rattle.psy_meaning.specs.Graph.{Spot, IsEdgeOf, IsGraph, spot_at}
+use Rattle.psy_meaning.specs.Timing.{MayStart, deadline, end_date, following, least, later}
+use Rattle.psy_history.specs.Compiled.{AreEdgesOf}
+use Rattle.psy_history.specs.Regular.{IsRegular}
+
+-- ---- the least of some numbers
+
+least_below : (f : ℕ → ℕ) (xs : List ℕ) (x : ℕ) → Contains xs x → least (map f xs) ≤ f x
+least_below f [] x (k, l, e) = absurd (omega (arith, l))
+least_below f (y ∷ []) x (zero, l, e) = omega (arith, ap f e)
+least_below f (y ∷ []) x (suc k, l, e) = absurd (omega (arith, l))
+least_below f (y ∷ z ∷ xs) x (zero, l, e) = omega (arith, ap f e)
+least_below f (y ∷ z ∷ xs) x (suc k, l, e) = let rest : least (map f (z ∷ xs)) ≤ f x = least_below f (z ∷ xs) x (k, omega (arith, l), e) in omega (arith, rest)
+
+one_there : (f : ℕ → ℕ) (xs : List ℕ) (n : ℕ) → n < least (map f xs) → (x : ℕ) × Contains xs x
+one_there f [] n l = absurd (omega (arith, l))
+one_there f (x ∷ xs) n l = (x, (zero, omega arith, refl))
+
+-- ---- graphs
+
+-- The graph of an agent, with what its nodes stand for
+pub record Drawn (s : System) (graphs : List (List Edge)) (agent : ℕ) : Type 0 where
+  pub edges : List Edge
+  pub at : slice_get graphs agent ≡ Some edges
+  pub spots : List Spot
+  pub graph : IsGraph (timing s agent) spots edges
+
+pub drawn_of : (s : System) (graphs : List (List Edge)) → AreEdgesOf s graphs → (agent : ℕ) → agent < length s.unit.agents → Drawn s graphs agent
+drawn_of s graphs are agent known =
+    let at = slice_get-get_or graphs agent [] (omega (arith, known, are.count)) in
+    let its = are.each agent (get_or graphs agent []) at in
+    record { edges = get_or graphs agent []; at = at; spots = its.0; graph = its.1 }
+
+pub drawn_within : (s : System) (graphs : List (List Edge)) (agent : ℕ) → Drawn s graphs agent → agent < length graphs
+drawn_within s graphs agent g = slice_get_within graphs agent g.edges g.at
+
+module _ (s : System) (graphs : List (List Edge)) (agent : ℕ) (g : Drawn s graphs agent) where
+  -- The node of this number is that of a point and a date.
+  abbrev pub IsNode : ℕ → ℕ → ℕ → Type 0
+  IsNode point start node = slice_get g.spots node ≡ Some (spot_at g.graph.cycle point start)
+
+  -- The edge of an action that starts there and then, and reaches a point
+  abbrev pub IsStep : ℕ → ℕ → ℕ → Edge → Type 0
+  IsStep point start to e = IsEdgeOf (timing s agent) g.graph.cycle g.spots point start to e
+
+  node_of : (point start : ℕ) → MayStart (timing s agent) point start → (node : ℕ) × IsNode point start node
+  node_of point start may =
+      let spot = spot_at g.graph.cycle point start in
+      let (k, l, e) = (g.graph.nodes.all spot).1 (start, may, refl) in
+      (k, slice_get-get_or g.spots k spot l ∙ ap Some e)
+
+  -- An action has an edge to each node of a point that may follow its own.
+  step_to : (r : Action) → IsRegular s agent r → (to node : ℕ) → Contains (following (timing s agent) r.point) to → IsNode to (end_date (timing s agent) r.start to) node → (e : Edge) × IsStep r.point r.start to e × (e.to ≡ node)
+  step_to r regular to node follows into =
+      let t = timing s agent in
+      let from = node_of r.point r.start regular.starts in
+      let late : deadline t r.point r.start ≤ end_date t r.start to = least_below (end_date t r.start) (following t r.point) to follows in (
+        record {
+          from = from.0;
+          to = node;
+          len = end_date t r.start to - r.start;
+          due = r.deadline - r.start;
+          weight = r.budget;
+        },
+        record {
+          starts = regular.starts;
+          follows = follows;
+          from = from.1;
+          into = into;
+          len = omega (arith, regular.due, regular.deadline, late);
+          due = omega (arith, regular.due, regular.deadline);
+          weight = regular.budget;
+        },
+        refl,
+      )
+
+  -- So it has one.
+  pub step_some : (r : Action) → IsRegular s agent r → (to : ℕ) × (e : Edge) × IsStep r.point r.start to e
+  step_some r regular =
+      let t = timing s agent in
+      let one = one_there (end_date t r.start) (following t r.point) r.start (omega (arith, regular.due, regular.deadline)) in
+      let into = node_of one.0 (end_date t r.start one.0) (later r.point r.start one.0 regular.starts one.1) in
+      let step = step_to r regular one.0 into.0 one.1 into.1 in
+      (one.0, step.0, step.1)
+
+  pub step_in : (point start to : ℕ) (e : Edge) → IsStep point start to e → Contains g.edges e
+  step_in point start to e step = (g.graph.links.all e).1 (point, start, to, step)
+
+  -- Where the action reached a point, it has an edge to each node of where the next one starts.
+  pub step_done : (r : Action) → IsRegular s agent r → (point end node : ℕ) → r.verdict ≡ Done point end → IsNode point end node → (e : Edge) × IsStep r.point r.start point e × (e.to ≡ node) × (r.start + e.len ≡ end)
+  step_done r regular point end node done into =
+      let ends = regular.ends point end done in
+      let step = step_to r regular point node ends.0 (subst (λ n. IsNode point n node) ends.1 into) in
+      (step.0, step.1, step.2, step.1.len ∙ sym ends.1)
