@@ -1,0 +1,4 @@
+mod Cuts
+mod LateLooks
+mod LikeActions
+mod OneAction
