@@ -1,4 +1,7 @@
 mod Cuts
+mod FitViews
 mod LateLooks
 mod LikeActions
+mod LikeHistories
+mod LikeViews
 mod OneAction
