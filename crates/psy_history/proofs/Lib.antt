@@ -1,7 +1,11 @@
 mod Cuts
 mod FitViews
+mod Granted
 mod LateLooks
 mod LikeActions
 mod LikeHistories
+mod LikeLines
+mod LikeReaches
+mod LikeSchedules
 mod LikeViews
 mod OneAction
