@@ -1,18 +1,19 @@
 -- What an action of a history sees is a view of its agent, where the actions of the history kept their agents' stores.
-use Rattle.std.proofs.Common.{◌≡◌, ℕ, zero, suc, ◌+◌, ◌-◌, ◌<◌, Bool, true, false, List, [], ◌∷◌, ◌++◌, length, Option, Some, None, refl, sym, ap, ◌∙◌, subst}
+use Rattle.std.proofs.Common.{◌≡◌, ℕ, zero, suc, ◌+◌, ◌-◌, ◌<◌, Bool, true, false, List, [], ◌∷◌, length, Option, Some, None, refl, sym, ◌∙◌, subst}
 use Rattle.std.proofs.lemmas.List.{length-map, get_or-map}
 use Rattle.std.proofs.lemmas.List.Elements.{All-append, All-cons, All-filter, All-head, All-map, All-nil, All-tail}
+use Rattle.std.proofs.lemmas.Simd.{map-map}
 use Rattle.std.proofs.lemmas.List.FromFn.{fill_by_all, length-map-range_with_len}
 use Rattle.std.proofs.Math.Facts.{sfits_lit}
 use Rattle.std.specs.Int.{w32}
-use Rattle.std.specs.List.{All, filter, flat_map, range_with_len}
+use Rattle.std.specs.List.{All, flat_map, range_with_len}
 use Rattle.std.specs.Prelude.{FitsSigned, ℤ, pos, ◌==◌, get_or, if◌then◌else◌, map, nat_le, nat_lt, ⊤}
 use Rattle.psy_base.specs.declared.message.Message.{Message}
 use Rattle.psy_budget.specs.declared.charge.Stall.{Stall}
 use Rattle.psy_clock.specs.Dates.{count, date}
 use Rattle.psy_code.specs.declared.look.Sent.{Sent}
 use Rattle.psy_code.specs.Execution.{Copy, copy_of}
-use Rattle.psy_code.specs.Views.{Deeds, View}
+use Rattle.psy_code.specs.Views.{Deeds}
 use Rattle.psy_queue.specs.Order.{comes_before, put_in_order}
 use Rattle.psy_tree.specs.declared.unit.StreamDecl.{StreamDecl}
 use Rattle.psy_tree.specs.declared.unit.Unit.{Unit as Whole}
@@ -22,7 +23,7 @@ use Rattle.psy_meaning.specs.Alike.{AllFit, IsStoreOf, IsViewOf, MessagesFit, is
 use Rattle.psy_meaning.specs.Executors.{Carried, agent_at, carried_in, copy_in}
 use Rattle.psy_meaning.specs.Sound.{Each}
 use Rattle.psy_meaning.specs.States.{Store, value_or_zero}
-use Rattle.psy_meaning.specs.Visible.{commit, committed_in, in_order, input_value, is_in_view, messages, messages_by, messages_from, nth_or_last, past, published, published_by, seen_at, sent_to, values_for, view_of}
+use Rattle.psy_meaning.specs.Visible.{commit, committed_in, in_order, is_in_view, messages, messages_by, messages_from, nth_or_last, past, published, published_by, seen_at, sent_to, values_for, view_of}
 use Rattle.psy_history.specs.Compiled.{stated}
 
 abbrev pub Fits : ℤ → Type 0
@@ -66,10 +67,6 @@ all_flat_map_each : {X Y : Type 0} (P : Y → Type 0) (Q : X → Type 0) (f : X 
 all_flat_map_each P Q f each [] h = All-nil P
 all_flat_map_each P Q f each (x ∷ xs) h = All-append P (f x) (flat_map f xs) (each x h.0) (all_flat_map_each P Q f each xs h.1)
 
-map_twice : {X Y Z : Type 0} (f : Y → Z) (g : X → Y) (xs : List X) → map f (map g xs) ≡ map (λ x. f (g x)) xs
-map_twice f g [] = refl
-map_twice f g (x ∷ xs) = ap (λ rest. f (g x) ∷ rest) (map_twice f g xs)
-
 -- a function of the number of an element, and one of the element
 by_number : {X Y : Type 0} (d : X) (g : X → Y) (f : ℕ → Y) (xs : List X) → ((i : ℕ) → f i ≡ g (get_or xs i d)) → map f (range_with_len 0 (length xs)) ≡ map g xs
 by_number d g f xs same = sym (fill_by_all f (map g xs) (length xs) (g d) (length-map xs g) (λ i h. get_or-map g xs i d (g d) h ∙ sym (same i)))
@@ -112,20 +109,20 @@ one_sent true m rest f h = All-cons MessageFits m rest f h
 one_sent false m rest f h = h
 
 module _ (unit : Whole) (nexts : List (List (List ℕ))) (stalls : ℕ → List Stall) (inputs : List (List ℤ)) where
-  abbrev S : System
-  S = stated unit nexts stalls inputs
+  abbrev of_stmts : System
+  of_stmts = stated unit nexts stalls inputs
 
-  sends_fit : (stream agent end number : ℕ) (sends : List Sent) → All SentFits sends → All MessageFits (messages_from S stream agent end number sends)
+  sends_fit : (stream agent end number : ℕ) (sends : List Sent) → All SentFits sends → All MessageFits (messages_from of_stmts stream agent end number sends)
   sends_fit stream agent end number [] h = All-nil MessageFits
   sends_fit stream agent end number (sent ∷ sends) h =
-      one_sent (sent.stream == stream) _ (messages_from S stream agent end (number + 1) sends) (All-head SentFits sent sends h) (sends_fit stream agent end (number + 1) sends (All-tail SentFits sent sends h))
+      one_sent (sent.stream == stream) _ (messages_from of_stmts stream agent end (number + 1) sends) (All-head SentFits sent sends h) (sends_fit stream agent end (number + 1) sends (All-tail SentFits sent sends h))
 
-  messages_by_fit : (stream number agent : ℕ) (carried : Carried) (deeds : Deeds) (verdict : Verdict) → Keeps unit number carried deeds verdict → All MessageFits (messages_by S stream agent deeds.sends verdict)
+  messages_by_fit : (stream number agent : ℕ) (carried : Carried) (deeds : Deeds) (verdict : Verdict) → Keeps unit number carried deeds verdict → All MessageFits (messages_by of_stmts stream agent deeds.sends verdict)
   messages_by_fit stream number agent carried deeds (Done point end) h = sends_fit stream agent end 0 deeds.sends h.3
   messages_by_fit stream number agent carried deeds verdict h = All-nil MessageFits
 
   module _ (values : All (λ (v : VarDecl). FitsSigned w32 v.init) unit.variables) (given : All AllFit inputs) where
-    init_fits : (variable : ℕ) → Fits (variable_of S variable).init
+    init_fits : (variable : ℕ) → Fits (variable_of of_stmts variable).init
     init_fits variable = all_or (λ (v : VarDecl). FitsSigned w32 v.init) unit.variables variable _ zero_fits values
 
     commit_fits : (variable by number : ℕ) (carried : Carried) (deeds : Deeds) (earlier : ℤ) (verdict : Verdict) → Fits earlier → Keeps unit number carried deeds verdict → Fits (commit variable by carried earlier verdict)
@@ -136,50 +133,55 @@ module _ (unit : Whole) (nexts : List (List (List ℕ))) (stalls : ℕ → List 
         from false = f
     commit_fits variable by number carried deeds earlier verdict f h = f
 
-    committed_fits : (variable by number : ℕ) (rs : List Action) → Each (IsSettled unit number) rs → Fits (committed_in S variable by rs)
+    committed_fits : (variable by number : ℕ) (rs : List Action) → Each (IsSettled unit number) rs → Fits (committed_in of_stmts variable by rs)
     committed_fits variable by number [] h = init_fits variable
-    committed_fits variable by number (r ∷ rs) h = commit_fits variable by number r.after r.deeds (committed_in S variable by rs) r.verdict (committed_fits variable by number rs h.1) h.0
+    committed_fits variable by number (r ∷ rs) h = commit_fits variable by number r.after r.deeds (committed_in of_stmts variable by rs) r.verdict (committed_fits variable by number rs h.1) h.0
 
     module _ (k : History) (settled : (agent : ℕ) → Each (IsSettled unit agent) (k agent)) where
-      published_fits : (variable date : ℕ) (owner : Option ℕ) → Fits (published_by S k variable date owner)
-      published_fits variable date None = nth_fits (variable_of S variable).init (get_or inputs variable []) (count (publishing S variable) date - 1) (init_fits variable) (all_or AllFit inputs variable [] (All-nil Fits) given)
+      published_fits : (variable date : ℕ) (owner : Option ℕ) → Fits (published_by of_stmts k variable date owner)
+      published_fits variable date None = nth_fits (variable_of of_stmts variable).init (get_or inputs variable []) (count (publishing of_stmts variable) date - 1) (init_fits variable) (all_or AllFit inputs variable [] (All-nil Fits) given)
       published_fits variable date (Some owner) = committed_fits variable date owner (k owner) (settled owner)
 
-      past_fits : (variable start back : ℕ) → Fits (past S k variable start back)
-      past_fits variable start back = from (nat_lt back (count (publishing S variable) start))
+      past_fits : (variable start back : ℕ) → Fits (past of_stmts k variable start back)
+      past_fits variable start back = from (nat_lt back (count (publishing of_stmts variable) start))
         where
-          from : (b : Bool) → Fits (if b then published S k variable (date (publishing S variable) (count (publishing S variable) start - 1 - back)) else (variable_of S variable).init)
-          from true = published_fits variable (date (publishing S variable) (count (publishing S variable) start - 1 - back)) (variable_of S variable).owner
+          from : (b : Bool) → Fits (if b then published of_stmts k variable (date (publishing of_stmts variable) (count (publishing of_stmts variable) start - 1 - back)) else (variable_of of_stmts variable).init)
+          from true = published_fits variable (date (publishing of_stmts variable) (count (publishing of_stmts variable) start - 1 - back)) (variable_of of_stmts variable).owner
           from false = init_fits variable
 
-      messages_fit : (stream : ℕ) → All MessageFits (messages S k stream)
+      pasts_fit : (variable start : ℕ) → AllFit (map (past of_stmts k variable start) (range_with_len 0 (variable_of of_stmts variable).depth))
+      pasts_fit variable start =
+          let backs = range_with_len 0 (variable_of of_stmts variable).depth in
+          All-map Fits (past of_stmts k variable start) backs (all_any (λ back. Fits (past of_stmts k variable start back)) (past_fits variable start) backs)
+
+      messages_fit : (stream : ℕ) → All MessageFits (messages of_stmts k stream)
       messages_fit stream =
-          ordered_fit (sent_to S k stream) (all_flat_map MessageFits (λ agent. flat_map (λ (r : Action). messages_by S stream r.agent r.deeds.sends r.verdict) (k agent))
-          (λ agent. all_flat_map_each MessageFits (IsSettled unit agent) (λ (r : Action). messages_by S stream r.agent r.deeds.sends r.verdict) (λ r h. messages_by_fit stream agent r.agent r.after r.deeds r.verdict h) (k agent) (settled agent))
+          ordered_fit (sent_to of_stmts k stream) (all_flat_map MessageFits (λ agent. flat_map (λ (r : Action). messages_by of_stmts stream r.agent r.deeds.sends r.verdict) (k agent))
+          (λ agent. all_flat_map_each MessageFits (IsSettled unit agent) (λ (r : Action). messages_by of_stmts stream r.agent r.deeds.sends r.verdict) (λ r h. messages_by_fit stream agent r.agent r.after r.deeds r.verdict h) (k agent) (settled agent))
           (range_with_len 0 (length unit.agents)))
 
-      values_fit : (agent start stream : ℕ) → MessagesFit (values_for S (seen_at S k start) agent stream)
-      values_fit agent start stream = from ((stream_of S stream).receiver == agent)
+      values_fit : (agent start stream : ℕ) → MessagesFit (values_for of_stmts (seen_at of_stmts k start) agent stream)
+      values_fit agent start stream = from ((stream_of of_stmts stream).receiver == agent)
         where
-          from : (b : Bool) → MessagesFit (if b then Some (map (λ (m : Message). m.value) (seen_at S k start stream)) else None)
-          from true = All-map Fits (λ (m : Message). m.value) (seen_at S k start stream) (All-filter (is_in_view stream start (k (stream_of S stream).receiver)) MessageFits (messages S k stream) (messages_fit stream))
+          from : (b : Bool) → MessagesFit (if b then Some (map (λ (m : Message). m.value) (seen_at of_stmts k start stream)) else None)
+          from true = All-map Fits (λ (m : Message). m.value) (seen_at of_stmts k start stream) (All-filter (is_in_view stream start (k (stream_of of_stmts stream).receiver)) MessageFits (messages of_stmts k stream) (messages_fit stream))
           from false = tt
 
       there_by : (b : Bool) (seen : List ℤ) → is_there (if b then Some seen else None) ≡ b
       there_by true seen = refl
       there_by false seen = refl
 
-      pub view_fits : (agent start : ℕ) → IsViewOf unit agent (view_of S k agent start (seen_at S k start))
+      pub view_fits : (agent start : ℕ) → IsViewOf unit agent (view_of of_stmts k agent start (seen_at of_stmts k start))
       view_fits agent start =
-          let pasts = λ (variable : ℕ). map (past S k variable start) (range_with_len 0 (variable_of S variable).depth) in
-          let shown = values_for S (seen_at S k start) agent in
+          let pasts = λ (variable : ℕ). map (past of_stmts k variable start) (range_with_len 0 (variable_of of_stmts variable).depth) in
+          let shown = values_for of_stmts (seen_at of_stmts k start) agent in
           let variables = range_with_len 0 (length unit.variables) in
           let streams = range_with_len 0 (length unit.streams) in
           record {
-            depths = map_twice length pasts variables
-              ∙ by_number _ (λ (v : VarDecl). v.depth) (λ variable. length (pasts variable)) unit.variables (λ variable. length-map-range_with_len (past S k variable start) 0 (variable_of S variable).depth);
-            values = All-map AllFit pasts variables (all_any (λ variable. AllFit (pasts variable)) (λ variable. All-map Fits (past S k variable start) (range_with_len 0 (variable_of S variable).depth) (all_any (λ back. Fits (past S k variable start back)) (past_fits variable start) (range_with_len 0 (variable_of S variable).depth))) variables);
-            streams = map_twice is_there shown streams
-              ∙ by_number _ (λ (s : StreamDecl). s.receiver == agent) (λ stream. is_there (shown stream)) unit.streams (λ stream. there_by ((stream_of S stream).receiver == agent) (map (λ (m : Message). m.value) (seen_at S k start stream)));
+            depths = map-map length pasts variables
+                ∙ by_number _ (λ (v : VarDecl). v.depth) (λ variable. length (pasts variable)) unit.variables (λ variable. length-map-range_with_len (past of_stmts k variable start) 0 (variable_of of_stmts variable).depth);
+            values = All-map AllFit pasts variables (all_any (λ variable. AllFit (pasts variable)) (λ variable. pasts_fit variable start) variables);
+            streams = map-map is_there shown streams
+                ∙ by_number _ (λ (s : StreamDecl). s.receiver == agent) (λ stream. is_there (shown stream)) unit.streams (λ stream. there_by ((stream_of of_stmts stream).receiver == agent) (map (λ (m : Message). m.value) (seen_at of_stmts k start stream)));
             messages = All-map MessagesFit shown streams (all_any (λ stream. MessagesFit (shown stream)) (values_fit agent start) streams);
           }

@@ -1,12 +1,12 @@
--- A run cut in two: what it looked at before the cut stands below it, and what it looks at behind doesn't.
-use Rattle.std.proofs.Common.{◌≡◌, ℕ, zero, suc, ◌+◌, ◌-◌, ◌<◌, ◌≤◌, Bool, true, false, cond, List, [], ◌∷◌, ◌++◌, refl, sym, ap, ◌∙◌, subst, arith, append-nil, zero-add, suc-add}
+-- A run cut in two at a number of instructions: what it looks at behind the cut has no lower number.
+use Rattle.std.proofs.Common.{◌≡◌, ℕ, zero, suc, ◌+◌, ◌-◌, ◌≤◌, Bool, true, false, cond, List, [], ◌∷◌, ◌++◌, refl, sym, ap, ◌∙◌, subst, arith, append-nil, zero-add, suc-add}
 use Rattle.std.proofs.lemmas.Bool.Decides.{nat_tests}
 use Rattle.std.proofs.lemmas.List.Elements.{filter-append}
 use Rattle.std.specs.List.{filter}
 use Rattle.std.specs.Prelude.{Option, Some, None, nat_lt}
 use Rattle.psy_code.specs.declared.code.AgentCode.{AgentCode}
 use Rattle.psy_code.specs.declared.code.Code.{Code}
-use Rattle.psy_code.specs.Execution.{Machine, Next, Went, Ended, Trapped, Stuck, NoRun, RanTo, Run, RunState, Running, TrappedBy, call_of, deeds_then, go_on, next_of, run_by, run_code, run_one, state_then}
+use Rattle.psy_code.specs.Execution.{Next, Went, Ended, Trapped, Stuck, NoRun, RanTo, Run, RunState, Running, TrappedBy, call_of, deeds_then, go_on, next_of, run_by, run_code, run_one, state_then}
 use Rattle.psy_code.specs.Lasting.{IsOver}
 use Rattle.psy_code.specs.Views.{Call, Deeds, Looked, Past, Ready, Send, Take}
 

@@ -1,8 +1,7 @@
 -- Actions that are alike: what doesn't tell one from the other, of one action and of a list of them.
-use Rattle.std.proofs.Common.{◌≡◌, ◌≢◌, ℕ, suc, Bool, true, false, cond, ◌&&◌, List, [], ◌∷◌, ◌++◌, map, length, refl, sym, ap, ap₂, ◌∙◌, subst}
+use Rattle.std.proofs.Common.{◌≡◌, suc, Bool, true, false, cond, ◌&&◌, List, [], ◌∷◌, ◌++◌, map, length, refl, sym, ap, ap₂, ◌∙◌, subst}
 use Rattle.std.proofs.Math.Path.{fun_ext}
 use Rattle.std.specs.List.{filter, flat_map, list_all}
-use Rattle.std.specs.Prelude.{⊤}
 use Rattle.psy_meaning.specs.Actions.{Action, Verdict, Done, Trapped, Overran}
 use Rattle.psy_history.specs.Likeness.{AreLike, IsLike}
 

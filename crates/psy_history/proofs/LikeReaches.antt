@@ -1,11 +1,11 @@
 -- Histories that are alike reach as far back: what an action looked at beyond its budget, no cycle executed.
-use Rattle.std.proofs.Common.{◌≡◌, ℕ, ◌+◌, ◌-◌, ◌/◌, ◌≤◌, Bool, true, false, cond, min, List, [], ◌∷◌, ◌++◌, length, Option, Some, None, refl, sym, ap, ap₂, ◌∙◌, subst, arith}
+use Rattle.std.proofs.Common.{◌≡◌, ℕ, ◌≤◌, Bool, true, false, cond, List, [], ◌∷◌, ◌++◌, length, Option, Some, None, refl, sym, ap, ap₂, ◌∙◌, arith}
 use Rattle.std.proofs.lemmas.Bool.Decides.{nat_tests}
 use Rattle.std.proofs.lemmas.Option.{none-some, same_Some}
 use Rattle.std.specs.List.{filter, flat_map, range_with_len}
 use Rattle.std.specs.Prelude.{ℤ, ◌==◌, nat_lt, slice_get}
 use Rattle.psy_budget.specs.declared.charge.Stall.{Stall}
-use Rattle.psy_budget.specs.Charges.{cycle_of, stalled}
+use Rattle.psy_budget.specs.Charges.{cycle_of}
 use Rattle.psy_code.specs.declared.code.Code.{Code}
 use Rattle.psy_code.specs.Views.{Looked, found_in}
 use Rattle.psy_tree.specs.declared.unit.AgentDecl.{AgentDecl}
@@ -18,7 +18,7 @@ use Rattle.psy_meaning.specs.Summary.{age_in, ages_of, greatest_of, reach}
 use Rattle.psy_history.specs.Compiled.{coded, stated}
 use Rattle.psy_history.specs.Likeness.{AreLike, IsLike, looks_within}
 use Rattle.psy_history.specs.Scheduled.{turns_of}
-use Rattle.psy_history.proofs.Granted.{Among, each_among, no_unit, units_within}
+use Rattle.psy_history.proofs.Granted.{each_among, no_unit, units_within}
 use Rattle.psy_history.proofs.LikeActions.{flat_map_same}
 
 -- ---- lists
@@ -67,41 +67,41 @@ module _ (s : System) (done : List (Option Turn)) (variable : ℕ) where
 -- ---- the two histories
 
 module _ (unit : Whole) (code : Code) (nexts : List (List (List ℕ))) (stalls : ℕ → List Stall) (inputs : List (List ℤ)) where
-  abbrev C : System
-  C = coded unit code nexts stalls inputs
+  abbrev of_code : System
+  of_code = coded unit code nexts stalls inputs
 
-  abbrev S : System
-  S = stated unit nexts stalls inputs
+  abbrev of_stmts : System
+  of_stmts = stated unit nexts stalls inputs
 
-  age_same : (r q : Action) (look : Looked) (cycle : Option ℕ) → r.start ≡ q.start → age_in C r look cycle ≡ age_in S q look cycle
+  age_same : (r q : Action) (look : Looked) (cycle : Option ℕ) → r.start ≡ q.start → age_in of_code r look cycle ≡ age_in of_stmts q look cycle
   age_same r q look None e = refl
   age_same r q look (Some cycle) e = rw e refl
 
-  ages_at_same : (done : List (Option Turn)) (variable : ℕ) (r q : Action) → IsLike r q → (look : Looked) → ages_at C done variable r look ≡ ages_at S done variable q look
+  ages_at_same : (done : List (Option Turn)) (variable : ℕ) (r q : Action) → IsLike r q → (look : Looked) → ages_at of_code done variable r look ≡ ages_at of_stmts done variable q look
   ages_at_same done variable r q h look =
-      ap₂ (λ agent number. age_in C r look (cycle_of_unit agent number (cycle_of (stalls agent) number look.number) done)) h.agent h.number
+      ap₂ (λ agent number. age_in of_code r look (cycle_of_unit agent number (cycle_of (stalls agent) number look.number) done)) h.agent h.number
       ∙ age_same r q look (cycle_of_unit q.agent q.number (cycle_of (stalls q.agent) q.number look.number) done) h.start
 
-  ages_same : (done : List (Option Turn)) (variable : ℕ) (r q : Action) → units q.agent q.number done ≤ work q → IsLike r q → ages_of C done variable r ≡ ages_of S done variable q
+  ages_same : (done : List (Option Turn)) (variable : ℕ) (r q : Action) → units q.agent q.number done ≤ work q → IsLike r q → ages_of of_code done variable r ≡ ages_of of_stmts done variable q
   ages_same done variable r q few h =
       let few_too : units r.agent r.number done ≤ work r = rw (h.agent, h.number, h.work) few in
       let test = λ (look : Looked). look.variable == variable in
-      ages_within C done variable r few_too
-      ∙ flat_map_same (ages_at C done variable r) (ages_at S done variable q) (ages_at_same done variable r q h) (filter test (looks_within r))
-      ∙ ap (λ looks. flat_map (ages_at S done variable q) (filter test looks)) h.looks
-      ∙ sym (ages_within S done variable q few)
+      ages_within of_code done variable r few_too
+      ∙ flat_map_same (ages_at of_code done variable r) (ages_at of_stmts done variable q) (ages_at_same done variable r q h) (filter test (looks_within r))
+      ∙ ap (λ looks. flat_map (ages_at of_stmts done variable q) (filter test looks)) h.looks
+      ∙ sym (ages_within of_stmts done variable q few)
 
-  first_number_by : (found : Option AgentDecl) (agent : ℕ) (n : Next) → found_in found (λ a. Some (first_action unit nexts S.executor agent)) ≡ Some n → n.number ≡ 0
+  first_number_by : (found : Option AgentDecl) (agent : ℕ) (n : Next) → found_in found (λ a. Some (first_action unit nexts of_stmts.executor agent)) ≡ Some n → n.number ≡ 0
   first_number_by None agent n e = absurd (none-some n e)
   first_number_by (Some a) agent n e = ap (λ (n : Next). n.number) (sym (same_Some _ n e))
 
-  first_number : (agent : ℕ) (n : Next) → S.opening.starts agent ≡ Some n → n.number ≡ 0
+  first_number : (agent : ℕ) (n : Next) → of_stmts.opening.starts agent ≡ Some n → n.number ≡ 0
   first_number agent n e = first_number_by (slice_get unit.agents agent) agent n e
 
-  pub reach_same : (h : History) (order : ℕ → List ℕ) (cycles dates variable : ℕ) → ((agent : ℕ) → AreLike (h agent) (history S dates agent)) → reach C (turns_of S order cycles) h variable ≡ reach S (turns_of S order cycles) (history S dates) variable
+  pub reach_same : (h : History) (order : ℕ → List ℕ) (cycles dates variable : ℕ) → ((agent : ℕ) → AreLike (h agent) (history of_stmts dates agent)) → reach of_code (turns_of of_stmts order cycles) h variable ≡ reach of_stmts (turns_of of_stmts order cycles) (history of_stmts dates) variable
   reach_same h order cycles dates variable like =
-      let done = turns_of S order cycles in
-      ap greatest_of (flat_map_same (λ agent. flat_map (ages_of C done variable) (h agent)) (λ agent. flat_map (ages_of S done variable) (history S dates agent))
-      (λ agent. flat_map_each (λ (q : Action). units q.agent q.number done ≤ work q) (ages_of C done variable) (ages_of S done variable) (λ r q few l. ages_same done variable r q few l) (h agent) (history S dates agent)
-        (each_among (λ (q : Action). units q.agent q.number done ≤ work q) (history S dates agent) (λ q is. units_within S first_number order dates agent q is unit.quantum cycles)) (like agent))
+      let done = turns_of of_stmts order cycles in
+      ap greatest_of (flat_map_same (λ agent. flat_map (ages_of of_code done variable) (h agent)) (λ agent. flat_map (ages_of of_stmts done variable) (history of_stmts dates agent))
+      (λ agent. flat_map_each (λ (q : Action). units q.agent q.number done ≤ work q) (ages_of of_code done variable) (ages_of of_stmts done variable) (λ r q few l. ages_same done variable r q few l) (h agent) (history of_stmts dates agent)
+      (each_among (λ (q : Action). units q.agent q.number done ≤ work q) (history of_stmts dates agent) (λ q is. units_within of_stmts first_number order dates agent q is unit.quantum cycles)) (like agent))
       (range_with_len 0 (length unit.agents)))

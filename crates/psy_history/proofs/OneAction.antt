@@ -1,17 +1,15 @@
 -- One action, by the code and by the statements: the same within the budget, and past it in both.
-use Rattle.std.proofs.Common.{◌≡◌, ℕ, ◌+◌, ◌<◌, ◌≤◌, ◌⊎◌, inl, inr, List, length, Some, replicate, refl, sym, ap, ◌∙◌, subst, arith}
+use Rattle.std.proofs.Common.{◌≡◌, ℕ, ◌<◌, ◌≤◌, ◌⊎◌, inl, inr, length, replicate, refl, sym, ap, ◌∙◌, subst, arith}
 use Rattle.std.proofs.lemmas.List.{length-replicate}
-use Rattle.std.specs.Prelude.{slice_get}
 use Rattle.psy_code.specs.declared.code.AgentCode.{AgentCode}
 use Rattle.psy_code.specs.declared.code.Code.{Code}
-use Rattle.psy_code.specs.Execution.{RanTo, Run, RunState, Running, TrappedBy, run_code}
+use Rattle.psy_code.specs.Execution.{RanTo, Run, RunState, TrappedBy, run_code}
 use Rattle.psy_code.specs.Lasting.{IsOver, Lasted}
 use Rattle.psy_code.specs.Views.{Deeds, View}
 use Rattle.psy_tree.specs.declared.unit.AgentDecl.{AgentDecl}
 use Rattle.psy_tree.specs.declared.unit.Unit.{Unit as Whole}
-use Rattle.psy_meaning.specs.Alike.{AgentAlike, EndsAs, IsStoreOf, IsViewOf, SameAs, begun, started}
-use Rattle.psy_meaning.specs.Executors.{Acted, Carried, Reached, acted_as, acted_by, carried_by, carried_in, machine_at, store_of}
-use Rattle.psy_meaning.specs.Executors as fate
+use Rattle.psy_meaning.specs.Alike.{AgentAlike, EndsAs, IsStoreOf, IsViewOf, begun, started}
+use Rattle.psy_meaning.specs.Executors.{Acted, Carried, acted_as, acted_by, carried_in, machine_at, store_of}
 use Rattle.psy_meaning.specs.Rest.{rest}
 use Rattle.psy_meaning.specs.States.{Final, Halts, Store}
 use Rattle.psy_meaning.specs.States as by
@@ -58,7 +56,7 @@ module _ (code : Code) (its : AgentCode) (lasting : (s t : RunState) (n : ℕ) �
   within_budget (by.Trapped kind s) h =
       within_by h.0 s.deeds.steps (TrappedBy kind h.0) (acted_by budget carried (Halts (by.Trapped kind s))) h.1 refl (ap (λ (d : Deeds). d.steps) h.2.deeds) (sym h.2.deeds) (rw (h.2.cells, h.2.copies, h.2.deeds) refl)
 
--- An action of an agent that carries a store of its own, with a view of it: how its statements end, and what its code comes to
+-- The same of an action of an agent that carries a store of its own and sees a view of it, from any of its points
 pub acted_alike : (unit : Whole) (code : Code) (number : ℕ) (agent : AgentDecl) (its : AgentCode) → ((s t : RunState) (n : ℕ) → IsOver (run_code code its s n) t → Lasted code its s n t) → AgentAlike unit code number agent its
     → (point : ℕ) (store : Store) (view : View) (budget : ℕ) (final : Final) → point < length agent.points → IsStoreOf unit number agent store → IsViewOf unit number view → act unit.functions (rest agent.stmts point) (begun store view) ≡ Halts final
     → AreWithin budget (acted_as budget (carried_in store) (run_code code its (started (machine_at its point (carried_in store)) view) budget)) (acted_by budget (carried_in store) (act unit.functions (rest agent.stmts point) (begun (store_of agent (carried_in store)) view)))

@@ -5,16 +5,17 @@ use Rattle.psy_meaning.specs.Summary.{due_by, reach, slack}
 use Rattle.psy_history.specs.Compiled.{coded, stated}
 use Rattle.psy_history.specs.Scheduled.{turns_of}
 use Rattle.psy_history.proofs.LikeActions.{length_like}
-use Rattle.psy_history.proofs.LikeHistories.{histories_kept}
+use Rattle.psy_history.proofs.LikeHistories.{histories_like}
 use Rattle.psy_history.proofs.LikeReaches.{reach_same}
 use Rattle.psy_history.proofs.LikeLines.{events_same, most_held_same}
 use Rattle.psy_history.proofs.LikeSchedules.{due_like, slack_same, turns_same}
 use Rattle.psy_history.proofs.laws.alike.Goals as goal
 
 pub returns-clause-actions : goal.returns-clause-actions
-returns-clause-actions c unit code nexts stalls inputs compiled are dates agent =
+returns-clause-actions c unit code nexts stalls inputs compiled are =
     let sound : IsSoundUnit unit = c.sound.ensures.unit compiled.text.text.0 unit compiled.text.text.1 in
-    (histories_kept unit code nexts stalls inputs compiled are sound (λ number agent point store view has less is_store is_view. c.keeps.ensures.action unit number agent point store view sound has less is_store is_view) (λ number agent has. c.keeps.ensures.first unit number agent sound has) (λ its s t n over. c.lasting.ensures.lasted code its s t n over) dates agent).like
+    histories_like unit code nexts stalls inputs compiled are sound (λ number agent point store view. c.keeps.ensures.action unit number agent point store view sound) (λ number agent. c.keeps.ensures.first unit number agent sound)
+    (λ its. c.lasting.ensures.lasted code its)
 
 pub returns-clause-lines : goal.returns-clause-lines
 returns-clause-lines c unit code nexts stalls inputs compiled are date = events_same unit code nexts stalls inputs (returns-clause-actions c unit code nexts stalls inputs compiled are) date
