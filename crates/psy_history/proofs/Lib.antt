@@ -1,11 +1,22 @@
 mod Bounds
+mod Cuts
 mod Edges
+mod FitViews
+mod Given
+mod GivenHistory
+mod Granted
 mod KeptCycles
 mod KeptDates
+mod LateLooks
+mod LikeActions
+mod LikeHistories
+mod LikeLines
+mod LikeReaches
+mod LikeSchedules
+mod LikeViews
 mod NextStarts
+mod OneAction
 mod PathShifts
 mod Soonest
 mod Totals
-pub mod Given
-pub mod GivenHistory
-pub mod Turns
+mod Turns

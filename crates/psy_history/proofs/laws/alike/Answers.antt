@@ -1,0 +1,47 @@
+use Rattle.std.proofs.Common.{ap, ◌∙◌}
+use Rattle.psy_meaning.specs.History.{history}
+use Rattle.psy_meaning.specs.Sound.{IsSoundUnit}
+use Rattle.psy_meaning.specs.Summary.{due_by, reach, slack}
+use Rattle.psy_history.specs.Compiled.{coded, stated}
+use Rattle.psy_history.specs.Scheduled.{turns_of}
+use Rattle.psy_history.proofs.LikeActions.{length_like}
+use Rattle.psy_history.proofs.LikeHistories.{histories_like}
+use Rattle.psy_history.proofs.LikeReaches.{reach_same}
+use Rattle.psy_history.proofs.LikeLines.{events_same, most_held_same}
+use Rattle.psy_history.proofs.LikeSchedules.{due_like, slack_same, turns_same}
+use Rattle.psy_history.proofs.laws.alike.Goals as goal
+
+pub returns-clause-actions : goal.returns-clause-actions
+returns-clause-actions c unit code nexts stalls inputs compiled are =
+    let sound : IsSoundUnit unit = c.sound.ensures.unit compiled.text.text.0 unit compiled.text.text.1 in
+    histories_like unit code nexts stalls inputs compiled are sound (λ number agent point store view. c.keeps.ensures.action unit number agent point store view sound) (λ number agent. c.keeps.ensures.first unit number agent sound)
+    (λ its. c.lasting.ensures.lasted code its)
+
+pub returns-clause-lines : goal.returns-clause-lines
+returns-clause-lines c unit code nexts stalls inputs compiled are date = events_same unit code nexts stalls inputs (returns-clause-actions c unit code nexts stalls inputs compiled are) date
+
+pub returns-clause-schedule : goal.returns-clause-schedule
+returns-clause-schedule c unit code nexts stalls inputs compiled are order cycles =
+    turns_same order unit.quantum (history (coded unit code nexts stalls inputs)) (history (stated unit nexts stalls inputs)) (returns-clause-actions c unit code nexts stalls inputs compiled are) cycles
+
+pub returns-clause-counts : goal.returns-clause-counts
+returns-clause-counts c unit code nexts stalls inputs compiled are dates until agent =
+    let these = history (coded unit code nexts stalls inputs) dates agent in
+    let those = history (stated unit nexts stalls inputs) dates agent in
+    length_like (due_by until these) (due_by until those) (due_like until these those (returns-clause-actions c unit code nexts stalls inputs compiled are dates agent))
+
+pub returns-clause-slacks : goal.returns-clause-slacks
+returns-clause-slacks c unit code nexts stalls inputs compiled are order dates cycles until agent =
+    let these = history (coded unit code nexts stalls inputs) dates agent in
+    let those = history (stated unit nexts stalls inputs) dates agent in
+    ap (λ done. slack unit.quantum done (due_by until these)) (returns-clause-schedule c unit code nexts stalls inputs compiled are order cycles)
+    ∙ slack_same unit.quantum (turns_of (stated unit nexts stalls inputs) order cycles) (due_by until these) (due_by until those) (due_like until these those (returns-clause-actions c unit code nexts stalls inputs compiled are dates agent))
+
+pub returns-clause-held : goal.returns-clause-held
+returns-clause-held c unit code nexts stalls inputs compiled are until stream = most_held_same unit code nexts stalls inputs (returns-clause-actions c unit code nexts stalls inputs compiled are) until stream
+
+pub returns-clause-reaches : goal.returns-clause-reaches
+returns-clause-reaches c unit code nexts stalls inputs compiled are order dates cycles variable =
+    let same = returns-clause-schedule c unit code nexts stalls inputs compiled are order cycles in
+    ap (λ done. reach (coded unit code nexts stalls inputs) done (history (coded unit code nexts stalls inputs) dates) variable) same
+    ∙ reach_same unit code nexts stalls inputs (history (coded unit code nexts stalls inputs) dates) order cycles dates variable (returns-clause-actions c unit code nexts stalls inputs compiled are dates)
