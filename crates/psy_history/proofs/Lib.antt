@@ -1,0 +1,5 @@
+mod Timings
+mod Seeing
+mod Outcomes
+mod Starts
+mod Regulars
