@@ -3,3 +3,8 @@ mod Seeing
 mod Outcomes
 mod Starts
 mod Regulars
+mod NoLooks
+mod FunctionLooks
+mod LoneRuns
+mod Owned
+mod Alone
