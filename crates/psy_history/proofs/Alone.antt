@@ -1,24 +1,22 @@
 -- Where no agent looks at other dates and no stream is declared, the actions of a program's code run alone.
-use Rattle.std.proofs.Common.{◌≡◌, ℕ, zero, suc, ◌<◌, Bool, false, All, List, [], ◌∷◌, ◌++◌, Option, Some, None, length, map, get_or, refl, sym, ap, subst, ◌∙◌, arith}
-use Rattle.std.specs.Prelude.{ℤ, slice_get, replicate, true, ◌==◌}
+use Rattle.std.proofs.Common.{◌≡◌, ℕ, zero, suc, Bool, false, All, List, [], ◌∷◌, ◌++◌, Some, length, map, get_or, refl, sym, ap, subst, ◌∙◌, arith}
+use Rattle.std.specs.Prelude.{ℤ, slice_get, replicate, ◌==◌}
 use Rattle.std.specs.List.{list_any}
 use Rattle.std.proofs.lemmas.List.{length-replicate}
 use Rattle.std.proofs.lemmas.List.Elements.{All-head}
 use Rattle.std.proofs.lemmas.Option.{none-some, same_Some}
-use Rattle.psy_arith.specs.declared.operators.Trap.{Trap}
 use Rattle.psy_budget.specs.declared.charge.Stall.{Stall}
 use Rattle.psy_code.specs.declared.code.AgentCode.{AgentCode}
 use Rattle.psy_code.specs.declared.code.Code.{Code}
-use Rattle.psy_code.specs.declared.look.Sent.{Sent}
 use Rattle.psy_code.specs.Execution.{Run, RunState, RanTo, run_code, standing}
 use Rattle.psy_code.specs.Lasting.{IsOver}
-use Rattle.psy_code.specs.Views.{Deeds, View, nothing_done}
+use Rattle.psy_code.specs.Views.{Deeds, nothing_done}
 use Rattle.psy_tree.specs.declared.unit.AgentDecl.{AgentDecl}
 use Rattle.psy_tree.specs.declared.unit.StreamDecl.{StreamDecl}
 use Rattle.psy_tree.specs.declared.unit.Unit.{Unit as Whole}
 use Rattle.psy_meaning.specs.Actions.{Action, System}
-use Rattle.psy_meaning.specs.Alike.{EndsAs, IsStoreOf, SameAs, begun, first_copies, is_there, started}
-use Rattle.psy_meaning.specs.Executors.{Carried, agent_at, agent_code_at, carried_by, carried_in, machine_at}
+use Rattle.psy_meaning.specs.Alike.{EndsAs, IsStoreOf, SameAs, begun, is_there, started}
+use Rattle.psy_meaning.specs.Executors.{agent_at, agent_code_at, carried_by, carried_in, machine_at}
 use Rattle.psy_meaning.specs.History.{history}
 use Rattle.psy_meaning.specs.Kept.{AreDeedsOf, IsKept, IsSentOf}
 use Rattle.psy_meaning.specs.Rest.{rest}
@@ -27,14 +25,14 @@ use Rattle.psy_meaning.specs.States as by
 use Rattle.psy_meaning.specs.Statements.{act}
 use Rattle.psy_meaning.specs.Ways.{IsWay, Meter, To, callee_ways, met_by, unmetered}
 use Rattle.psy_meaning.proofs.NoWays.{or_false}
-use Rattle.psy_history.specs.Compiled.{AreInputs, IsBuilt, IsCompiled, agent_looks, coded, stmt_looks}
+use Rattle.psy_history.specs.Compiled.{AreInputs, IsBuilt, IsCompiled, agent_looks, coded}
 use Rattle.psy_history.specs.Regular.{RunsAlone, begun_by}
 use Rattle.psy_history.proofs.FunctionLooks.{blind_calls}
 use Rattle.psy_history.proofs.LoneRuns.{NoStreams, goes_alone}
 use Rattle.psy_history.proofs.NoLooks.{blind_rest, none_of}
 use Rattle.psy_history.proofs.Outcomes.{some_steps}
 use Rattle.psy_history.proofs.Owned.{has_copy}
-use Rattle.psy_history.proofs.Regulars.{Keeps, keeps}
+use Rattle.psy_history.proofs.Regulars.{keeps}
 use Rattle.psy_history.proofs.Starts.{AreLaws, IsOwn, alike, of_code, of_unit}
 
 -- ---- lists
@@ -80,8 +78,8 @@ module _ (unit : Whole) (code : Code) (built : IsBuilt unit) (laws : AreLaws uni
 -- ---- an action
 
 module _ (unit : Whole) (code : Code) (nexts : List (List (List ℕ))) (stalls : ℕ → List Stall) (inputs : List (List ℤ)) (laws : AreLaws unit code) (compiled : IsCompiled unit code nexts) (built : IsBuilt unit) where
-  abbrev S : System
-  S = coded unit code nexts stalls inputs
+  abbrev system : System
+  system = coded unit code nexts stalls inputs
 
   module _ (agent : ℕ) (r : Action) (own : IsOwn unit code nexts stalls inputs agent r) where
     abbrev decl : AgentDecl
@@ -105,7 +103,7 @@ module _ (unit : Whole) (code : Code) (nexts : List (List (List ℕ))) (stalls :
         ∙ ap (λ k. standing its point (record { cells = u.machine.home.cells; counters = replicate k 0 }) u.machine.copies) (length-replicate its.counters 0)
 
     -- one whose code ends as its statements do
-    alone_by : (s : State) (u : RunState) → IsOver (ran s.deeds.steps) u → SameAs s u → IsStoreOf unit agent decl s.store → AreDeedsOf unit agent s.deeds → s.deeds.looks ≡ [] → RunsAlone S code r
+    alone_by : (s : State) (u : RunState) → IsOver (ran s.deeds.steps) u → SameAs s u → IsStoreOf unit agent decl s.store → AreDeedsOf unit agent s.deeds → s.deeds.looks ≡ [] → RunsAlone system code r
     alone_by s u over same holds deeds looks =
         let lasted = laws.lasted its (begun_by its r) u s.deeds.steps over in
         let ended : IsOver (ran lasted.steps) u = subst (λ run. IsOver run u) (sym lasted.over) over in
@@ -123,11 +121,11 @@ module _ (unit : Whole) (code : Code) (nexts : List (List (List ℕ))) (stalls :
           copies = λ variable v is owns. has_copy unit agent variable v u.machine.copies is (owns ∙ ap Some own.agent_is) (ap (map (λ c. c.variable)) same.copies ∙ holds.variables);
         }
 
-    alone_in : (final : Final) → IsKept unit agent decl final → EndsAs (Halts final) ran → (state_in final).deeds.looks ≡ [] → RunsAlone S code r
+    alone_in : (final : Final) → IsKept unit agent decl final → EndsAs (Halts final) ran → (state_in final).deeds.looks ≡ [] → RunsAlone system code r
     alone_in (by.Ended point s) kept (u, ended, same) looks = alone_by s u (subst (λ run. IsOver run u) (sym ended) refl) same kept.1 kept.2 looks
     alone_in (by.Trapped kind s) kept (u, ended, same) looks = alone_by s u (subst (λ run. IsOver run u) (sym ended) refl) same kept.0 kept.1 looks
 
-    alone : RunsAlone S code r
+    alone : RunsAlone system code r
     alone =
         let kept = laws.keeps agent decl r.point own.store r.view of_agent own.known own.holds own.sees in
         let counters : List ℕ = replicate its.counters 0 in
@@ -136,7 +134,7 @@ module _ (unit : Whole) (code : Code) (nexts : List (List (List ℕ))) (stalls :
         let ours = subst (λ c. EndsAs (Halts kept.0) (run_code code its (started (machine_at its r.point c) r.view))) (sym own.carries) ends in
         alone_in kept.0 kept.2 ours (no_looks unit code built laws agent decl of_agent r.point (begun own.store r.view) kept.0 refl kept.1)
 
-  pub run_alone : AreInputs unit inputs → (dates agent : ℕ) → All (RunsAlone S code) (history S dates agent)
+  pub run_alone : AreInputs unit inputs → (dates agent : ℕ) → All (RunsAlone system code) (history system dates agent)
   run_alone given dates agent k d less =
-      let r = get_or (history S dates agent) k d in
+      let r = get_or (history system dates agent) k d in
       alone agent r ((keeps unit code nexts stalls inputs laws compiled given dates agent).own k d less)

@@ -1,5 +1,5 @@
 -- Instructions that ask nothing, on the way of a run that looks at nothing, sends nothing and sees no stream.
-use Rattle.std.proofs.Common.{◌≡◌, ◌≢◌, ℕ, zero, suc, ◌+◌, Bool, true, false, List, [], ◌∷◌, ◌++◌, map, Option, Some, None, refl, sym, ap, subst, ◌∙◌}
+use Rattle.std.proofs.Common.{◌≡◌, ◌≢◌, ℕ, zero, suc, ◌+◌, Bool, true, false, List, [], ◌∷◌, ◌++◌, Option, Some, None, refl, sym, ap, subst, ◌∙◌}
 use Rattle.std.specs.Prelude.{ℤ, IsSome, if◌then◌else◌, slice_get, slice_set, ⊤}
 use Rattle.psy_code.specs.declared.code.AgentCode.{AgentCode}
 use Rattle.psy_code.specs.declared.code.Code.{Code}
@@ -7,44 +7,43 @@ use Rattle.psy_code.specs.declared.instr.Instr.{Instr}
 use Rattle.psy_code.specs.declared.instr.Instr.TheVariants as instr
 use Rattle.psy_code.specs.Execution.{Machine, Next, Went, Ended, Trapped, Stuck, Run, RunState, Running, RanTo, TrappedBy, NoRun, call_by, call_of, does, deeds_then, go_on, has_room, instr_at, need, next_of, onward, push, run_by, run_code, run_one, state_then, view_then, with_top, within}
 use Rattle.psy_code.specs.Lasting.{GoesOn, IsFront}
-use Rattle.psy_code.specs.Views.{Call, Past, Ready, Take, Send, Deeds, Looked, View, ServesAll, found_in, messages_of, past_of, view_after, without_first}
-use Rattle.psy_code.specs.declared.look.Sent.{Sent}
+use Rattle.psy_code.specs.Views.{Call, Past, Ready, Take, Send, Deeds, View, ServesAll, found_in, messages_of, past_of, view_after, without_first}
 use Rattle.psy_history.specs.Regular.{GoesAlone}
 
 -- ---- instructions that look or send go on
 
-abbrev Leaves : Call → Type 0
-Leaves (Past variable back) = ⊤
-Leaves (Ready stream) = ⊥
-Leaves (Take stream) = ⊥
-Leaves (Send sent) = ⊤
+abbrev LeavesDeed : Call → Type 0
+LeavesDeed (Past variable back) = ⊤
+LeavesDeed (Ready stream) = ⊥
+LeavesDeed (Take stream) = ⊥
+LeavesDeed (Send sent) = ⊤
 
-abbrev Goes : Next → Type 0
-Goes next = (n : Machine) × (next ≡ Went n)
+abbrev IsGoing : Next → Type 0
+IsGoing next = (n : Machine) × (next ≡ Went n)
 
-room_went : (b : Bool) (m : Machine) → (if b then Went m else Stuck) ≢ Stuck → Goes (if b then Went m else Stuck)
+room_went : (b : Bool) (m : Machine) → (if b then Went m else Stuck) ≢ Stuck → IsGoing (if b then Went m else Stuck)
 room_went true m h = (m, refl)
 room_went false m h = absurd (h refl)
 
-send_went : (agent : AgentCode) (m : Machine) (operands : List ℤ) → within agent (with_top operands (λ v below. onward below m)) ≢ Stuck → Goes (within agent (with_top operands (λ v below. onward below m)))
+send_went : (agent : AgentCode) (m : Machine) (operands : List ℤ) → within agent (with_top operands (λ v below. onward below m)) ≢ Stuck → IsGoing (within agent (with_top operands (λ v below. onward below m)))
 send_went agent m [] h = absurd (h refl)
 send_went agent m (v ∷ below) h = room_went (has_room agent (record m { place = m.place + 1; operands = below })) (record m { place = m.place + 1; operands = below }) h
 
-past_went : (agent : AgentCode) (m : Machine) (found : Option ℤ) → within agent (need found (λ v. push v m)) ≢ Stuck → Goes (within agent (need found (λ v. push v m)))
+past_went : (agent : AgentCode) (m : Machine) (found : Option ℤ) → within agent (need found (λ v. push v m)) ≢ Stuck → IsGoing (within agent (need found (λ v. push v m)))
 past_went agent m None h = absurd (h refl)
 past_went agent m (Some v) h = room_went (has_room agent (record m { place = m.place + 1; operands = v ∷ m.operands })) (record m { place = m.place + 1; operands = v ∷ m.operands }) h
 
 same_call : (c d : Call) → Some c ≡ Some d → c ≡ d
 same_call c d e = cc
 
-leaves_went : (code : Code) (agent : AgentCode) (view : View) (m : Machine) (i : Instr) (call : Call) → Leaves call → call_by i m.operands ≡ Some call → within agent (does code agent view i m) ≢ Stuck → Goes (within agent (does code agent view i m))
+leaves_went : (code : Code) (agent : AgentCode) (view : View) (m : Machine) (i : Instr) (call : Call) → LeavesDeed call → call_by i m.operands ≡ Some call → within agent (does code agent view i m) ≢ Stuck → IsGoing (within agent (does code agent view i m))
 leaves_went code agent view m (instr.Send stream after clock) call l e h = send_went agent m m.operands h
 leaves_went code agent view m (instr.Past variable back) call l e h = past_went agent m (past_of view variable back) h
-leaves_went code agent view m (instr.Ready stream) call l e h = absurd (subst Leaves (sym (same_call (Ready stream) call e)) l)
-leaves_went code agent view m (instr.Take stream) call l e h = absurd (subst Leaves (sym (same_call (Take stream) call e)) l)
+leaves_went code agent view m (instr.Ready stream) call l e h = absurd (subst LeavesDeed (sym (same_call (Ready stream) call e)) l)
+leaves_went code agent view m (instr.Take stream) call l e h = absurd (subst LeavesDeed (sym (same_call (Take stream) call e)) l)
 leaves_went code agent view m i call l e h = cc
 
-went_by : (code : Code) (agent : AgentCode) (view : View) (m : Machine) (call : Call) (found : Option Instr) → Leaves call → need found (λ i. within agent (does code agent view i m)) ≢ Stuck → found_in found (λ i. call_by i m.operands) ≡ Some call → Goes (need found (λ i. within agent (does code agent view i m)))
+went_by : (code : Code) (agent : AgentCode) (view : View) (m : Machine) (call : Call) (found : Option Instr) → LeavesDeed call → need found (λ i. within agent (does code agent view i m)) ≢ Stuck → found_in found (λ i. call_by i m.operands) ≡ Some call → IsGoing (need found (λ i. within agent (does code agent view i m)))
 went_by code agent view m call None l h e = absurd (h refl)
 went_by code agent view m call (Some i) l h e = leaves_went code agent view m i call l e h
 
@@ -110,7 +109,7 @@ module _ (code : Code) (its : AgentCode) where
     abbrev asked : Option Call
     asked = call_of code on.state.machine
 
-    went : (call : Call) → Leaves call → asked ≡ Some call → IsFront (deeds_then on.state.deeds (Some call)) all
+    went : (call : Call) → LeavesDeed call → asked ≡ Some call → IsFront (deeds_then on.state.deeds (Some call)) all
     went call l e =
         let goes = went_by code its on.state.view on.state.machine call (instr_at code on.state.machine) l on.able e in
         subst (λ c. IsFront (deeds_then on.state.deeds c) all) e (on.behind goes.0 goes.1)

@@ -1,5 +1,5 @@
 -- Ways that look at no variable, where nothing on them holds a `past`.
-use Rattle.std.proofs.Common.{◌≡◌, ℕ, zero, suc, false, List, [], ◌∷◌, map, Some, None, refl, sym, ap, subst, ◌∙◌, inl, inr}
+use Rattle.std.proofs.Common.{◌≡◌, ℕ, zero, suc, false, List, [], ◌∷◌, map, Some, None, sym, ap, subst, ◌∙◌, inl, inr}
 use Rattle.std.specs.Prelude.{Bool, ◌||◌}
 use Rattle.std.specs.List.{list_any}
 use Rattle.std.proofs.lemmas.Bool.{true≢false}
@@ -13,10 +13,10 @@ use Rattle.psy_meaning.specs.Paths.{one_of}
 use Rattle.psy_meaning.specs.Rest.{rest}
 use Rattle.psy_meaning.specs.Sound.{Each}
 use Rattle.psy_meaning.specs.Statements.{Piece, Do, Hop}
-use Rattle.psy_meaning.specs.Ways.{Meter, Way, Course, End, Fell, Back, To, Sending, here, one, sending, both, either, falling, returning, leaving, reaching, behind, and_on, or_else, ways_through, binary_way, courses_through, turning, expr_way_step, expr_way, course_step, course_by, piece_course}
+use Rattle.psy_meaning.specs.Ways.{Meter, Way, Course, End, Fell, Back, To, Sending, here, one, sending, both, either, falling, returning, leaving, behind, and_on, or_else, ways_through, binary_way, courses_through, turning, expr_way_step, expr_way, course_step, course_by, piece_course}
 use Rattle.psy_meaning.proofs.Layers.{natural_expr, natural_stmt}
 use Rattle.psy_meaning.proofs.NoWays.{or_false}
-use Rattle.psy_meaning.proofs.RestPieces.{PartsHave, PieceHas, PiecesHave, rest_has}
+use Rattle.psy_meaning.proofs.RestPieces.{PartsHave, PiecesHave, rest_has}
 use Rattle.psy_history.specs.Compiled.{expr_looks, expr_looks_step, stmt_looks, stmt_looks_step}
 
 -- ---- ways and courses that leave the looks as they are

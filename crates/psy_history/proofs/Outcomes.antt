@@ -1,18 +1,16 @@
 -- What comes of an action by its code: where it ends, with what, and at what cost.
-use Rattle.std.proofs.Common.{◌≡◌, ◌≢◌, ℕ, zero, suc, ◌+◌, ◌<◌, ◌≤◌, All, List, Some, length, map, get_or, refl, sym, ap, subst, ◌∙◌, inl, inr, arith}
-use Rattle.std.specs.Prelude.{slice_get, replicate}
+use Rattle.std.proofs.Common.{◌≡◌, ℕ, zero, suc, ◌≤◌, All, refl, sym, subst, ◌∙◌, inl, inr, arith}
 use Rattle.std.proofs.lemmas.Bool.{cases_lt}
-use Rattle.std.proofs.lemmas.List.{length-replicate}
 use Rattle.psy_arith.specs.declared.operators.Trap.{Trap}
 use Rattle.psy_code.specs.declared.code.AgentCode.{AgentCode}
 use Rattle.psy_code.specs.declared.code.Code.{Code}
 use Rattle.psy_code.specs.Execution.{Run, RunState, Running, RanTo, TrappedBy, NoRun, go_on, run_code, run_one}
-use Rattle.psy_code.specs.Lasting.{IsOver, Lasted, StandsAt}
-use Rattle.psy_code.specs.Views.{Deeds, View, nothing_done}
+use Rattle.psy_code.specs.Lasting.{IsOver, Lasted}
+use Rattle.psy_code.specs.Views.{Deeds, View}
 use Rattle.psy_tree.specs.declared.unit.AgentDecl.{AgentDecl}
 use Rattle.psy_tree.specs.declared.unit.Unit.{Unit as Whole}
-use Rattle.psy_meaning.specs.Alike.{EndsAs, IsStoreOf, IsViewOf, SameAs, begun, started}
-use Rattle.psy_meaning.specs.Executors.{Acted, Carried, Fate, Reached, Unfinished, acted_as, carried_by, carried_in, machine_at}
+use Rattle.psy_meaning.specs.Alike.{EndsAs, IsStoreOf, SameAs, begun, started}
+use Rattle.psy_meaning.specs.Executors.{Acted, Reached, Unfinished, acted_as, carried_by, carried_in, machine_at}
 use Rattle.psy_meaning.specs.Executors as fate
 use Rattle.psy_meaning.specs.Flow.{IsNext}
 use Rattle.psy_meaning.specs.Kept.{IsAdvanceOf, IsKept, IsSentOf}
@@ -20,7 +18,6 @@ use Rattle.psy_meaning.specs.Rest.{rest}
 use Rattle.psy_meaning.specs.States.{Store, Final, Halts, State}
 use Rattle.psy_meaning.specs.States as by
 use Rattle.psy_meaning.specs.Statements.{act}
-use Rattle.psy_meaning.specs.Ways.{met_by}
 
 -- ---- runs that are over
 

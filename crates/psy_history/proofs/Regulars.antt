@@ -1,9 +1,8 @@
 -- The history of a program's code is regular.
-use Rattle.std.proofs.Common.{◌≡◌, ℕ, zero, suc, ◌<◌, ◌≤◌, Bool, true, false, All, List, [], ◌∷◌, Option, Some, None, length, refl, sym, ap, subst, ◌∙◌, arith}
+use Rattle.std.proofs.Common.{◌≡◌, ℕ, zero, suc, Bool, true, false, All, List, [], ◌∷◌, Option, Some, None, length, refl, sym, ap, arith}
 use Rattle.std.specs.Prelude.{◌==◌, if◌then◌else◌, ℤ}
 use Rattle.std.proofs.lemmas.Bool.Decides.{nat_tests}
 use Rattle.std.proofs.lemmas.List.Elements.{All-nil, All-cons}
-use Rattle.std.proofs.lemmas.Option.{none-some}
 use Rattle.psy_budget.specs.declared.charge.Stall.{Stall}
 use Rattle.psy_code.specs.declared.code.Code.{Code}
 use Rattle.psy_tree.specs.declared.unit.Unit.{Unit as Whole}
@@ -12,7 +11,7 @@ use Rattle.psy_meaning.specs.Alike.{IsViewOf}
 use Rattle.psy_meaning.specs.History.{action_of, history, with_start}
 use Rattle.psy_meaning.specs.Visible.{seen_at, view_of}
 use Rattle.psy_history.specs.Compiled.{AreInputs, IsCompiled, coded}
-use Rattle.psy_history.specs.Regular.{AreRegular, IsLawful, IsRegular, WasStarted, WereStarted}
+use Rattle.psy_history.specs.Regular.{AreRegular, IsLawful, IsRegular, WereStarted}
 use Rattle.psy_history.proofs.Seeing.{Fits, LeavesFit, MessageFits, get_or_holds, sees, zero_fits}
 use Rattle.psy_history.proofs.Starts.{AreLaws, IsOwn, MayGoOn, goes_on, leaves, opens, own, regular}
 
@@ -24,19 +23,19 @@ were_later s dates agent (r ∷ before) were =
     (record { next = was.next; is_next = was.is_next; at = omega (arith, was.at); made = was.made; number = was.number }, were_later s dates agent before were.1)
 
 module _ (unit : Whole) (code : Code) (nexts : List (List (List ℕ))) (stalls : ℕ → List Stall) (inputs : List (List ℤ)) (laws : AreLaws unit code) (compiled : IsCompiled unit code nexts) (given : AreInputs unit inputs) where
-  abbrev S : System
-  S = coded unit code nexts stalls inputs
+  abbrev system : System
+  system = coded unit code nexts stalls inputs
 
   -- What is kept at each date of the actions of an agent, and of where it goes on.
   pub record Keeps (dates agent : ℕ) (actions : List Action) : Type 0 where
-    pub are : AreRegular S dates agent actions
+    pub are : AreRegular system dates agent actions
     pub own : All (IsOwn unit code nexts stalls inputs agent) actions
     pub leave : All (LeavesFit unit) actions
-    pub next : (n : Next) → next_of S agent actions ≡ Some n → MayGoOn unit code nexts stalls inputs agent (length actions) n
+    pub next : (n : Next) → next_of system agent actions ≡ Some n → MayGoOn unit code nexts stalls inputs agent (length actions) n
 
   keeps_first : (agent : ℕ) → Keeps 0 agent []
   keeps_first agent = record {
-    are = record { were_started = tt {0}; each = All-nil (IsRegular S agent); few = omega arith };
+    are = record { were_started = tt {0}; each = All-nil (IsRegular system agent); few = omega arith };
     own = All-nil (IsOwn unit code nexts stalls inputs agent);
     leave = All-nil (LeavesFit unit);
     next = opens unit code nexts stalls inputs laws compiled agent;
@@ -44,33 +43,33 @@ module _ (unit : Whole) (code : Code) (nexts : List (List (List ℕ))) (stalls :
 
   keeps_on : (date agent : ℕ) (actions : List Action) → Keeps date agent actions → Keeps (suc date) agent actions
   keeps_on date agent actions k = record {
-    are = record { were_started = were_later S date agent actions k.are.were_started; each = k.are.each; few = omega (arith, k.are.few) };
+    are = record { were_started = were_later system date agent actions k.are.were_started; each = k.are.each; few = omega (arith, k.are.few) };
     own = k.own;
     leave = k.leave;
     next = k.next;
   }
 
-  module _ (date : ℕ) (all : (agent : ℕ) → Keeps date agent (history S date agent)) (agent : ℕ) where
+  module _ (date : ℕ) (all : (agent : ℕ) → Keeps date agent (history system date agent)) (agent : ℕ) where
     abbrev before : List Action
-    before = history S date agent
+    before = history system date agent
 
-    seeing : (n : Next) → IsViewOf unit agent (view_of S (history S date) agent n.start (seen_at S (history S date) n.start))
+    seeing : (n : Next) → IsViewOf unit agent (view_of system (history system date) agent n.start (seen_at system (history system date) n.start))
     seeing n =
-        sees S (λ variable. get_or_holds (λ v. Fits v.init) unit.variables variable _ zero_fits laws.sound.values) (λ stream. All-nil MessageFits) given.values laws.sound.values
-        (history S date) (λ a. (all a).leave) agent n.start
+        sees system (λ variable. get_or_holds (λ v. Fits v.init) unit.variables variable _ zero_fits laws.sound.values) (λ stream. All-nil MessageFits) given.values laws.sound.values
+        (history system date) (λ a. (all a).leave) agent n.start
 
-    keeps_new : (n : Next) → next_of S agent before ≡ Some n → n.start ≡ date → Keeps (suc date) agent (action_of S (history S date) agent n ∷ before)
+    keeps_new : (n : Next) → next_of system agent before ≡ Some n → n.start ≡ date → Keeps (suc date) agent (action_of system (history system date) agent n ∷ before)
     keeps_new n is at =
         let k = all agent in
-        let h = history S date in
-        let r : Action = action_of S h agent n in
+        let h = history system date in
+        let r : Action = action_of system h agent n in
         let goes = k.next n is in
-        let view = view_of S h agent n.start (seen_at S h n.start) in
-        let seen = seen_at S h n.start in
+        let view = view_of system h agent n.start (seen_at system h n.start) in
+        let seen = seen_at system h n.start in
         record {
           are = record {
-            were_started = (record { next = n; is_next = is; at = omega (arith, at); made = ap (λ d. action_of S (history S d) agent n) (sym at); number = goes.numbered }, were_later S date agent before k.are.were_started);
-            each = All-cons (IsRegular S agent) r before (regular unit code nexts stalls inputs laws compiled agent (length before) n goes view seen (seeing n)) k.are.each;
+            were_started = (record { next = n; is_next = is; at = omega (arith, at); made = ap (λ d. action_of system (history system d) agent n) (sym at); number = goes.numbered }, were_later system date agent before k.are.were_started);
+            each = All-cons (IsRegular system agent) r before (regular unit code nexts stalls inputs laws compiled agent (length before) n goes view seen (seeing n)) k.are.each;
             few = omega (arith, k.are.few);
           };
           own = All-cons (IsOwn unit code nexts stalls inputs agent) r before (own unit code nexts stalls inputs laws compiled agent (length before) n goes view seen (seeing n)) k.own;
@@ -78,19 +77,19 @@ module _ (unit : Whole) (code : Code) (nexts : List (List (List ℕ))) (stalls :
           next = goes_on unit code nexts stalls inputs laws compiled agent (length before) n goes view seen (seeing n);
         }
 
-    keeps_if : (n : Next) → next_of S agent before ≡ Some n → (b : Bool) → (n.start == date) ≡ b → Keeps (suc date) agent (if b then action_of S (history S date) agent n ∷ before else before)
+    keeps_if : (n : Next) → next_of system agent before ≡ Some n → (b : Bool) → (n.start == date) ≡ b → Keeps (suc date) agent (if b then action_of system (history system date) agent n ∷ before else before)
     keeps_if n is true e = keeps_new n is (grind (arith, nat_tests, e))
     keeps_if n is false e = keeps_on date agent before (all agent)
 
-    keeps_by : (o : Option Next) → next_of S agent before ≡ o → Keeps (suc date) agent (with_start S (history S date) date agent before o)
+    keeps_by : (o : Option Next) → next_of system agent before ≡ o → Keeps (suc date) agent (with_start system (history system date) date agent before o)
     keeps_by None is = keeps_on date agent before (all agent)
     keeps_by (Some n) is = keeps_if n is (n.start == date) refl
 
-  pub keeps : (dates agent : ℕ) → Keeps dates agent (history S dates agent)
+  pub keeps : (dates agent : ℕ) → Keeps dates agent (history system dates agent)
   keeps zero agent = keeps_first agent
-  keeps (suc date) agent = keeps_by date (keeps date) agent (next_of S agent (history S date agent)) refl
+  keeps (suc date) agent = keeps_by date (keeps date) agent (next_of system agent (history system date agent)) refl
 
-  pub lawful : IsLawful S
+  pub lawful : IsLawful system
   lawful = record {
     opening = λ agent n is. let goes = opens unit code nexts stalls inputs laws compiled agent n is in (goes.less, goes.starts, goes.numbered);
     actions = λ dates agent. (keeps dates agent).are;

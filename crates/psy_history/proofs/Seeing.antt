@@ -1,5 +1,5 @@
 -- What an action sees: values of 32 bits, as many of each variable as its depth.
-use Rattle.std.proofs.Common.{◌≡◌, ℕ, zero, suc, ◌+◌, Bool, true, false, List, [], ◌∷◌, ◌++◌, All, length, map, get_or, Option, Some, None, refl, sym, ap, subst, ◌∙◌, arith}
+use Rattle.std.proofs.Common.{◌≡◌, ℕ, zero, suc, ◌+◌, Bool, true, false, List, [], ◌∷◌, All, length, map, get_or, Option, Some, None, refl, sym, ap, ◌∙◌, arith}
 use Rattle.std.specs.Prelude.{ℤ, pos, FitsSigned, if◌then◌else◌, ◌==◌, ◌-◌, nat_le, nat_lt}
 use Rattle.std.specs.Int.{w32}
 use Rattle.std.specs.List.{flat_map, range_with_len}
@@ -18,7 +18,7 @@ use Rattle.psy_meaning.specs.Alike.{AllFit, IsViewOf, MessagesFit, is_there}
 use Rattle.psy_meaning.specs.Executors.{Carried, copy_in}
 use Rattle.psy_meaning.specs.Kept.{IsSentOf}
 use Rattle.psy_meaning.specs.States.{value_or_zero}
-use Rattle.psy_meaning.specs.Visible.{commit, committed_in, in_order, input_value, is_in_view, message_of, messages, messages_by, messages_from, nth_or_last, past, published, published_by, seen_at, sent_to, values_for, view_of}
+use Rattle.psy_meaning.specs.Visible.{commit, committed_in, in_order, input_value, message_of, messages, messages_by, messages_from, nth_or_last, past, published, published_by, seen_at, sent_to, values_for, view_of}
 
 -- ---- lists
 

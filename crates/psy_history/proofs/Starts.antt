@@ -1,5 +1,5 @@
 -- What the laws say of a program's code, and of each action of it that starts.
-use Rattle.std.proofs.Common.{◌≡◌, ℕ, zero, suc, ◌+◌, ◌<◌, ◌≤◌, Bool, true, false, All, List, [], ◌∷◌, Option, Some, None, length, get_or, refl, sym, ap, subst, ◌∙◌, arith}
+use Rattle.std.proofs.Common.{◌≡◌, ℕ, suc, ◌+◌, ◌<◌, ◌≤◌, Bool, true, false, All, List, [], Option, Some, None, length, get_or, refl, sym, ap, subst, ◌∙◌, arith}
 use Rattle.std.specs.Prelude.{slice_get, FitsSigned, if◌then◌else◌, nat_lt, replicate, ℤ}
 use Rattle.std.specs.Int.{w32}
 use Rattle.std.specs.List.{Contains}
@@ -15,7 +15,7 @@ use Rattle.psy_code.specs.Lasting.{IsOver, Lasted, StandsAt}
 use Rattle.psy_code.specs.Views.{View, found_in, nothing_done}
 use Rattle.psy_tree.specs.declared.unit.AgentDecl.{AgentDecl}
 use Rattle.psy_tree.specs.declared.unit.Unit.{Unit as Whole}
-use Rattle.psy_meaning.specs.Actions.{Action, Next, System, Verdict, Done, charge_of, first_action, next_by, next_of, timing, verdict_by, verdict_of}
+use Rattle.psy_meaning.specs.Actions.{Action, Next, System, Verdict, Done, charge_of, first_action, next_by, timing, verdict_by, verdict_of}
 use Rattle.psy_meaning.specs.Actions as verdict
 use Rattle.psy_meaning.specs.Alike.{AgentAlike, EndsAs, IsStoreOf, IsViewOf, begun, first_store, started}
 use Rattle.psy_meaning.specs.Executors.{Acted, Carried, Fate, Reached, Unfinished, acted_as, agent_at, agent_code_at, by_code, carried_in, machine_at}
@@ -28,10 +28,10 @@ use Rattle.psy_meaning.specs.Sound.{IsSoundUnit}
 use Rattle.psy_meaning.specs.States.{Final, Halts, State, Store}
 use Rattle.psy_meaning.specs.States as by
 use Rattle.psy_meaning.specs.Statements.{Piece, act}
-use Rattle.psy_meaning.specs.Timing.{MayStart, Timing, budget_at, deadline, end_date, first_date, following}
+use Rattle.psy_meaning.specs.Timing.{MayStart, Timing, budget_at, deadline, end_date, following}
 use Rattle.psy_meaning.specs.Timing as may
 use Rattle.psy_meaning.specs.Ways.{IsFrontOf, IsWay, Meter, met_by}
-use Rattle.psy_history.specs.Compiled.{AreInputs, IsCompiled, coded}
+use Rattle.psy_history.specs.Compiled.{IsCompiled, coded}
 use Rattle.psy_history.specs.Regular.{IsRegular}
 use Rattle.psy_history.proofs.Outcomes.{IsOutcome, outcome}
 use Rattle.psy_history.proofs.Seeing.{LeavesFit}
@@ -69,19 +69,19 @@ done_end : (p q d e : ℕ) → Done p d ≡ Done q e → d ≡ e
 done_end p q d e h = cc
 
 -- one that is done reached the point, whose date is its end
-done_by : (T : Timing) (start : ℕ) (f : Fate) (p e : ℕ) → verdict_by T start f ≡ Done p e → (f ≡ Reached p) × (e ≡ end_date T start p)
-done_by T start (Reached q) p e h =
-    let at = done_point q p (end_date T start q) e h in
-    (ap Reached at, sym (done_end q p (end_date T start q) e h) ∙ ap (end_date T start) at)
-done_by T start (fate.Trapped kind) p e h = absurd (trapped_not_done kind p e h)
-done_by T start Unfinished p e h = absurd (overran_not p e h)
+done_by : (times : Timing) (start : ℕ) (f : Fate) (p e : ℕ) → verdict_by times start f ≡ Done p e → (f ≡ Reached p) × (e ≡ end_date times start p)
+done_by times start (Reached q) p e h =
+    let at = done_point q p (end_date times start q) e h in
+    (ap Reached at, sym (done_end q p (end_date times start q) e h) ∙ ap (end_date times start) at)
+done_by times start (fate.Trapped kind) p e h = absurd (trapped_not_done kind p e h)
+done_by times start Unfinished p e h = absurd (overran_not p e h)
 
-done_if : (b : Bool) (T : Timing) (start : ℕ) (f : Fate) (p e : ℕ) → (if b then verdict.Overran else verdict_by T start f) ≡ Done p e → (f ≡ Reached p) × (e ≡ end_date T start p)
-done_if true T start f p e h = absurd (overran_not p e h)
-done_if false T start f p e h = done_by T start f p e h
+done_if : (b : Bool) (times : Timing) (start : ℕ) (f : Fate) (p e : ℕ) → (if b then verdict.Overran else verdict_by times start f) ≡ Done p e → (f ≡ Reached p) × (e ≡ end_date times start p)
+done_if true times start f p e h = absurd (overran_not p e h)
+done_if false times start f p e h = done_by times start f p e h
 
-done_of : (T : Timing) (start budget charge : ℕ) (f : Fate) (p e : ℕ) → verdict_of T start budget charge f ≡ Done p e → (f ≡ Reached p) × (e ≡ end_date T start p)
-done_of T start budget charge f p e h = done_if (nat_lt budget charge) T start f p e h
+done_of : (times : Timing) (start budget charge : ℕ) (f : Fate) (p e : ℕ) → verdict_of times start budget charge f ≡ Done p e → (f ≡ Reached p) × (e ≡ end_date times start p)
+done_of times start budget charge f p e h = done_if (nat_lt budget charge) times start f p e h
 
 -- only one that is done is followed by another
 next_done : (number : ℕ) (carried : Carried) (v : Verdict) (n : Next) → next_by number carried v ≡ Some n → (p e : ℕ) × (v ≡ Done p e) × (n ≡ record { number = number + 1; point = p; start = e; carried = carried })
@@ -90,14 +90,14 @@ next_done number carried (verdict.Trapped kind) n h = absurd (none-some n h)
 next_done number carried verdict.Overran n h = absurd (none-some n h)
 
 module _ (unit : Whole) (code : Code) (nexts : List (List (List ℕ))) (stalls : ℕ → List Stall) (inputs : List (List ℤ)) where
-  abbrev pub S : System
-  S = coded unit code nexts stalls inputs
+  abbrev pub system : System
+  system = coded unit code nexts stalls inputs
 
   -- An agent may go on so, after this many actions: at one of its points, at a date that its graph knows, with a store of its own.
   pub record MayGoOn (agent count : ℕ) (n : Next) : Type 0 where
     pub less : agent < length unit.agents
     pub known : n.point < length (agent_at unit agent).points
-    pub starts : MayStart (timing S agent) n.point n.start
+    pub starts : MayStart (timing system agent) n.point n.start
     pub numbered : n.number ≡ count
     pub store : Store
     pub holds : IsStoreOf unit agent (agent_at unit agent) store
@@ -139,7 +139,7 @@ module _ (unit : Whole) (code : Code) (nexts : List (List (List ℕ))) (stalls :
       carries = rw ((alike agent less).cells, (alike agent less).copies) refl;
     }
 
-    pub opens : (agent : ℕ) (n : Next) → S.opening.starts agent ≡ Some n → MayGoOn agent 0 n
+    pub opens : (agent : ℕ) (n : Next) → system.opening.starts agent ≡ Some n → MayGoOn agent 0 n
     opens agent n e = from (slice_get unit.agents agent) refl e
       where
         from : (o : Option AgentDecl) → slice_get unit.agents agent ≡ o → found_in o (λ a. Some (first_action unit nexts (by_code code) agent)) ≡ Some n → MayGoOn agent 0 n
@@ -155,17 +155,17 @@ module _ (unit : Whole) (code : Code) (nexts : List (List (List ℕ))) (stalls :
       abbrev its : AgentCode
       its = agent_code_at code agent
 
-      abbrev T : Timing
-      T = timing S agent
+      abbrev times : Timing
+      times = timing system agent
 
       abbrev budget : ℕ
-      budget = budget_at T n.point
+      budget = budget_at times n.point
 
       abbrev by_carried : Carried → Acted
       by_carried carried = acted_as budget carried (run_code code its (started (machine_at its n.point carried) view) budget)
 
       abbrev r : Action
-      r = executed S agent n view seen
+      r = executed system agent n view seen
 
       comes : IsOutcome unit agent decl n.point (by_carried n.carried)
       comes =
@@ -178,24 +178,24 @@ module _ (unit : Whole) (code : Code) (nexts : List (List (List ℕ))) (stalls :
           (outcome unit code agent decl its n.point budget goes.store view (λ k t. laws.lasted its _ t k) kept.0 kept.1 kept.2 ends
           (λ to t e. (met_by t.deeds, laws.ways (rest decl.stmts n.point) to (begun goes.store view) t refl e)))
 
-      some_next : (to : ℕ) × Contains (following T n.point) to
+      some_next : (to : ℕ) × Contains (following times n.point) to
       some_next =
           let at = of_unit agent goes.less in
           let (to, next) = laws.goes_on agent decl n.point at in
           (to, followed unit agent decl (get_or nexts agent []) compiled.text at (are agent goes.less) n.point to goes.known next)
 
-      done : (p e : ℕ) → r.verdict ≡ Done p e → ((by_carried n.carried).fate ≡ Reached p) × (e ≡ end_date T n.start p)
-      done p e h = done_of T n.start budget (charge_of S agent n.number (by_carried n.carried).deeds.steps) (by_carried n.carried).fate p e h
+      done : (p e : ℕ) → r.verdict ≡ Done p e → ((by_carried n.carried).fate ≡ Reached p) × (e ≡ end_date times n.start p)
+      done p e h = done_of times n.start budget (charge_of system agent n.number (by_carried n.carried).deeds.steps) (by_carried n.carried).fate p e h
 
-      ends : (p e : ℕ) → r.verdict ≡ Done p e → Contains (following T n.point) p × (e ≡ end_date T n.start p) × (deadline T n.point n.start ≤ e)
+      ends : (p e : ℕ) → r.verdict ≡ Done p e → Contains (following times n.point) p × (e ≡ end_date times n.start p) × (deadline times n.point n.start ≤ e)
       ends p e h =
           let at = of_unit agent goes.less in
           let (is, end) = done p e h in
           let c = followed unit agent decl (get_or nexts agent []) compiled.text at (are agent goes.less) n.point p goes.known (comes.reached p is).1 in
           let least = deadline_least unit agent decl (get_or nexts agent []) compiled.text at (are agent goes.less) n.point n.start p c in
-          (c, end, subst (λ d. deadline T n.point n.start ≤ d) (sym end) least)
+          (c, end, subst (λ d. deadline times n.point n.start ≤ d) (sym end) least)
 
-      pub regular : IsRegular S agent r
+      pub regular : IsRegular system agent r
       regular =
           let at = of_unit agent goes.less in
           let (to, c) = some_next in
@@ -230,7 +230,7 @@ module _ (unit : Whole) (code : Code) (nexts : List (List (List ℕ))) (stalls :
           subst (MayGoOn agent (suc count)) (sym next) (record {
             less = goes.less;
             known = reached.0.1;
-            starts = subst (MayStart T p) (sym end) (may.later n.point n.start p goes.starts c);
+            starts = subst (MayStart times p) (sym end) (may.later n.point n.start p goes.starts c);
             numbered = omega (arith, goes.numbered);
             store = reached.3;
             holds = reached.4;

@@ -1,12 +1,10 @@
 -- When the actions of an agent of a text are due and end.
-use Rattle.std.proofs.Common.{◌≡◌, ℕ, zero, suc, ◌<◌, ◌≤◌, List, [], ◌∷◌, All, length, map, get_or, Some, refl, sym, ap, subst, ◌∙◌, inl, inr, arith}
+use Rattle.std.proofs.Common.{◌≡◌, ℕ, zero, suc, ◌<◌, ◌≤◌, List, [], ◌∷◌, All, length, map, get_or, Some, refl, ap, subst, ◌∙◌, arith}
 use Rattle.std.specs.Prelude.{slice_get}
 use Rattle.std.specs.List.{Contains}
-use Rattle.std.proofs.lemmas.Bool.{cases_lt}
-use Rattle.std.proofs.lemmas.List.{get_or-map, get_or_past, length-map}
-use Rattle.std.proofs.lemmas.List.Elements.{All-head, All-tail, All-get_or, All-map, All-contains_itself}
+use Rattle.std.proofs.lemmas.List.{get_or-map, length-map}
+use Rattle.std.proofs.lemmas.List.Elements.{All-head, All-tail, All-map, All-contains_itself}
 use Rattle.std.proofs.lemmas.Option.{get_or_from_slice_get, slice_get-get_or, slice_get_within}
-use Rattle.psy_base.specs.declared.limits.TheConstants.{BUDGET}
 use Rattle.psy_clock.specs.declared.clock.Clock.{Clock}
 use Rattle.psy_clock.specs.Dates.{IsClock, after_date}
 use Rattle.psy_tree.specs.declared.unit.AgentDecl.{AgentDecl}
@@ -14,7 +12,7 @@ use Rattle.psy_tree.specs.declared.unit.Point.{Point}
 use Rattle.psy_tree.specs.declared.unit.Unit.{Unit as Whole}
 use Rattle.psy_meaning.specs.Flow.{AreNexts, IsNext}
 use Rattle.psy_meaning.specs.Timing.{Timing, timing_of, budget_at, clock_at, deadline, end_date, following, least, point_at}
-use Rattle.psy_meaning.specs.Units.{HasHead, IsBareAgent, IsBarePoint, IsOfText, Within}
+use Rattle.psy_meaning.specs.Units.{HasHead, IsBareAgent, IsBarePoint, IsOfText}
 
 -- ---- the least of some numbers
 
@@ -68,32 +66,32 @@ abbrev pub ComesLate : Type 0
 ComesLate = (c : Clock) (t k : ℕ) → IsClock c → 1 ≤ k → t < after_date c t k
 
 module _ (unit : Whole) (number : ℕ) (agent : AgentDecl) (nexts : List (List ℕ)) (text : IsOfText unit) (of_unit : slice_get unit.agents number ≡ Some agent) (are : AreNexts unit.functions agent nexts) where
-  abbrev T : Timing
-  T = timing_of unit agent nexts
+  abbrev times : Timing
+  times = timing_of unit agent nexts
 
   bare : IsBareAgent unit agent
   bare = subst (IsBareAgent unit) (get_or_from_slice_get unit.agents number agent agent of_unit) (text.bare.agents number agent (slice_get_within unit.agents number agent of_unit))
 
-  pub granted : (point : ℕ) → point < length agent.points → 1 ≤ budget_at T point
+  pub granted : (point : ℕ) → point < length agent.points → 1 ≤ budget_at times point
   granted point less = granted_in unit agent bare.budget.0 agent.points bare.points point _ less
 
   -- what follows a point is what its code may reach
-  pub follows : (point to : ℕ) → Contains (following T point) to → IsNext unit.functions agent point to
+  pub follows : (point to : ℕ) → Contains (following times point) to → IsNext unit.functions agent point to
   follows point to c = (are.each point (get_or nexts point []) (listed nexts point to c) to).0 c
 
-  pub followed : (point to : ℕ) → point < length agent.points → IsNext unit.functions agent point to → Contains (following T point) to
+  pub followed : (point to : ℕ) → point < length agent.points → IsNext unit.functions agent point to → Contains (following times point) to
   followed point to less next = (are.each point (get_or nexts point []) (slice_get-get_or nexts point [] (omega (arith, less, are.length))) to).1 next
 
-  pub deadline_least : (point start to : ℕ) → Contains (following T point) to → deadline T point start ≤ end_date T start to
-  deadline_least point start to c = least_below (map (end_date T start) (following T point)) (end_date T start to) (contains_map (end_date T start) (following T point) to c)
+  pub deadline_least : (point start to : ℕ) → Contains (following times point) to → deadline times point start ≤ end_date times start to
+  deadline_least point start to c = least_below (map (end_date times start) (following times point)) (end_date times start to) (contains_map (end_date times start) (following times point) to c)
 
   module _ (late : ComesLate) (within : (point to : ℕ) → IsNext unit.functions agent point to → (1 ≤ to) × (to < length agent.points)) where
-    ends_late : (point start to : ℕ) → Contains (following T point) to → start < end_date T start to
+    ends_late : (point start to : ℕ) → Contains (following times point) to → start < end_date times start to
     ends_late point start to c =
         let inner = within point to (follows point to c) in
-        late (clock_at T (point_at T to).clock) start (point_at T to).count (clock_lawful unit.clocks (point_at T to).clock text.bare.clocks) (counted unit agent agent.points bare.points to _ inner.0 inner.1)
+        late (clock_at times (point_at times to).clock) start (point_at times to).count (clock_lawful unit.clocks (point_at times to).clock text.bare.clocks) (counted unit agent agent.points bare.points to _ inner.0 inner.1)
 
-    pub due_late : (point start to : ℕ) → Contains (following T point) to → start < deadline T point start
+    pub due_late : (point start to : ℕ) → Contains (following times point) to → start < deadline times point start
     due_late point start to c =
-        least_above start (map (end_date T start) (following T point)) (omega (arith, length-map (following T point) (end_date T start), c.1))
-        (All-map (λ n. start < n) (end_date T start) (following T point) (λ k d less. ends_late point start (get_or (following T point) k d) (All-contains_itself (following T point) k d less)))
+        least_above start (map (end_date times start) (following times point)) (omega (arith, length-map (following times point) (end_date times start), c.1))
+        (All-map (λ n. start < n) (end_date times start) (following times point) (λ k d less. ends_late point start (get_or (following times point) k d) (All-contains_itself (following times point) k d less)))

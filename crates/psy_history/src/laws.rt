@@ -15,8 +15,8 @@ ghost use Rattle.psy_history.specs.Likeness.{AreLike};
 ghost use Rattle.psy_history.specs.Regular.{IsLawful, RunsAlone};
 ghost use Rattle.psy_history.specs.Scheduled.{IsFinished, IsSupplied, turns_of};
 
-use psy_code::laws::lasting;
 use psy_clock::laws::distances;
+use psy_code::laws::lasting;
 use psy_flow::laws::{known, nexts};
 use psy_meaning::laws::{keeps, sound, traps, ways};
 

@@ -1,4 +1,3 @@
-use Rattle.std.proofs.Common.{ℕ, List, refl}
 use Rattle.psy_code.specs.declared.code.Code.{Code}
 use Rattle.psy_tree.specs.declared.unit.Unit.{Unit as Whole}
 use Rattle.psy_meaning.specs.Units.{IsOfText}
