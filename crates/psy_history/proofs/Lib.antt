@@ -1,7 +1,9 @@
+mod Alone
 mod Bounds
 mod Cuts
 mod Edges
 mod FitViews
+mod FunctionLooks
 mod Given
 mod GivenHistory
 mod Granted
@@ -14,9 +16,17 @@ mod LikeLines
 mod LikeReaches
 mod LikeSchedules
 mod LikeViews
+mod LoneRuns
 mod NextStarts
+mod NoLooks
 mod OneAction
+mod Outcomes
+mod Owned
 mod PathShifts
+mod Regulars
+mod Seeing
 mod Soonest
+mod Starts
+mod Timings
 mod Totals
 mod Turns

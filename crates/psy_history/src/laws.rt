@@ -15,8 +15,9 @@ ghost use Rattle.psy_history.specs.Likeness.{AreLike};
 ghost use Rattle.psy_history.specs.Regular.{IsLawful, RunsAlone};
 ghost use Rattle.psy_history.specs.Scheduled.{IsFinished, IsSupplied, turns_of};
 
-use psy_code::laws::lasting;
 use psy_clock::laws::distances;
+use psy_code::laws::lasting;
+use psy_flow::laws::{known, nexts};
 use psy_meaning::laws::{keeps, sound, traps, ways};
 
 /// The history of a program's code is regular, and where no agent looks at other dates and no stream is declared, its actions run
@@ -32,6 +33,8 @@ pub fn regular()
     traps();
     lasting();
     distances();
+    known();
+    nexts();
 }
 
 /// Code that acts as a program's statements has their history, but for what actions do beyond their budgets; so it has the same
