@@ -1,6 +1,5 @@
 mod AllNexts
 mod BehindTops
-mod Bounds
 mod CallTops
 mod Capped
 mod CappedCosts

@@ -10,7 +10,8 @@ use Rattle.psy_tree.specs.declared.unit.AgentDecl.{AgentDecl}
 use Rattle.psy_tree.specs.declared.unit.FunctionDecl.{FunctionDecl}
 use Rattle.psy_tree.specs.declared.unit.Stmt.{Stmt}
 use Rattle.psy_tree.specs.declared.unit.Unit.{Unit as Whole}
-use Rattle.psy_meaning.specs.Paths.{advances_in, NoneAdvances}
+use Rattle.psy_meaning.specs.Kept.{IsAdvanceOf}
+use Rattle.psy_meaning.specs.Paths.{NoneAdvances}
 use Rattle.psy_meaning.specs.Rest.{rest, rests_of_list}
 use Rattle.psy_meaning.specs.Statements.{Piece}
 use Rattle.psy_meaning.specs.Sound.{Each, IsSoundAgent}
@@ -22,7 +23,6 @@ use Rattle.psy_flow.specs.Agents.{IsAgentOf, IsKnown}
 use Rattle.psy_meaning.specs.Flow.{IsNext}
 use Rattle.psy_flow.specs.Reach.{marked, pieces_reach, numbers_of}
 use Rattle.psy_flow.specs.Tops.{called, calls_most, pieces_tops}
-use Rattle.psy_flow.proofs.Bounds.{way_fine}
 use Rattle.psy_flow.proofs.Greatest.{IsTopTo, top_to, row_of}
 use Rattle.psy_flow.proofs.MarkedNumbers.{numbered, numbers}
 use Rattle.psy_flow.proofs.Related.{Either, pieces_related}
@@ -71,14 +71,6 @@ module _ (functions : List FunctionDecl) (none : NoneAdvances functions) (pieces
   pub way_reached : (met : Meter) → IsWay functions pieces to met → pieces_reach pieces to ≡ true
   way_reached met way = reach_same ∙ top_there top met its_top way
 
--- A point of an `advance`
-abbrev pub IsInner : AgentDecl → ℕ → Type 0
-IsInner agent to = (1 ≤ to) × (to < length agent.points)
-
-inner_range : (agent : AgentDecl) (start count : ℕ) → 1 ≤ start → start + count ≤ length agent.points → Each (IsInner agent) (range_with_len start count)
-inner_range agent start zero h k = tt
-inner_range agent start (suc count) h k = ((h, omega (arith, k)), inner_range agent (start + 1) count (omega arith) (omega (arith, k)))
-
 module _ (unit : Whole) (number : ℕ) (agent : AgentDecl) (its : IsAgentOf unit number agent) (k : IsKnown unit number agent) where
   own : IsSoundAgent unit number agent
   own = k.sound.agents number agent its.1
@@ -92,22 +84,17 @@ module _ (unit : Whole) (number : ℕ) (agent : AgentDecl) (its : IsAgentOf unit
       let known = subst (IsBareAgent unit) (get_or_from_slice_get unit.agents number agent agent its.1) bare in
       known.limit
 
-  pub next_inner : (point to : ℕ) → IsNext unit.functions agent point to → IsInner agent to
-  next_inner point to (met, way) =
-      let inner = inner_range agent 1 (length (advances_in agent.stmts)) (omega arith) (omega (arith, own.points)) in
-      way_fine (IsInner agent) (callee_ways unit.functions) agent.stmts point to unmetered met (subst (Each (IsInner agent)) (sym own.numbered) inner) way
-
   module _ (point : ℕ) (points : List ℕ) (are : points ≡ numbers_of (marks_from agent point)) where
     pub numbers_next : (to : ℕ) → Contains points to ↔ IsNext unit.functions agent point to
     numbers_next to =
         let pieces = rest agent.stmts point in
         let count = length agent.points in (
           λ c. reached_way unit.functions k.none pieces to (numbered count to (pieces_reach pieces) (subst (λ l. Contains l to) are c)),
-          λ next. subst (λ l. Contains l to) (sym are) (numbers count to (pieces_reach pieces) (next_inner point to next).1 (way_reached unit.functions k.none pieces to next.0 next.1)),
+          λ next. subst (λ l. Contains l to) (sym are) (numbers count to (pieces_reach pieces) (k.inner point to next).1 (way_reached unit.functions k.none pieces to next.0 next.1)),
         )
 
     pub some_next : 0 < length points
     some_next = let (to, next) = k.goes_on point in let (i, less, is) = (numbers_next to).1 next in omega (arith, less)
 
-    pub inner_next : All (IsInner agent) points
-    inner_next i p less = next_inner point (get_or points i p) ((numbers_next (get_or points i p)).0 (All-contains_itself points i p less))
+    pub inner_next : All (IsAdvanceOf agent) points
+    inner_next i p less = k.inner point (get_or points i p) ((numbers_next (get_or points i p)).0 (All-contains_itself points i p less))

@@ -3,6 +3,7 @@ use Rattle.std.specs.Prelude.{◌≡◌, ℕ, Some, slice_get}
 use Rattle.psy_tree.specs.declared.unit.AgentDecl.{AgentDecl}
 use Rattle.psy_tree.specs.declared.unit.Unit.{Unit as Whole}
 use Rattle.psy_meaning.specs.Flow.{IsNext}
+use Rattle.psy_meaning.specs.Kept.{IsAdvanceOf}
 use Rattle.psy_meaning.specs.Paths.{NoneAdvances}
 use Rattle.psy_meaning.specs.Sound.{IsSoundUnit}
 use Rattle.psy_meaning.specs.Units.{IsOfText}
@@ -16,8 +17,9 @@ abbrev pub IsOfSome : AgentDecl → Type 0
 IsOfSome agent = (unit : Whole) × (number : ℕ) × IsAgentOf unit number agent
 
 -- What is known of an agent of a text: its unit is sound, no function of it advances, and from each point a way goes on to
--- some point.
+-- some point, which is that of an `advance`.
 pub record IsKnown (unit : Whole) (number : ℕ) (agent : AgentDecl) : Type 0 where
   pub sound : IsSoundUnit unit
   pub none : NoneAdvances unit.functions
   pub goes_on : (point : ℕ) → (to : ℕ) × IsNext unit.functions agent point to
+  pub inner : (point to : ℕ) → IsNext unit.functions agent point to → IsAdvanceOf agent to

@@ -7,16 +7,14 @@ ghost use Rattle.psy_tree.specs.declared.unit.Unit.{Unit as Whole};
 ghost use Rattle.psy_meaning.specs.Flow.{AreNexts, HasCost, IsCut, IsNext};
 ghost use Rattle.psy_flow.specs.Agents.{IsAgentOf, IsKnown};
 
-use psy_meaning::laws::{ends, sound, traps, ways};
+use psy_meaning::laws::{follows, sound};
 
 /// An agent of a text is sound, and goes on from each of its points.
 pub fn known()
     ensures { (unit : Whole) (number : ℕ) (agent : AgentDecl) → IsAgentOf unit number agent → IsKnown unit number agent }
 {
     sound();
-    ends();
-    ways();
-    traps();
+    follows();
 }
 
 /// The points that may follow each point of an agent of a text can be listed, and none of them is the head of its body.

@@ -17,8 +17,7 @@ ghost use Rattle.psy_history.specs.Scheduled.{IsFinished, IsSupplied, turns_of};
 
 use psy_clock::laws::distances;
 use psy_code::laws::lasting;
-use psy_flow::laws::{known, nexts};
-use psy_meaning::laws::{keeps, sound, traps, ways};
+use psy_meaning::laws::{follows, keeps, sound, traps, ways};
 
 /// The history of a program's code is regular, and where no agent looks at other dates and no stream is declared, its actions run
 /// alone.
@@ -33,8 +32,7 @@ pub fn regular()
     traps();
     lasting();
     distances();
-    known();
-    nexts();
+    follows();
 }
 
 /// Code that acts as a program's statements has their history, but for what actions do beyond their budgets; so it has the same

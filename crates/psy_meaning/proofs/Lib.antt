@@ -32,3 +32,4 @@ pub mod SoundUnits
 mod StatementRuns
 mod Suited
 mod TextNames
+mod WayEnds

@@ -13,7 +13,8 @@ ghost use Rattle.psy_tree.specs.Stands.{Stands};
 ghost use Rattle.psy_tree.specs.Tokens.{TokensOf};
 ghost use Rattle.psy_code.specs.Views.{View, nothing_done};
 ghost use Rattle.psy_meaning.specs.Alike.{IsStoreOf, IsViewOf, begun, first_store};
-ghost use Rattle.psy_meaning.specs.Kept.{IsKept};
+ghost use Rattle.psy_meaning.specs.Flow.{IsNext};
+ghost use Rattle.psy_meaning.specs.Kept.{IsAdvanceOf, IsKept};
 ghost use Rattle.psy_meaning.specs.States.{State, Store, Final, Ended, Trapped, Halts};
 ghost use Rattle.psy_meaning.specs.Rest.{rest};
 ghost use Rattle.psy_meaning.specs.Sizes.{unit_size};
@@ -38,6 +39,17 @@ pub fn traps()
 pub fn ends()
     ensures { (unit : Whole) (number : ℕ) (agent : AgentDecl) (point : ℕ) (s : State) → IsSoundUnit unit → slice_get unit.agents number ≡ Some agent → (final : Final) × (act unit.functions (rest agent.stmts point) s ≡ Halts final) }
 {}
+
+/// What may follow a point of a sound unit's agent: there is some point, and each is that of an `advance`.
+pub fn follows()
+    ensures some { (unit : Whole) (number : ℕ) (agent : AgentDecl) (point : ℕ) → IsSoundUnit unit → slice_get unit.agents number ≡ Some agent → (to : ℕ) × IsNext unit.functions agent point to }
+    ensures inner { (unit : Whole) (number : ℕ) (agent : AgentDecl) (point to : ℕ) → IsSoundUnit unit → slice_get unit.agents number ≡ Some agent → IsNext unit.functions agent point to → IsAdvanceOf agent to }
+{
+    sound();
+    ends();
+    ways();
+    traps();
+}
 
 /// What an action of a sound unit's agent keeps: from a store of the agent and a view of it, it ends at a point of an
 /// `advance` or traps, with a store of the agent again, having looked, taken and sent within the ranges of the unit. An

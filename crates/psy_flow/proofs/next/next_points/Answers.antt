@@ -7,7 +7,8 @@ use Rattle.psy_meaning.specs.Rest.{rest}
 use Rattle.psy_meaning.specs.Flow.{Rises}
 use Rattle.psy_flow.specs.Reach.{marked, pieces_reach, numbers_of}
 use Rattle.psy_flow.proofs.MarkedNumbers.{numbers_rise, length-marked}
-use Rattle.psy_flow.proofs.NextPoints.{IsInner, marks_are, points_of, few_points, numbers_next, some_next, inner_next}
+use Rattle.psy_meaning.specs.Kept.{IsAdvanceOf}
+use Rattle.psy_flow.proofs.NextPoints.{marks_are, points_of, few_points, numbers_next, some_next, inner_next}
 use Rattle.psy_flow.proofs.next.next_points.Goals as goal
 
 pub reach_from-requires : goal.reach_from-requires
@@ -36,7 +37,7 @@ pub returns-clause-within : goal.returns-clause-within
 returns-clause-within c =
     let agent = c.args.agent.now in
     let (unit, number, its) = c.requires.text in
-    IfOk-weaker c.marked_numbers.result _ (All (IsInner agent)) (λ points e. inner_next unit number agent its (c.known.ensures unit number agent its) c.args.point points (e ∙ ap numbers_of (marks_are agent c.args.point _ _ _ _ _ c.as_slice-2.ensures c.reach_from.ensures c.in_ok-marks.ensures c.len.ensures c.as_slice.ensures))) c.marked_numbers.ensures
+    IfOk-weaker c.marked_numbers.result _ (All (IsAdvanceOf agent)) (λ points e. inner_next unit number agent its (c.known.ensures unit number agent its) c.args.point points (e ∙ ap numbers_of (marks_are agent c.args.point _ _ _ _ _ c.as_slice-2.ensures c.reach_from.ensures c.in_ok-marks.ensures c.len.ensures c.as_slice.ensures))) c.marked_numbers.ensures
 
 pub returns-clause-next : goal.returns-clause-next
 returns-clause-next c =

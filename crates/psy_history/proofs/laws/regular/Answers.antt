@@ -6,7 +6,7 @@ use Rattle.psy_history.proofs.Regulars.{lawful}
 use Rattle.psy_history.proofs.Starts.{AreLaws}
 use Rattle.psy_history.proofs.laws.regular.Goals as goal
 
-laws_of : (c : goal.After-nexts) (unit : Whole) (code : Code) → IsOfText unit → AreLaws unit code
+laws_of : (c : goal.After-follows) (unit : Whole) (code : Code) → IsOfText unit → AreLaws unit code
 laws_of c unit code text =
     let sound = c.sound.ensures.unit text.text.0 unit text.text.1 in
     record {
@@ -18,8 +18,8 @@ laws_of c unit code text =
       lasted = λ its s t n. c.lasting.ensures.lasted code its s t n;
       ended = λ its s t n point. c.lasting.ensures.ended code its s t n point;
       late = c.distances.ensures.late;
-      goes_on = λ number agent point at. (c.known.ensures unit number agent (text, at)).goes_on point;
-      within = λ number agent at. c.nexts.ensures.within unit number agent (text, at);
+      goes_on = λ number agent point at. c.follows.ensures.some unit number agent point sound at;
+      within = λ number agent at point to. c.follows.ensures.inner unit number agent point to sound at;
     }
 
 pub returns-clause-lawful : goal.returns-clause-lawful
