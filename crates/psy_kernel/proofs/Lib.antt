@@ -1,0 +1,4 @@
+mod PaidCycles
+mod PendingCycles
+mod RunsOn
+mod Verdicts

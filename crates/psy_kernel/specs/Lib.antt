@@ -1,3 +1,4 @@
+pub mod Acting
 pub mod Progress
 pub mod Scripts
 pub mod Standing

@@ -1,3 +1,4 @@
+mod advance;
 mod boot;
 mod cycle;
 mod date;
@@ -44,10 +45,16 @@ pub struct Kernel {
 }
 
 impl Model for Kernel {
+    ghost use Rattle.std.specs.Coded.{codes};
+    ghost use Rattle.psy_tree.specs.contracts.unit.Expr as expr;
+    ghost use Rattle.psy_tree.specs.contracts.unit.Stmt as stmt;
     ghost use Rattle.psy_kernel.specs.Progress.{Progress};
-    ghost use Rattle.psy_kernel.specs.Standing.{progress_of, KernelStands};
 
     ghost Value = { Progress };
+
+    ghost coded = { Prim.hlevel (codes, expr.the_row.coded, stmt.the_row.coded) };
+
+    ghost use Rattle.psy_kernel.specs.Standing.{progress_of, KernelStands};
 
     ghost view = { progress_of };
 

@@ -2,6 +2,7 @@
 //! other, and tells what is published at each date.
 #![tactic(auto)]
 
+mod alone;
 mod kernel;
 mod script;
 mod stage;

@@ -7,7 +7,7 @@ use crate::stage::Stage;
 impl Kernel {
     /// Does the cycle that is due: of the pending actions, the one of the earliest deadline gets it. It takes no memory.
     pub fn cycle(&mut self)
-        requires { stage_of self.old ≡ Stage.CycleDue self.old.cycles }
+        requires due { stage_of self.old ≡ Stage.CycleDue self.old.cycles }
         ensures state { self.new ≡ after_cycle self.old }
 
         // A date is due where the cycles done fill whole ticks, and else the next cycle.

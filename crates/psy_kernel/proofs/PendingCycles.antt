@@ -1,0 +1,128 @@
+-- A cycle of a pending action.
+use Rattle.std.proofs.Common.{◌≡◌, ◌≢◌, ℕ, suc, ◌<◌, ◌≤◌, ◌==◌, Some, None, slice_get, refl, sym, ap, ◌∙◌, subst, inl, inr, arith}
+use Rattle.std.specs.Prelude.{if◌then◌else◌}
+use Rattle.std.proofs.lemmas.Bool.{cases_lt, cases_eq, eq-eqb, ne_eqb}
+use Rattle.psy_budget.specs.declared.charge.Tick.{Tick}
+use Rattle.psy_budget.specs.declared.charge.Tick.TheVariants as tick
+use Rattle.psy_budget.specs.Charges.{Charged, after_tick, cycle_of, tick_of}
+use Rattle.psy_code.specs.declared.code.Code.{Code}
+use Rattle.psy_code.specs.Execution.{RunState, Run, Running, Next, Went, Ended, Trapped, Stuck, call_of, next_of, run_by, run_code, state_then}
+use Rattle.psy_code.specs.Views.{View}
+use Rattle.psy_machine.specs.declared.machine.Step.{Step}
+use Rattle.psy_machine.specs.declared.machine.Step.TheVariants as step
+use Rattle.psy_machine.specs.Stepping.{AgentMachine, Answers, machine_after, next_for, stepped}
+use Rattle.psy_meaning.specs.Actions.{Action, System}
+use Rattle.psy_kernel.specs.declared.kernel.advance.Gone.{Gone}
+use Rattle.psy_kernel.specs.declared.kernel.advance.Gone.TheVariants as gone
+use Rattle.psy_kernel.specs.Acting.{AfterCycle, InAction, IsGone, IsOfCode}
+use Rattle.psy_kernel.specs.Standing.{IsRunning, charge_after}
+use Rattle.psy_kernel.proofs.PaidCycles.{not_spent as is_granted, paid_at, paid_next, spent_is, stalled_next, up_to_next}
+use Rattle.psy_kernel.proofs.RunsOn.{able as can_go, asks_nothing, at_end, early, next_run}
+use Rattle.psy_kernel.proofs.Verdicts.{alone, ended, is_alone, its, less_charge, of_code, overran, start, trapped}
+
+-- An action that isn't over goes on, or its budget is spent.
+abbrev on_or_spent : Charged → Gone
+on_or_spent charge = if charge.consumed == charge.budget then gone.Spent else gone.Going
+
+not_yet : (a b : ℕ) → a ≤ b → (a ≡ b → ⊥) → a < b
+not_yet a b less other = elim (cases_lt a b) [ inl h ↦ h | inr h ↦ absurd (other (omega (arith, less, h))) ]
+
+goes_on : (s : System) (code : Code) (r : Action) → IsOfCode s code r → (had : ℕ) (machine : AgentMachine) → had < r.budget → IsRunning code r (charge_after s r (suc had)).paid machine
+    → IsGone s code r had machine (on_or_spent (charge_after s r (suc had)))
+goes_on s code r w had machine less running =
+    let within : suc had ≤ r.budget = omega (arith, less) in
+    let before = early _ _ _ _ _ (is_alone s code r w) (charge_after s r (suc had)).paid running.0 running.1 in
+    let more : suc had < r.charge = less_charge s code r w (suc had) _ within before (up_to_next (s.stalls r.agent) r.number r.budget (suc had) within) in
+    let test = spent_is (s.stalls r.agent) r.number r.budget (suc had) within in
+    elim (cases_eq (suc had) r.budget) [
+      | inl same ↦ rw (test ∙ eq-eqb (suc had) r.budget same) (omega (arith, more, same), overran s code r w (omega (arith, more, same)))
+      | inr other ↦ rw (test ∙ ne_eqb (suc had) r.budget other) (omega (arith, more, not_yet (suc had) r.budget within other), running)
+    ]
+
+module _ (s : System) (code : Code) (r : Action) (had : ℕ) (charge : Charged) (machine : AgentMachine) (w : InAction s code r had charge machine) where
+  less : had < r.budget
+  less = omega (arith, w.pending)
+
+  abbrev paid : ℕ
+  paid = (charge_after s r had).paid
+
+  abbrev state : RunState
+  state = w.running.0
+
+  abbrev run : ℕ → Run
+  run n = run_code code (its s code r w.of_code) (start s code r w.of_code) n
+
+  pub not_spent : tick_of charge ≡ tick.Spent → ⊥
+  not_spent e = is_granted (s.stalls r.agent) r.number r.budget had less (ap tick_of (sym w.charged) ∙ e)
+
+  next_is : (view : View) → next_for code view machine ≡ next_of code (its s code r w.of_code) view state.machine
+  next_is view =
+      let found : slice_get code.agents machine.agent ≡ Some (its s code r w.of_code) = ap (slice_get code.agents) w.agent ∙ of_code s code r w.of_code in
+      rw found (ap (next_of code (its s code r w.of_code) view) (sym w.running.2))
+
+  pub able : (view : View) → next_for code view machine ≢ Stuck
+  able view e = can_go _ _ _ _ _ (is_alone s code r w.of_code) paid state w.running.1 view (sym (next_is view) ∙ e)
+
+  pub asks : call_of code machine.machine ≡ None
+  asks = ap (call_of code) (sym w.running.2) ∙ asks_nothing _ _ _ _ _ (is_alone s code r w.of_code) paid state w.running.1
+
+  charge_by : (t : Tick) → tick_of charge ≡ t → after_tick charge t ≡ charge_after s r (suc had)
+  charge_by t e = ap (after_tick charge) (sym e) ∙ ap (λ (c : Charged). after_tick c (tick_of c)) w.charged
+
+  tick_by : (t : Tick) → tick_of charge ≡ t → tick_of (charge_after s r had) ≡ t
+  tick_by t e = ap tick_of (sym w.charged) ∙ e
+
+  -- a cycle that goes to a stall
+  pub after_stalled : tick_of charge ≡ tick.Stalled → (after : Charged) → after ≡ after_tick charge tick.Stalled → (result : Gone) → result ≡ on_or_spent after → AfterCycle s code r had result after machine
+  after_stalled e after after_is result result_is =
+      let charged : after ≡ charge_after s r (suc had) = after_is ∙ charge_by tick.Stalled e in
+      let same = stalled_next (s.stalls r.agent) r.number r.budget had (tick_by tick.Stalled e) in
+      record {
+        charged = charged;
+        agent = w.agent;
+        gone = subst (IsGone s code r had machine) (sym (result_is ∙ ap on_or_spent charged)) (goes_on s code r w.of_code had machine less (subst (λ n. IsRunning code r n machine) (sym same) w.running));
+      }
+
+  -- what an action comes to with a step of its machine
+  abbrev gone_by : Charged → Step → Gone
+  gone_by after step.Went = on_or_spent after
+  gone_by after (step.Ended point) = gone.Ended point
+  gone_by after (step.Trapped kind) = gone.Trapped kind
+
+  -- a cycle that pays an instruction
+  module _ (paying : tick_of charge ≡ tick.Paid) (view : View) where
+    more_paid : (charge_after s r (suc had)).paid ≡ suc paid
+    more_paid = paid_next (s.stalls r.agent) r.number r.budget had (tick_by tick.Paid paying)
+
+    at : had ≡ cycle_of (s.stalls r.agent) r.number paid
+    at = paid_at (s.stalls r.agent) r.number r.budget had less (tick_by tick.Paid paying)
+
+    runs : (next : Next) → next_for code view machine ≡ next → run (suc paid) ≡ run_by state None next
+    runs next e = next_run _ _ _ _ _ (is_alone s code r w.of_code) paid state w.running.1 view ∙ ap (run_by state None) (sym (next_is view) ∙ e)
+
+    is_last : (after : Run) → run (suc paid) ≡ after → ((t : RunState) → after ≡ Running t → ⊥) → (alone s code r w.of_code).steps ≡ suc paid
+    is_last after e halts =
+        let going = is_alone s code r w.of_code in
+        at_end _ _ _ _ _ going paid (early _ _ _ _ _ going paid state w.running.1) (λ t h. halts t (sym e ∙ h))
+
+    gone_after : (next : Next) (answer : Step) → next_for code view machine ≡ next → Answers next answer → (after : AgentMachine) → after.machine ≡ machine_after next machine.machine → IsGone s code r had after (gone_by (charge_after s r (suc had)) answer)
+    gone_after (Went m) answer e answers after same =
+        let running : IsRunning code r (charge_after s r (suc had)).paid after = subst (λ n. IsRunning code r n after) (sym more_paid) (state_then state None m, runs (Went m) e, sym same) in
+        rw answers (goes_on s code r w.of_code had after less running)
+    gone_after (Ended point m) answer e answers after same =
+        let ran = runs (Ended point m) e in
+        rw answers (ended s code r w.of_code had paid less at (is_last _ ran (λ t h. cc)) point _ ran after same)
+    gone_after (Trapped kind) answer e answers after same =
+        let ran = runs (Trapped kind) e in
+        rw answers (trapped s code r w.of_code had paid less at (is_last _ ran (λ t h. cc)) kind _ ran after)
+    gone_after Stuck answer e answers after same = absurd answers
+
+    pub after_paid : (c : Charged) → c ≡ after_tick charge tick.Paid → (answer : Step) → Answers (next_for code view machine) answer → (after : AgentMachine) → after ≡ stepped code view machine → (result : Gone) → result ≡ gone_by c answer
+        → AfterCycle s code r had result c after
+    after_paid c c_is answer answers after after_is result result_is =
+        let charged : c ≡ charge_after s r (suc had) = c_is ∙ charge_by tick.Paid paying in
+        record {
+          charged = charged;
+          agent = ap (λ (m : AgentMachine). m.agent) after_is ∙ w.agent;
+          gone = subst (IsGone s code r had after) (sym (result_is ∙ ap (λ (c : Charged). gone_by c answer) charged)) (gone_after (next_for code view machine) answer refl answers after (ap (λ (m : AgentMachine). m.machine) after_is));
+        }

@@ -1,0 +1,51 @@
+-- What a cycle does to the charge and the machine of the action that gets it.
+use Rattle.std.specs.Prelude.{◌≡◌, ℕ, suc, ◌+◌, ◌<◌, List, Some, IsSome, slice_get}
+use Rattle.psy_budget.specs.Charges.{Charged, stalled}
+use Rattle.psy_code.specs.declared.code.Code.{Code}
+use Rattle.psy_code.specs.Execution.{copy_of, run_code}
+use Rattle.psy_machine.specs.Stepping.{AgentMachine}
+use Rattle.psy_tree.specs.declared.unit.VarDecl.{VarDecl}
+use Rattle.psy_meaning.specs.Actions.{Action, System, Verdict, Done, Trapped, Overran, charge_of, timing, verdict_of}
+use Rattle.psy_meaning.specs.Executors.{Acted, acted_as, agent_code_at, machine_at}
+use Rattle.psy_meaning.specs.Schedule.{work}
+use Rattle.psy_history.specs.Regular.{RunsAlone, begun_by}
+use Rattle.psy_kernel.specs.declared.kernel.advance.Gone.{Gone}
+use Rattle.psy_kernel.specs.declared.kernel.advance.Gone.TheVariants as gone
+use Rattle.psy_kernel.specs.Standing.{IsRunning, charge_after}
+
+-- What the code of an action comes to within its budget
+abbrev pub came_to : Code → Action → Acted
+came_to code r = acted_as r.budget r.before (run_code code (agent_code_at code r.agent) (begun_by (agent_code_at code r.agent) r) r.budget)
+
+-- The action is what its code came to.
+pub record IsOfCode (s : System) (code : Code) (r : Action) : Type 0 where
+  pub deeds : r.deeds ≡ (came_to code r).deeds
+  pub after : r.after ≡ (came_to code r).carried
+  pub charge : r.charge ≡ charge_of s r.agent r.number r.deeds.steps
+  pub verdict : r.verdict ≡ verdict_of (timing s r.agent) r.start r.budget r.charge (came_to code r).fate
+  pub alone : RunsAlone s code r
+
+-- An action that had so many cycles, fewer than its work, with its charge and machine
+pub record InAction (s : System) (code : Code) (r : Action) (had : ℕ) (charge : Charged) (machine : AgentMachine) : Type 0 where
+  pub of_code : IsOfCode s code r
+  pub agent : machine.agent ≡ r.agent
+  pub pending : had < work r
+  pub charged : charge ≡ charge_after s r had
+  pub running : IsRunning code r (charge_after s r had).paid machine
+
+-- The machine has copies of what the agent owns.
+abbrev pub HasOwned : System → Action → AgentMachine → Type 0
+HasOwned s r machine = (variable : ℕ) (v : VarDecl) → slice_get s.unit.variables variable ≡ Some v → v.owner ≡ Some r.agent → IsSome (copy_of variable machine.machine.copies)
+
+-- An action goes on behind a cycle, or it reached a point, trapped or spent its budget with that cycle.
+abbrev pub IsGone : System → Code → Action → ℕ → AgentMachine → Gone → Type 0
+IsGone s code r had machine gone.Going = (suc had < work r) × IsRunning code r (charge_after s r (suc had)).paid machine
+IsGone s code r had machine (gone.Ended point) = (suc had ≡ work r) × (end : ℕ) × (r.verdict ≡ Done point end) × (machine.machine ≡ machine_at (agent_code_at code r.agent) point r.after) × HasOwned s r machine
+IsGone s code r had machine (gone.Trapped kind) = (suc had ≡ work r) × (r.verdict ≡ Trapped kind)
+IsGone s code r had machine gone.Spent = (suc had ≡ work r) × (r.verdict ≡ Overran)
+
+-- The same, with the charge
+pub record AfterCycle (s : System) (code : Code) (r : Action) (had : ℕ) (result : Gone) (charge : Charged) (machine : AgentMachine) : Type 0 where
+  pub charged : charge ≡ charge_after s r (suc had)
+  pub agent : machine.agent ≡ r.agent
+  pub gone : IsGone s code r had machine result
