@@ -39,6 +39,7 @@ impl Shared {
     pub fn new(alloc: Global, plan: &Plan, inputs: Inputs) -> Result<Shared, Memory>
         requires plan { IsPlan plan.now }
         requires inputs { AreInputs plan.now.unit inputs.lists }
+        ensures inputs { IfOk result (λ shared. shared.inputs ≡ inputs) }
         ensures stands { (stalls : ℕ → List Stall) → IfOk result (SharedStands (system_of plan.now inputs.lists stalls) [] 0) }
     {
         Err(Memory)

@@ -10,14 +10,14 @@ use Rattle.psy_code.specs.declared.code.Code.{Code}
 use Rattle.psy_code.specs.declared.look.Sent.{Sent}
 use Rattle.psy_tree.specs.declared.unit.Unit.{Unit as Whole}
 use Rattle.psy_meaning.specs.Actions.{Action, History, System, Verdict, Done, is_done_by, publishing, stream_of, variable_of}
-use Rattle.psy_meaning.specs.Visible.{commit, committed_in, in_order, is_in_view, is_left, is_same, message_of, messages, messages_by, messages_from, past, published, published_by, seen_at, sent_to, taken, values_for, view_of}
+use Rattle.psy_meaning.specs.Visible.{commit, committed_in, in_order, is_in_view, is_untaken, is_same, message_of, messages, messages_by, messages_from, past, published, published_by, seen_at, sent_to, taken, values_for, view_of}
 use Rattle.psy_history.specs.Compiled.{coded, stated}
 use Rattle.psy_history.specs.Likeness.{AreLike}
 use Rattle.psy_history.proofs.LikeActions.{flat_map_like, flat_map_same, list_all_like, same_by}
 
 -- ---- what a history leaves of a stream
 
-pub left_same : (stream by : ℕ) (rs qs : List Action) (m : Message) → AreLike rs qs → is_left stream by rs m ≡ is_left stream by qs m
+pub left_same : (stream by : ℕ) (rs qs : List Action) (m : Message) → AreLike rs qs → is_untaken stream by rs m ≡ is_untaken stream by qs m
 left_same stream by rs qs m like =
     let test = λ (r : Action). not (is_done_by by r.verdict && list_any (is_same m) (taken r stream)) in
     list_all_like test test (λ r q h. same_by test r q h (λ o p. ap (λ v. not (is_done_by by v && list_any (is_same m) (taken r stream))) o ∙ sym (ap (λ v. not (is_done_by by v && list_any (is_same m) (taken q stream))) p))) rs qs like

@@ -12,7 +12,7 @@ use Rattle.psy_tree.specs.declared.unit.Unit.{Unit as Whole}
 use Rattle.psy_code.specs.declared.code.Code.{Code}
 use Rattle.psy_meaning.specs.Actions.{System, from_start, timing}
 use Rattle.psy_meaning.specs.Alike.{ActsAlike, AllFit}
-use Rattle.psy_meaning.specs.Executors.{by_code, by_stmts}
+use Rattle.psy_meaning.specs.Executors.{by_code, by_statements}
 use Rattle.psy_meaning.specs.Flow.{AreNexts}
 use Rattle.psy_meaning.specs.Graph.{Spot, IsGraph}
 use Rattle.psy_meaning.specs.Paths.{one_of}
@@ -41,7 +41,7 @@ coded unit code nexts stalls inputs = from_start unit nexts (by_code code) stall
 
 -- Its statements from date 0 on
 abbrev pub stated : Whole → List (List (List ℕ)) → (ℕ → List Stall) → List (List ℤ) → System
-stated unit nexts stalls inputs = from_start unit nexts (by_stmts unit) stalls inputs
+stated unit nexts stalls inputs = from_start unit nexts (by_statements unit) stalls inputs
 
 -- By agent, the edges of its action graph
 pub record AreEdgesOf (s : System) (graphs : List (List Edge)) : Type 0 where

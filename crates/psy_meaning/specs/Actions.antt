@@ -53,8 +53,8 @@ pub record Next : Type 0 where
 abbrev pub History : Type 0
 History = ℕ → List Action
 
--- Where a history begins: where each agent's first action starts, the agent being silent where there is none; by variable, the
--- value committed before; by stream, the messages sent before.
+-- Where a history begins: by agent, where its first action starts, and none where it starts none; by variable, the value committed
+-- before; by stream, the messages sent before.
 pub record Opening : Type 0 where
   pub starts : ℕ → Option Next
   pub committed : ℕ → ℤ

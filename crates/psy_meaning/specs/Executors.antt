@@ -69,8 +69,8 @@ acted_by budget carried (Halts (by.Trapped kind s)) = record { fate = Trapped ki
 acted_by budget carried outcome = record { fate = Unfinished; carried = carried; deeds = past_budget budget nothing_done }
 
 -- The statements of a program
-abbrev pub by_stmts : Whole → Executor
-by_stmts unit = record {
+abbrev pub by_statements : Whole → Executor
+by_statements unit = record {
   first = λ agent. carried_in (first_store unit agent (agent_at unit agent));
   act = λ agent point carried view budget. acted_by budget carried (act unit.functions (rest (agent_at unit agent).stmts point) (begun (store_of (agent_at unit agent) carried) view));
 }

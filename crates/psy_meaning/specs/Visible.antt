@@ -91,22 +91,22 @@ in_order (m ∷ messages) = put_in_order m (in_order messages)
 abbrev pub messages : System → History → ℕ → List Message
 messages s h stream = in_order (sent_to s h stream)
 
--- It is the same message: no two of a stream have the same entry, sender and number.
+-- It is the same message: no two of a stream have all the numbers of their order in common.
 abbrev pub is_same : Message → Message → Bool
-is_same m n = m.entry == n.entry && (m.sender == n.sender && m.number == n.number)
+is_same m n = m.visible == n.visible && (m.entry == n.entry && (m.sender == n.sender && m.number == n.number))
 
 -- The messages of a stream that an action took: the first ones of those that it saw
 abbrev pub taken : Action → ℕ → List Message
 taken r stream = take (count_by (λ s. s == stream) r.deeds.takes) (r.seen stream)
 
 -- No action that reached a point by this date took the message from the stream.
-abbrev pub is_left : ℕ → ℕ → List Action → Message → Bool
-is_left stream by actions m = list_all (λ (r : Action). not (is_done_by by r.verdict && list_any (is_same m) (taken r stream))) actions
+abbrev pub is_untaken : ℕ → ℕ → List Action → Message → Bool
+is_untaken stream by actions m = list_all (λ (r : Action). not (is_done_by by r.verdict && list_any (is_same m) (taken r stream))) actions
 
 -- A message of a stream can be seen at a date by the receiver, whose actions are these: it has entered, is visible and hasn't
 -- expired, and none of them took it.
 abbrev pub is_in_view : ℕ → ℕ → List Action → Message → Bool
-is_in_view stream date actions m = nat_le m.entry date && (nat_le m.visible date && (nat_lt date m.expiry && is_left stream date actions m))
+is_in_view stream date actions m = nat_le m.entry date && (nat_le m.visible date && (nat_lt date m.expiry && is_untaken stream date actions m))
 
 -- The messages of a stream that its receiver sees at a date
 abbrev pub seen_at : System → History → ℕ → ℕ → List Message
@@ -126,7 +126,7 @@ is_fresh (Some date) m = nat_lt date m.expiry
 -- A message of a stream is held at a date, where the receiver's actions are these: it has entered, none of them took it, and it
 -- wasn't swept away.
 abbrev pub is_held : ℕ → ℕ → List Action → Message → Bool
-is_held stream date actions m = nat_le m.entry date && (is_left stream date actions m && is_fresh (swept date actions) m)
+is_held stream date actions m = nat_le m.entry date && (is_untaken stream date actions m && is_fresh (swept date actions) m)
 
 -- The messages that a stream holds at a date
 abbrev pub held : System → History → ℕ → ℕ → List Message
