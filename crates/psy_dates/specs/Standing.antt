@@ -1,7 +1,7 @@
 -- When what the agents share stands for a dated history.
-use Rattle.std.specs.Prelude.{◌≡◌, ◌≢◌, ℕ, suc, ◌+◌, ◌-◌, ◌<◌, ◌≤◌, Bool, true, false, if◌then◌else◌, List, [], ◌∷◌, length, Option, Some, None, slice_get, ⊤, ℤ}
+use Rattle.std.specs.Prelude.{◌≡◌, ◌≢◌, ℕ, ◌+◌, ◌-◌, ◌≤◌, Bool, true, false, List, [], ◌∷◌, length, Option, Some, None, slice_get, ⊤, ℤ}
 use Rattle.psy_arith.specs.declared.operators.Trap.{Trap}
-use Rattle.psy_meaning.specs.Actions.{Action, History, System, Verdict, Done, Trapped, Overran, is_done, is_silent, variable_of}
+use Rattle.psy_meaning.specs.Actions.{Action, History, System, Verdict, Done, Trapped, is_done, is_silent, variable_of}
 use Rattle.psy_meaning.specs.Executors.{copy_in}
 use Rattle.psy_meaning.specs.History.{history}
 use Rattle.psy_meaning.specs.Schedule.{Turn, is_pending}

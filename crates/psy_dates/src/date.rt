@@ -5,9 +5,10 @@ ghost use Rattle.psy_history.specs.Scheduled.{turns_of};
 ghost use Rattle.psy_dates.specs.Plans.{IsPlan, system_of};
 ghost use Rattle.psy_dates.specs.Standing.{NoneActs, SharedStands, dates_done};
 
+use crate::commits::commit_all;
+use crate::moves::move_all;
 use crate::plan::Plan;
 use crate::shared::Shared;
-use psy_clock::laws::distances;
 use psy_history::laws::{given, regular};
 
 /// Does a date: the actions that end there commit, those that were stopped and are due make their agents silent, and each agent
@@ -30,5 +31,15 @@ pub fn at_date(shared: &mut Shared, plan: &Plan, date: u64)
 {
     given();
     regular();
-    distances();
+    // the proof needs its range
+    let _until = plan.until;
+    commit_all(
+        plan.unit.variables.as_slice(),
+        date,
+        &shared.seats,
+        &shared.ended,
+        &mut shared.committed,
+    );
+    move_all(plan, date, &mut shared.seats);
+    shared.date = Some(date);
 }

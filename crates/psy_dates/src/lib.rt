@@ -2,7 +2,10 @@
 //! agents share between two dates.
 #![tactic(auto)]
 
+mod commits;
 mod date;
+mod due;
+mod moves;
 mod plan;
 mod seat;
 mod shared;

@@ -1,15 +1,18 @@
-ghost use Rattle.std.specs.Prelude.{◌≡◌, ℕ, List, [], IfOk};
+ghost use Rattle.std.specs.Prelude.{◌≡◌, ℕ, List, [], IfOk, length, map};
+ghost use Rattle.std.specs.List.{All};
+ghost use Rattle.psy_dates.specs.declared.seat.Phase.TheVariants as phase;
 ghost use Rattle.psy_budget.specs.declared.charge.Stall.{Stall};
 ghost use Rattle.psy_history.specs.Compiled.{AreInputs};
 ghost use Rattle.psy_dates.specs.Plans.{IsPlan, system_of};
 ghost use Rattle.psy_dates.specs.Standing.{SharedStands};
 
 use crate::plan::{Inputs, Plan};
-use crate::seat::Seat;
+use crate::seat::{Phase, Seat};
 use psy_base::{Items, Memory};
 use psy_code::Sent;
 use psy_queue::Queue;
 use psy_ring::Ring;
+use psy_tree::VarDecl;
 use std::alloc::Global;
 
 /// What all agents share.
@@ -34,14 +37,48 @@ pub struct Shared {
     pub date: Option<u64>,
 }
 
+/// By variable, its first value.
+fn first_values(alloc: Global, variables: &[VarDecl]) -> Result<Vec<i32>, Memory>
+    ensures { IfOk result (λ values. values.items ≡ map (λ v. v.init) variables.now) }
+{
+    Ok(variables.iter().map(|v| v.init).collect(alloc)?)
+}
+
+/// A seat for each of so many agents, none of which has begun.
+fn first_seats(alloc: Global, agents: usize) -> Result<Vec<Seat>, Memory>
+    ensures { IfOk result (λ seats. (length seats.items ≡ agents) × All (λ seat. seat.phase ≡ phase.Waiting) seats.items) }
+{
+    let seat = Seat {
+        phase: Phase::Waiting,
+        number: 0,
+        point: 0,
+        start: 0,
+        deadline: 0,
+        end: 0,
+        reached: 0,
+        trap: None,
+    };
+    Ok(vec![in alloc; seat; agents]?)
+}
+
 impl Shared {
     /// What the agents of a plan share before date 0. The only error is want of memory.
     pub fn new(alloc: Global, plan: &Plan, inputs: Inputs) -> Result<Shared, Memory>
         requires plan { IsPlan plan.now }
         requires inputs { AreInputs plan.now.unit inputs.lists }
-        ensures inputs { IfOk result (λ shared. shared.inputs ≡ inputs) }
         ensures stands { (stalls : ℕ → List Stall) → IfOk result (SharedStands (system_of plan.now inputs.lists stalls) [] 0) }
+        ensures inputs { IfOk result (λ shared. shared.inputs ≡ inputs) }
     {
-        Err(Memory)
+        Ok(Shared {
+            rings: Vec::new(alloc),
+            queues: Vec::new(alloc),
+            outboxes: Vec::new(alloc),
+            taken: Vec::new(alloc),
+            ended: first_values(alloc, plan.unit.variables.as_slice())?,
+            committed: first_values(alloc, plan.unit.variables.as_slice())?,
+            seats: first_seats(alloc, plan.unit.agents.len())?,
+            inputs,
+            date: None,
+        })
     }
 }

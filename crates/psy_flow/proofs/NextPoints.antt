@@ -1,7 +1,7 @@
 -- The points that a way reaches first are those for which there are tops, whatever the calls count.
-use Rattle.std.proofs.Common.{◌≡◌, ℕ, zero, suc, ◌+◌, ◌<◌, ◌≤◌, Bool, true, false, Option, List, [], Some, None, get_or, refl, sym, ap, subst, ◌∙◌, arith}
+use Rattle.std.proofs.Common.{◌≡◌, ℕ, ◌+◌, ◌<◌, ◌≤◌, Bool, true, false, Option, List, [], Some, None, get_or, refl, sym, ap, subst, ◌∙◌, arith}
 use Rattle.std.specs.Prelude.{⊤, ◌==◌, ◌↔◌, is_some, length, replicate}
-use Rattle.std.specs.List.{All, Contains, range_with_len}
+use Rattle.std.specs.List.{All, Contains}
 use Rattle.std.proofs.lemmas.Bool.{false≢true}
 use Rattle.std.proofs.lemmas.List.Elements.{All-contains_itself}
 use Rattle.std.proofs.lemmas.Option.{slice_get_within, get_or_from_slice_get}
@@ -14,9 +14,9 @@ use Rattle.psy_meaning.specs.Kept.{IsAdvanceOf}
 use Rattle.psy_meaning.specs.Paths.{NoneAdvances}
 use Rattle.psy_meaning.specs.Rest.{rest, rests_of_list}
 use Rattle.psy_meaning.specs.Statements.{Piece}
-use Rattle.psy_meaning.specs.Sound.{Each, IsSoundAgent}
+use Rattle.psy_meaning.specs.Sound.{IsSoundAgent}
 use Rattle.psy_meaning.specs.Units.{IsBareAgent}
-use Rattle.psy_meaning.specs.Ways.{Meter, unmetered, IsWay, callee_ways}
+use Rattle.psy_meaning.specs.Ways.{Meter, IsWay}
 use Rattle.psy_meaning.proofs.RestsOf.{rests_count}
 use Rattle.psy_flow.specs.declared.gauge.Gauge.TheVariants as gauge
 use Rattle.psy_flow.specs.Agents.{IsAgentOf, IsKnown}

@@ -3,7 +3,6 @@ pub mod Cycles
 pub mod EdgesKept
 pub mod Explored
 pub mod Finding
-pub mod Leasts
 pub mod Links
 pub mod Numbers
 pub mod Ordered

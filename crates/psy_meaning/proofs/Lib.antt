@@ -13,6 +13,7 @@ mod KeptStates
 mod KeptStmts
 mod KeptValues
 pub mod Layers
+pub mod Leasts
 mod Literals
 mod Lowered
 mod NamesOf

@@ -50,7 +50,7 @@ age_in s r look (Some cycle) = (look.back + (count (publishing s look.variable) 
 abbrev pub ages_of : System → List (Option Turn) → ℕ → Action → List ℕ
 ages_of s turns variable r =
     flat_map (λ (look : Looked). age_in s r look (cycle_of_unit r.agent r.number (cycle_of (s.stalls r.agent) r.number look.number) turns))
-      (filter (λ (look : Looked). look.variable == variable) r.deeds.looks)
+    (filter (λ (look : Looked). look.variable == variable) r.deeds.looks)
 
 -- How far back a variable's ring was reached for, in all looks that these cycles executed
 abbrev pub reach : System → List (Option Turn) → History → ℕ → Option ℕ

@@ -1,5 +1,5 @@
 use Rattle.std.proofs.Common.{arith}
-use Rattle.psy_graph.proofs.Leasts.{least_is, least_one, least_more}
+use Rattle.psy_meaning.proofs.Leasts.{least_is, least_one, least_more}
 use Rattle.psy_graph.proofs.edges.least_of.Goals as goal
 
 pub numbers-preserved : goal.numbers-preserved

@@ -6,7 +6,7 @@ use Rattle.psy_meaning.specs.Flow.{IsNext}
 use Rattle.psy_meaning.specs.Kept.{IsAdvanceOf}
 use Rattle.psy_meaning.specs.Paths.{NoneAdvances, advances_in}
 use Rattle.psy_meaning.specs.Rest.{rest}
-use Rattle.psy_meaning.specs.Sound.{Each, IsSoundUnit}
+use Rattle.psy_meaning.specs.Sound.{Each}
 use Rattle.psy_meaning.specs.States.{State, Final, Ended, Trapped, Halts}
 use Rattle.psy_meaning.specs.Statements.{act}
 use Rattle.psy_meaning.specs.Ways.{met_by, unmetered, callee_ways}

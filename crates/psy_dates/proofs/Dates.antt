@@ -1,0 +1,119 @@
+-- What the agents share stands for the history up to a date, where it stood for the dates before.
+use Rattle.std.proofs.Common.{◌≡◌, ℕ, suc, ◌+◌, ◌-◌, ◌^◌, ◌<◌, ◌≤◌, List, [], ◌∷◌, length, get_or, Option, Some, None, refl, sym, ap, subst, ◌∙◌, add-one, arith}
+use Rattle.std.specs.Prelude.{slice_get, if◌then◌else◌, ℤ, pos}
+use Rattle.std.proofs.lemmas.Option.{get_or_from_slice_get, same_Some, slice_get-get_or, slice_get_within}
+use Rattle.psy_budget.specs.declared.charge.Stall.{Stall}
+use Rattle.psy_code.specs.Views.{found_in}
+use Rattle.psy_meaning.specs.Actions.{Action, Next, System, first_action, variable_of}
+use Rattle.psy_meaning.specs.Executors.{by_code}
+use Rattle.psy_meaning.specs.History.{history}
+use Rattle.psy_meaning.specs.Schedule.{Turn, units}
+use Rattle.psy_meaning.specs.Units.{IsBare, OwnedWithin}
+use Rattle.psy_history.specs.Regular.{IsLawful}
+use Rattle.psy_dates.specs.declared.plan.Plan.{Plan}
+use Rattle.psy_dates.specs.declared.seat.Phase.TheVariants as phase
+use Rattle.psy_dates.specs.declared.seat.Seat.{Seat}
+use Rattle.psy_dates.specs.declared.shared.Shared.{Shared}
+use Rattle.psy_dates.specs.Moves.{IsNumbered, commits_at, ends_at, owner_of, seat_then, timing_in}
+use Rattle.psy_dates.specs.Plans.{system_of}
+use Rattle.psy_dates.specs.Standing.{KeepsCopy, NoneActs, SeatStands, SharedStands, committed_by, dates_done}
+use Rattle.psy_dates.proofs.Committed.{committed_moves, kept_moves}
+use Rattle.psy_dates.proofs.Histories.{few, numbered, was_started}
+use Rattle.psy_dates.proofs.Seats.{seat_moves}
+
+one_back : (n : ℕ) → (n + 1) - 1 ≡ n
+one_back n = omega arith
+
+waits_not : phase.Waiting ≡ phase.Ended → ⊥
+waits_not e = cc
+
+-- an agent has done fewer actions than there were dates
+pub seat_numbered : (s : System) → IsLawful s → (date agent : ℕ) (turns : List (Option Turn)) (seat : Seat) → date ≤ 2 ^ 40 → SeatStands (date - 1) turns (history s date agent) seat → IsNumbered seat
+seat_numbered s lawful date agent turns seat early = from (history s date agent) refl
+  where
+    from : (actions : List Action) → history s date agent ≡ actions → SeatStands (date - 1) turns actions seat → IsNumbered seat
+    from [] is waits = λ ended. absurd (waits_not (sym waits ∙ ended))
+    from (r ∷ before) is stands = λ ended. omega (arith, early, stands.number, (was_started s lawful date agent r before is).number, few s lawful date agent r before is)
+
+-- What a date changes
+pub record Moved (plan : Plan) (date : ℕ) (old new : Shared) : Type 0 where
+  pub date_is : new.date ≡ Some date
+  pub seated : length new.seats.items ≡ length old.seats.items
+  pub seats : (agent : ℕ) (seat : Seat) → slice_get old.seats.items agent ≡ Some seat → slice_get new.seats.items agent ≡ Some (seat_then (timing_in plan agent) date seat)
+  pub valued : length new.committed.items ≡ length old.committed.items
+  pub committed : (variable : ℕ) → variable < length plan.unit.variables → get_or new.committed.items variable (pos 0) ≡ (if commits_at date old.seats.items (owner_of plan.unit.variables variable) then get_or old.ended.items variable (pos 0) else get_or old.committed.items variable (pos 0))
+  pub ended : new.ended.items ≡ old.ended.items
+  pub rings : length new.rings.items ≡ length old.rings.items
+  pub queues : length new.queues.items ≡ length old.queues.items
+  pub outboxes : length new.outboxes.items ≡ length old.outboxes.items
+  pub taken : length new.taken.items ≡ length old.taken.items
+
+module _ (plan : Plan) (inputs : List (List ℤ)) (stalls : ℕ → List Stall) (bare : IsBare plan.unit) (lawful : IsLawful (system_of plan inputs stalls)) (date : ℕ) (turns : List (Option Turn))
+    (unstarted : (agent number : ℕ) → length (history (system_of plan inputs stalls) date agent) ≤ number → units agent number turns ≡ 0)
+    (old new : Shared) (due : NoneActs date old.seats.items) (stands : SharedStands (system_of plan inputs stalls) turns date old) (moved : Moved plan date old new) where
+  abbrev s : System
+  s = system_of plan inputs stalls
+
+  -- a seat by its agent
+  seat_at : (agent : ℕ) → agent < length plan.unit.agents → (seat : Seat) × (slice_get old.seats.items agent ≡ Some seat)
+  seat_at agent l =
+      let none : Seat = record { phase = phase.Waiting; number = 0; point = 0; start = 0; deadline = 0; end = 0; reached = 0; trap = None } in
+      (get_or old.seats.items agent none, slice_get-get_or old.seats.items agent none (omega (arith, l, stands.seated)))
+
+  abbrev first : ℕ → Next
+  first agent = first_action plan.unit plan.nexts (by_code plan.code) agent
+
+  starts : (agent : ℕ) → agent < length plan.unit.agents → s.opening.starts agent ≡ Some (first agent)
+  starts agent l = ap (λ found. found_in found (λ a. Some (first agent))) (slice_get-get_or plan.unit.agents agent (record { name = []; clock = 0; budget = 0; slots = []; points = []; stmts = [] }) l)
+
+  seat_stands : (agent : ℕ) (seat : Seat) → slice_get new.seats.items agent ≡ Some seat → SeatStands date turns (history s (suc date) agent) seat
+  seat_stands agent seat is =
+      let within : agent < length plan.unit.agents = omega (arith, slice_get_within new.seats.items agent seat is, moved.seated, stands.seated) in
+      let (before, was) = seat_at agent within in
+      let same : seat_then (timing_in plan agent) date before ≡ seat = same_Some _ _ (sym (moved.seats agent before was) ∙ is) in
+      subst (SeatStands date turns (history s (suc date) agent)) same
+      (seat_moves s lawful date turns agent (unstarted agent) before (first agent) (starts agent within) refl refl refl (due agent before was) (stands.seats agent before was))
+
+  committed_is : (variable : ℕ) (value : ℤ) → slice_get new.committed.items variable ≡ Some value → value ≡ committed_by s (history s (suc date)) variable date (variable_of s variable).owner
+  committed_is variable value is = sym (get_or_from_slice_get new.committed.items variable value (pos 0) is) ∙ moved.committed variable within ∙ by_owner (variable_of s variable).owner (bare.variables variable _ within).owner before copies
+    where
+      within : variable < length plan.unit.variables
+      within = omega (arith, slice_get_within new.committed.items variable value is, moved.valued, stands.valued)
+
+      old_value : ℤ
+      old_value = get_or old.committed.items variable (pos 0)
+
+      copy : ℤ
+      copy = get_or old.ended.items variable (pos 0)
+
+      before : old_value ≡ committed_by s (history s date) variable (date - 1) (variable_of s variable).owner
+      before = stands.committed variable old_value (slice_get-get_or old.committed.items variable (pos 0) (omega (arith, within, stands.valued)))
+
+      copies : (owner : ℕ) → (variable_of s variable).owner ≡ Some owner → KeepsCopy (date - 1) turns variable (history s date owner) copy
+      copies owner = stands.ended variable owner copy (slice_get-get_or old.ended.items variable (pos 0) (omega (arith, within, stands.kept)))
+
+      by_owner : (owner : Option ℕ) → OwnedWithin (length plan.unit.agents) owner → old_value ≡ committed_by s (history s date) variable (date - 1) owner → ((agent : ℕ) → owner ≡ Some agent → KeepsCopy (date - 1) turns variable (history s date agent) copy)
+          → (if commits_at date old.seats.items owner then copy else old_value) ≡ committed_by s (history s (suc date)) variable date owner
+      by_owner None known stood kept = stood
+      by_owner (Some agent) known stood kept =
+          let (seat, at) = seat_at agent known in
+          ap (λ found. if ends_at date found then copy else old_value) at ∙ committed_moves s lawful date turns agent variable old_value copy seat (due agent seat at) (stands.seats agent seat at) stood (kept agent refl)
+
+  ended_is : (variable owner : ℕ) (value : ℤ) → slice_get new.ended.items variable ≡ Some value → (variable_of s variable).owner ≡ Some owner → KeepsCopy date turns variable (history s (suc date) owner) value
+  ended_is variable owner value is owned =
+      kept_moves s lawful date turns owner (unstarted owner) variable value (numbered s lawful date owner) (stands.ended variable owner value (ap (λ items. slice_get items variable) (sym moved.ended) ∙ is) owned)
+
+  pub shared_moves : SharedStands s turns (date + 1) new
+  shared_moves = record {
+    date = ap dates_done moved.date_is;
+    seated = moved.seated ∙ stands.seated;
+    seats = λ agent seat is. subst (λ d. SeatStands d turns (history s (date + 1) agent) seat) (sym (one_back date)) (subst (λ n. SeatStands date turns (history s n agent) seat) (sym (add-one date)) (seat_stands agent seat is));
+    valued = moved.valued ∙ stands.valued;
+    committed = λ variable value is. subst (λ d. value ≡ committed_by s (history s (date + 1)) variable d (variable_of s variable).owner) (sym (one_back date)) (subst (λ n. value ≡ committed_by s (history s n) variable date (variable_of s variable).owner) (sym (add-one date)) (committed_is variable value is));
+    kept = ap length moved.ended ∙ stands.kept;
+    ended = λ variable owner value is owned. subst (λ d. KeepsCopy d turns variable (history s (date + 1) owner) value) (sym (one_back date)) (subst (λ n. KeepsCopy date turns variable (history s n owner) value) (sym (add-one date)) (ended_is variable owner value is owned));
+    rings = moved.rings ∙ stands.rings;
+    queues = moved.queues ∙ stands.queues;
+    outboxes = moved.outboxes ∙ stands.outboxes;
+    taken = moved.taken ∙ stands.taken;
+  }

@@ -1,0 +1,51 @@
+-- What the agents share before date 0 stands for the empty history.
+use Rattle.std.proofs.Common.{◌≡◌, ℕ, ◌-◌, ◌<◌, List, [], All, length, get_or, Option, Some, None, refl, sym, ap, subst, ◌∙◌, arith}
+use Rattle.std.specs.Prelude.{map, ℤ, pos}
+use Rattle.std.proofs.lemmas.List.{get_or-map, length-map}
+use Rattle.std.proofs.lemmas.List.Elements.{All-get_or}
+use Rattle.std.proofs.lemmas.Option.{get_or_from_slice_get, slice_get_within}
+use Rattle.psy_budget.specs.declared.charge.Stall.{Stall}
+use Rattle.psy_tree.specs.declared.unit.VarDecl.{VarDecl}
+use Rattle.psy_meaning.specs.Actions.{System, variable_of}
+use Rattle.psy_meaning.specs.History.{history}
+use Rattle.psy_dates.specs.declared.plan.Plan.{Plan}
+use Rattle.psy_dates.specs.declared.seat.Phase.TheVariants as phase
+use Rattle.psy_dates.specs.declared.shared.Shared.{Shared}
+use Rattle.psy_dates.specs.Plans.{system_of}
+use Rattle.psy_dates.specs.Standing.{SharedStands, committed_by, dates_done}
+
+first_value : (s : System) (variable : ℕ) (owner : Option ℕ) → s.opening.committed variable ≡ committed_by s (history s 0) variable (0 - 1) owner
+first_value s variable None = refl
+first_value s variable (Some owner) = refl
+
+-- What is shared before date 0
+pub record IsFirst (plan : Plan) (shared : Shared) : Type 0 where
+  pub date : shared.date ≡ None
+  pub seated : length shared.seats.items ≡ length plan.unit.agents
+  pub waiting : All (λ seat. seat.phase ≡ phase.Waiting) shared.seats.items
+  pub committed : shared.committed.items ≡ map (λ v. v.init) plan.unit.variables
+  pub ended : shared.ended.items ≡ map (λ v. v.init) plan.unit.variables
+  pub rings : shared.rings.items ≡ []
+  pub queues : shared.queues.items ≡ []
+  pub outboxes : shared.outboxes.items ≡ []
+  pub taken : shared.taken.items ≡ []
+
+pub first_stands : (plan : Plan) (inputs : List (List ℤ)) (stalls : ℕ → List Stall) (shared : Shared) → IsFirst plan shared → SharedStands (system_of plan inputs stalls) [] 0 shared
+first_stands plan inputs stalls shared is =
+    let s = system_of plan inputs stalls in
+    let count : length shared.committed.items ≡ length plan.unit.variables = ap length is.committed ∙ length-map plan.unit.variables (λ v. v.init) in
+    let init : VarDecl → ℤ = λ v. v.init in
+    record {
+      date = ap dates_done is.date;
+      seated = is.seated;
+      seats = λ agent seat at. subst (λ x. x.phase ≡ phase.Waiting) (get_or_from_slice_get shared.seats.items agent seat seat at) (All-get_or (λ x. x.phase ≡ phase.Waiting) shared.seats.items agent seat (slice_get_within shared.seats.items agent seat at) is.waiting);
+      valued = count;
+      committed = λ variable value at. (let within : variable < length plan.unit.variables = omega (arith, slice_get_within shared.committed.items variable value at, count) in
+          sym (get_or_from_slice_get shared.committed.items variable value (pos 0) at) ∙ ap (λ xs. get_or xs variable (pos 0)) is.committed ∙ get_or-map init plan.unit.variables variable _ (pos 0) within ∙ first_value s variable (variable_of s variable).owner);
+      kept = ap length is.ended ∙ length-map plan.unit.variables (λ v. v.init);
+      ended = λ variable owner value at owned. tt {0};
+      rings = ap length is.rings;
+      queues = ap length is.queues;
+      outboxes = ap length is.outboxes;
+      taken = ap length is.taken;
+    }
