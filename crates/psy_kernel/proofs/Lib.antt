@@ -1,4 +1,15 @@
+mod FigureLines
+mod GivenLines
+mod Named
+mod NoReach
 mod PaidCycles
 mod PendingCycles
+mod PlacesTold
+mod Publications
 mod RunsOn
+mod Settled
+mod Stops
+mod SummaryLines
+mod Supplied
+mod ToldPlaces
 mod Verdicts

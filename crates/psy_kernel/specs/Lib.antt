@@ -2,4 +2,5 @@ pub mod Acting
 pub mod Progress
 pub mod Scripts
 pub mod Standing
+pub mod Telling
 pub mod Texts

@@ -1,8 +1,124 @@
-ghost use Rattle.std.specs.Prelude.{◌≡◌, ◌+◌, ℕ, List, true, false, if◌then◌else◌, length, slice_get, Some, IsTrue, IsFalse};
-ghost use Rattle.psy_kernel.specs.Progress.{after_line, lines_told, told};
+ghost use Rattle.std.specs.Prelude.{◌≡◌, ◌+◌, ◌^◌, ◌<◌, ◌≤◌, ℕ, List, Option, length, get_or, slice_get, Some, IsTrue, IsFalse};
+ghost use Rattle.std.specs.List.{All};
+ghost use Rattle.psy_base.specs.declared.limits.TheConstants.{WORD_BYTES};
+ghost use Rattle.psy_budget.specs.declared.charge.Stall.{Stall};
+ghost use Rattle.psy_clock.specs.Dates.{IsClock};
+ghost use Rattle.psy_meaning.specs.Schedule.{Turn};
+ghost use Rattle.psy_history.specs.Compiled.{AreInputs};
+ghost use Rattle.psy_dates.specs.Plans.{IsPlan, system_of};
+ghost use Rattle.psy_dates.specs.Standing.{SharedStands};
+ghost use Rattle.psy_kernel.specs.Progress.{after_line, lines_told};
+ghost use Rattle.psy_kernel.specs.Telling.{IsNextTold, IsToldBy, TellsStop, TellsValue, told_by};
 
 use super::Kernel;
-use psy_log::Line;
+use psy_clock::Clock;
+use psy_dates::{Phase, Plan, Seat, Shared};
+use psy_history::laws::regular;
+use psy_log::{Line, Note};
+use psy_tree::VarDecl;
+
+/// The line of an agent's stop, where it fell silent at this date.
+fn tell_stop(seat: &Seat, name: &[u8], date: u64, line: &mut Line) -> bool
+    requires name { length name.now ≤ WORD_BYTES }
+    ensures told { TellsStop seat.now name.now date result line.old line.new }
+{
+    if seat.phase != Phase::Silent || seat.deadline != date {
+        return false;
+    }
+    match seat.trap {
+        None => line.set(&Note::StopOverrun { date, agent: name }),
+        Some(kind) => line.set(&Note::StopTrap {
+            date,
+            agent: name,
+            kind,
+        }),
+    }
+    true
+}
+
+/// The line of a variable's value, where an owner publishes it at this date.
+fn tell_value(variable: &VarDecl, clocks: &[Clock], value: i32, date: u64, line: &mut Line) -> bool
+    requires name { length variable.now.name ≤ WORD_BYTES }
+    requires known { variable.now.clock < length clocks.now }
+    requires clocks { All IsClock clocks.now }
+    requires early { date ≤ 2 ^ 40 }
+    ensures told { TellsValue variable.now (get_or clocks.now variable.now.clock (record { period = 1; first = 0 })) value date result line.old line.new }
+{
+    let clock = clocks[variable.clock as usize];
+    if variable.owner.is_none() || clock.from_date(date, 0) != date {
+        return false;
+    }
+    line.set(&Note::Value {
+        date,
+        variable: variable.name.bytes(),
+        value,
+    });
+    true
+}
+
+/// The line of what is told of a date at a place: an agent's, or behind the agents a variable's.
+fn tell_place(plan: &Plan, shared: &Shared, date: u64, place: usize, line: &mut Line) -> bool
+    requires plan { IsPlan plan.now }
+    requires inputs { AreInputs plan.now.unit shared.now.inputs.lists }
+    requires seated { length shared.now.seats.items ≡ length plan.now.unit.agents }
+    requires valued { length shared.now.committed.items ≡ length plan.now.unit.variables }
+    requires early { date ≤ 2 ^ 40 }
+    requires within { place < length plan.now.unit.agents + length plan.now.unit.variables }
+    ensures told { (stalls : ℕ → List Stall) (turns : List (Option Turn)) → SharedStands (system_of plan.now shared.now.inputs.lists stalls) turns (date + 1) shared.now
+        → IsToldBy (system_of plan.now shared.now.inputs.lists stalls) date (told_by (system_of plan.now shared.now.inputs.lists stalls) date place) result line.old line.new }
+    ensures kept { IsFalse result → line.new ≡ line.old }
+{
+    regular();
+    let agents = plan.unit.agents.as_slice();
+    if place < agents.len() {
+        return tell_stop(&shared.seats[place], agents[place].name.bytes(), date, line);
+    }
+    let at = place - agents.len();
+    let variable = &plan.unit.variables.as_slice()[at];
+    tell_value(
+        variable,
+        plan.unit.clocks.as_slice(),
+        shared.committed[at],
+        date,
+        line,
+    )
+}
+
+/// The first line that is told of a date from a place on, and the place behind it.
+fn tell_next(
+    plan: &Plan,
+    shared: &Shared,
+    date: u64,
+    place: usize,
+    line: &mut Line,
+) -> Option<usize>
+    requires plan { IsPlan plan.now }
+    requires inputs { AreInputs plan.now.unit shared.now.inputs.lists }
+    requires seated { length shared.now.seats.items ≡ length plan.now.unit.agents }
+    requires valued { length shared.now.committed.items ≡ length plan.now.unit.variables }
+    requires early { date ≤ 2 ^ 40 }
+    requires within { place ≤ length plan.now.unit.agents + length plan.now.unit.variables }
+    ensures told { (stalls : ℕ → List Stall) (turns : List (Option Turn)) → SharedStands (system_of plan.now shared.now.inputs.lists stalls) turns (date + 1) shared.now
+        → IsNextTold (system_of plan.now shared.now.inputs.lists stalls) date place result line.old line.new }
+{
+    let places = plan.unit.agents.len() + plan.unit.variables.len();
+    let mut at = place;
+    'walking: while at < places {
+        let told = tell_place(plan, shared, date, at, line);
+        at += 1;
+        if told {
+            return Some(at);
+        }
+    }
+    None
+}
+
+/// The last date of a plan.
+fn last_date(plan: &Plan) -> u32
+    ensures { result ≡ plan.now.until }
+{
+    plan.until
+}
 
 impl Kernel {
     /// The next line of the date done last; false exactly where all were given, and then nothing changes. It takes no memory.
@@ -10,6 +126,22 @@ impl Kernel {
         ensures some { IsTrue result → (slice_get (lines_told self.old) self.old.given ≡ Some line.new) × (self.new ≡ after_line self.old) }
         ensures none { IsFalse result → (self.old.given ≡ length (lines_told self.old)) × (self.new ≡ self.old) × (line.new ≡ line.old) }
     {
-        false
+        regular();
+        let Some(date) = self.shared.date else {
+            return false;
+        };
+        // It is a date of the plan, so it is early enough for the clocks.
+        prove!(date <= u64::from(last_date(&self.plan)));
+        match tell_next(&self.plan, &self.shared, date, self.place, line) {
+            Some(place) => {
+                self.place = place;
+                self.given += 1;
+                true
+            }
+            None => {
+                self.place = self.plan.unit.agents.len() + self.plan.unit.variables.len();
+                false
+            }
+        }
     }
 }

@@ -1,9 +1,49 @@
 ghost use Rattle.std.specs.Prelude.{◌≡◌, ◌≤◌, length, slice_get, Some, IsTrue, IsFalse};
+ghost use Rattle.psy_dates.specs.Plans.{IsPlan};
 ghost use Rattle.psy_kernel.specs.Progress.{stage_of, summary_told};
+ghost use Rattle.psy_kernel.specs.Telling.{figured_lines};
 
-use super::Kernel;
+use super::{Figure, Kernel};
 use crate::stage::Stage;
-use psy_log::Line;
+use psy_dates::Plan;
+use psy_history::laws::{on_time, regular};
+use psy_log::{Line, Note};
+
+/// The line of the summary at a place, by the figures of the agents.
+fn tell_figure(plan: &Plan, figures: &[Figure], place: usize, line: &mut Line) -> bool
+    requires plan { IsPlan plan.now }
+    requires figured { length figures.now ≡ length plan.now.unit.agents }
+    ensures some { IsTrue result → slice_get (figured_lines plan.now figures.now) place ≡ Some line.new }
+    ensures none { IsFalse result → (length (figured_lines plan.now figures.now) ≤ place) × (line.new ≡ line.old) }
+{
+    if place == 0 {
+        line.set(&Note::End {
+            until: u64::from(plan.until),
+        });
+        return true;
+    }
+    let agents = plan.unit.agents.as_slice();
+    let agent = place - 1;
+    if agent < agents.len() {
+        line.set(&Note::AgentEnd {
+            agent: agents[agent].name.bytes(),
+            count: figures[agent].count,
+            slack: figures[agent].slack,
+        });
+        return true;
+    }
+    let variables = plan.unit.variables.as_slice();
+    let variable = agent - agents.len();
+    if variable < variables.len() {
+        line.set(&Note::VariableEnd {
+            variable: variables[variable].name.bytes(),
+            size: plan.sizes.rings.as_slice()[variable],
+            reach: None,
+        });
+        return true;
+    }
+    false
+}
 
 impl Kernel {
     /// The line of the summary at this place, the first one standing at 0; false exactly where there is none. It takes no memory.
@@ -12,6 +52,8 @@ impl Kernel {
         ensures some { IsTrue result → slice_get (summary_told self.now) place ≡ Some line.new }
         ensures none { IsFalse result → (length (summary_told self.now) ≤ place) × (line.new ≡ line.old) }
     {
-        false
+        regular();
+        on_time();
+        tell_figure(&self.plan, &self.figures, place as usize, line)
     }
 }

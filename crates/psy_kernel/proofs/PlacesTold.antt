@@ -1,0 +1,55 @@
+-- A line at a place tells what is told of a date there.
+use Rattle.std.proofs.Common.{◌≡◌, ℕ, ◌+◌, ◌-◌, ◌<◌, ◌≤◌, Bool, true, false, List, [], ◌∷◌, ◌++◌, length, slice_get, Option, Some, ℤ, sym, ap, subst, ◌∙◌, arith}
+use Rattle.std.proofs.lemmas.List.{append-nil}
+use Rattle.psy_clock.specs.declared.clock.Clock.{Clock}
+use Rattle.psy_tree.specs.declared.unit.VarDecl.{VarDecl}
+use Rattle.psy_meaning.specs.Actions.{System, publishing, variable_of}
+use Rattle.psy_meaning.specs.Executors.{agent_at}
+use Rattle.psy_meaning.specs.History.{history}
+use Rattle.psy_meaning.specs.Schedule.{Turn}
+use Rattle.psy_history.specs.Regular.{AreRegular}
+use Rattle.psy_dates.specs.declared.seat.Seat.{Seat}
+use Rattle.psy_dates.specs.declared.shared.Shared.{Shared}
+use Rattle.psy_dates.specs.Standing.{SeatStands, SharedStands, committed_at}
+use Rattle.psy_kernel.specs.Standing.{told_from}
+use Rattle.psy_kernel.specs.Telling.{IsNextTold, IsToldBy, TellsStop, TellsValue, places_of, told_by}
+use Rattle.psy_kernel.proofs.Publications.{value_told}
+use Rattle.psy_kernel.proofs.Stops.{seat_told}
+use Rattle.psy_kernel.proofs.ToldPlaces.{told_more, told_stop, told_value}
+
+module _ (s : System) (turns : List (Option Turn)) (date : ℕ) (shared : Shared) (stands : SharedStands s turns (date + 1) shared) (place : ℕ) (result : Bool) (old new : List ℕ) where
+  last : date + 1 - 1 ≡ date
+  last = omega arith
+
+  pub agent_told : (seat : Seat) (name : List ℕ) → AreRegular s (date + 1) place (history s (date + 1) place) → place < length s.unit.agents
+      → slice_get shared.seats.items place ≡ Some seat → name ≡ (agent_at s.unit place).name → TellsStop seat name date result old new → IsToldBy s date (told_by s date place) result old new
+  agent_told seat name regular within at named told =
+      let seated : SeatStands date turns (history s (date + 1) place) seat = subst (λ d. SeatStands d turns (history s (date + 1) place) seat) last (stands.seats place seat at) in
+      let tells : TellsStop seat (agent_at s.unit place).name date result old new = subst (λ n. TellsStop seat n date result old new) named told in
+      subst (λ es. IsToldBy s date es result old new) (sym (told_stop s date place within)) (seat_told s date (date + 1) place turns seat old new result (history s (date + 1) place) seated regular tells)
+
+  pub variable_told : (v : VarDecl) (clock : Clock) (value : ℤ) → length s.unit.agents ≤ place → v ≡ variable_of s (place - length s.unit.agents) → clock ≡ publishing s (place - length s.unit.agents)
+      → slice_get shared.committed.items (place - length s.unit.agents) ≡ Some value → TellsValue v clock value date result old new → IsToldBy s date (told_by s date place) result old new
+  variable_told v clock value behind named timed at told =
+      let variable : ℕ = place - length s.unit.agents in
+      let committed : value ≡ committed_at s (history s (date + 1)) variable date = subst (λ d. value ≡ committed_at s (history s (date + 1)) variable d) last (stands.committed variable value at) in
+      let tells : TellsValue (variable_of s variable) (publishing s variable) value date result old new =
+      subst (λ c. TellsValue (variable_of s variable) c value date result old new) timed (subst (λ w. TellsValue w clock value date result old new) named told) in
+      subst (λ es. IsToldBy s date es result old new) (sym (told_value s date place behind)) (value_told s (history s (date + 1)) date variable result value old new committed tells)
+
+-- ---- the walk
+
+module _ (s : System) (date : ℕ) where
+  -- Behind a place that tells nothing as much is told as before it.
+  pub walked_on : (place at : ℕ) (old new : List ℕ) → at < places_of s → told_from s date at ≡ told_from s date place → IsToldBy s date (told_by s date at) false old new → told_from s date (at + 1) ≡ told_from s date place
+  walked_on place at old new within same told =
+      told_more s date at within ∙ ap (λ xs. told_from s date at ++ xs) told.0 ∙ append-nil (told_from s date at) ∙ same
+
+  -- Behind one that tells an event that one is told as well.
+  pub walked_to : (place at : ℕ) (old new : List ℕ) → at < places_of s → told_from s date at ≡ told_from s date place → IsToldBy s date (told_by s date at) true old new → IsNextTold s date place (Some (at + 1)) old new
+  walked_to place at old new within same told = (
+    omega (arith, within),
+    told.0,
+    told_more s date at within ∙ ap (λ xs. told_from s date at ++ xs) told.1 ∙ ap (λ xs. xs ++ told.0 ∷ []) same,
+    told.2,
+  )

@@ -1,0 +1,119 @@
+-- Over all dates, the figures are those of the history, so their lines are the summary's.
+use Rattle.std.proofs.Common.{◌≡◌, ℕ, zero, suc, ◌+◌, ◌-◌, ◌*◌, ◌<◌, ◌≤◌, Bool, true, false, if◌then◌else◌, ◌==◌, List, [], ◌∷◌, ◌++◌, All, map, length, get_or, slice_get, Option, Some, None, refl, sym, ap, subst, ◌∙◌, arith}
+use Rattle.std.specs.List.{Contains, range_with_len}
+use Rattle.std.proofs.lemmas.Bool.{eqb-true}
+use Rattle.std.proofs.lemmas.List.{append-nil}
+use Rattle.std.proofs.lemmas.List.FromFn.{fill_by_all, length-map-range_with_len, get_or-map-range_with_len}
+use Rattle.std.proofs.lemmas.Option.{slice_get-get_or}
+use Rattle.psy_log.specs.Forms.{agent_line, end_line, variable_line}
+use Rattle.psy_meaning.specs.Actions.{Action, System, variable_of}
+use Rattle.psy_meaning.specs.Executors.{agent_at}
+use Rattle.psy_meaning.specs.History.{history}
+use Rattle.psy_meaning.specs.Schedule.{Turn}
+use Rattle.psy_meaning.specs.Summary.{due_by, reach, slack}
+use Rattle.psy_history.specs.Regular.{IsLawful, RunsAlone}
+use Rattle.psy_history.specs.Scheduled.{IsFinished, IsSupplied, turns_of}
+use Rattle.psy_dates.specs.Standing.{dates_done}
+use Rattle.psy_kernel.specs.declared.kernel.Figure.{Figure}
+use Rattle.psy_kernel.specs.declared.kernel.Kernel.TheInside.{Inside}
+use Rattle.psy_kernel.specs.declared.stage.Stage.TheVariants.{DateDue, CycleDue, Over}
+use Rattle.psy_kernel.specs.Progress.{Progress, order, stage_of, summary_told, system}
+use Rattle.psy_kernel.specs.Scripts.{stalls_of}
+use Rattle.psy_kernel.specs.Standing.{InTick, KernelStands, progress_of, settled}
+use Rattle.psy_kernel.specs.Telling.{figure_line, figured_lines, size_line}
+use Rattle.psy_kernel.specs.Texts.{agent_end, stream_end, variable_end}
+use Rattle.psy_kernel.proofs.NoReach.{no_reach}
+use Rattle.psy_kernel.proofs.Settled.{date_settled, settled_all}
+use Rattle.psy_kernel.proofs.Supplied.{supplied}
+
+-- ---- lists
+
+same_map : (f g : ℕ → List ℕ) (n : ℕ) → ((i : ℕ) → i < n → f i ≡ g i) → map f (range_with_len 0 n) ≡ map g (range_with_len 0 n)
+same_map f g n same =
+    fill_by_all g (map f (range_with_len 0 n)) n [] (length-map-range_with_len f 0 n) (λ i l. get_or-map-range_with_len f 0 n i i [] l (omega arith) ∙ same i l)
+
+some_at : {X : Type 0} (xs : List X) (i : ℕ) → i < length xs → (x : X) × (slice_get xs i ≡ Some x)
+some_at [] i l = absurd (omega (arith, l))
+some_at (x ∷ xs) zero l = (x, refl)
+some_at (x ∷ xs) (suc i) l = some_at xs i (omega (arith, l))
+
+-- ---- the end
+
+over_then : (last filled : Bool) (date cycle : ℕ) → (if last then Over else if filled then DateDue date else CycleDue cycle) ≡ Over → last ≡ true
+over_then true filled date cycle e = refl
+over_then false true date cycle e = cc
+over_then false false date cycle e = cc
+
+-- Over is where the last date was done.
+pub over_dates : (p : Progress) → stage_of p ≡ Over → p.dates ≡ p.plan.until + 1
+over_dates p e = eqb-true p.dates (p.plan.until + 1) (over_then (p.dates == p.plan.until + 1) (p.cycles == p.dates * p.plan.unit.quantum) p.dates p.cycles e)
+
+module _ (k : Inside) (w : KernelStands k) (over : stage_of (progress_of k) ≡ Over) where
+  abbrev s : System
+  s = system (progress_of k)
+
+  abbrev until : ℕ
+  until = k.plan.until
+
+  abbrev turns : List (Option Turn)
+  turns = turns_of s (order (progress_of k)) (until * s.unit.quantum)
+
+  done : dates_done k.shared.date ≡ until + 1
+  done = over_dates (progress_of k) over
+
+  all_cycles : k.cycles ≡ until * s.unit.quantum
+  all_cycles =
+      let last : dates_done k.shared.date ≡ suc until = done ∙ omega arith in
+      let tick : InTick k.plan.unit.quantum until (suc until) k.cycles = subst (λ n. InTick k.plan.unit.quantum until n k.cycles) last w.in_tick in
+      tick.3 refl
+
+  module _ (lawful : IsLawful s) (runs : (dates agent : ℕ) → All (RunsAlone s k.plan.code) (history s dates agent))
+      (due : (agent : ℕ) (r : Action) → IsSupplied s (order (progress_of k)) until → Contains (history s until agent) r → r.deadline ≤ until → IsFinished s (order (progress_of k)) (until * s.unit.quantum) r) where
+    abbrev actions : ℕ → List Action
+    actions agent = history s (until + 1) agent
+
+    all_settled : (agent : ℕ) → settled turns until (actions agent) ≡ due_by until (actions agent)
+    all_settled agent =
+        settled_all turns until (actions agent) (date_settled s (order (progress_of k)) until agent lawful (λ r. due agent r (supplied (progress_of k) w.plan w.script lawful)))
+
+    figure_told : (agent : ℕ) (figure : Figure) → agent < length s.unit.agents → slice_get k.figures.items agent ≡ Some figure
+        → agent_line (agent_at s.unit agent).name figure.count figure.slack ≡ agent_end s turns until agent
+    figure_told agent figure l at =
+        let machine = some_at k.machines.items agent (omega (arith, l, w.machined)) in
+        let charge = some_at k.charges.items agent (omega (arith, l, w.charges)) in
+        let waits = some_at k.ready agent (omega (arith, l, w.waiting)) in
+        let stands = w.agents agent machine.0 charge.0 waits.0 figure machine.1 charge.1 waits.1 at in
+        let count : figure.count ≡ length (settled turns until (actions agent)) =
+        stands.counted ∙ ap (λ c. length (settled (turns_of s (order (progress_of k)) c) until (history s (dates_done k.shared.date) agent))) all_cycles
+        ∙ ap (λ n. length (settled turns until (history s n agent))) done in
+        let least : figure.slack ≡ slack s.unit.quantum turns (settled turns until (actions agent)) =
+        stands.slacked ∙ ap (λ c. slack s.unit.quantum (turns_of s (order (progress_of k)) c) (settled (turns_of s (order (progress_of k)) c) until (history s (dates_done k.shared.date) agent))) all_cycles
+        ∙ ap (λ n. slack s.unit.quantum turns (settled turns until (history s n agent))) done in
+        let name = (agent_at s.unit agent).name in
+        ap (λ n. agent_line name n figure.slack) (count ∙ ap length (all_settled agent))
+        ∙ ap (agent_line name (length (due_by until (actions agent)))) (least ∙ ap (slack s.unit.quantum turns) (all_settled agent))
+
+    agent_told : (agent : ℕ) → agent < length s.unit.agents → figure_line k.plan.unit k.figures.items agent ≡ agent_end s turns until agent
+    agent_told agent l =
+        figure_told agent (get_or k.figures.items agent (record { count = 0; slack = None })) l (slice_get-get_or k.figures.items agent (record { count = 0; slack = None }) (omega (arith, l, w.figured)))
+
+    variable_told : (variable : ℕ) → size_line k.plan variable ≡ variable_end s turns k.plan.sizes until variable
+    variable_told variable =
+        let none : reach s turns (history s (until + 1)) variable ≡ None =
+        no_reach k.plan.unit k.plan.code k.plan.nexts (stalls_of k.script) k.shared.inputs.lists turns (until + 1) variable (λ agent. (lawful.actions (until + 1) agent).were_started) (runs (until + 1)) in
+        ap (variable_line (variable_of s variable).name (get_or k.plan.sizes.rings variable 0)) (sym none)
+
+    -- The figures tell the summary.
+    pub summary_figured : summary_told (progress_of k) ≡ figured_lines k.plan k.figures.items
+    summary_figured =
+        let agents = range_with_len 0 (length s.unit.agents) in
+        let variables = range_with_len 0 (length s.unit.variables) in
+        let streams : map (stream_end s k.plan.sizes until) (range_with_len 0 (length s.unit.streams)) ≡ [] = ap (λ xs. map (stream_end s k.plan.sizes until) (range_with_len 0 (length xs))) w.plan.built.streams in
+        let of_agents : map (agent_end s turns until) agents ≡ map (figure_line k.plan.unit k.figures.items) agents =
+        sym (same_map (figure_line k.plan.unit k.figures.items) (agent_end s turns until) (length s.unit.agents) agent_told) in
+        let of_variables : map (variable_end s turns k.plan.sizes until) variables ≡ map (size_line k.plan) variables =
+        sym (same_map (size_line k.plan) (variable_end s turns k.plan.sizes until) (length s.unit.variables) (λ variable _. variable_told variable)) in
+        ap (λ lines. end_line until ∷ (map (agent_end s turns until) agents ++ (map (variable_end s turns k.plan.sizes until) variables ++ lines))) streams
+        ∙ ap (λ lines. end_line until ∷ (map (agent_end s turns until) agents ++ lines)) (append-nil (map (variable_end s turns k.plan.sizes until) variables))
+        ∙ ap (λ lines. end_line until ∷ (lines ++ map (variable_end s turns k.plan.sizes until) variables)) of_agents
+        ∙ ap (λ lines. end_line until ∷ (map (figure_line k.plan.unit k.figures.items) agents ++ lines)) of_variables

@@ -1,0 +1,24 @@
+use Rattle.std.proofs.Common.{◌≡◌, ◌≤◌, length, slice_get, sym, ap, subst, ◌∙◌, arith}
+use Rattle.psy_kernel.specs.Progress.{order, stage_of, summary_told, system}
+use Rattle.psy_kernel.specs.declared.stage.Stage.TheVariants.{Over}
+use Rattle.psy_kernel.specs.Scripts.{stalls_of}
+use Rattle.psy_kernel.specs.Standing.{progress_of}
+use Rattle.psy_kernel.specs.Telling.{figured_lines}
+use Rattle.psy_kernel.proofs.SummaryLines.{summary_figured}
+use Rattle.psy_kernel.proofs.kernel.Kernel.summary_line.Goals as goal
+
+pub returns : goal.returns
+returns c =
+    let k = c.self.inside in
+    let w = c.self.invariant in
+    let over : stage_of (progress_of k) ≡ Over = ap stage_of c.self.view_is ∙ c.requires.over in
+    let told : summary_told c.args.self.now ≡ figured_lines k.plan c.deref.result.now =
+    ap summary_told (sym c.self.view_is)
+    ∙ summary_figured k w over (c.regular.ensures.lawful k.plan.unit k.plan.code k.plan.nexts (stalls_of k.script) k.shared.inputs.lists w.plan.compiled w.inputs)
+    (c.regular.ensures.runs k.plan.unit k.plan.code k.plan.nexts (stalls_of k.script) k.shared.inputs.lists w.plan.compiled w.inputs w.plan.built)
+    (λ agent r supplied held le. c.on_time.ensures.due (system (progress_of k)) (order (progress_of k)) k.plan.until k.plan.until agent r supplied (omega arith) held le)
+    ∙ ap (figured_lines k.plan) (sym c.deref.ensures.value) in
+    record {
+      some = λ is. ap (λ lines. slice_get lines c.args.place) told ∙ c.tell_figure.ensures.some is;
+      none = λ is. (subst (λ lines. length lines ≤ c.args.place) (sym told) (c.tell_figure.ensures.none is).0, (c.tell_figure.ensures.none is).1);
+    }

@@ -1,0 +1,18 @@
+use Rattle.std.proofs.Common.{◌≡◌, ℕ, ◌+◌, ◌-◌, ◌≤◌, List, Option}
+use Rattle.psy_budget.specs.declared.charge.Stall.{Stall}
+use Rattle.psy_meaning.specs.Schedule.{Turn}
+use Rattle.psy_dates.specs.Plans.{system_of}
+use Rattle.psy_dates.specs.Standing.{SharedStands}
+use Rattle.psy_kernel.specs.Standing.{told_from}
+use Rattle.psy_kernel.proofs.kernel.lines.tell_next.Given as goal
+
+abbrev pub invariant-walking : goal.invariant-walking
+invariant-walking l = record {
+  within : l.at ≤ l.places;
+  line : l.line ≡ l.fn.line;
+  told : (stalls : ℕ → List Stall) (turns : List (Option Turn)) → SharedStands (system_of l.plan l.shared.inputs.lists stalls) turns (l.date + 1) l.shared
+      → told_from (system_of l.plan l.shared.inputs.lists stalls) l.date l.at ≡ told_from (system_of l.plan l.shared.inputs.lists stalls) l.date l.fn.place;
+}
+
+abbrev pub decreases-walking : goal.decreases-walking
+decreases-walking l = l.places - l.at

@@ -1,0 +1,78 @@
+-- What the seats, the variables and the figures of a run tell, line by line.
+use Rattle.std.specs.Prelude.{◌≡◌, ℕ, ◌+◌, ◌-◌, ◌≤◌, Bool, true, false, nat_lt, if◌then◌else◌, List, [], ◌∷◌, ◌++◌, map, length, get_or, Option, Some, None, IsSome, ℤ, pos}
+use Rattle.std.specs.List.{range_with_len}
+use Rattle.psy_arith.specs.declared.operators.Trap.{Trap}
+use Rattle.psy_clock.specs.declared.clock.Clock.{Clock}
+use Rattle.psy_log.specs.Forms.{agent_line, end_line, stop_overrun_line, stop_trap_line, value_line, variable_line}
+use Rattle.psy_tree.specs.declared.unit.Unit.{Unit as Whole}
+use Rattle.psy_tree.specs.declared.unit.VarDecl.{VarDecl}
+use Rattle.psy_meaning.specs.Actions.{System}
+use Rattle.psy_meaning.specs.Executors.{agent_at}
+use Rattle.psy_meaning.specs.History.{history}
+use Rattle.psy_meaning.specs.Lines.{Event, is_date, publications, stops_of}
+use Rattle.psy_dates.specs.declared.plan.Plan.{Plan}
+use Rattle.psy_dates.specs.declared.seat.Phase.TheVariants as phase
+use Rattle.psy_dates.specs.declared.seat.Seat.{Seat}
+use Rattle.psy_kernel.specs.declared.kernel.Figure.{Figure}
+use Rattle.psy_kernel.specs.Standing.{told_from}
+use Rattle.psy_kernel.specs.Texts.{event_line}
+
+-- ---- lines of a date
+
+-- The line of an agent's stop, by its trap; by an overrun where there is none
+abbrev pub stop_line : ℕ → List ℕ → Option Trap → List ℕ
+stop_line date name None = stop_overrun_line date name
+stop_line date name (Some kind) = stop_trap_line date name kind
+
+-- A seat whose agent fell silent at a date tells its stop, and another one nothing.
+abbrev pub TellsStop : Seat → List ℕ → ℕ → Bool → List ℕ → List ℕ → Type 0
+TellsStop seat name date true old new = (seat.phase ≡ phase.Silent) × (seat.deadline ≡ date) × (new ≡ stop_line date name seat.trap)
+TellsStop seat name date false old new = (seat.phase ≡ phase.Silent → seat.deadline ≡ date → ⊥) × (new ≡ old)
+
+-- A variable that has an owner tells its value at a date of its clock, and else nothing.
+abbrev pub TellsValue : VarDecl → Clock → ℤ → ℕ → Bool → List ℕ → List ℕ → Type 0
+TellsValue v clock value date true old new = IsSome v.owner × (is_date clock date ≡ true) × (new ≡ value_line date v.name value)
+TellsValue v clock value date false old new = (IsSome v.owner → is_date clock date ≡ true → ⊥) × (new ≡ old)
+
+-- What is told of a date at one place: the stop of an agent, or behind the agents what a variable publishes
+abbrev pub told_by : System → ℕ → ℕ → List Event
+told_by s date place =
+    if nat_lt place (length s.unit.agents) then stops_of date (history s (date + 1) place)
+    else publications s (history s (date + 1)) date (place - length s.unit.agents)
+
+-- One event is told by its line, or there is none to tell.
+abbrev pub IsToldBy : System → ℕ → List Event → Bool → List ℕ → List ℕ → Type 0
+IsToldBy s date events true old new = (event : Event) × (events ≡ event ∷ []) × (new ≡ event_line s date event)
+IsToldBy s date events false old new = (events ≡ []) × (new ≡ old)
+
+-- How many places there are: one for each agent and one for each variable
+abbrev pub places_of : System → ℕ
+places_of s = length s.unit.agents + length s.unit.variables
+
+-- From a place on, the first event is told by its line, and the walk goes on behind it; or there is none to tell.
+abbrev pub IsNextTold : System → ℕ → ℕ → Option ℕ → List ℕ → List ℕ → Type 0
+IsNextTold s date place (Some next) old new = (next ≤ places_of s) × (event : Event) × (told_from s date next ≡ told_from s date place ++ event ∷ []) × (new ≡ event_line s date event)
+IsNextTold s date place None old new = (told_from s date (places_of s) ≡ told_from s date place) × (new ≡ old)
+
+-- ---- lines of the summary
+
+-- An agent's line, by its figure
+abbrev pub figure_line : Whole → List Figure → ℕ → List ℕ
+figure_line unit figures agent =
+    let figure = get_or figures agent (record { count = 0; slack = None }) in
+    agent_line (agent_at unit agent).name figure.count figure.slack
+
+-- The variable of a number: an input of value 0 where there is none
+abbrev pub variable_at : Whole → ℕ → VarDecl
+variable_at unit variable = get_or unit.variables variable (record { name = []; owner = None; clock = 0; init = pos 0; depth = 0 })
+
+-- A variable's line, where nobody reached back
+abbrev pub size_line : Plan → ℕ → List ℕ
+size_line plan variable = variable_line (variable_at plan.unit variable).name (get_or plan.sizes.rings variable 0) None
+
+-- The lines of the summary, by the figures
+abbrev pub figured_lines : Plan → List Figure → List (List ℕ)
+figured_lines plan figures =
+    end_line plan.until
+    ∷ (map (figure_line plan.unit figures) (range_with_len 0 (length plan.unit.agents))
+    ++ map (size_line plan) (range_with_len 0 (length plan.unit.variables)))
