@@ -1,15 +1,19 @@
+pub mod Booted
+pub mod Dated
 mod FigureLines
 mod GivenLines
 mod Named
 mod NoReach
 mod PaidCycles
 mod PendingCycles
+pub mod Placed
 mod PlacesTold
 mod Publications
 mod RunsOn
 mod Settled
+pub mod Started
 mod Stops
 mod SummaryLines
-mod Supplied
+pub mod Supplied
 mod ToldPlaces
 mod Verdicts

@@ -2,5 +2,6 @@ pub mod Acting
 pub mod Progress
 pub mod Scripts
 pub mod Standing
+pub mod Starting
 pub mod Telling
 pub mod Texts

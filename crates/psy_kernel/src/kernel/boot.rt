@@ -1,15 +1,104 @@
-ghost use Rattle.std.specs.Prelude.{◌≡◌, ◌*◌, IfOk};
-ghost use Rattle.psy_dates.specs.Plans.{IsPlan};
+ghost use Rattle.std.specs.Prelude.{◌≡◌, ◌^◌, ◌<◌, ◌≤◌, ℕ, List, [], map, length, IfOk};
+ghost use Rattle.std.specs.List.{AllPairs, range_with_len};
+ghost use Rattle.psy_base.specs.declared.limits.TheConstants.{AGENTS};
+ghost use Rattle.psy_budget.specs.declared.charge.Stall.{Stall as stall};
+ghost use Rattle.psy_dates.specs.Plans.{IsPlan, system_of};
+ghost use Rattle.psy_dates.specs.Standing.{SharedStands};
 ghost use Rattle.psy_history.specs.Compiled.{AreInputs};
 ghost use Rattle.psy_kernel.specs.Progress.{booted, stage_of};
-ghost use Rattle.psy_kernel.specs.Scripts.{IsScript};
+ghost use Rattle.psy_kernel.specs.Scripts.{IsScript, StallBefore, stalls_of};
+ghost use Rattle.psy_kernel.specs.Standing.{AreInForce};
+ghost use Rattle.psy_kernel.specs.Starting.{AreNew, first_charge};
 
-use super::Kernel;
-use crate::script::Script;
+use super::{Figure, Kernel};
+use crate::script::{Order, Script};
 use crate::stage::Stage;
-use psy_base::Memory;
-use psy_dates::{Inputs, Plan};
+use psy_base::{Items, Memory};
+use psy_budget::{Charge, Stall};
+use psy_code::Code;
+use psy_dates::{Inputs, Plan, Shared};
+use psy_machine::Machine;
+use psy_ready::Ready;
 use std::alloc::Global;
+
+/// By agent, its machine, which hasn't started.
+fn machines_of(alloc: Global, code: &Code) -> Result<Vec<Machine>, Memory>
+    requires { length code.now.agents ≤ AGENTS }
+    ensures count { IfOk result (λ machines. length machines.items ≡ length code.now.agents) }
+    ensures new { IfOk result (λ machines. AreNew code.now machines.items) }
+{
+    let mut machines = Vec::new(alloc);
+    'agents: for agent in 0..code.agents.len() {
+        machines.push(Machine::new(alloc, code, agent as u32)?)?;
+    }
+    Ok(machines)
+}
+
+/// The stalls of an agent.
+fn stalls_of(alloc: Global, script: &Script, agent: u32) -> Result<Items<Stall>, Memory>
+    ensures { IfOk result (λ stalls. stalls ≡ stalls_of script.now agent) }
+{
+    let all = script.stalls.as_slice();
+    let mut stalls = Items::new(alloc);
+    for stall in all {
+        if stall.agent == agent {
+            stalls.push(*stall)?;
+        }
+    }
+    Ok(stalls)
+}
+
+/// The charge of an agent none of whose actions has started.
+fn charge_of(alloc: Global, script: &Script, agent: u32) -> Result<Charge, Memory>
+    requires { AllPairs StallBefore script.now.stalls }
+    ensures { IfOk result (λ charge. charge ≡ first_charge script.now agent) }
+{
+    Ok(Charge::new(stalls_of(alloc, script, agent)?))
+}
+
+/// By agent, its charge, none of whose actions has started.
+fn charges_of(alloc: Global, script: &Script, agents: u32) -> Result<Vec<Charge>, Memory>
+    requires { AllPairs StallBefore script.now.stalls }
+    ensures { IfOk result (λ charges. charges.items ≡ map (first_charge script.now) (range_with_len 0 agents)) }
+{
+    let mut charges = Vec::new(alloc);
+    for agent in 0..agents {
+        charges.push(charge_of(alloc, script, agent)?)?;
+    }
+    Ok(charges)
+}
+
+/// So many agents, in the order of declaration.
+fn declared_of(alloc: Global, agents: u32) -> Result<Vec<u32>, Memory>
+    ensures { IfOk result (λ declared. declared.items ≡ range_with_len 0 agents) }
+{
+    let mut declared = Vec::new(alloc);
+    for agent in 0..agents {
+        declared.push(agent)?;
+    }
+    Ok(declared)
+}
+
+/// How many orders are in force from cycle 0 on.
+fn passed_first(orders: &[Order]) -> usize
+    requires { AllPairs (λ o p. o.cycle < p.cycle) orders.now }
+    ensures { AreInForce orders.now result 0 }
+{
+    match orders.first() {
+        Some(order) => usize::from(order.cycle == 0),
+        None => 0,
+    }
+}
+
+/// What the agents of a plan share before date 0, and its inputs.
+fn shared_of(alloc: Global, plan: &Plan, inputs: Inputs) -> Result<Shared, Memory>
+    requires plan { IsPlan plan.now }
+    requires inputs { AreInputs plan.now.unit inputs.lists }
+    ensures stands { (stalls : ℕ → List stall) → IfOk result (SharedStands (system_of plan.now inputs.lists stalls) [] 0) }
+    ensures inputs { IfOk result (λ shared. shared.inputs ≡ inputs) }
+{
+    Shared::new(alloc, plan, inputs)
+}
 
 impl Kernel {
     /// A kernel before date 0. All the memory that a run takes is taken here; the only error is want of it.
@@ -19,13 +108,58 @@ impl Kernel {
         requires script { IsScript plan.unit script }
         ensures { IfOk result (λ kernel. kernel ≡ booted plan inputs.lists script) }
     {
-        Err(Memory)
+        let agents = plan.unit.agents.len() as u32;
+        let machines = machines_of(alloc, &plan.code)?;
+        let charges = charges_of(alloc, &script, agents)?;
+        let figures = vec![in alloc; Figure {
+            count: 0,
+            slack: None
+        }; agents as usize]?;
+        let ready = Ready::new(alloc, agents)?;
+        let declared = declared_of(alloc, agents)?;
+        let passed = passed_first(script.orders.as_slice());
+        let shared = shared_of(alloc, &plan, inputs)?;
+        Ok(Kernel {
+            plan,
+            script,
+            shared,
+            machines,
+            charges,
+            figures,
+            ready,
+            declared,
+            passed,
+            chosen: None,
+            stale: true,
+            cycles: 0,
+            place: 0,
+            given: 0,
+        })
+    }
+
+    /// How many dates were done.
+    pub(super) fn dates(&self) -> u64
+        ensures dates { result ≡ self.now.dates }
+        ensures few { result ≤ 2 ^ 32 }
+    {
+        let _until = self.plan.until;
+        match self.shared.date {
+            Some(date) => date + 1,
+            None => 0,
+        }
     }
 
     /// What is due next.
     pub fn stage(&self) -> Stage
         ensures { result ≡ stage_of self.now }
     {
-        Stage::Over
+        let dates = self.dates();
+        if dates == u64::from(self.plan.until) + 1 {
+            return Stage::Over;
+        }
+        if self.cycles == dates * u64::from(self.plan.unit.quantum) {
+            return Stage::DateDue(dates);
+        }
+        Stage::CycleDue(self.cycles)
     }
 }

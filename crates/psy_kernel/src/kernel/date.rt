@@ -1,8 +1,58 @@
-ghost use Rattle.std.specs.Prelude.{◌≡◌, ◌≢◌, ◌+◌, ◌*◌, length};
+ghost use Rattle.std.specs.Prelude.{◌≡◌, ◌≢◌, ℕ, ◌*◌, ◌≤◌, true, length, None};
+ghost use Rattle.psy_base.specs.declared.limits.TheConstants.{AGENTS};
+ghost use Rattle.psy_ready.specs.Choice.{pending_deadline};
 ghost use Rattle.psy_kernel.specs.Progress.{after_date, stage_of, told};
+ghost use Rattle.psy_kernel.specs.Starting.{IsDoneBelow, budget_in, charge_at, deadline_at, seat_at, starts_at};
 
 use super::Kernel;
 use crate::stage::Stage;
+use psy_budget::Charge;
+use psy_dates::{Phase, Seat, at_date};
+use psy_history::laws::{given, on_time, regular};
+use psy_ready::Ready;
+use psy_tree::{AgentDecl, Point};
+
+/// Whether the action of the seat starts at the date.
+fn starts_at(seat: &Seat, date: u64) -> bool
+    ensures { result ≡ starts_at date seat.now }
+{
+    matches!(seat.phase, Phase::Acting) && seat.start == date
+}
+
+/// The budget of a point.
+fn budget_in(points: &[Point], point: u32) -> u32
+    ensures { result ≡ budget_in points.now point }
+{
+    match points.get(point as usize) {
+        Some(point) => point.budget,
+        None => 0,
+    }
+}
+
+/// The actions of these seats that start at the date start.
+fn start_all(
+    seats: &[Seat],
+    agents: &[AgentDecl],
+    date: u64,
+    charges: &mut Vec<Charge>,
+    ready: &mut Ready,
+)
+    requires few { length agents.now ≤ AGENTS }
+    requires seated { length seats.now ≡ length agents.now }
+    requires charged { length charges.old.items ≡ length agents.now }
+    requires waiting { length ready.old ≡ length agents.now }
+    requires free { (agent : ℕ) → starts_at date (seat_at seats.now agent) ≡ true → pending_deadline ready.old agent ≡ None }
+    ensures charges { IsDoneBelow (charge_at date seats.now agents.now) (length agents.now) charges.old.items charges.new.items }
+    ensures ready { IsDoneBelow (deadline_at date seats.now) (length agents.now) ready.old ready.new }
+{
+    'each: for agent in 0..seats.len() {
+        let seat = seats[agent];
+        if starts_at(&seat, date) {
+            charges[agent].start(budget_in(agents[agent].points.as_slice(), seat.point));
+            ready.add(agent as u32, seat.deadline);
+        }
+    }
+}
 
 impl Kernel {
     /// Does the date that is due, once all lines of the date before it were given. It takes no memory.
@@ -15,5 +65,20 @@ impl Kernel {
         ensures last { self.old.dates ≡ self.old.plan.until → stage_of self.new ≡ Stage.Over }
         ensures earlier { self.old.dates ≢ self.old.plan.until → stage_of self.new ≡ Stage.CycleDue (self.old.dates * self.old.plan.unit.quantum) }
     {
+        given();
+        regular();
+        on_time();
+        let date = self.dates();
+        at_date(&mut self.shared, &self.plan, date);
+        start_all(
+            self.shared.seats.as_slice(),
+            self.plan.unit.agents.as_slice(),
+            date,
+            &mut self.charges,
+            &mut self.ready,
+        );
+        self.stale = true;
+        self.place = 0;
+        self.given = 0;
     }
 }

@@ -1,0 +1,62 @@
+use Rattle.std.proofs.Common.{◌≡◌, ◌<◌, ℤ, List, [], length, None, refl, ap, sym, subst, ◌∙◌, arith}
+use Rattle.std.specs.List.{AllPairs, range_with_len, slice_get}
+use Rattle.std.proofs.lemmas.List.{length-replicate}
+use Rattle.std.proofs.lemmas.List.FromFn.{length-map-range_with_len}
+use Rattle.psy_history.specs.Compiled.{AreInputs, coded}
+use Rattle.psy_meaning.specs.Actions.{System}
+use Rattle.psy_meaning.specs.History.{history}
+use Rattle.psy_dates.specs.Standing.{SharedStands, dates_done}
+use Rattle.psy_kernel.specs.declared.kernel.Figure.{Figure}
+use Rattle.psy_kernel.specs.declared.script.Order.{Order}
+use Rattle.psy_kernel.specs.Scripts.{stalls_of}
+use Rattle.psy_kernel.specs.Standing.{AgentStands, AreInForce, InTick, given_at}
+use Rattle.psy_kernel.specs.Starting.{first_charge}
+use Rattle.psy_kernel.proofs.Booted.{first_stands, made_at, replicated_at, view_booted}
+use Rattle.psy_kernel.proofs.kernel.Kernel.boot.Goals as goal
+
+pub passed_first-passed-requires : goal.passed_first-passed-requires
+passed_first-passed-requires c = subst (AllPairs (λ (o p : Order). o.cycle < p.cycle)) (sym c.as_slice.ensures) c.requires.script.orders_rise
+
+pub invariant_of-result : goal.invariant_of-result
+invariant_of-result c =
+    let plan = c.args.plan in
+    let unit = plan.unit in
+    let script = c.args.script in
+    let shared = c.in_ok-shared.shared in
+    let lists : c.args.inputs.lists ≡ shared.inputs.lists = ap (λ i. i.lists) (sym c.in_ok-shared.ensures.inputs) in
+    let first = c.in_ok-shared.ensures.stands (stalls_of script) in
+    let dates : 0 ≡ dates_done shared.date = sym first.date in
+    let s : List (List ℤ) → System = coded unit plan.code plan.nexts (stalls_of script) in
+    let count = c.len-agents.result in
+    let counted : count ≡ length unit.agents = c.len-agents.ensures in
+    let none : Figure = record { count = 0; slack = None } in
+    let machines = c.in_ok-machines.ensures in
+    let charges = c.in_ok-charges.ensures in
+    let ready = c.in_ok-ready.ensures in
+    let figures = c.in_ok-figures.ensures.items_if_clones_equal (λ y e. e) in
+    record {
+      plan = c.requires.plan;
+      inputs = subst (AreInputs unit) lists c.requires.inputs;
+      script = c.requires.script;
+      in_tick = subst (λ d. InTick unit.quantum plan.until d 0) dates refl;
+      shared = subst (λ i. SharedStands (s i) [] (dates_done shared.date) shared) lists
+          (subst (λ d. SharedStands (s c.args.inputs.lists) [] d shared) dates first);
+      machined = machines.count ∙ c.requires.plan.compiled.alike.agents;
+      charges = ap length charges ∙ length-map-range_with_len (first_charge script) 0 count ∙ counted;
+      waiting = ap length ready ∙ length-replicate count None ∙ counted;
+      figured = ap length figures ∙ length-replicate count none ∙ counted;
+      agents = λ agent machine charge waits figure em ec ew ef.
+          (let new = machines.new agent machine em in
+          subst (λ d. AgentStands (s shared.inputs.lists) plan.code [] plan.until agent (history (s shared.inputs.lists) d agent) charge machine waits figure) dates (first_stands (s shared.inputs.lists) plan.code plan.until agent charge machine waits figure
+          (made_at (first_charge script) count agent charge (ap (λ xs. slice_get xs agent) (sym charges) ∙ ec)) new.0 new.1
+          (replicated_at None count agent waits (ap (λ xs. slice_get xs agent) (sym ready) ∙ ew))
+          (replicated_at none count agent figure (ap (λ xs. slice_get xs agent) (sym figures) ∙ ef))));
+      all = c.in_ok-declared.ensures ∙ ap (range_with_len 0) counted;
+      orders = subst (λ orders. AreInForce orders c.passed_first-passed.result 0) c.as_slice.ensures c.passed_first-passed.ensures;
+      choice = λ e. absurd (cc);
+      place = omega arith;
+      given = subst (λ d. 0 ≡ given_at (s shared.inputs.lists) d 0) dates refl;
+    }
+
+pub returns : goal.returns
+returns c = view_booted c.args.plan c.args.script c.args.inputs.lists c.in_ok-shared.shared.inputs.lists (dates_done c.in_ok-shared.shared.date) (ap (λ i. i.lists) c.in_ok-shared.ensures.inputs) (c.in_ok-shared.ensures.stands (stalls_of c.args.script)).date

@@ -1,0 +1,106 @@
+use Rattle.std.proofs.Common.{◌≡◌, ℕ, ◌+◌, ◌*◌, ◌≤◌, suc, List, length, None, true, ap, sym, subst, ◌∙◌, arith, ℤ}
+use Rattle.std.proofs.Math.Numerals.{add-one}
+use Rattle.psy_ready.specs.Choice.{pending_deadline}
+use Rattle.psy_meaning.specs.Actions.{System}
+use Rattle.psy_meaning.specs.History.{history}
+use Rattle.psy_history.specs.Compiled.{AreInputs, coded}
+use Rattle.psy_history.specs.Scheduled.{turns_of}
+use Rattle.psy_dates.specs.Standing.{SharedStands, dates_done}
+use Rattle.psy_kernel.specs.declared.stage.Stage.TheVariants.{CycleDue}
+use Rattle.psy_kernel.specs.Progress.{Progress, after_date, stage_of}
+use Rattle.psy_kernel.specs.Scripts.{stalls_of}
+use Rattle.psy_kernel.specs.Standing.{AgentStands, InTick, given_at}
+use Rattle.psy_kernel.specs.Starting.{IsDoneBelow, charge_at, deadline_at, seat_at, starts_at}
+use Rattle.psy_kernel.proofs.Dated.{cycle_after, date_due, over_after}
+use Rattle.psy_kernel.proofs.Supplied.{after, agents, before_filled, free, is_due, its, none_due, none_given, tick, ties, view_after}
+use Rattle.psy_kernel.proofs.kernel.Kernel.date.Goals as goal
+
+pub at_date-requires-clause-due : goal.at_date-requires-clause-due
+at_date-requires-clause-due c =
+    let k = c.self.inside in
+    let date = c.dates-date.result in
+    none_due k date (is_due k c.args.self.now date c.self.invariant c.self.view_is c.requires.due c.dates-date.ensures.dates c.dates-date.ensures.few c.regular.ensures.lawful c.given.ensures.unstarted c.on_time.ensures.due)
+
+pub at_date-requires-clause-stands : goal.at_date-requires-clause-stands
+at_date-requires-clause-stands c =
+    let k = c.self.inside in
+    let date = c.dates-date.result in
+    let due = is_due k c.args.self.now date c.self.invariant c.self.view_is c.requires.due c.dates-date.ensures.dates c.dates-date.ensures.few c.regular.ensures.lawful c.given.ensures.unstarted c.on_time.ensures.due in
+    (stalls_of k.script, ties k date due, before_filled k date due)
+
+pub start_all-requires-clause-seated : goal.start_all-requires-clause-seated
+start_all-requires-clause-seated c =
+    let k = c.self.inside in
+    let date = c.dates-date.result in
+    let due = is_due k c.args.self.now date c.self.invariant c.self.view_is c.requires.due c.dates-date.ensures.dates c.dates-date.ensures.few c.regular.ensures.lawful c.given.ensures.unstarted c.on_time.ensures.due in
+    let done = c.at_date.ensures.stands (stalls_of k.script) (ties k date due) (before_filled k date due) in
+    ap length c.as_slice.ensures.value ∙ done.seated ∙ sym (ap length c.as_slice-2.ensures)
+
+pub start_all-requires-clause-free : goal.start_all-requires-clause-free
+start_all-requires-clause-free c =
+    let k = c.self.inside in
+    let date = c.dates-date.result in
+    let due = is_due k c.args.self.now date c.self.invariant c.self.view_is c.requires.due c.dates-date.ensures.dates c.dates-date.ensures.few c.regular.ensures.lawful c.given.ensures.unstarted c.on_time.ensures.due in
+    let done = c.at_date.ensures.stands (stalls_of k.script) (ties k date due) (before_filled k date due) in
+    subst (λ seats. (agent : ℕ) → starts_at date (seat_at seats agent) ≡ true → pending_deadline k.ready agent ≡ None) (sym c.as_slice.ensures.value) (free k date due c.at_date.new.shared done)
+
+pub invariant_of-self : goal.invariant_of-self
+invariant_of-self c =
+    let k = c.self.inside in
+    let h = c.self.invariant in
+    let unit = k.plan.unit in
+    let date = c.dates-date.result in
+    let due = is_due k c.args.self.now date h c.self.view_is c.requires.due c.dates-date.ensures.dates c.dates-date.ensures.few c.regular.ensures.lawful c.given.ensures.unstarted c.on_time.ensures.due in
+    let order = ties k date due in
+    let s : List (List ℤ) → System = coded unit k.plan.code k.plan.nexts (stalls_of k.script) in
+    let shared = c.at_date.new.shared in
+    let done = c.at_date.ensures.stands (stalls_of k.script) order (before_filled k date due) in
+    let lists : k.shared.inputs.lists ≡ shared.inputs.lists = ap (λ i. i.lists) (sym c.at_date.ensures.inputs) in
+    let dates : suc date ≡ dates_done shared.date = sym (done.date ∙ add-one date) in
+    let same_seats : IsDoneBelow (charge_at date shared.seats.items unit.agents) (length unit.agents) k.charges.items c.start_all.new.charges.items =
+    subst (λ seats. IsDoneBelow (charge_at date seats unit.agents) (length unit.agents) k.charges.items c.start_all.new.charges.items) c.as_slice.ensures.value
+    (subst (λ agents. IsDoneBelow (charge_at date c.as_slice.result.now agents) (length agents) k.charges.items c.start_all.new.charges.items) c.as_slice-2.ensures c.start_all.ensures.charges) in
+    let same_ready : IsDoneBelow (deadline_at date shared.seats.items) (length unit.agents) k.ready c.start_all.new.ready =
+    subst (λ seats. IsDoneBelow (deadline_at date seats) (length unit.agents) k.ready c.start_all.new.ready) c.as_slice.ensures.value
+    (subst (λ agents. IsDoneBelow (deadline_at date c.as_slice.result.now) (length agents) k.ready c.start_all.new.ready) c.as_slice-2.ensures c.start_all.ensures.ready) in
+    record {
+      plan = h.plan;
+      inputs = subst (AreInputs unit) lists h.inputs;
+      script = h.script;
+      in_tick = subst (λ d. InTick unit.quantum k.plan.until d k.cycles) dates (tick k date due);
+      shared = subst (λ i. SharedStands (s i) (turns_of (s i) order k.cycles) (dates_done shared.date) shared) lists
+          (subst (λ d. SharedStands (its k date due) (turns_of (its k date due) order k.cycles) d shared) (sym done.date) (after k date due shared done));
+      machined = h.machined;
+      charges = same_seats.count ∙ h.charges;
+      waiting = same_ready.count ∙ h.waiting;
+      figured = h.figured;
+      agents = λ agent machine charge waits figure em ec ew ef.
+          subst (λ i. AgentStands (s i) k.plan.code (turns_of (s i) order k.cycles) k.plan.until agent (history (s i) (dates_done shared.date) agent) charge machine waits figure) lists
+          (subst (λ d. AgentStands (its k date due) k.plan.code (turns_of (its k date due) order k.cycles) k.plan.until agent (history (its k date due) d agent) charge machine waits figure) dates
+          (agents k date due shared done c.start_all.new.charges.items c.start_all.new.ready same_seats same_ready agent machine charge waits figure em ec ew ef));
+      all = h.all;
+      orders = h.orders;
+      choice = λ e. absurd (cc);
+      place = omega arith;
+      given = subst (λ d. 0 ≡ given_at (s shared.inputs.lists) d 0) dates (none_given (s shared.inputs.lists) date);
+    }
+
+pub returns-clause-state : goal.returns-clause-state
+returns-clause-state c =
+    let k = c.self.inside in
+    let date = c.dates-date.result in
+    let due = is_due k c.args.self.now date c.self.invariant c.self.view_is c.requires.due c.dates-date.ensures.dates c.dates-date.ensures.few c.regular.ensures.lawful c.given.ensures.unstarted c.on_time.ensures.due in
+    let shared = c.at_date.new.shared in
+    let done = c.at_date.ensures.stands (stalls_of k.script) (ties k date due) (before_filled k date due) in
+    view_after k shared.inputs.lists (dates_done shared.date) (ap (λ i. i.lists) c.at_date.ensures.inputs) (done.date ∙ ap (λ d. d + 1) (c.dates-date.ensures.dates ∙ ap (λ (p : Progress). p.dates) (sym c.self.view_is))) ∙ ap after_date c.self.view_is
+
+pub returns-clause-last : goal.returns-clause-last
+returns-clause-last c = λ e. ap stage_of (returns-clause-state c) ∙ over_after (after_date c.args.self.now) (ap (λ d. d + 1) e)
+
+pub returns-clause-earlier : goal.returns-clause-earlier
+returns-clause-earlier c = λ differs.
+    (let p = c.args.self.now in
+    let filled = (date_due p c.requires.due).1 in
+    let some : 1 ≤ p.plan.unit.quantum = subst (λ q. 1 ≤ q.plan.unit.quantum) c.self.view_is c.self.invariant.plan.compiled.text.bare.quantum.0 in
+    let more : (p.dates + 1) * p.plan.unit.quantum ≡ p.dates * p.plan.unit.quantum + p.plan.unit.quantum = omega arith in
+    ap stage_of (returns-clause-state c) ∙ cycle_after (after_date p) (λ e. differs (omega (arith, e))) (λ e. omega (arith, e, filled, more, some)) ∙ ap CycleDue filled)

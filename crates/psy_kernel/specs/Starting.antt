@@ -1,0 +1,59 @@
+-- What starts at a date, and what a kernel begins with.
+use Rattle.std.specs.Prelude.{◌≡◌, ℕ, ◌<◌, ◌≤◌, ◌==◌, ◌&&◌, Bool, true, false, if◌then◌else◌, List, [], length, Option, Some, None, slice_get, slice_index_or}
+use Rattle.psy_budget.specs.Charges.{Charged, after_start}
+use Rattle.psy_code.specs.declared.code.Code.{Code}
+use Rattle.psy_dates.specs.declared.seat.Phase.{Phase}
+use Rattle.psy_dates.specs.declared.seat.Phase.TheVariants as phase
+use Rattle.psy_dates.specs.declared.seat.Seat.{Seat}
+use Rattle.psy_machine.specs.Stepping.{AgentMachine, IsNew, IsOf}
+use Rattle.psy_tree.specs.declared.unit.AgentDecl.{AgentDecl}
+use Rattle.psy_tree.specs.declared.unit.Point.{Point}
+use Rattle.psy_kernel.specs.declared.script.Script.{Script}
+use Rattle.psy_kernel.specs.Scripts.{stalls_of}
+
+-- ---- before date 0
+
+-- Each of these machines is that of the agent of its number, which hasn't started.
+abbrev pub AreNew : Code → List AgentMachine → Type 0
+AreNew code machines = (agent : ℕ) (machine : AgentMachine) → slice_get machines agent ≡ Some machine → IsNew code agent machine × IsOf code machine
+
+-- The charge of an agent none of whose actions has started
+abbrev pub first_charge : Script → ℕ → Charged
+first_charge script agent = record { stalls = stalls_of script agent; started = 0; budget = 0; consumed = 0; paid = 0 }
+
+-- ---- at a date
+
+-- The action of the seat is pending.
+abbrev pub is_acting : Phase → Bool
+is_acting phase.Acting = true
+is_acting _ = false
+
+-- The action of the seat starts at the date.
+abbrev pub starts_at : ℕ → Seat → Bool
+starts_at date seat = is_acting seat.phase && seat.start == date
+
+-- The budget of a point: 0 where there is none
+abbrev pub budget_in : List Point → ℕ → ℕ
+budget_in points point = (slice_index_or points point (record { count = 1; clock = 0; budget = 0 })).budget
+
+-- The seat of an agent: one that waits where there is none
+abbrev pub seat_at : List Seat → ℕ → Seat
+seat_at seats agent = slice_index_or seats agent (record { phase = phase.Waiting; number = 0; point = 0; start = 0; deadline = 0; end = 0; reached = 0; trap = None })
+
+-- The points of an agent: none where there is none
+abbrev pub points_at : List AgentDecl → ℕ → List Point
+points_at agents agent = (slice_index_or agents agent (record { name = []; clock = 0; budget = 0; slots = []; points = []; stmts = [] })).points
+
+-- The charge of an agent, once the action of its seat has started where it starts at the date
+abbrev pub charge_at : ℕ → List Seat → List AgentDecl → ℕ → Charged → Charged
+charge_at date seats agents agent charge = if starts_at date (seat_at seats agent) then after_start charge (budget_in (points_at agents agent) (seat_at seats agent).point) else charge
+
+-- The deadline for which it waits then
+abbrev pub deadline_at : ℕ → List Seat → ℕ → Option ℕ → Option ℕ
+deadline_at date seats agent waits = if starts_at date (seat_at seats agent) then Some (seat_at seats agent).deadline else waits
+
+-- The first n items of a list became what this makes of them, by their places, and the others are as they were.
+pub record IsDoneBelow {X : Type 0} (made : ℕ → X → X) (n : ℕ) (before after : List X) : Type 0 where
+  pub count : length after ≡ length before
+  pub done : (place : ℕ) (x : X) → place < n → slice_get before place ≡ Some x → slice_get after place ≡ Some (made place x)
+  pub ahead : (place : ℕ) → n ≤ place → slice_get after place ≡ slice_get before place
