@@ -1,14 +1,13 @@
 -- A bound on what an agent may still ask of the processor by a date, and how it is kept.
-use Rattle.std.proofs.Common.{◌≡◌, ℕ, suc, ◌+◌, ◌-◌, ◌<◌, ◌≤◌, List, [], ◌∷◌, Option, Some, refl, sym, ap, ◌∙◌, subst, arith}
+use Rattle.std.proofs.Common.{◌≡◌, ℕ, suc, ◌+◌, ◌-◌, ◌<◌, ◌≤◌, List, [], ◌∷◌, Option, Some, refl, sym, subst, arith}
 use Rattle.std.specs.Prelude.{⊤}
-use Rattle.std.proofs.lemmas.Option.{same_Some}
 use Rattle.psy_base.specs.declared.edge.Edge.{Edge}
 use Rattle.psy_base.specs.Paths.{DueBy, FitsDueLast, IsGreatestWeight, IsPathFrom, weight_of}
-use Rattle.psy_meaning.specs.Actions.{Action, Next, Verdict, Done, Trapped, Overran, System, next_by, next_of}
-use Rattle.psy_meaning.specs.Executors.{Carried}
+use Rattle.psy_meaning.specs.Actions.{Action, Next, System, next_by, next_of}
 use Rattle.psy_meaning.specs.Schedule.{work}
 use Rattle.psy_history.specs.Regular.{IsRegular}
 use Rattle.psy_history.proofs.Edges.{Drawn, IsNode, IsStep, step_in, step_some, step_done}
+use Rattle.psy_history.proofs.Growth.{next_done}
 use Rattle.psy_history.proofs.PathShifts.{due_front, due_moved}
 
 -- The last of these actions is finished, where it has had so many cycles.
@@ -16,21 +15,19 @@ abbrev pub Rests : ℕ → List Action → Type 0
 Rests had [] = ⊤
 Rests had (r ∷ before) = work r ≤ had
 
-pub done_there : (number : ℕ) (carried : Carried) (verdict : Verdict) (n : Next) → next_by number carried verdict ≡ Some n → verdict ≡ Done n.point n.start
-done_there number carried (Done point end) n e =
-    let same = same_Some _ n e in
-    ap (λ (m : Next). Done m.point end) same ∙ ap (λ (m : Next). Done n.point m.start) same
-done_there number carried (Trapped kind) n e = cc
-done_there number carried Overran n e = cc
+-- So it is, if it is due by a date.
+abbrev pub RestsBy : ℕ → ℕ → List Action → Type 0
+RestsBy by had [] = ⊤
+RestsBy by had (r ∷ before) = r.deadline ≤ by → work r ≤ had
 
 module _ (s : System) (graphs : List (List Edge)) (agent : ℕ) (g : Drawn s graphs agent) (by : ℕ) where
   -- What the last action, pending and due by the date, may still ask, and those behind it
-  abbrev pub Left : ℕ → List Action → ℕ → Type 0
+  abbrev Left : ℕ → List Action → ℕ → Type 0
   Left had [] bound = ⊤
   Left had (r ∷ before) bound = had < work r → r.deadline ≤ by → (to : ℕ) (e : Edge) (path : List Edge) → IsStep s graphs agent g r.point r.start to e → IsPathFrom g.edges e.to path → DueBy by (r.start + e.len) path → r.budget + weight_of path ≤ bound + had
 
   -- What the next action may ask, and those behind it
-  abbrev pub Ahead : Option Next → ℕ → Type 0
+  abbrev Ahead : Option Next → ℕ → Type 0
   Ahead next bound = (n : Next) (node : ℕ) (path : List Edge) → next ≡ Some n → IsNode s graphs agent g n.point n.start node → IsPathFrom g.edges node path → DueBy by n.start path → weight_of path ≤ bound
 
   -- The bound covers what actions may ask that are due by the date, where the last of these has had so many cycles.
@@ -38,16 +35,16 @@ module _ (s : System) (graphs : List (List Edge)) (agent : ℕ) (g : Drawn s gra
     pub now : Left had actions bound
     pub next : Rests had actions → Ahead (next_of s agent actions) bound
 
-  still_due : (had : ℕ) (actions : List Action) (bound : ℕ) → ((r : Action) (before : List Action) → actions ≡ r ∷ before → r.deadline ≤ by → work r ≤ had) → Left had actions bound
-  still_due had [] bound h = tt {0}
-  still_due had (r ∷ before) bound h = λ pending due to e path step from fits. absurd (omega (arith, pending, h r before refl due))
+  still_due : (had : ℕ) (actions : List Action) (bound : ℕ) → RestsBy by had actions → Left had actions bound
+  still_due had [] bound rests = tt {0}
+  still_due had (r ∷ before) bound rests = λ pending due to e path step from fits. absurd (omega (arith, pending, rests due))
 
   -- At a date by which all is finished that is due by the later one
-  pub covered_quiet : (date length had : ℕ) (actions : List Action) (bound : ℕ) → date + length ≡ by → ((r : Action) (before : List Action) → actions ≡ r ∷ before → r.deadline ≤ by → work r ≤ had)
+  pub covered_quiet : (date length had : ℕ) (actions : List Action) (bound : ℕ) → date + length ≡ by → RestsBy by had actions
       → ((n : Next) → next_of s agent actions ≡ Some n → date ≤ n.start) → IsGreatestWeight g.edges (FitsDueLast length) bound → Covered had actions bound
-  covered_quiet date length had actions bound far quiet late greatest = record {
-    now = still_due had actions bound quiet;
-    next = λ rests n node path is at from due. greatest.most path (node, from) (due_moved path by n.start length 0 (omega (arith, far, late n is)) due);
+  covered_quiet date length had actions bound far rests late greatest = record {
+    now = still_due had actions bound rests;
+    next = λ finished n node path is at from due. greatest.most path (node, from) (due_moved path by n.start length 0 (omega (arith, far, late n is)) due);
   }
 
   -- What the next action may ask, by what may follow this one
@@ -56,7 +53,7 @@ module _ (s : System) (graphs : List (List Edge)) (agent : ℕ) (g : Drawn s gra
       → Ahead (next_by r.number r.after r.verdict) rest
   ahead_of r bound rest regular fits behind n node [] is at from due = omega arith
   ahead_of r bound rest regular fits behind n node (f ∷ path) is at from due =
-      let (e, step, to, ends) = step_done s graphs agent g r regular n.point n.start node (done_there r.number r.after r.verdict n is) at in
+      let (e, step, to, ends) = step_done s graphs agent g r regular n.point n.start node (next_done r.number r.after r.verdict n is).0 at in
       let there : IsPathFrom g.edges e.to (f ∷ path) = subst (λ k. IsPathFrom g.edges k (f ∷ path)) (sym to) from in
       let weigh : r.budget + weight_of (f ∷ path) ≤ bound = behind n.point e f path step there (subst (λ t. DueBy by t (f ∷ path)) (sym ends) due) in
       omega (arith, fits, weigh)

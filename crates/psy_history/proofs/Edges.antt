@@ -1,26 +1,14 @@
 -- The edges of the graphs of a system's agents.
-use Rattle.std.proofs.Common.{◌≡◌, ℕ, zero, suc, ◌+◌, ◌-◌, ◌<◌, ◌≤◌, List, [], ◌∷◌, map, length, get_or, slice_get, Some, refl, sym, ap, ◌∙◌, subst, arith}
+use Rattle.std.proofs.Common.{◌≡◌, ℕ, ◌+◌, ◌-◌, ◌<◌, List, [], length, get_or, slice_get, Some, refl, sym, ap, ◌∙◌, subst, arith}
 use Rattle.std.specs.List.{Contains}
 use Rattle.std.proofs.lemmas.Option.{slice_get-get_or, slice_get_within}
 use Rattle.psy_base.specs.declared.edge.Edge.{Edge}
 use Rattle.psy_meaning.specs.Actions.{Action, Done, System, timing}
 use Rattle.psy_meaning.specs.Graph.{Spot, IsEdgeOf, IsGraph, spot_at}
-use Rattle.psy_meaning.specs.Timing.{MayStart, deadline, end_date, following, least, later}
+use Rattle.psy_meaning.specs.Timing.{MayStart, end_date, following, later}
 use Rattle.psy_history.specs.Compiled.{AreEdgesOf}
 use Rattle.psy_history.specs.Regular.{IsRegular}
-
--- ---- the least of some numbers
-
-least_below : (f : ℕ → ℕ) (xs : List ℕ) (x : ℕ) → Contains xs x → least (map f xs) ≤ f x
-least_below f [] x (k, l, e) = absurd (omega (arith, l))
-least_below f (y ∷ []) x (zero, l, e) = omega (arith, ap f e)
-least_below f (y ∷ []) x (suc k, l, e) = absurd (omega (arith, l))
-least_below f (y ∷ z ∷ xs) x (zero, l, e) = omega (arith, ap f e)
-least_below f (y ∷ z ∷ xs) x (suc k, l, e) = let rest : least (map f (z ∷ xs)) ≤ f x = least_below f (z ∷ xs) x (k, omega (arith, l), e) in omega (arith, rest)
-
-one_there : (f : ℕ → ℕ) (xs : List ℕ) (n : ℕ) → n < least (map f xs) → (x : ℕ) × Contains xs x
-one_there f [] n l = absurd (omega (arith, l))
-one_there f (x ∷ xs) n l = (x, (zero, omega arith, refl))
+use Rattle.psy_history.proofs.Deadlines.{deadline_least, some_follows}
 
 -- ---- graphs
 
@@ -60,7 +48,7 @@ module _ (s : System) (graphs : List (List Edge)) (agent : ℕ) (g : Drawn s gra
   step_to r regular to node follows into =
       let t = timing s agent in
       let from = node_of r.point r.start regular.starts in
-      let late : deadline t r.point r.start ≤ end_date t r.start to = least_below (end_date t r.start) (following t r.point) to follows in (
+      let late = deadline_least t r.point r.start to follows in (
         record {
           from = from.0;
           to = node;
@@ -84,7 +72,7 @@ module _ (s : System) (graphs : List (List Edge)) (agent : ℕ) (g : Drawn s gra
   pub step_some : (r : Action) → IsRegular s agent r → (to : ℕ) × (e : Edge) × IsStep r.point r.start to e
   step_some r regular =
       let t = timing s agent in
-      let one = one_there (end_date t r.start) (following t r.point) r.start (omega (arith, regular.due, regular.deadline)) in
+      let one = some_follows t r.point r.start (omega (arith, regular.due, regular.deadline)) in
       let into = node_of one.0 (end_date t r.start one.0) (later r.point r.start one.0 regular.starts one.1) in
       let step = step_to r regular one.0 into.0 one.1 into.1 in
       (one.0, step.0, step.1)

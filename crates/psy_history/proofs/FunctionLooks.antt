@@ -11,9 +11,10 @@ use Rattle.psy_tree.specs.declared.unit.Stmt.TheOpen.{Stmt-F}
 use Rattle.psy_meaning.specs.Paths.{one_of}
 use Rattle.psy_meaning.specs.Sound.{AreSound, AreSoundFunctions, Each, IsSoundExpr, IsSoundStmt, Scope, function_scope, sound_expr_step, sound_stmt_step}
 use Rattle.psy_meaning.specs.Ways.{Course, Fell, Back, Way, both, callee_way, callee_ways, callee_ways_from, course_by, courses_through, here, with_way}
+use Rattle.psy_meaning.proofs.OpenWays.{two}
 use Rattle.psy_meaning.proofs.SoundParts.{exprs_natural, stmts_natural}
 use Rattle.psy_history.specs.Compiled.{expr_looks, expr_looks_step, stmt_looks, stmt_looks_step}
-use Rattle.psy_history.proofs.NoLooks.{Blind, AllBlind, NoPast, blind_both, blind_either, blind_here, blind_stmts, blind_two, two}
+use Rattle.psy_history.proofs.NoLooks.{Blind, AllBlind, NoPast, blind_both, blind_either, blind_here, blind_stmts, blind_two}
 
 module _ (sc : Scope) (no_depths : sc.depths ≡ []) where
   -- ---- expressions

@@ -1,5 +1,5 @@
 -- What a cycle leaves of the demand that is due by a date.
-use Rattle.std.proofs.Common.{◌≡◌, ◌⊎◌, ℕ, suc, ◌+◌, ◌-◌, ◌*◌, ◌<◌, ◌≤◌, List, [], ◌∷◌, length, Option, Some, None, refl, sym, ap, ◌∙◌, subst, inl, inr, arith}
+use Rattle.std.proofs.Common.{◌≡◌, ◌⊎◌, ℕ, suc, ◌+◌, ◌-◌, ◌*◌, ◌<◌, ◌≤◌, List, [], ◌∷◌, drop, length, Option, Some, None, refl, sym, ap, ◌∙◌, subst, inl, inr, arith}
 use Rattle.std.specs.Prelude.{◌==◌, if◌then◌else◌}
 use Rattle.std.specs.List.{All, Contains}
 use Rattle.std.proofs.lemmas.Bool.{cases_eq, cases_lt, eq-eqb, ne_eqb}
@@ -11,7 +11,8 @@ use Rattle.psy_history.specs.Regular.{IsRegular}
 use Rattle.psy_history.proofs.Edges.{Drawn, drawn_within}
 use Rattle.psy_history.proofs.Bounds.{Covered, covered_some, covered_unit}
 use Rattle.psy_history.proofs.Totals.{total, total_less}
-use Rattle.psy_history.proofs.Soonest.{IsSoonest, first_or_later, pending_from, pending_in, soonest_is, units_more, units_other, units_own}
+use Rattle.psy_history.proofs.Members.{contains_none, front_or_behind}
+use Rattle.psy_history.proofs.Soonest.{IsSoonest, pending_from, pending_in, soonest_is, units_more, units_other, units_own}
 
 -- The cycles that the last of these actions has had
 abbrev pub had_of : List (Option Turn) → List Action → ℕ
@@ -24,28 +25,32 @@ Quiet by turns h = (agent : ℕ) (r : Action) → Contains (h agent) r → r.dea
 
 -- All is finished but the last action of each agent.
 abbrev pub Older : List (Option Turn) → History → Type 0
-Older turns h = (agent : ℕ) (r : Action) (before : List Action) → h agent ≡ r ∷ before → (x : Action) → Contains before x → work x ≤ units x.agent x.number turns
+Older turns h = (agent : ℕ) (x : Action) → Contains (drop 1 (h agent)) x → work x ≤ units x.agent x.number turns
+
+-- The bound covers what an agent's actions may ask by a date.
+abbrev pub Covers : (s : System) (graphs : List (List Edge)) → ℕ → List (Option Turn) → (agent : ℕ) → Drawn s graphs agent → List Action → ℕ → Type 0
+Covers s graphs by turns agent g actions bound = Covered s graphs agent g by (had_of turns actions) actions bound
 
 -- What agents may still ask by a date is at most what is left of the cycles until then.
 pub record Bounded (s : System) (graphs : List (List Edge)) (by cycle : ℕ) (turns : List (Option Turn)) (h : History) : Type 0 where
   pub bound : ℕ → ℕ
   pub enough : total bound (length graphs) + cycle ≤ s.unit.quantum * by
-  pub covers : (agent : ℕ) (g : Drawn s graphs agent) → Covered s graphs agent g by (had_of turns (h agent)) (h agent) (bound agent)
+  pub covers : (agent : ℕ) (g : Drawn s graphs agent) → Covers s graphs by turns agent g (h agent) (bound agent)
 
 -- All is finished that is due by a date, or what agents may still ask until then is bounded.
 abbrev pub IsCovered : System → List (List Edge) → ℕ → ℕ → List (Option Turn) → History → Type 0
 IsCovered s graphs by cycle turns h = Quiet by turns h ⊎ Bounded s graphs by cycle turns h
 
-pub quiet_more : (by : ℕ) (turn : Option Turn) (turns : List (Option Turn)) (h : History) → Quiet by turns h → Quiet by (turn ∷ turns) h
+quiet_more : (by : ℕ) (turn : Option Turn) (turns : List (Option Turn)) (h : History) → Quiet by turns h → Quiet by (turn ∷ turns) h
 quiet_more by turn turns h quiet agent r c due = omega (arith, quiet agent r c due, units_more r.agent r.number turn turns)
 
 -- What is pending is the last action.
-pub last_of : (turns : List (Option Turn)) (actions : List Action) (r : Action) → ((q : Action) (before : List Action) → actions ≡ q ∷ before → (x : Action) → Contains before x → work x ≤ units x.agent x.number turns)
+pub last_of : (turns : List (Option Turn)) (actions : List Action) (r : Action) → ((x : Action) → Contains (drop 1 actions) x → work x ≤ units x.agent x.number turns)
     → Contains actions r → units r.agent r.number turns < work r → (before : List Action) × (actions ≡ r ∷ before)
-last_of turns [] r older (k, l, e) less = absurd (omega (arith, l))
-last_of turns (q ∷ before) r older c less = elim (first_or_later q before r c) [
+last_of turns [] r older c less = absurd (contains_none r c)
+last_of turns (q ∷ before) r older c less = elim (front_or_behind q before r c) [
   | inl e ↦ (before, ap (λ x. x ∷ before) e)
-  | inr rest ↦ absurd (omega (arith, older q before refl r rest, less))
+  | inr rest ↦ absurd (omega (arith, older r rest, less))
 ]
 
 -- One less for this agent
@@ -64,9 +69,9 @@ module _ (s : System) (graphs : List (List Edge)) (h : History) (regular : (agen
   had_other r agent (q ∷ before) all other = sym (units_other r q.agent q.number turns (λ e. other (e ∙ (All-head (IsRegular s agent) q before all).agent_is)))
 
   own_unit : (r : Action) (agent : ℕ) (g : Drawn s graphs agent) (actions before : List Action) (bound : ℕ) → actions ≡ r ∷ before → IsRegular s agent r → units r.agent r.number turns < work r → r.deadline ≤ by
-      → Covered s graphs agent g by (had_of turns actions) actions bound → Covered s graphs agent g by (had_of (turn_of (Some r) ∷ turns) actions) actions (bound - 1)
+      → Covers s graphs by turns agent g actions bound → Covers s graphs by (turn_of (Some r) ∷ turns) agent g actions (bound - 1)
   own_unit r agent g actions before bound e its less due =
-      subst (λ xs. Covered s graphs agent g by (had_of turns xs) xs bound → Covered s graphs agent g by (had_of (turn_of (Some r) ∷ turns) xs) xs (bound - 1)) (sym e)
+      subst (λ xs. Covers s graphs by turns agent g xs bound → Covers s graphs by (turn_of (Some r) ∷ turns) agent g xs (bound - 1)) (sym e)
       (λ covered. subst (λ n. Covered s graphs agent g by n (r ∷ before) (bound - 1)) (sym (units_own r turns)) (covered_unit s graphs agent g by (units r.agent r.number turns) before r bound its less due covered))
 
   -- A cycle of an action that is due by the date
@@ -75,7 +80,7 @@ module _ (s : System) (graphs : List (List Edge)) (h : History) (regular : (agen
   bounded_unit cycle agent r before e its less due g bounded =
       let bound = bounded.bound in
       let new = one_less bound agent in
-      let covered : Covered s graphs agent g by (units r.agent r.number turns) (r ∷ before) (bound agent) = subst (λ xs. Covered s graphs agent g by (had_of turns xs) xs (bound agent)) e (bounded.covers agent g) in
+      let covered = subst (λ xs. Covers s graphs by turns agent g xs (bound agent)) e (bounded.covers agent g) in
       let some : 1 ≤ bound agent = covered_some s graphs agent g by (units r.agent r.number turns) before r (bound agent) its less due covered in
       let here : new agent ≡ bound agent - 1 = rw (eq-eqb agent agent refl) refl in
       let fewer : total new (length graphs) < total bound (length graphs) = total_less new bound (length graphs) agent (drawn_within s graphs agent g) (omega (arith, here, some)) (one_most bound agent) in
@@ -86,12 +91,12 @@ module _ (s : System) (graphs : List (List Edge)) (h : History) (regular : (agen
           | inl same ↦ (
               let there : new k ≡ bound k - 1 = rw (eq-eqb agent k same) refl in
               let mine = own_unit r k f (h k) before (bound k) (ap h (sym same) ∙ e) (subst (λ n. IsRegular s n r) same its) less due (bounded.covers k f) in
-              subst (Covered s graphs k f by (had_of (turn_of (Some r) ∷ turns) (h k)) (h k)) (sym there) mine)
+              subst (Covers s graphs by (turn_of (Some r) ∷ turns) k f (h k)) (sym there) mine)
           | inr other ↦ (
               let there : new k ≡ bound k = rw (ne_eqb agent k other) refl in
               let not_its : r.agent ≡ k → ⊥ = λ same. other (sym its.agent_is ∙ same) in
               let kept = subst (λ n. Covered s graphs k f by n (h k) (bound k)) (had_other r k (h k) (regular k) not_its) (bounded.covers k f) in
-              subst (Covered s graphs k f by (had_of (turn_of (Some r) ∷ turns) (h k)) (h k)) (sym there) kept)
+              subst (Covers s graphs by (turn_of (Some r) ∷ turns) k f (h k)) (sym there) kept)
         ];
       }
 

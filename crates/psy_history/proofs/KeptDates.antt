@@ -1,30 +1,30 @@
 -- What is due by a date is finished by then.
-use Rattle.std.proofs.Common.{◌≡◌, ℕ, zero, suc, ◌+◌, ◌-◌, ◌*◌, ◌/◌, ◌<◌, ◌≤◌, List, [], ◌∷◌, length, get_or, Option, refl, sym, ap, ◌∙◌, subst, inl, inr, arith}
+use Rattle.std.proofs.Common.{◌≡◌, ℕ, zero, suc, ◌+◌, ◌-◌, ◌*◌, ◌/◌, ◌<◌, ◌≤◌, List, [], ◌∷◌, drop, length, Option, refl, sym, ap, ◌∙◌, subst, inl, inr, arith}
 use Rattle.std.specs.List.{All, Contains}
 use Rattle.std.proofs.lemmas.Bool.{cases_lt, le-ltb}
-use Rattle.std.proofs.lemmas.List.Elements.{All-contains, Contains-get_or}
+use Rattle.std.proofs.lemmas.List.Elements.{All-contains}
 use Rattle.std.proofs.lemmas.Nat.{div-mul-add}
 use Rattle.psy_meaning.specs.Actions.{Action, History, System}
-use Rattle.psy_meaning.specs.History.{history}
+use Rattle.psy_meaning.specs.History.{action_of, history}
 use Rattle.psy_meaning.specs.Schedule.{Turn, pending, soonest, turn_of, units, work}
 use Rattle.psy_history.specs.Regular.{IsRegular}
 use Rattle.psy_history.specs.Scheduled.{IsFinished, IsSupplied, turns_of}
 use Rattle.psy_history.proofs.Edges.{Drawn, drawn_of, drawn_within}
-use Rattle.psy_history.proofs.Bounds.{Covered, Rests, covered_quiet, covered_some, covered_start}
+use Rattle.psy_history.proofs.Bounds.{Rests, RestsBy, covered_quiet, covered_some, covered_start}
 use Rattle.psy_history.proofs.Totals.{demand_total, total_above}
-use Rattle.psy_history.proofs.Soonest.{contains_first, units_more}
-use Rattle.psy_history.proofs.NextStarts.{IsGrown, ends_before, grown, next_late, older_due, regular_head}
-use Rattle.psy_history.proofs.KeptCycles.{Bounded, IsCovered, Older, Quiet, had_of, kept_cycle, last_of}
+use Rattle.psy_history.proofs.Growth.{IsGrown, grown}
+use Rattle.psy_history.proofs.Members.{all_members, contains_front, contains_none}
+use Rattle.psy_history.proofs.Turns.{units_rise}
+use Rattle.psy_history.proofs.NextStarts.{ends_before, next_late, older_due, regular_head}
+use Rattle.psy_history.proofs.KeptCycles.{Bounded, Covers, IsCovered, Older, Quiet, had_of, kept_cycle, last_of}
 
 rests_of : (turns : List (Option Turn)) (actions : List Action) → ((r : Action) → Contains actions r → work r ≤ units r.agent r.number turns) → Rests (had_of turns actions) actions
 rests_of turns [] done = tt {0}
-rests_of turns (r ∷ before) done = done r (contains_first r before)
+rests_of turns (r ∷ before) done = done r (contains_front r before)
 
-head_quiet : (turns : List (Option Turn)) (actions : List Action) (by : ℕ) → ((r : Action) → Contains actions r → r.deadline ≤ by → work r ≤ units r.agent r.number turns) → (r : Action) (before : List Action) → actions ≡ r ∷ before → r.deadline ≤ by → work r ≤ had_of turns actions
-head_quiet turns actions by quiet r before e due =
-    let had = ap (had_of turns) e in
-    let done = quiet r (subst (λ xs. Contains xs r) (sym e) (contains_first r before)) due in
-    omega (arith, had, done)
+rests_by : (turns : List (Option Turn)) (actions : List Action) (by : ℕ) → ((r : Action) → Contains actions r → r.deadline ≤ by → work r ≤ units r.agent r.number turns) → RestsBy by (had_of turns actions) actions
+rests_by turns [] by quiet = tt {0}
+rests_by turns (r ∷ before) by quiet = quiet r (contains_front r before)
 
 module _ (s : System) (order : ℕ → List ℕ) (until : ℕ) (supplied : IsSupplied s order until) where
   abbrev at : ℕ → List (Option Turn)
@@ -38,17 +38,8 @@ module _ (s : System) (order : ℕ → List ℕ) (until : ℕ) (supplied : IsSup
 
   -- ---- cycles go on
 
-  units_later : (agent number cycle later : ℕ) → cycle ≤ later → units agent number (at cycle) ≤ units agent number (at later)
-  units_later agent number cycle zero l = let e : cycle ≡ 0 = omega (arith, l) in subst (λ c. units agent number (at c) ≤ units agent number (at 0)) (sym e) (omega arith)
-  units_later agent number cycle (suc later) l = elim (cases_lt later cycle) [
-    | inl h ↦ (let e : cycle ≡ suc later = omega (arith, l, h) in subst (λ c. units agent number (at c) ≤ units agent number (at (suc later))) (sym e) (omega arith))
-    | inr h ↦ (
-        let turn = turn_of (soonest (pending (order later) (at later) (history s (later / s.unit.quantum + 1)))) in
-        omega (arith, units_later agent number cycle later h, units_more agent number turn (at later)))
-  ]
-
   older_later : (cycle later : ℕ) (h : History) → cycle ≤ later → Older (at cycle) h → Older (at later) h
-  older_later cycle later h l older agent r before e x c = omega (arith, older agent r before e x c, units_later x.agent x.number cycle later l)
+  older_later cycle later h l older agent x c = omega (arith, older agent x c, units_rise s order x.agent x.number cycle later l)
 
   turn_at : (date cycle : ℕ) → cycle / s.unit.quantum ≡ date → at (suc cycle) ≡ turn_of (soonest (pending (order cycle) (at cycle) (history s (suc date)))) ∷ at cycle
   turn_at date cycle e =
@@ -69,14 +60,14 @@ module _ (s : System) (order : ℕ → List ℕ) (until : ℕ) (supplied : IsSup
         let its = All-contains (IsRegular s agent) actions r (regular date agent) c in
         let g = drawn agent its.known in
         let (before, e) = last_of (at cycle) actions r (older agent) c less in
-        let covered = subst (λ xs. Covered s supplied.graphs agent g date (had_of (at cycle) xs) xs (bounded.bound agent)) e (bounded.covers agent g) in
+        let covered = subst (λ xs. Covers s supplied.graphs date (at cycle) agent g xs (bounded.bound agent)) e (bounded.covers agent g) in
         let some = covered_some s supplied.graphs agent g date (units r.agent r.number (at cycle)) before r (bounded.bound agent) its less due covered in
         let above = total_above bounded.bound (length supplied.graphs) agent (drawn_within s supplied.graphs agent g) in
         absurd (omega (arith, some, above, bounded.enough, all)))
     | inr done ↦ done
   ]
 
-  pub quiet_at : (date : ℕ) → date ≤ until → Kept date → Quiet date (at (date * s.unit.quantum)) (history s date)
+  quiet_at : (date : ℕ) → date ≤ until → Kept date → Quiet date (at (date * s.unit.quantum)) (history s date)
   quiet_at date early kept = elim (kept.covered date (omega arith) early) [
     | inl quiet ↦ quiet
     | inr bounded ↦ spent date (date * s.unit.quantum) (omega arith) kept.older bounded
@@ -84,9 +75,9 @@ module _ (s : System) (order : ℕ → List ℕ) (until : ℕ) (supplied : IsSup
 
   -- ---- a date
 
-  pub older_date : (date : ℕ) → Quiet date (at (date * s.unit.quantum)) (history s date) → Older (at (date * s.unit.quantum)) (history s (suc date))
-  older_date date quiet agent r before e x c =
-      let was = older_due s supplied.lawful date agent r before e x c in
+  older_date : (date : ℕ) → Quiet date (at (date * s.unit.quantum)) (history s date) → Older (at (date * s.unit.quantum)) (history s (suc date))
+  older_date date quiet agent x c =
+      let was = older_due s supplied.lawful date agent x c in
       quiet agent x was.0 was.1
 
   -- Where all is finished that is due by a later date, the demand until then bounds what is asked.
@@ -101,7 +92,7 @@ module _ (s : System) (order : ℕ → List ℕ) (until : ℕ) (supplied : IsSup
         bound = bound;
         enough = omega (arith, sum, fits, cycles, all);
         covers = λ agent g. covered_quiet s supplied.graphs agent g by date rest (had_of (at cycle) (history s date agent)) (history s date agent) (bound agent) far
-            (head_quiet (at cycle) (history s date agent) by (quiet agent)) (next_late s supplied.lawful date agent) (each agent g.edges g.at);
+            (rests_by (at cycle) (history s date agent) by (quiet agent)) (next_late s supplied.lawful date agent) (each agent g.edges g.at);
       }
 
   covered_date : (date by cycle : ℕ) → Quiet date (at cycle) (history s date) → Bounded s supplied.graphs by cycle (at cycle) (history s date) → Bounded s supplied.graphs by cycle (at cycle) (history s (suc date))
@@ -111,16 +102,17 @@ module _ (s : System) (order : ℕ → List ℕ) (until : ℕ) (supplied : IsSup
     covers = λ agent g. covers agent g (grown s date agent);
   }
     where
-      covers : (agent : ℕ) (g : Drawn s supplied.graphs agent) → IsGrown s date agent → Covered s supplied.graphs agent g by (had_of (at cycle) (history s (suc date) agent)) (history s (suc date) agent) (bounded.bound agent)
-      covers agent g (inl (same, other)) = subst (λ xs. Covered s supplied.graphs agent g by (had_of (at cycle) xs) xs (bounded.bound agent)) (sym same) (bounded.covers agent g)
-      covers agent g (inr (n, r, next, starts, more, its)) =
+      covers : (agent : ℕ) (g : Drawn s supplied.graphs agent) → IsGrown s date agent → Covers s supplied.graphs by (at cycle) agent g (history s (suc date) agent) (bounded.bound agent)
+      covers agent g (inl (same, other)) = subst (λ xs. Covers s supplied.graphs by (at cycle) agent g xs (bounded.bound agent)) (sym same) (bounded.covers agent g)
+      covers agent g (inr (n, next, starts, more)) =
+          let r : Action = action_of s (history s date) agent n in
           let are = supplied.lawful.actions date agent in
           let rests = rests_of (at cycle) (history s date agent) (λ x c.
           let ends = ends_before s supplied.lawful date agent (history s date agent) are.were_started are.each n next x c in
           quiet agent x c (omega (arith, ends, starts))) in
           let here = regular_head s supplied.lawful (suc date) agent r (history s date agent) more in
-          let covered = covered_start s supplied.graphs agent g by (had_of (at cycle) (history s date agent)) (units r.agent r.number (at cycle)) (history s date agent) r n (bounded.bound agent) here next its.0 its.1 rests (bounded.covers agent g) in
-          subst (λ xs. Covered s supplied.graphs agent g by (had_of (at cycle) xs) xs (bounded.bound agent)) (sym more) covered
+          let covered = covered_start s supplied.graphs agent g by (had_of (at cycle) (history s date agent)) (units r.agent r.number (at cycle)) (history s date agent) r n (bounded.bound agent) here next refl refl rests (bounded.covers agent g) in
+          subst (λ xs. Covers s supplied.graphs by (at cycle) agent g xs (bounded.bound agent)) (sym more) covered
 
   bounded_at : (date by : ℕ) → date < by → by ≤ until → Kept date → Bounded s supplied.graphs by (date * s.unit.quantum) (at (date * s.unit.quantum)) (history s date)
   bounded_at date by late early kept = elim (kept.covered by (omega (arith, late)) early) [
@@ -156,8 +148,8 @@ module _ (s : System) (order : ℕ → List ℕ) (until : ℕ) (supplied : IsSup
 
   pub kept : (date : ℕ) → date ≤ until → Kept date
   kept zero early = record {
-    older = λ agent r before e x c. cc;
-    covered = λ by late soon. inl (λ agent r (k, l, e) due. absurd (omega (arith, l)));
+    older = λ agent x c. absurd (contains_none x c);
+    covered = λ by late soon. inl (λ agent r c due. absurd (contains_none r c));
   }
   kept (suc date) early = kept_date date (omega (arith, early)) (kept date (omega (arith, early)))
 
@@ -168,8 +160,8 @@ module _ (s : System) (order : ℕ → List ℕ) (until : ℕ) (supplied : IsSup
       le-ltb (units r.agent r.number (at (date * s.unit.quantum))) (work r) (quiet_at date early (kept date early) agent r c due)
 
   pub earlier_finished : (date cycles agent : ℕ) (r : Action) (before : List Action) → date ≤ until → date * s.unit.quantum ≤ cycles → history s (date + 1) agent ≡ r ∷ before → All (IsFinished s order cycles) before
-  earlier_finished date cycles agent r before early far e = λ k d l.
-      let x = get_or before k d in
+  earlier_finished date cycles agent r before early far e = all_members (IsFinished s order cycles) before (λ x c.
       let next : date + 1 ≡ suc date = omega arith in
+      let there = subst (λ xs. Contains (drop 1 xs) x) (sym e) c in
       let older = older_later (date * s.unit.quantum) cycles (history s (suc date)) far (older_date date (quiet_at date early (kept date early))) in
-      le-ltb (units x.agent x.number (at cycles)) (work x) (older agent r before (subst (λ n. history s n agent ≡ r ∷ before) next e) x (Contains-get_or before k d l))
+      le-ltb (units x.agent x.number (at cycles)) (work x) (older agent x (subst (λ n. Contains (drop 1 (history s n agent)) x) next there)))

@@ -1,6 +1,6 @@
 -- A run cut in two at a number of instructions: what it looks at behind the cut has no lower number.
 use Rattle.std.proofs.Common.{◌≡◌, ℕ, zero, suc, ◌+◌, ◌-◌, ◌≤◌, Bool, true, false, cond, List, [], ◌∷◌, ◌++◌, refl, sym, ap, ◌∙◌, subst, arith, append-nil, zero-add, suc-add}
-use Rattle.std.proofs.lemmas.Bool.Decides.{nat_tests}
+use Rattle.std.proofs.lemmas.Bool.{le-ltb}
 use Rattle.std.proofs.lemmas.List.Elements.{filter-append}
 use Rattle.std.specs.List.{filter}
 use Rattle.std.specs.Prelude.{Option, Some, None, nat_lt}
@@ -18,14 +18,11 @@ last_dropped : (b : Bool) (looks : List Looked) (look : Looked) → b ≡ false 
 last_dropped true looks look e = cc
 last_dropped false looks look e = append-nil looks
 
-late_test : (n steps : ℕ) → n ≤ steps → nat_lt steps n ≡ false
-late_test n steps h = grind (arith, nat_tests)
-
 late_call : (n : ℕ) (deeds : Deeds) (call : Option Call) → n ≤ deeds.steps → looks_below n (deeds_then deeds call) ≡ looks_below n deeds
 late_call n deeds None h = refl
 late_call n deeds (Some (Past variable back)) h =
     let look : Looked = record { number = deeds.steps; variable = variable; back = back } in
-    filter-append (λ (look : Looked). nat_lt look.number n) deeds.looks (look ∷ []) ∙ last_dropped (nat_lt deeds.steps n) (looks_below n deeds) look (late_test n deeds.steps h)
+    filter-append (λ (look : Looked). nat_lt look.number n) deeds.looks (look ∷ []) ∙ last_dropped (nat_lt deeds.steps n) (looks_below n deeds) look (le-ltb deeds.steps n h)
 late_call n deeds (Some (Ready stream)) h = refl
 late_call n deeds (Some (Take stream)) h = refl
 late_call n deeds (Some (Send sent)) h = refl
@@ -49,7 +46,7 @@ module _ (code : Code) (its : AgentCode) where
   late_by n k s t Stuck h on over = absurd over
 
   -- what a run looks at has at least the number of its first instruction
-  pub late_looks : (n k : ℕ) (s t : RunState) → n ≤ s.deeds.steps → IsOver (run_code code its s k) t → looks_below n t.deeds ≡ looks_below n s.deeds
+  late_looks : (n k : ℕ) (s t : RunState) → n ≤ s.deeds.steps → IsOver (run_code code its s k) t → looks_below n t.deeds ≡ looks_below n s.deeds
   late_looks n zero s t h over = absurd over
   late_looks n (suc k) s t h over = late_by n k s t (next_of code its s.view s.machine) h (λ u. late_looks n k u t) over
 

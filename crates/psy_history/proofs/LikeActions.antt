@@ -1,9 +1,10 @@
 -- Actions that are alike: what doesn't tell one from the other, of one action and of a list of them.
 use Rattle.std.proofs.Common.{◌≡◌, suc, Bool, true, false, cond, ◌&&◌, List, [], ◌∷◌, ◌++◌, map, length, refl, sym, ap, ap₂, ◌∙◌, subst}
 use Rattle.std.proofs.Math.Path.{fun_ext}
-use Rattle.std.specs.List.{filter, flat_map, list_all}
+use Rattle.std.specs.List.{Contains, filter, flat_map, list_all}
 use Rattle.psy_meaning.specs.Actions.{Action, Verdict, Done, Trapped, Overran}
 use Rattle.psy_history.specs.Likeness.{AreLike, IsLike}
+use Rattle.psy_history.proofs.Members.{contains_behind, contains_front}
 
 -- ---- one action
 
@@ -35,47 +36,41 @@ same_by {X} f r q like over = from r.verdict refl
 
 -- ---- lists of them
 
+-- What holds of no actions, and is kept by two that are alike, holds of actions that are alike.
+pub by_pairs : (P : List Action → List Action → Type 0) → P [] [] → ((r q : Action) (rs qs : List Action) → IsLike r q → AreLike rs qs → P rs qs → P (r ∷ rs) (q ∷ qs)) → (rs qs : List Action) → AreLike rs qs → P rs qs
+by_pairs P none more [] [] h = none
+by_pairs P none more [] (q ∷ qs) h = absurd h
+by_pairs P none more (r ∷ rs) [] h = absurd h
+by_pairs P none more (r ∷ rs) (q ∷ qs) h = more r q rs qs h.0 h.1 (by_pairs P none more rs qs h.1)
+
 pub length_like : (rs qs : List Action) → AreLike rs qs → length rs ≡ length qs
-length_like [] [] h = refl
-length_like [] (q ∷ qs) h = absurd h
-length_like (r ∷ rs) [] h = absurd h
-length_like (r ∷ rs) (q ∷ qs) h = ap suc (length_like rs qs h.1)
-
-pub map_like : {X : Type 0} (f g : Action → X) → ((r q : Action) → IsLike r q → f r ≡ g q) → (rs qs : List Action) → AreLike rs qs → map f rs ≡ map g qs
-map_like f g same [] [] h = refl
-map_like f g same [] (q ∷ qs) h = absurd h
-map_like f g same (r ∷ rs) [] h = absurd h
-map_like f g same (r ∷ rs) (q ∷ qs) h = ap₂ (λ x xs. x ∷ xs) (same r q h.0) (map_like f g same rs qs h.1)
-
-pub flat_map_like : {X : Type 0} (f g : Action → List X) → ((r q : Action) → IsLike r q → f r ≡ g q) → (rs qs : List Action) → AreLike rs qs → flat_map f rs ≡ flat_map g qs
-flat_map_like f g same [] [] h = refl
-flat_map_like f g same [] (q ∷ qs) h = absurd h
-flat_map_like f g same (r ∷ rs) [] h = absurd h
-flat_map_like f g same (r ∷ rs) (q ∷ qs) h = ap₂ (λ xs ys. xs ++ ys) (same r q h.0) (flat_map_like f g same rs qs h.1)
-
-pub list_all_like : (f g : Action → Bool) → ((r q : Action) → IsLike r q → f r ≡ g q) → (rs qs : List Action) → AreLike rs qs → list_all f rs ≡ list_all g qs
-list_all_like f g same [] [] h = refl
-list_all_like f g same [] (q ∷ qs) h = absurd h
-list_all_like f g same (r ∷ rs) [] h = absurd h
-list_all_like f g same (r ∷ rs) (q ∷ qs) h = ap₂ (λ x y. x && y) (same r q h.0) (list_all_like f g same rs qs h.1)
-
-kept_like : (b c : Bool) → b ≡ c → (r q : Action) → IsLike r q → (rs qs : List Action) → AreLike rs qs → AreLike (cond b (r ∷ rs) rs) (cond c (q ∷ qs) qs)
-kept_like true true e r q h rs qs hs = (h, hs)
-kept_like true false e r q h rs qs hs = cc
-kept_like false true e r q h rs qs hs = cc
-kept_like false false e r q h rs qs hs = hs
-
-pub filter_like : (f g : Action → Bool) → ((r q : Action) → IsLike r q → f r ≡ g q) → (rs qs : List Action) → AreLike rs qs → AreLike (filter f rs) (filter g qs)
-filter_like f g same [] [] h = tt
-filter_like f g same [] (q ∷ qs) h = absurd h
-filter_like f g same (r ∷ rs) [] h = absurd h
-filter_like f g same (r ∷ rs) (q ∷ qs) h = kept_like (f r) (g q) (same r q h.0) r q h.0 (filter f rs) (filter g qs) (filter_like f g same rs qs h.1)
+length_like = by_pairs (λ rs qs. length rs ≡ length qs) refl (λ r q rs qs one others same. ap suc same)
 
 pub append_like : (rs qs rs' qs' : List Action) → AreLike rs qs → AreLike rs' qs' → AreLike (rs ++ rs') (qs ++ qs')
-append_like [] [] rs' qs' h k = k
-append_like [] (q ∷ qs) rs' qs' h k = absurd h
-append_like (r ∷ rs) [] rs' qs' h k = absurd h
-append_like (r ∷ rs) (q ∷ qs) rs' qs' h k = (h.0, append_like rs qs rs' qs' h.1 k)
+append_like rs qs rs' qs' h k = by_pairs (λ rs qs. AreLike (rs ++ rs') (qs ++ qs')) k (λ r q rs qs one others rest. (one, rest)) rs qs h
+
+module _ {X : Type 0} (f g : Action → X) (same : (r q : Action) → IsLike r q → f r ≡ g q) where
+  pub map_like : (rs qs : List Action) → AreLike rs qs → map f rs ≡ map g qs
+  map_like = by_pairs (λ rs qs. map f rs ≡ map g qs) refl (λ r q rs qs one others rest. ap₂ (λ x xs. x ∷ xs) (same r q one) rest)
+
+kept_like : (b : Bool) (r q : Action) (rs qs : List Action) → IsLike r q → AreLike rs qs → AreLike (cond b (r ∷ rs) rs) (cond b (q ∷ qs) qs)
+kept_like true r q rs qs one rest = (one, rest)
+kept_like false r q rs qs one rest = rest
+
+module _ (f g : Action → Bool) (same : (r q : Action) → IsLike r q → f r ≡ g q) where
+  pub list_all_like : (rs qs : List Action) → AreLike rs qs → list_all f rs ≡ list_all g qs
+  list_all_like = by_pairs (λ rs qs. list_all f rs ≡ list_all g qs) refl (λ r q rs qs one others rest. ap₂ (λ x y. x && y) (same r q one) rest)
+
+  pub filter_like : (rs qs : List Action) → AreLike rs qs → AreLike (filter f rs) (filter g qs)
+  filter_like = by_pairs (λ rs qs. AreLike (filter f rs) (filter g qs)) tt (λ r q rs qs one others rest. rw (same r q one) (kept_like (g q) r q (filter f rs) (filter g qs) one rest))
+
+-- only actions of the list need give the same
+pub flat_map_like : {X : Type 0} (f g : Action → List X) (rs qs : List Action) → ((r q : Action) → Contains qs q → IsLike r q → f r ≡ g q) → AreLike rs qs → flat_map f rs ≡ flat_map g qs
+flat_map_like f g [] [] same h = refl
+flat_map_like f g [] (q ∷ qs) same h = absurd h
+flat_map_like f g (r ∷ rs) [] same h = absurd h
+flat_map_like f g (r ∷ rs) (q ∷ qs) same h =
+    ap₂ (λ xs ys. xs ++ ys) (same r q (contains_front q qs) h.0) (flat_map_like f g rs qs (λ x y there. same x y (contains_behind q qs y there)) h.1)
 
 -- ---- functions that agree
 

@@ -14,21 +14,18 @@ use Rattle.psy_meaning.specs.Summary.{most_held, most_of}
 use Rattle.psy_meaning.specs.Visible.{held, is_fresh, is_held, messages, swept}
 use Rattle.psy_history.specs.Compiled.{coded, stated}
 use Rattle.psy_history.specs.Likeness.{AreLike}
-use Rattle.psy_history.proofs.LikeActions.{flat_map_like, flat_map_same, map_same}
+use Rattle.psy_history.proofs.LikeActions.{by_pairs, flat_map_like, flat_map_same, map_same}
 use Rattle.psy_history.proofs.LikeViews.{left_same, messages_same, published_same}
 
 stops_same : (date : ℕ) (rs qs : List Action) → AreLike rs qs → stops_of date rs ≡ stops_of date qs
 stops_same date rs qs like =
     let stops = λ (r : Action). if r.deadline == date then stops_by r.agent r.verdict else [] in
-    flat_map_like stops stops (λ r q h. ap (λ deadline. if deadline == date then stops_by r.agent r.verdict else []) h.deadline ∙ ap₂ (λ agent verdict. if q.deadline == date then stops_by agent verdict else []) h.agent h.verdict) rs qs like
+    flat_map_like stops stops rs qs (λ r q there h. ap (λ deadline. if deadline == date then stops_by r.agent r.verdict else []) h.deadline ∙ ap₂ (λ agent verdict. if q.deadline == date then stops_by agent verdict else []) h.agent h.verdict) like
 
 swept_same : (date : ℕ) (rs qs : List Action) → AreLike rs qs → swept date rs ≡ swept date qs
-swept_same date [] [] h = refl
-swept_same date [] (q ∷ qs) h = absurd h
-swept_same date (r ∷ rs) [] h = absurd h
-swept_same date (r ∷ rs) (q ∷ qs) h =
-    ap₂ (λ verdict deadline. Some (if not (is_done verdict) && nat_le deadline date then date else r.start)) h.0.verdict h.0.deadline
-    ∙ ap (λ start. Some (if is_silent date (q ∷ qs) then date else start)) h.0.start
+swept_same date = by_pairs (λ rs qs. swept date rs ≡ swept date qs) refl (λ r q rs qs one others rest.
+    ap₂ (λ verdict deadline. Some (if not (is_done verdict) && nat_le deadline date then date else r.start)) one.verdict one.deadline
+    ∙ ap (λ start. Some (if is_silent date (q ∷ qs) then date else start)) one.start)
 
 module _ (unit : Whole) (code : Code) (nexts : List (List (List ℕ))) (stalls : ℕ → List Stall) (inputs : List (List ℤ)) where
   abbrev of_code : System

@@ -6,7 +6,7 @@ use Rattle.psy_meaning.specs.Actions.{Action, History}
 use Rattle.psy_meaning.specs.Schedule.{Turn, finish, is_pending, pending, sooner, soonest, turn_of, turns, units, work}
 use Rattle.psy_meaning.specs.Summary.{due_by, least_of, slack, slack_of}
 use Rattle.psy_history.specs.Likeness.{AreLike, IsLike}
-use Rattle.psy_history.proofs.LikeActions.{append_like, filter_like, map_like}
+use Rattle.psy_history.proofs.LikeActions.{append_like, by_pairs, filter_like, map_like}
 
 pending_same : (done : List (Option Turn)) (r q : Action) → IsLike r q → is_pending done r ≡ is_pending done q
 pending_same done r q h = ap₂ (λ agent number. nat_lt (units agent number done) (work r)) h.agent h.number ∙ ap (nat_lt (units q.agent q.number done)) h.work
@@ -23,23 +23,18 @@ BothLike None None = ⊤
 BothLike (Some r) (Some q) = IsLike r q
 BothLike _ _ = ⊥
 
-one_like : (b c : Bool) (r q r' q' : Action) → b ≡ c → IsLike r q → IsLike r' q' → BothLike (if b then Some r else Some r') (if c then Some q else Some q')
-one_like true true r q r' q' e h k = h
-one_like true false r q r' q' e h k = cc
-one_like false true r q r' q' e h k = cc
-one_like false false r q r' q' e h k = k
+one_like : (b : Bool) (r q r' q' : Action) → IsLike r q → IsLike r' q' → BothLike (if b then Some r else Some r') (if b then Some q else Some q')
+one_like true r q r' q' h k = h
+one_like false r q r' q' h k = k
 
 sooner_like : (r q : Action) (o p : Option Action) → IsLike r q → BothLike o p → BothLike (sooner r o) (sooner q p)
 sooner_like r q None None h k = h
 sooner_like r q None (Some q') h k = absurd k
 sooner_like r q (Some r') None h k = absurd k
-sooner_like r q (Some r') (Some q') h k = one_like (nat_le r.deadline r'.deadline) (nat_le q.deadline q'.deadline) r q r' q' (ap₂ nat_le h.deadline k.deadline) h k
+sooner_like r q (Some r') (Some q') h k = rw (ap₂ nat_le h.deadline k.deadline) (one_like (nat_le q.deadline q'.deadline) r q r' q' h k)
 
 soonest_like : (rs qs : List Action) → AreLike rs qs → BothLike (soonest rs) (soonest qs)
-soonest_like [] [] h = tt
-soonest_like [] (q ∷ qs) h = absurd h
-soonest_like (r ∷ rs) [] h = absurd h
-soonest_like (r ∷ rs) (q ∷ qs) h = sooner_like r q (soonest rs) (soonest qs) h.0 (soonest_like rs qs h.1)
+soonest_like = by_pairs (λ rs qs. BothLike (soonest rs) (soonest qs)) tt (λ r q rs qs one others rest. sooner_like r q (soonest rs) (soonest qs) one rest)
 
 turn_same : (o p : Option Action) → BothLike o p → turn_of o ≡ turn_of p
 turn_same None None h = refl

@@ -13,7 +13,7 @@ use Rattle.psy_meaning.specs.Actions.{Action, History, System, Verdict, Done, is
 use Rattle.psy_meaning.specs.Visible.{commit, committed_in, in_order, is_in_view, is_untaken, is_same, message_of, messages, messages_by, messages_from, past, published, published_by, seen_at, sent_to, taken, values_for, view_of}
 use Rattle.psy_history.specs.Compiled.{coded, stated}
 use Rattle.psy_history.specs.Likeness.{AreLike}
-use Rattle.psy_history.proofs.LikeActions.{flat_map_like, flat_map_same, list_all_like, same_by}
+use Rattle.psy_history.proofs.LikeActions.{by_pairs, flat_map_like, flat_map_same, list_all_like, same_by}
 
 -- ---- what a history leaves of a stream
 
@@ -29,14 +29,11 @@ module _ (unit : Whole) (code : Code) (nexts : List (List (List ℕ))) (stalls :
   abbrev of_stmts : System
   of_stmts = stated unit nexts stalls inputs
 
-  pub committed_same : (variable by : ℕ) (rs qs : List Action) → AreLike rs qs → committed_in of_code variable by rs ≡ committed_in of_stmts variable by qs
-  committed_same variable by [] [] h = refl
-  committed_same variable by [] (q ∷ qs) h = absurd h
-  committed_same variable by (r ∷ rs) [] h = absurd h
-  committed_same variable by (r ∷ rs) (q ∷ qs) h =
+  committed_same : (variable by : ℕ) (rs qs : List Action) → AreLike rs qs → committed_in of_code variable by rs ≡ committed_in of_stmts variable by qs
+  committed_same variable by = by_pairs (λ rs qs. committed_in of_code variable by rs ≡ committed_in of_stmts variable by qs) refl (λ r q rs qs one others rest.
       let earlier = committed_in of_stmts variable by qs in
-      ap (λ value. commit variable by r.after value r.verdict) (committed_same variable by rs qs h.1)
-      ∙ same_by (λ (x : Action). commit variable by x.after earlier x.verdict) r q h.0 (λ o p. ap (commit variable by r.after earlier) o ∙ sym (ap (commit variable by q.after earlier) p))
+      ap (λ value. commit variable by r.after value r.verdict) rest
+      ∙ same_by (λ (x : Action). commit variable by x.after earlier x.verdict) r q one (λ o p. ap (commit variable by r.after earlier) o ∙ sym (ap (commit variable by q.after earlier) p)))
 
   sends_same : (stream agent end number : ℕ) (sends : List Sent) → messages_from of_code stream agent end number sends ≡ messages_from of_stmts stream agent end number sends
   sends_same stream agent end number [] = refl
@@ -63,11 +60,11 @@ module _ (unit : Whole) (code : Code) (nexts : List (List (List ℕ))) (stalls :
     sent_same stream =
         flat_map_same (λ agent. flat_map (λ (r : Action). messages_by of_code stream r.agent r.deeds.sends r.verdict) (h agent)) (λ agent. flat_map (λ (r : Action). messages_by of_stmts stream r.agent r.deeds.sends r.verdict) (k agent))
         (λ agent.
-        flat_map_like (λ (r : Action). messages_by of_code stream r.agent r.deeds.sends r.verdict) (λ (r : Action). messages_by of_stmts stream r.agent r.deeds.sends r.verdict)
-        (λ r q l.
+        flat_map_like (λ (r : Action). messages_by of_code stream r.agent r.deeds.sends r.verdict) (λ (r : Action). messages_by of_stmts stream r.agent r.deeds.sends r.verdict) (h agent) (k agent)
+        (λ r q there l.
         messages_by_same stream r.agent r.deeds.sends r.verdict
         ∙ same_by (λ (x : Action). messages_by of_stmts stream x.agent x.deeds.sends x.verdict) r q l (λ o p. ap (messages_by of_stmts stream r.agent r.deeds.sends) o ∙ sym (ap (messages_by of_stmts stream q.agent q.deeds.sends) p)))
-        (h agent) (k agent) (like agent))
+        (like agent))
         (range_with_len 0 (length unit.agents))
 
     pub messages_same : (stream : ℕ) → messages of_code h stream ≡ messages of_stmts k stream

@@ -2,7 +2,7 @@
 use Rattle.std.proofs.Common.{◌≡◌, ℕ, zero, suc, false, List, [], ◌∷◌, map, Some, None, sym, ap, subst, ◌∙◌, inl, inr}
 use Rattle.std.specs.Prelude.{Bool, ◌||◌}
 use Rattle.std.specs.List.{list_any}
-use Rattle.std.proofs.lemmas.Bool.{true≢false}
+use Rattle.std.proofs.lemmas.Bool.{or_parts, true≢false}
 use Rattle.psy_arith.specs.declared.operators.Op2.{Op2}
 use Rattle.psy_arith.specs.declared.operators.Op2.TheVariants as op
 use Rattle.psy_tree.specs.declared.unit.Expr.{Expr, roll-Expr, rec-roll-Expr, fold-roll-Expr, map-Expr, ind-Expr}
@@ -15,7 +15,7 @@ use Rattle.psy_meaning.specs.Sound.{Each}
 use Rattle.psy_meaning.specs.Statements.{Piece, Do, Hop}
 use Rattle.psy_meaning.specs.Ways.{Meter, Way, Course, End, Fell, Back, To, Sending, here, one, sending, both, either, falling, returning, leaving, behind, and_on, or_else, ways_through, binary_way, courses_through, turning, expr_way_step, expr_way, course_step, course_by, piece_course}
 use Rattle.psy_meaning.proofs.Layers.{natural_expr, natural_stmt}
-use Rattle.psy_meaning.proofs.NoWays.{or_false}
+use Rattle.psy_meaning.proofs.OpenWays.{lazy, two}
 use Rattle.psy_meaning.proofs.RestPieces.{PartsHave, PiecesHave, rest_has}
 use Rattle.psy_history.specs.Compiled.{expr_looks, expr_looks_step, stmt_looks, stmt_looks_step}
 
@@ -30,7 +30,7 @@ AllBlind course = (end : End) → Blind (course end)
 pub blind_here : Blind here
 blind_here m n e = ap (λ (k : Meter). k.looks) e
 
-pub blind_one : Blind one
+blind_one : Blind one
 blind_one m n e = ap (λ (k : Meter). k.looks) e
 
 blind_sending : (send : Sending) → Blind (sending send)
@@ -67,9 +67,6 @@ blind_on first second p q end = blind_either (both (first Fell) (second end)) (l
 blind_else : (this that : Course) → AllBlind this → AllBlind that → AllBlind (or_else this that)
 blind_else this that p q end = blind_either (this end) (that end) (p end) (q end)
 
-abbrev pub two : Way
-two = both one one
-
 pub blind_two : Blind two
 blind_two = blind_both one one blind_one blind_one
 
@@ -81,12 +78,12 @@ blind_turning (suc more) test body p q =
     blind_else (falling (both test two)) (behind (both test two) (and_on body next)) (blind_falling (both test two) out)
     (blind_behind (both test two) (and_on body next) out (blind_on body next q (blind_behind one (turning more test body) blind_one (blind_turning more test body p q))))
 
-blind_lazy : (right : Way) → Blind right → Blind (both one (either here (both right one)))
+blind_lazy : (right : Way) → Blind right → Blind (lazy right)
 blind_lazy right q = blind_both one (either here (both right one)) blind_one (blind_either here (both right one) blind_here (blind_both right one q blind_one))
 
 blind_binary : (operator : Op2) (left right : Way) → Blind left → Blind right → Blind (binary_way operator left right)
-blind_binary op.AndAnd left right p q = blind_both left (both one (either here (both right one))) p (blind_lazy right q)
-blind_binary op.OrOr left right p q = blind_both left (both one (either here (both right one))) p (blind_lazy right q)
+blind_binary op.AndAnd left right p q = blind_both left (lazy right) p (blind_lazy right q)
+blind_binary op.OrOr left right p q = blind_both left (lazy right) p (blind_lazy right q)
 blind_binary operator left right p q = blind_both left (both right one) p (blind_both right one q blind_one)
 
 -- ---- statements that hold no `past`
@@ -96,20 +93,20 @@ NoPast stmt = stmt_looks stmt ≡ false
 
 none_in : (stmts : List Stmt) → one_of (map stmt_looks stmts) ≡ false → Each NoPast stmts
 none_in [] h = tt
-none_in (x ∷ xs) h = let none = or_false (stmt_looks x) (one_of (map stmt_looks xs)) h in (none.0, none_in xs none.1)
+none_in (x ∷ xs) h = let none = or_parts (stmt_looks x) (one_of (map stmt_looks xs)) h in (none.0, none_in xs none.1)
 
 pub none_of : (stmts : List Stmt) → list_any stmt_looks stmts ≡ false → Each NoPast stmts
 none_of [] h = tt
-none_of (x ∷ xs) h = let none = or_false (stmt_looks x) (list_any stmt_looks xs) h in (none.0, none_of xs none.1)
+none_of (x ∷ xs) h = let none = or_parts (stmt_looks x) (list_any stmt_looks xs) h in (none.0, none_of xs none.1)
 
 parts_none : (x : Stmt-F Stmt) → stmt_looks_step (map-Stmt Stmt Bool stmt_looks x) ≡ false → PartsHave NoPast x
-parts_none (Stmt-F.If test branch None) h = none_in branch (or_false (expr_looks test) (one_of (map stmt_looks branch)) h).1
+parts_none (Stmt-F.If test branch None) h = none_in branch (or_parts (expr_looks test) (one_of (map stmt_looks branch)) h).1
 parts_none (Stmt-F.If test branch (Some other)) h =
-    let none = or_false (expr_looks test) (one_of (map stmt_looks branch) || one_of (map stmt_looks other)) h in
-    let neither = or_false (one_of (map stmt_looks branch)) (one_of (map stmt_looks other)) none.1 in
+    let none = or_parts (expr_looks test) (one_of (map stmt_looks branch) || one_of (map stmt_looks other)) h in
+    let neither = or_parts (one_of (map stmt_looks branch)) (one_of (map stmt_looks other)) none.1 in
     (none_in branch neither.0, none_in other neither.1)
-parts_none (Stmt-F.Bounded test most body) h = none_in body (or_false (expr_looks test) (one_of (map stmt_looks body)) h).1
-parts_none (Stmt-F.Timed test body) h = none_in body (or_false (expr_looks test) (one_of (map stmt_looks body)) h).1
+parts_none (Stmt-F.Bounded test most body) h = none_in body (or_parts (expr_looks test) (one_of (map stmt_looks body)) h).1
+parts_none (Stmt-F.Timed test body) h = none_in body (or_parts (expr_looks test) (one_of (map stmt_looks body)) h).1
 parts_none _ h = tt
 
 down_none : (x : Stmt-F Stmt) → NoPast (roll-Stmt x) → PartsHave NoPast x
@@ -130,7 +127,7 @@ module _ (ways : ℕ → Way) (all : (f : ℕ) → Blind (ways f)) where
   blind_through : (ks : List Known) → one_of (map expr_looks (map tree ks)) ≡ false → Blind (ways_through (expr_way ways) (map tree ks))
   blind_through [] h = blind_here
   blind_through (k ∷ ks) h =
-      let none = or_false (expr_looks k.0) (one_of (map expr_looks (map tree ks))) h in
+      let none = or_parts (expr_looks k.0) (one_of (map expr_looks (map tree ks))) h in
       blind_both (expr_way ways k.0) (ways_through (expr_way ways) (map tree ks)) (k.1 none.0) (blind_through ks none.1)
 
   expr_step : (y : Expr-F Known) → let x = map-Expr Known Expr tree y in expr_looks_step (map-Expr Expr Bool expr_looks x) ≡ false → Blind (expr_way_step ways Expr (λ y. y) (expr_way ways) x)
@@ -143,7 +140,7 @@ module _ (ways : ℕ → Way) (all : (f : ℕ) → Blind (ways f)) where
   expr_step (Expr-F.Take stream) h = blind_one
   expr_step (Expr-F.Unary operator operand) h = blind_both (expr_way ways operand.0) one (operand.1 h) blind_one
   expr_step (Expr-F.Binary operator left right) h =
-      let none = or_false (expr_looks left.0) (expr_looks right.0) h in blind_binary operator (expr_way ways left.0) (expr_way ways right.0) (left.1 none.0) (right.1 none.1)
+      let none = or_parts (expr_looks left.0) (expr_looks right.0) h in blind_binary operator (expr_way ways left.0) (expr_way ways right.0) (left.1 none.0) (right.1 none.1)
   expr_step (Expr-F.Call function arguments) h =
       blind_both (ways_through (expr_way ways) (map tree arguments)) (both one (ways function)) (blind_through arguments h) (blind_both one (ways function) blind_one (all function))
 
@@ -169,7 +166,7 @@ module _ (ways : ℕ → Way) (all : (f : ℕ) → Blind (ways f)) where
   blind_list : (ks : List KnownStmt) → one_of (map stmt_looks (map stmt_tree ks)) ≡ false → AllBlind (courses_through (course_by ways) (map stmt_tree ks))
   blind_list [] h = blind_falling here blind_here
   blind_list (k ∷ ks) h =
-      let none = or_false (stmt_looks k.0) (one_of (map stmt_looks (map stmt_tree ks))) h in
+      let none = or_parts (stmt_looks k.0) (one_of (map stmt_looks (map stmt_tree ks))) h in
       blind_on (course_by ways k.0) (courses_through (course_by ways) (map stmt_tree ks)) (k.1 none.0) (blind_list ks none.1)
 
   then_one : (e : Expr) → expr_looks e ≡ false → Blind (both (expr_way ways e) one)
@@ -179,26 +176,26 @@ module _ (ways : ℕ → Way) (all : (f : ℕ) → Blind (ways f)) where
   stmt_step (Stmt-F.Set slot value) h = blind_falling (both (expr_way ways value) one) (then_one value h)
   stmt_step (Stmt-F.SetCopy variable value) h = blind_falling (both (expr_way ways value) one) (then_one value h)
   stmt_step (Stmt-F.SetCell slot index value) h =
-      let none = or_false (expr_looks index) (expr_looks value) h in
+      let none = or_parts (expr_looks index) (expr_looks value) h in
       blind_falling (both (expr_way ways index) (both (expr_way ways value) one)) (blind_both (expr_way ways index) (both (expr_way ways value) one) (blind_expr index none.0) (then_one value none.1))
   stmt_step (Stmt-F.If test branch None) h =
       let this : Course = courses_through (course_by ways) (map stmt_tree branch) in
-      let none = or_false (expr_looks test) (one_of (map stmt_looks (map stmt_tree branch))) h in
+      let none = or_parts (expr_looks test) (one_of (map stmt_looks (map stmt_tree branch))) h in
       blind_behind (both (expr_way ways test) one) (or_else this (falling here)) (then_one test none.0) (blind_else this (falling here) (blind_list branch none.1) (blind_falling here blind_here))
   stmt_step (Stmt-F.If test branch (Some other)) h =
       let this : Course = courses_through (course_by ways) (map stmt_tree branch) in
       let that : Course = courses_through (course_by ways) (map stmt_tree other) in
-      let none = or_false (expr_looks test) (one_of (map stmt_looks (map stmt_tree branch)) || one_of (map stmt_looks (map stmt_tree other))) h in
-      let neither = or_false (one_of (map stmt_looks (map stmt_tree branch))) (one_of (map stmt_looks (map stmt_tree other))) none.1 in
+      let none = or_parts (expr_looks test) (one_of (map stmt_looks (map stmt_tree branch)) || one_of (map stmt_looks (map stmt_tree other))) h in
+      let neither = or_parts (one_of (map stmt_looks (map stmt_tree branch))) (one_of (map stmt_looks (map stmt_tree other))) none.1 in
       blind_behind (both (expr_way ways test) one) (or_else (and_on this (falling one)) that) (then_one test none.0)
       (blind_else (and_on this (falling one)) that (blind_on this (falling one) (blind_list branch neither.0) (blind_falling one blind_one)) (blind_list other neither.1))
   stmt_step (Stmt-F.Bounded test most body) h =
       let inner : Course = courses_through (course_by ways) (map stmt_tree body) in
-      let none = or_false (expr_looks test) (one_of (map stmt_looks (map stmt_tree body))) h in
+      let none = or_parts (expr_looks test) (one_of (map stmt_looks (map stmt_tree body))) h in
       blind_behind one (turning most (expr_way ways test) inner) blind_one (blind_turning most (expr_way ways test) inner (blind_expr test none.0) (blind_list body none.1))
   stmt_step (Stmt-F.Timed test body) h =
       let inner : Course = courses_through (course_by ways) (map stmt_tree body) in
-      let none = or_false (expr_looks test) (one_of (map stmt_looks (map stmt_tree body))) h in
+      let none = or_parts (expr_looks test) (one_of (map stmt_looks (map stmt_tree body))) h in
       blind_behind (both (expr_way ways test) one) (or_else inner (falling here)) (then_one test none.0) (blind_else inner (falling here) (blind_list body none.1) (blind_falling here blind_here))
   stmt_step (Stmt-F.Send value stream after clock) h =
       let send : Sending = record { stream = stream; after = after; clock = clock } in

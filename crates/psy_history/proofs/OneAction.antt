@@ -1,24 +1,21 @@
 -- One action, by the code and by the statements: the same within the budget, and past it in both.
-use Rattle.std.proofs.Common.{◌≡◌, ℕ, ◌<◌, ◌≤◌, ◌⊎◌, inl, inr, length, replicate, refl, sym, ap, ◌∙◌, subst, arith}
-use Rattle.std.proofs.lemmas.List.{length-replicate}
+use Rattle.std.proofs.Common.{◌≡◌, ℕ, zero, suc, ◌<◌, ◌≤◌, ◌⊎◌, inl, inr, refl, sym, ap, ◌∙◌, subst, arith}
+use Rattle.std.proofs.lemmas.Bool.{cases_lt}
 use Rattle.psy_code.specs.declared.code.AgentCode.{AgentCode}
 use Rattle.psy_code.specs.declared.code.Code.{Code}
 use Rattle.psy_code.specs.Execution.{RanTo, Run, RunState, TrappedBy, run_code}
 use Rattle.psy_code.specs.Lasting.{IsOver, Lasted}
-use Rattle.psy_code.specs.Views.{Deeds, View}
-use Rattle.psy_tree.specs.declared.unit.AgentDecl.{AgentDecl}
-use Rattle.psy_tree.specs.declared.unit.Unit.{Unit as Whole}
-use Rattle.psy_meaning.specs.Alike.{AgentAlike, EndsAs, IsStoreOf, IsViewOf, begun, started}
-use Rattle.psy_meaning.specs.Executors.{Acted, Carried, acted_as, acted_by, carried_in, machine_at, store_of}
-use Rattle.psy_meaning.specs.Rest.{rest}
-use Rattle.psy_meaning.specs.States.{Final, Halts, Store}
+use Rattle.psy_code.specs.Views.{Deeds}
+use Rattle.psy_meaning.specs.Alike.{EndsAs}
+use Rattle.psy_meaning.specs.Executors.{Acted, Carried, Reached, Unfinished, acted_as, acted_by}
+use Rattle.psy_meaning.specs.Executors as fate
+use Rattle.psy_meaning.specs.States.{Final, Halts, State}
 use Rattle.psy_meaning.specs.States as by
-use Rattle.psy_meaning.specs.Statements.{act}
-use Rattle.psy_history.proofs.Cuts.{store_back}
 use Rattle.psy_history.proofs.LateLooks.{looks_before, looks_below, over_stays}
 
--- Both cost more than the budget, and have the same looks below it.
+-- Both cost more than the budget, the first unfinished, and have the same looks below it.
 pub record ArePast (budget : ℕ) (a b : Acted) : Type 0 where
+  pub unfinished : a.fate ≡ Unfinished
   pub this : budget < a.deeds.steps
   pub that : budget < b.deeds.steps
   pub looks : looks_below budget a.deeds ≡ looks_below budget b.deeds
@@ -27,8 +24,12 @@ pub record ArePast (budget : ℕ) (a b : Acted) : Type 0 where
 abbrev pub AreWithin : ℕ → Acted → Acted → Type 0
 AreWithin budget a b = (a ≡ b) ⊎ ArePast budget a b
 
-either : (a b : ℕ) → (a ≤ b) ⊎ (b < a)
-either a b = grind arith
+-- ---- a run that ends as the statements do
+
+-- a run that is over took an instruction
+pub some_steps : (code : Code) (its : AgentCode) (s t : RunState) (n : ℕ) → IsOver (run_code code its s n) t → 1 ≤ n
+some_steps code its s t zero over = absurd over
+some_steps code its s t (suc n) over = omega arith
 
 module _ (code : Code) (its : AgentCode) (lasting : (s t : RunState) (n : ℕ) → IsOver (run_code code its s n) t → Lasted code its s n t) (start : RunState) (fresh : start.deeds.steps ≡ 0) (budget : ℕ) (carried : Carried) where
   past_it : (t : RunState) (n : ℕ) (b : Acted) → IsOver (run_code code its start n) t → t.deeds.steps ≡ n → b.deeds ≡ t.deeds → budget < n → ArePast budget (acted_as budget carried (run_code code its start budget)) b
@@ -38,31 +39,40 @@ module _ (code : Code) (its : AgentCode) (lasting : (s t : RunState) (n : ℕ) �
       let on = l.on_the_way budget early in
       let steps : on.state.deeds.steps ≡ budget = omega (arith, on.counted, fresh) in
       subst (λ run. ArePast budget (acted_as budget carried run) b) (sym on.running) (record {
+        unfinished = refl;
         this = omega arith;
         that = subst (λ (d : Deeds). budget < d.steps) (sym deeds) (omega (arith, counted, less));
         looks = looks_before code its budget n start t on.state (omega (arith, less)) on.running steps over ∙ ap (looks_below budget) (sym deeds);
       })
 
   within_by : (t : RunState) (n : ℕ) (run : Run) (b : Acted) → run_code code its start n ≡ run → IsOver run t → t.deeds.steps ≡ n → b.deeds ≡ t.deeds → acted_as budget carried run ≡ b → AreWithin budget (acted_as budget carried (run_code code its start budget)) b
-  within_by t n run b ran over counted deeds same = from (either n budget)
-    where
-      from : (n ≤ budget) ⊎ (budget < n) → AreWithin budget (acted_as budget carried (run_code code its start budget)) b
-      from (inl h) = inl (ap (acted_as budget carried) (over_stays code its n budget start t h (subst (λ r. IsOver r t) (sym ran) over) ∙ ran) ∙ same)
-      from (inr h) = inr (past_it t n b (subst (λ r. IsOver r t) (sym ran) over) counted deeds h)
+  within_by t n run b ran over counted deeds same =
+      let ended : IsOver (run_code code its start n) t = subst (λ r. IsOver r t) (sym ran) over in
+      elim (cases_lt budget n) [
+        | inl less ↦ inr (past_it t n b ended counted deeds less)
+        | inr most ↦ inl (ap (acted_as budget carried) (over_stays code its n budget start t most ended ∙ ran) ∙ same)
+      ]
 
   pub within_budget : (final : Final) → EndsAs (Halts final) (run_code code its start) → AreWithin budget (acted_as budget carried (run_code code its start budget)) (acted_by budget carried (Halts final))
-  within_budget (by.Ended point s) h =
-      within_by h.0 s.deeds.steps (RanTo point h.0) (acted_by budget carried (Halts (by.Ended point s))) h.1 refl (ap (λ (d : Deeds). d.steps) h.2.deeds) (sym h.2.deeds) (rw (h.2.cells, h.2.copies, h.2.deeds) refl)
-  within_budget (by.Trapped kind s) h =
-      within_by h.0 s.deeds.steps (TrappedBy kind h.0) (acted_by budget carried (Halts (by.Trapped kind s))) h.1 refl (ap (λ (d : Deeds). d.steps) h.2.deeds) (sym h.2.deeds) (rw (h.2.cells, h.2.copies, h.2.deeds) refl)
+  within_budget (by.Ended point s) (t, ran, same) =
+      within_by t s.deeds.steps (RanTo point t) (acted_by budget carried (Halts (by.Ended point s))) ran refl (ap (λ (d : Deeds). d.steps) same.deeds) (sym same.deeds) (rw (same.cells, same.copies, same.deeds) refl)
+  within_budget (by.Trapped kind s) (t, ran, same) =
+      within_by t s.deeds.steps (TrappedBy kind t) (acted_by budget carried (Halts (by.Trapped kind s))) ran refl (ap (λ (d : Deeds). d.steps) same.deeds) (sym same.deeds) (rw (same.cells, same.copies, same.deeds) refl)
 
--- The same of an action of an agent that carries a store of its own and sees a view of it, from any of its points
-pub acted_alike : (unit : Whole) (code : Code) (number : ℕ) (agent : AgentDecl) (its : AgentCode) → ((s t : RunState) (n : ℕ) → IsOver (run_code code its s n) t → Lasted code its s n t) → AgentAlike unit code number agent its
-    → (point : ℕ) (store : Store) (view : View) (budget : ℕ) (final : Final) → point < length agent.points → IsStoreOf unit number agent store → IsViewOf unit number view → act unit.functions (rest agent.stmts point) (begun store view) ≡ Halts final
-    → AreWithin budget (acted_as budget (carried_in store) (run_code code its (started (machine_at its point (carried_in store)) view) budget)) (acted_by budget (carried_in store) (act unit.functions (rest agent.stmts point) (begun (store_of agent (carried_in store)) view)))
-acted_alike unit code number agent its lasting alike point store view budget final known is_store is_view halts =
-    let start = started (machine_at its point (carried_in store)) view in
-    let ends : EndsAs (Halts final) (run_code code its start) = subst (λ o. EndsAs o (run_code code its start)) halts (alike.acts point store view (replicate its.counters 0) known is_store is_view (length-replicate its.counters 0)) in
-    let acts : act unit.functions (rest agent.stmts point) (begun (store_of agent (carried_in store)) view) ≡ Halts final = ap (λ kept. act unit.functions (rest agent.stmts point) (begun kept view)) (store_back unit number agent store is_store) ∙ halts in
-    subst (λ o. AreWithin budget (acted_as budget (carried_in store) (run_code code its start budget)) (acted_by budget (carried_in store) o)) (sym acts)
-    (within_budget code its lasting start refl budget (carried_in store) final ends)
+  costs_by : (final : Final) → EndsAs (Halts final) (run_code code its start) → 1 ≤ (acted_by budget carried (Halts final)).deeds.steps
+  costs_by (by.Ended point s) (t, ran, same) = some_steps code its start t s.deeds.steps (subst (λ r. IsOver r t) (sym ran) refl)
+  costs_by (by.Trapped kind s) (t, ran, same) = some_steps code its start t s.deeds.steps (subst (λ r. IsOver r t) (sym ran) refl)
+
+  pub costs_some : (a : Acted) (final : Final) → EndsAs (Halts final) (run_code code its start) → AreWithin budget a (acted_by budget carried (Halts final)) → 1 ≤ a.deeds.steps
+  costs_some a final ends (inl same) = subst (λ (b : Acted). 1 ≤ b.deeds.steps) (sym same) (costs_by final ends)
+  costs_some a final ends (inr past) = omega (arith, past.this)
+
+-- ---- where the code reached a point, so did the statements
+
+pub reached_within : (budget : ℕ) (carried : Carried) (a : Acted) (final : Final) (to : ℕ) → AreWithin budget a (acted_by budget carried (Halts final)) → a.fate ≡ Reached to → (s : State) × (final ≡ by.Ended to s) × (a ≡ acted_by budget carried (Halts (by.Ended to s)))
+reached_within budget carried a final to (inr past) reached = (let not : Unfinished ≡ Reached to = sym past.unfinished ∙ reached in absurd cc)
+reached_within budget carried a (by.Ended p s) to (inl same) reached =
+    let is : Reached p ≡ Reached to = ap (λ (b : Acted). b.fate) (sym same) ∙ reached in
+    let at : p ≡ to = cc in
+    (s, ap (λ q. by.Ended q s) at, same ∙ ap (λ q. acted_by budget carried (Halts (by.Ended q s))) at)
+reached_within budget carried a (by.Trapped kind s) to (inl same) reached = (let not : fate.Trapped kind ≡ Reached to = ap (λ (b : Acted). b.fate) (sym same) ∙ reached in absurd cc)

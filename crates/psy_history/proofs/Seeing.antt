@@ -1,10 +1,13 @@
 -- What an action sees: values of 32 bits, as many of each variable as its depth.
-use Rattle.std.proofs.Common.{◌≡◌, ℕ, zero, suc, ◌+◌, Bool, true, false, List, [], ◌∷◌, All, length, map, get_or, Option, Some, None, refl, sym, ap, ◌∙◌, arith}
+use Rattle.std.proofs.Common.{◌≡◌, ℕ, zero, suc, ◌+◌, Bool, true, false, List, [], ◌∷◌, All, length, map, get_or, Option, Some, None, refl, sym, ◌∙◌}
 use Rattle.std.specs.Prelude.{ℤ, pos, FitsSigned, if◌then◌else◌, ◌==◌, ◌-◌, nat_le, nat_lt}
 use Rattle.std.specs.Int.{w32}
-use Rattle.std.specs.List.{flat_map, range_with_len}
-use Rattle.std.proofs.lemmas.List.Elements.{All-nil, All-cons, All-head, All-tail, All-append, All-map, All-filter}
-use Rattle.std.proofs.lemmas.List.FromFn.{length-map-range_with_len}
+use Rattle.std.specs.List.{range_with_len}
+use Rattle.std.proofs.lemmas.Bool.{cond_both}
+use Rattle.std.proofs.lemmas.List.{get_or-map, length-map}
+use Rattle.std.proofs.lemmas.List.Elements.{All-append, All-cons, All-contains, All-filter, All-head, All-map, All-nil, All-tail}
+use Rattle.std.proofs.lemmas.List.FromFn.{fill_by_all, length-map-range_with_len}
+use Rattle.std.proofs.lemmas.Simd.{map-map}
 use Rattle.std.proofs.Math.Facts.{sfits_lit}
 use Rattle.psy_base.specs.declared.message.Message.{Message}
 use Rattle.psy_clock.specs.Dates.{count, date}
@@ -19,44 +22,16 @@ use Rattle.psy_meaning.specs.Executors.{Carried, copy_in}
 use Rattle.psy_meaning.specs.Kept.{IsSentOf}
 use Rattle.psy_meaning.specs.States.{value_or_zero}
 use Rattle.psy_meaning.specs.Visible.{commit, committed_in, in_order, input_value, message_of, messages, messages_by, messages_from, nth_or_last, past, published, published_by, seen_at, sent_to, values_for, view_of}
+use Rattle.psy_history.proofs.Members.{all_flat_map, get_or_holds}
 
 -- ---- lists
 
-pub get_or_holds : {X : Type 0} (P : X → Type 0) (xs : List X) (i : ℕ) (d : X) → P d → All P xs → P (get_or xs i d)
-get_or_holds P [] i d h all = h
-get_or_holds P (x ∷ xs) zero d h all = All-head P x xs all
-get_or_holds P (x ∷ xs) (suc i) d h all = get_or_holds P xs i d h (All-tail P x xs all)
-
-map_twice : {X Y Z : Type 0} (g : Y → Z) (f : X → Y) (xs : List X) → map g (map f xs) ≡ map (λ x. g (f x)) xs
-map_twice g f [] = refl
-map_twice g f (x ∷ xs) = ap (λ ys. g (f x) ∷ ys) (map_twice g f xs)
-
 -- what is made of each number of a list is what is made of its elements
-by_number : {X Y : Type 0} (f : ℕ → Y) (g : X → Y) (d : X) (a : ℕ) (xs : List X) → ((i : ℕ) → f (a + i) ≡ g (get_or xs i d)) → map f (range_with_len a (length xs)) ≡ map g xs
-by_number f g d a [] h = refl
-by_number f g d a (x ∷ xs) h =
-    let first : a + 0 ≡ a = omega arith in
-    let here : f a ≡ g x = ap f (sym first) ∙ h 0 in
-    let rest = by_number f g d (a + 1) xs (λ i. let next : a + 1 + i ≡ a + suc i = omega arith in ap f next ∙ h (suc i)) in
-    ap (λ y. y ∷ map f (range_with_len (a + 1) (length xs))) here ∙ ap (λ ys. g x ∷ ys) rest
-
-numbered : {X Y : Type 0} (f : ℕ → Y) (g : X → Y) (d : X) (xs : List X) → ((i : ℕ) → f i ≡ g (get_or xs i d)) → map f (range_with_len 0 (length xs)) ≡ map g xs
-numbered f g d xs h = by_number f g d 0 xs (λ i. let same : 0 + i ≡ i = omega arith in ap f same ∙ h i)
+by_number : {X Y : Type 0} (f : ℕ → Y) (g : X → Y) (d : X) (xs : List X) → ((i : ℕ) → f i ≡ g (get_or xs i d)) → map f (range_with_len 0 (length xs)) ≡ map g xs
+by_number f g d xs same = sym (fill_by_all f (map g xs) (length xs) (g d) (length-map xs g) (λ i l. get_or-map g xs i d (g d) l ∙ sym (same i)))
 
 all_made : {X : Type 0} (P : X → Type 0) (f : ℕ → X) (ks : List ℕ) → ((k : ℕ) → P (f k)) → All P (map f ks)
 all_made P f ks h = All-map P f ks (λ k d less. h (get_or ks k d))
-
-all_flat : {X Y : Type 0} (P : Y → Type 0) (f : X → List Y) (xs : List X) → ((x : X) → All P (f x)) → All P (flat_map f xs)
-all_flat P f [] h = All-nil P
-all_flat P f (x ∷ xs) h = All-append P (f x) (flat_map f xs) (h x) (all_flat P f xs h)
-
-all_flat_of : {X Y : Type 0} (Q : X → Type 0) (P : Y → Type 0) (f : X → List Y) (xs : List X) → ((x : X) → Q x → All P (f x)) → All Q xs → All P (flat_map f xs)
-all_flat_of Q P f [] h all = All-nil P
-all_flat_of Q P f (x ∷ xs) h all = All-append P (f x) (flat_map f xs) (h x (All-head Q x xs all)) (all_flat_of Q P f xs h (All-tail Q x xs all))
-
-if_holds : {X : Type 0} (P : X → Type 0) (b : Bool) (x y : X) → P x → P y → P (if b then x else y)
-if_holds P true x y h k = h
-if_holds P false x y h k = k
 
 -- ---- what actions leave
 
@@ -66,14 +41,14 @@ Fits v = FitsSigned w32 v
 pub zero_fits : Fits (pos 0)
 zero_fits = sfits_lit tt
 
-abbrev pub CopiesFit : List Copy → Type 0
+abbrev CopiesFit : List Copy → Type 0
 CopiesFit copies = All (λ c. FitsSigned w32 c.value) copies
 
 copy_fits : (variable : ℕ) (copies : List Copy) → CopiesFit copies → Fits (value_or_zero (copy_of variable copies))
 copy_fits variable [] all = zero_fits
 copy_fits variable (c ∷ rest) all =
-    if_holds (λ o. Fits (value_or_zero o)) (c.variable == variable) (Some c.value) (copy_of variable rest) (All-head (λ c. FitsSigned w32 c.value) c rest all)
-    (copy_fits variable rest (All-tail (λ c. FitsSigned w32 c.value) c rest all))
+    cond_both (c.variable == variable) (Some c.value) (copy_of variable rest) (λ o. Fits (value_or_zero o)) (λ t. All-head (λ c. FitsSigned w32 c.value) c rest all)
+    (λ t. copy_fits variable rest (All-tail (λ c. FitsSigned w32 c.value) c rest all))
 
 -- An action that ended leaves values of 32 bits: its copies and its messages.
 pub record LeavesFit (unit : Whole) (r : Action) : Type 0 where
@@ -84,13 +59,13 @@ abbrev pub MessageFits : Message → Type 0
 MessageFits m = Fits m.value
 
 module _ (s : System) where
-  abbrev pub Leaves : Action → Type 0
+  abbrev Leaves : Action → Type 0
   Leaves = LeavesFit s.unit
 
   -- ---- values
 
   commit_fits : (variable by : ℕ) (carried : Carried) (earlier : ℤ) (v : Verdict) → Fits earlier → ((point end : ℕ) → v ≡ Done point end → CopiesFit carried.copies) → Fits (commit variable by carried earlier v)
-  commit_fits variable by carried earlier (Done point end) before copies = if_holds Fits (nat_le end by) (copy_in carried variable) earlier (copy_fits variable carried.copies (copies point end refl)) before
+  commit_fits variable by carried earlier (Done point end) before copies = cond_both (nat_le end by) (copy_in carried variable) earlier Fits (λ t. copy_fits variable carried.copies (copies point end refl)) (λ t. before)
   commit_fits variable by carried earlier (verdict.Trapped kind) before copies = before
   commit_fits variable by carried earlier verdict.Overran before copies = before
 
@@ -110,8 +85,8 @@ module _ (s : System) where
   sent_fits stream agent end number [] all = All-nil MessageFits
   sent_fits stream agent end number (sent ∷ sends) all =
       let rest = sent_fits stream agent end (number + 1) sends (All-tail (IsSentOf s.unit) sent sends all) in
-      if_holds (All MessageFits) (sent.stream == stream) (message_of s agent end number sent ∷ messages_from s stream agent end (number + 1) sends) (messages_from s stream agent end (number + 1) sends)
-      (All-cons MessageFits (message_of s agent end number sent) (messages_from s stream agent end (number + 1) sends) (All-head (IsSentOf s.unit) sent sends all).value rest) rest
+      cond_both (sent.stream == stream) (message_of s agent end number sent ∷ messages_from s stream agent end (number + 1) sends) (messages_from s stream agent end (number + 1) sends) (All MessageFits)
+      (λ t. All-cons MessageFits (message_of s agent end number sent) (messages_from s stream agent end (number + 1) sends) (All-head (IsSentOf s.unit) sent sends all).value rest) (λ t. rest)
 
   by_fits : (stream agent : ℕ) (sends : List Sent) (v : Verdict) → ((point end : ℕ) → v ≡ Done point end → All (IsSentOf s.unit) sends) → All MessageFits (messages_by s stream agent sends v)
   by_fits stream agent sends (Done point end) all = sent_fits stream agent end 0 sends (all point end refl)
@@ -121,8 +96,8 @@ module _ (s : System) where
   put_fits : (m : Message) (ms : List Message) → MessageFits m → All MessageFits ms → All MessageFits (put_in_order m ms)
   put_fits m [] h all = All-cons MessageFits m [] h all
   put_fits m (n ∷ ns) h all =
-      if_holds (All MessageFits) (comes_before m n) (m ∷ n ∷ ns) (n ∷ put_in_order m ns) (All-cons MessageFits m (n ∷ ns) h all)
-      (All-cons MessageFits n (put_in_order m ns) (All-head MessageFits n ns all) (put_fits m ns h (All-tail MessageFits n ns all)))
+      cond_both (comes_before m n) (m ∷ n ∷ ns) (n ∷ put_in_order m ns) (All MessageFits) (λ t. All-cons MessageFits m (n ∷ ns) h all)
+      (λ t. All-cons MessageFits n (put_in_order m ns) (All-head MessageFits n ns all) (put_fits m ns h (All-tail MessageFits n ns all)))
 
   order_fits : (ms : List Message) → All MessageFits ms → All MessageFits (in_order ms)
   order_fits [] all = all
@@ -153,21 +128,21 @@ module _ (s : System) where
       past_fits variable start back =
           let clock = publishing s variable in
           let at : ℕ = date clock (count clock start - 1 - back) in
-          if_holds Fits (nat_lt back (count clock start)) (published s h variable at) (variable_of s variable).init (by_owner variable at (variable_of s variable).owner) (init_fits variable)
+          cond_both (nat_lt back (count clock start)) (published s h variable at) (variable_of s variable).init Fits (λ t. by_owner variable at (variable_of s variable).owner) (λ t. init_fits variable)
 
       seen_fits : (date stream : ℕ) → All MessageFits (seen_at s h date stream)
       seen_fits date stream =
           All-filter _ MessageFits (messages s h stream)
           (order_fits (sent_to s h stream) (All-append MessageFits (s.opening.messages stream) _ (sent stream)
-          (all_flat MessageFits _ _ (λ agent. all_flat_of Leaves MessageFits _ (h agent) (λ r leaves. by_fits stream r.agent r.deeds.sends r.verdict leaves.sends) (leave agent)))))
+          (all_flat_map MessageFits _ _ (λ agent known. all_flat_map MessageFits _ (h agent) (λ r there. by_fits stream r.agent r.deeds.sends r.verdict (All-contains Leaves (h agent) r (leave agent) there).sends)))))
 
       pub sees : (agent start : ℕ) → IsViewOf s.unit agent (view_of s h agent start (seen_at s h start))
       sees agent start = record {
-        depths = map_twice length (λ variable. map (past s h variable start) (range_with_len 0 (variable_of s variable).depth)) (range_with_len 0 (length s.unit.variables))
-            ∙ numbered _ (λ v. v.depth) _ s.unit.variables (λ i. length-map-range_with_len (past s h i start) 0 (variable_of s i).depth);
+        depths = map-map length (λ variable. map (past s h variable start) (range_with_len 0 (variable_of s variable).depth)) (range_with_len 0 (length s.unit.variables))
+            ∙ by_number _ (λ v. v.depth) _ s.unit.variables (λ i. length-map-range_with_len (past s h i start) 0 (variable_of s i).depth);
         values = all_made AllFit _ _ (λ variable. all_made (FitsSigned w32) (past s h variable start) _ (past_fits variable start));
-        streams = map_twice is_there (values_for s (seen_at s h start) agent) (range_with_len 0 (length s.unit.streams))
-            ∙ numbered _ (λ st. st.receiver == agent) _ s.unit.streams (λ i. there_is ((stream_of s i).receiver == agent) _);
-        messages = all_made MessagesFit _ _ (λ stream. if_holds MessagesFit ((stream_of s stream).receiver == agent) (Some (map (λ (m : Message). m.value) (seen_at s h start stream))) None
-            (All-map (FitsSigned w32) (λ (m : Message). m.value) (seen_at s h start stream) (seen_fits start stream)) none_fit);
+        streams = map-map is_there (values_for s (seen_at s h start) agent) (range_with_len 0 (length s.unit.streams))
+            ∙ by_number _ (λ st. st.receiver == agent) _ s.unit.streams (λ i. there_is ((stream_of s i).receiver == agent) _);
+        messages = all_made MessagesFit _ _ (λ stream. cond_both ((stream_of s stream).receiver == agent) (Some (map (λ (m : Message). m.value) (seen_at s h start stream))) None MessagesFit
+            (λ t. All-map (FitsSigned w32) (λ (m : Message). m.value) (seen_at s h start stream) (seen_fits start stream)) (λ t. none_fit));
       }

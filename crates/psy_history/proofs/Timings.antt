@@ -1,9 +1,7 @@
--- When the actions of an agent of a text are due and end.
-use Rattle.std.proofs.Common.{◌≡◌, ℕ, zero, suc, ◌<◌, ◌≤◌, List, [], ◌∷◌, All, length, map, get_or, Some, refl, ap, subst, ◌∙◌, arith}
+-- Points of an agent of a text: their budgets, which may follow which, and that actions end behind their starts.
+use Rattle.std.proofs.Common.{◌≡◌, ℕ, zero, suc, ◌<◌, ◌≤◌, List, [], ◌∷◌, length, get_or, Some, refl, ap, subst, arith}
 use Rattle.std.specs.Prelude.{slice_get}
 use Rattle.std.specs.List.{Contains}
-use Rattle.std.proofs.lemmas.List.{get_or-map, length-map}
-use Rattle.std.proofs.lemmas.List.Elements.{All-head, All-tail, All-map, All-contains_itself}
 use Rattle.std.proofs.lemmas.Option.{get_or_from_slice_get, slice_get-get_or, slice_get_within}
 use Rattle.psy_clock.specs.declared.clock.Clock.{Clock}
 use Rattle.psy_clock.specs.Dates.{IsClock, after_date}
@@ -11,28 +9,9 @@ use Rattle.psy_tree.specs.declared.unit.AgentDecl.{AgentDecl}
 use Rattle.psy_tree.specs.declared.unit.Point.{Point}
 use Rattle.psy_tree.specs.declared.unit.Unit.{Unit as Whole}
 use Rattle.psy_meaning.specs.Flow.{AreNexts, IsNext}
-use Rattle.psy_meaning.specs.Timing.{Timing, timing_of, budget_at, clock_at, deadline, end_date, following, least, point_at}
+use Rattle.psy_meaning.specs.Timing.{Timing, timing_of, budget_at, clock_at, end_date, following, point_at}
 use Rattle.psy_meaning.specs.Units.{HasHead, IsBareAgent, IsBarePoint, IsOfText}
-
--- ---- the least of some numbers
-
-least_below : (xs : List ℕ) (n : ℕ) → Contains xs n → least xs ≤ n
-least_below [] n (k, l, e) = absurd (omega (arith, l))
-least_below (x ∷ []) n (zero, l, e) = omega (arith, e)
-least_below (x ∷ []) n (suc k, l, e) = absurd (omega (arith, l))
-least_below (x ∷ y ∷ xs) n (zero, l, e) = omega (arith, e)
-least_below (x ∷ y ∷ xs) n (suc k, l, e) = let rest : least (y ∷ xs) ≤ n = least_below (y ∷ xs) n (k, omega (arith, l), e) in omega (arith, rest)
-
-least_above : (b : ℕ) (xs : List ℕ) → 1 ≤ length xs → All (λ n. b < n) xs → b < least xs
-least_above b [] some all = absurd (omega (arith, some))
-least_above b (x ∷ []) some all = All-head (λ n. b < n) x [] all
-least_above b (x ∷ y ∷ xs) some all =
-    let head : b < x = All-head (λ n. b < n) x (y ∷ xs) all in
-    let rest : b < least (y ∷ xs) = least_above b (y ∷ xs) (omega arith) (All-tail (λ n. b < n) x (y ∷ xs) all) in
-    omega (arith, head, rest)
-
-contains_map : {X Y : Type 0} (f : X → Y) (xs : List X) (x : X) → Contains xs x → Contains (map f xs) (f x)
-contains_map f xs x (k, less, is) = (k, omega (arith, less, length-map xs f), get_or-map f xs k x (f x) less ∙ ap f is)
+use Rattle.psy_history.proofs.Members.{get_or_holds}
 
 -- ---- parts by number
 
@@ -43,11 +22,6 @@ listed (list ∷ nexts) (suc point) to c = listed nexts point to c
 
 every_tick : IsClock (record { period = 1; first = 0 })
 every_tick = record { first = omega arith; period = omega arith }
-
-clock_lawful : (clocks : List Clock) (k : ℕ) → All IsClock clocks → IsClock (get_or clocks k (record { period = 1; first = 0 }))
-clock_lawful [] k all = every_tick
-clock_lawful (c ∷ clocks) zero all = All-head IsClock c clocks all
-clock_lawful (c ∷ clocks) (suc k) all = clock_lawful clocks k (All-tail IsClock c clocks all)
 
 module _ (unit : Whole) (agent : AgentDecl) where
   counted : (points : List Point) → HasHead agent points (IsBarePoint unit) → (point : ℕ) (d : Point) → 1 ≤ point → point < length points → 1 ≤ (get_or points point d).count
@@ -76,22 +50,14 @@ module _ (unit : Whole) (number : ℕ) (agent : AgentDecl) (nexts : List (List �
   granted point less = granted_in unit agent bare.budget.0 agent.points bare.points point _ less
 
   -- what follows a point is what its code may reach
-  pub follows : (point to : ℕ) → Contains (following times point) to → IsNext unit.functions agent point to
+  follows : (point to : ℕ) → Contains (following times point) to → IsNext unit.functions agent point to
   follows point to c = (are.each point (get_or nexts point []) (listed nexts point to c) to).0 c
 
   pub followed : (point to : ℕ) → point < length agent.points → IsNext unit.functions agent point to → Contains (following times point) to
   followed point to less next = (are.each point (get_or nexts point []) (slice_get-get_or nexts point [] (omega (arith, less, are.length))) to).1 next
 
-  pub deadline_least : (point start to : ℕ) → Contains (following times point) to → deadline times point start ≤ end_date times start to
-  deadline_least point start to c = least_below (map (end_date times start) (following times point)) (end_date times start to) (contains_map (end_date times start) (following times point) to c)
-
   module _ (late : ComesLate) (within : (point to : ℕ) → IsNext unit.functions agent point to → (1 ≤ to) × (to < length agent.points)) where
-    ends_late : (point start to : ℕ) → Contains (following times point) to → start < end_date times start to
+    pub ends_late : (point start to : ℕ) → Contains (following times point) to → start < end_date times start to
     ends_late point start to c =
         let inner = within point to (follows point to c) in
-        late (clock_at times (point_at times to).clock) start (point_at times to).count (clock_lawful unit.clocks (point_at times to).clock text.bare.clocks) (counted unit agent agent.points bare.points to _ inner.0 inner.1)
-
-    pub due_late : (point start to : ℕ) → Contains (following times point) to → start < deadline times point start
-    due_late point start to c =
-        least_above start (map (end_date times start) (following times point)) (omega (arith, length-map (following times point) (end_date times start), c.1))
-        (All-map (λ n. start < n) (end_date times start) (following times point) (λ k d less. ends_late point start (get_or (following times point) k d) (All-contains_itself (following times point) k d less)))
+        late (clock_at times (point_at times to).clock) start (point_at times to).count (get_or_holds IsClock unit.clocks (point_at times to).clock _ every_tick text.bare.clocks) (counted unit agent agent.points bare.points to _ inner.0 inner.1)

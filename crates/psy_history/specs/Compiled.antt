@@ -1,5 +1,5 @@
 -- What is asked of a program's code, of the points that follow each point, of its graphs and of its inputs.
-use Rattle.std.specs.Prelude.{◌≡◌, ◌≢◌, ℕ, ◌≤◌, Bool, true, false, ◌||◌, List, [], map, length, Option, Some, None, slice_get, ℤ}
+use Rattle.std.specs.Prelude.{◌≡◌, ℕ, Bool, true, false, ◌||◌, List, [], map, length, Some, None, slice_get, ℤ}
 use Rattle.std.specs.List.{All, list_any}
 use Rattle.psy_base.specs.declared.edge.Edge.{Edge}
 use Rattle.psy_budget.specs.declared.charge.Stall.{Stall}

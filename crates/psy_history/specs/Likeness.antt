@@ -1,5 +1,5 @@
 -- When two histories tell the same: they differ in nothing but what an action did beyond its budget.
-use Rattle.std.specs.Prelude.{◌≡◌, ◌≢◌, ℕ, nat_lt, List, [], ◌∷◌, filter, ⊤}
+use Rattle.std.specs.Prelude.{◌≡◌, ◌≢◌, nat_lt, List, [], ◌∷◌, filter, ⊤}
 use Rattle.psy_code.specs.Views.{Looked}
 use Rattle.psy_meaning.specs.Actions.{Action, Overran}
 use Rattle.psy_meaning.specs.Schedule.{work}

@@ -1,6 +1,6 @@
 -- What the actions of a history keep: each begins where the one before it ended, at a date that the agent's graph knows, and its
 -- code runs to an end or a trap.
-use Rattle.std.specs.Prelude.{◌≡◌, ◌≢◌, ℕ, suc, ◌<◌, ◌≤◌, List, [], ◌∷◌, length, Option, Some, None, IsSome, slice_get, ⊤}
+use Rattle.std.specs.Prelude.{◌≡◌, ◌≢◌, ℕ, suc, ◌<◌, ◌≤◌, List, [], ◌∷◌, length, Some, None, IsSome, slice_get, ⊤}
 use Rattle.std.specs.List.{All, Contains}
 use Rattle.psy_code.specs.declared.code.AgentCode.{AgentCode}
 use Rattle.psy_code.specs.declared.code.Code.{Code}
@@ -8,7 +8,7 @@ use Rattle.psy_code.specs.Execution.{RunState, Running, RanTo, Stuck, call_of, c
 use Rattle.psy_code.specs.Lasting.{IsOver}
 use Rattle.psy_code.specs.Views.{View}
 use Rattle.psy_tree.specs.declared.unit.VarDecl.{VarDecl}
-use Rattle.psy_meaning.specs.Actions.{Action, Next, System, Verdict, Done, next_of, timing}
+use Rattle.psy_meaning.specs.Actions.{Action, Next, System, Done, next_of, timing}
 use Rattle.psy_meaning.specs.Alike.{started}
 use Rattle.psy_meaning.specs.Executors.{carried_by, machine_at}
 use Rattle.psy_meaning.specs.History.{action_of, history}

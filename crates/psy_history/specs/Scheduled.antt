@@ -1,5 +1,5 @@
 -- What the schedule of a lawful system keeps.
-use Rattle.std.specs.Prelude.{◌≡◌, ℕ, ◌*◌, ◌<◌, ◌≤◌, false, List, Option, length}
+use Rattle.std.specs.Prelude.{◌≡◌, ℕ, ◌<◌, ◌≤◌, false, List, Option, length}
 use Rattle.std.specs.List.{Contains}
 use Rattle.psy_base.specs.declared.edge.Edge.{Edge}
 use Rattle.psy_meaning.specs.Actions.{Action, System}

@@ -9,13 +9,19 @@ use Rattle.psy_history.proofs.LikeHistories.{histories_like}
 use Rattle.psy_history.proofs.LikeReaches.{reach_same}
 use Rattle.psy_history.proofs.LikeLines.{events_same, most_held_same}
 use Rattle.psy_history.proofs.LikeSchedules.{due_like, slack_same, turns_same}
+use Rattle.psy_history.proofs.Stores.{AreStoreLaws}
 use Rattle.psy_history.proofs.laws.alike.Goals as goal
 
 pub returns-clause-actions : goal.returns-clause-actions
 returns-clause-actions c unit code nexts stalls inputs compiled are =
     let sound : IsSoundUnit unit = c.sound.ensures.unit compiled.text.text.0 unit compiled.text.text.1 in
-    histories_like unit code nexts stalls inputs compiled are sound (λ number agent point store view. c.keeps.ensures.action unit number agent point store view sound) (λ number agent. c.keeps.ensures.first unit number agent sound)
-    (λ its. c.lasting.ensures.lasted code its)
+    let laws : AreStoreLaws unit code = record {
+      sound = sound;
+      keeps = λ number agent point store view. c.keeps.ensures.action unit number agent point store view sound;
+      first = λ number agent. c.keeps.ensures.first unit number agent sound;
+      lasted = λ its. c.lasting.ensures.lasted code its;
+    } in
+    histories_like unit code nexts stalls inputs laws compiled are
 
 pub returns-clause-lines : goal.returns-clause-lines
 returns-clause-lines c unit code nexts stalls inputs compiled are date = events_same unit code nexts stalls inputs (returns-clause-actions c unit code nexts stalls inputs compiled are) date
