@@ -9,7 +9,7 @@ use Rattle.psy_code.specs.declared.code.Code.{Code}
 use Rattle.psy_code.specs.Views.{Looked}
 use Rattle.psy_tree.specs.declared.unit.Unit.{Unit as Whole}
 use Rattle.psy_meaning.specs.Actions.{Action, History, Next, System}
-use Rattle.psy_meaning.specs.Executors.{by_stmts}
+use Rattle.psy_meaning.specs.Executors.{by_statements}
 use Rattle.psy_meaning.specs.History.{history}
 use Rattle.psy_meaning.specs.Schedule.{Turn, cycle_of_unit, is_of, units, work}
 use Rattle.psy_meaning.specs.Summary.{age_in, ages_of, greatest_of, reach}
@@ -93,7 +93,7 @@ module _ (unit : Whole) (code : Code) (nexts : List (List (List ℕ))) (stalls :
       ∙ sym (ages_within of_stmts done variable q few)
 
   zero_first : BeginAtZero of_stmts
-  zero_first agent n is = ap (λ (m : Next). m.number) (sym (opens_with unit nexts (by_stmts unit) stalls inputs agent n is).1)
+  zero_first agent n is = ap (λ (m : Next). m.number) (sym (opens_with unit nexts (by_statements unit) stalls inputs agent n is).1)
 
   pub reach_same : (h : History) (order : ℕ → List ℕ) (cycles dates variable : ℕ) → ((agent : ℕ) → AreLike (h agent) (history of_stmts dates agent)) → reach of_code (turns_of of_stmts order cycles) h variable ≡ reach of_stmts (turns_of of_stmts order cycles) (history of_stmts dates) variable
   reach_same h order cycles dates variable like =

@@ -11,7 +11,7 @@ use Rattle.psy_tree.specs.declared.unit.AgentDecl.{AgentDecl}
 use Rattle.psy_tree.specs.declared.unit.Unit.{Unit as Whole}
 use Rattle.psy_meaning.specs.Actions.{Action, Next, System, Done, Overran, charge_of, next_by, timing, verdict_by, verdict_of}
 use Rattle.psy_meaning.specs.Alike.{IsViewOf, begun, started}
-use Rattle.psy_meaning.specs.Executors.{Acted, Fate, Reached, Unfinished, acted_by, agent_at, agent_code_at, by_stmts, machine_at, store_of}
+use Rattle.psy_meaning.specs.Executors.{Acted, Fate, Reached, Unfinished, acted_by, agent_at, agent_code_at, by_statements, machine_at, store_of}
 use Rattle.psy_meaning.specs.Executors as fate
 use Rattle.psy_meaning.specs.History.{executed}
 use Rattle.psy_meaning.specs.Kept.{IsAdvanceOf, IsKept, IsSentOf}
@@ -71,7 +71,7 @@ module _ (unit : Whole) (code : Code) (nexts : List (List (List ℕ))) (stalls :
       within_budget code its (laws.lasted its) (started (machine_at its n.point n.carried) view) refl budget n.carried it.final it.ends
 
   -- the same came of the statements
-  pub acted_alike : AreWithin budget acted ((by_stmts unit).act agent n.point n.carried view budget)
+  pub acted_alike : AreWithin budget acted ((by_statements unit).act agent n.point n.carried view budget)
   acted_alike = subst (λ o. AreWithin budget acted (acted_by budget n.carried o)) (sym it.acts) within
 
   pub costs : 1 ≤ acted.deeds.steps

@@ -57,27 +57,6 @@ tick_after quantum until date cycles within filled =
     let more : (date + 1) * quantum ≡ date * quantum + quantum = omega arith in
     (within, omega (arith, filled), omega (arith, filled, more), λ last. filled)
 
--- ---- the orders
-
-abbrev HasAll : ℕ → List ℕ → Type 0
-HasAll agents order = (agent : ℕ) → agent < agents → Contains order agent
-
-either_all : (agents : ℕ) (b : Bool) (xs ys : List ℕ) → HasAll agents xs → HasAll agents ys → HasAll agents (if b then xs else ys)
-either_all agents true xs ys hx hy = hx
-either_all agents false xs ys hx hy = hy
-
-in_force_all : (unit : Whole) (order : List ℕ) (orders : List Order) (cycle : ℕ) → HasAll (length unit.agents) order → All (IsOrder unit) orders → HasAll (length unit.agents) (in_force order orders cycle)
-in_force_all unit order [] cycle h all = h
-in_force_all unit order (o ∷ orders) cycle h all =
-    let head = All-head (IsOrder unit) o orders all in
-    let rest = in_force_all unit o.agents orders cycle head.agents.each (All-tail (IsOrder unit) o orders all) in
-    either_all (length unit.agents) (nat_le o.cycle cycle) (in_force o.agents orders cycle) order rest h
-
-pub orders_all : (unit : Whole) (script : Script) → IsScript unit script → (cycle agent : ℕ) → agent < length unit.agents → Contains (order_of unit script cycle) agent
-orders_all unit script h cycle =
-    let n = length unit.agents in
-    in_force_all unit (range_with_len 0 n) script.orders cycle (λ agent l. (agent, omega (arith, l, length-range_with_len 0 n), get_or-range_with_len 0 n agent agent l ∙ omega arith)) h.orders
-
 -- ---- the agents
 
 same_item : {X : Type 0} (o : Option X) (x y : X) → o ≡ Some x → o ≡ Some y → x ≡ y

@@ -1,5 +1,6 @@
 pub mod Booted
 pub mod Dated
+mod DatesDue
 mod FigureLines
 mod GivenLines
 mod Named
@@ -15,5 +16,6 @@ pub mod Started
 mod Stops
 mod SummaryLines
 pub mod Supplied
+mod Supplied
 mod ToldPlaces
 mod Verdicts

@@ -90,16 +90,6 @@ fn passed_first(orders: &[Order]) -> usize
     }
 }
 
-/// What the agents of a plan share before date 0, and its inputs.
-fn shared_of(alloc: Global, plan: &Plan, inputs: Inputs) -> Result<Shared, Memory>
-    requires plan { IsPlan plan.now }
-    requires inputs { AreInputs plan.now.unit inputs.lists }
-    ensures stands { (stalls : ℕ → List stall) → IfOk result (SharedStands (system_of plan.now inputs.lists stalls) [] 0) }
-    ensures inputs { IfOk result (λ shared. shared.inputs ≡ inputs) }
-{
-    Shared::new(alloc, plan, inputs)
-}
-
 impl Kernel {
     /// A kernel before date 0. All the memory that a run takes is taken here; the only error is want of it.
     pub fn boot(alloc: Global, plan: Plan, inputs: Inputs, script: Script) -> Result<Kernel, Memory>
@@ -118,7 +108,7 @@ impl Kernel {
         let ready = Ready::new(alloc, agents)?;
         let declared = declared_of(alloc, agents)?;
         let passed = passed_first(script.orders.as_slice());
-        let shared = shared_of(alloc, &plan, inputs)?;
+        let shared = Shared::new(alloc, &plan, inputs)?;
         Ok(Kernel {
             plan,
             script,

@@ -12,7 +12,7 @@ use Rattle.psy_kernel.specs.Scripts.{stalls_of}
 use Rattle.psy_kernel.specs.Standing.{AgentStands, InTick, given_at}
 use Rattle.psy_kernel.specs.Starting.{IsDoneBelow, charge_at, deadline_at, seat_at, starts_at}
 use Rattle.psy_kernel.proofs.Dated.{cycle_after, date_due, over_after}
-use Rattle.psy_kernel.proofs.Supplied.{after, agents, before_filled, free, is_due, its, none_due, none_given, tick, ties, view_after}
+use Rattle.psy_kernel.proofs.DatesDue.{after, agents, before_filled, free, is_due, its, none_due, none_given, tick, ties, view_after}
 use Rattle.psy_kernel.proofs.kernel.Kernel.date.Goals as goal
 
 pub at_date-requires-clause-due : goal.at_date-requires-clause-due

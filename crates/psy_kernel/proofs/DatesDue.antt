@@ -1,0 +1,144 @@
+-- A kernel whose next date is due: every action that is due by then is over.
+use Rattle.std.proofs.Common.{◌≡◌, ℤ, ℕ, suc, ◌+◌, ◌-◌, ◌*◌, ◌^◌, ◌≤◌, true, false, List, length, Option, Some, None, refl, ap, sym, subst, ◌∙◌, arith}
+use Rattle.std.specs.List.{Contains, slice_get}
+use Rattle.std.proofs.Math.Numerals.{add-one}
+use Rattle.psy_budget.specs.Charges.{Charged}
+use Rattle.psy_budget.specs.declared.charge.Stall.{Stall}
+use Rattle.psy_code.specs.declared.code.Code.{Code}
+use Rattle.psy_machine.specs.Stepping.{AgentMachine}
+use Rattle.psy_ready.specs.Choice.{pending_deadline}
+use Rattle.psy_tree.specs.declared.unit.Unit.{Unit as Whole}
+use Rattle.psy_meaning.specs.Actions.{Action, System}
+use Rattle.psy_meaning.specs.History.{history}
+use Rattle.psy_meaning.specs.Schedule.{is_pending, units}
+use Rattle.psy_history.specs.Compiled.{AreInputs, IsCompiled, coded}
+use Rattle.psy_history.specs.Regular.{IsLawful}
+use Rattle.psy_history.specs.Scheduled.{IsFinished, IsSupplied, turns_of}
+use Rattle.psy_dates.specs.declared.seat.Seat.{Seat}
+use Rattle.psy_dates.specs.declared.shared.Shared.{Shared}
+use Rattle.psy_dates.specs.Standing.{NoneActs, SeatStands, SharedStands, dates_done}
+use Rattle.psy_kernel.specs.declared.kernel.Figure.{Figure}
+use Rattle.psy_kernel.specs.declared.kernel.Kernel.TheInside.{Inside}
+use Rattle.psy_kernel.specs.declared.stage.Stage.TheVariants.{DateDue}
+use Rattle.psy_kernel.specs.Progress.{Progress, after_date, order, stage_of, system}
+use Rattle.psy_kernel.specs.Scripts.{stalls_of}
+use Rattle.psy_kernel.specs.Standing.{AgentStands, InTick, KernelStands, given_at, progress_of}
+use Rattle.psy_kernel.specs.Starting.{IsDoneBelow, charge_at, deadline_at, seat_at, starts_at}
+use Rattle.psy_kernel.proofs.Dated.{agents_after, date_due, free_before, tick_after, within_until}
+use Rattle.psy_kernel.proofs.Started.{none_acts}
+use Rattle.psy_kernel.proofs.Supplied.{supplied as is_supplied}
+
+-- No action that isn't started had a cycle.
+abbrev pub Unstarted : Type 0
+Unstarted = (s : System) (order : ℕ → List ℕ) (date cycles agent number : ℕ) → IsLawful s → 1 ≤ s.unit.quantum → cycles ≤ date * s.unit.quantum → length (history s date agent) ≤ number → units agent number (turns_of s order cycles) ≡ 0
+
+-- Each action that is due is finished, or stopped.
+abbrev pub InTime : Type 0
+InTime = (s : System) (order : ℕ → List ℕ) (until date agent : ℕ) (r : Action) → IsSupplied s order until → date ≤ until → Contains (history s date agent) r → r.deadline ≤ date → IsFinished s order (date * s.unit.quantum) r
+
+-- The code of a compiled program is lawful.
+abbrev pub Lawful : Type 0
+Lawful = (unit : Whole) (code : Code) (nexts : List (List (List ℕ))) (stalls : ℕ → List Stall) (inputs : List (List ℤ)) → IsCompiled unit code nexts → AreInputs unit inputs → IsLawful (coded unit code nexts stalls inputs)
+
+-- The kernel stands before this date, which is due.
+pub record IsDue (k : Inside) (date : ℕ) : Type 0 where
+  pub stands : KernelStands k
+  pub is_date : date ≡ dates_done k.shared.date
+  pub due : stage_of (progress_of k) ≡ DateDue (dates_done k.shared.date)
+  pub small : date ≤ 2 ^ 32
+  pub lawful : IsLawful (system (progress_of k))
+  pub no_cycle : Unstarted
+  pub in_time : InTime
+
+pub is_due : (k : Inside) (p : Progress) (date : ℕ) → KernelStands k → progress_of k ≡ p → stage_of p ≡ DateDue p.dates → date ≡ p.dates → date ≤ 2 ^ 32 → Lawful → Unstarted → InTime → IsDue k date
+is_due k p date h view due is_date small lawful no_cycle in_time = record {
+  stands = h;
+  is_date = is_date ∙ ap (λ (q : Progress). q.dates) (sym view);
+  due = subst (λ q. stage_of q ≡ DateDue q.dates) (sym view) due;
+  small = small;
+  lawful = lawful k.plan.unit k.plan.code k.plan.nexts (stalls_of k.script) k.shared.inputs.lists h.plan.compiled h.inputs;
+  no_cycle = no_cycle;
+  in_time = in_time;
+}
+
+module _ (k : Inside) (date : ℕ) (at : IsDue k date) where
+  h : KernelStands k
+  h = at.stands
+
+  is_date : date ≡ dates_done k.shared.date
+  is_date = at.is_date
+
+  due : stage_of (progress_of k) ≡ DateDue (dates_done k.shared.date)
+  due = at.due
+
+  lawful : IsLawful (system (progress_of k))
+  lawful = at.lawful
+
+  abbrev pub its : System
+  its = system (progress_of k)
+
+  abbrev pub ties : ℕ → List ℕ
+  ties = order (progress_of k)
+
+  pub filled : k.cycles ≡ date * k.plan.unit.quantum
+  filled = subst (λ d. k.cycles ≡ d * k.plan.unit.quantum) (sym is_date) (date_due (progress_of k) due).1
+
+  pub within : date ≤ k.plan.until
+  within =
+      let tick : InTick k.plan.unit.quantum k.plan.until date k.cycles = subst (λ d. InTick k.plan.unit.quantum k.plan.until d k.cycles) (sym is_date) h.in_tick in
+      within_until k.plan.unit.quantum k.plan.until date k.cycles tick (λ e. (date_due (progress_of k) due).0 (omega (arith, e, is_date)))
+
+  pub quantum_some : 1 ≤ k.plan.unit.quantum
+  quantum_some = h.plan.compiled.text.bare.quantum.0
+
+  supplied : IsSupplied its ties k.plan.until
+  supplied = is_supplied (progress_of k) h.plan h.script lawful
+
+  pub before : SharedStands its (turns_of its ties k.cycles) date k.shared
+  before = subst (λ d. SharedStands its (turns_of its ties k.cycles) d k.shared) (sym is_date) h.shared
+
+  pub before_filled : SharedStands its (turns_of its ties (date * k.plan.unit.quantum)) date k.shared
+  before_filled = subst (λ n. SharedStands its (turns_of its ties n) date k.shared) filled before
+
+  small : date ≤ 2 ^ 32
+  small = at.small
+
+  unstarted : (agent number : ℕ) → length (history its date agent) ≤ number → units agent number (turns_of its ties k.cycles) ≡ 0
+  unstarted agent number more = at.no_cycle its ties date k.cycles agent number lawful quantum_some (omega (arith, filled)) more
+
+  in_time : (agent : ℕ) (r : Action) → Contains (history its date agent) r → r.deadline ≤ date → is_pending (turns_of its ties k.cycles) r ≡ false
+  in_time agent r has by = subst (λ n. is_pending (turns_of its ties n) r ≡ false) (sym filled) (at.in_time its ties k.plan.until date agent r supplied within has by)
+
+  pub none_due : NoneActs date k.shared.seats.items
+  none_due agent seat there by = none_acts k.plan.unit k.plan.code k.plan.nexts (stalls_of k.script) k.shared.inputs.lists date k.plan.until agent (turns_of its ties k.cycles) lawful small (unstarted agent) (in_time agent) seat (date - 1) (before.seats agent seat there) by
+
+  -- ---- behind the date
+
+  module _ (shared : Shared) (done : SharedStands its (turns_of its ties (date * k.plan.unit.quantum)) (date + 1) shared) where
+    pub after : SharedStands its (turns_of its ties k.cycles) (date + 1) shared
+    after = subst (λ n. SharedStands its (turns_of its ties n) (date + 1) shared) (sym filled) done
+
+    sits : (agent : ℕ) (seat : Seat) → slice_get shared.seats.items agent ≡ Some seat → SeatStands date (turns_of its ties k.cycles) (history its (suc date) agent) seat
+    sits agent seat there =
+        let turns = turns_of its ties k.cycles in
+        let here : SeatStands (date + 1 - 1) turns (history its (suc date) agent) seat = subst (λ d. SeatStands (date + 1 - 1) turns (history its d agent) seat) (add-one date) (after.seats agent seat there) in
+        subst (λ d. SeatStands d turns (history its (suc date) agent) seat) (omega arith) here
+
+    was : (agent : ℕ) (machine : AgentMachine) (charge : Charged) (waits : Option ℕ) (figure : Figure) → slice_get k.machines.items agent ≡ Some machine → slice_get k.charges.items agent ≡ Some charge → slice_get k.ready agent ≡ Some waits → slice_get k.figures.items agent ≡ Some figure → AgentStands its k.plan.code (turns_of its ties k.cycles) k.plan.until agent (history its date agent) charge machine waits figure
+    was agent machine charge waits figure em ec ew ef = subst (λ d. AgentStands its k.plan.code (turns_of its ties k.cycles) k.plan.until agent (history its d agent) charge machine waits figure) (sym is_date) (h.agents agent machine charge waits figure em ec ew ef)
+
+    pub free : (agent : ℕ) → starts_at date (seat_at shared.seats.items agent) ≡ true → pending_deadline k.ready agent ≡ None
+    free = free_before k.plan.unit k.plan.code k.plan.nexts (stalls_of k.script) k.shared.inputs.lists date k.plan.until (turns_of its ties k.cycles) lawful small unstarted in_time k.machines.items k.charges.items k.ready k.figures.items h.charges h.waiting was shared.seats.items after.seated sits h.machined h.figured
+
+    pub agents : (charges : List Charged) (ready : List (Option ℕ)) → IsDoneBelow (charge_at date shared.seats.items k.plan.unit.agents) (length k.plan.unit.agents) k.charges.items charges → IsDoneBelow (deadline_at date shared.seats.items) (length k.plan.unit.agents) k.ready ready
+        → (agent : ℕ) (machine : AgentMachine) (charge : Charged) (waits : Option ℕ) (figure : Figure) → slice_get k.machines.items agent ≡ Some machine → slice_get charges agent ≡ Some charge → slice_get ready agent ≡ Some waits → slice_get k.figures.items agent ≡ Some figure → AgentStands its k.plan.code (turns_of its ties k.cycles) k.plan.until agent (history its (suc date) agent) charge machine waits figure
+    agents = agents_after k.plan.unit k.plan.code k.plan.nexts (stalls_of k.script) k.shared.inputs.lists date k.plan.until (turns_of its ties k.cycles) lawful small unstarted in_time k.machines.items k.charges.items k.ready k.figures.items h.charges h.waiting was shared.seats.items after.seated sits
+
+  pub tick : InTick k.plan.unit.quantum k.plan.until (suc date) k.cycles
+  tick = tick_after k.plan.unit.quantum k.plan.until date k.cycles within filled
+
+pub none_given : (s : System) (date : ℕ) → 0 ≡ given_at s (suc date) 0
+none_given s date = (let none : 0 - length s.unit.agents ≡ 0 = omega arith in rw none refl)
+
+pub view_after : (k : Inside) (inputs : List (List ℤ)) (dates : ℕ) → inputs ≡ k.shared.inputs.lists → dates ≡ dates_done k.shared.date + 1 → ◌≡◌ {A = Progress} (record { plan = k.plan; inputs = inputs; script = k.script; dates = dates; cycles = k.cycles; given = 0 }) (after_date (progress_of k))
+view_after k inputs dates same more = cc (same, more)
