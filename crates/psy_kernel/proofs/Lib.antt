@@ -1,21 +1,32 @@
 pub mod Booted
+pub mod CyclesDone
+pub mod CyclesGiven
 pub mod Dated
 mod DatesDue
 mod FigureLines
+pub mod GetsCycle
 mod GivenLines
+pub mod KeptCopies
+pub mod Kernels
 mod Named
 mod NoReach
+pub mod OneAgent
+pub mod OrdersInForce
+pub mod OtherAgents
 mod PaidCycles
+pub mod Parts
 mod PendingCycles
+pub mod PickIsSoonest
 pub mod Placed
 mod PlacesTold
 mod Publications
 mod RunsOn
+pub mod Sets
 mod Settled
+pub mod Stages
 pub mod Started
 mod Stops
 mod SummaryLines
 pub mod Supplied
-mod Supplied
 mod ToldPlaces
 mod Verdicts

@@ -1,4 +1,5 @@
 pub mod Acting
+pub mod Cycles
 pub mod Progress
 pub mod Scripts
 pub mod Standing

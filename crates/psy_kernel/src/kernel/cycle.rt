@@ -1,18 +1,229 @@
-ghost use Rattle.std.specs.Prelude.{◌≡◌, ◌≢◌, ℕ, ◌+◌, ◌*◌};
+ghost use Rattle.std.specs.Prelude.{◌≡◌, ◌≢◌, ℕ, ◌+◌, ◌*◌, ◌<◌, ◌≤◌, List, ◌∷◌, Option, Some, None, IsSome, length, slice_get, if◌then◌else◌, true, false, ℤ};
+ghost use Rattle.std.specs.List.{AllPairs};
+ghost use Rattle.psy_base.specs.declared.limits.TheConstants.{VARIABLES};
+ghost use Rattle.psy_budget.specs.declared.charge.Stall.{Stall};
+ghost use Rattle.psy_code.specs.Execution.{copy_of};
+ghost use Rattle.psy_dates.specs.declared.plan.Plan.{Plan};
+ghost use Rattle.psy_dates.specs.Plans.{IsPlan, system_of};
+ghost use Rattle.psy_history.specs.Compiled.{AreInputs};
+ghost use Rattle.psy_history.specs.Regular.{IsLawful};
+ghost use Rattle.psy_meaning.specs.Actions.{Action};
+ghost use Rattle.psy_meaning.specs.Executors.{agent_at};
+ghost use Rattle.psy_meaning.specs.History.{history};
+ghost use Rattle.psy_meaning.specs.Schedule.{Turn, is_pending};
+ghost use Rattle.psy_meaning.specs.Timing.{end_date, timing_of};
+ghost use Rattle.psy_ready.specs.Choice.{ListsEach};
+ghost use Rattle.psy_tree.specs.declared.unit.VarDecl.{VarDecl};
+ghost use Rattle.psy_kernel.specs.Cycles.{AreOver, GetsCycle, IsCycleOf, IsGiven, MayEnd, OneStands, figured, is_owned, order_by, run_of, run_turns};
+ghost use Rattle.psy_kernel.specs.declared.script.Script.{Script};
 ghost use Rattle.psy_kernel.specs.Progress.{after_cycle, stage_of};
+ghost use Rattle.psy_kernel.specs.Standing.{AreInForce, IsChosen};
 
-use super::Kernel;
+use super::advance::{Gone, advance};
+use super::{Figure, Kernel};
+use crate::script::Order;
 use crate::stage::Stage;
+use psy_arith::Trap;
+use psy_budget::Charge;
+use psy_dates::{Phase, Plan, Seat};
+use psy_meaning::laws::{follows, sound};
+use psy_history::laws::{on_time, regular};
+use psy_machine::Machine;
+use psy_ready::Ready;
+use psy_tree::{Unit, VarDecl};
+
+/// The order of the last of so many orders that have come into force, and the first one where none has.
+fn order_by<'a>(declared: &'a [u32], orders: &'a [Order], passed: usize) -> &'a [u32]
+    requires { passed ≤ length orders.now }
+    ensures { result.now ≡ order_by declared.now orders.now passed }
+{
+    if passed == 0 {
+        return declared;
+    }
+    orders[passed - 1].agents.as_slice()
+}
+
+/// How many orders have come into force by the cycle after this one. They rise strictly, so it is one more at most.
+fn passed_by(orders: &[Order], passed: usize, cycle: u64) -> usize
+    requires rise { AllPairs (λ o p. o.cycle < p.cycle) orders.now }
+    requires in_force { AreInForce orders.now passed cycle }
+    requires early { cycle < u64.MAX }
+    ensures in_force { AreInForce orders.now result (cycle + 1) }
+    ensures no_less { passed ≤ result }
+{
+    if passed < orders.len() && orders[passed].cycle == cycle + 1 {
+        return passed + 1;
+    }
+    passed
+}
+
+/// The agent that gets the next cycle: the one that was chosen, as long as nothing has changed since.
+fn choose(ready: &Ready, order: &[u32], stale: bool, chosen: Option<u32>) -> Option<u32>
+    requires lists { ListsEach (length ready.now) order.now }
+    requires fresh { stale ≡ false → IsChosen ready.now order.now chosen }
+    ensures { IsChosen ready.now order.now result }
+{
+    if stale { ready.pick(order) } else { chosen }
+}
+
+/// Whether a variable has this owner.
+fn is_owned(agent: u32, owner: Option<u32>) -> bool
+    ensures { result ≡ is_owned agent owner }
+{
+    match owner {
+        Some(owner) => owner == agent,
+        None => false,
+    }
+}
+
+/// Keeps the working copies of all variables that an agent owns.
+fn keep_copies(ended: &mut Vec<i32>, variables: &[VarDecl], agent: u32, machine: &Machine)
+    requires valued { length ended.old.items ≡ length variables.now }
+    requires few { length variables.now ≤ VARIABLES }
+    requires copies { (variable : ℕ) (v : VarDecl) → slice_get variables.now variable ≡ Some v → v.owner ≡ Some agent → IsSome (copy_of variable machine.now.machine.copies) }
+    ensures own { (variable : ℕ) (v : VarDecl) (value : ℤ) → slice_get variables.now variable ≡ Some v → v.owner ≡ Some agent → slice_get ended.new.items variable ≡ Some value → copy_of variable machine.now.machine.copies ≡ Some value }
+    ensures others { (variable : ℕ) (v : VarDecl) → slice_get variables.now variable ≡ Some v → v.owner ≢ Some agent → slice_get ended.new.items variable ≡ slice_get ended.old.items variable }
+    ensures all { length ended.new.items ≡ length ended.old.items }
+{
+    for variable in 0..variables.len() {
+        if is_owned(agent, variables[variable].owner) {
+            ended[variable] = machine.copy(variable as u32);
+        }
+    }
+}
+
+/// The date at which an action of an agent that started at a date ends where it reaches this point.
+fn end_of(unit: &Unit, agent: u32, start: u64, point: u32) -> u64
+    requires known { agent < length unit.now.agents }
+    requires may { (nexts : List (List ℕ)) × MayEnd (timing_of unit.now (agent_at unit.now agent) nexts) start point }
+    ensures { (nexts : List (List ℕ)) → result ≡ end_date (timing_of unit.now (agent_at unit.now agent) nexts) start point }
+{
+    let of = &unit.agents.as_slice()[agent as usize];
+    let at = of.points.as_slice()[point as usize];
+    unit.clocks.as_slice()[at.clock as usize].after(start, at.count)
+}
+
+/// The figure of an agent whose action with this deadline is finished or stopped when so many cycles are done.
+fn figured(figure: Figure, until: u32, quantum: u32, deadline: u64, done: u64) -> Figure
+    requires count { figure.count ≤ until }
+    requires early { done ≤ deadline * quantum }
+    ensures { result ≡ figured until quantum deadline done figure }
+{
+    if deadline > u64::from(until) {
+        return figure;
+    }
+    let slack = deadline * u64::from(quantum) - done;
+    let least = match figure.slack {
+        Some(least) => slack.min(least),
+        None => slack,
+    };
+    Figure {
+        count: figure.count + 1,
+        slack: Some(least),
+    }
+}
+
+/// The seat of an agent whose action was stopped, by a trap or by its budget.
+fn stop(seat: &mut Seat, trap: Option<Trap>)
+    ensures { seat.new ≡ record seat.old { phase = Phase.Stopped; trap = trap } }
+{
+    seat.phase = Phase::Stopped;
+    seat.trap = trap;
+}
+
+/// Gives an agent's action the cycle of this number, and tells whether it goes on behind it.
+fn goes_on(
+    plan: &Plan,
+    agent: u32,
+    cycle: u64,
+    charge: &mut Charge,
+    machine: &mut Machine,
+    figure: &mut Figure,
+    seat: &mut Seat,
+    ended: &mut Vec<i32>,
+) -> bool
+    requires plan { IsPlan plan.now }
+    requires known { agent < length plan.now.unit.agents }
+    requires valued { length ended.old.items ≡ length plan.now.unit.variables }
+    requires given { (inputs : List (List ℤ)) × (stalls : ℕ → List Stall) × (turns : List (Option Turn)) × (date : ℕ) × (r : Action) × (before : List Action) × (waits : Option ℕ)
+        × IsGiven plan.now inputs stalls turns date cycle agent r before charge.old machine.old waits figure.old seat.old ended.old.items }
+    ensures has { (inputs : List (List ℤ)) (stalls : ℕ → List Stall) (turns : List (Option Turn)) (date : ℕ) (r : Action) (before : List Action) (waits : Option ℕ)
+        → IsGiven plan.now inputs stalls turns date cycle agent r before charge.old machine.old waits figure.old seat.old ended.old.items
+        → OneStands (system_of plan.now inputs stalls) plan.now.code (Some (record { agent = r.agent; number = r.number }) ∷ turns) plan.now.until date agent (r ∷ before) charge.new machine.new (if result then waits else None) figure.new seat.new ended.new.items }
+    ensures others { (variable : ℕ) (v : VarDecl) → slice_get plan.now.unit.variables variable ≡ Some v → v.owner ≢ Some agent → slice_get ended.new.items variable ≡ slice_get ended.old.items variable }
+    ensures all { length ended.new.items ≡ length ended.old.items }
+{
+    match advance(charge, machine, &plan.code) {
+        Gone::Going => return true,
+        Gone::Ended(point) => {
+            seat.phase = Phase::Ended;
+            seat.end = end_of(&plan.unit, agent, seat.start, point);
+            seat.reached = point;
+            keep_copies(ended, plan.unit.variables.as_slice(), agent, machine);
+        }
+        Gone::Trapped(kind) => stop(seat, Some(kind)),
+        Gone::Spent => stop(seat, None),
+    }
+    *figure = figured(
+        *figure,
+        plan.until,
+        plan.unit.quantum,
+        seat.deadline,
+        cycle + 1,
+    );
+    false
+}
+
+/// In a run up to a date, of each agent's actions the last alone may be pending; and where it is, it can get the next cycle.
+fn gets(until: u32)
+    ensures most { until ≤ 4294967295 }
+    ensures over { (plan : Plan) (inputs : List (List ℤ)) (script : Script) (date cycle agent : ℕ) → IsCycleOf plan inputs script date cycle
+        → AreOver (run_turns plan inputs script cycle) (history (run_of plan inputs script) (date + 1) agent) }
+    ensures gets { (plan : Plan) (inputs : List (List ℤ)) (script : Script) (date cycle agent : ℕ) (r : Action) (before : List Action) → IsCycleOf plan inputs script date cycle
+        → history (run_of plan inputs script) (date + 1) agent ≡ r ∷ before → is_pending (run_turns plan inputs script cycle) r ≡ true
+        → GetsCycle (run_of plan inputs script) plan.code (run_turns plan inputs script cycle) plan.until date cycle agent r before }
+    ensures lawful { (plan : Plan) (inputs : List (List ℤ)) (script : Script) → IsPlan plan → AreInputs plan.unit inputs → IsLawful (run_of plan inputs script) }
+{
+    regular();
+    on_time();
+    sound();
+    follows();
+}
 
 impl Kernel {
     /// Does the cycle that is due: of the pending actions, the one of the earliest deadline gets it. It takes no memory.
     pub fn cycle(&mut self)
-        requires due { stage_of self.old ≡ Stage.CycleDue self.old.cycles }
+        requires { stage_of self.old ≡ Stage.CycleDue self.old.cycles }
         ensures state { self.new ≡ after_cycle self.old }
 
         // A date is due where the cycles done fill whole ticks, and else the next cycle.
         ensures filled { (t : ℕ) → self.new.cycles ≡ t * self.old.plan.unit.quantum → stage_of self.new ≡ Stage.DateDue t }
         ensures inside { ((t : ℕ) → self.new.cycles ≢ t * self.old.plan.unit.quantum) → stage_of self.new ≡ Stage.CycleDue self.new.cycles }
     {
+        gets(self.plan.until);
+        let orders = self.script.orders.as_slice();
+        let order = order_by(self.declared.as_slice(), orders, self.passed);
+        self.chosen = choose(&self.ready, order, self.stale, self.chosen);
+        let cycle = self.cycles;
+        let passed = passed_by(orders, self.passed, cycle);
+        self.stale = passed > self.passed;
+        self.passed = passed;
+        self.cycles += 1;
+        if let Some(agent) = self.chosen {
+            let number = agent as usize;
+            if !goes_on(
+                &self.plan,
+                agent,
+                cycle,
+                &mut self.charges[number],
+                &mut self.machines[number],
+                &mut self.figures[number],
+                &mut self.shared.seats[number],
+                &mut self.shared.ended,
+            ) {
+                self.ready.drop_agent(agent);
+                self.stale = true;
+            }
+        }
     }
 }

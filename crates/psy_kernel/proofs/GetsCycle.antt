@@ -1,0 +1,173 @@
+-- What is known of the pending action that gets a cycle, in the run of a plan.
+use Rattle.std.proofs.Common.{◌≡◌, ◌⊎◌, refl, sym, ap, ◌∙◌, subst, inl, inr, arith, add-one}
+use Rattle.std.specs.Prelude.{ℕ, zero, suc, ◌+◌, ◌-◌, ◌*◌, ◌<◌, ◌≤◌, ◌==◌, if◌then◌else◌, Bool, true, false, List, [], ◌∷◌, length, get_or, Option, Some, None, slice_get, ℤ}
+use Rattle.std.specs.List.{All, Contains}
+use Rattle.std.proofs.lemmas.Bool.{cases_lt, both_ways, eqb-true}
+use Rattle.std.proofs.lemmas.Nat.{mul-le}
+use Rattle.std.proofs.lemmas.List.Elements.{All-cons, All-head, All-nil, All-weaker}
+use Rattle.std.proofs.lemmas.Option.{slice_get-get_or}
+use Rattle.psy_budget.specs.declared.charge.Stall.{Stall}
+use Rattle.psy_dates.specs.declared.plan.Plan.{Plan}
+use Rattle.psy_dates.specs.Plans.{IsPlan, system_of}
+use Rattle.psy_history.specs.Regular.{AreRegular, IsLawful, IsRegular, RunsAlone, WasStarted, WereStarted}
+use Rattle.psy_history.specs.Scheduled.{IsFinished, IsSupplied, turns_of}
+use Rattle.psy_meaning.specs.Actions.{Action, History, Next, System, charge_of, next_of, timing, verdict_of}
+use Rattle.psy_meaning.specs.Executors.{agent_at}
+use Rattle.psy_meaning.specs.Flow.{AreNexts, IsNext}
+use Rattle.psy_meaning.specs.History.{action_of, history, with_start}
+use Rattle.psy_meaning.specs.Schedule.{Turn, is_pending}
+use Rattle.psy_meaning.specs.Timing.{following, point_at}
+use Rattle.psy_meaning.specs.Units.{HasHead, IsBareAgent, IsBarePoint, IsOfText}
+use Rattle.psy_tree.specs.declared.unit.AgentDecl.{AgentDecl}
+use Rattle.psy_tree.specs.declared.unit.Point.{Point}
+use Rattle.psy_tree.specs.declared.unit.Unit.{Unit as Whole}
+use Rattle.psy_kernel.specs.Acting.{came_to}
+use Rattle.psy_kernel.specs.Cycles.{AreOver, GetsCycle, MayEnd}
+use Rattle.psy_kernel.specs.declared.script.Script.{Script}
+use Rattle.psy_kernel.specs.Scripts.{IsScript, order_of}
+use Rattle.psy_kernel.proofs.CyclesDone.{as_many, stays_over}
+use Rattle.psy_kernel.proofs.OrdersInForce.{lists_order}
+
+-- ---- the numbers of an agent's actions
+
+numbers_below : (s : System) (dates agent : ℕ) (actions : List Action) → WereStarted s dates agent actions → All (λ (q : Action). q.number < length actions) actions
+numbers_below s dates agent [] h = All-nil (λ (q : Action). q.number < 0)
+numbers_below s dates agent (r ∷ before) h =
+    All-cons (λ (q : Action). q.number < length (r ∷ before)) r before (let e : r.number ≡ length before = h.0.number in omega (arith, e))
+    (All-weaker (λ (q : Action). q.number < length before) (λ (q : Action). q.number < length (r ∷ before)) (λ q less. omega (arith, less)) before (numbers_below s dates agent before h.1))
+
+-- an agent's last action at a date starts there, or it is the last one of the dates before
+started_by : (s : System) (h : History) (date agent : ℕ) (actions : List Action) (n : Option Next) (r : Action) (before : List Action) → with_start s h date agent actions n ≡ r ∷ before → (actions ≡ r ∷ before) ⊎ (r.start ≡ date)
+started_by s h date agent actions None r before e = inl e
+started_by s h date agent actions (Some n) r before e = by (n.start == date) refl e
+  where
+    by : (test : Bool) → (n.start == date) ≡ test → (if test then action_of s h agent n ∷ actions else actions) ≡ r ∷ before → (actions ≡ r ∷ before) ⊎ (r.start ≡ date)
+    by true is e = inr (let same : action_of s h agent n ≡ r = cc in sym (ap (λ (q : Action). q.start) same) ∙ eqb-true n.start date is)
+    by false is e = inl e
+
+here_or_before : (s : System) (date agent : ℕ) (r : Action) (before : List Action) → history s (suc date) agent ≡ r ∷ before → (history s date agent ≡ r ∷ before) ⊎ (r.start ≡ date)
+here_or_before s date agent r before e = started_by s (history s date) date agent (history s date agent) (next_of s agent (history s date agent)) r before e
+
+-- ---- the points of an agent
+
+points_bare : (unit : Whole) (agent : AgentDecl) (points : List Point) → HasHead agent points (IsBarePoint unit) → (point : ℕ) → 1 ≤ point → point < length points → (d : Point) → IsBarePoint unit (get_or points point d)
+points_bare unit agent [] h point inner less d = absurd h
+points_bare unit agent (head ∷ rest) h zero inner less d = absurd (omega (arith, inner))
+points_bare unit agent (head ∷ rest) h (suc point) inner less d = h.1 point d (omega (arith, less))
+
+listed : (nexts : List (List ℕ)) (point to : ℕ) → Contains (get_or nexts point []) to → slice_get nexts point ≡ Some (get_or nexts point [])
+listed [] point to c = absurd (omega (arith, c.1))
+listed (list ∷ nexts) zero to c = refl
+listed (list ∷ nexts) (suc point) to c = listed nexts point to c
+
+module _ (plan : Plan) (inputs : List (List ℤ)) (stalls : ℕ → List Stall) (is : IsPlan plan) where
+  abbrev s : System
+  s = system_of plan inputs stalls
+
+  bare_agent : (agent : ℕ) → agent < length plan.unit.agents → IsBareAgent plan.unit (agent_at plan.unit agent)
+  bare_agent agent less = is.compiled.text.bare.agents agent (record { name = []; clock = 0; budget = 0; slots = []; points = []; stmts = [] }) less
+
+  agent_known : (agent : ℕ) → agent < length plan.unit.agents → slice_get plan.unit.agents agent ≡ Some (agent_at plan.unit agent)
+  agent_known agent less = slice_get-get_or plan.unit.agents agent (record { name = []; clock = 0; budget = 0; slots = []; points = []; stmts = [] }) less
+
+  its_nexts : (agent : ℕ) → agent < length plan.unit.agents → AreNexts plan.unit.functions (agent_at plan.unit agent) (get_or plan.nexts agent [])
+  its_nexts agent less =
+      is.compiled.followed.each agent (agent_at plan.unit agent) (get_or plan.nexts agent []) (agent_known agent less)
+      (slice_get-get_or plan.nexts agent [] (omega (arith, less, is.compiled.followed.count)))
+
+  -- an action that reached a point may end there
+  may_end : ((unit : Whole) (number : ℕ) (agent : AgentDecl) → IsOfText unit × (slice_get unit.agents number ≡ Some agent) → (point to : ℕ) → IsNext unit.functions agent point to → (1 ≤ to) × (to < length agent.points))
+      → (agent from to start : ℕ) → agent < length plan.unit.agents → Contains (following (timing s agent) from) to → start ≤ 1099511627776 → MayEnd (timing s agent) start to
+  may_end law agent from to start less follows early =
+      let its = its_nexts agent less in
+      let next = (its.each from (following (timing s agent) from) (listed (get_or plan.nexts agent []) from to follows) to).0 follows in
+      let inner = law plan.unit agent (agent_at plan.unit agent) (is.compiled.text, agent_known agent less) from to next in
+      let point = points_bare plan.unit (agent_at plan.unit agent) (agent_at plan.unit agent).points (bare_agent agent less).points to inner.0 inner.1 (record { count = 1; clock = 0; budget = 0 }) in
+      record {
+        known = inner.1;
+        clock = point.clock;
+        lawful = is.compiled.text.bare.clocks (point_at (timing s agent) to).clock (record { period = 1; first = 0 }) point.clock;
+        some = point.count.0;
+        few = point.count.1;
+        early = early;
+      }
+
+  -- ---- the processor supplies what the agents demand
+
+  pub supplied : (script : Script) → IsScript plan.unit script → IsLawful s → IsSupplied s (order_of plan.unit script) plan.until
+  supplied script of lawful = record {
+    lawful = lawful;
+    quantum = is.compiled.text.bare.quantum.0;
+    orders = λ cycle agent less. (lists_order plan.unit script cycle of).each agent less;
+    graphs = is.supplied.graphs;
+    drawn = record { count = is.supplied.drawn.count; each = is.supplied.drawn.each };
+    feasible = is.supplied.feasible;
+  }
+
+  -- ---- the action that gets the cycle
+
+  -- what its code came to
+  abbrev IsTold : Action → Type 0
+  IsTold r =
+      (r.deeds ≡ (came_to plan.code r).deeds) × (r.after ≡ (came_to plan.code r).carried) × (r.charge ≡ charge_of s r.agent r.number r.deeds.steps)
+      × (r.verdict ≡ verdict_of (timing s r.agent) r.start r.budget r.charge (came_to plan.code r).fate)
+
+  told : (dates agent : ℕ) (before : List Action) (r : Action) → WasStarted s dates agent before r → IsTold r
+  told dates agent before r w = subst IsTold (sym w.made) (refl, refl, refl, refl)
+
+  module _ (script : Script) (of : IsScript plan.unit script) (supply : IsSupplied s (order_of plan.unit script) plan.until) (date cycle : ℕ) (inside : date < plan.until) (low : date * plan.unit.quantum ≤ cycle) (high : cycle < (date + 1) * plan.unit.quantum) where
+    abbrev order : ℕ → List ℕ
+    order = order_of plan.unit script
+
+    abbrev turns : List (Option Turn)
+    turns = turns_of s order cycle
+
+    pub all_over : ((s : System) (order : ℕ → List ℕ) (until date cycles agent : ℕ) (r : Action) (before : List Action) → IsSupplied s order until → date ≤ until → date * s.unit.quantum ≤ cycles → history s (date + 1) agent ≡ r ∷ before → All (IsFinished s order cycles) before)
+        → (agent : ℕ) → AreOver turns (history s (date + 1) agent)
+    all_over law agent = by (history s (date + 1) agent) refl
+      where
+        by : (actions : List Action) → history s (date + 1) agent ≡ actions → AreOver turns actions
+        by [] e = tt {0}
+        by (r ∷ before) e = law s order plan.until date cycle agent r before supply (omega (arith, inside)) low e
+
+    pub gets : ((s : System) (order : ℕ → List ℕ) (until date agent : ℕ) (r : Action) → IsSupplied s order until → date ≤ until → Contains (history s date agent) r → r.deadline ≤ date → IsFinished s order (date * s.unit.quantum) r)
+        → ((unit : Whole) (number : ℕ) (agent : AgentDecl) → IsOfText unit × (slice_get unit.agents number ≡ Some agent) → (point to : ℕ) → IsNext unit.functions agent point to → (1 ≤ to) × (to < length agent.points))
+        → plan.until ≤ 4294967295 → (agent : ℕ) (r : Action) (before : List Action) → history s (date + 1) agent ≡ r ∷ before → All (RunsAlone s plan.code) (history s (date + 1) agent) → is_pending turns r ≡ true
+        → GetsCycle s plan.code turns plan.until date cycle agent r before
+    gets due within most agent r before e alone pending =
+        let are : AreRegular s (date + 1) agent (r ∷ before) = subst (AreRegular s (date + 1) agent) e (supply.lawful.actions (date + 1) agent) in
+        let its : IsRegular s agent r = All-head (IsRegular s agent) r before are.each in
+        let w : WasStarted s (date + 1) agent before r = are.were_started.0 in
+        let t = told (date + 1) agent before r w in
+        let start : r.start ≡ w.next.start = ap (λ (q : Action). q.start) w.made in
+        let later : date < r.deadline = due_later due agent r before e pending in
+        record {
+          of_code = record {
+            deeds = t.0;
+            after = t.1;
+            charge = t.2;
+            verdict = t.3;
+            alone = All-head (RunsAlone s plan.code) r before (subst (All (RunsAlone s plan.code)) e alone);
+          };
+          agent_is = its.agent_is;
+          pending = pending;
+          numbers = All-weaker (λ (q : Action). q.number < length before) (λ (q : Action). q.number < r.number) (λ q less. omega (arith, less, w.number)) before (numbers_below s (date + 1) agent before are.were_started.1);
+          few = omega (arith, are.few, inside);
+          later = later;
+          at = as_many s order cycle;
+          within = omega (arith, high, mul-le (date + 1) plan.unit.quantum r.deadline plan.unit.quantum (omega (arith, later)) (omega arith));
+          run = omega (arith, high, mul-le (date + 1) plan.unit.quantum plan.until plan.unit.quantum (omega (arith, inside)) (omega arith));
+          most = most;
+          quantum = is.compiled.text.bare.quantum.1;
+          ends = λ point end is. (let h = its.ends point end is in (h.1, may_end within agent r.point point r.start its.known h.0 (omega (arith, start, w.at, inside, most))));
+        }
+      where
+        due_later : ((s : System) (order : ℕ → List ℕ) (until date agent : ℕ) (r : Action) → IsSupplied s order until → date ≤ until → Contains (history s date agent) r → r.deadline ≤ date → IsFinished s order (date * s.unit.quantum) r)
+            → (agent : ℕ) (r : Action) (before : List Action) → history s (date + 1) agent ≡ r ∷ before → is_pending turns r ≡ true → date < r.deadline
+        due_later law agent r before e pending = elim (cases_lt date r.deadline) [
+          | inl less ↦ less
+          | inr past ↦ absurd (elim (here_or_before s date agent r before (sym (ap (λ n. history s n agent) (add-one date)) ∙ e)) [
+            | inl earlier ↦ both_ways (is_pending turns r) (stays_over s order r (date * plan.unit.quantum) cycle low (law s order plan.until date agent r supply (omega (arith, inside)) (subst (λ actions. Contains actions r) (sym earlier) (0, omega arith, refl)) past)) pending
+            | inr here ↦ omega (arith, past, here, IsRegular.due (All-head (IsRegular s agent) r before (AreRegular.each (subst (AreRegular s (date + 1) agent) e (supply.lawful.actions (date + 1) agent)))))
+          ])
+        ]

@@ -1,0 +1,166 @@
+-- A kernel that has given its cycle and not yet counted it.
+use Rattle.std.proofs.Common.{◌≡◌, ◌≢◌, sym, ap, ◌∙◌, subst, arith}
+use Rattle.std.specs.Prelude.{ℕ, ◌+◌, ◌-◌, ◌<◌, ◌≤◌, Bool, true, false, nat_lt, List, ◌∷◌, length, Option, ℤ}
+use Rattle.std.specs.List.{range_with_len}
+use Rattle.std.proofs.lemmas.Bool.{ltb-false, true≢false}
+use Rattle.std.proofs.lemmas.Nat.{mul-le}
+use Rattle.psy_dates.specs.declared.plan.Plan.{Plan}
+use Rattle.psy_dates.specs.Plans.{IsPlan}
+use Rattle.psy_history.specs.Compiled.{AreInputs}
+use Rattle.psy_dates.specs.Standing.{dates_done}
+use Rattle.psy_history.specs.Regular.{IsLawful}
+use Rattle.psy_meaning.specs.Actions.{System}
+use Rattle.psy_meaning.specs.History.{history}
+use Rattle.psy_meaning.specs.Schedule.{Turn, pending, soonest, turn_of}
+use Rattle.psy_ready.specs.Choice.{ListsEach}
+use Rattle.psy_kernel.specs.Cycles.{AreOver, IsCycleOf, order_by, run_of, run_turns}
+use Rattle.psy_kernel.specs.declared.kernel.Kernel.TheInside.{Inside}
+use Rattle.psy_kernel.specs.declared.script.Order.{Order}
+use Rattle.psy_kernel.specs.declared.script.Script.{Script}
+use Rattle.psy_kernel.specs.declared.stage.Stage.TheVariants.{CycleDue}
+use Rattle.psy_kernel.specs.Progress.{Progress, stage_of}
+use Rattle.psy_kernel.specs.Scripts.{order_of}
+use Rattle.psy_kernel.specs.Standing.{AreInForce, IsChosen, KernelStands, given_at, progress_of}
+use Rattle.psy_kernel.proofs.CyclesDone.{next_turn}
+use Rattle.psy_kernel.proofs.OrdersInForce.{in_force_is, lists_order}
+use Rattle.psy_kernel.proofs.Parts.{PartsStand}
+use Rattle.psy_kernel.proofs.Stages.{IsInside, cycle_due, inside_tick, tick_kept}
+
+-- the run of a kernel
+abbrev pub run_in : Inside → System
+run_in k = run_of k.plan k.shared.inputs.lists k.script
+
+abbrev pub turns_in : Inside → ℕ → List (Option Turn)
+turns_in k cycles = run_turns k.plan k.shared.inputs.lists k.script cycles
+
+abbrev pub PartsIn : Inside → ℕ → Type 0
+PartsIn k cycles = PartsStand (run_in k) k.plan.code k.plan.until (turns_in k cycles) (dates_done k.shared.date) k.shared k.machines.items k.charges.items k.ready k.figures.items
+
+pub record IsBetween (m : Inside) : Type 0 where
+  pub date : ℕ
+  pub dates : dates_done m.shared.date ≡ date + 1
+  pub cycle : IsCycleOf m.plan m.shared.inputs.lists m.script date m.cycles
+  pub parts : PartsIn m (m.cycles + 1)
+  pub all : m.declared.items ≡ range_with_len 0 (length m.plan.unit.agents)
+  pub orders : AreInForce m.script.orders m.passed m.cycles
+  pub choice : m.stale ≡ false → IsChosen m.ready (order_of m.plan.unit m.script m.cycles) m.chosen
+  pub place : m.place ≤ length m.plan.unit.agents + length m.plan.unit.variables
+  pub given : m.given ≡ given_at (run_in m) (dates_done m.shared.date) m.place
+
+-- ---- before the cycle
+
+module _ (k : Inside) (is : KernelStands k) where
+  pub parts_in : PartsIn k k.cycles
+  parts_in = record {
+    shares = is.shared;
+    machined = is.machined;
+    charged = is.charges;
+    waiting = is.waiting;
+    figured = is.figured;
+    agents = is.agents;
+  }
+
+  pub same_order : order_of k.plan.unit k.script k.cycles ≡ order_by k.declared.items k.script.orders k.passed
+  same_order = in_force_is (range_with_len 0 (length k.plan.unit.agents)) k.script.orders k.passed k.cycles is.orders ∙ ap (λ declared. order_by declared k.script.orders k.passed) (sym is.all)
+
+  -- the order that is read is the one in force
+  pub order_read : (read declared : List ℕ) (orders : List Order) → read ≡ order_by declared orders k.passed → declared ≡ k.declared.items → orders ≡ k.script.orders → read ≡ order_of k.plan.unit k.script k.cycles
+  order_read read declared orders e a b = e ∙ ap (λ d. order_by d orders k.passed) a ∙ ap (λ o. order_by k.declared.items o k.passed) b ∙ sym same_order
+
+  pub inside_of : stage_of (progress_of k) ≡ CycleDue k.cycles → (date : ℕ) × IsInside k.plan.unit.quantum k.plan.until (dates_done k.shared.date) k.cycles date
+  inside_of due = let h = cycle_due (progress_of k) due in inside_tick k.plan.unit.quantum k.plan.until (dates_done k.shared.date) k.cycles is.in_tick h.0 h.1
+
+  pub cycle_in : (most : k.plan.until ≤ 4294967295) (date : ℕ) → IsInside k.plan.unit.quantum k.plan.until (dates_done k.shared.date) k.cycles date → IsCycleOf k.plan k.shared.inputs.lists k.script date k.cycles
+  cycle_in most date h = record {
+    of_plan = is.plan;
+    of_inputs = is.inputs;
+    of_script = is.script;
+    before = h.1;
+    most = most;
+    low = h.2;
+    high = h.3;
+  }
+
+  -- what the cycle goes to
+  pub next_in : (date : ℕ) → IsInside k.plan.unit.quantum k.plan.until (dates_done k.shared.date) k.cycles date
+      → turns_in k (k.cycles + 1) ≡ turn_of (soonest (pending (order_of k.plan.unit k.script k.cycles) (turns_in k k.cycles) (history (run_in k) (dates_done k.shared.date)))) ∷ turns_in k k.cycles
+  next_in date h =
+      next_turn (run_in k) (order_of k.plan.unit k.script) date k.cycles h.2 h.3
+      ∙ ap (λ n. turn_of (soonest (pending (order_of k.plan.unit k.script k.cycles) (turns_in k k.cycles) (history (run_in k) n))) ∷ turns_in k k.cycles) (sym h.0)
+
+-- ---- behind it
+
+module _ (m : Inside) (b : IsBetween m) where
+  pub inside_between : IsInside m.plan.unit.quantum m.plan.until (dates_done m.shared.date) m.cycles b.date
+  inside_between = (b.dates, b.cycle.before, b.cycle.low, b.cycle.high)
+
+  pub counted : (passed : ℕ) (stale : Bool) → AreInForce m.script.orders passed (m.cycles + 1) → (stale ≡ false → IsChosen m.ready (order_of m.plan.unit m.script (m.cycles + 1)) m.chosen)
+      → KernelStands (record m { passed = passed; stale = stale; cycles = m.cycles + 1 })
+  counted passed stale orders choice = record {
+    plan = b.cycle.of_plan;
+    inputs = b.cycle.of_inputs;
+    script = b.cycle.of_script;
+    in_tick = tick_kept m.plan.unit.quantum m.plan.until (dates_done m.shared.date) m.cycles b.date inside_between;
+    shared = b.parts.shares;
+    machined = b.parts.machined;
+    charges = b.parts.charged;
+    waiting = b.parts.waiting;
+    figured = b.parts.figured;
+    agents = b.parts.agents;
+    all = b.all;
+    orders = orders;
+    choice = choice;
+    place = b.place;
+    given = b.given;
+  }
+
+  -- the order in force stays where none comes
+  pub order_stays : AreInForce m.script.orders m.passed (m.cycles + 1) → order_of m.plan.unit m.script m.cycles ≡ order_of m.plan.unit m.script (m.cycles + 1)
+  order_stays next =
+      in_force_is (range_with_len 0 (length m.plan.unit.agents)) m.script.orders m.passed m.cycles b.orders
+      ∙ sym (in_force_is (range_with_len 0 (length m.plan.unit.agents)) m.script.orders m.passed (m.cycles + 1) next)
+
+  -- the choice stays where the same agents wait and no order comes into force
+  pub counted_fresh : m.stale ≡ false → (passed : ℕ) → AreInForce m.script.orders passed (m.cycles + 1) → m.passed ≤ passed → KernelStands (record m { passed = passed; stale = nat_lt m.passed passed; cycles = m.cycles + 1 })
+  counted_fresh fresh passed orders no_less =
+      counted passed (nat_lt m.passed passed) orders (λ same. (let e : passed ≡ m.passed = omega (arith, ltb-false m.passed passed same, no_less) in
+      subst (λ o. IsChosen m.ready o m.chosen) (order_stays (subst (λ n. AreInForce m.script.orders n (m.cycles + 1)) e orders)) (b.choice fresh)))
+
+  pub counted_stale : (passed : ℕ) → AreInForce m.script.orders passed (m.cycles + 1) → KernelStands (record m { passed = passed; stale = true; cycles = m.cycles + 1 })
+  counted_stale passed orders = counted passed true orders (λ wrong. absurd (true≢false wrong))
+
+-- ---- a kernel whose cycle is due
+
+-- what is known of it
+pub record IsDue (k : Inside) : Type 0 where
+  pub date : ℕ
+  pub inside : IsInside k.plan.unit.quantum k.plan.until (dates_done k.shared.date) k.cycles date
+  pub cycle : IsCycleOf k.plan k.shared.inputs.lists k.script date k.cycles
+  pub lawful : IsLawful (run_in k)
+  pub over : (agent : ℕ) → AreOver (turns_in k k.cycles) (history (run_in k) (date + 1) agent)
+  pub small : k.cycles + 1 < 18446744073709551615
+
+module _ (k : Inside) (is : KernelStands k) where
+  small_cycles : (date : ℕ) → IsCycleOf k.plan k.shared.inputs.lists k.script date k.cycles → k.cycles + 1 < 18446744073709551615
+  small_cycles date c =
+      let a = mul-le (date + 1) k.plan.unit.quantum 4294967295 1000000 (omega (arith, c.before, c.most)) is.plan.compiled.text.bare.quantum.1 in
+      omega (arith, a, c.high)
+
+  pub due_by : (p : Progress) → progress_of k ≡ p → stage_of p ≡ CycleDue p.cycles → k.plan.until ≤ 4294967295
+      → ((plan : Plan) (inputs : List (List ℤ)) (script : Script) → IsPlan plan → AreInputs plan.unit inputs → IsLawful (run_of plan inputs script))
+      → ((plan : Plan) (inputs : List (List ℤ)) (script : Script) (date cycle agent : ℕ) → IsCycleOf plan inputs script date cycle → AreOver (run_turns plan inputs script cycle) (history (run_of plan inputs script) (date + 1) agent))
+      → IsDue k
+  due_by p e due most lawful over =
+      let w = inside_of k is (subst (λ q. stage_of q ≡ CycleDue q.cycles) (sym e) due) in
+      let cycle = cycle_in k is most w.0 w.1 in
+      record {
+        date = w.0;
+        inside = w.1;
+        cycle = cycle;
+        lawful = lawful k.plan k.shared.inputs.lists k.script is.plan is.inputs;
+        over = λ agent. over k.plan k.shared.inputs.lists k.script w.0 k.cycles agent cycle;
+        small = small_cycles w.0 cycle;
+      }
+
+  pub lists_read : (read : List ℕ) → read ≡ order_of k.plan.unit k.script k.cycles → ListsEach (length k.ready) read
+  lists_read read e = subst (ListsEach (length k.ready)) (sym e) (subst (λ n. ListsEach n (order_of k.plan.unit k.script k.cycles)) (sym is.waiting) (lists_order k.plan.unit k.script k.cycles is.script))

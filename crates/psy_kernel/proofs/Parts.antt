@@ -1,0 +1,196 @@
+-- What all agents have and share, before a cycle and behind it.
+use Rattle.std.proofs.Common.{◌≡◌, ◌≢◌, refl, sym, ap, ◌∙◌, subst, inl, inr, arith}
+use Rattle.std.specs.Prelude.{ℕ, zero, suc, ◌-◌, ◌<◌, ◌≤◌, List, [], ◌∷◌, length, Option, Some, None, slice_get, slice_set, ℤ}
+use Rattle.std.specs.List.{All}
+use Rattle.std.proofs.lemmas.Bool.{cases_eq, cases_lt}
+use Rattle.std.proofs.lemmas.List.{get_or_past, length-set}
+use Rattle.std.proofs.lemmas.List.Elements.{All-head, All-weaker}
+use Rattle.std.proofs.lemmas.Option.{get_or_from_slice_get}
+use Rattle.psy_budget.specs.Charges.{Charged}
+use Rattle.psy_code.specs.declared.code.Code.{Code}
+use Rattle.psy_dates.specs.declared.seat.Seat.{Seat}
+use Rattle.psy_dates.specs.declared.shared.Shared.{Shared}
+use Rattle.psy_dates.specs.Standing.{KeepsCopy, SeatStands, SharedStands, dates_done}
+use Rattle.psy_history.specs.Regular.{AreRegular, IsLawful, IsRegular}
+use Rattle.psy_machine.specs.Stepping.{AgentMachine}
+use Rattle.psy_meaning.specs.Actions.{Action, System, variable_of}
+use Rattle.psy_meaning.specs.History.{history}
+use Rattle.psy_meaning.specs.Schedule.{Turn, is_pending, pending, soonest}
+use Rattle.psy_ready.specs.Choice.{IsPick, pending_deadline}
+use Rattle.psy_tree.specs.declared.unit.VarDecl.{VarDecl}
+use Rattle.psy_kernel.specs.Cycles.{AreOver, OneStands}
+use Rattle.psy_kernel.specs.declared.kernel.Figure.{Figure}
+use Rattle.psy_kernel.specs.Standing.{AgentStands, IsChosen, deadline_of}
+use Rattle.psy_kernel.proofs.OneAgent.{variable_known}
+use Rattle.psy_kernel.proofs.OtherAgents.{AreSameFor, agent_kept, copy_kept, missed, other_agent, seat_kept}
+use Rattle.psy_kernel.proofs.PickIsSoonest.{Front, IsSoonest, front_of, soonest_by_pick, soonest_of_nobody}
+use Rattle.psy_kernel.proofs.Sets.{get_set_other, get_set_same}
+
+-- it stands for the history of so many dates, where the cycles done went to these turns
+pub record PartsStand (s : System) (code : Code) (until : ℕ) (turns : List (Option Turn)) (dates : ℕ) (shared : Shared) (machines : List AgentMachine) (charges : List Charged) (ready : List (Option ℕ)) (figures : List Figure) : Type 0 where
+  pub shares : SharedStands s turns dates shared
+  pub machined : length machines ≡ length s.unit.agents
+  pub charged : length charges ≡ length s.unit.agents
+  pub waiting : length ready ≡ length s.unit.agents
+  pub figured : length figures ≡ length s.unit.agents
+  pub agents : (agent : ℕ) (machine : AgentMachine) (charge : Charged) (waits : Option ℕ) (figure : Figure)
+      → slice_get machines agent ≡ Some machine → slice_get charges agent ≡ Some charge → slice_get ready agent ≡ Some waits → slice_get figures agent ≡ Some figure
+      → AgentStands s code turns until agent (history s dates agent) charge machine waits figure
+
+found : {X : Type 0} (xs : List X) (place : ℕ) → place < length xs → (x : X) × (slice_get xs place ≡ Some x)
+found [] place less = absurd (omega (arith, less))
+found (x ∷ xs) zero less = (x, refl)
+found (x ∷ xs) (suc place) less = found xs place (omega (arith, less))
+
+shared_same : (s : System) (turns now : List (Option Turn)) (dates : ℕ) (shared : Shared) → ((agent : ℕ) → All (AreSameFor turns now) (history s dates agent)) → SharedStands s turns dates shared → SharedStands s now dates shared
+shared_same s turns now dates shared same h = record {
+  date = h.date;
+  seated = h.seated;
+  seats = λ agent seat at. seat_kept turns now (dates - 1) (history s dates agent) seat (same agent) (h.seats agent seat at);
+  valued = h.valued;
+  committed = h.committed;
+  kept = h.kept;
+  ended = λ variable owner value at owned. copy_kept turns now (dates - 1) variable (history s dates owner) value (same owner) (h.ended variable owner value at owned);
+  rings = h.rings;
+  queues = h.queues;
+  outboxes = h.outboxes;
+  taken = h.taken;
+}
+
+module _ (s : System) (code : Code) (until : ℕ) (turns : List (Option Turn)) (dates : ℕ) (shared : Shared) (machines : List AgentMachine) (charges : List Charged) (ready : List (Option ℕ)) (figures : List Figure) (p : PartsStand s code until turns dates shared machines charges ready figures) where
+  -- a cycle that nobody gets
+  pub idle : PartsStand s code until (None ∷ turns) dates shared machines charges ready figures
+  idle =
+      let same : (agent : ℕ) → All (AreSameFor turns (None ∷ turns)) (history s dates agent) = λ agent k d less. missed None turns _ refl in
+      record {
+        shares = shared_same s turns (None ∷ turns) dates shared same p.shares;
+        machined = p.machined;
+        charged = p.charged;
+        waiting = p.waiting;
+        figured = p.figured;
+        agents = λ agent machine charge waits figure m c w f. agent_kept turns (None ∷ turns) s code until agent (history s dates agent) charge machine waits figure (same agent) (p.agents agent machine charge waits figure m c w f);
+      }
+
+  module _ (lawful : IsLawful s) (over : (agent : ℕ) → AreOver turns (history s dates agent)) where
+    -- an agent that the program doesn't have has no actions
+    past : (agent : ℕ) → length s.unit.agents ≤ agent → history s dates agent ≡ []
+    past agent h = by (history s dates agent) (AreRegular.each (lawful.actions dates agent))
+      where
+        by : (actions : List Action) → All (IsRegular s agent) actions → actions ≡ []
+        by [] all = refl
+        by (r ∷ before) all = absurd (omega (arith, h, IsRegular.known (All-head (IsRegular s agent) r before all)))
+
+    waits_is : (agent : ℕ) → pending_deadline ready agent ≡ deadline_of turns (history s dates agent)
+    waits_is agent = elim (cases_lt agent (length s.unit.agents)) [
+      | inl less ↦
+          (let m = found machines agent (omega (arith, less, p.machined)) in let c = found charges agent (omega (arith, less, p.charged)) in let w = found ready agent (omega (arith, less, p.waiting)) in let f = found figures agent (omega (arith, less, p.figured)) in
+          get_or_from_slice_get ready agent w.0 None w.1 ∙ AgentStands.ready (p.agents agent m.0 c.0 w.0 f.0 m.1 c.1 w.1 f.1))
+      | inr more ↦ get_or_past ready agent None (omega (arith, more, p.waiting)) ∙ sym (ap (deadline_of turns) (past agent more))
+    ]
+
+    pub fronts : (agent : ℕ) → Front turns (history s dates agent) (pending_deadline ready agent)
+    fronts agent = subst (Front turns (history s dates agent)) (sym (waits_is agent)) (front_of turns (history s dates agent) (over agent))
+
+    pub nobody_soonest : (order : List ℕ) → IsChosen ready order None → soonest (pending order turns (history s dates)) ≡ None
+    nobody_soonest order none = soonest_of_nobody turns (history s dates) ready fronts order none
+
+    pub pick_soonest : (order : List ℕ) (agent : ℕ) (pick : IsPick ready order agent) → IsSoonest turns (history s dates) (pending_deadline ready) fronts order agent pick.deadline
+    pick_soonest order agent pick = soonest_by_pick turns (history s dates) ready fronts order agent pick
+
+    pub pick_known : (order : List ℕ) (agent : ℕ) → IsPick ready order agent → agent < length s.unit.agents
+    pick_known order agent pick = elim (cases_lt agent (length s.unit.agents)) [
+      | inl less ↦ less
+      | inr more ↦ absurd (let wrong : None ≡ Some pick.deadline = sym (get_or_past ready agent None (omega (arith, more, p.waiting))) ∙ pick.is_pending in cc)
+    ]
+
+  -- what an agent has, with its seat and kept copies
+  pub one_of : (date agent : ℕ) (r : Action) (before : List Action) → dates - 1 ≡ date → history s dates agent ≡ r ∷ before
+      → (machine : AgentMachine) (charge : Charged) (waits : Option ℕ) (figure : Figure) (seat : Seat) → slice_get machines agent ≡ Some machine → slice_get charges agent ≡ Some charge → slice_get ready agent ≡ Some waits → slice_get figures agent ≡ Some figure → slice_get shared.seats.items agent ≡ Some seat
+      → OneStands s code turns until date agent (r ∷ before) charge machine waits figure seat shared.ended.items
+  one_of date agent r before last is machine charge waits figure seat m c w f x = record {
+    stands = subst (λ actions. AgentStands s code turns until agent actions charge machine waits figure) is (p.agents agent machine charge waits figure m c w f);
+    seated = subst (λ actions. SeatStands date turns actions seat) is (subst (λ d. SeatStands d turns (history s dates agent) seat) last (p.shares.seats agent seat x));
+    kept = λ variable value at owned. subst (λ actions. KeepsCopy date turns variable actions value) is (subst (λ d. KeepsCopy d turns variable (history s dates agent) value) last (p.shares.ended variable agent value at owned));
+  }
+
+  -- a cycle that an agent's last action gets
+  module _ (lawful : IsLawful s) (date agent : ℕ) (r : Action) (before : List Action) (last : dates - 1 ≡ date) (is : history s dates agent ≡ r ∷ before) where
+    abbrev now : List (Option Turn)
+    now = Some (record { agent = r.agent; number = r.number }) ∷ turns
+
+    of_agent : (other : ℕ) (actions : List Action) → All (IsRegular s other) actions → All (λ (q : Action). q.agent ≡ other) actions
+    of_agent other actions all = All-weaker (IsRegular s other) (λ (q : Action). q.agent ≡ other) (λ q h. h.agent_is) actions all
+
+    r_agent : r.agent ≡ agent
+    r_agent = All-head (λ (q : Action). q.agent ≡ agent) r before (subst (All (λ (q : Action). q.agent ≡ agent)) is (of_agent agent (history s dates agent) (AreRegular.each (lawful.actions dates agent))))
+
+    others_same : (other : ℕ) → (other ≡ agent → ⊥) → All (AreSameFor turns now) (history s dates other)
+    others_same other differs =
+        All-weaker (λ (q : Action). q.agent ≡ other) (AreSameFor turns now)
+        (λ q e. missed (Some (record { agent = r.agent; number = r.number })) turns q (other_agent q.agent q.number (record { agent = r.agent; number = r.number }) (λ same. differs (sym e ∙ sym same ∙ r_agent))))
+        (history s dates other) (of_agent other (history s dates other) (AreRegular.each (lawful.actions dates other)))
+
+    module _ (machine : AgentMachine) (charge : Charged) (waits : Option ℕ) (figure : Figure) (seat : Seat) (ended : List ℤ) (one : OneStands s code now until date agent (r ∷ before) charge machine waits figure seat ended)
+        (all : length ended ≡ length shared.ended.items) (others : (variable : ℕ) (v : VarDecl) → slice_get s.unit.variables variable ≡ Some v → v.owner ≢ Some agent → slice_get ended variable ≡ slice_get shared.ended.items variable) where
+      seats_given : (other : ℕ) (x : Seat) → slice_get (slice_set shared.seats.items agent seat) other ≡ Some x → SeatStands (dates - 1) now (history s dates other) x
+      seats_given other x at = elim (cases_eq other agent) [
+        | inl same ↦
+            (let x_is : x ≡ seat = get_set_same shared.seats.items agent seat x (sym (ap (slice_get (slice_set shared.seats.items agent seat)) same) ∙ at) in
+            subst (λ a. SeatStands (dates - 1) now (history s dates a) x) (sym same) (subst (λ actions. SeatStands (dates - 1) now actions x) (sym is) (subst (λ d. SeatStands d now (r ∷ before) x) (sym last) (subst (SeatStands date now (r ∷ before)) (sym x_is) one.seated))))
+        | inr differs ↦ seat_kept turns now (dates - 1) (history s dates other) x (others_same other differs) (p.shares.seats other x (sym (get_set_other shared.seats.items agent other seat differs) ∙ at))
+      ]
+
+      ended_given : (variable owner : ℕ) (value : ℤ) → slice_get ended variable ≡ Some value → (variable_of s variable).owner ≡ Some owner → KeepsCopy (dates - 1) now variable (history s dates owner) value
+      ended_given variable owner value at owned = elim (cases_eq owner agent) [
+        | inl same ↦
+            subst (λ a. KeepsCopy (dates - 1) now variable (history s dates a) value) (sym same) (subst (λ actions. KeepsCopy (dates - 1) now variable actions value) (sym is) (subst (λ d. KeepsCopy d now variable (r ∷ before) value) (sym last)
+            (one.kept variable value at (owned ∙ ap (λ n. Some n) same))))
+        | inr differs ↦
+            copy_kept turns now (dates - 1) variable (history s dates owner) value (others_same owner differs)
+            (p.shares.ended variable owner value (sym (others variable (variable_of s variable) (variable_known s variable owner owned) (λ e. differs (let e' : Some owner ≡ Some agent = sym owned ∙ e in let same : owner ≡ agent = cc in same))) ∙ at) owned)
+      ]
+
+      pub shared_given : (after : Shared) → after.date ≡ shared.date → after.seats.items ≡ slice_set shared.seats.items agent seat → after.ended.items ≡ ended → after.committed ≡ shared.committed
+          → after.rings ≡ shared.rings → after.queues ≡ shared.queues → after.outboxes ≡ shared.outboxes → after.taken ≡ shared.taken → SharedStands s now dates after
+      shared_given after date_is seats_are ended_are committed_is rings_are queues_are outboxes_are taken_is = record {
+        date = ap dates_done date_is ∙ p.shares.date;
+        seated = ap length seats_are ∙ length-set shared.seats.items agent seat ∙ p.shares.seated;
+        seats = λ other x at. seats_given other x (sym (ap (λ xs. slice_get xs other) seats_are) ∙ at);
+        valued = ap (λ v. length v.items) committed_is ∙ p.shares.valued;
+        committed = λ variable value at. p.shares.committed variable value (sym (ap (λ v. slice_get v.items variable) committed_is) ∙ at);
+        kept = ap length ended_are ∙ all ∙ p.shares.kept;
+        ended = λ variable owner value at owned. ended_given variable owner value (sym (ap (λ xs. slice_get xs variable) ended_are) ∙ at) owned;
+        rings = ap (λ v. length v.items) rings_are ∙ p.shares.rings;
+        queues = ap (λ v. length v.items) queues_are ∙ p.shares.queues;
+        outboxes = ap (λ v. length v.items) outboxes_are ∙ p.shares.outboxes;
+        taken = ap (λ v. length v.items) taken_is ∙ p.shares.taken;
+      }
+
+      -- the agent's own, and those of another agent
+      pub agents_given : (ready' : List (Option ℕ)) → ((w : Option ℕ) → slice_get ready' agent ≡ Some w → w ≡ waits) → ((other : ℕ) → (other ≡ agent → ⊥) → slice_get ready' other ≡ slice_get ready other)
+          → (other : ℕ) (m : AgentMachine) (c : Charged) (w : Option ℕ) (f : Figure) → slice_get (slice_set machines agent machine) other ≡ Some m → slice_get (slice_set charges agent charge) other ≡ Some c → slice_get ready' other ≡ Some w → slice_get (slice_set figures agent figure) other ≡ Some f
+          → AgentStands s code now until other (history s dates other) c m w f
+      agents_given ready' own rest other m c w f at_m at_c at_w at_f = elim (cases_eq other agent) [
+        | inl same ↦
+            (let m_is : m ≡ machine = get_set_same machines agent machine m (sym (ap (slice_get (slice_set machines agent machine)) same) ∙ at_m) in
+            let c_is : c ≡ charge = get_set_same charges agent charge c (sym (ap (slice_get (slice_set charges agent charge)) same) ∙ at_c) in
+            let f_is : f ≡ figure = get_set_same figures agent figure f (sym (ap (slice_get (slice_set figures agent figure)) same) ∙ at_f) in
+            let w_is : w ≡ waits = own w (sym (ap (slice_get ready') same) ∙ at_w) in
+            subst (λ a. AgentStands s code now until a (history s dates a) c m w f) (sym same) (subst (λ actions. AgentStands s code now until agent actions c m w f) (sym is)
+            (subst (λ z. AgentStands s code now until agent (r ∷ before) z m w f) (sym c_is) (subst (λ z. AgentStands s code now until agent (r ∷ before) charge z w f) (sym m_is)
+            (subst (λ z. AgentStands s code now until agent (r ∷ before) charge machine z f) (sym w_is) (subst (λ z. AgentStands s code now until agent (r ∷ before) charge machine waits z) (sym f_is) one.stands))))))
+        | inr differs ↦
+            agent_kept turns now s code until other (history s dates other) c m w f (others_same other differs)
+            (p.agents other m c w f (sym (get_set_other machines agent other machine differs) ∙ at_m) (sym (get_set_other charges agent other charge differs) ∙ at_c) (sym (rest other differs) ∙ at_w) (sym (get_set_other figures agent other figure differs) ∙ at_f))
+      ]
+
+      pub given : (ready' : List (Option ℕ)) → length ready' ≡ length ready → ((w : Option ℕ) → slice_get ready' agent ≡ Some w → w ≡ waits) → ((other : ℕ) → (other ≡ agent → ⊥) → slice_get ready' other ≡ slice_get ready other)
+          → (after : Shared) → SharedStands s now dates after → PartsStand s code until now dates after (slice_set machines agent machine) (slice_set charges agent charge) ready' (slice_set figures agent figure)
+      given ready' as_many own rest after shares = record {
+        shares = shares;
+        machined = length-set machines agent machine ∙ p.machined;
+        charged = length-set charges agent charge ∙ p.charged;
+        waiting = as_many ∙ p.waiting;
+        figured = length-set figures agent figure ∙ p.figured;
+        agents = agents_given ready' own rest;
+      }

@@ -1,0 +1,82 @@
+-- What is due before a cycle and behind it.
+use Rattle.std.proofs.Common.{◌≡◌, ◌≢◌, refl, sym, ap, ◌∙◌, subst, inl, inr, arith}
+use Rattle.std.specs.Prelude.{ℕ, zero, suc, ◌+◌, ◌*◌, ◌<◌, ◌≤◌, ◌==◌, Bool, true, false, if◌then◌else◌}
+use Rattle.std.proofs.lemmas.Bool.{cases_lt, cond-true, cond-false, eq-eqb, eqb-false, ne_eqb}
+use Rattle.std.proofs.lemmas.Nat.{mul-le}
+use Rattle.psy_kernel.specs.declared.stage.Stage.TheVariants.{DateDue, CycleDue, Over}
+use Rattle.psy_kernel.specs.Progress.{Progress, stage_of}
+use Rattle.psy_kernel.specs.Standing.{InTick}
+
+-- ---- a cycle is due
+
+not_over : (a b : Bool) (date cycle other : ℕ) → (if a then Over else if b then DateDue date else CycleDue cycle) ≡ CycleDue other → (a ≡ false) × (b ≡ false)
+not_over true b date cycle other e = cc
+not_over false true date cycle other e = cc
+not_over false false date cycle other e = (refl, refl)
+
+pub cycle_due : (p : Progress) → stage_of p ≡ CycleDue p.cycles → (p.dates ≢ p.plan.until + 1) × (p.cycles ≢ p.dates * p.plan.unit.quantum)
+cycle_due p due =
+    let tests = not_over (p.dates == p.plan.until + 1) (p.cycles == p.dates * p.plan.unit.quantum) p.dates p.cycles p.cycles due in
+    (eqb-false p.dates (p.plan.until + 1) tests.0, eqb-false p.cycles (p.dates * p.plan.unit.quantum) tests.1)
+
+no_cycles : (quantum : ℕ) → 0 * quantum ≡ 0
+no_cycles quantum = grind arith
+
+-- a cycle that is due stands between a date and the next one
+abbrev pub IsInside : ℕ → ℕ → ℕ → ℕ → ℕ → Type 0
+IsInside quantum until dates cycles date = (dates ≡ date + 1) × (date < until) × (date * quantum ≤ cycles) × (cycles < (date + 1) * quantum)
+
+pub inside_tick : (quantum until dates cycles : ℕ) → InTick quantum until dates cycles → dates ≢ until + 1 → cycles ≢ dates * quantum → (date : ℕ) × IsInside quantum until dates cycles date
+inside_tick quantum until zero cycles h more other = absurd (other (h ∙ sym (no_cycles quantum)))
+inside_tick quantum until (suc date) cycles h more other =
+    let e : suc date ≡ date + 1 = omega arith in
+    let differs : cycles ≢ (date + 1) * quantum = λ same. other (same ∙ ap (λ n. n * quantum) (sym e)) in
+    (date, (e, not_last date until h.0 (λ last. more (e ∙ ap (λ n. n + 1) last)), h.1, below cycles ((date + 1) * quantum) h.2 differs))
+  where
+    not_last : (date until : ℕ) → date ≤ until → (date ≡ until → ⊥) → date < until
+    not_last date until h other = grind (arith, h, other)
+
+    below : (a b : ℕ) → a ≤ b → (a ≡ b → ⊥) → a < b
+    below a b h other = grind (arith, h, other)
+
+-- and one more stays in the tick
+pub tick_kept : (quantum until dates cycles date : ℕ) → IsInside quantum until dates cycles date → InTick quantum until dates (cycles + 1)
+tick_kept quantum until dates cycles date h =
+    let e : dates ≡ suc date = omega (arith, h.0) in
+    subst (λ n. InTick quantum until n (cycles + 1)) (sym e) (omega (arith, h.1), omega (arith, h.2), omega (arith, h.3), λ last. absurd (omega (arith, h.1, last)))
+
+-- ---- what is due behind it
+
+later_tick : (date t quantum n : ℕ) → date + 2 ≤ t → 1 ≤ quantum → n ≤ (date + 1) * quantum → n ≡ t * quantum → ⊥
+later_tick date t quantum n more some low e =
+    let a = mul-le (date + 2) quantum t quantum more (omega arith) in
+    let b : (date + 2) * quantum ≡ (date + 1) * quantum + quantum = grind arith in
+    omega (arith, a, b, some, low, e)
+
+earlier_tick : (date t quantum n : ℕ) → t ≤ date → date * quantum < n → n ≡ t * quantum → ⊥
+earlier_tick date t quantum n less low e = let a = mul-le t quantum date quantum less (omega arith) in omega (arith, a, low, e)
+
+module _ (p : Progress) (date : ℕ) (inside : IsInside p.plan.unit.quantum p.plan.until p.dates p.cycles date) (some : 1 ≤ p.plan.unit.quantum) where
+  not_the_end : (p.dates == p.plan.until + 1) ≡ false
+  not_the_end = ne_eqb p.dates (p.plan.until + 1) (λ e. absurd (omega (arith, inside.0, inside.1, e)))
+
+  same_tick : (t : ℕ) → p.cycles + 1 ≡ t * p.plan.unit.quantum → t ≡ p.dates
+  same_tick t e = elim (cases_lt date t) [
+    | inr less ↦ absurd (earlier_tick date t p.plan.unit.quantum (p.cycles + 1) less (omega (arith, inside.2)) e)
+    | inl more ↦ elim (cases_lt (date + 1) t) [
+      | inl past ↦ absurd (later_tick date t p.plan.unit.quantum (p.cycles + 1) (omega (arith, past)) some (omega (arith, inside.3)) e)
+      | inr low ↦ omega (arith, more, low, inside.0)
+    ]
+  ]
+
+  pub filled : (t : ℕ) → p.cycles + 1 ≡ t * p.plan.unit.quantum → stage_of (record p { cycles = p.cycles + 1 }) ≡ DateDue t
+  filled t e =
+      let same = same_tick t e in
+      cond-false (p.dates == p.plan.until + 1) Over (if p.cycles + 1 == p.dates * p.plan.unit.quantum then DateDue p.dates else CycleDue (p.cycles + 1)) not_the_end
+      ∙ cond-true (p.cycles + 1 == p.dates * p.plan.unit.quantum) (DateDue p.dates) (CycleDue (p.cycles + 1)) (eq-eqb (p.cycles + 1) (p.dates * p.plan.unit.quantum) (e ∙ ap (λ n. n * p.plan.unit.quantum) same))
+      ∙ ap DateDue (sym same)
+
+  pub not_filled : ((t : ℕ) → p.cycles + 1 ≢ t * p.plan.unit.quantum) → stage_of (record p { cycles = p.cycles + 1 }) ≡ CycleDue (p.cycles + 1)
+  not_filled none =
+      cond-false (p.dates == p.plan.until + 1) Over (if p.cycles + 1 == p.dates * p.plan.unit.quantum then DateDue p.dates else CycleDue (p.cycles + 1)) not_the_end
+      ∙ cond-false (p.cycles + 1 == p.dates * p.plan.unit.quantum) (DateDue p.dates) (CycleDue (p.cycles + 1)) (ne_eqb (p.cycles + 1) (p.dates * p.plan.unit.quantum) (none p.dates))

@@ -1,0 +1,17 @@
+use Rattle.std.proofs.Common.{◌+◌}
+use Rattle.psy_kernel.specs.Scripts.{order_of, stalls_of}
+use Rattle.psy_history.specs.Scheduled.{IsSupplied}
+use Rattle.psy_kernel.specs.Cycles.{run_of}
+use Rattle.psy_kernel.proofs.GetsCycle as known
+use Rattle.psy_kernel.proofs.kernel.cycle.gets.Goals as goal
+
+pub returns-clause-over : goal.returns-clause-over
+returns-clause-over c = λ plan inputs script date cycle agent h.
+    let supply : IsSupplied (run_of plan inputs script) (order_of plan.unit script) plan.until = known.supplied plan inputs (stalls_of script) h.of_plan script h.of_script (c.regular.ensures.lawful plan.unit plan.code plan.nexts (stalls_of script) inputs h.of_plan.compiled h.of_inputs) in
+    known.all_over plan inputs (stalls_of script) h.of_plan script h.of_script supply date cycle h.before h.low h.high c.on_time.ensures.earlier agent
+
+pub returns-clause-gets : goal.returns-clause-gets
+returns-clause-gets c = λ plan inputs script date cycle agent r before h is pending.
+    let supply : IsSupplied (run_of plan inputs script) (order_of plan.unit script) plan.until = known.supplied plan inputs (stalls_of script) h.of_plan script h.of_script (c.regular.ensures.lawful plan.unit plan.code plan.nexts (stalls_of script) inputs h.of_plan.compiled h.of_inputs) in
+    known.gets plan inputs (stalls_of script) h.of_plan script h.of_script supply date cycle h.before h.low h.high c.on_time.ensures.due (λ unit number agent its point to next. c.follows.ensures.inner unit number agent point to (c.sound.ensures.unit its.0.text.0 unit its.0.text.1) its.1 next) h.most agent r before is
+    (c.regular.ensures.runs plan.unit plan.code plan.nexts (stalls_of script) inputs h.of_plan.compiled h.of_inputs h.of_plan.built (date + 1) agent) pending

@@ -1,0 +1,97 @@
+-- What a cycle does to the agent whose action gets it.
+use Rattle.std.specs.Prelude.{◌≡◌, ℕ, ◌+◌, ◌-◌, ◌*◌, ◌^◌, ◌==◌, ◌<◌, ◌≤◌, Bool, true, false, nat_le, if◌then◌else◌, List, [], ◌∷◌, length, Option, Some, None, slice_get, get_or, ⊤, ℤ}
+use Rattle.std.specs.List.{All}
+use Rattle.psy_base.specs.declared.limits.TheConstants.{ADVANCE, QUANTUM}
+use Rattle.psy_clock.specs.Dates.{IsClock}
+use Rattle.psy_budget.specs.declared.charge.Stall.{Stall}
+use Rattle.psy_budget.specs.Charges.{Charged}
+use Rattle.psy_code.specs.declared.code.Code.{Code}
+use Rattle.psy_dates.specs.declared.plan.Plan.{Plan}
+use Rattle.psy_dates.specs.declared.seat.Seat.{Seat}
+use Rattle.psy_dates.specs.Plans.{IsPlan, system_of}
+use Rattle.psy_dates.specs.Standing.{KeepsCopy, SeatStands}
+use Rattle.psy_history.specs.Compiled.{AreInputs}
+use Rattle.psy_history.specs.Scheduled.{turns_of}
+use Rattle.psy_machine.specs.Stepping.{AgentMachine}
+use Rattle.psy_meaning.specs.Actions.{Action, System, Done, timing, variable_of}
+use Rattle.psy_meaning.specs.Schedule.{Turn, is_pending}
+use Rattle.psy_meaning.specs.Summary.{lesser}
+use Rattle.psy_meaning.specs.Timing.{Timing, clock_at, end_date, point_at}
+use Rattle.psy_kernel.specs.Acting.{IsOfCode}
+use Rattle.psy_kernel.specs.declared.kernel.Figure.{Figure}
+use Rattle.psy_kernel.specs.declared.script.Order.{Order}
+use Rattle.psy_kernel.specs.declared.script.Script.{Script}
+use Rattle.psy_kernel.specs.Scripts.{IsScript, order_of, stalls_of}
+use Rattle.psy_kernel.specs.Standing.{AgentStands}
+
+-- The order of the last of so many orders that have come into force, and the first one where none has
+abbrev pub order_by : List ℕ → List Order → ℕ → List ℕ
+order_by declared orders passed = if passed == 0 then declared else (get_or orders (passed - 1) (record { cycle = 0; agents = declared })).agents
+
+-- The variable has this owner.
+abbrev pub is_owned : ℕ → Option ℕ → Bool
+is_owned agent None = false
+is_owned agent (Some owner) = owner == agent
+
+-- The figure of an agent whose action with this deadline finished at a cycle or was stopped there
+abbrev pub figured : ℕ → ℕ → ℕ → ℕ → Figure → Figure
+figured until quantum deadline finish figure =
+    if nat_le deadline until then record { count = figure.count + 1; slack = lesser (deadline * quantum - finish) figure.slack } else figure
+
+-- An action that ends at a point from a date: the point is one of the agent's, and its clock reaches so far.
+pub record MayEnd (timing : Timing) (start point : ℕ) : Type 0 where
+  pub known : point < length timing.points
+  pub clock : (point_at timing point).clock < length timing.clocks
+  pub lawful : IsClock (clock_at timing (point_at timing point).clock)
+  pub some : 1 ≤ (point_at timing point).count
+  pub few : (point_at timing point).count ≤ ADVANCE
+  pub early : start ≤ 2 ^ 40
+
+-- What an agent has, with its seat and the copies that are kept of what it owns
+pub record OneStands (s : System) (code : Code) (turns : List (Option Turn)) (until date agent : ℕ) (actions : List Action) (charge : Charged) (machine : AgentMachine) (waits : Option ℕ) (figure : Figure) (seat : Seat) (ended : List ℤ) : Type 0 where
+  pub stands : AgentStands s code turns until agent actions charge machine waits figure
+  pub seated : SeatStands date turns actions seat
+  pub kept : (variable : ℕ) (value : ℤ) → slice_get ended variable ≡ Some value → (variable_of s variable).owner ≡ Some agent → KeepsCopy date turns variable actions value
+
+-- The next cycle goes to the last of an agent's actions, which is pending and due after this date.
+pub record GetsCycle (s : System) (code : Code) (turns : List (Option Turn)) (until date cycle agent : ℕ) (r : Action) (before : List Action) : Type 0 where
+  pub of_code : IsOfCode s code r
+  pub agent_is : r.agent ≡ agent
+  pub pending : is_pending turns r ≡ true
+  pub numbers : All (λ (q : Action). q.number < r.number) before
+  pub few : length before ≤ until
+  pub later : date < r.deadline
+  pub at : length turns ≡ cycle
+  pub within : cycle < r.deadline * s.unit.quantum
+  pub run : cycle < until * s.unit.quantum
+  pub most : until ≤ 4294967295
+  pub quantum : s.unit.quantum ≤ QUANTUM
+  pub ends : (point end : ℕ) → r.verdict ≡ Done point end → (end ≡ end_date (timing s agent) r.start point) × MayEnd (timing s agent) r.start point
+
+-- The same in the run of a plan with these inputs and stalls, and what the agent has before the cycle
+pub record IsGiven (plan : Plan) (inputs : List (List ℤ)) (stalls : ℕ → List Stall) (turns : List (Option Turn)) (date cycle agent : ℕ) (r : Action) (before : List Action) (charge : Charged) (machine : AgentMachine) (waits : Option ℕ) (figure : Figure) (seat : Seat) (ended : List ℤ) : Type 0 where
+  pub gets : GetsCycle (system_of plan inputs stalls) plan.code turns plan.until date cycle agent r before
+  pub has : OneStands (system_of plan inputs stalls) plan.code turns plan.until date agent (r ∷ before) charge machine waits figure seat ended
+
+-- The actions before an agent's last one are finished or stopped.
+abbrev pub AreOver : List (Option Turn) → List Action → Type 0
+AreOver turns [] = ⊤
+AreOver turns (r ∷ before) = All (λ q. is_pending turns q ≡ false) before
+
+-- In the run of a plan, a cycle between a date and the next one
+pub record IsCycleOf (plan : Plan) (inputs : List (List ℤ)) (script : Script) (date cycle : ℕ) : Type 0 where
+  pub of_plan : IsPlan plan
+  pub of_inputs : AreInputs plan.unit inputs
+  pub of_script : IsScript plan.unit script
+  pub before : date < plan.until
+  pub most : plan.until ≤ 4294967295
+  pub low : date * plan.unit.quantum ≤ cycle
+  pub high : cycle < (date + 1) * plan.unit.quantum
+
+-- The history of a run
+abbrev pub run_of : Plan → List (List ℤ) → Script → System
+run_of plan inputs script = system_of plan inputs (stalls_of script)
+
+-- What its first so many cycles went to
+abbrev pub run_turns : Plan → List (List ℤ) → Script → ℕ → List (Option Turn)
+run_turns plan inputs script cycles = turns_of (run_of plan inputs script) (order_of plan.unit script) cycles
