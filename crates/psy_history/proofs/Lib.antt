@@ -4,6 +4,7 @@ mod CodeHistories
 mod Cuts
 mod Deadlines
 mod Edges
+mod Finishes
 mod FunctionLooks
 mod Given
 mod Growth

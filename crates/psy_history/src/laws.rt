@@ -8,7 +8,7 @@ ghost use Rattle.psy_tree.specs.declared.unit.Unit.{Unit as Whole};
 ghost use Rattle.psy_meaning.specs.Actions.{Action, System};
 ghost use Rattle.psy_meaning.specs.History.{history};
 ghost use Rattle.psy_meaning.specs.Lines.{events};
-ghost use Rattle.psy_meaning.specs.Schedule.{units, work};
+ghost use Rattle.psy_meaning.specs.Schedule.{finish, units, work};
 ghost use Rattle.psy_meaning.specs.Summary.{due_by, most_held, reach, slack};
 ghost use Rattle.psy_history.specs.Compiled.{AreInputs, IsBuilt, IsCompiled, coded, stated};
 ghost use Rattle.psy_history.specs.Likeness.{AreLike};
@@ -67,8 +67,9 @@ pub fn given()
 {}
 
 /// Where the processor can supply the demand up to a date, each action that is due by then is finished, or stopped, by its deadline
-/// (Baruah, Rosier, Howell 1990); so of an agent's actions the last alone is pending.
+/// (Baruah, Rosier, Howell 1990): the cycle behind its last one is no later. So of an agent's actions the last alone is pending.
 pub fn on_time()
     ensures due { (s : System) (order : ℕ → List ℕ) (until date agent : ℕ) (r : Action) → IsSupplied s order until → date ≤ until → Contains (history s date agent) r → r.deadline ≤ date → IsFinished s order (date * s.unit.quantum) r }
+    ensures finishes { (s : System) (order : ℕ → List ℕ) (until cycles agent : ℕ) (r : Action) → IsSupplied s order until → until * s.unit.quantum ≤ cycles → Contains (history s until agent) r → r.deadline ≤ until → finish r.agent r.number (turns_of s order cycles) ≤ r.deadline * s.unit.quantum }
     ensures earlier { (s : System) (order : ℕ → List ℕ) (until date cycles agent : ℕ) (r : Action) (before : List Action) → IsSupplied s order until → date ≤ until → date * s.unit.quantum ≤ cycles → history s (date + 1) agent ≡ r ∷ before → All (IsFinished s order cycles) before }
 {}

@@ -1,11 +1,9 @@
 -- All agents at a date.
-use Rattle.std.proofs.Common.{◌≡◌, ℤ, ℕ, zero, suc, ◌+◌, ◌*◌, ◌^◌, ◌<◌, ◌≤◌, ◌==◌, Bool, true, false, nat_le, if◌then◌else◌, List, [], ◌∷◌, length, get_or, Option, Some, None, refl, sym, subst, ◌∙◌, inl, inr, arith}
-use Rattle.std.specs.List.{All, Contains, range_with_len, slice_get}
+use Rattle.std.proofs.Common.{◌≡◌, ℤ, ℕ, zero, suc, ◌+◌, ◌*◌, ◌^◌, ◌<◌, ◌≤◌, ◌==◌, Bool, true, false, if◌then◌else◌, List, [], length, get_or, Option, Some, None, refl, sym, subst, ◌∙◌, inl, inr, arith}
+use Rattle.std.specs.List.{Contains, slice_get}
 use Rattle.std.proofs.lemmas.Bool.{cases_lt, eqb-false, eqb-true, eq-eqb, ne_eqb}
 use Rattle.std.proofs.lemmas.Option.{slice_get-get_or, slice_get_within}
 use Rattle.std.proofs.lemmas.List.{get_or_past}
-use Rattle.std.proofs.lemmas.List.Elements.{All-head, All-tail}
-use Rattle.std.proofs.lemmas.List.FromFn.{get_or-range_with_len, length-range_with_len}
 use Rattle.psy_budget.specs.declared.charge.Stall.{Stall}
 use Rattle.psy_budget.specs.Charges.{Charged}
 use Rattle.psy_code.specs.declared.code.Code.{Code}
@@ -20,11 +18,8 @@ use Rattle.psy_history.specs.Regular.{IsLawful}
 use Rattle.psy_dates.specs.declared.seat.Seat.{Seat}
 use Rattle.psy_dates.specs.Standing.{SeatStands}
 use Rattle.psy_kernel.specs.declared.kernel.Figure.{Figure}
-use Rattle.psy_kernel.specs.declared.script.Order.{Order}
-use Rattle.psy_kernel.specs.declared.script.Script.{Script}
 use Rattle.psy_kernel.specs.declared.stage.Stage.TheVariants.{DateDue, CycleDue, Over}
 use Rattle.psy_kernel.specs.Progress.{Progress, stage_of}
-use Rattle.psy_kernel.specs.Scripts.{IsOrder, IsScript, in_force, order_of}
 use Rattle.psy_kernel.specs.Standing.{AgentStands, InTick}
 use Rattle.psy_kernel.specs.Starting.{IsDoneBelow, charge_at, deadline_at, seat_at, starts_at}
 use Rattle.psy_kernel.proofs.Started.{agent_after, free_where}

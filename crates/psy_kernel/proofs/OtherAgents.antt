@@ -9,7 +9,6 @@ use Rattle.psy_code.specs.declared.code.Code.{Code}
 use Rattle.psy_code.specs.Execution.{RunState, Running, run_code}
 use Rattle.psy_history.specs.Regular.{begun_by}
 use Rattle.psy_dates.specs.declared.seat.Seat.{Seat}
-use Rattle.psy_dates.specs.declared.seat.Phase.TheVariants as phase
 use Rattle.psy_dates.specs.Standing.{KeepsCopy, SeatStands, phase_by, phase_of}
 use Rattle.psy_machine.specs.Stepping.{AgentMachine}
 use Rattle.psy_meaning.specs.Actions.{Action, System, is_done, is_silent}

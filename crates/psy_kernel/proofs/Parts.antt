@@ -15,7 +15,7 @@ use Rattle.psy_history.specs.Regular.{AreRegular, IsLawful, IsRegular}
 use Rattle.psy_machine.specs.Stepping.{AgentMachine}
 use Rattle.psy_meaning.specs.Actions.{Action, System, variable_of}
 use Rattle.psy_meaning.specs.History.{history}
-use Rattle.psy_meaning.specs.Schedule.{Turn, is_pending, pending, soonest}
+use Rattle.psy_meaning.specs.Schedule.{Turn, pending, soonest}
 use Rattle.psy_ready.specs.Choice.{IsPick, pending_deadline}
 use Rattle.psy_tree.specs.declared.unit.VarDecl.{VarDecl}
 use Rattle.psy_kernel.specs.Cycles.{AreOver, OneStands}

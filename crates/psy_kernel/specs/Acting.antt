@@ -1,11 +1,11 @@
 -- What a cycle does to the charge and the machine of the action that gets it.
-use Rattle.std.specs.Prelude.{◌≡◌, ℕ, suc, ◌+◌, ◌<◌, List, Some, IsSome, slice_get}
-use Rattle.psy_budget.specs.Charges.{Charged, stalled}
+use Rattle.std.specs.Prelude.{◌≡◌, ℕ, suc, ◌<◌, Some, IsSome, slice_get}
+use Rattle.psy_budget.specs.Charges.{Charged}
 use Rattle.psy_code.specs.declared.code.Code.{Code}
 use Rattle.psy_code.specs.Execution.{copy_of, run_code}
 use Rattle.psy_machine.specs.Stepping.{AgentMachine}
 use Rattle.psy_tree.specs.declared.unit.VarDecl.{VarDecl}
-use Rattle.psy_meaning.specs.Actions.{Action, System, Verdict, Done, Trapped, Overran, charge_of, timing, verdict_of}
+use Rattle.psy_meaning.specs.Actions.{Action, System, Done, Trapped, Overran, charge_of, timing, verdict_of}
 use Rattle.psy_meaning.specs.Executors.{Acted, acted_as, agent_code_at, machine_at}
 use Rattle.psy_meaning.specs.Schedule.{work}
 use Rattle.psy_history.specs.Regular.{RunsAlone, begun_by}

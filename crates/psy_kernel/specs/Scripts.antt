@@ -8,6 +8,7 @@ use Rattle.psy_ready.specs.Choice.{ListsEach}
 use Rattle.psy_tree.specs.declared.unit.Unit.{Unit as Whole}
 use Rattle.psy_kernel.specs.declared.script.Order.{Order}
 use Rattle.psy_kernel.specs.declared.script.Script.{Script}
+use Rattle.psy_kernel.specs.declared.script.TheConstants.{STALL}
 
 -- One stall stands before another: by agent, then by action, then by instruction.
 abbrev pub StallBefore : Stall → Stall → Type 0
@@ -16,10 +17,10 @@ StallBefore s t = (s.agent < t.agent) ⊎ ((s.agent ≡ t.agent) × IsBelow t.ac
 -- A stall of an agent, with numbers that a line of a script can state
 pub record IsStall (unit : Whole) (s : Stall) : Type 0 where
   pub agent : s.agent < length unit.agents
-  pub action : s.action ≤ 1000000
-  pub instr : s.instr ≤ 1000000
+  pub action : s.action ≤ STALL
+  pub instr : s.instr ≤ STALL
   pub some : 1 ≤ s.cycles
-  pub most : s.cycles ≤ 1000000
+  pub most : s.cycles ≤ STALL
 
 -- An order of all agents, from a cycle on that a line of a script can state
 pub record IsOrder (unit : Whole) (o : Order) : Type 0 where

@@ -1,16 +1,15 @@
 -- When a kernel stands for the dated history and the schedule.
 use Rattle.std.specs.Prelude.{◌≡◌, ℕ, zero, suc, ◌+◌, ◌-◌, ◌*◌, ◌<◌, ◌≤◌, Bool, true, false, not, if◌then◌else◌, List, [], ◌∷◌, ◌++◌, filter, length, take, Option, Some, None, slice_get, ⊤}
-use Rattle.std.specs.List.{All, flat_map, range_with_len}
+use Rattle.std.specs.List.{flat_map, range_with_len}
 use Rattle.psy_budget.specs.Charges.{Charged, ticked}
-use Rattle.psy_code.specs.declared.code.AgentCode.{AgentCode}
 use Rattle.psy_code.specs.declared.code.Code.{Code}
 use Rattle.psy_code.specs.Execution.{RunState, Running, run_code}
 use Rattle.psy_machine.specs.Stepping.{AgentMachine, IsNew, IsOf}
 use Rattle.psy_ready.specs.Choice.{IsPick, pending_deadline}
-use Rattle.psy_meaning.specs.Actions.{Action, History, System, Verdict, Done}
+use Rattle.psy_meaning.specs.Actions.{Action, System, Verdict, Done}
 use Rattle.psy_meaning.specs.Executors.{agent_code_at, machine_at}
 use Rattle.psy_meaning.specs.History.{history}
-use Rattle.psy_meaning.specs.Lines.{Event, events_in, publications, stops_of}
+use Rattle.psy_meaning.specs.Lines.{Event, publications, stops_of}
 use Rattle.psy_meaning.specs.Schedule.{Turn, is_pending, units}
 use Rattle.psy_meaning.specs.Summary.{due_by, slack}
 use Rattle.psy_history.specs.Compiled.{AreInputs}

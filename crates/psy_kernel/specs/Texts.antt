@@ -1,9 +1,8 @@
 -- The text of a run: its lines date by date, and the summary.
-use Rattle.std.specs.Prelude.{ℕ, ◌+◌, ◌*◌, List, [], ◌∷◌, ◌++◌, map, length, get_or, Option, Some, None}
+use Rattle.std.specs.Prelude.{ℕ, ◌+◌, ◌*◌, List, ◌∷◌, ◌++◌, map, length, get_or, Option, Some, None}
 use Rattle.std.specs.List.{flat_map, range_with_len}
 use Rattle.psy_log.specs.Forms.{stop_overrun_line, stop_trap_line, value_line, message_line, end_line, agent_line, variable_line, stream_line}
-use Rattle.psy_tree.specs.declared.unit.Unit.{Unit as Whole}
-use Rattle.psy_meaning.specs.Actions.{History, System, stream_of, variable_of}
+use Rattle.psy_meaning.specs.Actions.{System, stream_of, variable_of}
 use Rattle.psy_meaning.specs.Executors.{agent_at}
 use Rattle.psy_meaning.specs.History.{history}
 use Rattle.psy_meaning.specs.Lines.{Event, Stop, Publish, Show, events}

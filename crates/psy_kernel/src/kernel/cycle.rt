@@ -26,9 +26,9 @@ use crate::stage::Stage;
 use psy_arith::Trap;
 use psy_budget::Charge;
 use psy_dates::{Phase, Plan, Seat};
-use psy_meaning::laws::{follows, sound};
 use psy_history::laws::{on_time, regular};
 use psy_machine::Machine;
+use psy_meaning::laws::{follows, sound};
 use psy_ready::Ready;
 use psy_tree::{Unit, VarDecl};
 

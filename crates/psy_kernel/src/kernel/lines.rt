@@ -121,7 +121,8 @@ fn last_date(plan: &Plan) -> u32
 }
 
 impl Kernel {
-    /// The next line of the date done last; false exactly where all were given, and then nothing changes. It takes no memory.
+    /// The line of the date done last that comes next, as long as there is one; false, with nothing changed, once there is none. It
+    /// takes no memory.
     pub fn next_line(&mut self, line: &mut Line) -> bool
         ensures some { IsTrue result → (slice_get (lines_told self.old) self.old.given ≡ Some line.new) × (self.new ≡ after_line self.old) }
         ensures none { IsFalse result → (self.old.given ≡ length (lines_told self.old)) × (self.new ≡ self.old) × (line.new ≡ line.old) }

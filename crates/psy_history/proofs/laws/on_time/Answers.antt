@@ -1,8 +1,12 @@
+use Rattle.psy_history.proofs.Finishes.{finishes_in_time}
 use Rattle.psy_history.proofs.KeptDates.{due_finished, earlier_finished}
 use Rattle.psy_history.proofs.laws.on_time.Goals as goal
 
 pub returns-clause-due : goal.returns-clause-due
 returns-clause-due c s order until date agent r supplied early there due = due_finished s order until supplied date agent r early there due
+
+pub returns-clause-finishes : goal.returns-clause-finishes
+returns-clause-finishes c s order until cycles agent r supplied far there due = finishes_in_time s order until cycles agent r supplied far there due
 
 pub returns-clause-earlier : goal.returns-clause-earlier
 returns-clause-earlier c s order until date cycles agent r before supplied early far last = earlier_finished s order until supplied date cycles agent r before early far last

@@ -1,0 +1,73 @@
+-- An action that is due by a date finished no later than its deadline.
+use Rattle.std.proofs.Common.{◌≡◌, ℕ, zero, suc, ◌*◌, ◌≤◌, List, [], ◌∷◌, length, refl, sym, ap, ◌∙◌, subst, inl, inr, arith}
+use Rattle.std.specs.Prelude.{false, Option, Some}
+use Rattle.std.specs.List.{Contains}
+use Rattle.std.proofs.lemmas.Bool.{cases_Bool, ltb-false}
+use Rattle.std.proofs.lemmas.List.Elements.{All-contains}
+use Rattle.std.proofs.lemmas.Nat.{mul-le}
+use Rattle.std.proofs.lemmas.Option.{same_Some}
+use Rattle.psy_meaning.specs.Actions.{Action, Next, System, next_of}
+use Rattle.psy_meaning.specs.History.{action_of, history}
+use Rattle.psy_meaning.specs.Schedule.{Turn, finish, is_of, units, work}
+use Rattle.psy_history.specs.Regular.{IsLawful, IsRegular}
+use Rattle.psy_history.specs.Scheduled.{IsFinished, IsSupplied, turns_of}
+use Rattle.psy_history.proofs.Growth.{at_each_date, grown, kept_on, stays_started}
+use Rattle.psy_history.proofs.KeptDates.{due_finished}
+use Rattle.psy_history.proofs.Members.{contains_none, front_or_behind, contains_front}
+use Rattle.psy_history.proofs.Turns.{next_is_pending, next_turn}
+
+-- ---- a finish
+
+finish_most : (agent number : ℕ) (turns : List (Option Turn)) → finish agent number turns ≤ length turns
+finish_most agent number [] = omega arith
+finish_most agent number (turn ∷ turns) = elim (cases_Bool (is_of agent number turn)) [
+  | inl t ↦ rw t (omega arith)
+  | inr f ↦ (let rest = finish_most agent number turns in rw f (omega (arith, rest)))
+]
+
+as_many : (s : System) (order : ℕ → List ℕ) (cycles : ℕ) → length (turns_of s order cycles) ≡ cycles
+as_many s order zero = refl
+as_many s order (suc cycles) = ap suc (as_many s order cycles)
+
+-- ---- an action that was started is there from its start on
+
+started_by : (s : System) (dates agent : ℕ) (r : Action) → Contains (history s dates agent) r → Contains (history s (suc r.start) agent) r
+started_by s = at_each_date s (λ date agent actions. (r : Action) → Contains actions r → Contains (history s (suc r.start) agent) r) (λ agent r c. absurd (contains_none r c)) (λ date agent actions h. h) (λ date agent n before next at r c.
+    elim (front_or_behind (action_of s (history s date) agent n) (history s date agent) r c) [
+      | inl is ↦ subst (λ (q : Action). Contains (history s (suc q.start) agent) q) is (subst (λ d. Contains (history s (suc d) agent) (action_of s (history s date) agent n)) (sym at) (first date agent n next at))
+      | inr behind ↦ before agent r behind
+    ])
+  where
+    first : (date agent : ℕ) (n : Next) → next_of s agent (history s date agent) ≡ Some n → n.start ≡ date → Contains (history s (suc date) agent) (action_of s (history s date) agent n)
+    first date agent n next at = elim (grown s date agent) [
+      | inl (is, other) ↦ absurd (other n next at)
+      | inr (m, next', at', is) ↦ subst (λ xs. Contains xs (action_of s (history s date) agent n)) (sym is) (subst (λ k. Contains (action_of s (history s date) agent k ∷ history s date agent) (action_of s (history s date) agent n)) (same_Some n m (sym next ∙ next')) (contains_front (action_of s (history s date) agent n) (history s date agent)))
+    ]
+
+-- ---- an action that is finished keeps its finish
+
+module _ (s : System) (order : ℕ → List ℕ) (lawful : IsLawful s) (dates agent : ℕ) (r : Action) (there : Contains (history s dates agent) r) where
+  another : (cycles : ℕ) → IsFinished s order cycles r → is_of r.agent r.number (next_turn s order cycles) ≡ false
+  another cycles finished = elim (cases_Bool (is_of r.agent r.number (next_turn s order cycles))) [
+    | inl t ↦ (
+        let fewer = next_is_pending s (λ a n e. (lawful.opening a n e).2) order cycles dates agent r there t in
+        let all = ltb-false (units r.agent r.number (turns_of s order cycles)) (work r) finished in
+        absurd (omega (arith, fewer, all))
+        )
+    | inr f ↦ f
+  ]
+
+  finish_kept : (cycles more : ℕ) → cycles ≤ more → IsFinished s order cycles r → IsFinished s order more r × (finish r.agent r.number (turns_of s order more) ≡ finish r.agent r.number (turns_of s order cycles))
+  finish_kept cycles more later finished =
+      kept_on (λ n. IsFinished s order n r × (finish r.agent r.number (turns_of s order n) ≡ finish r.agent r.number (turns_of s order cycles)))
+      (λ n h. let other = another n h.0 in (rw other h.0, rw other h.1)) cycles more later (finished, refl)
+
+pub finishes_in_time : (s : System) (order : ℕ → List ℕ) (until cycles agent : ℕ) (r : Action) → IsSupplied s order until → until * s.unit.quantum ≤ cycles → Contains (history s until agent) r → r.deadline ≤ until → finish r.agent r.number (turns_of s order cycles) ≤ r.deadline * s.unit.quantum
+finishes_in_time s order until cycles agent r supplied far there due =
+    let its : IsRegular s agent r = All-contains (IsRegular s agent) (history s until agent) r (supplied.lawful.actions until agent).each there in
+    let begun = stays_started s (suc r.start) r.deadline agent r its.due (started_by s until agent r there) in
+    let finished = due_finished s order until supplied r.deadline agent r due begun (omega arith) in
+    let early = mul-le r.deadline s.unit.quantum until s.unit.quantum due (omega arith) in
+    let kept = (finish_kept s order supplied.lawful until agent r there (r.deadline * s.unit.quantum) cycles (omega (arith, early, far)) finished).1 in
+    let most = finish_most r.agent r.number (turns_of s order (r.deadline * s.unit.quantum)) in
+    omega (arith, kept, most, as_many s order (r.deadline * s.unit.quantum))
