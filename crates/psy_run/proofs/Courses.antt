@@ -39,9 +39,9 @@ pub halts_last : {X Y Z : Type 0} (c : Course X) (f : X → Course Y) (failed : 
 halts_last c f failed before after x (Ok z) gives halts = tt
 halts_last c f failed before after x (Err stop) gives halts = halts_later c f failed before after x stop gives halts
 
-pub gives_last : {X Y : Type 0} {E : Type 0} (c : Course X) (f : X → Course Y) (x : X) (result : Result Y E) → c.gives x → IfOk result (λ y. (f x).gives y) → IfOk result (λ y. (in_row c f).gives y)
-gives_last c f x (Ok y) first later = gives_then c f x y first later
-gives_last c f x (Err e) first later = tt
+pub gives_last : {X Y Z : Type 0} {E : Type 0} (c : Course X) (f : X → Course Y) (x : X) (h : Z → Y) (result : Result Z E) → c.gives x → IfOk result (λ z. (f x).gives (h z)) → IfOk result (λ z. (in_row c f).gives (h z))
+gives_last c f x h (Ok z) first later = gives_then c f x (h z) first later
+gives_last c f x h (Err e) first later = tt
 
 -- ---- one end
 

@@ -1,55 +1,73 @@
--- The text of a run grows with its dates.
-use Rattle.std.proofs.Common.{zero, suc, ◌≡◌, ◌∙◌, sym, ap, refl, ℕ, ◌+◌, ◌≤◌, List, [], ◌∷◌, ◌++◌, append_assoc, append-nil, arith, inl, inr, ◌*◌, ◌≢◌, length, Option, add-one}
+-- The text of a run grows line by line, and date by date.
+use Rattle.std.proofs.Common.{◌≡◌, ◌≢◌, ◌∙◌, sym, ap, subst, refl, ℕ, zero, suc, ◌+◌, ◌*◌, ◌<◌, ◌≤◌, List, [], ◌∷◌, ◌++◌, append_assoc, append-nil, length, get_or, slice_get, take, Some, Option, arith, inl, inr}
+use Rattle.std.specs.List.{flat_map, range_with_len}
 use Rattle.std.proofs.lemmas.Bool.Decides.{nat_tests}
-use Rattle.std.proofs.Math.Nat.{eq-or-lt_of_le}
 use Rattle.std.proofs.lemmas.Grind.{flat_map-append}
-use Rattle.psy_kernel.specs.declared.first.First.{First}
-use Rattle.psy_kernel.specs.declared.stage.Stage.TheVariants.{DateDue}
-use Rattle.psy_kernel.specs.Meaning.{below, published, due_by, least_slack}
-use Rattle.psy_kernel.specs.Standing.{Progress, stage_of, value_of, count_of, least_slack_of}
+use Rattle.std.proofs.lemmas.List.{take_all}
+use Rattle.std.proofs.lemmas.Option.{slice_get-get_or, slice_get_within, get_or_from_slice_get}
+use Rattle.std.proofs.Math.Nat.{eq-or-lt_of_le}
 use Rattle.psy_door.specs.Growth.{Grew, GrewByFront}
-use Rattle.psy_run.specs.Log.{lines_at, log_of}
+use Rattle.psy_kernel.specs.declared.stage.Stage.TheVariants.{DateDue}
+use Rattle.psy_kernel.specs.Progress.{Progress, lines_at, lines_told, stage_of, system}
+use Rattle.psy_kernel.specs.Texts.{lines_of, log_of, text_of}
+use Rattle.psy_meaning.specs.Actions.{System}
 use Rattle.psy_run.proofs.GrowthLemmas.{Grew-trans}
-use Rattle.psy_run.proofs.WritingLemmas.{GrewByFront-append, Grew-GrewByFront}
+use Rattle.psy_run.proofs.TextLemmas.{items_more, items_split}
+use Rattle.psy_run.proofs.WritingLemmas.{GrewByFront-append, Grew-GrewByFront, Grew-item, GrewByFront-item}
 
-log_of-suc : (program : First) (variable : List ℕ) (n : ℕ) → log_of program variable (suc n) ≡ log_of program variable n ++ lines_at program variable n
-log_of-suc program variable n = flat_map-append (lines_at program variable) (below n) (n ∷ []) ∙ ap (λ line. log_of program variable n ++ line) (append-nil (lines_at program variable n))
+-- ---- lines of one list
 
--- one date more
-pub log_of-next : (program : First) (variable : List ℕ) (n : ℕ) → log_of program variable (n + 1) ≡ log_of program variable n ++ lines_at program variable n
-log_of-next program variable n = let e : n + 1 ≡ suc n = omega arith in rw e (log_of-suc program variable n)
+-- one line more
+pub lines_more : (lines : List (List ℕ)) (n : ℕ) (line : List ℕ) → slice_get lines n ≡ Some line → text_of (take (n + 1) lines) ≡ text_of (take n lines) ++ line
+lines_more lines n line at =
+    let less = slice_get_within lines n line at in
+    items_more (λ l. l) lines n line less ∙ ap (λ l. text_of (take n lines) ++ l) (get_or_from_slice_get lines n line line at)
+
+pub Grew-line : (a b c : Option (List ℕ)) (lines : List (List ℕ)) (n : ℕ) (line : List ℕ) → slice_get lines n ≡ Some line → Grew a b (text_of (take n lines)) → Grew b c line → Grew a c (text_of (take (n + 1) lines))
+Grew-line a b c lines n line at first second = Grew-item a b c _ line _ (lines_more lines n line at) first second
+
+pub GrewByFront-line : (a b c : Option (List ℕ)) (lines : List (List ℕ)) (n : ℕ) (line : List ℕ) → slice_get lines n ≡ Some line → Grew a b (text_of (take n lines)) → GrewByFront b c line → GrewByFront a c (text_of lines)
+GrewByFront-line a b c lines n line at first second = GrewByFront-item a b c _ line _ _ _ (lines_more lines n line at) (items_split (λ l. l) lines (n + 1)) first second
+
+pub Grew-lines : (a b : Option (List ℕ)) (lines : List (List ℕ)) (n : ℕ) → length lines ≤ n → Grew a b (text_of (take n lines)) → Grew a b (text_of lines)
+Grew-lines a b lines n all grew = subst (λ ls. Grew a b (text_of ls)) (take_all n lines all) grew
+
+-- ---- dates
+
+range_more : (a n : ℕ) → range_with_len a (suc n) ≡ range_with_len a n ++ (a + n) ∷ []
+range_more a zero = let e : a ≡ a + 0 = omega arith in ap (λ m. m ∷ []) e
+range_more a (suc n) = let e : a + 1 + n ≡ a + suc n = omega arith in ap (λ rest. a ∷ rest) (range_more (a + 1) n ∙ ap (λ m. range_with_len (a + 1) n ++ m ∷ []) e)
+
+log-suc : (s : System) (n : ℕ) → log_of s (suc n) ≡ log_of s n ++ text_of (lines_of s n)
+log-suc s n =
+    let lines : ℕ → List ℕ = λ date. text_of (lines_of s date) in
+    let e : 0 + n ≡ n = omega arith in
+    ap (flat_map lines) (range_more 0 n) ∙ flat_map-append lines (range_with_len 0 n) ((0 + n) ∷ []) ∙ ap (λ text. log_of s n ++ text) (append-nil (lines (0 + n))) ∙ ap (λ m. log_of s n ++ lines m) e
+
+pub log-next : (s : System) (n : ℕ) → log_of s (n + 1) ≡ log_of s n ++ text_of (lines_of s n)
+log-next s n = let e : n + 1 ≡ suc n = omega arith in rw e (log-suc s n)
 
 -- the text of more dates begins with that of fewer
-pub log_of-more : (program : First) (variable : List ℕ) (dates n : ℕ) → dates ≤ n → (rest : List ℕ) × (log_of program variable n ≡ log_of program variable dates ++ rest)
-log_of-more program variable dates zero h = let none : dates ≡ 0 = omega arith in ([], rw none refl)
-log_of-more program variable dates (suc n) h = elim (eq-or-lt_of_le h) [
-  | inl eq ↦ ([], rw eq (sym (append-nil (log_of program variable (suc n)))))
+pub log-more : (s : System) (dates n : ℕ) → dates ≤ n → (rest : List ℕ) × (log_of s n ≡ log_of s dates ++ rest)
+log-more s dates zero h = let none : dates ≡ 0 = omega arith in ([], rw none refl)
+log-more s dates (suc n) h = elim (eq-or-lt_of_le h) [
+  | inl eq ↦ ([], rw eq (sym (append-nil (log_of s (suc n)))))
   | inr lt ↦
-      let before = log_of-more program variable dates n (omega arith) in
-      (before.0 ++ lines_at program variable n, log_of-suc program variable n ∙ ap (λ text. text ++ lines_at program variable n) before.1 ∙ append_assoc (log_of program variable dates) before.0 (lines_at program variable n))
+      let before = log-more s dates n (omega arith) in
+      (before.0 ++ text_of (lines_of s n), log-suc s n ∙ ap (λ text. text ++ text_of (lines_of s n)) before.1 ∙ append_assoc (log_of s dates) before.0 (text_of (lines_of s n)))
 ]
 
--- what is due where a date is
-pub stage-date : (progress : Progress) (date : ℕ) → stage_of progress ≡ DateDue date → (date ≡ progress.dates) × (progress.cycles ≡ progress.dates * progress.program.quantum) × (progress.dates ≢ progress.program.until + 1)
-stage-date progress date e = (grind (arith, nat_tests), grind (arith, nat_tests), grind (arith, nat_tests))
-
 -- one date more was written
-pub Grew-date : (a b c : Option (List ℕ)) (program : First) (variable : List ℕ) (date : ℕ) → Grew a b (log_of program variable date) → Grew b c (lines_at program variable date) → Grew a c (log_of program variable (date + 1))
-Grew-date a b c program variable date before line = rw log_of-next (Grew-trans a b c _ _ before line)
+pub Grew-date : (a b c : Option (List ℕ)) (s : System) (date : ℕ) → Grew a b (log_of s date) → Grew b c (text_of (lines_of s date)) → Grew a c (log_of s (date + 1))
+Grew-date a b c s date before lines = subst (Grew a c) (sym (log-next s date)) (Grew-trans a b c _ _ before lines)
 
 -- a write of a date's lines failed
-pub GrewByFront-date : (a b c : Option (List ℕ)) (program : First) (variable : List ℕ) (date n : ℕ) → date + 1 ≤ n → Grew a b (log_of program variable date) → GrewByFront b c (lines_at program variable date) → GrewByFront a c (log_of program variable n)
-GrewByFront-date a b c program variable date n h before line =
-    let more = log_of-more program variable (date + 1) n h in
-    rw (more.1) (GrewByFront-append a c (log_of program variable (date + 1)) more.0 (rw log_of-next (Grew-GrewByFront a b c _ _ before line)))
+pub GrewByFront-date : (a b c : Option (List ℕ)) (s : System) (date n : ℕ) → date + 1 ≤ n → Grew a b (log_of s date) → GrewByFront b c (text_of (lines_of s date)) → GrewByFront a c (log_of s n)
+GrewByFront-date a b c s date n h before lines =
+    let more = log-more s (date + 1) n h in
+    let here = subst (GrewByFront a c) (sym (log-next s date)) (Grew-GrewByFront a b c _ _ before lines) in
+    subst (GrewByFront a c) (sym more.1) (GrewByFront-append a c (log_of s (date + 1)) more.0 here)
 
--- what a kernel that is over counts
-pub count_of-over : (progress : Progress) (until : ℕ) → progress.dates ≡ until + 1 → count_of progress ≡ length (due_by progress.program until)
-count_of-over progress until e = ap (λ dates. count_of (record { program = progress.program; dates = dates; cycles = progress.cycles })) (e ∙ add-one until)
-
-pub least_slack_of-over : (progress : Progress) (until : ℕ) → progress.dates ≡ until + 1 → least_slack_of progress ≡ least_slack progress.program until
-least_slack_of-over progress until e = ap (λ dates. least_slack_of (record { program = progress.program; dates = dates; cycles = progress.cycles })) (e ∙ add-one until)
-
--- the value of a date that was just done
-pub value_of-done : (progress : Progress) (date : ℕ) → progress.dates ≡ date + 1 → value_of progress ≡ published progress.program date
-value_of-done progress date e = ap (λ dates. value_of (record { program = progress.program; dates = dates; cycles = progress.cycles })) (e ∙ add-one date)
+-- what is due where a date is
+pub stage-date : (p : Progress) (date : ℕ) → stage_of p ≡ DateDue date → (date ≡ p.dates) × (p.cycles ≡ p.dates * p.plan.unit.quantum) × (p.dates ≢ p.plan.until + 1)
+stage-date p date e = (grind (arith, nat_tests), grind (arith, nat_tests), grind (arith, nat_tests))

@@ -8,7 +8,7 @@ use Rattle.psy_tree.specs.declared.unit.Stmt.{Stmt, fold-roll-Stmt}
 use Rattle.psy_tree.specs.declared.unit.Stmt.TheOpen.{Stmt-F}
 use Rattle.psy_tree.specs.declared.unit.Stmt.TheVariants as stmt
 use Rattle.psy_meaning.specs.Paths.{one_of}
-use Rattle.psy_run.specs.Built.{expr_looks, expr_looks_step, stmt_looks, stmt_looks_step}
+use Rattle.psy_history.specs.Compiled.{expr_looks, expr_looks_step, stmt_looks, stmt_looks_step}
 
 -- one of the answers, and one of what they are asked of
 pub one_of-map : {X : Type 0} (test : X → Bool) (xs : List X) → one_of (map test xs) ≡ list_any test xs

@@ -10,13 +10,13 @@ use Rattle.psy_tree.specs.Grammar.{Spells}
 use Rattle.psy_tree.specs.Stands.{Stands}
 use Rattle.psy_tree.specs.Tokens.{TokensOf}
 use Rattle.psy_run.specs.declared.refusal.File.TheVariants as file
-use Rattle.psy_run.specs.declared.served.Served.TheVariants.{Ran, Checked, Drawn}
-use Rattle.psy_run.specs.Answer.{Answers, refused, served, answering, serving, compiling, supplying, running, checking, drawing, text_of}
+use Rattle.psy_run.specs.Answer.{Answers, refused, served, answering, serving, compiling, supplying, running, checking, drawing}
 use Rattle.psy_run.specs.Asked.{Command, Run, Check, Graph as Draw}
 use Rattle.psy_run.specs.Courses.{in_row, pure}
 use Rattle.psy_run.specs.Refusals.{status_of, line_of}
+use Rattle.psy_run.specs.Services.{Ran, Checked, Drawn, text_of}
 use Rattle.psy_run.proofs.Courses.{IsOne, one_then}
-use Rattle.psy_run.proofs.OneStep.{StepsAgree, one_asking, one_reading, one_lexing, one_parsing, one_resolving, one_graphing, one_costing, one_windowing, one_demanding, one_forming, one_building}
+use Rattle.psy_run.proofs.OneStep.{StepsAgree, one_asking, one_reading, one_lexing, one_parsing, one_resolving, one_graphing, one_costing, one_windowing, one_demanding, one_following, one_building}
 
 one_pure : {X : Type 0} (x : X) → IsOne (pure x)
 one_pure x = record {
@@ -46,9 +46,10 @@ module _ (agree : StepsAgree) (files : Files) where
 
   one_running : (name : List ℕ) (until : ℕ) → IsOne (running (Some files) name until)
   one_running name until = one_then _ _ (one_compiling name) (λ unit made.
-      one_then _ _ (one_forming unit until) (λ program formed.
+      one_then _ _ (one_building unit) (λ done built.
       one_then _ _ (one_supplying unit until (compiled agree.of_text (Some files) name unit made)) (λ graphs supplied.
-      one_pure (Ran program))))
+      one_then _ _ (one_following agree unit) (λ nexts follow.
+      one_pure (Ran unit nexts until)))))
 
   one_checking : (name : List ℕ) (until : ℕ) → IsOne (checking (Some files) name until)
   one_checking name until = one_then _ _ (one_compiling name) (λ unit made.

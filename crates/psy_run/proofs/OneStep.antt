@@ -20,20 +20,20 @@ use Rattle.psy_tree.specs.Tokens.{TokensOf}
 use Rattle.psy_flow.specs.Agents.{IsAgentOf}
 use Rattle.psy_meaning.specs.Demand.{IsOverload}
 use Rattle.psy_meaning.specs.Flow.{IsCut, HasCost}
+use Rattle.psy_meaning.specs.Timing.{Timing, timing_of}
 use Rattle.psy_meaning.specs.Units.{IsOfText}
 use Rattle.psy_meaning.proofs.Demands.{feasible-no-overload, overload-one}
 use Rattle.psy_graph.specs.declared.fault.GraphFault.{GraphFault}
 use Rattle.psy_graph.specs.declared.fault.GraphFault.TheVariants as fault
 use Rattle.psy_graph.specs.declared.graph.Graph.{Graph}
-use Rattle.psy_graph.specs.Graphs.{AreGraphs, IsCause}
+use Rattle.psy_graph.specs.Graphs.{AreGraphs, IsCause, IsTimingOf}
 use Rattle.psy_run.specs.declared.refusal.File.{File}
 use Rattle.psy_run.specs.declared.refusal.Refusal.{Refusal}
 use Rattle.psy_run.specs.declared.refusal.Refusal.TheVariants.{Words, TooLong, Lexical, Syntax, Deep, Rule, Many, NotBuilt, Nodes, Edges, Cells, Infeasible}
-use Rattle.psy_run.specs.Answer.{forming, building}
+use Rattle.psy_run.specs.Answer.{following, building}
 use Rattle.psy_run.specs.Asked.{Command, Run, Check, Graph as Draw, Asks, asks_run, asks_check, asks_graph}
 use Rattle.psy_run.specs.Steps.{asking, reading, lexing, IsLexical, parsing, IsUnparsed, resolving, IsUnlawful, graphing, IsUndrawn, costing, AreCosts, windowing, HasCells, demanding, IsOverloaded, edges_of}
 use Rattle.psy_run.proofs.Courses.{IsOne}
-use Rattle.psy_run.proofs.OneForm.{IsForm-unique}
 
 -- What the laws of the steps say of one end.
 pub record StepsAgree : Type 0 where
@@ -53,6 +53,7 @@ pub record StepsAgree : Type 0 where
   pub graphs : (unit : Whole) (graphs others : List Graph) → IsOfText unit → AreGraphs unit graphs → AreGraphs unit others → graphs ≡ others
   pub graphs_or_cause : (unit : Whole) (graphs : List Graph) (fault : GraphFault) → IsOfText unit → AreGraphs unit graphs → IsCause unit fault → ⊥
   pub cause : (unit : Whole) (fault other : GraphFault) → IsOfText unit → IsCause unit fault → IsCause unit other → fault ≡ other
+  pub timing : (unit : Whole) (number : ℕ) (timing other : Timing) → IsTimingOf unit number timing → IsTimingOf unit number other → timing ≡ other
   pub cost : (unit : Whole) (number : ℕ) (agent : AgentDecl) (point cost other : ℕ) → IsAgentOf unit number agent → IsCut (HasCost unit.functions agent point) COST cost → IsCut (HasCost unit.functions agent point) COST other → cost ≡ other
 
 -- ---- lists
@@ -257,6 +258,18 @@ module _ (agree : StepsAgree) where
     apart = λ x r p q. q;
   }
 
+  -- ---- the points that follow
+
+  pub one_following : (unit : Whole) → IsOne (following unit)
+  one_following unit = record {
+    gift = λ x y p q. same_list x y (p.count ∙ sym q.count) (λ number list other at at'.
+        let (agent, its) = there unit.agents x number list (sym p.count) at in
+        let one = agree.timing unit number (timing_of unit agent list) (timing_of unit agent other) (agent, list, its, p.each number agent list its at, refl) (agent, other, its, q.each number agent other its at', refl) in
+        ap (λ (t : Timing). t.nexts) one);
+    stop = λ r s p q. absurd p;
+    apart = λ x r p q. q;
+  }
+
 -- ---- its demand
 
 pub one_windowing : (graphs : List Graph) (until : ℕ) → IsOne (windowing graphs until)
@@ -281,13 +294,6 @@ one_demanding unit graphs until = record {
 }
 
 -- ---- what is built so far
-
-pub one_forming : (unit : Whole) (until : ℕ) → IsOne (forming unit until)
-one_forming unit until = record {
-  gift = λ x y p q. IsForm-unique unit until x y p q;
-  stop = λ r s p q. p.0 ∙ sym q.0;
-  apart = λ x r p q. q.1 x p;
-}
 
 pub one_building : (unit : Whole) → IsOne (building unit)
 one_building unit = record {

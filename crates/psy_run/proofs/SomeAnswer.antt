@@ -4,15 +4,14 @@ use Rattle.psy_door.specs.Files.{Files}
 use Rattle.psy_meaning.specs.Units.{IsOfText}
 use Rattle.psy_tree.specs.declared.unit.Unit.{Unit as Whole}
 use Rattle.psy_run.specs.declared.refusal.File.TheVariants as file
-use Rattle.psy_run.specs.declared.served.Served.TheVariants.{Ran, Checked, Drawn}
-use Rattle.psy_run.specs.Answer.{Answers, refused, served, answering, serving, compiling, supplying, running, checking, drawing, text_of}
+use Rattle.psy_run.specs.Answer.{Answers, refused, served, answering, serving, compiling, supplying, running, checking, drawing}
 use Rattle.psy_run.specs.Asked.{Command, Run, Check, Graph as Draw}
 use Rattle.psy_run.specs.Courses.{pure}
 use Rattle.psy_run.specs.Refusals.{status_of, line_of}
+use Rattle.psy_run.specs.Services.{Ran, Checked, Drawn, text_of}
 use Rattle.psy_run.proofs.Courses.{IsSome, some_then}
 use Rattle.psy_run.proofs.OneAnswer.{compiled}
-use Rattle.psy_run.proofs.SomeForm.{some_forming}
-use Rattle.psy_run.proofs.SomeStep.{StepsEnd, some_asking, some_reading, some_lexing, some_parsing, some_resolving, some_graphing, some_costing, some_windowing, some_demanding, some_building}
+use Rattle.psy_run.proofs.SomeStep.{StepsEnd, some_asking, some_reading, some_lexing, some_parsing, some_resolving, some_graphing, some_costing, some_windowing, some_demanding, some_building, some_following}
 
 some_pure : {X : Type 0} (x : X) → IsSome (pure x)
 some_pure x = inl (x, refl)
@@ -32,9 +31,10 @@ module _ (ends : StepsEnd) (files : Files) where
 
   some_running : (name : List ℕ) (until : ℕ) → IsSome (running (Some files) name until)
   some_running name until = some_then _ _ (some_compiling name) (λ unit made.
-      some_then _ _ (some_forming unit until) (λ program formed.
+      some_then _ _ (some_building unit) (λ done built.
       some_then _ _ (some_supplying unit until (compiled ends.of_text (Some files) name unit made)) (λ graphs supplied.
-      some_pure (Ran program))))
+      some_then _ _ (some_following ends unit (compiled ends.of_text (Some files) name unit made)) (λ nexts follow.
+      some_pure (Ran unit nexts until)))))
 
   some_checking : (name : List ℕ) (until : ℕ) → IsSome (checking (Some files) name until)
   some_checking name until = some_then _ _ (some_compiling name) (λ unit made.

@@ -24,7 +24,7 @@ use Rattle.psy_tree.specs.Rules.{LeastFault, NoFault}
 use Rattle.psy_tree.specs.Stands.{Stands, first_passed}
 use Rattle.psy_tree.specs.Tokens.{TokensOf}
 use Rattle.psy_flow.specs.Agents.{IsAgentOf}
-use Rattle.psy_meaning.specs.Flow.{IsCut, HasCost}
+use Rattle.psy_meaning.specs.Flow.{AreNexts, IsCut, HasCost}
 use Rattle.psy_meaning.specs.Units.{IsOfText}
 use Rattle.psy_meaning.proofs.Demands.{demand-some, feasible-or-overload}
 use Rattle.psy_window.specs.declared.span.Span.{Span}
@@ -37,9 +37,9 @@ use Rattle.psy_graph.specs.Graphs.{AreGraphs, IsCause}
 use Rattle.psy_run.specs.declared.refusal.File.{File}
 use Rattle.psy_run.specs.declared.refusal.Refusal.{Refusal}
 use Rattle.psy_run.specs.declared.refusal.Refusal.TheVariants.{Words, TooLong, Lexical, Syntax, Deep, Rule, Many, NotBuilt, Nodes, Edges, Cells, Infeasible}
-use Rattle.psy_run.specs.Answer.{building}
+use Rattle.psy_run.specs.Answer.{building, following}
 use Rattle.psy_run.specs.Asked.{IsDate, Command, Run, Check, Graph as Draw, Asks, asks_run, asks_check, asks_graph}
-use Rattle.psy_run.specs.Built.{agent_looks}
+use Rattle.psy_history.specs.Compiled.{agent_looks}
 use Rattle.psy_run.specs.Steps.{asking, reading, lexing, parsing, resolving, graphing, IsUndrawn, costing, AreCosts, windowing, HasCells, PassesCells, demanding, edges_of}
 use Rattle.psy_run.proofs.Courses.{IsSome}
 use Rattle.psy_run.proofs.Decisions.{Decided, both, alike, decided_most, decided_each, decided_none, decided_false, all_or_any, list_of}
@@ -55,6 +55,7 @@ pub record StepsEnd : Type 0 where
   pub graphs_or_cause : (unit : Whole) → IsOfText unit → ((graphs : List Graph) × AreGraphs unit graphs) ⊎ ((fault : GraphFault) × IsCause unit fault)
   pub edges : (unit : Whole) (graphs : List Graph) → IsOfText unit → AreGraphs unit graphs → All (λ graph. All (IsEdge (length graph.nodes)) graph.edges) graphs
   pub cost : (unit : Whole) (number : ℕ) (agent : AgentDecl) (point : ℕ) → IsAgentOf unit number agent → point < length agent.points → (cost : ℕ) × IsCut (HasCost unit.functions agent point) COST cost
+  pub next : (unit : Whole) (number : ℕ) (agent : AgentDecl) → IsAgentOf unit number agent → (nexts : List (List ℕ)) × AreNexts unit.functions agent nexts
   pub greatest : (graph : List Edge) (nodes : ℕ) (span : Span) (within : ℕ) → All (IsEdge nodes) graph → (n : ℕ) × IsGreatestWeight graph (Fits span within) n
 
 -- ---- words
@@ -211,6 +212,21 @@ module _ (ends : StepsEnd) where
   some_costing unit of =
       let (costs, long, each) = list_of (length unit.agents) (λ number list. (agent : AgentDecl) → slice_get unit.agents number ≡ Some agent → AreCosts unit agent list) (some_listed unit of) in
       inl (costs, record { count = long; each = λ number agent list its at. each number list at agent its })
+
+  -- each agent has a list of what follows its points
+  some_followed : (unit : Whole) → IsOfText unit → (number : ℕ) → number < length unit.agents → (list : List (List ℕ)) × ((agent : AgentDecl) → slice_get unit.agents number ≡ Some agent → AreNexts unit.functions agent list)
+  some_followed unit of number less = by (slice_get unit.agents number) refl
+    where
+      by : (o : Option AgentDecl) → slice_get unit.agents number ≡ o → (list : List (List ℕ)) × ((agent : AgentDecl) → slice_get unit.agents number ≡ Some agent → AreNexts unit.functions agent list)
+      by None at = ([], λ agent other. absurd (none-some agent (sym at ∙ other)))
+      by (Some agent) at =
+          let (list, are) = ends.next unit number agent (of, at) in
+          (list, λ agent' other. subst (λ a. AreNexts unit.functions a list) (same_Some agent agent' (sym at ∙ other)) are)
+
+  pub some_following : (unit : Whole) → IsOfText unit → IsSome (following unit)
+  some_following unit of =
+      let (lists, long, each) = list_of (length unit.agents) (λ number list. (agent : AgentDecl) → slice_get unit.agents number ≡ Some agent → AreNexts unit.functions agent list) (some_followed unit of) in
+      inl (lists, record { count = long; each = λ number agent list its at. each number list at agent its })
 
   -- each graph has a greatest weight of the paths that fit a length
   some_weight : (unit : Whole) (graphs : List Graph) → IsOfText unit → AreGraphs unit graphs → (within number : ℕ) (edges : List Edge) → slice_get (edges_of graphs) number ≡ Some edges → (n : ℕ) × IsGreatestWeight edges (FitsDueLast within) n

@@ -57,7 +57,7 @@ module _ (until : ℕ) (graphs : List Graph) (lists : List (List ℕ)) (are : Ar
 -- ---- demand
 
 -- the edges by a number are those of a graph
-edges_at : (graphs : List Graph) (i : ℕ) (edges : List Edge) → slice_get (edges_of graphs) i ≡ Some edges → (graph : Graph) × (slice_get graphs i ≡ Some graph) × (graph.edges ≡ edges)
+pub edges_at : (graphs : List Graph) (i : ℕ) (edges : List Edge) → slice_get (edges_of graphs) i ≡ Some edges → (graph : Graph) × (slice_get graphs i ≡ Some graph) × (graph.edges ≡ edges)
 edges_at [] i edges at = cc
 edges_at (graph ∷ graphs) zero edges at = (graph, refl, cc)
 edges_at (graph ∷ graphs) (suc i) edges at = edges_at graphs i edges at

@@ -1,11 +1,11 @@
 -- How the top call ends, clause by clause.
-use Rattle.std.proofs.Common.{◌≡◌, ◌≢◌, ◌∙◌, sym, ap, subst, refl, ℕ, List, [], Option, None, Some, ◌⊎◌, inl, inr, IfSome, arith}
+use Rattle.std.proofs.Common.{◌≡◌, ◌≢◌, ◌∙◌, sym, ap, subst, refl, ℕ, ◌+◌, ◌==◌, List, [], Bool, true, false, Option, None, Some, ◌⊎◌, inl, inr, IfSome, arith}
 use Rattle.std.proofs.lemmas.Bool.Decides.{nat_tests}
 use Rattle.psy_door.specs.Faults.{Rose}
 use Rattle.psy_door.specs.Files.{Files}
 use Rattle.psy_door.specs.Growth.{Grew, GrewByFront}
 use Rattle.psy_kernel.specs.declared.stage.Stage.TheVariants.{Over}
-use Rattle.psy_kernel.specs.Standing.{Progress, stage_of}
+use Rattle.psy_kernel.specs.Progress.{Progress, stage_of}
 use Rattle.psy_log.specs.Forms.{read_line}
 use Rattle.psy_tree.specs.declared.unit.Unit.{Unit as Whole}
 use Rattle.psy_run.specs.declared.refusal.File.{File}
@@ -14,13 +14,12 @@ use Rattle.psy_run.specs.declared.refusal.Refusal.{Refusal}
 use Rattle.psy_run.specs.declared.refusal.Refusal.TheVariants.{Words, TooLong, Lexical, Syntax, Deep, Rule, Many, NotBuilt, Nodes, Edges, Cells, Infeasible}
 use Rattle.psy_run.specs.declared.refusal.Stop.{Stop}
 use Rattle.psy_run.specs.declared.refusal.Stop.TheVariants as stop
-use Rattle.psy_run.specs.declared.served.Served.{Served}
-use Rattle.psy_run.specs.declared.served.Served.TheVariants.{Ran, Checked, Drawn}
-use Rattle.psy_run.specs.Answer.{Answers, refused, served, text_of, left_of, compiling, supplying, forming, building, serving, answering}
+use Rattle.psy_run.specs.Answer.{Answers, refused, served, compiling, supplying, building, following, serving, answering}
 use Rattle.psy_run.specs.Asked.{Command, Asks, AskNothing, Run, Check, Graph}
 use Rattle.psy_run.specs.Courses.{Course, in_row}
 use Rattle.psy_run.specs.Outcome.{Halts, halts_refused, halts_unread, halts_memory, Seen, coming, IsUnread, MayAnswer, may_refuse, may_miss, may_serve, Ends, ends_memory, ends_said, ends_cut, Says}
 use Rattle.psy_run.specs.Refusals.{status_of, line_of, file_name}
+use Rattle.psy_run.specs.Services.{Service, Ran, Checked, Drawn, HasRun, Leaves, text_of}
 use Rattle.psy_run.specs.Steps.{reading, lexing, parsing, graphing, costing, windowing, demanding}
 
 -- ---- the statuses of refusals
@@ -85,11 +84,11 @@ ends_stopped seen old now before after answer _ halts_memory asked says reads me
     let eight = memory refl in
     subst (λ s. Ends seen old now before after s None) (sym eight.0) (ends_memory asks.0 asks.1 eight.1)
 
-pub ends_served : (seen : Seen) (old now : Option (List ℕ)) (before after : ℕ) (left : Option Progress) (done : Served) → (coming seen).gives done → Grew old now (text_of done) → left ≡ left_of done → Ends seen old now before after 0 left
-ends_served seen old now before after left done gives grew is = subst (Ends seen old now before after 0) (sym is) (ends_said 0 (text_of done) (left_of done) (may_serve done gives) grew)
+pub ends_served : (seen : Seen) (old now : Option (List ℕ)) (before after : ℕ) (left : Option Progress) (done : Service) → (coming seen).gives done → Grew old now (text_of done) → Leaves done left → Ends seen old now before after 0 left
+ends_served seen old now before after left done gives grew leaves = ends_said 0 (text_of done) left (may_serve done left gives leaves) grew
 
-pub ends_unwritten : (seen : Seen) (old now : Option (List ℕ)) (before after : ℕ) (left : Option Progress) (done : Served) → (coming seen).gives done → Rose before after → GrewByFront old now (text_of done) → left ≡ None → Ends seen old now before after 4 left
-ends_unwritten seen old now before after left done gives rose front is = subst (Ends seen old now before after 4) (sym is) (ends_cut 0 (text_of done) (left_of done) (may_serve done gives) rose front)
+pub ends_unwritten : (seen : Seen) (old now : Option (List ℕ)) (before after : ℕ) (left : Option Progress) (done : Service) → (coming seen).gives done → (other : Option Progress) × Leaves done other → Rose before after → GrewByFront old now (text_of done) → left ≡ None → Ends seen old now before after 4 left
+ends_unwritten seen old now before after left done gives (other, leaves) rose front is = subst (Ends seen old now before after 4) (sym is) (ends_cut 0 (text_of done) other (may_serve done other gives leaves) rose front)
 
 -- ---- the clauses
 
@@ -99,7 +98,7 @@ pub ends_answered : (seen : Seen) (old now : Option (List ℕ)) (before after an
 ends_answered seen old now before after _ left (ends_memory command asks grew) three four eight = absurd (eight refl)
 ends_answered seen old now before after _ _ (ends_said _ _ _ (may_refuse refusal stops) grew) three four eight = (line_of refusal, refused refusal stops, grew)
 ends_answered seen old now before after _ _ (ends_said _ _ _ (may_miss file unread) grew) three four eight = absurd (three refl)
-ends_answered seen old now before after _ _ (ends_said _ _ _ (may_serve done gives) grew) three four eight = (text_of done, served done gives, grew)
+ends_answered seen old now before after _ _ (ends_said _ _ _ (may_serve done other gives leaves) grew) three four eight = (text_of done, served done gives, grew)
 ends_answered seen old now before after _ _ (ends_cut status text left may rose front) three four eight = absurd (four refl)
 
 pub ends_done : (seen : Seen) (old now : Option (List ℕ)) (before after answer : ℕ) (left : Option Progress) → Ends seen old now before after answer left → (Rose seen.before seen.after → ⊥) → (Rose before after → ⊥)
@@ -107,7 +106,7 @@ pub ends_done : (seen : Seen) (old now : Option (List ℕ)) (before after answer
 ends_done seen old now before after _ left (ends_memory command asks grew) shelf sink = inr refl
 ends_done seen old now before after _ _ (ends_said _ _ _ (may_refuse refusal stops) grew) shelf sink = inl (line_of refusal, refused refusal stops, grew)
 ends_done seen old now before after _ _ (ends_said _ _ _ (may_miss file unread) grew) shelf sink = absurd (shelf unread.rose)
-ends_done seen old now before after _ _ (ends_said _ _ _ (may_serve done gives) grew) shelf sink = inl (text_of done, served done gives, grew)
+ends_done seen old now before after _ _ (ends_said _ _ _ (may_serve done other gives leaves) grew) shelf sink = inl (text_of done, served done gives, grew)
 ends_done seen old now before after _ _ (ends_cut status text left may rose front) shelf sink = absurd (sink rose)
 
 -- Words have one answer at most, where files are told.
@@ -134,7 +133,7 @@ ends_words seen old now before after _ _ (ends_said _ _ _ (may_miss file unread)
   | inl none ↦ absurd none
   | inr (command, asks, later) ↦ absurd (nothing command asks)
 ]
-ends_words seen old now before after _ _ (ends_said _ _ _ (may_serve done (command, asks, later)) grew) nothing = absurd (nothing command asks)
+ends_words seen old now before after _ _ (ends_said _ _ _ (may_serve done other (command, asks, later) leaves) grew) nothing = absurd (nothing command asks)
 ends_words seen old now before after _ _ (ends_cut status text left may rose front) nothing = inr refl
 
 -- No step behind the words stops with a refusal of them.
@@ -163,7 +162,8 @@ supplying_never unit until =
 serving_never : (files : Option Files) (command : Command) → Never (serving files command)
 serving_never files (Run name until) =
     never_then (compiling files name) _ (compiling_never files name)
-    (λ unit. never_then (forming unit until) _ (λ stops. apart NotBuilt (λ e. absurd (omega arith)) stops.0) (λ program. never_then (supplying unit until) _ (supplying_never unit until) (λ graphs stops. stops)))
+    (λ unit. never_then (building unit) _ (λ stops. apart NotBuilt (λ e. absurd (omega arith)) stops.0)
+    (λ done. never_then (supplying unit until) _ (supplying_never unit until) (λ graphs. never_then (following unit) _ (λ stops. stops) (λ nexts stops. stops))))
 serving_never files (Check name until) =
     never_then (compiling files name) _ (compiling_never files name)
     (λ unit. never_then (building unit) _ (λ stops. apart NotBuilt (λ e. absurd (omega arith)) stops.0) (λ done. never_then (supplying unit until) _ (supplying_never unit until) (λ graphs stops. stops)))
@@ -181,7 +181,7 @@ ends_listed seen old now before after _ left (ends_memory command asks grew) two
 ends_listed seen old now before after _ _ (ends_said _ _ _ (may_refuse refusal stops) grew) two =
     nothing_asked seen.words seen.files (subst (λ r. (coming seen).stops r) (two_by refusal _ (is_status refusal) two) stops)
 ends_listed seen old now before after _ _ (ends_said _ _ _ (may_miss file unread) grew) two = absurd (omega (arith, two))
-ends_listed seen old now before after _ _ (ends_said _ _ _ (may_serve done gives) grew) two = absurd (omega (arith, two))
+ends_listed seen old now before after _ _ (ends_said _ _ _ (may_serve done other gives leaves) grew) two = absurd (omega (arith, two))
 ends_listed seen old now before after _ _ (ends_cut status text left may rose front) two = absurd (omega (arith, two))
 
 -- 3 is answered for a file that couldn't be read, with its line.
@@ -189,7 +189,7 @@ pub ends_read : (seen : Seen) (old now : Option (List ℕ)) (before after answer
 ends_read seen old now before after _ left (ends_memory command asks grew) three = absurd (omega (arith, three))
 ends_read seen old now before after _ _ (ends_said _ _ _ (may_refuse refusal stops) grew) three = absurd (not_by refusal _ 3 (is_status refusal) (λ e. absurd (omega arith)) (inr (inl refl)) three)
 ends_read seen old now before after _ _ (ends_said _ _ _ (may_miss file unread) grew) three = (file, unread, grew)
-ends_read seen old now before after _ _ (ends_said _ _ _ (may_serve done gives) grew) three = absurd (omega (arith, three))
+ends_read seen old now before after _ _ (ends_said _ _ _ (may_serve done other gives leaves) grew) three = absurd (omega (arith, three))
 ends_read seen old now before after _ _ (ends_cut status text left may rose front) three = absurd (omega (arith, three))
 
 -- 4 is answered where a write failed: then a front of a text that may answer the words was written.
@@ -198,7 +198,7 @@ pub ends_cut_short : (seen : Seen) (old now : Option (List ℕ)) (before after a
 ends_cut_short seen old now before after _ left (ends_memory command asks grew) four = absurd (omega (arith, four))
 ends_cut_short seen old now before after _ _ (ends_said _ _ _ (may_refuse refusal stops) grew) four = absurd (not_by refusal _ 4 (is_status refusal) (λ e. absurd (omega arith)) (inr (inr (inl refl))) four)
 ends_cut_short seen old now before after _ _ (ends_said _ _ _ (may_miss file unread) grew) four = absurd (omega (arith, four))
-ends_cut_short seen old now before after _ _ (ends_said _ _ _ (may_serve done gives) grew) four = absurd (omega (arith, four))
+ends_cut_short seen old now before after _ _ (ends_said _ _ _ (may_serve done other gives leaves) grew) four = absurd (omega (arith, four))
 ends_cut_short seen old now before after _ _ (ends_cut status text left may rose front) four = (rose, (status, text, left, may, front))
 
 -- 8 is answered with nothing written.
@@ -206,34 +206,41 @@ pub ends_for_memory : (seen : Seen) (old now : Option (List ℕ)) (before after 
 ends_for_memory seen old now before after _ left (ends_memory command asks grew) eight = grew
 ends_for_memory seen old now before after _ _ (ends_said _ _ _ (may_refuse refusal stops) grew) eight = absurd (not_by refusal _ 8 (is_status refusal) (λ e. absurd (omega arith)) (inr (inr (inr refl))) eight)
 ends_for_memory seen old now before after _ _ (ends_said _ _ _ (may_miss file unread) grew) eight = absurd (omega (arith, eight))
-ends_for_memory seen old now before after _ _ (ends_said _ _ _ (may_serve done gives) grew) eight = absurd (omega (arith, eight))
+ends_for_memory seen old now before after _ _ (ends_said _ _ _ (may_serve done other gives leaves) grew) eight = absurd (omega (arith, eight))
 ends_for_memory seen old now before after _ _ (ends_cut status text left may rose front) eight = absurd (omega (arith, eight))
 
 -- 0 is answered where the whole text of what is served was written, and what is left did it.
 pub ends_left : (seen : Seen) (old now : Option (List ℕ)) (before after answer : ℕ) (left : Option Progress) → Ends seen old now before after answer left → answer ≡ 0
-    → (done : Served) × (coming seen).gives done × Grew old now (text_of done) × (left ≡ left_of done)
+    → (done : Service) × (coming seen).gives done × Grew old now (text_of done) × Leaves done left
 ends_left seen old now before after _ left (ends_memory command asks grew) zero = absurd (omega (arith, zero))
 ends_left seen old now before after _ _ (ends_said _ _ _ (may_refuse refusal stops) grew) zero = absurd (not_by refusal _ 0 (is_status refusal) (λ e. absurd (omega arith)) (inl refl) zero)
 ends_left seen old now before after _ _ (ends_said _ _ _ (may_miss file unread) grew) zero = absurd (omega (arith, zero))
-ends_left seen old now before after _ _ (ends_said _ _ _ (may_serve done gives) grew) zero = (done, gives, grew, refl)
+ends_left seen old now before after _ _ (ends_said _ _ _ (may_serve done other gives leaves) grew) zero = (done, gives, grew, leaves)
 ends_left seen old now before after _ _ (ends_cut status text left may rose front) zero = absurd (omega (arith, zero))
 
 -- A kernel is left by a run alone, and is over.
-over_of : (done : Served) → IfSome (left_of done) (λ kernel. stage_of kernel ≡ Over)
-over_of (Ran program) = grind (arith, nat_tests)
-over_of (Checked unit until) = tt
-over_of (Drawn unit graphs costs) = tt
+over_at : (unit : Whole) (nexts : List (List (List ℕ))) (until : ℕ) (p : Progress) → HasRun unit nexts until p → stage_of p ≡ Over
+over_at unit nexts until p ran = by (p.dates == p.plan.until + 1) refl
+  where
+    by : (t : Bool) → (p.dates == p.plan.until + 1) ≡ t → stage_of p ≡ Over
+    by true e = rw e refl
+    by false e = let dates = ran.dates in let last = ran.its_until in grind (arith, nat_tests)
+
+over_of : (done : Service) (left : Option Progress) → Leaves done left → IfSome left (λ kernel. stage_of kernel ≡ Over)
+over_of (Ran unit nexts until) left (p, is, ran) = subst (λ l. IfSome l (λ kernel. stage_of kernel ≡ Over)) (sym is) (over_at unit nexts until p ran)
+over_of (Checked unit until) left is = subst (λ l. IfSome l (λ kernel. stage_of kernel ≡ Over)) (sym is) tt
+over_of (Drawn unit graphs costs) left is = subst (λ l. IfSome l (λ kernel. stage_of kernel ≡ Over)) (sym is) tt
 
 pub ends_over : (seen : Seen) (old now : Option (List ℕ)) (before after answer : ℕ) (left : Option Progress) → Ends seen old now before after answer left → IfSome left (λ kernel. stage_of kernel ≡ Over)
 ends_over seen old now before after _ _ (ends_memory command asks grew) = tt
 ends_over seen old now before after _ _ (ends_said _ _ _ (may_refuse refusal stops) grew) = tt
 ends_over seen old now before after _ _ (ends_said _ _ _ (may_miss file unread) grew) = tt
-ends_over seen old now before after _ _ (ends_said _ _ _ (may_serve done gives) grew) = over_of done
+ends_over seen old now before after _ _ (ends_said _ _ _ (may_serve done other gives leaves) grew) = over_of done other leaves
 ends_over seen old now before after _ _ (ends_cut status text left may rose front) = tt
 
 pub ends_none_left : (seen : Seen) (old now : Option (List ℕ)) (before after answer : ℕ) (left : Option Progress) → Ends seen old now before after answer left → answer ≢ 0 → left ≡ None
 ends_none_left seen old now before after _ _ (ends_memory command asks grew) some = refl
 ends_none_left seen old now before after _ _ (ends_said _ _ _ (may_refuse refusal stops) grew) some = refl
 ends_none_left seen old now before after _ _ (ends_said _ _ _ (may_miss file unread) grew) some = refl
-ends_none_left seen old now before after _ _ (ends_said _ _ _ (may_serve done gives) grew) some = absurd (some refl)
+ends_none_left seen old now before after _ _ (ends_said _ _ _ (may_serve done other gives leaves) grew) some = absurd (some refl)
 ends_none_left seen old now before after _ _ (ends_cut status text left may rose front) some = refl

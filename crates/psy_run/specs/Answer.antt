@@ -2,22 +2,16 @@
 use Rattle.std.specs.Prelude.{◌≡◌, ℕ, List, Option, Some, None}
 use Rattle.psy_door.specs.Files.{Files}
 use Rattle.psy_tree.specs.declared.unit.Unit.{Unit as Whole}
-use Rattle.psy_kernel.specs.Standing.{Progress, ended}
+use Rattle.psy_history.specs.Compiled.{AreAllNexts, IsBuilt}
 use Rattle.psy_graph.specs.declared.graph.Graph.{Graph}
 use Rattle.psy_run.specs.declared.refusal.File.TheVariants as file
 use Rattle.psy_run.specs.declared.refusal.Refusal.{Refusal}
 use Rattle.psy_run.specs.declared.refusal.Refusal.TheVariants.{NotBuilt}
 use Rattle.psy_run.specs.Asked.{Command, Run, Check, Graph as Draw}
-use Rattle.psy_run.specs.Built.{IsBuilt}
 use Rattle.psy_run.specs.Courses.{Course, step, pure, unless, ◌>>=◌}
-use Rattle.psy_run.specs.declared.form.Program.{Program}
-use Rattle.psy_run.specs.declared.served.Served.{Served}
-use Rattle.psy_run.specs.declared.served.Served.TheVariants.{Ran, Checked, Drawn}
-use Rattle.psy_run.specs.Form.{IsForm}
-use Rattle.psy_run.specs.Log.{run_text}
 use Rattle.psy_run.specs.Refusals.{status_of, line_of}
+use Rattle.psy_run.specs.Services.{Service, Ran, Checked, Drawn, text_of}
 use Rattle.psy_run.specs.Steps.{asking, reading, lexing, parsing, resolving, graphing, costing, windowing, demanding}
-use Rattle.psy_run.specs.Texts.{check_text, graph_text}
 
 -- ---- the commands
 
@@ -37,24 +31,25 @@ supplying unit until = do
   _ ← demanding unit graphs until
   pure graphs
 
--- The program of the one form that is run so far
-abbrev pub forming : Whole → ℕ → Course Program
-forming unit until = step (IsForm unit until) (λ refusal. (refusal ≡ NotBuilt) × ((program : Program) → IsForm unit until program → ⊥))
-
--- A program of those that are checked so far
+-- A program of those that are run and checked so far
 abbrev pub building : Whole → Course (Unit {0})
 building unit = unless (IsBuilt unit) (IsBuilt unit → ⊥) NotBuilt
 
+-- By agent, the points that may follow each of its points: they are there for each program.
+abbrev pub following : Whole → Course (List (List (List ℕ)))
+following unit = step (AreAllNexts unit) (λ refusal. ⊥)
+
 -- `run PROG UNTIL`
-abbrev pub running : Option Files → List ℕ → ℕ → Course Served
+abbrev pub running : Option Files → List ℕ → ℕ → Course Service
 running files name until = do
   unit ← compiling files name
-  program ← forming unit until
+  _ ← building unit
   _ ← supplying unit until
-  pure (Ran program)
+  nexts ← following unit
+  pure (Ran unit nexts until)
 
 -- `check PROG UNTIL`
-abbrev pub checking : Option Files → List ℕ → ℕ → Course Served
+abbrev pub checking : Option Files → List ℕ → ℕ → Course Service
 checking files name until = do
   unit ← compiling files name
   _ ← building unit
@@ -62,7 +57,7 @@ checking files name until = do
   pure (Checked unit until)
 
 -- `graph PROG`
-abbrev pub drawing : Option Files → List ℕ → Course Served
+abbrev pub drawing : Option Files → List ℕ → Course Service
 drawing files name = do
   unit ← compiling files name
   graphs ← graphing unit
@@ -70,31 +65,18 @@ drawing files name = do
   pure (Drawn unit graphs costs)
 
 -- A command
-abbrev pub serving : Option Files → Command → Course Served
+abbrev pub serving : Option Files → Command → Course Service
 serving files (Run program until) = running files program until
 serving files (Check program until) = checking files program until
 serving files (Draw program) = drawing files program
 
 -- The words: what they ask for, then that
-abbrev pub answering : List (List ℕ) → Option Files → Course Served
+abbrev pub answering : List (List ℕ) → Option Files → Course Service
 answering words files = do
   command ← asking words
   serving files command
 
--- ---- texts
-
--- the text of what is served
-abbrev pub text_of : Served → List ℕ
-text_of (Ran program) = run_text program.numbers program.variable program.agent
-text_of (Checked unit until) = check_text unit until
-text_of (Drawn unit graphs costs) = graph_text unit.agents graphs costs
-
--- the kernel that is left
-abbrev pub left_of : Served → Option Progress
-left_of (Ran program) = Some (ended program.numbers)
-left_of _ = None
-
 -- The status and the text that answer the words, where files are told those.
 pub data Answers (words : List (List ℕ)) (files : Option Files) : ℕ → List ℕ → Type 0 where
   refused : (refusal : Refusal) → (answering words files).stops refusal → Answers words files (status_of refusal) (line_of refusal)
-  served : (done : Served) → (answering words files).gives done → Answers words files 0 (text_of done)
+  served : (done : Service) → (answering words files).gives done → Answers words files 0 (text_of done)

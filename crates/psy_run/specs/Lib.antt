@@ -1,11 +1,10 @@
 pub mod Answer
 pub mod Asked
-pub mod Built
 pub mod Courses
-pub mod Form
-pub mod Log
 pub mod Outcome
 pub mod Refusals
+pub mod Runs
+pub mod Services
 pub mod Steps
 pub mod Texts
 pub mod Tables

@@ -1,12 +1,11 @@
 -- How a call of the top ends. The counts of faults are those of the shelf and the sink before and after it.
 use Rattle.std.specs.Prelude.{◌≡◌, ◌⊎◌, ℕ, ◌≤◌, List, [], length, Option, None}
 use Rattle.std.specs.List.{All}
-use Rattle.psy_base.specs.declared.limits.TheConstants.{WORD_BYTES}
 use Rattle.psy_door.specs.Faults.{Rose}
 use Rattle.psy_door.specs.Files.{Files}
 use Rattle.psy_door.specs.Growth.{Grew, GrewByFront}
-use Rattle.psy_kernel.specs.Meaning.{InRange, IsFeasible}
-use Rattle.psy_kernel.specs.Standing.{Progress}
+use Rattle.psy_dates.specs.Plans.{IsPlan}
+use Rattle.psy_kernel.specs.Progress.{Progress, booted}
 use Rattle.psy_log.specs.Forms.{read_line}
 use Rattle.psy_run.specs.declared.refusal.File.{File}
 use Rattle.psy_run.specs.declared.refusal.Refusal.{Refusal}
@@ -14,13 +13,13 @@ use Rattle.psy_run.specs.declared.refusal.Stop.{Stop}
 use Rattle.psy_run.specs.declared.refusal.Stop.TheVariants as stop
 use Rattle.psy_meaning.specs.Units.{IsBare}
 use Rattle.psy_graph.specs.Graphs.{IsSmall}
-use Rattle.psy_run.specs.declared.form.Program.{Program}
 use Rattle.psy_run.specs.declared.served.Served.{Served}
-use Rattle.psy_run.specs.declared.served.Served.TheVariants.{Ran, Checked, Drawn}
-use Rattle.psy_run.specs.Answer.{answering, text_of, left_of}
+use Rattle.psy_run.specs.declared.served.Served.TheVariants as served
+use Rattle.psy_run.specs.Answer.{answering}
 use Rattle.psy_run.specs.Asked.{Command, Asks}
 use Rattle.psy_run.specs.Courses.{Course}
 use Rattle.psy_run.specs.Refusals.{status_of, line_of, file_name}
+use Rattle.psy_run.specs.Services.{Service, Leaves, no_inputs, no_script, text_of}
 
 -- A course was left before its end: a step of it refused, or the read of the file that it had come to failed, or memory ran out.
 pub data Halts {X : Type 0} (course : Course X) (failed : List ℕ) (before after : ℕ) : Stop → Type 0 where
@@ -38,7 +37,7 @@ pub record Seen : Type 0 where
   pub after : ℕ
 
 -- What the words come to
-abbrev pub coming : Seen → Course Served
+abbrev pub coming : Seen → Course Service
 coming seen = answering seen.words seen.files
 
 -- A file that the words name couldn't be read, and no step before that read refuses.
@@ -51,7 +50,7 @@ pub record IsUnread (seen : Seen) (file : File) : Type 0 where
 pub data MayAnswer (seen : Seen) : ℕ → List ℕ → Option Progress → Type 0 where
   may_refuse : (refusal : Refusal) → (coming seen).stops refusal → MayAnswer seen (status_of refusal) (line_of refusal) None
   may_miss : (file : File) → IsUnread seen file → MayAnswer seen 3 (read_line (file_name file)) None
-  may_serve : (done : Served) → (coming seen).gives done → MayAnswer seen 0 (text_of done) (left_of done)
+  may_serve : (done : Service) (left : Option Progress) → (coming seen).gives done → Leaves done left → MayAnswer seen 0 (text_of done) left
 
 -- How a call ends, by what the sink held and counted before and after it: memory ran out for a command, or the text was
 -- written, or a write of it failed.
@@ -64,15 +63,8 @@ pub data Ends (seen : Seen) (old now : Option (List ℕ)) (before after : ℕ) :
 abbrev pub Says : Option (List ℕ) → Option (List ℕ) → ℕ → ℕ → ℕ → ℕ → List ℕ → Type 0
 Says old now before after answer status text = ((answer ≡ status) × Grew old now text) ⊎ ((answer ≡ 4) × Rose before after × GrewByFront old now text)
 
--- A program can be run: its numbers are in their ranges, its actions fit between their dates, and its names are short.
-pub record CanRun (program : Program) : Type 0 where
-  pub range : InRange program.numbers
-  pub fits : IsFeasible program.numbers
-  pub variable : length program.variable ≤ WORD_BYTES
-  pub agent : length program.agent ≤ WORD_BYTES
-
--- What is served can be: a program can be run, and the names of a unit are short.
+-- What is served can be: a kernel was just booted, without inputs and script, and the names of a unit are short.
 abbrev pub CanServe : Served → Type 0
-CanServe (Ran program) = CanRun program
-CanServe (Checked unit until) = IsBare unit
-CanServe (Drawn unit graphs costs) = IsBare unit × All IsSmall graphs
+CanServe (served.Ran kernel) = (kernel ≡ booted kernel.plan (no_inputs kernel.plan.unit) no_script) × IsPlan kernel.plan
+CanServe (served.Checked unit until) = IsBare unit
+CanServe (served.Drawn unit graphs costs) = IsBare unit × All IsSmall graphs

@@ -2,7 +2,7 @@
 ghost use Rattle.std.specs.Prelude.{◌≡◌, ◌↔◌, IsTrue, ◌||◌};
 ghost use Rattle.std.specs.List.{list_any};
 ghost use Rattle.psy_meaning.specs.Paths.{one_of};
-ghost use Rattle.psy_run.specs.Built.{expr_looks, stmt_looks, agent_looks, IsBuilt};
+ghost use Rattle.psy_history.specs.Compiled.{expr_looks, stmt_looks, agent_looks, IsBuilt};
 
 use psy_tree::{AgentDecl, Expr, Stmt, Unit};
 

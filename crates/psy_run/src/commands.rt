@@ -1,36 +1,30 @@
 //! The commands: each is its list of steps.
 ghost use Rattle.std.specs.Prelude.{ℕ, ◌≡◌, ◌≤◌, List, map, string_bytes, IfOk, IfErr};
-ghost use Rattle.psy_run.specs.Answer.{forming, building, running, checking, drawing, answering};
+ghost use Rattle.psy_dates.specs.Plans.{IsPlan};
+ghost use Rattle.psy_graph.specs.declared.graph.Graph.{Graph};
+ghost use Rattle.psy_history.specs.Compiled.{IsBuilt};
+ghost use Rattle.psy_kernel.specs.Progress.{booted};
+ghost use Rattle.psy_meaning.specs.Units.{IsOfText};
+ghost use Rattle.psy_run.specs.Answer.{building, supplying, running, checking, drawing, answering};
 ghost use Rattle.psy_run.specs.Asked.{Command as Asked, Asks};
 ghost use Rattle.psy_run.specs.Outcome.{CanServe, Halts};
+ghost use Rattle.psy_run.specs.Services.{no_inputs, no_script, service_of};
 
 use crate::asked::{Command, read_words};
 use crate::built::is_built;
 use crate::costs::all_costs;
-use crate::form::{Program, read_form};
+use crate::plan::{inputs_of, plan_of, script_of};
 use crate::refusal::{Refusal, Stop};
 use crate::served::Served;
 use crate::steps::compile;
 use crate::supply::{graphs, supply};
-use psy_clock::laws::distances;
+use psy_base::Memory;
 use psy_door::Shelf;
-use psy_flow::laws::{known, nexts};
+use psy_kernel::Kernel;
 use psy_tree::Unit;
 use std::alloc::Global;
 
-// The program of the form that is run so far.
-fn form(alloc: Global, unit: &Unit, until: u32) -> Result<Program, Stop>
-    ensures ok { IfOk result (λ program. (forming unit.now until).gives program) }
-    ensures err { (failed : List ℕ) (before after : ℕ) → IfErr result (Halts (forming unit.now until) failed before after) }
-{
-    match read_form(alloc, unit, until) {
-        Ok(Some(program)) => Ok(program),
-        Ok(None) => Err(Stop::Refused(Refusal::NotBuilt)),
-        Err(_) => Err(Stop::Memory),
-    }
-}
-
-// The program is of those that are checked so far.
+// The program is of those that are run and checked so far.
 fn built(unit: &Unit) -> Result<(), Stop>
     ensures ok { IfOk result (λ done. (building unit.now).gives done) }
     ensures err { (failed : List ℕ) (before after : ℕ) → IfErr result (Halts (building unit.now) failed before after) }
@@ -41,25 +35,40 @@ fn built(unit: &Unit) -> Result<(), Stop>
     Err(Stop::Refused(Refusal::NotBuilt))
 }
 
+// A kernel of a program that can be run up to a date, without inputs and script.
+fn boot(alloc: Global, unit: Unit, until: u32) -> Result<Kernel, Memory>
+    requires text { IsOfText unit }
+    requires built { IsBuilt unit }
+    requires supplied { (graphs : List Graph) × (supplying unit until).gives graphs }
+    ensures booted { IfOk result (λ kernel. kernel ≡ booted kernel.plan (no_inputs kernel.plan.unit) no_script) }
+    ensures plan { IfOk result (λ kernel. IsPlan kernel.plan) }
+    ensures its_unit { IfOk result (λ kernel. kernel.plan.unit ≡ unit) }
+    ensures its_until { IfOk result (λ kernel. kernel.plan.until ≡ until) }
+{
+    let plan = plan_of(alloc, unit, until)?;
+    let inputs = inputs_of(alloc, &plan.unit)?;
+    Kernel::boot(alloc, plan, inputs, script_of(alloc))
+}
+
 // `run PROG UNTIL`
 fn run<F: Shelf>(alloc: Global, shelf: &mut F, name: &str, until: u32) -> Result<Served, Stop>
-    ensures ok { IfOk result (λ served. (running (F.files shelf.old) name.now until).gives served) }
+    ensures ok { IfOk result (λ served. (running (F.files shelf.old) name.now until).gives (service_of served)) }
     ensures err { IfErr result (Halts (running (F.files shelf.old) name.now until) (F.failed_name shelf.new) (F.faults shelf.old) (F.faults shelf.new)) }
     ensures can { IfOk result CanServe }
     ensures shelf { (F.faults shelf.old ≤ F.faults shelf.new) × (F.files shelf.new ≡ F.files shelf.old) }
 {
-    known();
-    nexts();
-    distances();
     let unit = compile(alloc, shelf, name)?;
-    let program = form(alloc, &unit, until)?;
+    built(&unit)?;
     supply(alloc, &unit, until)?;
-    Ok(Served::Ran(program))
+    match boot(alloc, unit, until) {
+        Ok(kernel) => Ok(Served::Ran(kernel)),
+        Err(_) => Err(Stop::Memory),
+    }
 }
 
 // `check PROG UNTIL`
 fn check<F: Shelf>(alloc: Global, shelf: &mut F, name: &str, until: u32) -> Result<Served, Stop>
-    ensures ok { IfOk result (λ served. (checking (F.files shelf.old) name.now until).gives served) }
+    ensures ok { IfOk result (λ served. (checking (F.files shelf.old) name.now until).gives (service_of served)) }
     ensures err { IfErr result (Halts (checking (F.files shelf.old) name.now until) (F.failed_name shelf.new) (F.faults shelf.old) (F.faults shelf.new)) }
     ensures can { IfOk result CanServe }
     ensures shelf { (F.faults shelf.old ≤ F.faults shelf.new) × (F.files shelf.new ≡ F.files shelf.old) }
@@ -72,7 +81,7 @@ fn check<F: Shelf>(alloc: Global, shelf: &mut F, name: &str, until: u32) -> Resu
 
 // `graph PROG`
 fn draw<F: Shelf>(alloc: Global, shelf: &mut F, name: &str) -> Result<Served, Stop>
-    ensures ok { IfOk result (λ served. (drawing (F.files shelf.old) name.now).gives served) }
+    ensures ok { IfOk result (λ served. (drawing (F.files shelf.old) name.now).gives (service_of served)) }
     ensures err { IfErr result (Halts (drawing (F.files shelf.old) name.now) (F.failed_name shelf.new) (F.faults shelf.old) (F.faults shelf.new)) }
     ensures can { IfOk result CanServe }
     ensures shelf { (F.faults shelf.old ≤ F.faults shelf.new) × (F.files shelf.new ≡ F.files shelf.old) }
@@ -89,7 +98,7 @@ fn draw<F: Shelf>(alloc: Global, shelf: &mut F, name: &str) -> Result<Served, St
 
 /// What the words come to, before anything is written.
 pub fn judge<F: Shelf>(alloc: Global, words: &[String], shelf: &mut F) -> Result<Served, Stop>
-    ensures ok { IfOk result (λ served. (answering (map string_bytes words.now) (F.files shelf.old)).gives served) }
+    ensures ok { IfOk result (λ served. (answering (map string_bytes words.now) (F.files shelf.old)).gives (service_of served)) }
     ensures err { IfErr result (Halts (answering (map string_bytes words.now) (F.files shelf.old)) (F.failed_name shelf.new) (F.faults shelf.old) (F.faults shelf.new)) }
     ensures can { IfOk result CanServe }
     ensures asked { IfErr result (λ stop. stop ≡ Stop.Memory → (command : Asked) × Asks (map string_bytes words.now) command) }

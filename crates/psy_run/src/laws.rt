@@ -3,7 +3,7 @@ ghost use Rattle.std.specs.Prelude.{◌≡◌, ℕ, List, Some};
 ghost use Rattle.psy_door.specs.Files.{Files};
 ghost use Rattle.psy_run.specs.Answer.{Answers};
 
-use psy_flow::laws::costs;
+use psy_flow::laws::{costs, nexts};
 use psy_graph::laws::one_graph;
 use psy_meaning::laws::of_text;
 use psy_parse::laws::one_tree;
@@ -33,5 +33,6 @@ pub fn some_answer()
     of_text();
     one_graph();
     costs();
+    nexts();
     greatest();
 }

@@ -7,12 +7,16 @@ mod built;
 mod command_tests;
 mod commands;
 mod costs;
-mod form;
 pub mod laws;
+mod plan;
 mod refusal;
 #[cfg(test)]
 mod rule_tests;
 mod run;
+#[cfg(test)]
+mod run_tests;
+#[cfg(test)]
+mod script_tests;
 mod served;
 mod steps;
 mod supply;
@@ -21,4 +25,5 @@ mod tests;
 mod texts;
 mod top;
 
+pub use run::run_loop;
 pub use top::psyc;

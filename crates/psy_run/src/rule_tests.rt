@@ -1,6 +1,6 @@
 //! The rules: programs that keep each and programs that break it.
 use crate::refusal::{File, Refusal};
-use crate::tests::{SOUND, compare};
+use crate::tests::{SOUND, compare, status_of};
 use psy_base::limits;
 use psy_tree::Count;
 use std::alloc::{AllocGlobal, Global};
@@ -460,7 +460,10 @@ const MEETINGS: [Case; 15] = [
     ),
 ];
 
-// The text that is written of a program that isn't of a form that is run so far.
+// Declarations that make a lawful program one that isn't run so far.
+const A_STREAM: &str = " clock z = 1 * tick; agent Z on z budget 1 { body { advance 1 on z; } } stream zs to Z keep 1 on z;";
+
+// The text that is written of a program that breaks a rule, or of one that isn't run so far.
 fn refusal(alloc: Global, rule: u32, token: u32) -> Result<String, Fail> {
     if rule == 0 {
         return Ok(String::from_str(alloc, "not built\n")?);
@@ -477,6 +480,10 @@ fn expect_refusal(
 ) -> Result<(), Fail> {
     let words = ["run", "prog.psy", "20"];
     let text = refusal(rt.alloc(), rule, token)?;
+    if rule == 0 {
+        let unbuilt = format!(in rt.alloc(); "{program}{A_STREAM}")?;
+        return compare(rt, &words, unbuilt.as_bytes(), SOUND, 1, text.as_str());
+    }
     compare(rt, &words, program.as_bytes(), SOUND, 1, text.as_str())
 }
 
@@ -601,7 +608,8 @@ fn counts_have_limits(rt: HostRuntime) -> Result<(), Fail> {
     let words = ["run", "prog.psy", "20"];
     for counted in LIMITS {
         let within = program_of(rt.alloc(), &counted, counted.many)?;
-        compare(&rt, &words, within.as_bytes(), SOUND, 1, "not built\n")?;
+        let status = status_of(&rt, &["check", "prog.psy", "0"], within.as_bytes())?;
+        assert!(rt; status < 2, "as many as the limit of {}", counted.line);
         let beyond = program_of(rt.alloc(), &counted, counted.many + 1)?;
         let commands = [
             words.as_slice(),

@@ -1,57 +1,50 @@
-ghost use Rattle.std.specs.Prelude.{◌≡◌, ◌+◌, ◌-◌, ◌*◌, ◌<◌, ◌≤◌, length, OnOk, OnErr};
-ghost use Rattle.psy_base.specs.declared.limits.TheConstants.{WORD_BYTES};
+//! The run of a kernel, and the text that it writes.
+ghost use Rattle.std.specs.Prelude.{◌≡◌, ◌+◌, ◌-◌, ◌*◌, ◌≤◌, length, OnOk, OnErr};
 ghost use Rattle.psy_door.specs.Faults.{Rose};
-ghost use Rattle.psy_kernel.specs.Standing.{ended};
+ghost use Rattle.psy_kernel.specs.declared.stage.Stage.TheVariants.{Over};
+ghost use Rattle.psy_kernel.specs.Progress.{booted, lines_told, order, stage_of, summary_told, system};
+ghost use Rattle.psy_kernel.specs.Texts.{log_of, run_text, text_of};
 ghost use Rattle.psy_log.specs.Writing.{Written};
-ghost use Rattle.psy_run.specs.Log.{lines_at, log_of, summary_of, run_text};
+ghost use Rattle.psy_run.specs.Runs.{all_given, ended};
 
-use crate::texts::write_note;
 use psy_door::Sink;
 use psy_kernel::{Kernel, Stage};
-use psy_log::{Note, WriteFault};
+use psy_log::{Line, WriteFault, write_all_of};
 
-// Writes the lines of the date done last.
-fn write_date<S: Sink>(
-    kernel: &Kernel,
-    date: u64,
-    variable: &[u8],
-    out: &mut S,
-) -> Result<(), WriteFault>
-    requires short { length variable.now ≤ WORD_BYTES }
-    requires done { kernel.now.dates ≡ date + 1 }
+// Writes the lines of the date done last, none of which was given so far.
+fn write_date<S: Sink>(kernel: &mut Kernel, out: &mut S) -> Result<(), WriteFault>
+    requires none { kernel.old.given ≡ 0 }
     ensures counted { S.faults out.old ≤ S.faults out.new }
     ensures failed { OnErr result (Rose (S.faults out.old) (S.faults out.new)) }
-    ensures written { Written (S.held out.old) (S.held out.new) result (lines_at kernel.now.program variable.now date) }
+    ensures given { OnOk result (kernel.new ≡ all_given kernel.old) }
+    ensures written { Written (S.held out.old) (S.held out.new) result (text_of (lines_told kernel.old)) }
 {
-    match kernel.value() {
-        None => Ok(()),
-        Some(value) => write_note(
-            out,
-            &Note::Value {
-                date,
-                variable,
-                value,
-            },
-        ),
+    let mut line = Line::new();
+    'lines: loop {
+        if !kernel.next_line(&mut line) {
+            return Ok(());
+        }
+        if let Err(fault) = write_all_of(out, line.bytes()) {
+            return Err(fault);
+        }
     }
 }
 
 // Does all dates and cycles of a kernel that was just booted, and writes the lines of each date.
-fn run_dates<S: Sink>(kernel: &mut Kernel, variable: &[u8], out: &mut S) -> Result<(), WriteFault>
-    requires short { length variable.now ≤ WORD_BYTES }
-    requires booted { kernel.old ≡ record { program = kernel.old.program; dates = 0; cycles = 0 } }
+fn run_dates<S: Sink>(kernel: &mut Kernel, out: &mut S) -> Result<(), WriteFault>
+    requires booted { kernel.old ≡ booted kernel.old.plan kernel.old.inputs kernel.old.script }
     ensures counted { S.faults out.old ≤ S.faults out.new }
     ensures failed { OnErr result (Rose (S.faults out.old) (S.faults out.new)) }
-    ensures over { OnOk result (kernel.new ≡ ended kernel.old.program) }
-    ensures written { Written (S.held out.old) (S.held out.new) result (log_of kernel.old.program variable.now (kernel.old.program.until + 1)) }
+    ensures over { OnOk result (kernel.new ≡ ended kernel.old) }
+    ensures written { Written (S.held out.old) (S.held out.new) result (log_of (system kernel.old) (kernel.old.plan.until + 1)) }
 {
     'stages: loop {
         match kernel.stage() {
             Stage::Over => return Ok(()),
             Stage::CycleDue(_) => kernel.cycle(),
-            Stage::DateDue(date) => {
+            Stage::DateDue(_) => {
                 kernel.date();
-                if let Err(fault) = write_date(kernel, date, variable, out) {
+                if let Err(fault) = write_date(kernel, out) {
                     return Err(fault);
                 }
             }
@@ -60,70 +53,35 @@ fn run_dates<S: Sink>(kernel: &mut Kernel, variable: &[u8], out: &mut S) -> Resu
 }
 
 // Writes the summary of a kernel that is over.
-fn write_summary<S: Sink>(
-    kernel: &Kernel,
-    until: u32,
-    variable: &[u8],
-    agent: &[u8],
-    out: &mut S,
-) -> Result<(), WriteFault>
-    requires variable { length variable.now ≤ WORD_BYTES }
-    requires agent { length agent.now ≤ WORD_BYTES }
-    requires until { until ≡ kernel.now.program.until }
-    requires over { kernel.now.dates ≡ until + 1 }
+fn write_summary<S: Sink>(kernel: &Kernel, out: &mut S) -> Result<(), WriteFault>
+    requires over { stage_of kernel.now ≡ Over }
     ensures counted { S.faults out.old ≤ S.faults out.new }
     ensures failed { OnErr result (Rose (S.faults out.old) (S.faults out.new)) }
-    ensures written { Written (S.held out.old) (S.held out.new) result (summary_of kernel.now.program variable.now agent.now) }
+    ensures written { Written (S.held out.old) (S.held out.new) result (text_of (summary_told kernel.now)) }
 {
-    if let Err(fault) = write_note(
-        out,
-        &Note::End {
-            until: u64::from(until),
-        },
-    ) {
-        return Err(fault);
+    let mut line = Line::new();
+    let mut place = 0;
+    'lines: loop {
+        if !kernel.summary_line(place, &mut line) {
+            return Ok(());
+        }
+        if let Err(fault) = write_all_of(out, line.bytes()) {
+            return Err(fault);
+        }
+        place += 1;
     }
-    let (count, slack) = kernel.counted();
-    if let Err(fault) = write_note(
-        out,
-        &Note::AgentEnd {
-            agent,
-            count,
-            slack,
-        },
-    ) {
-        return Err(fault);
-    }
-    write_note(
-        out,
-        &Note::VariableEnd {
-            variable,
-            size: 1,
-            reach: None,
-        },
-    )
 }
 
-/// Runs a kernel that was just booted to its last date, and writes the values date by date and the
-/// summary. It takes no memory.
-pub fn run_loop<S: Sink>(
-    kernel: &mut Kernel,
-    until: u32,
-    variable: &[u8],
-    agent: &[u8],
-    out: &mut S,
-) -> Result<(), WriteFault>
-    requires variable { length variable.now ≤ WORD_BYTES }
-    requires agent { length agent.now ≤ WORD_BYTES }
-    requires until { until ≡ kernel.old.program.until }
-    requires booted { kernel.old ≡ record { program = kernel.old.program; dates = 0; cycles = 0 } }
+/// Runs a kernel that was just booted to its last date, and writes its lines date by date and the summary. It takes no memory.
+pub fn run_loop<S: Sink>(kernel: &mut Kernel, out: &mut S) -> Result<(), WriteFault>
+    requires booted { kernel.old ≡ booted kernel.old.plan kernel.old.inputs kernel.old.script }
     ensures counted { S.faults out.old ≤ S.faults out.new }
     ensures failed { OnErr result (Rose (S.faults out.old) (S.faults out.new)) }
-    ensures over { OnOk result (kernel.new ≡ ended kernel.old.program) }
-    ensures written { Written (S.held out.old) (S.held out.new) result (run_text kernel.old.program variable.now agent.now) }
+    ensures over { OnOk result (kernel.new ≡ ended kernel.old) }
+    ensures written { Written (S.held out.old) (S.held out.new) result (run_text (system kernel.old) (order kernel.old) kernel.old.plan.sizes kernel.old.plan.until) }
 {
-    if let Err(fault) = run_dates(kernel, variable, out) {
+    if let Err(fault) = run_dates(kernel, out) {
         return Err(fault);
     }
-    write_summary(kernel, until, variable, agent, out)
+    write_summary(kernel, out)
 }

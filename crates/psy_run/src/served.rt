@@ -1,14 +1,14 @@
 //! What the commands come to.
-use crate::form::Program;
 use psy_base::Items;
 use psy_graph::Graph;
+use psy_kernel::Kernel;
 use psy_tree::Unit;
 
 /// What a command does, once nothing refuses it.
-#[derive(Debug, Drop)]
+#[derive(Drop)]
 pub enum Served {
-    /// Runs a program.
-    Ran(Program),
+    /// Runs a program: its kernel, just booted.
+    Ran(Kernel),
     /// Writes the sizes of a program, and that its demand can be met up to a date.
     Checked {
         unit: Unit,

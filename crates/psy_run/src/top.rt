@@ -4,25 +4,25 @@ ghost use Rattle.psy_door.specs.Faults.{Rose};
 ghost use Rattle.psy_door.specs.Files.{Files};
 ghost use Rattle.psy_door.specs.Growth.{Grew, GrewByFront};
 ghost use Rattle.psy_kernel.specs.declared.stage.Stage.TheVariants.{Over};
-ghost use Rattle.psy_kernel.specs.Standing.{Progress, stage_of};
+ghost use Rattle.psy_kernel.specs.Progress.{Progress, stage_of};
 ghost use Rattle.psy_log.specs.Forms.{read_line};
 ghost use Rattle.psy_log.specs.Writing.{Written};
-ghost use Rattle.psy_run.specs.declared.served.Served.{Served as Done};
 ghost use Rattle.psy_run.specs.declared.refusal.File.{File as Role};
 ghost use Rattle.psy_run.specs.declared.refusal.Refusal.{Refusal as Cause};
-ghost use Rattle.psy_run.specs.Answer.{Answers, answering, text_of, left_of};
+ghost use Rattle.psy_run.specs.Answer.{Answers, answering};
 ghost use Rattle.psy_run.specs.Asked.{AskNothing};
-ghost use Rattle.psy_run.specs.Outcome.{CanRun, CanServe, Ends, IsUnread, MayAnswer, Says};
+ghost use Rattle.psy_run.specs.Outcome.{CanServe, Ends, IsUnread, MayAnswer, Says};
 ghost use Rattle.psy_run.specs.Refusals.{status_of, line_of, file_name};
+ghost use Rattle.psy_run.specs.Services.{Leaves, Service, service_of, text_of};
 
 use crate::commands::judge;
-use crate::form::Program;
 use crate::laws::one_answer;
 use crate::refusal::{Stop, unread_line};
 use crate::run::run_loop;
 use crate::served::Served;
 use crate::texts::{write_check, write_graph};
 use psy_door::{Shelf, Sink};
+use psy_history::laws::alike;
 use psy_kernel::Kernel;
 use psy_log::{Line, WriteFault, write_all_of};
 use std::alloc::Global;
@@ -52,19 +52,17 @@ fn refuse<S: Sink>(stop: Stop, out: &mut S) -> u8
     }
 }
 
-// Runs a program and leaves the kernel that did it.
-fn run<S: Sink>(program: &Program, out: &mut S, left: &mut Option<Kernel>) -> Result<(), WriteFault>
-    requires can { CanRun program.now }
+// Runs a kernel that was just booted, and leaves it.
+fn run<S: Sink>(mut kernel: Kernel, out: &mut S, left: &mut Option<Kernel>) -> Result<(), WriteFault>
+    requires can { CanServe (Served.Ran kernel) }
     requires empty { left.old ≡ None }
     ensures counted { S.faults out.old ≤ S.faults out.new }
     ensures failed { OnErr result (Rose (S.faults out.old) (S.faults out.new)) }
-    ensures written { Written (S.held out.old) (S.held out.new) result (text_of (Served.Ran program.now)) }
-    ensures over { MatchResult result (λ done. left.new ≡ left_of (Served.Ran program.now)) (λ fault. left.new ≡ None) }
+    ensures written { Written (S.held out.old) (S.held out.new) result (text_of (service_of (Served.Ran kernel))) }
+    ensures over { MatchResult result (λ done. Leaves (service_of (Served.Ran kernel)) left.new) (λ fault. left.new ≡ None) }
 {
-    let mut kernel = Kernel::boot(program.numbers);
-    let variable = program.variable.bytes();
-    let agent = program.agent.bytes();
-    if let Err(fault) = run_loop(&mut kernel, program.numbers.until, variable, agent, out) {
+    alike();
+    if let Err(fault) = run_loop(&mut kernel, out) {
         return Err(fault);
     }
     *left = Some(kernel);
@@ -72,22 +70,22 @@ fn run<S: Sink>(program: &Program, out: &mut S, left: &mut Option<Kernel>) -> Re
 }
 
 // Does what is served, and writes its text.
-fn serve<S: Sink>(served: &Served, out: &mut S, left: &mut Option<Kernel>) -> Result<(), WriteFault>
-    requires can { CanServe served.now }
+fn serve<S: Sink>(served: Served, out: &mut S, left: &mut Option<Kernel>) -> Result<(), WriteFault>
+    requires can { CanServe served }
     requires empty { left.old ≡ None }
     ensures counted { S.faults out.old ≤ S.faults out.new }
     ensures failed { OnErr result (Rose (S.faults out.old) (S.faults out.new)) }
-    ensures written { Written (S.held out.old) (S.held out.new) result (text_of served.now) }
-    ensures over { MatchResult result (λ done. left.new ≡ left_of served.now) (λ fault. left.new ≡ None) }
+    ensures written { Written (S.held out.old) (S.held out.new) result (text_of (service_of served)) }
+    ensures over { MatchResult result (λ done. Leaves (service_of served) left.new) (λ fault. left.new ≡ None) }
 {
     match served {
-        Served::Ran(program) => run(program, out, left),
-        Served::Checked { unit, until } => write_check(unit, *until, out),
+        Served::Ran(kernel) => run(kernel, out, left),
+        Served::Checked { unit, until } => write_check(&unit, until, out),
         Served::Drawn {
             unit,
             graphs,
             costs,
-        } => { write_graph(unit, graphs.as_slice(), costs.as_slice(), out) }
+        } => { write_graph(&unit, graphs.as_slice(), costs.as_slice(), out) }
     }
 }
 
@@ -107,7 +105,7 @@ fn answer<F: Shelf, S: Sink>(
 {
     match judge(alloc, words, shelf) {
         Err(stop) => refuse(stop, out),
-        Ok(served) => match serve(&served, out, left) {
+        Ok(served) => match serve(served, out, left) {
             Ok(()) => 0,
             Err(_) => 4,
         },
@@ -152,8 +150,8 @@ pub fn psyc<F: Shelf, S: Sink>(
     ensures memory { result ≡ 8 → Grew (S.held out.old) (S.held out.new) [] }
 
     // What is left did what the text tells, is over, and is there after a run alone.
-    ensures left { result ≡ 0 → (done : Done) × (answering (map string_bytes words.now) (F.files shelf.old)).gives done
-        × Grew (S.held out.old) (S.held out.new) (text_of done) × (left.new ≡ left_of done) }
+    ensures left { result ≡ 0 → (done : Service) × (answering (map string_bytes words.now) (F.files shelf.old)).gives done
+        × Grew (S.held out.old) (S.held out.new) (text_of done) × Leaves done left.new }
     ensures over { IfSome left.new (λ kernel. stage_of kernel ≡ Over) }
     ensures none_left { result ≢ 0 → left.new ≡ None }
     ensures shelf { (F.faults shelf.old ≤ F.faults shelf.new) × (F.files shelf.new ≡ F.files shelf.old) }

@@ -1,6 +1,6 @@
 use Rattle.std.proofs.Common.{◌∙◌, sym, ap}
 use Rattle.std.specs.List.{list_any}
-use Rattle.psy_run.specs.Built.{expr_looks}
+use Rattle.psy_history.specs.Compiled.{expr_looks}
 use Rattle.psy_run.proofs.LookLemmas.{looks_call}
 use Rattle.psy_run.proofs.built.+expr.Goals as goal
 

@@ -1,7 +1,7 @@
 use Rattle.std.proofs.Common.{◌≡◌, ◌∙◌, sym, ap, Bool, ◌||◌}
 use Rattle.std.specs.List.{list_any}
 use Rattle.psy_tree.specs.declared.unit.Stmt.TheVariants as stmt
-use Rattle.psy_run.specs.Built.{stmt_looks}
+use Rattle.psy_history.specs.Compiled.{stmt_looks}
 use Rattle.psy_run.proofs.LookLemmas.{looks_if, looks_if_else, looks_bounded, looks_timed}
 use Rattle.psy_run.proofs.built.+stmt.Goals as goal
 

@@ -1,6 +1,6 @@
 use Rattle.std.proofs.Common.{◌≡◌, false, take}
 use Rattle.std.specs.List.{list_any}
-use Rattle.psy_run.specs.Built.{stmt_looks}
+use Rattle.psy_history.specs.Compiled.{stmt_looks}
 use Rattle.psy_run.proofs.built.+stmt.Given as goal
 
 abbrev pub invariant-stmts_look_back-stmts : goal.invariant-stmts_look_back-stmts

@@ -1,6 +1,6 @@
 use Rattle.std.proofs.Common.{◌≡◌, false, take}
 use Rattle.std.specs.List.{list_any}
-use Rattle.psy_run.specs.Built.{agent_looks}
+use Rattle.psy_history.specs.Compiled.{agent_looks}
 use Rattle.psy_run.proofs.built.agents_look_back.Given as goal
 
 abbrev pub invariant-agents : goal.invariant-agents

@@ -3,6 +3,7 @@ use Rattle.std.specs.Prelude.{map, string_bytes}
 use Rattle.psy_run.specs.declared.refusal.Refusal.TheVariants.{Words}
 use Rattle.psy_run.specs.Asked.{Asks, asked_by, Run, Check, Graph}
 use Rattle.psy_run.specs.Outcome.{halts_refused}
+use Rattle.psy_run.specs.Services.{service_of}
 use Rattle.psy_run.specs.Steps.{asking}
 use Rattle.psy_run.proofs.Courses.{halts_first, halts_last, gives_last}
 use Rattle.psy_run.proofs.commands.judge.Goals as goal
@@ -11,19 +12,19 @@ pub returns-in-None-clause-err : goal.returns-in-None-clause-err
 returns-in-None-clause-err g c = halts_first (asking _) _ _ _ _ _ (halts_refused Words (refl, c.in-None.ensures))
 
 pub returns-in-Some-Run-clause-ok : goal.returns-in-Some-Run-clause-ok
-returns-in-Some-Run-clause-ok g c = gives_last (asking _) _ (Run c.in-Some-Run.program.now c.in-Some-Run.until) _ (subst (λ read. Asks (map string_bytes c.args.words.now) (asked_by read)) c.in-Some-Run.field-0-is c.in-Some-Run.ensures) c.run.ensures.ok
+returns-in-Some-Run-clause-ok g c = gives_last (asking _) _ (Run c.in-Some-Run.program.now c.in-Some-Run.until) service_of _ (subst (λ read. Asks (map string_bytes c.args.words.now) (asked_by read)) c.in-Some-Run.field-0-is c.in-Some-Run.ensures) c.run.ensures.ok
 
 pub returns-in-Some-Run-clause-err : goal.returns-in-Some-Run-clause-err
 returns-in-Some-Run-clause-err g c = halts_last (asking _) _ _ _ _ (Run c.in-Some-Run.program.now c.in-Some-Run.until) _ (subst (λ read. Asks (map string_bytes c.args.words.now) (asked_by read)) c.in-Some-Run.field-0-is c.in-Some-Run.ensures) c.run.ensures.err
 
 pub returns-in-Some-Check-clause-ok : goal.returns-in-Some-Check-clause-ok
-returns-in-Some-Check-clause-ok g c = gives_last (asking _) _ (Check c.in-Some-Check.program.now c.in-Some-Check.until) _ (subst (λ read. Asks (map string_bytes c.args.words.now) (asked_by read)) c.in-Some-Check.field-0-is c.in-Some-Check.ensures) c.check.ensures.ok
+returns-in-Some-Check-clause-ok g c = gives_last (asking _) _ (Check c.in-Some-Check.program.now c.in-Some-Check.until) service_of _ (subst (λ read. Asks (map string_bytes c.args.words.now) (asked_by read)) c.in-Some-Check.field-0-is c.in-Some-Check.ensures) c.check.ensures.ok
 
 pub returns-in-Some-Check-clause-err : goal.returns-in-Some-Check-clause-err
 returns-in-Some-Check-clause-err g c = halts_last (asking _) _ _ _ _ (Check c.in-Some-Check.program.now c.in-Some-Check.until) _ (subst (λ read. Asks (map string_bytes c.args.words.now) (asked_by read)) c.in-Some-Check.field-0-is c.in-Some-Check.ensures) c.check.ensures.err
 
 pub returns-in-Some-Graph-clause-ok : goal.returns-in-Some-Graph-clause-ok
-returns-in-Some-Graph-clause-ok g c = gives_last (asking _) _ (Graph c.in-Some-Graph.program.now) _ (subst (λ read. Asks (map string_bytes c.args.words.now) (asked_by read)) c.in-Some-Graph.field-0-is c.in-Some-Graph.ensures) c.draw.ensures.ok
+returns-in-Some-Graph-clause-ok g c = gives_last (asking _) _ (Graph c.in-Some-Graph.program.now) service_of _ (subst (λ read. Asks (map string_bytes c.args.words.now) (asked_by read)) c.in-Some-Graph.field-0-is c.in-Some-Graph.ensures) c.draw.ensures.ok
 
 pub returns-in-Some-Graph-clause-err : goal.returns-in-Some-Graph-clause-err
 returns-in-Some-Graph-clause-err g c = halts_last (asking _) _ _ _ _ (Graph c.in-Some-Graph.program.now) _ (subst (λ read. Asks (map string_bytes c.args.words.now) (asked_by read)) c.in-Some-Graph.field-0-is c.in-Some-Graph.ensures) c.draw.ensures.err

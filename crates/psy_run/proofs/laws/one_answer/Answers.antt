@@ -19,5 +19,6 @@ returns c words files = Answers-unique (record {
   graphs = c.one_graph.ensures.same;
   graphs_or_cause = c.one_graph.ensures.apart;
   cause = c.one_graph.ensures.cause;
+  timing = c.one_graph.ensures.timing;
   cost = c.costs.ensures.one;
 }) files words

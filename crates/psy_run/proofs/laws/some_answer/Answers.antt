@@ -11,5 +11,6 @@ returns c words files = Answers-some (record {
   graphs_or_cause = c.one_graph.ensures.some;
   edges = c.one_graph.ensures.edges;
   cost = c.costs.ensures.some;
+  next = c.nexts.ensures.some;
   greatest = c.greatest.ensures.some;
 }) files words

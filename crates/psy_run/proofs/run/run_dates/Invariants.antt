@@ -1,19 +1,21 @@
-use Rattle.std.proofs.Common.{◌≡◌, ◌+◌, ◌-◌, ◌*◌, ◌≤◌}
+use Rattle.std.proofs.Common.{◌≡◌, ◌+◌, ◌-◌, ◌*◌, ◌≤◌, length}
 use Rattle.psy_door.specs.Growth.{Grew}
-use Rattle.psy_run.specs.Log.{log_of}
+use Rattle.psy_kernel.specs.Progress.{lines_told, system}
+use Rattle.psy_kernel.specs.Texts.{log_of}
 use Rattle.psy_run.proofs.run.run_dates.Given as goal
 
 abbrev pub invariant-stages : goal.invariant-stages
 invariant-stages g l =
     record {
-      program : l.kernel.program ≡ l.fn.kernel.program;
-      within : l.kernel.dates ≤ l.kernel.program.until + 1;
-      cycles : l.kernel.cycles ≤ l.kernel.dates * l.kernel.program.quantum;
-      over : l.kernel.dates ≡ l.kernel.program.until + 1 → l.kernel.cycles ≡ l.kernel.program.until * l.kernel.program.quantum;
+      same : l.kernel ≡ record (l.fn.kernel) { dates = l.kernel.dates; cycles = l.kernel.cycles; given = l.kernel.given };
+      given : l.kernel.given ≡ length (lines_told l.kernel);
+      within : l.kernel.dates ≤ l.fn.kernel.plan.until + 1;
+      cycles : l.kernel.cycles ≤ l.kernel.dates * l.fn.kernel.plan.unit.quantum;
+      over : l.kernel.dates ≡ l.fn.kernel.plan.until + 1 → l.kernel.cycles ≡ l.fn.kernel.plan.until * l.fn.kernel.plan.unit.quantum;
       counted : g.S.Sink.faults l.fn.out ≤ g.S.Sink.faults l.out;
-      grew : Grew (g.S.Sink.held l.fn.out) (g.S.Sink.held l.out) (log_of l.fn.kernel.program l.variable l.kernel.dates);
+      grew : Grew (g.S.Sink.held l.fn.out) (g.S.Sink.held l.out) (log_of (system l.fn.kernel) l.kernel.dates);
     }
 
 -- the dates and cycles that are left
 abbrev pub decreases-stages : goal.decreases-stages
-decreases-stages g l = (l.kernel.program.until + 1 - l.kernel.dates) + (l.kernel.program.until * l.kernel.program.quantum - l.kernel.cycles)
+decreases-stages g l = (l.fn.kernel.plan.until + 1 - l.kernel.dates) + (l.fn.kernel.plan.until * l.fn.kernel.plan.unit.quantum - l.kernel.cycles)

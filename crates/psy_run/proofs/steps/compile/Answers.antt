@@ -15,7 +15,7 @@ returns-in_err-raw-clause-err g c = halts_exit _ _ _ _ _ _ c.from_residual-in_er
     (halts_later (reading _ Program _) _ _ _ _ _ _ c.in_ok-bytes.ensures.ok (halts_later (lexing _) _ _ _ _ _ _ c.in_ok-tokens.ensures.ok (halts_first (parsing _) _ _ _ _ _ (c.in_err-raw.ensures.err _ _ _))))
 
 pub returns-clause-ok : goal.returns-clause-ok
-returns-clause-ok g c = gives_last (reading _ Program _) _ _ _ c.in_ok-bytes.ensures.ok (gives_last (lexing _) _ _ _ c.in_ok-tokens.ensures.ok (gives_last (parsing _) _ _ _ c.in_ok-raw.ensures.ok c.resolve.ensures.ok))
+returns-clause-ok g c = gives_last (reading _ Program _) _ _ (λ unit. unit) _ c.in_ok-bytes.ensures.ok (gives_last (lexing _) _ _ (λ unit. unit) _ c.in_ok-tokens.ensures.ok (gives_last (parsing _) _ _ (λ unit. unit) _ c.in_ok-raw.ensures.ok c.resolve.ensures.ok))
 
 pub returns-clause-err : goal.returns-clause-err
 returns-clause-err g c = halts_last (reading _ Program _) _ _ _ _ _ _ c.in_ok-bytes.ensures.ok (halts_last (lexing _) _ _ _ _ _ _ c.in_ok-tokens.ensures.ok (halts_last (parsing _) _ _ _ _ _ _ c.in_ok-raw.ensures.ok (c.resolve.ensures.err _ _ _)))

@@ -1,5 +1,7 @@
 use Rattle.std.proofs.Common.{sym, subst}
 use Rattle.psy_run.specs.Outcome.{Ends}
+use Rattle.psy_run.specs.Services.{service_of}
+use Rattle.psy_run.proofs.MeaningText.{some_left}
 use Rattle.psy_run.proofs.TopLemmas.{ends_stopped, ends_served, ends_unwritten}
 use Rattle.psy_run.proofs.top.answer.Goals as goal
 
@@ -9,7 +11,7 @@ returns-in-Err-clause-ends g c =
     (ends_stopped _ _ _ _ _ _ c.in-Err.stop c.in-Err.ensures.err c.in-Err.ensures.asked c.refuse.ensures.refused c.refuse.ensures.unread c.refuse.ensures.memory)
 
 pub returns-in-Ok-serve-clause-ends : goal.returns-in-Ok-serve-clause-ends
-returns-in-Ok-serve-clause-ends g c = ends_served _ _ _ _ _ _ c.in-Ok.served c.in-Ok.ensures.ok c.in-Ok-serve.ensures.written c.in-Ok-serve.ensures.over
+returns-in-Ok-serve-clause-ends g c = ends_served _ _ _ _ _ _ (service_of c.in-Ok.served) c.in-Ok.ensures.ok c.in-Ok-serve.ensures.written c.in-Ok-serve.ensures.over
 
-pub returns-clause-ends : goal.returns-clause-ends
-returns-clause-ends g c = ends_unwritten _ _ _ _ _ _ c.in-Ok.served c.in-Ok.ensures.ok c.in-Err-serve.ensures.failed c.in-Err-serve.ensures.written c.in-Err-serve.ensures.over
+pub returns-in-Err-serve-clause-ends : goal.returns-in-Err-serve-clause-ends
+returns-in-Err-serve-clause-ends g c = ends_unwritten _ _ _ _ _ _ (service_of c.in-Ok.served) c.in-Ok.ensures.ok (some_left c.in-Ok.served c.in-Ok.ensures.can) c.in-Err-serve.ensures.failed c.in-Err-serve.ensures.written c.in-Err-serve.ensures.over

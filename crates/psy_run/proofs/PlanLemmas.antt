@@ -1,0 +1,66 @@
+-- What makes a plan of a program, and what is known of inputs that have no lists.
+use Rattle.std.proofs.Common.{◌≡◌, ◌∙◌, sym, ap, subst, ℕ, zero, suc, ◌<◌, List, [], ◌∷◌, map, length, get_or, slice_get, Some, ℤ, arith}
+use Rattle.std.proofs.lemmas.List.{length-map}
+use Rattle.std.proofs.lemmas.Option.{slice_get_within, slice_get-get_or, get_or_from_slice_get}
+use Rattle.psy_dates.specs.declared.plan.Plan.{Plan}
+use Rattle.psy_dates.specs.Plans.{IsFeasibleFor, system_of}
+use Rattle.psy_graph.specs.declared.graph.Graph.{Graph}
+use Rattle.psy_graph.specs.Graphs.{AreGraphs, IsTimingOf, spot_of}
+use Rattle.psy_history.specs.Compiled.{AreAllNexts, AreEdgesOf, AreInputs}
+use Rattle.psy_meaning.specs.Alike.{AllFit}
+use Rattle.psy_meaning.specs.Executors.{agent_at}
+use Rattle.psy_meaning.specs.Graph.{IsGraph}
+use Rattle.psy_meaning.specs.Timing.{Timing, timing_of}
+use Rattle.psy_tree.specs.declared.unit.Unit.{Unit as Whole}
+use Rattle.psy_run.specs.Answer.{supplying}
+use Rattle.psy_run.specs.Courses.{in_row}
+use Rattle.psy_run.specs.Services.{no_inputs}
+use Rattle.psy_run.specs.Steps.{edges_of}
+use Rattle.psy_run.proofs.RowLemmas.{there}
+use Rattle.psy_run.proofs.SupplyLemmas.{edges_at}
+
+-- ---- a plan's graphs
+
+-- how the actions of an agent begin and end, where these points follow
+timing_at : (unit : Whole) (nexts : List (List (List ℕ))) → AreAllNexts unit nexts → (number : ℕ) → number < length unit.agents
+    → IsTimingOf unit number (timing_of unit (agent_at unit number) (get_or nexts number []))
+timing_at unit nexts follow number less =
+    let agent = there unit.agents number less in
+    let list = there nexts number (subst (λ n. number < n) (sym follow.count) less) in
+    let same : timing_of unit (agent_at unit number) (get_or nexts number []) ≡ timing_of unit agent.0 list.0 =
+        ap (λ a. timing_of unit a (get_or nexts number [])) (get_or_from_slice_get unit.agents number agent.0 _ agent.1) ∙ ap (timing_of unit agent.0) (get_or_from_slice_get nexts number list.0 [] list.1) in
+    (agent.0, list.0, agent.1, follow.each number agent.0 list.0 agent.1 list.1, same)
+
+module _ (one : (unit : Whole) (number : ℕ) (timing other : Timing) → IsTimingOf unit number timing → IsTimingOf unit number other → timing ≡ other) where
+  pub are_edges : (plan : Plan) (graphs : List Graph) → AreAllNexts plan.unit plan.nexts → AreGraphs plan.unit graphs → AreEdgesOf (system_of plan [] (λ agent. [])) (edges_of graphs)
+  are_edges plan graphs follow are = record {
+    count = length-map graphs (λ graph. graph.edges) ∙ are.count;
+    each = λ number edges at.
+      let graph = edges_at graphs number edges at in
+      let has = are.each number graph.0 graph.1 in
+      let less : number < length plan.unit.agents = subst (λ n. number < n) are.count (slice_get_within graphs number graph.0 graph.1) in
+      let same = one plan.unit number has.0 (timing_of plan.unit (agent_at plan.unit number) (get_or plan.nexts number [])) has.1 (timing_at plan.unit plan.nexts follow number less) in
+      (map spot_of graph.0.nodes, subst (λ t. IsGraph t (map spot_of graph.0.nodes) edges) same (subst (λ e. IsGraph has.0 (map spot_of graph.0.nodes) e) graph.2 has.2.drawn));
+  }
+
+  pub is_feasible_for : (plan : Plan) → AreAllNexts plan.unit plan.nexts → (graphs : List Graph) → (supplying plan.unit plan.until).gives graphs → IsFeasibleFor plan
+  unfolding in_row
+  is_feasible_for plan follow graphs (drawn, are, (few, held, (done, feasible, same))) = record {
+    graphs = edges_of drawn;
+    drawn = are_edges plan drawn follow are;
+    feasible = feasible;
+  }
+
+-- ---- no inputs
+
+empty_at : {X : Type 0} (xs : List X) (i : ℕ) (list : List ℤ) → slice_get (map (λ x. []) xs) i ≡ Some list → list ≡ []
+empty_at [] i list at = cc
+empty_at (x ∷ xs) zero list at = cc
+empty_at (x ∷ xs) (suc i) list at = empty_at xs i list at
+
+pub are_no_inputs : (unit : Whole) → AreInputs unit (no_inputs unit)
+are_no_inputs unit = record {
+  count = length-map unit.variables (λ v. []);
+  values = λ k d less. subst AllFit (sym (empty_at unit.variables k (get_or (no_inputs unit) k d) (slice_get-get_or (no_inputs unit) k d less))) (λ i e none. absurd (omega (arith, none)));
+  owned = λ variable owner list is at. empty_at unit.variables variable list at;
+}

@@ -1,0 +1,74 @@
+-- What a command does, once nothing refuses it, and its text.
+use Rattle.std.specs.Prelude.{◌≡◌, ℕ, ◌+◌, ◌*◌, List, [], ◌∷◌, map, length, Option, None, Some, ℤ}
+use Rattle.psy_tree.specs.declared.unit.Unit.{Unit as Whole}
+use Rattle.psy_meaning.specs.Actions.{System}
+use Rattle.psy_graph.specs.declared.graph.Graph.{Graph}
+use Rattle.psy_history.specs.Compiled.{stated}
+use Rattle.psy_dates.specs.declared.plan.Sizes.{Sizes}
+use Rattle.psy_dates.specs.Plans.{IsPlan}
+use Rattle.psy_kernel.specs.declared.script.Script.{Script}
+use Rattle.psy_kernel.specs.Progress.{Progress, lines_told}
+use Rattle.psy_kernel.specs.Scripts.{order_of, stalls_of}
+use Rattle.psy_kernel.specs.Texts.{run_text}
+use Rattle.psy_run.specs.declared.served.Served.{Served}
+use Rattle.psy_run.specs.declared.served.Served.TheVariants as served
+use Rattle.psy_run.specs.Texts.{check_text, graph_text}
+
+-- What a command does: it runs a program, whose points may be followed by these, up to a date; it checks one; or it draws its graphs.
+pub data Service : Type 0 where
+  Ran : (unit : Whole) (nexts : List (List (List ℕ))) (until : ℕ) → Service
+  Checked : (unit : Whole) (until : ℕ) → Service
+  Drawn : (unit : Whole) (graphs : List Graph) (costs : List (List ℕ)) → Service
+
+-- ---- a run without inputs and script
+
+-- No input has a list.
+abbrev pub no_inputs : Whole → List (List ℤ)
+no_inputs unit = map (λ v. []) unit.variables
+
+-- No action is stalled, and ties go by the order of declaration.
+abbrev pub no_script : Script
+no_script = record { stalls = []; orders = [] }
+
+-- As many places as each variable's depth, where nobody looks at it and there are no streams
+abbrev pub depths_of : Whole → Sizes
+depths_of unit = record { rings = map (λ v. v.depth) unit.variables; queues = []; outboxes = map (λ a. 0) unit.agents }
+
+-- The dated meaning of a program's statements, without inputs and script
+abbrev pub meaning_of : Whole → List (List (List ℕ)) → System
+meaning_of unit nexts = stated unit nexts (stalls_of no_script) (no_inputs unit)
+
+-- ---- texts
+
+-- The text of what is done. That of a run is the one of the dated meaning, which knows no code and no schedule but for the summary.
+abbrev pub text_of : Service → List ℕ
+text_of (Ran unit nexts until) = run_text (meaning_of unit nexts) (order_of unit no_script) (depths_of unit) until
+text_of (Checked unit until) = check_text unit until
+text_of (Drawn unit graphs costs) = graph_text unit.agents graphs costs
+
+-- ---- what is left
+
+-- A kernel that ran the program to its last date: it is over, and gave all its lines.
+pub record HasRun (unit : Whole) (nexts : List (List (List ℕ))) (until : ℕ) (p : Progress) : Type 0 where
+  pub plan : IsPlan p.plan
+  pub its_unit : p.plan.unit ≡ unit
+  pub its_nexts : p.plan.nexts ≡ nexts
+  pub its_until : p.plan.until ≡ until
+  pub inputs : p.inputs ≡ no_inputs unit
+  pub script : p.script ≡ no_script
+  pub dates : p.dates ≡ until + 1
+  pub cycles : p.cycles ≡ until * unit.quantum
+  pub given : p.given ≡ length (lines_told p)
+
+-- The kernel that is left: that of a run, and none of another command
+abbrev pub Leaves : Service → Option Progress → Type 0
+Leaves (Ran unit nexts until) left = (p : Progress) × (left ≡ Some p) × HasRun unit nexts until p
+Leaves service left = left ≡ None
+
+-- ---- what is served
+
+-- What was made ready for it: a kernel that was just booted, or what is written
+abbrev pub service_of : Served → Service
+service_of (served.Ran kernel) = Ran kernel.plan.unit kernel.plan.nexts kernel.plan.until
+service_of (served.Checked unit until) = Checked unit until
+service_of (served.Drawn unit graphs costs) = Drawn unit graphs costs
