@@ -3,6 +3,7 @@ pub mod CyclesDone
 pub mod CyclesGiven
 pub mod Dated
 mod DatesDue
+mod FewLines
 mod FigureLines
 pub mod GetsCycle
 mod GivenLines

@@ -1,14 +1,14 @@
 -- The text of a run grows line by line, and date by date.
-use Rattle.std.proofs.Common.{◌≡◌, ◌≢◌, ◌∙◌, sym, ap, subst, refl, ℕ, zero, suc, ◌+◌, ◌*◌, ◌<◌, ◌≤◌, List, [], ◌∷◌, ◌++◌, append_assoc, append-nil, length, get_or, slice_get, take, Some, Option, arith, inl, inr}
+use Rattle.std.proofs.Common.{◌≡◌, ◌≢◌, ◌∙◌, sym, ap, subst, refl, ℕ, zero, suc, ◌+◌, ◌*◌, ◌≤◌, List, [], ◌∷◌, ◌++◌, append_assoc, append-nil, length, slice_get, take, Some, Option, arith, inl, inr, add-one}
 use Rattle.std.specs.List.{flat_map, range_with_len}
 use Rattle.std.proofs.lemmas.Bool.Decides.{nat_tests}
 use Rattle.std.proofs.lemmas.Grind.{flat_map-append}
 use Rattle.std.proofs.lemmas.List.{take_all}
-use Rattle.std.proofs.lemmas.Option.{slice_get-get_or, slice_get_within, get_or_from_slice_get}
+use Rattle.std.proofs.lemmas.Option.{slice_get_within, get_or_from_slice_get}
 use Rattle.std.proofs.Math.Nat.{eq-or-lt_of_le}
 use Rattle.psy_door.specs.Growth.{Grew, GrewByFront}
 use Rattle.psy_kernel.specs.declared.stage.Stage.TheVariants.{DateDue}
-use Rattle.psy_kernel.specs.Progress.{Progress, lines_at, lines_told, stage_of, system}
+use Rattle.psy_kernel.specs.Progress.{Progress, after_date, after_line, lines_at, lines_told, stage_of, system}
 use Rattle.psy_kernel.specs.Texts.{lines_of, log_of, text_of}
 use Rattle.psy_meaning.specs.Actions.{System}
 use Rattle.psy_run.proofs.GrowthLemmas.{Grew-trans}
@@ -45,7 +45,7 @@ log-suc s n =
     ap (flat_map lines) (range_more 0 n) ∙ flat_map-append lines (range_with_len 0 n) ((0 + n) ∷ []) ∙ ap (λ text. log_of s n ++ text) (append-nil (lines (0 + n))) ∙ ap (λ m. log_of s n ++ lines m) e
 
 pub log-next : (s : System) (n : ℕ) → log_of s (n + 1) ≡ log_of s n ++ text_of (lines_of s n)
-log-next s n = let e : n + 1 ≡ suc n = omega arith in rw e (log-suc s n)
+log-next s n = ap (log_of s) (add-one n) ∙ log-suc s n
 
 -- the text of more dates begins with that of fewer
 pub log-more : (s : System) (dates n : ℕ) → dates ≤ n → (rest : List ℕ) × (log_of s n ≡ log_of s dates ++ rest)
@@ -71,3 +71,22 @@ GrewByFront-date a b c s date n h before lines =
 -- what is due where a date is
 pub stage-date : (p : Progress) (date : ℕ) → stage_of p ≡ DateDue date → (date ≡ p.dates) × (p.cycles ≡ p.dates * p.plan.unit.quantum) × (p.dates ≢ p.plan.until + 1)
 stage-date p date e = (grind (arith, nat_tests), grind (arith, nat_tests), grind (arith, nat_tests))
+
+-- the lines of the date that is done next
+pub lines_told-after : (p : Progress) → lines_told (after_date p) ≡ lines_of (system p) p.dates
+lines_told-after p = ap (lines_at (system p)) (add-one p.dates)
+
+-- a run whose program, inputs and script are another's
+pub progress-parts : (p q : Progress) → p.plan ≡ q.plan → p.inputs ≡ q.inputs → p.script ≡ q.script → p ≡ record q { dates = p.dates; cycles = p.cycles; given = p.given }
+progress-parts p q plan inputs script = λ i. record { plan = plan i; inputs = inputs i; script = script i; dates = p.dates; cycles = p.cycles; given = p.given }
+
+-- the cycles done so far are before the next date
+pub cycles-after : (quantum dates cycles : ℕ) → cycles ≡ dates * quantum → cycles ≤ (dates + 1) * quantum
+cycles-after quantum dates cycles is = omega (arith, is)
+
+-- one line more was given of a run that is another's but for the lines given
+pub given-set : (p q r : Progress) → p ≡ after_line q → q ≡ record r { given = q.given } → p ≡ record r { given = p.given }
+given-set p q r after same =
+    let set : ℕ → Progress = λ n. record r { given = n } in
+    let next : Progress → Progress = after_line in
+    after ∙ ap next same ∙ ap set (sym (ap (λ k. k.given) after))

@@ -6,7 +6,7 @@ use Rattle.psy_budget.specs.declared.charge.Stall.{Stall}
 use Rattle.psy_code.specs.declared.code.Code.{Code}
 use Rattle.psy_tree.specs.declared.unit.Unit.{Unit as Whole}
 use Rattle.psy_dates.specs.declared.plan.Sizes.{Sizes}
-use Rattle.psy_dates.specs.Plans.{IsPlan}
+use Rattle.psy_dates.specs.Plans.{AreSizes, IsPlan}
 use Rattle.psy_history.specs.Compiled.{AreInputs, IsCompiled, coded, stated}
 use Rattle.psy_history.specs.Scheduled.{turns_of}
 use Rattle.psy_kernel.specs.Progress.{Progress, booted, lines_told, order, stage_of, system}
@@ -20,7 +20,7 @@ use Rattle.psy_meaning.specs.Lines.{events}
 use Rattle.psy_meaning.specs.Summary.{due_by, most_held, reach, slack}
 use Rattle.psy_run.specs.Outcome.{CanServe}
 use Rattle.psy_run.specs.Runs.{all_given, ended}
-use Rattle.psy_run.specs.Services.{HasRun, Leaves, Service, Ran, no_inputs, no_script, service_of}
+use Rattle.psy_run.specs.Services.{HasRun, Leaves, Service, Ran, depths_of, no_inputs, no_script, service_of}
 use Rattle.psy_run.specs.Services as service
 use Rattle.psy_run.specs.declared.served.Served.{Served}
 use Rattle.psy_run.specs.declared.served.Served.TheVariants as served
@@ -34,12 +34,6 @@ pub record AreAlike (a b : System) : Type 0 where
   pub reaches : (order : ℕ → List ℕ) (dates cycles variable : ℕ) → reach a (turns_of a order cycles) (history a dates) variable ≡ reach b (turns_of b order cycles) (history b dates) variable
 
 module _ (unit : Whole) (code : Code) (nexts : List (List (List ℕ))) (stalls : ℕ → List Stall) (inputs : List (List ℤ)) where
-  a : System
-  a = coded unit code nexts stalls inputs
-
-  b : System
-  b = stated unit nexts stalls inputs
-
   module _ (alike : AreAlike (coded unit code nexts stalls inputs) (stated unit nexts stalls inputs)) (ties : ℕ → List ℕ) (sizes : Sizes) (until : ℕ) where
     same_lines : (date : ℕ) → text_of (lines_of (coded unit code nexts stalls inputs) date) ≡ text_of (lines_of (stated unit nexts stalls inputs) date)
     same_lines date = ap (λ told. text_of (map (event_line (stated unit nexts stalls inputs) date) told)) (alike.lines date)
@@ -80,3 +74,18 @@ pub some_left : (done : Served) → CanServe done → (left : Option Progress) �
 some_left (served.Ran kernel) can = (Some (ended kernel), (ended kernel, refl, has_run kernel can))
 some_left (served.Checked unit until) can = (None, refl)
 some_left (served.Drawn unit graphs costs) can = (None, refl)
+
+-- ---- the text of what is served
+
+same_sizes : (unit : Whole) (sizes : Sizes) → AreSizes unit sizes → sizes ≡ depths_of unit
+same_sizes unit sizes are = λ i. record { rings = are.rings i; queues = are.queues i; outboxes = are.outboxes i }
+
+-- a kernel that was just booted, without inputs and script, writes the text of the statements
+pub served_text : (kernel : Progress) → CanServe (served.Ran kernel) → AreAlike (coded kernel.plan.unit kernel.plan.code kernel.plan.nexts (stalls_of no_script) (no_inputs kernel.plan.unit)) (stated kernel.plan.unit kernel.plan.nexts (stalls_of no_script) (no_inputs kernel.plan.unit))
+    → run_text (system kernel) (order kernel) kernel.plan.sizes kernel.plan.until ≡ service.text_of (service_of (served.Ran kernel))
+served_text kernel (is, plan) alike =
+    let inputs = ap (λ (p : Progress). p.inputs) is in
+    let script = ap (λ (p : Progress). p.script) is in
+    let sizes = same_sizes kernel.plan.unit kernel.plan.sizes plan.buffers in
+    (λ i. run_text (coded kernel.plan.unit kernel.plan.code kernel.plan.nexts (stalls_of (script i)) (inputs i)) (order_of kernel.plan.unit (script i)) (sizes i) kernel.plan.until)
+    ∙ same_text kernel.plan.unit kernel.plan.code kernel.plan.nexts (stalls_of no_script) (no_inputs kernel.plan.unit) alike (order_of kernel.plan.unit no_script) (depths_of kernel.plan.unit) kernel.plan.until

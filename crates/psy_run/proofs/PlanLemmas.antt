@@ -28,7 +28,7 @@ timing_at unit nexts follow number less =
     let agent = there unit.agents number less in
     let list = there nexts number (subst (λ n. number < n) (sym follow.count) less) in
     let same : timing_of unit (agent_at unit number) (get_or nexts number []) ≡ timing_of unit agent.0 list.0 =
-        ap (λ a. timing_of unit a (get_or nexts number [])) (get_or_from_slice_get unit.agents number agent.0 _ agent.1) ∙ ap (timing_of unit agent.0) (get_or_from_slice_get nexts number list.0 [] list.1) in
+    ap (λ a. timing_of unit a (get_or nexts number [])) (get_or_from_slice_get unit.agents number agent.0 _ agent.1) ∙ ap (timing_of unit agent.0) (get_or_from_slice_get nexts number list.0 [] list.1) in
     (agent.0, list.0, agent.1, follow.each number agent.0 list.0 agent.1 list.1, same)
 
 module _ (one : (unit : Whole) (number : ℕ) (timing other : Timing) → IsTimingOf unit number timing → IsTimingOf unit number other → timing ≡ other) where
@@ -36,11 +36,11 @@ module _ (one : (unit : Whole) (number : ℕ) (timing other : Timing) → IsTimi
   are_edges plan graphs follow are = record {
     count = length-map graphs (λ graph. graph.edges) ∙ are.count;
     each = λ number edges at.
-      let graph = edges_at graphs number edges at in
-      let has = are.each number graph.0 graph.1 in
-      let less : number < length plan.unit.agents = subst (λ n. number < n) are.count (slice_get_within graphs number graph.0 graph.1) in
-      let same = one plan.unit number has.0 (timing_of plan.unit (agent_at plan.unit number) (get_or plan.nexts number [])) has.1 (timing_at plan.unit plan.nexts follow number less) in
-      (map spot_of graph.0.nodes, subst (λ t. IsGraph t (map spot_of graph.0.nodes) edges) same (subst (λ e. IsGraph has.0 (map spot_of graph.0.nodes) e) graph.2 has.2.drawn));
+        let graph = edges_at graphs number edges at in
+        let has = are.each number graph.0 graph.1 in
+        let less : number < length plan.unit.agents = subst (λ n. number < n) are.count (slice_get_within graphs number graph.0 graph.1) in
+        let same = one plan.unit number has.0 (timing_of plan.unit (agent_at plan.unit number) (get_or plan.nexts number [])) has.1 (timing_at plan.unit plan.nexts follow number less) in
+        (map spot_of graph.0.nodes, subst (λ t. IsGraph t (map spot_of graph.0.nodes) edges) same (subst (λ e. IsGraph has.0 (map spot_of graph.0.nodes) e) graph.2 has.2.drawn));
   }
 
   pub is_feasible_for : (plan : Plan) → AreAllNexts plan.unit plan.nexts → (graphs : List Graph) → (supplying plan.unit plan.until).gives graphs → IsFeasibleFor plan

@@ -1,6 +1,5 @@
 -- How far a kernel's run is when all lines of its last date were given, and at its end.
 use Rattle.std.specs.Prelude.{◌+◌, ◌*◌, length}
-
 use Rattle.psy_kernel.specs.Progress.{Progress, lines_told}
 
 -- All lines of the date done last were given.

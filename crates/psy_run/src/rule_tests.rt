@@ -461,7 +461,8 @@ const MEETINGS: [Case; 15] = [
 ];
 
 // Declarations that make a lawful program one that isn't run so far.
-const A_STREAM: &str = " clock z = 1 * tick; agent Z on z budget 1 { body { advance 1 on z; } } stream zs to Z keep 1 on z;";
+const A_STREAM: &str =
+    " clock z = 1 * tick; agent Z on z budget 1 { body { advance 1 on z; } } stream zs to Z keep 1 on z;";
 
 // The text that is written of a program that breaks a rule, or of one that isn't run so far.
 fn refusal(alloc: Global, rule: u32, token: u32) -> Result<String, Fail> {

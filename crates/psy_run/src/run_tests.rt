@@ -117,12 +117,24 @@ fn as_many_agents_run_as_there_may_be(rt: HostRuntime) -> Result<(), Fail> {
     let mut program = String::from_str(rt.alloc(), "tick 200; clock c = 1 * tick;")?;
     let mut text = String::from_str(rt.alloc(), "end 1\n")?;
     for agent in 0..64u32 {
-        let declared = format!(in rt.alloc(); " agent A{agent} on c budget 2 {{ body {{ advance 1 on c; }} }}")?;
+        let declared = format!(in rt.alloc();
+            " agent A{agent} on c budget 2 {{ body {{ advance 1 on c; }} }}"
+        )?;
         program.push_str(declared.as_str())?;
         let slack = 199u32.saturating_sub(agent);
         let line = format!(in rt.alloc(); "agent A{agent} 1 {slack}\n")?;
         text.push_str(line.as_str())?;
     }
-    let room = Devices { room: 9999, ..SOUND };
-    compare(&rt, &["run", "prog.psy", "1"], program.as_bytes(), room, 0, text.as_str())
+    let room = Devices {
+        room: 9999,
+        ..SOUND
+    };
+    compare(
+        &rt,
+        &["run", "prog.psy", "1"],
+        program.as_bytes(),
+        room,
+        0,
+        text.as_str(),
+    )
 }

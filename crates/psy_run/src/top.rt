@@ -53,7 +53,11 @@ fn refuse<S: Sink>(stop: Stop, out: &mut S) -> u8
 }
 
 // Runs a kernel that was just booted, and leaves it.
-fn run<S: Sink>(mut kernel: Kernel, out: &mut S, left: &mut Option<Kernel>) -> Result<(), WriteFault>
+fn run<S: Sink>(
+    mut kernel: Kernel,
+    out: &mut S,
+    left: &mut Option<Kernel>,
+) -> Result<(), WriteFault>
     requires can { CanServe (Served.Ran kernel) }
     requires empty { left.old ≡ None }
     ensures counted { S.faults out.old ≤ S.faults out.new }

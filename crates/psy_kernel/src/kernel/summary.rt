@@ -1,4 +1,4 @@
-ghost use Rattle.std.specs.Prelude.{◌≡◌, ◌≤◌, length, slice_get, Some, IsTrue, IsFalse};
+ghost use Rattle.std.specs.Prelude.{◌<◌, ◌^◌, ◌≡◌, ◌≤◌, length, slice_get, Some, IsTrue, IsFalse};
 ghost use Rattle.psy_dates.specs.Plans.{IsPlan};
 ghost use Rattle.psy_kernel.specs.Progress.{stage_of, summary_told};
 ghost use Rattle.psy_kernel.specs.Telling.{figured_lines};
@@ -51,6 +51,8 @@ impl Kernel {
         requires over { stage_of self.now ≡ Stage.Over }
         ensures some { IsTrue result → slice_get (summary_told self.now) place ≡ Some line.new }
         ensures none { IsFalse result → (length (summary_told self.now) ≤ place) × (line.new ≡ line.old) }
+        // The place behind the last line is a number of 32 bits too.
+        ensures few { length (summary_told self.now) < 2 ^ 32 }
     {
         regular();
         on_time();

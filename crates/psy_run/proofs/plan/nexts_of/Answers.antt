@@ -22,7 +22,7 @@ points-preserved c =
     let is : read ≡ get_or unit.agents c.args.number read = c.index-as_slice-number.is ∙ ap (λ agents. get_or agents c.args.number read) c.as_slice.ensures in
     let here : slice_get unit.agents c.args.number ≡ Some read = slice_get-get_or unit.agents c.args.number read c.requires.agent ∙ ap Some (sym is) in
     let last : P c.points.point list = λ agent at. let same : read ≡ agent = read_is unit.agents c.args.number read agent c.requires.agent is at in
-        subst (λ a. Rises list × ((to : ℕ) → Contains list to ↔ IsNext unit.functions a c.points.point to)) same (c.in_ok-list.ensures.rising, c.in_ok-list.ensures.next unit c.args.number (c.requires.text, here)) in
+    subst (λ a. Rises list × ((to : ℕ) → Contains list to ↔ IsNext unit.functions a c.points.point to)) same (c.in_ok-list.ensures.rising, c.in_ok-list.ensures.next unit c.args.number (c.requires.text, here)) in
     record {
       count = omega (arith, ap length c.in_ok-push.ensures, length-append nexts (list ∷ []), c.points.invariant.count);
       each = subst (λ lists. (point : ℕ) (list' : List ℕ) → slice_get lists point ≡ Some list' → P point list') (sym c.in_ok-push.ensures) (each_pushed P nexts list c.points.invariant.each (subst (λ n. P n list) (sym c.points.invariant.count) last));

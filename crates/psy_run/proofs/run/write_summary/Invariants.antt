@@ -1,4 +1,4 @@
-use Rattle.std.proofs.Common.{◌≡◌, ◌≤◌, ◌-◌, length, take}
+use Rattle.std.proofs.Common.{◌≤◌, ◌-◌, length, take}
 use Rattle.psy_door.specs.Growth.{Grew}
 use Rattle.psy_kernel.specs.Progress.{summary_told}
 use Rattle.psy_kernel.specs.Texts.{text_of}
@@ -7,11 +7,11 @@ use Rattle.psy_run.proofs.run.write_summary.Given as goal
 abbrev pub invariant-lines : goal.invariant-lines
 invariant-lines g l =
     record {
-      within : l.place ≤ length (summary_told l.kernel.now);
+      within : l.place ≤ length (summary_told l.kernel);
       counted : g.S.Sink.faults l.fn.out ≤ g.S.Sink.faults l.out;
-      grew : Grew (g.S.Sink.held l.fn.out) (g.S.Sink.held l.out) (text_of (take l.place (summary_told l.kernel.now)));
+      grew : Grew (g.S.Sink.held l.fn.out) (g.S.Sink.held l.out) (text_of (take l.place (summary_told l.kernel)));
     }
 
 -- the lines that are left
 abbrev pub decreases-lines : goal.decreases-lines
-decreases-lines g l = length (summary_told l.kernel.now) - l.place
+decreases-lines g l = length (summary_told l.kernel) - l.place

@@ -1,9 +1,10 @@
-use Rattle.std.proofs.Common.{◌≡◌, ◌≤◌, length, slice_get, sym, ap, subst, ◌∙◌, arith}
+use Rattle.std.proofs.Common.{◌≡◌, ◌<◌, ◌≤◌, ◌^◌, length, slice_get, sym, ap, subst, ◌∙◌, arith}
 use Rattle.psy_kernel.specs.Progress.{order, stage_of, summary_told, system}
 use Rattle.psy_kernel.specs.declared.stage.Stage.TheVariants.{Over}
 use Rattle.psy_kernel.specs.Scripts.{stalls_of}
 use Rattle.psy_kernel.specs.Standing.{progress_of}
 use Rattle.psy_kernel.specs.Telling.{figured_lines}
+use Rattle.psy_kernel.proofs.FewLines.{summary-few}
 use Rattle.psy_kernel.proofs.SummaryLines.{summary_figured}
 use Rattle.psy_kernel.proofs.kernel.Kernel.summary_line.Goals as goal
 
@@ -20,5 +21,6 @@ returns c =
     ∙ ap (figured_lines k.plan) (sym c.deref.ensures.value) in
     record {
       some = λ is. ap (λ lines. slice_get lines c.args.place) told ∙ c.tell_figure.ensures.some is;
+      few = subst (λ p. length (summary_told p) < 2 ^ 32) c.self.view_is (summary-few (progress_of k) w.plan);
       none = λ is. (subst (λ lines. length lines ≤ c.args.place) (sym told) (c.tell_figure.ensures.none is).0, (c.tell_figure.ensures.none is).1);
     }
