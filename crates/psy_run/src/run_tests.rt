@@ -1,6 +1,5 @@
 //! Runs of several agents, of overruns and of traps.
 use crate::tests::{Devices, SOUND, compare};
-use std::process::Abort;
 use std::test::Fail;
 
 // A program, the last date of its run, and its text.
@@ -23,6 +22,76 @@ const TWO_SMALL_BUDGETS: &str = "tick 20; clock c = 1 * tick;
 temporal x of A on c = 0 depth 1; temporal y of B on c = 0 depth 1;
 agent A on c budget 3 { body { x = 1; advance 1 on c; } }
 agent B on c budget 3 { body { y = 2; advance 1 on c; } }";
+
+// As many agents as there may be, on one clock.
+const MANY_AGENTS: &str = "tick 200; clock c = 1 * tick;
+agent A0 on c budget 2 { body { advance 1 on c; } }
+agent A1 on c budget 2 { body { advance 1 on c; } }
+agent A2 on c budget 2 { body { advance 1 on c; } }
+agent A3 on c budget 2 { body { advance 1 on c; } }
+agent A4 on c budget 2 { body { advance 1 on c; } }
+agent A5 on c budget 2 { body { advance 1 on c; } }
+agent A6 on c budget 2 { body { advance 1 on c; } }
+agent A7 on c budget 2 { body { advance 1 on c; } }
+agent A8 on c budget 2 { body { advance 1 on c; } }
+agent A9 on c budget 2 { body { advance 1 on c; } }
+agent A10 on c budget 2 { body { advance 1 on c; } }
+agent A11 on c budget 2 { body { advance 1 on c; } }
+agent A12 on c budget 2 { body { advance 1 on c; } }
+agent A13 on c budget 2 { body { advance 1 on c; } }
+agent A14 on c budget 2 { body { advance 1 on c; } }
+agent A15 on c budget 2 { body { advance 1 on c; } }
+agent A16 on c budget 2 { body { advance 1 on c; } }
+agent A17 on c budget 2 { body { advance 1 on c; } }
+agent A18 on c budget 2 { body { advance 1 on c; } }
+agent A19 on c budget 2 { body { advance 1 on c; } }
+agent A20 on c budget 2 { body { advance 1 on c; } }
+agent A21 on c budget 2 { body { advance 1 on c; } }
+agent A22 on c budget 2 { body { advance 1 on c; } }
+agent A23 on c budget 2 { body { advance 1 on c; } }
+agent A24 on c budget 2 { body { advance 1 on c; } }
+agent A25 on c budget 2 { body { advance 1 on c; } }
+agent A26 on c budget 2 { body { advance 1 on c; } }
+agent A27 on c budget 2 { body { advance 1 on c; } }
+agent A28 on c budget 2 { body { advance 1 on c; } }
+agent A29 on c budget 2 { body { advance 1 on c; } }
+agent A30 on c budget 2 { body { advance 1 on c; } }
+agent A31 on c budget 2 { body { advance 1 on c; } }
+agent A32 on c budget 2 { body { advance 1 on c; } }
+agent A33 on c budget 2 { body { advance 1 on c; } }
+agent A34 on c budget 2 { body { advance 1 on c; } }
+agent A35 on c budget 2 { body { advance 1 on c; } }
+agent A36 on c budget 2 { body { advance 1 on c; } }
+agent A37 on c budget 2 { body { advance 1 on c; } }
+agent A38 on c budget 2 { body { advance 1 on c; } }
+agent A39 on c budget 2 { body { advance 1 on c; } }
+agent A40 on c budget 2 { body { advance 1 on c; } }
+agent A41 on c budget 2 { body { advance 1 on c; } }
+agent A42 on c budget 2 { body { advance 1 on c; } }
+agent A43 on c budget 2 { body { advance 1 on c; } }
+agent A44 on c budget 2 { body { advance 1 on c; } }
+agent A45 on c budget 2 { body { advance 1 on c; } }
+agent A46 on c budget 2 { body { advance 1 on c; } }
+agent A47 on c budget 2 { body { advance 1 on c; } }
+agent A48 on c budget 2 { body { advance 1 on c; } }
+agent A49 on c budget 2 { body { advance 1 on c; } }
+agent A50 on c budget 2 { body { advance 1 on c; } }
+agent A51 on c budget 2 { body { advance 1 on c; } }
+agent A52 on c budget 2 { body { advance 1 on c; } }
+agent A53 on c budget 2 { body { advance 1 on c; } }
+agent A54 on c budget 2 { body { advance 1 on c; } }
+agent A55 on c budget 2 { body { advance 1 on c; } }
+agent A56 on c budget 2 { body { advance 1 on c; } }
+agent A57 on c budget 2 { body { advance 1 on c; } }
+agent A58 on c budget 2 { body { advance 1 on c; } }
+agent A59 on c budget 2 { body { advance 1 on c; } }
+agent A60 on c budget 2 { body { advance 1 on c; } }
+agent A61 on c budget 2 { body { advance 1 on c; } }
+agent A62 on c budget 2 { body { advance 1 on c; } }
+agent A63 on c budget 2 { body { advance 1 on c; } }";
+
+const MANY_LINES: &str =
+    "end 1\nagent A0 1 199\nagent A1 1 198\nagent A2 1 197\nagent A3 1 196\nagent A4 1 195\nagent A5 1 194\nagent A6 1 193\nagent A7 1 192\nagent A8 1 191\nagent A9 1 190\nagent A10 1 189\nagent A11 1 188\nagent A12 1 187\nagent A13 1 186\nagent A14 1 185\nagent A15 1 184\nagent A16 1 183\nagent A17 1 182\nagent A18 1 181\nagent A19 1 180\nagent A20 1 179\nagent A21 1 178\nagent A22 1 177\nagent A23 1 176\nagent A24 1 175\nagent A25 1 174\nagent A26 1 173\nagent A27 1 172\nagent A28 1 171\nagent A29 1 170\nagent A30 1 169\nagent A31 1 168\nagent A32 1 167\nagent A33 1 166\nagent A34 1 165\nagent A35 1 164\nagent A36 1 163\nagent A37 1 162\nagent A38 1 161\nagent A39 1 160\nagent A40 1 159\nagent A41 1 158\nagent A42 1 157\nagent A43 1 156\nagent A44 1 155\nagent A45 1 154\nagent A46 1 153\nagent A47 1 152\nagent A48 1 151\nagent A49 1 150\nagent A50 1 149\nagent A51 1 148\nagent A52 1 147\nagent A53 1 146\nagent A54 1 145\nagent A55 1 144\nagent A56 1 143\nagent A57 1 142\nagent A58 1 141\nagent A59 1 140\nagent A60 1 139\nagent A61 1 138\nagent A62 1 137\nagent A63 1 136\n";
 
 const RUNS: [Run; 15] = [
     (
@@ -114,17 +183,6 @@ fn each_program_runs_as_it_means(rt: HostRuntime) -> Result<(), Fail> {
 
 #[test]
 fn as_many_agents_run_as_there_may_be(rt: HostRuntime) -> Result<(), Fail> {
-    let mut program = String::from_str(rt.alloc(), "tick 200; clock c = 1 * tick;")?;
-    let mut text = String::from_str(rt.alloc(), "end 1\n")?;
-    for agent in 0..64u32 {
-        let declared = format!(in rt.alloc();
-            " agent A{agent} on c budget 2 {{ body {{ advance 1 on c; }} }}"
-        )?;
-        program.push_str(declared.as_str())?;
-        let slack = 199u32.saturating_sub(agent);
-        let line = format!(in rt.alloc(); "agent A{agent} 1 {slack}\n")?;
-        text.push_str(line.as_str())?;
-    }
     let room = Devices {
         room: 9999,
         ..SOUND
@@ -132,9 +190,9 @@ fn as_many_agents_run_as_there_may_be(rt: HostRuntime) -> Result<(), Fail> {
     compare(
         &rt,
         &["run", "prog.psy", "1"],
-        program.as_bytes(),
+        MANY_AGENTS.as_bytes(),
         room,
         0,
-        text.as_str(),
+        MANY_LINES,
     )
 }
