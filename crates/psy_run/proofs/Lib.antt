@@ -9,7 +9,6 @@ pub mod OneAnswer
 pub mod OneStep
 pub mod PlanLemmas
 pub mod RowLemmas
-pub mod ScriptLemmas
 pub mod SomeAnswer
 pub mod SomeStep
 pub mod SupplyLemmas
