@@ -6,10 +6,12 @@ mod edge;
 pub mod limits;
 mod memory;
 mod message;
+mod sizes;
 mod text;
 
 pub use edge::Edge;
 pub use memory::Memory;
 pub use message::Message;
+pub use sizes::Sizes;
 pub use sqlite_items::{Boxed, Items};
 pub use text::Text;

@@ -103,6 +103,9 @@ pub const LINES: usize = 10_000;
 /// Cycles of a run.
 pub const RUN: u64 = 100_000_000;
 
+/// The number of an action or an instruction in a stall, and the cycles that a stall takes.
+pub const STALL: u64 = 1_000_000;
+
 #[cfg(test)]
 mod tests {
     use super::*;
@@ -153,5 +156,6 @@ mod tests {
         assert_eq!(rt; SENDS, 65_537, "sends of an action");
         assert_eq!(rt; WINDOW_CELLS, 4_000_000, "cells of a table of windows");
         assert_eq!(rt; RUN, 100_000_000, "cycles of a run");
+        assert_eq!(rt; STALL, 1_000_000, "cycles of a stall");
     }
 }

@@ -7,7 +7,7 @@ use Rattle.psy_meaning.specs.Actions.{System}
 use Rattle.psy_meaning.specs.Demand.{IsFeasible}
 use Rattle.psy_history.specs.Compiled.{AreEdgesOf, IsBuilt, IsCompiled, coded}
 use Rattle.psy_dates.specs.declared.plan.Plan.{Plan}
-use Rattle.psy_dates.specs.declared.plan.Sizes.{Sizes}
+use Rattle.psy_base.specs.declared.sizes.Sizes.{Sizes}
 
 -- The history of a plan's code, with these inputs and stalls
 abbrev pub system_of : Plan → List (List ℤ) → (ℕ → List Stall) → System

@@ -11,7 +11,7 @@ mod seat;
 mod shared;
 
 pub use date::at_date;
-pub use plan::{Inputs, Plan, Sizes};
+pub use plan::{Inputs, Plan};
 pub use psy_code::Sent;
 pub use seat::{Phase, Seat};
 pub use shared::Shared;

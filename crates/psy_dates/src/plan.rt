@@ -1,15 +1,7 @@
 //! What a run is given.
-use psy_base::Items;
+use psy_base::{Items, Sizes};
 use psy_code::Code;
 use psy_tree::Unit;
-
-/// How many places each buffer has: the ring of each variable, the queue of each stream, the outbox of each agent.
-#[derive(Debug, Drop)]
-pub struct Sizes {
-    pub rings: Items<u32>,
-    pub queues: Items<u32>,
-    pub outboxes: Items<u32>,
-}
 
 /// A program to run, with its code, by agent and point the points that may follow, its buffers, and the last date of the run.
 #[derive(Debug, Drop)]

@@ -1,14 +1,13 @@
 -- What a script is, and which order is in force at a cycle.
 use Rattle.std.specs.Prelude.{◌≡◌, ◌⊎◌, ℕ, ◌<◌, ◌≤◌, ◌==◌, nat_le, if◌then◌else◌, List, [], ◌∷◌, filter, length}
 use Rattle.std.specs.List.{All, AllPairs, range_with_len}
-use Rattle.psy_base.specs.declared.limits.TheConstants.{RUN}
+use Rattle.psy_base.specs.declared.limits.TheConstants.{RUN, STALL}
 use Rattle.psy_budget.specs.declared.charge.Stall.{Stall}
 use Rattle.psy_budget.specs.Charges.{IsBelow}
 use Rattle.psy_ready.specs.Choice.{ListsEach}
 use Rattle.psy_tree.specs.declared.unit.Unit.{Unit as Whole}
 use Rattle.psy_kernel.specs.declared.script.Order.{Order}
 use Rattle.psy_kernel.specs.declared.script.Script.{Script}
-use Rattle.psy_kernel.specs.declared.script.TheConstants.{STALL}
 
 -- One stall stands before another: by agent, then by action, then by instruction.
 abbrev pub StallBefore : Stall → Stall → Type 0

@@ -9,7 +9,7 @@ use Rattle.psy_meaning.specs.Lines.{Event, Stop, Publish, Show, events}
 use Rattle.psy_meaning.specs.Schedule.{Turn}
 use Rattle.psy_meaning.specs.Summary.{due_by, most_held, reach, slack}
 use Rattle.psy_history.specs.Scheduled.{turns_of}
-use Rattle.psy_dates.specs.declared.plan.Sizes.{Sizes}
+use Rattle.psy_base.specs.declared.sizes.Sizes.{Sizes}
 
 -- The line that tells an event of a date
 abbrev pub event_line : System → ℕ → Event → List ℕ

@@ -9,5 +9,5 @@ mod stage;
 
 pub use kernel::Kernel;
 pub use psy_budget::Stall;
-pub use script::{Order, STALL, Script};
+pub use script::{Order, Script};
 pub use stage::Stage;

@@ -2,9 +2,6 @@
 use psy_base::Items;
 use psy_budget::Stall;
 
-/// The greatest number of an action or an instruction in a stall, and the most cycles that a stall takes.
-pub const STALL: u64 = 1_000_000;
-
 /// From a cycle on, until a later one's order, ties of deadlines go by this order, which lists each agent once.
 #[derive(Debug, Drop)]
 pub struct Order {

@@ -11,6 +11,7 @@ pub mod Kept
 pub mod Lines
 pub mod Paths
 pub mod Rest
+pub mod RingSizes
 pub mod Schedule
 pub mod Sizes
 pub mod Sound

@@ -4,7 +4,7 @@ use Rattle.psy_tree.specs.declared.unit.Unit.{Unit as Whole}
 use Rattle.psy_meaning.specs.Actions.{System}
 use Rattle.psy_graph.specs.declared.graph.Graph.{Graph}
 use Rattle.psy_history.specs.Compiled.{stated}
-use Rattle.psy_dates.specs.declared.plan.Sizes.{Sizes}
+use Rattle.psy_base.specs.declared.sizes.Sizes.{Sizes}
 use Rattle.psy_dates.specs.Plans.{IsPlan}
 use Rattle.psy_kernel.specs.declared.script.Script.{Script}
 use Rattle.psy_kernel.specs.Progress.{Progress, lines_told}

@@ -9,8 +9,8 @@ ghost use Rattle.psy_dates.specs.Plans.{IsPlan};
 ghost use Rattle.psy_run.specs.Answer.{supplying};
 ghost use Rattle.psy_run.specs.Services.{depths_of, no_inputs, no_script};
 
-use psy_base::{Items, Memory};
-use psy_dates::{Inputs, Plan, Sizes};
+use psy_base::{Items, Memory, Sizes};
+use psy_dates::{Inputs, Plan};
 use psy_flow::next_points;
 use psy_gen::generate;
 use psy_graph::laws::one_graph;
