@@ -13,15 +13,10 @@ use Rattle.psy_code.specs.declared.code.Code.{Code}
 use Rattle.psy_meaning.specs.Actions.{System, from_start, timing}
 use Rattle.psy_meaning.specs.Alike.{ActsAlike, AllFit}
 use Rattle.psy_meaning.specs.Executors.{by_code, by_statements}
-use Rattle.psy_meaning.specs.Flow.{AreNexts}
+use Rattle.psy_meaning.specs.Flow.{AreAllNexts}
 use Rattle.psy_meaning.specs.Graph.{Spot, IsGraph}
 use Rattle.psy_meaning.specs.Paths.{one_of}
 use Rattle.psy_meaning.specs.Units.{IsOfText}
-
--- By agent, the points that may follow each of its points
-pub record AreAllNexts (unit : Whole) (nexts : List (List (List ℕ))) : Type 0 where
-  pub count : length nexts ≡ length unit.agents
-  pub each : (number : ℕ) (agent : AgentDecl) (list : List (List ℕ)) → slice_get unit.agents number ≡ Some agent → slice_get nexts number ≡ Some list → AreNexts unit.functions agent list
 
 -- The code acts as the statements of a program of a text, and these points follow each of its points.
 pub record IsCompiled (unit : Whole) (code : Code) (nexts : List (List (List ℕ))) : Type 0 where

@@ -5,6 +5,7 @@ use Rattle.psy_base.specs.declared.limits.TheConstants.{SENDS}
 use Rattle.psy_code.specs.Views.{Looked}
 use Rattle.psy_tree.specs.declared.unit.AgentDecl.{AgentDecl}
 use Rattle.psy_tree.specs.declared.unit.FunctionDecl.{FunctionDecl}
+use Rattle.psy_tree.specs.declared.unit.Unit.{Unit as Whole}
 use Rattle.psy_meaning.specs.Rest.{rest}
 use Rattle.psy_meaning.specs.Ways.{Meter, IsWay}
 
@@ -51,3 +52,8 @@ pub record AreNexts (functions : List FunctionDecl) (agent : AgentDecl) (nexts :
   pub length : length nexts ≡ length agent.points
   pub rise : (point : ℕ) (list : List ℕ) → slice_get nexts point ≡ Some list → Rises list
   pub each : (point : ℕ) (list : List ℕ) → slice_get nexts point ≡ Some list → (to : ℕ) → Contains list to ↔ IsNext functions agent point to
+
+-- By agent, the points that may follow each of its points
+pub record AreAllNexts (unit : Whole) (nexts : List (List (List ℕ))) : Type 0 where
+  pub count : length nexts ≡ length unit.agents
+  pub each : (number : ℕ) (agent : AgentDecl) (list : List (List ℕ)) → slice_get unit.agents number ≡ Some agent → slice_get nexts number ≡ Some list → AreNexts unit.functions agent list

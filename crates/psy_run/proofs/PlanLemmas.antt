@@ -6,7 +6,8 @@ use Rattle.psy_dates.specs.declared.plan.Plan.{Plan}
 use Rattle.psy_dates.specs.Plans.{IsFeasibleFor, system_of}
 use Rattle.psy_graph.specs.declared.graph.Graph.{Graph}
 use Rattle.psy_graph.specs.Graphs.{AreGraphs, IsTimingOf, spot_of}
-use Rattle.psy_history.specs.Compiled.{AreAllNexts, AreEdgesOf, AreInputs}
+use Rattle.psy_history.specs.Compiled.{AreEdgesOf, AreInputs}
+use Rattle.psy_meaning.specs.Flow.{AreAllNexts}
 use Rattle.psy_meaning.specs.Alike.{AllFit}
 use Rattle.psy_meaning.specs.Executors.{agent_at}
 use Rattle.psy_meaning.specs.Graph.{IsGraph}

@@ -2,7 +2,8 @@
 use Rattle.std.specs.Prelude.{◌≡◌, ℕ, List, Option, Some, None}
 use Rattle.psy_door.specs.Files.{Files}
 use Rattle.psy_tree.specs.declared.unit.Unit.{Unit as Whole}
-use Rattle.psy_history.specs.Compiled.{AreAllNexts, IsBuilt}
+use Rattle.psy_history.specs.Compiled.{IsBuilt}
+use Rattle.psy_meaning.specs.Flow.{AreAllNexts}
 use Rattle.psy_graph.specs.declared.graph.Graph.{Graph}
 use Rattle.psy_run.specs.declared.refusal.File.TheVariants as file
 use Rattle.psy_run.specs.declared.refusal.Refusal.{Refusal}

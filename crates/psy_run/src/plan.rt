@@ -1,10 +1,10 @@
 //! What a program needs to be run: its code, the points that follow, and its buffers.
 ghost use Rattle.std.specs.Prelude.{◌≡◌, ◌<◌, ◌++◌, ◌∷◌, [], List, length, slice_get, Some, IfOk, OnOk};
 ghost use Rattle.psy_tree.specs.declared.unit.AgentDecl.{AgentDecl as Agent};
-ghost use Rattle.psy_meaning.specs.Flow.{AreNexts};
+ghost use Rattle.psy_meaning.specs.Flow.{AreAllNexts, AreNexts};
 ghost use Rattle.psy_meaning.specs.Units.{IsOfText};
 ghost use Rattle.psy_graph.specs.declared.graph.Graph.{Graph};
-ghost use Rattle.psy_history.specs.Compiled.{AreAllNexts, IsBuilt};
+ghost use Rattle.psy_history.specs.Compiled.{IsBuilt};
 ghost use Rattle.psy_dates.specs.Plans.{IsPlan};
 ghost use Rattle.psy_run.specs.Answer.{supplying};
 ghost use Rattle.psy_run.specs.Services.{depths_of, no_inputs, no_script};

@@ -1,5 +1,5 @@
 use Rattle.std.proofs.Common.{◌≡◌, ◌∙◌, ap, subst}
-use Rattle.psy_history.specs.Compiled.{AreAllNexts}
+use Rattle.psy_meaning.specs.Flow.{AreAllNexts}
 use Rattle.psy_run.specs.Answer.{compiling, building, supplying, following}
 use Rattle.psy_run.specs.Outcome.{halts_memory}
 use Rattle.psy_run.specs.Services.{Ran}
