@@ -4,8 +4,10 @@ use Rattle.psy_arith.specs.declared.operators.Trap.{Trap}
 use Rattle.psy_meaning.specs.Actions.{Action, History, System, Verdict, Done, Trapped, is_done, is_silent, variable_of}
 use Rattle.psy_meaning.specs.Executors.{copy_in}
 use Rattle.psy_meaning.specs.History.{history}
+use Rattle.psy_meaning.specs.RingSizes.{IsRingSize}
 use Rattle.psy_meaning.specs.Schedule.{Turn, is_pending}
 use Rattle.psy_meaning.specs.Visible.{committed_in}
+use Rattle.psy_history.specs.Rings.{ring_of}
 use Rattle.psy_dates.specs.declared.seat.Phase.{Phase}
 use Rattle.psy_dates.specs.declared.seat.Phase.TheVariants as phase
 use Rattle.psy_dates.specs.declared.seat.Seat.{Seat}
@@ -68,8 +70,13 @@ abbrev pub KeepsCopy : ℕ → List (Option Turn) → ℕ → List Action → �
 KeepsCopy date turns variable [] value = ⊤
 KeepsCopy date turns variable (r ∷ before) value = phase_of date turns r ≡ phase.Ended → value ≡ copy_in r.after variable
 
--- The shared state stands for the history of the first so many dates, where the cycles done went to these turns. There are no
--- buffers, since nobody looks at other dates and there are no streams.
+-- The ring of a variable has the size that it needs, and holds the values published last in the first dates.
+pub record RingStands (s : System) (dates variable : ℕ) (ring : List ℤ) : Type 0 where
+  pub size : IsRingSize s.unit s.nexts variable (length ring)
+  pub values : ring ≡ ring_of s dates variable (length ring)
+
+-- The shared state stands for the history of the first so many dates, where the cycles done went to these turns. There are no queues,
+-- since there are no streams.
 pub record SharedStands (s : System) (turns : List (Option Turn)) (dates : ℕ) (shared : Shared) : Type 0 where
   pub date : dates_done shared.date ≡ dates
   pub seated : length shared.seats.items ≡ length s.unit.agents
@@ -78,7 +85,8 @@ pub record SharedStands (s : System) (turns : List (Option Turn)) (dates : ℕ) 
   pub committed : (variable : ℕ) (value : ℤ) → slice_get shared.committed.items variable ≡ Some value → value ≡ committed_at s (history s dates) variable (dates - 1)
   pub kept : length shared.ended.items ≡ length s.unit.variables
   pub ended : (variable owner : ℕ) (value : ℤ) → slice_get shared.ended.items variable ≡ Some value → (variable_of s variable).owner ≡ Some owner → KeepsCopy (dates - 1) turns variable (history s dates owner) value
-  pub rings : length shared.rings.items ≡ 0
+  pub ringed : length shared.rings.items ≡ length s.unit.variables
+  pub rings : (variable : ℕ) (ring : List ℤ) → slice_get shared.rings.items variable ≡ Some ring → RingStands s dates variable ring
   pub queues : length shared.queues.items ≡ 0
   pub outboxes : length shared.outboxes.items ≡ 0
   pub taken : length shared.taken.items ≡ 0

@@ -1,17 +1,20 @@
 -- What the actions of a history keep: each begins where the one before it ended, at a date that the agent's graph knows, and its
 -- code runs to an end or a trap.
-use Rattle.std.specs.Prelude.{◌≡◌, ◌≢◌, ℕ, suc, ◌<◌, ◌≤◌, List, [], ◌∷◌, length, Some, None, IsSome, slice_get, ⊤}
+use Rattle.std.specs.Prelude.{◌≡◌, ◌≢◌, ℕ, suc, ◌<◌, ◌≤◌, List, [], ◌∷◌, length, Option, Some, None, IsSome, slice_get, ⊤}
 use Rattle.std.specs.List.{All, Contains}
 use Rattle.psy_code.specs.declared.code.AgentCode.{AgentCode}
 use Rattle.psy_code.specs.declared.code.Code.{Code}
 use Rattle.psy_code.specs.Execution.{RunState, Running, RanTo, Stuck, call_of, copy_of, next_of as next_machine, run_code, run_one}
 use Rattle.psy_code.specs.Lasting.{IsOver}
-use Rattle.psy_code.specs.Views.{View}
+use Rattle.psy_code.specs.Views.{Call, Past, Ready, Take, Send, View, ServesAll, count_in, next_in, past_of}
+use Rattle.psy_tree.specs.declared.unit.Unit.{Unit as Whole}
 use Rattle.psy_tree.specs.declared.unit.VarDecl.{VarDecl}
 use Rattle.psy_meaning.specs.Actions.{Action, Next, System, Done, next_of, timing}
 use Rattle.psy_meaning.specs.Alike.{started}
-use Rattle.psy_meaning.specs.Executors.{carried_by, machine_at}
+use Rattle.psy_meaning.specs.Executors.{agent_at, carried_by, machine_at}
+use Rattle.psy_meaning.specs.Flow.{MayLook}
 use Rattle.psy_meaning.specs.History.{action_of, history}
+use Rattle.psy_meaning.specs.Kept.{IsSentOf, Receives}
 use Rattle.psy_meaning.specs.Timing.{MayStart, budget_at, deadline, end_date, following}
 
 -- An action of the agent: it may start there and then, has that point's budget and deadline, and ends at a point that may follow.
@@ -58,24 +61,46 @@ pub record IsLawful (s : System) : Type 0 where
 abbrev pub begun_by : AgentCode → Action → RunState
 begun_by its r = started (machine_at its r.point r.before) r.view
 
--- After so many instructions the action goes on: its next instruction can be executed, whatever there is to see, and asks nothing.
-pub record GoesAlone (code : Code) (its : AgentCode) (start : RunState) (n : ℕ) : Type 0 where
-  pub state : RunState
-  pub running : run_code code its start n ≡ Running state
-  pub next : run_code code its start (suc n) ≡ run_one code its state
-  pub able : next_machine code its state.view state.machine ≢ Stuck
-  pub same : (view : View) → next_machine code its view state.machine ≡ next_machine code its state.view state.machine
-  pub alone : call_of code state.machine ≡ None
+-- Two views answer alike what an instruction asks.
+abbrev pub AnswerAlike : View → View → Option Call → Type 0
+AnswerAlike view other None = ⊤
+AnswerAlike view other (Some (Past variable back)) = past_of view variable back ≡ past_of other variable back
+AnswerAlike view other (Some (Ready stream)) = count_in view stream ≡ count_in other stream
+AnswerAlike view other (Some (Take stream)) = (count_in view stream ≡ count_in other stream) × (next_in view stream ≡ next_in other stream)
+AnswerAlike view other (Some (Send sent)) = ⊤
 
--- The code of an action runs to an end or a trap, whatever its budget, and asks nothing on the way. Where it ends, the machine
--- stands at the point reached, as the next action begins, with copies of what the agent owns.
-pub record RunsAlone (s : System) (code : Code) (r : Action) : Type 0 where
+-- What an instruction of an agent's action from a point may ask: a look that a way from there has at a variable, back by less than
+-- its depth; messages of streams that the agent receives; and sends to a stream and by a clock that there are.
+abbrev pub MayAsk : Whole → ℕ → ℕ → Option Call → Type 0
+MayAsk unit agent point None = ⊤
+MayAsk unit agent point (Some (Past variable back)) = (decl : VarDecl) × (slice_get unit.variables variable ≡ Some decl) × (back < decl.depth) × MayLook unit.functions (agent_at unit agent) point variable
+MayAsk unit agent point (Some (Ready stream)) = Receives unit agent stream
+MayAsk unit agent point (Some (Take stream)) = Receives unit agent stream
+MayAsk unit agent point (Some (Send sent)) = IsSentOf unit sent
+
+-- After so many instructions an action goes on: its next instruction can be executed, is the same where a view answers alike what it
+-- asks, and asks what it may. Its looks were at the values that it saw from the start.
+pub record Goes (s : System) (code : Code) (its : AgentCode) (r : Action) (n : ℕ) : Type 0 where
+  pub state : RunState
+  pub running : run_code code its (begun_by its r) n ≡ Running state
+  pub next : run_code code its (begun_by its r) (suc n) ≡ run_one code its state
+  pub counted : state.deeds.steps ≡ n
+  pub able : next_machine code its state.view state.machine ≢ Stuck
+  pub same : (view : View) → AnswerAlike view state.view (call_of code state.machine) → next_machine code its view state.machine ≡ next_machine code its state.view state.machine
+  pub served : ServesAll state.view (call_of code state.machine)
+  pub asks : MayAsk s.unit r.agent r.point (call_of code state.machine)
+  pub pasts : state.view.pasts ≡ r.view.pasts
+
+-- The code of an action runs to an end or a trap, whatever its budget. Where it ends, the machine stands at the point reached, as the
+-- next action begins, with copies of what the agent owns.
+pub record Runs (s : System) (code : Code) (r : Action) : Type 0 where
   pub its : AgentCode
   pub of_code : slice_get code.agents r.agent ≡ Some its
   pub steps : ℕ
   pub last : RunState
   pub over : IsOver (run_code code its (begun_by its r) steps) last
+  pub counted : last.deeds.steps ≡ steps
   pub some : 1 ≤ steps
-  pub on_the_way : (n : ℕ) → n < steps → GoesAlone code its (begun_by its r) n
+  pub on_the_way : (n : ℕ) → n < steps → Goes s code its r n
   pub stands : (point : ℕ) → run_code code its (begun_by its r) steps ≡ RanTo point last → last.machine ≡ machine_at its point (carried_by last.machine)
   pub copies : (variable : ℕ) (v : VarDecl) → slice_get s.unit.variables variable ≡ Some v → v.owner ≡ Some r.agent → IsSome (copy_of variable last.machine.copies)

@@ -1,30 +1,39 @@
 //! Laws of the dated history, each the contract of a function that does nothing.
 
-ghost use Rattle.std.specs.Prelude.{◌≡◌, ℕ, ◌+◌, ◌*◌, ◌<◌, ◌≤◌, List, ◌∷◌, ℤ, length};
+ghost use Rattle.std.specs.Prelude.{◌≡◌, ℕ, ◌+◌, ◌*◌, ◌/◌, ◌<◌, ◌≤◌, if◌then◌else◌, List, [], ◌∷◌, Option, None, Some, ℤ, length, slice_get, take};
 ghost use Rattle.std.specs.List.{All, Contains};
 ghost use Rattle.psy_budget.specs.declared.charge.Stall.{Stall};
+ghost use Rattle.psy_budget.specs.Charges.{cycle_of};
+ghost use Rattle.psy_clock.specs.Dates.{IsClock};
 ghost use Rattle.psy_code.specs.declared.code.Code.{Code};
+ghost use Rattle.psy_code.specs.Execution.{RunState, Running, call_of, run_code};
+ghost use Rattle.psy_code.specs.Views.{past_of};
 ghost use Rattle.psy_tree.specs.declared.unit.Unit.{Unit as Whole};
-ghost use Rattle.psy_meaning.specs.Actions.{Action, System};
+ghost use Rattle.psy_tree.specs.declared.unit.VarDecl.{VarDecl};
+ghost use Rattle.psy_meaning.specs.Actions.{Action, History, System, publishing};
+ghost use Rattle.psy_meaning.specs.Executors.{agent_at, agent_code_at};
+ghost use Rattle.psy_meaning.specs.Flow.{MayLook};
 ghost use Rattle.psy_meaning.specs.History.{history};
-ghost use Rattle.psy_meaning.specs.Lines.{events};
-ghost use Rattle.psy_meaning.specs.Schedule.{finish, units, work};
+ghost use Rattle.psy_meaning.specs.Lines.{events, is_date};
+ghost use Rattle.psy_meaning.specs.RingSizes.{IsRingSize};
+ghost use Rattle.psy_meaning.specs.Schedule.{Turn, finish, turn_of, units, work};
 ghost use Rattle.psy_meaning.specs.Summary.{due_by, most_held, reach, slack};
-ghost use Rattle.psy_history.specs.Compiled.{AreInputs, IsBuilt, IsCompiled, coded, stated};
+ghost use Rattle.psy_meaning.specs.Visible.{published};
+ghost use Rattle.psy_history.specs.Compiled.{AreInputs, IsCompiled, coded, stated};
 ghost use Rattle.psy_history.specs.Likeness.{AreLike};
-ghost use Rattle.psy_history.specs.Regular.{IsLawful, RunsAlone};
+ghost use Rattle.psy_history.specs.Regular.{IsLawful, Runs, begun_by};
+ghost use Rattle.psy_history.specs.Rings.{age_at, reach_with, ring_of};
 ghost use Rattle.psy_history.specs.Scheduled.{IsFinished, IsSupplied, turns_of};
 
 use psy_clock::laws::distances;
 use psy_code::laws::lasting;
 use psy_meaning::laws::{follows, keeps, sound, traps, ways};
 
-/// The history of a program's code is regular, and where no agent looks at other dates and no stream is declared, its actions run
-/// alone.
+/// The history of a program's code is regular, and the code of its actions runs to an end.
 pub fn regular()
     ensures lawful { (unit : Whole) (code : Code) (nexts : List (List (List ℕ))) (stalls : ℕ → List Stall) (inputs : List (List ℤ)) → IsCompiled unit code nexts → AreInputs unit inputs → IsLawful (coded unit code nexts stalls inputs) }
-    ensures runs { (unit : Whole) (code : Code) (nexts : List (List (List ℕ))) (stalls : ℕ → List Stall) (inputs : List (List ℤ)) → IsCompiled unit code nexts → AreInputs unit inputs → IsBuilt unit
-        → (dates agent : ℕ) → All (RunsAlone (coded unit code nexts stalls inputs) code) (history (coded unit code nexts stalls inputs) dates agent) }
+    ensures runs { (unit : Whole) (code : Code) (nexts : List (List (List ℕ))) (stalls : ℕ → List Stall) (inputs : List (List ℤ)) → IsCompiled unit code nexts → AreInputs unit inputs
+        → (dates agent : ℕ) → All (Runs (coded unit code nexts stalls inputs) code) (history (coded unit code nexts stalls inputs) dates agent) }
 {
     sound();
     keeps();
@@ -73,3 +82,53 @@ pub fn on_time()
     ensures finishes { (s : System) (order : ℕ → List ℕ) (until cycles agent : ℕ) (r : Action) → IsSupplied s order until → until * s.unit.quantum ≤ cycles → Contains (history s until agent) r → r.deadline ≤ until → finish r.agent r.number (turns_of s order cycles) ≤ r.deadline * s.unit.quantum }
     ensures earlier { (s : System) (order : ℕ → List ℕ) (until date cycles agent : ℕ) (r : Action) (before : List Action) → IsSupplied s order until → date ≤ until → date * s.unit.quantum ≤ cycles → history s (date + 1) agent ≡ r ∷ before → All (IsFinished s order cycles) before }
 {}
+
+/// What a ring holds, date by date: at a date of the variable the value that it publishes goes to the front, and the oldest goes out. An
+/// action that looks at a later date finds what it saw at its start as many places further back as dates have passed.
+pub fn rings()
+    ensures next { (s : System) (date variable size : ℕ) → IsLawful s → IsClock (publishing s variable)
+        → ring_of s (date + 1) variable size ≡ (if is_date (publishing s variable) date then take size (published s (history s (date + 1)) variable date ∷ ring_of s date variable size) else ring_of s date variable size) }
+    ensures look { (s : System) (date agent variable back size : ℕ) (decl : VarDecl) (r : Action) → IsLawful s → IsClock (publishing s variable) → Contains (history s (date + 1) agent) r
+        → slice_get s.unit.variables variable ≡ Some decl → back < decl.depth → age_at s variable back r.start date < size
+        → slice_get (ring_of s (date + 1) variable size) (age_at s variable back r.start date) ≡ past_of r.view variable back }
+{}
+
+/// How far back rings are reached for: no further by an idle cycle, by a stall, and by the actions that a date starts; and by a cycle that
+/// pays an instruction as far as that one asks.
+pub fn reaches()
+    ensures none { (s : System) (h : History) (variable : ℕ) → reach s [] h variable ≡ None }
+    ensures idle { (s : System) (turns : List (Option Turn)) (h : History) (variable : ℕ) → reach s (None ∷ turns) h variable ≡ reach s turns h variable }
+    ensures stalled { (s : System) (turns : List (Option Turn)) (dates agent variable : ℕ) (r : Action) → IsLawful s → Contains (history s dates agent) r
+        → ((instr : ℕ) → units r.agent r.number turns ≡ cycle_of (s.stalls r.agent) r.number instr → ⊥)
+        → reach s (turn_of (Some r) ∷ turns) (history s dates) variable ≡ reach s turns (history s dates) variable }
+    ensures paid { (unit : Whole) (code : Code) (nexts : List (List (List ℕ))) (stalls : ℕ → List Stall) (inputs : List (List ℤ)) → IsCompiled unit code nexts → AreInputs unit inputs
+        → (turns : List (Option Turn)) (dates agent variable instr : ℕ) (r : Action) (state : RunState) → Contains (history (coded unit code nexts stalls inputs) dates agent) r
+        → run_code code (agent_code_at code r.agent) (begun_by (agent_code_at code r.agent) r) instr ≡ Running state
+        → units r.agent r.number turns ≡ cycle_of (stalls r.agent) r.number instr → instr < r.budget
+        → reach (coded unit code nexts stalls inputs) (turn_of (Some r) ∷ turns) (history (coded unit code nexts stalls inputs) dates) variable
+        ≡ reach_with (coded unit code nexts stalls inputs) variable r.start (length turns / unit.quantum) (call_of code state.machine) (reach (coded unit code nexts stalls inputs) turns (history (coded unit code nexts stalls inputs) dates) variable) }
+    ensures date { (s : System) (order : ℕ → List ℕ) (date cycles variable : ℕ) → IsLawful s → 1 ≤ s.unit.quantum → cycles ≤ date * s.unit.quantum
+        → reach s (turns_of s order cycles) (history s (date + 1)) variable ≡ reach s (turns_of s order cycles) (history s date) variable }
+{
+    regular();
+}
+
+/// Where the processor can supply the demand up to a date, no ring is reached for beyond its size: neither by a look at a date before the
+/// deadline of its action, nor in all cycles up to that date.
+pub fn ring_sizes()
+    ensures look { (s : System) (order : ℕ → List ℕ) (until dates agent variable back size date : ℕ) (decl : VarDecl) (r : Action) → IsSupplied s order until → Contains (history s dates agent) r
+        → slice_get s.unit.variables variable ≡ Some decl → MayLook s.unit.functions (agent_at s.unit agent) r.point variable → back < decl.depth → IsRingSize s.unit s.nexts variable size
+        → r.start ≤ date → date < r.deadline → age_at s variable back r.start date < size }
+    ensures reached { (unit : Whole) (code : Code) (nexts : List (List (List ℕ))) (stalls : ℕ → List Stall) (inputs : List (List ℤ)) → IsCompiled unit code nexts → AreInputs unit inputs
+        → (order : ℕ → List ℕ) (until cycles variable size n : ℕ) → IsSupplied (coded unit code nexts stalls inputs) order until → cycles ≤ until * unit.quantum → IsRingSize unit nexts variable size
+        → reach (coded unit code nexts stalls inputs) (turns_of (coded unit code nexts stalls inputs) order cycles) (history (coded unit code nexts stalls inputs) (until + 1)) variable ≡ Some n → n < size }
+{
+    regular();
+    given();
+    on_time();
+    ways();
+    traps();
+    sound();
+    keeps();
+    lasting();
+}

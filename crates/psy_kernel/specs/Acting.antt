@@ -1,14 +1,17 @@
 -- What a cycle does to the charge and the machine of the action that gets it.
-use Rattle.std.specs.Prelude.{◌≡◌, ℕ, suc, ◌<◌, Some, IsSome, slice_get}
-use Rattle.psy_budget.specs.Charges.{Charged}
+use Rattle.std.specs.Prelude.{◌≡◌, ℕ, suc, ◌<◌, Option, None, Some, IsSome, slice_get}
+use Rattle.psy_budget.specs.declared.charge.Tick.{Tick}
+use Rattle.psy_budget.specs.declared.charge.Tick.TheVariants as tick
+use Rattle.psy_budget.specs.Charges.{Charged, tick_of}
 use Rattle.psy_code.specs.declared.code.Code.{Code}
-use Rattle.psy_code.specs.Execution.{copy_of, run_code}
+use Rattle.psy_code.specs.Execution.{RunState, Running, call_of, copy_of, run_code}
+use Rattle.psy_code.specs.Views.{Call, Past, View, past_of}
 use Rattle.psy_machine.specs.Stepping.{AgentMachine}
 use Rattle.psy_tree.specs.declared.unit.VarDecl.{VarDecl}
 use Rattle.psy_meaning.specs.Actions.{Action, System, Done, Trapped, Overran, charge_of, timing, verdict_of}
 use Rattle.psy_meaning.specs.Executors.{Acted, acted_as, agent_code_at, machine_at}
 use Rattle.psy_meaning.specs.Schedule.{work}
-use Rattle.psy_history.specs.Regular.{RunsAlone, begun_by}
+use Rattle.psy_history.specs.Regular.{MayAsk, Runs, begun_by}
 use Rattle.psy_kernel.specs.declared.kernel.advance.Gone.{Gone}
 use Rattle.psy_kernel.specs.declared.kernel.advance.Gone.TheVariants as gone
 use Rattle.psy_kernel.specs.Standing.{IsRunning, charge_after}
@@ -23,7 +26,7 @@ pub record IsOfCode (s : System) (code : Code) (r : Action) : Type 0 where
   pub after : r.after ≡ (came_to code r).carried
   pub charge : r.charge ≡ charge_of s r.agent r.number r.deeds.steps
   pub verdict : r.verdict ≡ verdict_of (timing s r.agent) r.start r.budget r.charge (came_to code r).fate
-  pub alone : RunsAlone s code r
+  pub runs : Runs s code r
 
 -- An action that had so many cycles, fewer than its work, with its charge and machine
 pub record InAction (s : System) (code : Code) (r : Action) (had : ℕ) (charge : Charged) (machine : AgentMachine) : Type 0 where
@@ -32,6 +35,24 @@ pub record InAction (s : System) (code : Code) (r : Action) (had : ℕ) (charge 
   pub pending : had < work r
   pub charged : charge ≡ charge_after s r had
   pub running : IsRunning code r (charge_after s r had).paid machine
+
+-- A view shows an action what it may look at as it saw it from the start.
+abbrev pub ShowsAs : System → Action → View → Type 0
+ShowsAs s r view = (variable back : ℕ) → MayAsk s.unit r.agent r.point (Some (Past variable back)) → past_of view variable back ≡ past_of r.view variable back
+
+-- The variable and the `back` that an instruction looks at, where it does
+abbrev pub look_of : Option Call → Option (ℕ × ℕ)
+look_of (Some (Past variable back)) = Some (variable, back)
+look_of call = None
+
+-- The look of a cycle of an action, by what the cycle goes to: that of the instruction that it pays.
+abbrev pub LooksBy : Code → Action → ℕ → Option (ℕ × ℕ) → Tick → Type 0
+LooksBy code r instr look tick.Paid = (state : RunState) × (run_code code (agent_code_at code r.agent) (begun_by (agent_code_at code r.agent) r) instr ≡ Running state) × (look ≡ look_of (call_of code state.machine))
+LooksBy code r instr look tick = look ≡ None
+
+-- The look of the cycle of an action that had so many
+abbrev pub IsLookIn : System → Code → Action → ℕ → Option (ℕ × ℕ) → Type 0
+IsLookIn s code r had look = LooksBy code r (charge_after s r had).paid look (tick_of (charge_after s r had))
 
 -- The machine has copies of what the agent owns.
 abbrev pub HasOwned : System → Action → AgentMachine → Type 0

@@ -6,18 +6,20 @@ use Rattle.psy_clock.specs.Dates.{IsClock}
 use Rattle.psy_budget.specs.declared.charge.Stall.{Stall}
 use Rattle.psy_budget.specs.Charges.{Charged}
 use Rattle.psy_code.specs.declared.code.Code.{Code}
+use Rattle.psy_code.specs.Views.{View}
 use Rattle.psy_dates.specs.declared.plan.Plan.{Plan}
 use Rattle.psy_dates.specs.declared.seat.Seat.{Seat}
 use Rattle.psy_dates.specs.Plans.{IsPlan, system_of}
 use Rattle.psy_dates.specs.Standing.{KeepsCopy, SeatStands}
 use Rattle.psy_history.specs.Compiled.{AreInputs}
+use Rattle.psy_history.specs.Rings.{age_at}
 use Rattle.psy_history.specs.Scheduled.{turns_of}
 use Rattle.psy_machine.specs.Stepping.{AgentMachine}
 use Rattle.psy_meaning.specs.Actions.{Action, System, Done, timing, variable_of}
 use Rattle.psy_meaning.specs.Schedule.{Turn, is_pending}
-use Rattle.psy_meaning.specs.Summary.{lesser}
+use Rattle.psy_meaning.specs.Summary.{greater, lesser}
 use Rattle.psy_meaning.specs.Timing.{Timing, clock_at, end_date, point_at}
-use Rattle.psy_kernel.specs.Acting.{IsOfCode}
+use Rattle.psy_kernel.specs.Acting.{IsOfCode, ShowsAs}
 use Rattle.psy_kernel.specs.declared.kernel.Figure.{Figure}
 use Rattle.psy_kernel.specs.declared.script.Order.{Order}
 use Rattle.psy_kernel.specs.declared.script.Script.{Script}
@@ -68,10 +70,21 @@ pub record GetsCycle (s : System) (code : Code) (turns : List (Option Turn)) (un
   pub quantum : s.unit.quantum ≤ QUANTUM
   pub ends : (point end : ℕ) → r.verdict ≡ Done point end → (end ≡ end_date (timing s agent) r.start point) × MayEnd (timing s agent) r.start point
 
--- The same in the run of a plan with these inputs and stalls, and what the agent has before the cycle
-pub record IsGiven (plan : Plan) (inputs : List (List ℤ)) (stalls : ℕ → List Stall) (turns : List (Option Turn)) (date cycle agent : ℕ) (r : Action) (before : List Action) (charge : Charged) (machine : AgentMachine) (waits : Option ℕ) (figure : Figure) (seat : Seat) (ended : List ℤ) : Type 0 where
+-- The same in the run of a plan with these inputs and stalls, what the agent has before the cycle, and what its action sees then
+pub record IsGiven (plan : Plan) (inputs : List (List ℤ)) (stalls : ℕ → List Stall) (turns : List (Option Turn)) (date cycle agent : ℕ) (r : Action) (before : List Action) (charge : Charged) (machine : AgentMachine) (waits : Option ℕ) (figure : Figure) (seat : Seat) (ended : List ℤ) (view : View) : Type 0 where
   pub gets : GetsCycle (system_of plan inputs stalls) plan.code turns plan.until date cycle agent r before
   pub has : OneStands (system_of plan inputs stalls) plan.code turns plan.until date agent (r ∷ before) charge machine waits figure seat ended
+  pub shows : ShowsAs (system_of plan inputs stalls) r view
+
+-- How far back a variable's ring is reached for, with the look of a cycle at a date, of an action that started at another
+abbrev pub reach_by : System → ℕ → ℕ → ℕ → Option (ℕ × ℕ) → Option ℕ → Option ℕ
+reach_by s variable start date None reach = reach
+reach_by s variable start date (Some (looked, back)) reach = if looked == variable then greater (age_at s variable back start date) reach else reach
+
+-- A look at a variable that there is, and not too far back to be counted
+abbrev pub IsNear : System → ℕ → ℕ → Option (ℕ × ℕ) → Type 0
+IsNear s start date None = ⊤
+IsNear s start date (Some (variable, back)) = (variable < length s.unit.variables) × (age_at s variable back start date < 2 ^ 32)
 
 -- The actions before an agent's last one are finished or stopped.
 abbrev pub AreOver : List (Option Turn) → List Action → Type 0

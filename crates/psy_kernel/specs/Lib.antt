@@ -2,6 +2,7 @@ pub mod Acting
 pub mod Cycles
 pub mod Progress
 pub mod Scripts
+pub mod Seeing
 pub mod Standing
 pub mod Starting
 pub mod Telling

@@ -11,7 +11,7 @@ use Rattle.psy_meaning.specs.Executors.{agent_code_at, machine_at}
 use Rattle.psy_meaning.specs.History.{history}
 use Rattle.psy_meaning.specs.Lines.{Event, publications, stops_of}
 use Rattle.psy_meaning.specs.Schedule.{Turn, is_pending, units}
-use Rattle.psy_meaning.specs.Summary.{due_by, slack}
+use Rattle.psy_meaning.specs.Summary.{due_by, reach, slack}
 use Rattle.psy_history.specs.Compiled.{AreInputs}
 use Rattle.psy_history.specs.Regular.{begun_by}
 use Rattle.psy_history.specs.Scheduled.{turns_of}
@@ -127,6 +127,9 @@ pub record KernelStands (k : Inside) : Type 0 where
   pub shared : SharedStands (system (progress_of k)) (turns_of (system (progress_of k)) (order (progress_of k)) k.cycles) (dates_done k.shared.date) k.shared
   pub machined : length k.machines.items ≡ length k.plan.unit.agents
   pub charges : length k.charges.items ≡ length k.plan.unit.agents
+  pub reaching : length k.reaches.items ≡ length k.plan.unit.variables
+  pub reached : (variable : ℕ) (n : Option ℕ) → slice_get k.reaches.items variable ≡ Some n
+      → n ≡ reach (system (progress_of k)) (turns_of (system (progress_of k)) (order (progress_of k)) k.cycles) (history (system (progress_of k)) (dates_done k.shared.date)) variable
   pub waiting : length k.ready ≡ length k.plan.unit.agents
   pub figured : length k.figures.items ≡ length k.plan.unit.agents
   pub agents : (agent : ℕ) (machine : AgentMachine) (charge : Charged) (waits : Option ℕ) (figure : Figure)

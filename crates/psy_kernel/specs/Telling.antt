@@ -66,13 +66,13 @@ figure_line unit figures agent =
 abbrev pub variable_at : Whole → ℕ → VarDecl
 variable_at unit variable = get_or unit.variables variable (record { name = []; owner = None; clock = 0; init = pos 0; depth = 0 })
 
--- A variable's line, where nobody reached back
-abbrev pub size_line : Plan → ℕ → List ℕ
-size_line plan variable = variable_line (variable_at plan.unit variable).name (get_or plan.sizes.rings variable 0) None
+-- A variable's line, by how far back its ring was reached for
+abbrev pub reach_line : Plan → List (Option ℕ) → ℕ → List ℕ
+reach_line plan reaches variable = variable_line (variable_at plan.unit variable).name (get_or plan.sizes.rings variable 0) (get_or reaches variable None)
 
--- The lines of the summary, by the figures
-abbrev pub figured_lines : Plan → List Figure → List (List ℕ)
-figured_lines plan figures =
+-- The lines of the summary, by the figures and by how far back rings were reached for
+abbrev pub figured_lines : Plan → List Figure → List (Option ℕ) → List (List ℕ)
+figured_lines plan figures reaches =
     end_line plan.until
     ∷ (map (figure_line plan.unit figures) (range_with_len 0 (length plan.unit.agents))
-    ++ map (size_line plan) (range_with_len 0 (length plan.unit.variables)))
+    ++ map (reach_line plan reaches) (range_with_len 0 (length plan.unit.variables)))

@@ -31,6 +31,8 @@ pub struct Kernel {
     charges: Vec<Charge>,
     figures: Vec<Figure>,
     ready: Ready,
+    /// By variable, how far back its ring was reached for, and none where it never was.
+    reaches: Vec<Option<u32>>,
     /// All agents, in the order of declaration.
     declared: Vec<u32>,
     /// How many of the script's orders have come into force.

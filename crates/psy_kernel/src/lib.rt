@@ -2,7 +2,7 @@
 //! other, and tells what is published at each date.
 #![tactic(auto)]
 
-mod alone;
+mod eyes;
 mod kernel;
 mod script;
 mod stage;

@@ -2,9 +2,9 @@ ghost use Rattle.std.specs.Prelude.{◌≡◌, ℕ, ◌==◌, if◌then◌else�
 ghost use Rattle.psy_meaning.specs.Actions.{Action, System};
 ghost use Rattle.psy_machine.specs.Stepping.{IsOf};
 ghost use Rattle.psy_kernel.specs.declared.kernel.advance.Gone.TheVariants as gone;
-ghost use Rattle.psy_kernel.specs.Acting.{AfterCycle, InAction};
+ghost use Rattle.psy_kernel.specs.Acting.{AfterCycle, InAction, IsLookIn, ShowsAs};
 
-use crate::alone::Alone;
+use crate::eyes::Eyes;
 use psy_arith::Trap;
 use psy_budget::{Charge, Tick};
 use psy_code::Code;
@@ -33,17 +33,19 @@ fn going(charge: &Charge) -> Gone
     }
 }
 
-/// A cycle of an agent's pending action: it goes to a stall, or pays the next instruction.
-pub fn advance(charge: &mut Charge, machine: &mut Machine, code: &Code) -> Gone
+/// A cycle of an agent's pending action: it goes to a stall, or pays the next instruction. The eyes note its look, where it makes one.
+pub fn advance(charge: &mut Charge, machine: &mut Machine, code: &Code, eyes: &mut Eyes) -> Gone
     requires of { IsOf code.now machine.old }
-    requires in_action { (s : System) × (r : Action) × (had : ℕ) × InAction s code.now r had charge.old machine.old }
+    requires in_action { (s : System) × (r : Action) × (had : ℕ) × InAction s code.now r had charge.old machine.old × ShowsAs s r (Eyes.Look.window eyes.old).view }
+    requires fresh { (Eyes.Look.window eyes.old).noted ≡ None }
     ensures of { IsOf code.now machine.new }
-    ensures after { (s : System) (r : Action) (had : ℕ) → InAction s code.now r had charge.old machine.old → AfterCycle s code.now r had result charge.new machine.new }
+    ensures after { (s : System) (r : Action) (had : ℕ) → InAction s code.now r had charge.old machine.old → ShowsAs s r (Eyes.Look.window eyes.old).view → AfterCycle s code.now r had result charge.new machine.new }
+    ensures look { (s : System) (r : Action) (had : ℕ) → InAction s code.now r had charge.old machine.old → ShowsAs s r (Eyes.Look.window eyes.old).view → IsLookIn s code.now r had (Eyes.Look.window eyes.new).noted }
 {
     match charge.tick() {
         Tick::Spent => Gone::Spent,
         Tick::Stalled => going(charge),
-        Tick::Paid => match machine.step(code, &mut Alone::new()) {
+        Tick::Paid => match machine.step(code, eyes) {
             Step::Went => going(charge),
             Step::Ended(point) => Gone::Ended(point),
             Step::Trapped(kind) => Gone::Trapped(kind),

@@ -106,6 +106,7 @@ impl Kernel {
             slack: None
         }; agents as usize]?;
         let ready = Ready::new(alloc, agents)?;
+        let reaches = vec![in alloc; None; plan.unit.variables.len()]?;
         let declared = declared_of(alloc, agents)?;
         let passed = passed_first(script.orders.as_slice());
         let shared = Shared::new(alloc, &plan, inputs)?;
@@ -117,6 +118,7 @@ impl Kernel {
             charges,
             figures,
             ready,
+            reaches,
             declared,
             passed,
             chosen: None,

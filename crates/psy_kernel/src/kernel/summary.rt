@@ -9,12 +9,19 @@ use psy_dates::Plan;
 use psy_history::laws::{on_time, regular};
 use psy_log::{Line, Note};
 
-/// The line of the summary at a place, by the figures of the agents.
-fn tell_figure(plan: &Plan, figures: &[Figure], place: usize, line: &mut Line) -> bool
+/// The line of the summary at a place, by the figures of the agents and by how far back rings were reached for.
+fn tell_figure(
+    plan: &Plan,
+    figures: &[Figure],
+    reaches: &[Option<u32>],
+    place: usize,
+    line: &mut Line,
+) -> bool
     requires plan { IsPlan plan.now }
     requires figured { length figures.now ≡ length plan.now.unit.agents }
-    ensures some { IsTrue result → slice_get (figured_lines plan.now figures.now) place ≡ Some line.new }
-    ensures none { IsFalse result → (length (figured_lines plan.now figures.now) ≤ place) × (line.new ≡ line.old) }
+    requires reaching { length reaches.now ≡ length plan.now.unit.variables }
+    ensures some { IsTrue result → slice_get (figured_lines plan.now figures.now reaches.now) place ≡ Some line.new }
+    ensures none { IsFalse result → (length (figured_lines plan.now figures.now reaches.now) ≤ place) × (line.new ≡ line.old) }
 {
     if place == 0 {
         line.set(&Note::End {
@@ -38,7 +45,7 @@ fn tell_figure(plan: &Plan, figures: &[Figure], place: usize, line: &mut Line) -
         line.set(&Note::VariableEnd {
             variable: variables[variable].name.bytes(),
             size: plan.sizes.rings.as_slice()[variable],
-            reach: None,
+            reach: reaches[variable],
         });
         return true;
     }
@@ -56,6 +63,12 @@ impl Kernel {
     {
         regular();
         on_time();
-        tell_figure(&self.plan, &self.figures, place as usize, line)
+        tell_figure(
+            &self.plan,
+            &self.figures,
+            &self.reaches,
+            place as usize,
+            line,
+        )
     }
 }

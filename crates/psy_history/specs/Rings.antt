@@ -1,0 +1,23 @@
+-- What a ring holds of a variable, and how far back it is reached for.
+use Rattle.std.specs.Prelude.{ℕ, zero, suc, ◌+◌, ◌==◌, if◌then◌else◌, List, map, replicate, Option, None, Some, ℤ}
+use Rattle.std.specs.List.{range_with_len}
+use Rattle.psy_code.specs.Views.{Call, Past}
+use Rattle.psy_meaning.specs.Actions.{System, publishing, variable_of}
+use Rattle.psy_meaning.specs.History.{history}
+use Rattle.psy_meaning.specs.RingSizes.{dates_between}
+use Rattle.psy_meaning.specs.Summary.{greater}
+use Rattle.psy_meaning.specs.Visible.{past}
+
+-- The last so many values that a variable published in the first dates, newest first, filled up with its first value.
+abbrev pub ring_of : System → ℕ → ℕ → ℕ → List ℤ
+ring_of s zero variable size = replicate size (variable_of s variable).init
+ring_of s (suc date) variable size = map (past s (history s (suc date)) variable date) (range_with_len 0 size)
+
+-- The age of the value that a look of an action finds at a date: how many dates of the variable stand behind the one looked at
+abbrev pub age_at : System → ℕ → ℕ → ℕ → ℕ → ℕ
+age_at s variable back start date = back + dates_between (publishing s variable) start date
+
+-- How far back a variable's ring is reached for, with what an instruction asks at a date, of an action that started at another
+abbrev pub reach_with : System → ℕ → ℕ → ℕ → Option Call → Option ℕ → Option ℕ
+reach_with s variable start date (Some (Past looked back)) reach = if looked == variable then greater (age_at s variable back start date) reach else reach
+reach_with s variable start date call reach = reach

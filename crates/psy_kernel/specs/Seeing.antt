@@ -1,0 +1,30 @@
+-- What an action sees of the variables while others publish on.
+use Rattle.std.specs.Prelude.{◌≡◌, ℕ, ◌^◌, ◌≤◌, List, [], map, take, drop, length, get_or, ℤ, pos, None}
+use Rattle.std.specs.List.{All, range_with_len}
+use Rattle.psy_clock.specs.declared.clock.Clock.{Clock}
+use Rattle.psy_clock.specs.Dates.{IsClock}
+use Rattle.psy_code.specs.Views.{View}
+use Rattle.psy_tree.specs.declared.unit.VarDecl.{VarDecl}
+use Rattle.psy_meaning.specs.RingSizes.{dates_between}
+
+-- The clock of a number: that of all ticks where there is none
+abbrev pub clock_in : List Clock → ℕ → Clock
+clock_in clocks clock = get_or clocks clock (record { period = 1; first = 0 })
+
+-- What an action that started at one date sees of a variable at another, by its ring: what is as far behind the start as the variable
+-- may be looked back, behind all that was published since.
+abbrev pub values_of : List (List ℤ) → List Clock → ℕ → ℕ → VarDecl → ℕ → List ℤ
+values_of rings clocks start date v variable = take v.depth (drop (dates_between (clock_in clocks v.clock) start date) (get_or rings variable []))
+
+-- The same of all variables; there are no streams.
+abbrev pub view_in : List (List ℤ) → List VarDecl → List Clock → ℕ → ℕ → View
+view_in rings variables clocks start date = record {
+  pasts = map (λ variable. values_of rings clocks start date (get_or variables variable (record { name = []; owner = None; clock = 0; init = pos 0; depth = 0 })) variable) (range_with_len 0 (length variables));
+  messages = [];
+}
+
+-- What is seen can be counted: the clocks are lawful, and the dates early enough.
+pub record CanSee (clocks : List Clock) (start date : ℕ) : Type 0 where
+  pub lawful : All IsClock clocks
+  pub start : start ≤ 2 ^ 40
+  pub date : date ≤ 2 ^ 40
