@@ -1,11 +1,9 @@
-mod Alone
 mod Bounds
 mod CodeHistories
 mod Cuts
 mod Deadlines
 mod Edges
 mod Finishes
-mod FunctionLooks
 mod Given
 mod Growth
 mod KeptCycles
@@ -17,10 +15,8 @@ mod LikeLines
 mod LikeReaches
 mod LikeSchedules
 mod LikeViews
-mod LoneRuns
 mod Members
 mod NextStarts
-mod NoLooks
 mod Numbers
 mod OneAction
 mod Owned

@@ -1,7 +1,6 @@
 use Rattle.psy_code.specs.declared.code.Code.{Code}
 use Rattle.psy_tree.specs.declared.unit.Unit.{Unit as Whole}
 use Rattle.psy_meaning.specs.Units.{IsOfText}
-use Rattle.psy_history.proofs.Alone.{run_alone}
 use Rattle.psy_history.proofs.Regulars.{AreLaws, lawful}
 use Rattle.psy_history.proofs.laws.regular.Goals as goal
 
@@ -25,6 +24,3 @@ laws_of c unit code text =
 
 pub returns-clause-lawful : goal.returns-clause-lawful
 returns-clause-lawful c unit code nexts stalls inputs compiled given = lawful unit code nexts stalls inputs (laws_of c unit code compiled.text) compiled given
-
-pub returns-clause-runs : goal.returns-clause-runs
-returns-clause-runs c unit code nexts stalls inputs compiled given built dates agent = run_alone unit code nexts stalls inputs (laws_of c unit code compiled.text) compiled built given dates agent
