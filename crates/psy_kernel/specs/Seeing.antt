@@ -3,9 +3,10 @@ use Rattle.std.specs.Prelude.{◌≡◌, ℕ, ◌^◌, ◌≤◌, List, [], map,
 use Rattle.std.specs.List.{All, range_with_len}
 use Rattle.psy_clock.specs.declared.clock.Clock.{Clock}
 use Rattle.psy_clock.specs.Dates.{IsClock}
-use Rattle.psy_code.specs.Views.{View}
+use Rattle.psy_code.specs.Views.{View, Window}
 use Rattle.psy_tree.specs.declared.unit.VarDecl.{VarDecl}
 use Rattle.psy_meaning.specs.RingSizes.{dates_between}
+use Rattle.psy_kernel.specs.declared.eyes.Eyes.{Eyes}
 
 -- The clock of a number: that of all ticks where there is none
 abbrev pub clock_in : List Clock → ℕ → Clock
@@ -28,3 +29,14 @@ pub record CanSee (clocks : List Clock) (start date : ℕ) : Type 0 where
   pub lawful : All IsClock clocks
   pub start : start ≤ 2 ^ 40
   pub date : date ≤ 2 ^ 40
+
+-- What eyes serve, and the look that they noted last
+abbrev pub window_of : Eyes → Window
+window_of eyes = record {
+  view = view_in eyes.rings eyes.variables eyes.clocks eyes.start eyes.date;
+  streams = 0;
+  clocks = 0;
+  room = 0;
+  sends = [];
+  noted = eyes.noted;
+}

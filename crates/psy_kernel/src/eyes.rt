@@ -1,7 +1,7 @@
 //! What an agent's action sees of the variables.
 
 ghost use Rattle.std.specs.Prelude.{◌≡◌, [], None, ⊤};
-ghost use Rattle.psy_kernel.specs.Seeing.{CanSee, view_in};
+ghost use Rattle.psy_kernel.specs.Seeing.{CanSee, view_in, window_of};
 
 use psy_clock::Clock;
 use psy_code::{Look, Sent};
@@ -32,6 +32,8 @@ impl<'a> Eyes<'a> {
         date: u64,
     ) -> Eyes<'a>
         requires { CanSee clocks.now start date }
+        ensures view { (window_of result).view ≡ view_in rings.now variables.now clocks.now start date }
+        ensures fresh { (window_of result).noted ≡ None }
     {
         Eyes {
             rings,
@@ -42,17 +44,17 @@ impl<'a> Eyes<'a> {
             noted: None,
         }
     }
+
+    /// The variable and the `back` of the look made last.
+    pub fn noted(&self) -> Option<(u32, u32)>
+        ensures { result ≡ (window_of self.now).noted }
+    {
+        self.noted
+    }
 }
 
 impl<'a> Look for Eyes<'a> {
-    ghost window = { λ eyes. record {
-      view = view_in eyes.rings eyes.variables eyes.clocks eyes.start eyes.date;
-      streams = 0;
-      clocks = 0;
-      room = 0;
-      sends = [];
-      noted = eyes.noted;
-    } };
+    ghost window = { window_of };
 
     ghost Keeps = { λ before after. ⊤ };
 

@@ -3,6 +3,7 @@ ghost use Rattle.psy_meaning.specs.Actions.{Action, System};
 ghost use Rattle.psy_machine.specs.Stepping.{IsOf};
 ghost use Rattle.psy_kernel.specs.declared.kernel.advance.Gone.TheVariants as gone;
 ghost use Rattle.psy_kernel.specs.Acting.{AfterCycle, InAction, IsLookIn, ShowsAs};
+ghost use Rattle.psy_kernel.specs.Seeing.{window_of};
 
 use crate::eyes::Eyes;
 use psy_arith::Trap;
@@ -36,11 +37,11 @@ fn going(charge: &Charge) -> Gone
 /// A cycle of an agent's pending action: it goes to a stall, or pays the next instruction. The eyes note its look, where it makes one.
 pub fn advance(charge: &mut Charge, machine: &mut Machine, code: &Code, eyes: &mut Eyes) -> Gone
     requires of { IsOf code.now machine.old }
-    requires in_action { (s : System) × (r : Action) × (had : ℕ) × InAction s code.now r had charge.old machine.old × ShowsAs s r (Eyes.Look.window eyes.old).view }
-    requires fresh { (Eyes.Look.window eyes.old).noted ≡ None }
+    requires in_action { (s : System) × (r : Action) × (had : ℕ) × InAction s code.now r had charge.old machine.old × ShowsAs s r (window_of eyes.old).view }
+    requires fresh { (window_of eyes.old).noted ≡ None }
     ensures of { IsOf code.now machine.new }
-    ensures after { (s : System) (r : Action) (had : ℕ) → InAction s code.now r had charge.old machine.old → ShowsAs s r (Eyes.Look.window eyes.old).view → AfterCycle s code.now r had result charge.new machine.new }
-    ensures look { (s : System) (r : Action) (had : ℕ) → InAction s code.now r had charge.old machine.old → ShowsAs s r (Eyes.Look.window eyes.old).view → IsLookIn s code.now r had (Eyes.Look.window eyes.new).noted }
+    ensures after { (s : System) (r : Action) (had : ℕ) → InAction s code.now r had charge.old machine.old → ShowsAs s r (window_of eyes.old).view → AfterCycle s code.now r had result charge.new machine.new }
+    ensures look { (s : System) (r : Action) (had : ℕ) → InAction s code.now r had charge.old machine.old → ShowsAs s r (window_of eyes.old).view → IsLookIn s code.now r had (window_of eyes.new).noted }
 {
     match charge.tick() {
         Tick::Spent => Gone::Spent,

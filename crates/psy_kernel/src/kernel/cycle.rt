@@ -20,6 +20,7 @@ ghost use Rattle.psy_kernel.specs.Acting.{IsLookIn};
 ghost use Rattle.psy_kernel.specs.Cycles.{AreOver, GetsCycle, IsCycleOf, IsGiven, IsNear, MayEnd, OneStands, figured, is_owned, order_by, reach_by, run_of, run_turns};
 ghost use Rattle.psy_kernel.specs.declared.script.Script.{Script};
 ghost use Rattle.psy_kernel.specs.Progress.{after_cycle, stage_of};
+ghost use Rattle.psy_kernel.specs.Seeing.{view_in};
 ghost use Rattle.psy_kernel.specs.Standing.{AreInForce, IsChosen};
 
 use super::advance::{Gone, advance};
@@ -34,6 +35,7 @@ use psy_history::laws::{on_time, regular};
 use psy_machine::Machine;
 use psy_meaning::laws::{follows, sound};
 use psy_ready::Ready;
+use psy_ring::Ring;
 use psy_tree::{Unit, VarDecl};
 
 /// The order of the last of so many orders that have come into force, and the first one where none has.
@@ -181,155 +183,52 @@ fn last_date(date: Option<u64>) -> u64
     }
 }
 
-/// Gives an agent's action the cycle of this number, and tells whether it goes on behind it. The eyes note its look.
-fn goes_on(
+/// What a cycle came to: whether the action goes on behind it, and the variable and the `back` that it looked at, where it did.
+#[derive(Clone, Copy, Debug)]
+struct Course {
+    goes: bool,
+    look: Option<(u32, u32)>,
+}
+
+/// Gives an agent's action the cycle of this number, after a date.
+fn go(
     plan: &Plan,
     agent: u32,
     cycle: u64,
+    date: u64,
+    rings: &[Ring],
     charge: &mut Charge,
     machine: &mut Machine,
     figure: &mut Figure,
     seat: &mut Seat,
     ended: &mut Vec<i32>,
-    eyes: &mut Eyes,
-) -> bool
+) -> Course
     requires plan { IsPlan plan.now }
     requires known { agent < length plan.now.unit.agents }
     requires valued { length ended.old.items ≡ length plan.now.unit.variables }
-    requires given { (inputs : List (List ℤ)) × (stalls : ℕ → List Stall) × (turns : List (Option Turn)) × (date : ℕ) × (r : Action) × (before : List Action) × (waits : Option ℕ)
-        × IsGiven plan.now inputs stalls turns date cycle agent r before charge.old machine.old waits figure.old seat.old ended.old.items (Eyes.Look.window eyes.old).view }
-    requires fresh { stale ≡ false → IsChosen ready.now order.now chosen }
-    ensures { IsChosen ready.now order.now result }
-{
-    if stale { ready.pick(order) } else { chosen }
-}
-
-/// Whether a variable has this owner.
-fn is_owned(agent: u32, owner: Option<u32>) -> bool
-    ensures { result ≡ is_owned agent owner }
-{
-    match owner {
-        Some(owner) => owner == agent,
-        None => false,
-    }
-}
-
-/// Keeps the working copies of all variables that an agent owns.
-fn keep_copies(ended: &mut Vec<i32>, variables: &[VarDecl], agent: u32, machine: &Machine)
-    requires valued { length ended.old.items ≡ length variables.now }
-    requires few { length variables.now ≤ VARIABLES }
-    requires copies { (variable : ℕ) (v : VarDecl) → slice_get variables.now variable ≡ Some v → v.owner ≡ Some agent → IsSome (copy_of variable machine.now.machine.copies) }
-    ensures own { (variable : ℕ) (v : VarDecl) (value : ℤ) → slice_get variables.now variable ≡ Some v → v.owner ≡ Some agent → slice_get ended.new.items variable ≡ Some value → copy_of variable machine.now.machine.copies ≡ Some value }
-    ensures others { (variable : ℕ) (v : VarDecl) → slice_get variables.now variable ≡ Some v → v.owner ≢ Some agent → slice_get ended.new.items variable ≡ slice_get ended.old.items variable }
-    ensures all { length ended.new.items ≡ length ended.old.items }
-{
-    for variable in 0..variables.len() {
-        if is_owned(agent, variables[variable].owner) {
-            ended[variable] = machine.copy(variable as u32);
-        }
-    }
-}
-
-/// The date at which an action of an agent that started at a date ends where it reaches this point.
-fn end_of(unit: &Unit, agent: u32, start: u64, point: u32) -> u64
-    requires known { agent < length unit.now.agents }
-    requires may { (nexts : List (List ℕ)) × MayEnd (timing_of unit.now (agent_at unit.now agent) nexts) start point }
-    ensures { (nexts : List (List ℕ)) → result ≡ end_date (timing_of unit.now (agent_at unit.now agent) nexts) start point }
-{
-    let of = &unit.agents.as_slice()[agent as usize];
-    let at = of.points.as_slice()[point as usize];
-    unit.clocks.as_slice()[at.clock as usize].after(start, at.count)
-}
-
-/// The figure of an agent whose action with this deadline is finished or stopped when so many cycles are done.
-fn figured(figure: Figure, until: u32, quantum: u32, deadline: u64, done: u64) -> Figure
-    requires count { figure.count ≤ until }
-    requires early { done ≤ deadline * quantum }
-    ensures { result ≡ figured until quantum deadline done figure }
-{
-    if deadline > u64::from(until) {
-        return figure;
-    }
-    let slack = deadline * u64::from(quantum) - done;
-    let least = match figure.slack {
-        Some(least) => slack.min(least),
-        None => slack,
-    };
-    Figure {
-        count: figure.count + 1,
-        slack: Some(least),
-    }
-}
-
-/// The seat of an agent whose action was stopped, by a trap or by its budget.
-fn stop(seat: &mut Seat, trap: Option<Trap>)
-    ensures { seat.new ≡ record seat.old { phase = Phase.Stopped; trap = trap } }
-{
-    seat.phase = Phase::Stopped;
-    seat.trap = trap;
-}
-
-/// How far back a ring was reached for, with a look at this age.
-fn reached(reach: Option<u32>, age: u32) -> Option<u32>
-    ensures { result ≡ greater age reach }
-{
-    match reach {
-        Some(reach) => Some(age.max(reach)),
-        None => Some(age),
-    }
-}
-
-/// Notes how far back the look of a cycle at a date reached for its variable's ring, where the cycle made one, of an action that started
-/// at another date.
-fn note(plan: &Plan, look: Option<(u32, u32)>, start: u64, date: u64, reaches: &mut Vec<Option<u32>>)
-    requires plan { IsPlan plan.now }
-    requires reaching { length reaches.old.items ≡ length plan.now.unit.variables }
-    requires early { (start ≤ date) × (date ≤ plan.now.until) }
-    requires look { IsLookAt plan.now.unit look }
-    ensures reaching { length reaches.new.items ≡ length reaches.old.items }
-    ensures reached { (inputs : List (List ℤ)) (stalls : ℕ → List Stall) (variable : ℕ) → variable < length plan.now.unit.variables
-        → slice_get reaches.new.items variable ≡ Some (reach_by (system_of plan.now inputs stalls) variable start date look (get_or reaches.old.items variable None)) }
-{
-    if let Some((variable, back)) = look {
-        let number = variable as usize;
-        let of = &plan.unit.variables.as_slice()[number];
-        let clock = plan.unit.clocks.as_slice()[of.clock as usize];
-        let passed = clock.count_to(date) - clock.count_to(start);
-        reaches[number] = reached(reaches[number], back + passed as u32);
-    }
-}
-
-/// Gives an agent's action the cycle of this number, and tells whether it goes on behind it. The eyes note its look.
-fn goes_on(
-    plan: &Plan,
-    agent: u32,
-    cycle: u64,
-    charge: &mut Charge,
-    machine: &mut Machine,
-    figure: &mut Figure,
-    seat: &mut Seat,
-    ended: &mut Vec<i32>,
-    eyes: &mut Eyes,
-) -> bool
-    requires plan { IsPlan plan.now }
-    requires known { agent < length plan.now.unit.agents }
-    requires valued { length ended.old.items ≡ length plan.now.unit.variables }
-    requires given { (inputs : List (List ℤ)) × (stalls : ℕ → List Stall) × (turns : List (Option Turn)) × (date : ℕ) × (r : Action) × (before : List Action) × (waits : Option ℕ)
-        × IsGiven plan.now inputs stalls turns date cycle agent r before charge.old machine.old waits figure.old seat.old ended.old.items }
-    requires shows { (inputs : List (List ℤ)) (stalls : ℕ → List Stall) (turns : List (Option Turn)) (date : ℕ) (r : Action) (before : List Action) (waits : Option ℕ)
-        → IsGiven plan.now inputs stalls turns date cycle agent r before charge.old machine.old waits figure.old seat.old ended.old.items → ShowsAs (system_of plan.now inputs stalls) r (Eyes.Look.window eyes.old).view }
-    requires fresh { (Eyes.Look.window eyes.old).noted ≡ None }
-    ensures has { (inputs : List (List ℤ)) (stalls : ℕ → List Stall) (turns : List (Option Turn)) (date : ℕ) (r : Action) (before : List Action) (waits : Option ℕ)
-        → IsGiven plan.now inputs stalls turns date cycle agent r before charge.old machine.old waits figure.old seat.old ended.old.items (Eyes.Look.window eyes.old).view
-        → OneStands (system_of plan.now inputs stalls) plan.now.code (Some (record { agent = r.agent; number = r.number }) ∷ turns) plan.now.until date agent (r ∷ before) charge.new machine.new (if result then waits else None) figure.new seat.new ended.new.items }
-    ensures look { (inputs : List (List ℤ)) (stalls : ℕ → List Stall) (turns : List (Option Turn)) (date : ℕ) (r : Action) (before : List Action) (waits : Option ℕ)
-        → IsGiven plan.now inputs stalls turns date cycle agent r before charge.old machine.old waits figure.old seat.old ended.old.items (Eyes.Look.window eyes.old).view
-        → IsLookIn (system_of plan.now inputs stalls) plan.now.code r (units r.agent r.number turns) (Eyes.Look.window eyes.new).noted }
+    requires early { date ≤ 2 ^ 40 }
+    requires given { (inputs : List (List ℤ)) × (stalls : ℕ → List Stall) × (turns : List (Option Turn)) × (r : Action) × (before : List Action) × (waits : Option ℕ)
+        × IsGiven plan.now inputs stalls turns date cycle agent r before charge.old machine.old waits figure.old seat.old ended.old.items (view_in rings.now plan.now.unit.variables plan.now.unit.clocks seat.old.start date) }
+    ensures has { (inputs : List (List ℤ)) (stalls : ℕ → List Stall) (turns : List (Option Turn)) (r : Action) (before : List Action) (waits : Option ℕ)
+        → IsGiven plan.now inputs stalls turns date cycle agent r before charge.old machine.old waits figure.old seat.old ended.old.items (view_in rings.now plan.now.unit.variables plan.now.unit.clocks seat.old.start date)
+        → OneStands (system_of plan.now inputs stalls) plan.now.code (Some (record { agent = r.agent; number = r.number }) ∷ turns) plan.now.until date agent (r ∷ before) charge.new machine.new (if result.goes then waits else None) figure.new seat.new ended.new.items }
+    ensures look { (inputs : List (List ℤ)) (stalls : ℕ → List Stall) (turns : List (Option Turn)) (r : Action) (before : List Action) (waits : Option ℕ)
+        → IsGiven plan.now inputs stalls turns date cycle agent r before charge.old machine.old waits figure.old seat.old ended.old.items (view_in rings.now plan.now.unit.variables plan.now.unit.clocks seat.old.start date)
+        → IsLookIn (system_of plan.now inputs stalls) plan.now.code r (units r.agent r.number turns) result.look }
     ensures others { (variable : ℕ) (v : VarDecl) → slice_get plan.now.unit.variables variable ≡ Some v → v.owner ≢ Some agent → slice_get ended.new.items variable ≡ slice_get ended.old.items variable }
     ensures all { length ended.new.items ≡ length ended.old.items }
 {
-    match advance(charge, machine, &plan.code, eyes) {
-        Gone::Going => return true,
+    let mut eyes = Eyes::new(
+        rings,
+        plan.unit.variables.as_slice(),
+        plan.unit.clocks.as_slice(),
+        seat.start,
+        date,
+    );
+    let gone = advance(charge, machine, &plan.code, &mut eyes);
+    let look = eyes.noted();
+    match gone {
+        Gone::Going => return Course { goes: true, look },
         Gone::Ended(point) => {
             seat.phase = Phase::Ended;
             seat.end = end_of(&plan.unit, agent, seat.start, point);
@@ -346,7 +245,7 @@ fn goes_on(
         seat.deadline,
         cycle + 1,
     );
-    false
+    Course { goes: false, look }
 }
 
 /// In a run up to a date, of each agent's actions the last alone may be pending; and where it is, it can get the next cycle.
@@ -388,26 +287,20 @@ impl Kernel {
             let number = agent as usize;
             let start = self.shared.seats[number].start;
             let date = last_date(self.shared.date);
-            let mut eyes = Eyes::new(
-                self.shared.rings.as_slice(),
-                self.plan.unit.variables.as_slice(),
-                self.plan.unit.clocks.as_slice(),
-                start,
-                date,
-            );
-            let goes = goes_on(
+            let course = go(
                 &self.plan,
                 agent,
                 cycle,
+                date,
+                &self.shared.rings,
                 &mut self.charges[number],
                 &mut self.machines[number],
                 &mut self.figures[number],
                 &mut self.shared.seats[number],
                 &mut self.shared.ended,
-                &mut eyes,
             );
-            note(&self.plan, eyes.noted(), start, date, &mut self.reaches);
-            if !goes {
+            note(&self.plan, course.look, start, date, &mut self.reaches);
+            if !course.goes {
                 self.ready.drop_agent(agent);
                 self.stale = true;
             }
