@@ -5,6 +5,7 @@ mod Deadlines
 mod Edges
 mod Finishes
 mod Given
+mod GoingOn
 mod Growth
 mod KeptCycles
 mod KeptDates
@@ -22,7 +23,9 @@ mod OneAction
 mod Owned
 mod PathShifts
 mod Regulars
+mod RunsToEnds
 mod Seeing
+mod Sights
 mod Soonest
 mod Starts
 mod Stores
