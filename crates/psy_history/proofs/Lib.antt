@@ -1,5 +1,6 @@
 mod Bounds
 mod CodeHistories
+mod CountsRise
 mod Cuts
 mod Deadlines
 mod Edges
@@ -15,6 +16,8 @@ mod LikeLines
 mod LikeReaches
 mod LikeSchedules
 mod LikeViews
+mod LookAges
+mod LooksAsked
 mod Members
 mod NextStarts
 mod Numbers
@@ -22,10 +25,13 @@ mod OneAction
 mod Owned
 mod PathShifts
 mod Regulars
+mod RingReaches
 mod Seeing
 mod Soonest
+mod StartedActions
 mod Starts
 mod Stores
 mod Timings
 mod Totals
 mod Turns
+mod UnitCycles
