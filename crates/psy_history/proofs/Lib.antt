@@ -1,6 +1,8 @@
 mod Bounds
 mod CodeHistories
+mod CountsRise
 mod Cuts
+mod CyclesInTime
 mod Deadlines
 mod Edges
 mod Finishes
@@ -16,6 +18,8 @@ mod LikeLines
 mod LikeReaches
 mod LikeSchedules
 mod LikeViews
+mod LookAges
+mod LooksAsked
 mod Members
 mod NextStarts
 mod Numbers
@@ -23,10 +27,12 @@ mod OneAction
 mod Owned
 mod PathShifts
 mod Regulars
+mod RingReaches
 mod RunsToEnds
 mod Seeing
 mod Sights
 mod Soonest
+mod StartedActions
 mod Starts
 mod Stores
 mod Timings

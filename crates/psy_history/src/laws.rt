@@ -124,11 +124,4 @@ pub fn ring_sizes()
         → reach (coded unit code nexts stalls inputs) (turns_of (coded unit code nexts stalls inputs) order cycles) (history (coded unit code nexts stalls inputs) (until + 1)) variable ≡ Some n → n < size }
 {
     regular();
-    given();
-    on_time();
-    ways();
-    traps();
-    sound();
-    keeps();
-    lasting();
 }
