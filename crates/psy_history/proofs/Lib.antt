@@ -1,4 +1,5 @@
 mod Bounds
+mod ClockDates
 mod CodeHistories
 mod Cuts
 mod Deadlines
@@ -20,8 +21,10 @@ mod NextStarts
 mod Numbers
 mod OneAction
 mod Owned
+mod PastValues
 mod PathShifts
 mod Regulars
+mod RingValues
 mod Seeing
 mod Soonest
 mod Starts
