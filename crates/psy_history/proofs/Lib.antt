@@ -1,4 +1,5 @@
 mod Bounds
+mod ClockDates
 mod CodeHistories
 mod CountsRise
 mod Cuts
@@ -25,9 +26,11 @@ mod NextStarts
 mod Numbers
 mod OneAction
 mod Owned
+mod PastValues
 mod PathShifts
 mod Regulars
 mod RingReaches
+mod RingValues
 mod RunsToEnds
 mod Seeing
 mod Sights
