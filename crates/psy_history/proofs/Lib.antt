@@ -5,6 +5,7 @@ mod Deadlines
 mod Edges
 mod Finishes
 mod Given
+mod Greatest
 mod Growth
 mod KeptCycles
 mod KeptDates
@@ -15,12 +16,15 @@ mod LikeLines
 mod LikeReaches
 mod LikeSchedules
 mod LikeViews
+mod LooksOfCode
 mod Members
 mod NextStarts
 mod Numbers
 mod OneAction
 mod Owned
 mod PathShifts
+mod Reached
+mod Reaches
 mod Regulars
 mod Seeing
 mod Soonest
@@ -29,3 +33,4 @@ mod Stores
 mod Timings
 mod Totals
 mod Turns
+mod UnitCycles
