@@ -9,6 +9,7 @@ mod Edges
 mod Finishes
 mod Given
 mod GoingOn
+mod Greatest
 mod Growth
 mod KeptCycles
 mod KeptDates
@@ -21,6 +22,7 @@ mod LikeSchedules
 mod LikeViews
 mod LookAges
 mod LooksAsked
+mod LooksOfCode
 mod Members
 mod NextStarts
 mod Numbers
@@ -28,6 +30,8 @@ mod OneAction
 mod Owned
 mod PastValues
 mod PathShifts
+mod Reached
+mod Reaches
 mod Regulars
 mod RingReaches
 mod RingValues
@@ -41,3 +45,4 @@ mod Stores
 mod Timings
 mod Totals
 mod Turns
+mod UnitCycles

@@ -41,7 +41,7 @@ left_out f p q none (x ∷ xs) =
 
 -- ---- a unit that an action hasn't had
 
-no_unit : (agent number unit : ℕ) (done : List (Option Turn)) → units agent number done ≤ unit → cycle_of_unit agent number unit done ≡ None
+pub no_unit : (agent number unit : ℕ) (done : List (Option Turn)) → units agent number done ≤ unit → cycle_of_unit agent number unit done ≡ None
 no_unit agent number unit [] few = refl
 no_unit agent number unit (turn ∷ done) few = elim (cases_Bool (is_of agent number turn)) [
   | inl t ↦ (
