@@ -1,10 +1,35 @@
 -- How many dates of a clock stand up to a time, and below it.
-use Rattle.std.proofs.Common.{◌≡◌, ℕ, suc, ◌+◌, ◌*◌, ◌<◌, ◌≤◌, ◌↔◌, true, false, ap, ◌∙◌, inl, inr, arith}
-use Rattle.std.proofs.lemmas.Bool.{cases_lt, eqb-false, eqb-true}
+use Rattle.std.proofs.Common.{◌≡◌, ℕ, zero, suc, ◌+◌, ◌*◌, ◌<◌, ◌≤◌, ◌↔◌, Bool, true, false, cond, map, ap, refl, sym, ◌∙◌, subst, inl, inr, arith}
+use Rattle.std.specs.Prelude.{nat_le}
+use Rattle.std.specs.List.{count_by, range_with_len}
+use Rattle.std.proofs.lemmas.Bool.{cases_lt, eqb-false, eqb-true, le-leb, leb-true}
+use Rattle.std.proofs.lemmas.List.Sums.{sum_by-cons}
 use Rattle.std.proofs.Math.Nat.{suc-mul}
 use Rattle.psy_clock.specs.declared.clock.Clock.{Clock}
 use Rattle.psy_clock.specs.Dates.{IsClock, count, count_below, date}
 use Rattle.psy_meaning.specs.Lines.{is_date}
+
+-- ---- by the times
+
+one_more : (a b : Bool) → (a ≡ true → b ≡ true) → cond {A = ℕ} a 1 0 ≤ cond {A = ℕ} b 1 0
+one_more false b h = omega arith
+one_more true b h = subst (λ c. 1 ≤ cond {A = ℕ} c 1 0) (sym (h refl)) (omega arith)
+
+module _ (p q : ℕ → Bool) (weaker : (x : ℕ) → p x ≡ true → q x ≡ true) (f : ℕ → ℕ) where
+  more_pass : (a n m : ℕ) → n ≤ m → count_by p (map f (range_with_len a n)) ≤ count_by q (map f (range_with_len a m))
+  more_pass a zero m l = omega arith
+  more_pass a (suc n) zero l = absurd (omega (arith, l))
+  more_pass a (suc n) (suc m) l =
+      let rest = more_pass (a + 1) n m (omega (arith, l)) in
+      let first = one_more (p (f a)) (q (f a)) (weaker (f a)) in
+      omega (arith, rest, first, sum_by-cons (λ x. cond {A = ℕ} (p x) 1 0) (f a) (map f (range_with_len (a + 1) n)), sum_by-cons (λ x. cond {A = ℕ} (q x) 1 0) (f a) (map f (range_with_len (a + 1) m)))
+
+-- Up to a later time a clock has no fewer dates.
+pub count_rises : (c : Clock) (t u : ℕ) → t ≤ u → count c t ≤ count c u
+count_rises c t u l =
+    more_pass (λ d. nat_le d t) (λ d. nat_le d u) (λ d h. let early = leb-true d t h in le-leb d u (omega (arith, early, l))) (date c) 0 (t + 1) (u + 1) (omega (arith, l))
+
+-- ---- by the numbers
 
 -- Dates are counted by their numbers.
 pub record AreCounted : Type 0 where
@@ -24,10 +49,6 @@ module _ (counted : AreCounted) (c : Clock) (is : IsClock c) where
       let few = no_more (count_below c (suc t)) (count c t) (λ i l. (counted.upto c t i is).0 (omega (arith, (counted.below c (suc t) i is).1 l))) in
       let many = no_more (count c t) (count_below c (suc t)) (λ i l. (counted.below c (suc t) i is).0 (omega (arith, (counted.upto c t i is).1 l))) in
       omega (arith, few, many)
-
-  -- Later no fewer are counted.
-  pub count_rises : (t u : ℕ) → t ≤ u → count c t ≤ count c u
-  count_rises t u l = no_more (count c t) (count c u) (λ i less. (counted.upto c u i is).0 (omega (arith, l, (counted.upto c t i is).1 less)))
 
   date_rises : (i : ℕ) → date c i < date c (suc i)
   date_rises i = (let e : suc i * c.period ≡ i * c.period + c.period = suc-mul i c.period in omega (arith, is.first, e))

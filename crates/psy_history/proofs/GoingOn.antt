@@ -50,13 +50,15 @@ same_next code agent view other m alike = same_found code agent view other m (in
 
 -- ---- instructions that look or send go on
 
-abbrev LeavesDeed : Call → Type 0
+-- Only looks and sends leave a deed.
+abbrev pub LeavesDeed : Call → Type 0
 LeavesDeed (Past variable back) = ⊤
 LeavesDeed (Ready stream) = ⊥
 LeavesDeed (Take stream) = ⊥
 LeavesDeed (Send sent) = ⊤
 
-abbrev IsGoing : Next → Type 0
+-- It goes on.
+abbrev pub IsGoing : Next → Type 0
 IsGoing next = (n : Machine) × (next ≡ Went n)
 
 room_went : (b : Bool) (m : Machine) → (if b then Went m else Stuck) ≢ Stuck → IsGoing (if b then Went m else Stuck)
@@ -83,12 +85,15 @@ went_by : (code : Code) (agent : AgentCode) (view : View) (m : Machine) (call : 
 went_by code agent view m call None leaves able asks = absurd (able refl)
 went_by code agent view m call (Some i) leaves able asks = leaves_went code agent view m i call leaves asks able
 
+pub goes_on : (code : Code) (agent : AgentCode) (view : View) (m : Machine) (call : Call) → LeavesDeed call → call_of code m ≡ Some call → next_of code agent view m ≢ Stuck → IsGoing (next_of code agent view m)
+goes_on code agent view m call leaves asks able = went_by code agent view m call (instr_at code m) leaves able asks
+
 -- ---- what is left of them
 
 module _ (code : Code) (its : AgentCode) (start : RunState) (n : ℕ) (all : Deeds) (on : GoesOn code its start n all) where
   left_behind : (call : Call) → LeavesDeed call → call_of code on.state.machine ≡ Some call → IsFront (deeds_then on.state.deeds (Some call)) all
   left_behind call leaves asks =
-      let goes = went_by code its on.state.view on.state.machine call (instr_at code on.state.machine) leaves on.able asks in
+      let goes = goes_on code its on.state.view on.state.machine call leaves asks on.able in
       subst (λ c. IsFront (deeds_then on.state.deeds c) all) asks (on.behind goes.0 goes.1)
 
   -- What an instruction looks at is among the looks of the run.

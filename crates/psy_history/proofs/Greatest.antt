@@ -46,3 +46,7 @@ same_by these those (Some m) (Some q) this that same =
 
 pub greatest_same : (these those : List ℕ) → AreSame these those → greatest_of these ≡ greatest_of those
 greatest_same these those same = same_by these those (greatest_of these) (greatest_of those) (greatest_is these) (greatest_is those) same
+
+-- The greatest of some numbers is one of them.
+pub greatest_in : (numbers : List ℕ) (n : ℕ) → greatest_of numbers ≡ Some n → Contains numbers n
+greatest_in numbers n e = (let is : IsGreatest numbers (Some n) = subst (IsGreatest numbers) e (greatest_is numbers) in is.0)

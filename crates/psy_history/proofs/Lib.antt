@@ -1,7 +1,6 @@
 mod Bounds
 mod ClockDates
 mod CodeHistories
-mod CountsRise
 mod Cuts
 mod CyclesInTime
 mod Deadlines

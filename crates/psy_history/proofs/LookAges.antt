@@ -13,7 +13,7 @@ use Rattle.psy_meaning.specs.Timing.{clock_at}
 use Rattle.psy_history.specs.Compiled.{AreEdgesOf}
 use Rattle.psy_history.specs.Regular.{IsRegular}
 use Rattle.psy_history.specs.Rings.{age_at}
-use Rattle.psy_history.proofs.CountsRise.{count_rises}
+use Rattle.psy_history.proofs.ClockDates.{count_rises}
 use Rattle.psy_history.proofs.Edges.{drawn_of}
 
 module _ (s : System) (graphs : List (List Edge)) (drawn : AreEdgesOf s graphs) (agent variable : ℕ) (decl : VarDecl) (declared : slice_get s.unit.variables variable ≡ Some decl) (r : Action) (its : IsRegular s agent r) where

@@ -1,17 +1,14 @@
 -- What the code of an action looks at: a look has the number of the instruction that makes it.
-use Rattle.std.proofs.Common.{◌≡◌, ◌≢◌, ◌⊎◌, ℕ, zero, suc, ◌+◌, ◌<◌, ◌≤◌, Bool, true, false, List, [], ◌∷◌, Option, Some, None, refl, sym, ap, ◌∙◌, subst, inl, inr, arith}
-use Rattle.std.specs.Prelude.{if◌then◌else◌, ℤ}
+use Rattle.std.proofs.Common.{◌≡◌, ◌≢◌, ◌⊎◌, ℕ, zero, suc, ◌+◌, ◌<◌, ◌≤◌, List, [], ◌∷◌, Option, Some, None, refl, sym, ap, ◌∙◌, subst, inl, inr, arith}
 use Rattle.std.specs.List.{Contains}
-use Rattle.std.proofs.lemmas.List.Elements.{Contains-append_cases, Contains-append_left, Contains-append_right}
-use Rattle.std.proofs.lemmas.Option.{none-some, same_Some}
+use Rattle.std.proofs.lemmas.List.Elements.{Contains-append_left, Contains-append_right, Contains-push_cases}
 use Rattle.psy_code.specs.declared.code.AgentCode.{AgentCode}
 use Rattle.psy_code.specs.declared.code.Code.{Code}
-use Rattle.psy_code.specs.declared.instr.Instr.{Instr}
-use Rattle.psy_code.specs.declared.instr.Instr.TheVariants as instr
-use Rattle.psy_code.specs.Execution.{Machine, Next, NoRun, Ended, RanTo, Run, RunState, Running, Stuck, Trapped, TrappedBy, Went, call_by, call_of, deeds_then, does, go_on, instr_at, need, next_of, push, run_by, run_code, state_then, within}
-use Rattle.psy_code.specs.Views.{Call, Deeds, Looked, Past, Ready, Send, Take, View, found_in, nothing_done, past_of}
+use Rattle.psy_code.specs.Execution.{Next, NoRun, Ended, RanTo, Run, RunState, Running, Stuck, Trapped, TrappedBy, Went, call_of, deeds_then, go_on, next_of, run_by, run_code, state_then}
+use Rattle.psy_code.specs.Views.{Call, Deeds, Looked, Past, Ready, Send, Take, nothing_done}
+use Rattle.psy_history.proofs.GoingOn.{goes_on}
 use Rattle.psy_history.proofs.LateLooks.{steps_then}
-use Rattle.psy_history.proofs.Members.{contains_front, contains_none, front_or_behind}
+use Rattle.psy_history.proofs.Members.{contains_front, contains_none}
 
 -- What a run looked at
 abbrev pub looks_of : Run → List Looked
@@ -26,16 +23,13 @@ looks_of NoRun = []
 abbrev pub IsMade : ℕ → Option Call → Looked → Type 0
 IsMade steps call look = (look.number ≡ steps) × (call ≡ Some (Past look.variable look.back))
 
-before_or_made : (deeds : Deeds) (call : Option Call) (look : Looked) → Contains (deeds_then deeds call).looks look → Contains deeds.looks look ⊎ IsMade deeds.steps call look
+pub before_or_made : (deeds : Deeds) (call : Option Call) (look : Looked) → Contains (deeds_then deeds call).looks look → Contains deeds.looks look ⊎ IsMade deeds.steps call look
 before_or_made deeds None look c = inl c
 before_or_made deeds (Some (Past variable back)) look c =
     let made : Looked = record { number = deeds.steps; variable = variable; back = back } in
-    elim (Contains-append_cases deeds.looks (made ∷ []) look c) [
+    elim (Contains-push_cases deeds.looks made look c) [
       | inl before ↦ inl before
-      | inr last ↦ elim (front_or_behind made [] look last) [
-        | inl e ↦ inr (ap (λ (l : Looked). l.number) (sym e), ap (λ (l : Looked). Some (Past l.variable l.back)) e)
-        | inr behind ↦ absurd (contains_none look behind)
-      ]
+      | inr e ↦ inr (ap (λ (l : Looked). l.number) (sym e), ap (λ (l : Looked). Some (Past l.variable l.back)) e)
     ]
 before_or_made deeds (Some (Ready stream)) look c = inl c
 before_or_made deeds (Some (Take stream)) look c = inl c
@@ -93,36 +87,12 @@ module _ (code : Code) (its : AgentCode) where
 
   -- ---- the instruction that makes a look
 
-  room_goes : (b : Bool) (m : Machine) → (if b then Went m else Stuck) ≢ Stuck → (if b then Went m else Stuck) ≡ Went m
-  room_goes true m able = refl
-  room_goes false m able = absurd (able refl)
-
-  past_goes : (found : Option ℤ) (m : Machine) → within its (need found (λ v. push v m)) ≢ Stuck → (n : Machine) × (within its (need found (λ v. push v m)) ≡ Went n)
-  past_goes None m able = absurd (able refl)
-  past_goes (Some v) m able = (_, room_goes _ _ able)
-
-  asked_goes : (view : View) (m : Machine) (i : Instr) (operands : List ℤ) (variable back : ℕ) → call_by i operands ≡ Some (Past variable back) → within its (does code its view i m) ≢ Stuck → (n : Machine) × (within its (does code its view i m) ≡ Went n)
-  asked_goes view m (instr.Past variable back) operands looked other e able = past_goes (past_of view variable back) m able
-  asked_goes view m (instr.Ready stream) operands looked other e able = (let not : Ready stream ≡ Past looked other = same_Some (Ready stream) (Past looked other) e in absurd cc)
-  asked_goes view m (instr.Take stream) operands looked other e able = (let not : Take stream ≡ Past looked other = same_Some (Take stream) (Past looked other) e in absurd cc)
-  asked_goes view m (instr.Send stream after clock) [] looked other e able = absurd (none-some (Past looked other) e)
-  asked_goes view m (instr.Send stream after clock) (v ∷ below) looked other e able = (let not = same_Some (Send _) (Past looked other) e in absurd cc)
-  asked_goes view m i operands looked other e able = absurd (none-some (Past looked other) e)
-
-  -- One that asks for a look goes on, where it can be executed.
-  look_goes : (s : RunState) (variable back : ℕ) → call_of code s.machine ≡ Some (Past variable back) → next_of code its s.view s.machine ≢ Stuck → (n : Machine) × (next_of code its s.view s.machine ≡ Went n)
-  look_goes s variable back = from (instr_at code s.machine)
-    where
-      from : (found : Option Instr) → found_in found (λ i. call_by i s.machine.operands) ≡ Some (Past variable back) → need found (λ i. within its (does code its s.view i s.machine)) ≢ Stuck → (n : Machine) × (need found (λ i. within its (does code its s.view i s.machine)) ≡ Went n)
-      from None e able = absurd (none-some (Past variable back) e)
-      from (Some i) e able = asked_goes s.view s.machine i s.machine.operands variable back e able
-
   -- What the first instruction of a run asks for, the run looks at,
   pub asked_look : (n : ℕ) (s : RunState) (variable back : ℕ) → call_of code s.machine ≡ Some (Past variable back) → next_of code its s.view s.machine ≢ Stuck → run_code code its s (suc n) ≢ NoRun
       → Contains (looks_of (run_code code its s (suc n))) (record { number = s.deeds.steps; variable = variable; back = back })
   asked_look n s variable back asks able runs =
       let look : Looked = record { number = s.deeds.steps; variable = variable; back = back } in
-      let (m, goes) = look_goes s variable back asks able in
+      let (m, goes) = goes_on code its s.view s.machine (Past variable back) (tt {0}) asks able in
       let t : RunState = state_then s (call_of code s.machine) m in
       let on : run_code code its s (suc n) ≡ run_code code its t n = ap (λ next. go_on (run_by s (call_of code s.machine) next) (λ u. run_code code its u n)) goes in
       let made : Contains t.deeds.looks look = subst (λ call. Contains (deeds_then s.deeds call).looks look) (sym asks) (Contains-append_right s.deeds.looks (look ∷ []) look (contains_front look [])) in

@@ -1,31 +1,30 @@
 -- How far back rings are reached for: the ages of the looks that cycles executed, one by one.
-use Rattle.std.proofs.Common.{◌≡◌, ◌⊎◌, ℕ, suc, ◌+◌, ◌-◌, ◌/◌, ◌*◌, ◌<◌, ◌≤◌, ◌==◌, ◌&&◌, List, [], ◌∷◌, length, Option, Some, None, refl, sym, ap, ◌∙◌, subst, inl, inr, arith, add-one}
+use Rattle.std.proofs.Common.{◌≡◌, ◌⊎◌, ℕ, suc, ◌+◌, ◌/◌, ◌*◌, ◌<◌, ◌≤◌, ◌==◌, ◌&&◌, List, [], ◌∷◌, length, Option, Some, None, refl, sym, ap, ◌∙◌, subst, inl, inr, arith, add-one}
 use Rattle.std.specs.Prelude.{filter}
 use Rattle.std.specs.List.{Contains, flat_map, range_with_len}
 use Rattle.std.proofs.lemmas.Bool.{and_parts, cases_Bool, eq-eqb, eqb-true}
 use Rattle.std.proofs.lemmas.List.FromFn.{get_or-range_with_len, length-range_with_len}
 use Rattle.std.proofs.lemmas.Option.{none-some, same_Some}
 use Rattle.psy_budget.specs.Charges.{cycle_of}
-use Rattle.psy_clock.specs.Dates.{count}
 use Rattle.psy_code.specs.Views.{Looked}
-use Rattle.psy_meaning.specs.Actions.{Action, History, System, publishing}
+use Rattle.psy_meaning.specs.Actions.{Action, History, System}
 use Rattle.psy_meaning.specs.History.{action_of, history}
 use Rattle.psy_meaning.specs.Schedule.{Turn, cycle_of_unit, is_of, turn_of, units}
 use Rattle.psy_meaning.specs.Summary.{age_in, ages_of, greater, reach}
+use Rattle.psy_history.specs.Rings.{age_at}
 use Rattle.psy_history.specs.Scheduled.{turns_of}
 use Rattle.psy_history.proofs.Given.{given_unstarted}
 use Rattle.psy_history.proofs.Greatest.{greatest_same}
 use Rattle.psy_history.proofs.Growth.{grown, stays_started}
-use Rattle.psy_history.proofs.LikeReaches.{no_unit}
 use Rattle.psy_history.proofs.Members.{contains_behind, contains_front, contains_none, filter_from, filter_in, flat_map_from, flat_map_in, front_or_behind}
 use Rattle.psy_history.proofs.Numbers.{BeginAtZero, agent_of, next_number, were_started}
-use Rattle.psy_history.proofs.UnitCycles.{unit_stays}
+use Rattle.psy_history.proofs.UnitCycles.{no_unit, unit_stays}
 
 -- ---- one age
 
 -- The age of the value that an action's look finds in a cycle
 abbrev pub age_then : System → Action → Looked → ℕ → ℕ
-age_then s r look cycle = look.back + (count (publishing s look.variable) (cycle / s.unit.quantum) - count (publishing s look.variable) r.start)
+age_then s r look cycle = age_at s look.variable look.back r.start (cycle / s.unit.quantum)
 
 -- A look at the variable was executed in one of these cycles, and found a value of this age.
 pub record IsReached (s : System) (turns : List (Option Turn)) (h : History) (variable age : ℕ) : Type 0 where
@@ -118,24 +117,19 @@ pub record IsNow (s : System) (turns : List (Option Turn)) (r q : Action) (look 
   pub unit : units r.agent r.number turns ≡ cycle_of (s.stalls r.agent) r.number look.number
   pub cycle_is : length turns ≡ cycle
 
+-- What was reached is so in another history and with other cycles, if the action is there and its look executed in the same cycle.
+reached_as : (s : System) (these those : List (Option Turn)) (h k : History) (variable n : ℕ) (it : IsReached s these h variable n) → Contains (k it.agent) it.r
+    → cycle_of_unit it.r.agent it.r.number (cycle_of (s.stalls it.r.agent) it.r.number it.look.number) those ≡ Some it.cycle → IsReached s those k variable n
+reached_as s these those h k variable n it there executed =
+    record { agent = it.agent; known = it.known; r = it.r; there = there; look = it.look; looked = it.looked; at = it.at; cycle = it.cycle; executed = executed; is = it.is }
+
 module _ (s : System) (turns : List (Option Turn)) (h : History) (variable : ℕ) where
   abbrev unit_of : Action → Looked → ℕ
   unit_of r look = cycle_of (s.stalls r.agent) r.number look.number
 
   -- What was reached stays so.
   pub reached_stays : (turn : Option Turn) (n : ℕ) → IsReached s turns h variable n → IsReached s (turn ∷ turns) h variable n
-  reached_stays turn n it = record {
-    agent = it.agent;
-    known = it.known;
-    r = it.r;
-    there = it.there;
-    look = it.look;
-    looked = it.looked;
-    at = it.at;
-    cycle = it.cycle;
-    executed = unit_stays turn turns it.r.agent it.r.number (unit_of it.r it.look) it.cycle it.executed;
-    is = it.is;
-  }
+  reached_stays turn n it = reached_as s turns (turn ∷ turns) h h variable n it it.there (unit_stays turn turns it.r.agent it.r.number (unit_of it.r it.look) it.cycle it.executed)
 
   -- What is reached with the next cycle was before, or is now.
   pub before_or_now : (r : Action) (n : ℕ) (it : IsReached s (turn_of (Some r) ∷ turns) h variable n) → IsReached s turns h variable n ⊎ IsNow s turns r it.r it.look it.cycle
@@ -147,18 +141,7 @@ module _ (s : System) (turns : List (Option Turn)) (h : History) (variable : ℕ
         let number = eqb-true r.number it.r.number its.1 in
         let has = eqb-true (units it.r.agent it.r.number turns) (unit_of it.r it.look) both.1 in
         inr (record { agent = agent; number = number; unit = rw (agent, number) has; cycle_is = same_Some (length turns) it.cycle (rw t at it.executed) }))
-    | inr f ↦ inl (record {
-      agent = it.agent;
-      known = it.known;
-      r = it.r;
-      there = it.there;
-      look = it.look;
-      looked = it.looked;
-      at = it.at;
-      cycle = it.cycle;
-      executed = rw f at it.executed;
-      is = it.is;
-    })
+    | inr f ↦ inl (reached_as s (turn_of (Some r) ∷ turns) turns h h variable n it it.there (rw f at it.executed))
   ]
 
   -- A cycle that pays no instruction of its action executes no look.
@@ -168,11 +151,6 @@ module _ (s : System) (turns : List (Option Turn)) (h : History) (variable : ℕ
 -- Where no cycle is done, no look was executed.
 pub reach_none : (s : System) (h : History) (variable : ℕ) → reach s [] h variable ≡ None
 reach_none s h variable = greatest_same (all_ages s [] h variable) [] (λ n c. absurd (none-some _ (reached_in s [] h variable n c).executed), λ n c. absurd (contains_none n c))
-
--- What is reached in one history is in another that has the action.
-reached_at : (s : System) (turns : List (Option Turn)) (h k : History) (variable n : ℕ) (it : IsReached s turns h variable n) → Contains (k it.agent) it.r → IsReached s turns k variable n
-reached_at s turns h k variable n it there =
-    record { agent = it.agent; known = it.known; r = it.r; there = there; look = it.look; looked = it.looked; at = it.at; cycle = it.cycle; executed = it.executed; is = it.is }
 
 -- The actions that a date starts have no unit in the cycles before it.
 module _ (s : System) (zero_first : BeginAtZero s) (order : ℕ → List ℕ) (date cycles variable : ℕ) (some : 1 ≤ s.unit.quantum) (within : cycles ≤ date * s.unit.quantum) where
@@ -197,7 +175,7 @@ module _ (s : System) (zero_first : BeginAtZero s) (order : ℕ → List ℕ) (d
   pub reach_date : reach s done (history s (date + 1)) variable ≡ reach s done (history s date) variable
   reach_date =
       let started : (n : ℕ) → IsReached s done (history s (suc date)) variable n → IsReached s done (history s date) variable n =
-      λ n it. reached_at s done (history s (suc date)) (history s date) variable n it (not_new it.agent it.r (cycle_of (s.stalls it.r.agent) it.r.number it.look.number) it.cycle it.there it.executed) in
+      λ n it. reached_as s done done (history s (suc date)) (history s date) variable n it (not_new it.agent it.r (cycle_of (s.stalls it.r.agent) it.r.number it.look.number) it.cycle it.there it.executed) it.executed in
       let stays : (n : ℕ) → IsReached s done (history s date) variable n → IsReached s done (history s (suc date)) variable n =
-      λ n it. reached_at s done (history s date) (history s (suc date)) variable n it (stays_started s date (suc date) it.agent it.r (omega arith) it.there) in
+      λ n it. reached_as s done done (history s date) (history s (suc date)) variable n it (stays_started s date (suc date) it.agent it.r (omega arith) it.there) it.executed in
       rw (add-one date) (reach_same s done done (history s (suc date)) (history s date) variable started stays)

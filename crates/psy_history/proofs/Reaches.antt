@@ -1,5 +1,5 @@
 -- A cycle that pays an instruction: rings are reached for as far back as that one asks.
-use Rattle.std.proofs.Common.{◌≡◌, ◌≢◌, ℕ, suc, ◌+◌, ◌-◌, ◌/◌, ◌<◌, ◌==◌, List, [], ◌∷◌, length, Option, Some, None, refl, sym, ap, ◌∙◌, subst, inl, inr, arith}
+use Rattle.std.proofs.Common.{◌≡◌, ◌≢◌, ℕ, suc, ◌+◌, ◌-◌, ◌/◌, ◌<◌, ◌==◌, List, ◌∷◌, length, Option, Some, None, refl, sym, ap, ◌∙◌, subst, inl, inr, arith}
 use Rattle.std.specs.Prelude.{ℤ}
 use Rattle.std.specs.List.{Contains}
 use Rattle.std.proofs.lemmas.Bool.{cases_Bool, cases_lt, eqb-false, eqb-true}
@@ -14,34 +14,21 @@ use Rattle.psy_code.specs.Lasting.{IsOver}
 use Rattle.psy_code.specs.Views.{Call, Looked, Past, Ready, Send, Take}
 use Rattle.psy_tree.specs.declared.unit.Unit.{Unit as Whole}
 use Rattle.psy_meaning.specs.Actions.{Action, History, System}
-use Rattle.psy_meaning.specs.Executors.{Carried, acted_as, agent_code_at}
-use Rattle.psy_meaning.specs.History.{action_of, history}
+use Rattle.psy_meaning.specs.Executors.{agent_code_at}
+use Rattle.psy_meaning.specs.History.{history}
 use Rattle.psy_meaning.specs.Schedule.{Turn, turn_of, units}
 use Rattle.psy_meaning.specs.Summary.{greater, reach}
 use Rattle.psy_history.specs.Compiled.{coded}
-use Rattle.psy_history.specs.Regular.{IsLawful, IsRegular, Runs, WasStarted, WereStarted, begun_by}
+use Rattle.psy_history.specs.Regular.{IsLawful, IsRegular, Runs, begun_by}
 use Rattle.psy_history.specs.Rings.{age_at, reach_with}
 use Rattle.psy_history.proofs.LateLooks.{over_stays, parts}
+use Rattle.psy_history.proofs.LooksAsked.{looks_are}
 use Rattle.psy_history.proofs.LooksOfCode.{asked_look, look_asked, looks_of, none_ahead}
-use Rattle.psy_history.proofs.Members.{contains_none, front_or_behind}
 use Rattle.psy_history.proofs.Numbers.{BeginAtZero, agent_of, one_of_number}
 use Rattle.psy_history.proofs.Reached.{IsNow, IsReached, before_or_now, reach_one_more, reach_same, reached_stays}
 use Rattle.psy_history.proofs.UnitCycles.{one_paid, unit_now}
 
 -- ---- what an action of the code looks at
-
-was_started : (s : System) (dates agent : ℕ) (actions : List Action) (r : Action) → WereStarted s dates agent actions → Contains actions r → (before : List Action) × WasStarted s dates agent before r
-was_started s dates agent [] r were c = absurd (contains_none r c)
-was_started s dates agent (q ∷ before) r (was, were) c = elim (front_or_behind q before r c) [
-  | inl e ↦ (before, subst (WasStarted s dates agent before) e was)
-  | inr there ↦ was_started s dates agent before r were there
-]
-
-looks_as : (budget : ℕ) (carried : Carried) (run : Run) → (acted_as budget carried run).deeds.looks ≡ looks_of run
-looks_as budget carried (Running s) = refl
-looks_as budget carried (RanTo point s) = refl
-looks_as budget carried (TrappedBy kind s) = refl
-looks_as budget carried NoRun = refl
 
 over_runs : (run : Run) (last : RunState) → IsOver run last → run ≢ NoRun
 over_runs (Running s) last over = absurd over
@@ -55,14 +42,6 @@ module _ (unit : Whole) (code : Code) (nexts : List (List (List ℕ))) (stalls :
 
   zero_first : BeginAtZero system
   zero_first a n e = (lawful.opening a n e).2
-
-  -- its looks are those of its code, within its budget
-  looks_by_code : r.deeds.looks ≡ looks_of (run_code code (agent_code_at code r.agent) (begun_by (agent_code_at code r.agent) r) r.budget)
-  looks_by_code =
-      let (before, was) = was_started system dates agent (history system dates agent) r (lawful.actions dates agent).were_started there in
-      let made : Action = action_of system (history system was.next.start) agent was.next in
-      subst (λ (q : Action). q.deeds.looks ≡ looks_of (run_code code (agent_code_at code q.agent) (begun_by (agent_code_at code q.agent) q) q.budget)) (sym was.made)
-      (looks_as made.budget made.before (run_code code (agent_code_at code made.agent) (begun_by (agent_code_at code made.agent) made) made.budget))
 
   module _ (runs : Runs system code r) (instr : ℕ) (state : RunState) (running : run_code code (agent_code_at code r.agent) (begun_by (agent_code_at code r.agent) r) instr ≡ Running state) (paid : instr < r.budget) where
     abbrev its : AgentCode
@@ -111,7 +90,7 @@ module _ (unit : Whole) (code : Code) (nexts : List (List (List ℕ))) (stalls :
         ap after sum ∙ parts code its instr (suc rest) start ∙ ap (λ run. go_on run (λ t. run_code code its t (suc rest))) at_instr
 
     looks_here : r.deeds.looks ≡ looks_of (run_code code its state (suc rest))
-    looks_here = looks_by_code ∙ ap (λ i. looks_of (run_code code i (begun_by i r) r.budget)) same_code ∙ ap looks_of cut
+    looks_here = looks_are unit code nexts stalls inputs lawful dates agent r there runs ∙ ap looks_of cut
 
     -- what it looks at under the number of an instruction, that one asks for,
     asks_for : (look : Looked) → Contains r.deeds.looks look → look.number ≡ instr → call_of code state.machine ≡ Some (Past look.variable look.back)

@@ -1,5 +1,5 @@
 -- What a ring holds at each date, and where an action finds in it what it saw.
-use Rattle.std.proofs.Common.{◌≡◌, ℕ, zero, suc, ◌+◌, ◌-◌, ◌<◌, ◌≤◌, List, [], ◌∷◌, map, Some, add-one, option_map, refl, sym, ap, ap₂, ◌∙◌, subst, inl, inr, arith}
+use Rattle.std.proofs.Common.{◌≡◌, ℕ, zero, suc, ◌+◌, ◌-◌, ◌<◌, ◌≤◌, ◌∷◌, map, Some, add-one, option_map, refl, sym, ap, ap₂, ◌∙◌, subst, inl, inr, arith}
 use Rattle.std.specs.Prelude.{ℤ, nat_lt, if◌then◌else◌, length, replicate, slice_get, take}
 use Rattle.std.specs.List.{Contains, range_with_len}
 use Rattle.std.proofs.lemmas.Bool.{cases_Bool, cond-false, cond-true, le-ltb, lt-ltb}
@@ -13,12 +13,12 @@ use Rattle.psy_meaning.specs.Actions.{Action, Next, System, publishing, variable
 use Rattle.psy_meaning.specs.History.{action_of, history}
 use Rattle.psy_meaning.specs.Lines.{is_date}
 use Rattle.psy_meaning.specs.Visible.{past, published}
-use Rattle.psy_history.specs.Regular.{IsLawful, WasStarted, WereStarted}
+use Rattle.psy_history.specs.Regular.{IsLawful}
 use Rattle.psy_history.specs.Rings.{age_at, ring_of}
 use Rattle.psy_history.proofs.ClockDates.{AreCounted, below_next, count_at_date, count_elsewhere, count_rises, date_is}
 use Rattle.psy_history.proofs.LikeActions.{map_same}
-use Rattle.psy_history.proofs.Members.{contains_none, front_or_behind}
 use Rattle.psy_history.proofs.PastValues.{value_back, value_further_back}
+use Rattle.psy_history.proofs.StartedActions.{was_started}
 
 -- ---- lists of what numbers have
 
@@ -89,20 +89,13 @@ module _ (s : System) (lawful : IsLawful s) (counted : AreCounted) (variable : �
       ap (λ values. found_in values (λ list. slice_get list back)) (place_in (λ v. map (past s (history s dates) v n.start) (range_with_len 0 (variable_of s v).depth)) (length s.unit.variables) variable inner)
       ∙ place_in (past s (history s dates) variable n.start) (variable_of s variable).depth back deep
 
-  member_started : (dates agent : ℕ) (actions : List Action) (r : Action) → WereStarted s dates agent actions → Contains actions r → (before : List Action) × WasStarted s dates agent before r
-  member_started dates agent [] r were c = absurd (contains_none r c)
-  member_started dates agent (q ∷ before) r (was, were) c = elim (front_or_behind q before r c) [
-    | inl e ↦ (before, subst (WasStarted s dates agent before) e was)
-    | inr rest ↦ member_started dates agent before r were rest
-  ]
-
   found_in_ring : (t agent back size : ℕ) (decl : VarDecl) (r : Action) → Contains (history s (suc t) agent) r
       → slice_get s.unit.variables variable ≡ Some decl → back < decl.depth → age_at s variable back r.start t < size
       → slice_get (ring_of s (suc t) variable size) (age_at s variable back r.start t) ≡ past_of r.view variable back
   found_in_ring t agent back size decl r c at less inside =
-      let (before, was) = member_started (suc t) agent (history s (suc t) agent) r (lawful.actions (suc t) agent).were_started c in
+      let (before, was) = was_started s lawful (suc t) agent r c in
       let start : r.start ≡ was.next.start = ap (λ (q : Action). q.start) was.made in
-      let rises : count clock r.start ≤ count clock t = count_rises counted clock is r.start t (omega (arith, start, was.at)) in
+      let rises : count clock r.start ≤ count clock t = count_rises clock r.start t (omega (arith, start, was.at)) in
       let same : count clock r.start + age_at s variable back r.start t ≡ count clock t + back = omega (arith, rises) in
       place_in (past s (history s (suc t)) variable t) size (age_at s variable back r.start t) inside
       ∙ ap Some (value_further_back s lawful variable r.start (suc t) (count clock r.start) back (count clock t) (age_at s variable back r.start t) (omega (arith, start, was.at)) same (λ i l. (counted.upto clock r.start i is).1 l))

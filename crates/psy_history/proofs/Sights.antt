@@ -41,7 +41,7 @@ sees_then : (view : View) (call : Option Call) → SeesAs view (view_then view c
 sees_then view None = (refl, refl)
 sees_then view (Some call) = sees_after view call
 
-same_running : (s t : RunState) → Running s ≡ Running t → s ≡ t
+pub same_running : (s t : RunState) → Running s ≡ Running t → s ≡ t
 same_running s t e = cc
 
 sees_one : (s u : RunState) (call : Option Call) (next : Next) → run_by s call next ≡ Running u → SeesAs s.view u.view

@@ -1,6 +1,6 @@
 -- Which unit of an action a cycle is, and the unit that pays an instruction.
-use Rattle.std.proofs.Common.{◌≡◌, ℕ, ◌+◌, ◌<◌, ◌≤◌, cond, ◌==◌, ◌&&◌, nat_lt, List, [], ◌∷◌, length, Option, Some, refl, sym, ◌∙◌, inl, inr, arith}
-use Rattle.std.proofs.lemmas.Bool.{and_parts, cases_Bool, cases_order, eq-eqb, eqb-true}
+use Rattle.std.proofs.Common.{◌≡◌, ℕ, suc, ◌+◌, ◌<◌, ◌≤◌, cond, ◌==◌, ◌&&◌, nat_lt, List, [], ◌∷◌, length, Option, Some, None, refl, sym, ◌∙◌, inl, inr, arith}
+use Rattle.std.proofs.lemmas.Bool.{and_parts, cases_Bool, cases_order, eq-eqb, eqb-true, ne_eqb}
 use Rattle.std.proofs.lemmas.Bool.Decides.{nat_tests}
 use Rattle.std.proofs.lemmas.List.Sums.{sum_by-cons}
 use Rattle.std.proofs.lemmas.Option.{none-some}
@@ -8,9 +8,18 @@ use Rattle.psy_budget.specs.declared.charge.Stall.{Stall}
 use Rattle.psy_budget.specs.Charges.{cycle_of, stalled}
 use Rattle.psy_meaning.specs.Actions.{Action}
 use Rattle.psy_meaning.specs.Schedule.{Turn, cycle_of_unit, is_of, turn_of, units}
-use Rattle.psy_history.proofs.LikeReaches.{no_unit}
 
 -- ---- units
+
+-- A unit that an action hasn't had is no cycle.
+pub no_unit : (agent number unit : ℕ) (done : List (Option Turn)) → units agent number done ≤ unit → cycle_of_unit agent number unit done ≡ None
+no_unit agent number unit [] few = refl
+no_unit agent number unit (turn ∷ done) few = elim (cases_Bool (is_of agent number turn)) [
+  | inl t ↦ (
+      let less : suc (units agent number done) ≤ unit = rw t at few in
+      rw (t, ne_eqb (units agent number done) unit (λ e. omega (arith, less, e))) (no_unit agent number unit done (omega (arith, less))))
+  | inr t ↦ rw t (no_unit agent number unit done (rw t at few))
+]
 
 -- A cycle that goes to an action is its next unit.
 pub unit_now : (r : Action) (turns : List (Option Turn)) (unit : ℕ) → units r.agent r.number turns ≡ unit → cycle_of_unit r.agent r.number unit (turn_of (Some r) ∷ turns) ≡ Some (length turns)
