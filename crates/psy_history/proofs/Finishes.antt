@@ -25,13 +25,13 @@ finish_most agent number (turn ∷ turns) = elim (cases_Bool (is_of agent number
   | inr f ↦ (let rest = finish_most agent number turns in rw f (omega (arith, rest)))
 ]
 
-as_many : (s : System) (order : ℕ → List ℕ) (cycles : ℕ) → length (turns_of s order cycles) ≡ cycles
+pub as_many : (s : System) (order : ℕ → List ℕ) (cycles : ℕ) → length (turns_of s order cycles) ≡ cycles
 as_many s order zero = refl
 as_many s order (suc cycles) = ap suc (as_many s order cycles)
 
 -- ---- an action that was started is there from its start on
 
-started_by : (s : System) (dates agent : ℕ) (r : Action) → Contains (history s dates agent) r → Contains (history s (suc r.start) agent) r
+pub started_by : (s : System) (dates agent : ℕ) (r : Action) → Contains (history s dates agent) r → Contains (history s (suc r.start) agent) r
 started_by s = at_each_date s (λ date agent actions. (r : Action) → Contains actions r → Contains (history s (suc r.start) agent) r) (λ agent r c. absurd (contains_none r c)) (λ date agent actions h. h) (λ date agent n before next at r c.
     elim (front_or_behind (action_of s (history s date) agent n) (history s date agent) r c) [
       | inl is ↦ subst (λ (q : Action). Contains (history s (suc q.start) agent) q) is (subst (λ d. Contains (history s (suc d) agent) (action_of s (history s date) agent n)) (sym at) (first date agent n next at))

@@ -27,7 +27,7 @@ late_call n deeds (Some (Ready stream)) h = refl
 late_call n deeds (Some (Take stream)) h = refl
 late_call n deeds (Some (Send sent)) h = refl
 
-steps_then : (deeds : Deeds) (call : Option Call) → (deeds_then deeds call).steps ≡ deeds.steps + 1
+pub steps_then : (deeds : Deeds) (call : Option Call) → (deeds_then deeds call).steps ≡ deeds.steps + 1
 steps_then deeds None = refl
 steps_then deeds (Some (Past variable back)) = refl
 steps_then deeds (Some (Ready stream)) = refl
@@ -59,7 +59,7 @@ module _ (code : Code) (its : AgentCode) where
   parts_by n k (TrappedBy kind u) on = refl
   parts_by n k NoRun on = refl
 
-  parts : (n k : ℕ) (s : RunState) → run_code code its s (n + k) ≡ go_on (run_code code its s n) (λ t. run_code code its t k)
+  pub parts : (n k : ℕ) (s : RunState) → run_code code its s (n + k) ≡ go_on (run_code code its s n) (λ t. run_code code its t k)
   parts zero k s = ap (run_code code its s) (zero-add k)
   parts (suc n) k s = ap (run_code code its s) (suc-add n k) ∙ parts_by n k (run_one code its s) (λ u. parts n k u)
 

@@ -1,6 +1,6 @@
 -- Histories that are alike reach as far back: what an action looked at beyond its budget, no cycle executed.
-use Rattle.std.proofs.Common.{◌≡◌, ℕ, suc, ◌≤◌, inl, inr, Bool, false, List, [], ◌∷◌, ◌++◌, length, Option, Some, None, refl, sym, ap, ap₂, ◌∙◌, arith}
-use Rattle.std.proofs.lemmas.Bool.{cases_Bool, ltb-false, ne_eqb}
+use Rattle.std.proofs.Common.{◌≡◌, ℕ, ◌≤◌, inl, inr, Bool, false, List, [], ◌∷◌, ◌++◌, length, Option, Some, None, refl, sym, ap, ap₂, ◌∙◌, arith}
+use Rattle.std.proofs.lemmas.Bool.{cases_Bool, ltb-false}
 use Rattle.std.specs.List.{filter, flat_map, range_with_len}
 use Rattle.std.specs.Prelude.{ℤ, ◌==◌, nat_lt}
 use Rattle.psy_budget.specs.declared.charge.Stall.{Stall}
@@ -11,7 +11,7 @@ use Rattle.psy_tree.specs.declared.unit.Unit.{Unit as Whole}
 use Rattle.psy_meaning.specs.Actions.{Action, History, Next, System}
 use Rattle.psy_meaning.specs.Executors.{by_statements}
 use Rattle.psy_meaning.specs.History.{history}
-use Rattle.psy_meaning.specs.Schedule.{Turn, cycle_of_unit, is_of, units, work}
+use Rattle.psy_meaning.specs.Schedule.{Turn, cycle_of_unit, units, work}
 use Rattle.psy_meaning.specs.Summary.{age_in, ages_of, greatest_of, reach}
 use Rattle.psy_history.specs.Compiled.{coded, stated}
 use Rattle.psy_history.specs.Likeness.{AreLike, IsLike, looks_within}
@@ -20,6 +20,7 @@ use Rattle.psy_history.proofs.Given.{given_within}
 use Rattle.psy_history.proofs.Growth.{opens_with}
 use Rattle.psy_history.proofs.LikeActions.{flat_map_like, flat_map_same}
 use Rattle.psy_history.proofs.Numbers.{BeginAtZero}
+use Rattle.psy_history.proofs.UnitCycles.{no_unit}
 
 -- ---- lists
 
@@ -38,17 +39,6 @@ left_out f p q none (x ∷ xs) =
         | inr t ↦ rw (t, fails) rest
       ]
     ]
-
--- ---- a unit that an action hasn't had
-
-no_unit : (agent number unit : ℕ) (done : List (Option Turn)) → units agent number done ≤ unit → cycle_of_unit agent number unit done ≡ None
-no_unit agent number unit [] few = refl
-no_unit agent number unit (turn ∷ done) few = elim (cases_Bool (is_of agent number turn)) [
-  | inl t ↦ (
-      let less : suc (units agent number done) ≤ unit = rw t at few in
-      rw (t, ne_eqb (units agent number done) unit (λ e. omega (arith, less, e))) (no_unit agent number unit done (omega (arith, less))))
-  | inr t ↦ rw t (no_unit agent number unit done (rw t at few))
-]
 
 -- ---- ages
 

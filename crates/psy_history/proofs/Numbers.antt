@@ -53,7 +53,7 @@ abbrev pub BeginAtZero : System → Type 0
 BeginAtZero s = (agent : ℕ) (n : Next) → s.opening.starts agent ≡ Some n → n.number ≡ 0
 
 module _ (s : System) (zero_first : BeginAtZero s) where
-  next_number : (dates agent : ℕ) (actions : List Action) (n : Next) → WereStarted s dates agent actions → next_of s agent actions ≡ Some n → n.number ≡ length actions
+  pub next_number : (dates agent : ℕ) (actions : List Action) (n : Next) → WereStarted s dates agent actions → next_of s agent actions ≡ Some n → n.number ≡ length actions
   next_number dates agent [] n were e = zero_first agent n e
   next_number dates agent (r ∷ before) n (was, were) e = omega (arith, (next_done r.number r.after r.verdict n e).1, was.number)
 

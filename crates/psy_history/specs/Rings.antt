@@ -1,5 +1,5 @@
 -- What a ring holds of a variable, and how far back it is reached for.
-use Rattle.std.specs.Prelude.{ℕ, zero, suc, ◌+◌, ◌==◌, if◌then◌else◌, List, map, replicate, Option, None, Some, ℤ}
+use Rattle.std.specs.Prelude.{ℕ, zero, suc, ◌+◌, ◌==◌, if◌then◌else◌, List, map, replicate, Option, Some, ℤ}
 use Rattle.std.specs.List.{range_with_len}
 use Rattle.psy_code.specs.Views.{Call, Past}
 use Rattle.psy_meaning.specs.Actions.{System, publishing, variable_of}

@@ -25,7 +25,7 @@ ghost use Rattle.psy_history.specs.Regular.{IsLawful, Runs, begun_by};
 ghost use Rattle.psy_history.specs.Rings.{age_at, reach_with, ring_of};
 ghost use Rattle.psy_history.specs.Scheduled.{IsFinished, IsSupplied, turns_of};
 
-use psy_clock::laws::distances;
+use psy_clock::laws::{dates, distances};
 use psy_code::laws::lasting;
 use psy_meaning::laws::{follows, keeps, sound, traps, ways};
 
@@ -91,7 +91,9 @@ pub fn rings()
     ensures look { (s : System) (date agent variable back size : ℕ) (decl : VarDecl) (r : Action) → IsLawful s → IsClock (publishing s variable) → Contains (history s (date + 1) agent) r
         → slice_get s.unit.variables variable ≡ Some decl → back < decl.depth → age_at s variable back r.start date < size
         → slice_get (ring_of s (date + 1) variable size) (age_at s variable back r.start date) ≡ past_of r.view variable back }
-{}
+{
+    dates();
+}
 
 /// How far back rings are reached for: no further by an idle cycle, by a stall, and by the actions that a date starts; and by a cycle that
 /// pays an instruction as far as that one asks.
@@ -124,11 +126,4 @@ pub fn ring_sizes()
         → reach (coded unit code nexts stalls inputs) (turns_of (coded unit code nexts stalls inputs) order cycles) (history (coded unit code nexts stalls inputs) (until + 1)) variable ≡ Some n → n < size }
 {
     regular();
-    given();
-    on_time();
-    ways();
-    traps();
-    sound();
-    keeps();
-    lasting();
 }

@@ -2,6 +2,7 @@ use Rattle.psy_code.specs.declared.code.Code.{Code}
 use Rattle.psy_tree.specs.declared.unit.Unit.{Unit as Whole}
 use Rattle.psy_meaning.specs.Units.{IsOfText}
 use Rattle.psy_history.proofs.Regulars.{AreLaws, lawful}
+use Rattle.psy_history.proofs.RunsToEnds.{all_run}
 use Rattle.psy_history.proofs.laws.regular.Goals as goal
 
 laws_of : (c : goal.After-follows) (unit : Whole) (code : Code) → IsOfText unit → AreLaws unit code
@@ -24,3 +25,6 @@ laws_of c unit code text =
 
 pub returns-clause-lawful : goal.returns-clause-lawful
 returns-clause-lawful c unit code nexts stalls inputs compiled given = lawful unit code nexts stalls inputs (laws_of c unit code compiled.text) compiled given
+
+pub returns-clause-runs : goal.returns-clause-runs
+returns-clause-runs c unit code nexts stalls inputs compiled given = all_run unit code nexts stalls inputs (laws_of c unit code compiled.text) compiled given

@@ -1,0 +1,63 @@
+-- What a variable published at a date stays so, whatever starts at later ones, and is found from each date that it is looked at from.
+use Rattle.std.proofs.Common.{◌≡◌, ℕ, suc, ◌+◌, ◌-◌, ◌<◌, ◌≤◌, Option, Some, None, refl, sym, ap, ◌∙◌, inl, inr, arith}
+use Rattle.std.specs.Prelude.{ℤ, nat_le, nat_lt, if◌then◌else◌}
+use Rattle.std.proofs.lemmas.Bool.{cases_lt, cond-false, cond-true, le-ltb, lt-leb, lt-ltb}
+use Rattle.psy_clock.specs.Dates.{date}
+use Rattle.psy_meaning.specs.Actions.{Action, History, System, Verdict, Done, Trapped, Overran, publishing, variable_of}
+use Rattle.psy_meaning.specs.Executors.{Carried}
+use Rattle.psy_meaning.specs.History.{action_of, history}
+use Rattle.psy_meaning.specs.Visible.{commit, committed_in, published, published_by}
+use Rattle.psy_history.specs.Regular.{IsLawful}
+use Rattle.psy_history.proofs.Growth.{grown, kept_on}
+use Rattle.psy_history.proofs.NextStarts.{regular_head}
+
+-- Of a variable of which so many dates are counted, the value that it published so many before the last one, or its first value
+abbrev pub value_back : System → History → ℕ → ℕ → ℕ → ℤ
+value_back s h variable counted back = if nat_lt back counted then published s h variable (date (publishing s variable) (counted - 1 - back)) else (variable_of s variable).init
+
+-- an action that ends after a date commits nothing by it
+ends_later : (variable by : ℕ) (carried : Carried) (earlier : ℤ) (verdict : Verdict) → ((point end : ℕ) → verdict ≡ Done point end → by < end) → commit variable by carried earlier verdict ≡ earlier
+ends_later variable by carried earlier (Done point end) late = cond-false (nat_le end by) _ _ (lt-leb end by (late point end refl))
+ends_later variable by carried earlier (Trapped kind) late = refl
+ends_later variable by carried earlier Overran late = refl
+
+module _ (s : System) (lawful : IsLawful s) where
+  -- nor does one that starts at it
+  started_later : (variable by date agent : ℕ) → by ≤ date → committed_in s variable by (history s (suc date) agent) ≡ committed_in s variable by (history s date agent)
+  started_later variable by date agent l = elim (grown s date agent) [
+    | inl (same, other) ↦ ap (committed_in s variable by) same
+    | inr (n, next, at, more) ↦ (
+        let r : Action = action_of s (history s date) agent n in
+        let regular = regular_head s lawful (suc date) agent r (history s date agent) more in
+        ap (committed_in s variable by) more
+        ∙ ends_later variable by r.after (committed_in s variable by (history s date agent)) r.verdict (λ point end done. omega (arith, l, regular.due, at, (regular.ends point end done).2)))
+  ]
+
+  committed_stays : (variable by some more agent : ℕ) → by ≤ some → some ≤ more → committed_in s variable by (history s more agent) ≡ committed_in s variable by (history s some agent)
+  committed_stays variable by some more agent early l =
+      let Stays : ℕ → Type 0 = λ n. (by ≤ n) × (committed_in s variable by (history s n agent) ≡ committed_in s variable by (history s some agent)) in
+      let kept : Stays more = kept_on Stays (λ n h. (omega (arith, h.0), started_later variable by n agent h.0 ∙ h.1)) some more l (early, refl) in
+      kept.1
+
+  pub published_stays : (variable by some more : ℕ) → by ≤ some → some ≤ more → published s (history s more) variable by ≡ published s (history s some) variable by
+  published_stays variable by some more early l = by_owner (variable_of s variable).owner
+    where
+      by_owner : (owner : Option ℕ) → published_by s (history s more) variable by owner ≡ published_by s (history s some) variable by owner
+      by_owner None = refl
+      by_owner (Some owner) = committed_stays variable by some more owner early l
+
+  -- Where more dates are counted, a value stands as many places further back.
+  pub value_further_back : (variable some more counted back further_counted further : ℕ) → some ≤ more → counted + further ≡ further_counted + back → ((i : ℕ) → i < counted → date (publishing s variable) i ≤ some)
+      → value_back s (history s more) variable further_counted further ≡ value_back s (history s some) variable counted back
+  value_further_back variable some more counted back further_counted further l e early = elim (cases_lt back counted) [
+    | inl within ↦ (
+        let same : further_counted - 1 - further ≡ counted - 1 - back = omega (arith, e, within) in
+        let there = early (counted - 1 - back) (omega (arith, within)) in
+        cond-true (nat_lt further further_counted) _ _ (lt-ltb further further_counted (omega (arith, e, within)))
+        ∙ ap (λ i. published s (history s more) variable (date (publishing s variable) i)) same
+        ∙ published_stays variable (date (publishing s variable) (counted - 1 - back)) some more there l
+        ∙ sym (cond-true (nat_lt back counted) _ _ (lt-ltb back counted within)))
+    | inr beyond ↦
+        cond-false (nat_lt further further_counted) _ _ (le-ltb further further_counted (omega (arith, e, beyond)))
+        ∙ sym (cond-false (nat_lt back counted) _ _ (le-ltb back counted beyond))
+  ]
