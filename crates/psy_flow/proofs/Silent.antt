@@ -1,6 +1,6 @@
 -- Sends and looks of an agent's ways, where its functions neither send nor look.
 use Rattle.std.proofs.Common.{◌≡◌, ℕ, zero, suc, ◌<◌, min, Bool, true, false, cond, List, [], ◌∷◌, length, get_or, Option, Some, None, refl, sym, ap, subst, ◌∙◌, inl, inr, arith}
-use Rattle.std.specs.Prelude.{◌==◌, ◌↔◌, nat_lt, unwrap_or}
+use Rattle.std.specs.Prelude.{◌==◌, ◌↔◌, ◌⊎◌, nat_lt, unwrap_or}
 use Rattle.std.specs.List.{count_by, Contains}
 use Rattle.std.proofs.lemmas.Bool.{false≢true}
 use Rattle.std.proofs.lemmas.List.Sums.{sum_by-cons}
@@ -83,6 +83,12 @@ module _ (unit : Whole) (number : ℕ) (agent : AgentDecl) (its : IsKnown unit n
       (most_cut to stream (pieces_tops g (Some to) (called []) (rest agent.stmts point)).to
       (top_to g (Some to) unit.functions (called []) (rest agent.stmts point) its.none (calls g (sends_same stream))))
 
+  pub some_most : (to stream : ℕ) → (n : ℕ) × IsMostSends unit.functions agent point to stream n
+  some_most to stream =
+      let g = gauge.Sends stream in
+      let t : Tops = capped_tops g (pieces_tops g (Some to) (called []) (rest agent.stmts point)) in
+      (unwrap_or t.to 0, most_of_tops to stream t refl)
+
   -- ---- looks
 
   looks_by : (variable : ℕ) (o : Option ℕ) → IsTopTo (gauge.Looks variable) None unit.functions (rest agent.stmts point) o → (nat_lt 0 (unwrap_or (capped_count (gauge.Looks variable) o) 0) ≡ true) ↔ MayLook unit.functions agent point variable
@@ -102,3 +108,14 @@ module _ (unit : Whole) (number : ℕ) (agent : AgentDecl) (its : IsKnown unit n
       subst (λ o. (nat_lt 0 (unwrap_or o 0) ≡ true) ↔ MayLook unit.functions agent point variable) (sym (ap (λ (u : Tops). u.to) h))
       (looks_by variable (pieces_tops g None (called []) (rest agent.stmts point)).to
       (top_to g None unit.functions (called []) (rest agent.stmts point) its.none (calls g (looks_same variable))))
+
+  -- Whether it may look
+  pub told : (variable : ℕ) → MayLook unit.functions agent point variable ⊎ (MayLook unit.functions agent point variable → ⊥)
+  told variable =
+      let g = gauge.Looks variable in
+      let t : Tops = capped_tops g (pieces_tops g None (called []) (rest agent.stmts point)) in
+      by (nat_lt 0 (unwrap_or t.to 0)) (looks_of_tops variable t refl)
+    where
+      by : (b : Bool) → ((b ≡ true) ↔ MayLook unit.functions agent point variable) → MayLook unit.functions agent point variable ⊎ (MayLook unit.functions agent point variable → ⊥)
+      by true h = inl (h.0 refl)
+      by false h = inr (λ may. false≢true (h.1 may))

@@ -1,10 +1,10 @@
 //! What the laws of the definitions say of the agents of a text.
 
-ghost use Rattle.std.specs.Prelude.{◌≡◌, ◌<◌, ◌≤◌, ℕ, List, length};
+ghost use Rattle.std.specs.Prelude.{◌≡◌, ◌<◌, ◌≤◌, ◌⊎◌, ℕ, List, length};
 ghost use Rattle.psy_base.specs.declared.limits.TheConstants.{COST};
 ghost use Rattle.psy_tree.specs.declared.unit.AgentDecl.{AgentDecl};
 ghost use Rattle.psy_tree.specs.declared.unit.Unit.{Unit as Whole};
-ghost use Rattle.psy_meaning.specs.Flow.{AreNexts, HasCost, IsCut, IsNext};
+ghost use Rattle.psy_meaning.specs.Flow.{AreNexts, HasCost, IsCut, IsMostSends, IsNext, MayLook};
 ghost use Rattle.psy_flow.specs.Agents.{IsAgentOf, IsKnown};
 
 use psy_meaning::laws::{follows, sound};
@@ -29,6 +29,21 @@ pub fn nexts()
 pub fn costs()
     ensures some { (unit : Whole) (number : ℕ) (agent : AgentDecl) (point : ℕ) → IsAgentOf unit number agent → point < length agent.points → (cost : ℕ) × IsCut (HasCost unit.functions agent point) COST cost }
     ensures one { (unit : Whole) (number : ℕ) (agent : AgentDecl) (point cost other : ℕ) → IsAgentOf unit number agent → IsCut (HasCost unit.functions agent point) COST cost → IsCut (HasCost unit.functions agent point) COST other → cost ≡ other }
+{
+    known();
+}
+
+/// Whether an action from a point of an agent of a text may look at a variable can be told.
+pub fn looking()
+    ensures { (unit : Whole) (number : ℕ) (agent : AgentDecl) (point variable : ℕ) → IsAgentOf unit number agent → MayLook unit.functions agent point variable ⊎ (MayLook unit.functions agent point variable → ⊥) }
+{
+    known();
+}
+
+/// Between two points of an agent of a text there is a greatest number of sends to a stream, cut at 65,537, and just one.
+pub fn sends()
+    ensures some { (unit : Whole) (number : ℕ) (agent : AgentDecl) (from to stream : ℕ) → IsAgentOf unit number agent → (n : ℕ) × IsMostSends unit.functions agent from to stream n }
+    ensures one { (unit : Whole) (number : ℕ) (agent : AgentDecl) (from to stream n m : ℕ) → IsAgentOf unit number agent → IsMostSends unit.functions agent from to stream n → IsMostSends unit.functions agent from to stream m → n ≡ m }
 {
     known();
 }
