@@ -41,7 +41,7 @@ pub record IsRingSize (unit : Whole) (nexts : List (List (List ℕ))) (variable 
   pub all : (dates : ℕ) → MayPass unit nexts variable dates → dates ≤ most
   pub decl : VarDecl
   pub declared : slice_get unit.variables variable ≡ Some decl
-  pub size : size ≡ decl.depth + most
+  pub sum : size ≡ decl.depth + most
 
 -- By variable, the sizes of the rings
 pub record AreRings (unit : Whole) (nexts : List (List (List ℕ))) (sizes : List ℕ) : Type 0 where
