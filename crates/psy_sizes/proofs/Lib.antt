@@ -1,0 +1,6 @@
+mod Actions
+mod Distances
+mod Multiples
+mod Passed
+mod RingsOf
+mod Sharing

@@ -1,0 +1,5 @@
+use Rattle.psy_sizes.proofs.Sharing.{Shares, periods_before}
+use Rattle.psy_sizes.proofs.divisors.shared_divisor.Given as goal
+
+abbrev pub invariant-points : goal.invariant-points
+invariant-points l = Shares (periods_before l.clocks l.points l.point) l.period l.shared

@@ -1,0 +1,18 @@
+use Rattle.std.proofs.Common.{◌≡◌, ◌+◌, length, subst, arith}
+use Rattle.psy_sizes.specs.Passing.{IsMost, HasDatesOf, HasDatesBefore}
+use Rattle.psy_sizes.proofs.Passed.{most_max, agent_more}
+use Rattle.psy_sizes.proofs.variables.most_of_all.Goals as goal
+
+pub agents-preserved : goal.agents-preserved
+agents-preserved c =
+    let unit = c.args.unit.now in
+    let variable = c.args.variable in
+    let clock = c.args.clock in
+    let k = c.agents.number in
+    most_max (HasDatesBefore unit variable clock k) (HasDatesOf unit variable clock k) (HasDatesBefore unit variable clock (k + 1)) c.agents.most c.most_of_agent.result c.max-most.result c.max-most.ensures
+    c.agents.invariant c.most_of_agent.ensures (agent_more unit variable clock k)
+
+pub returns : goal.returns
+returns c =
+    let all : c.agents.number ≡ length c.args.unit.now.agents = omega (arith, c.agents-test.false, c.agents.auto.number-end, c.requires.graphs.count) in
+    subst (λ k. IsMost (HasDatesBefore c.args.unit.now c.args.variable c.args.clock k) c.agents.most) all c.agents.invariant

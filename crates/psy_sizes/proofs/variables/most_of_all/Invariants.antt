@@ -1,0 +1,5 @@
+use Rattle.psy_sizes.specs.Passing.{IsMost, HasDatesBefore}
+use Rattle.psy_sizes.proofs.variables.most_of_all.Given as goal
+
+abbrev pub invariant-agents : goal.invariant-agents
+invariant-agents l = IsMost (HasDatesBefore l.unit l.variable l.clock l.number) l.most

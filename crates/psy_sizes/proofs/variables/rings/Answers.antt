@@ -1,0 +1,71 @@
+use Rattle.std.proofs.Common.{◌≡◌, ◌⊎◌, ℕ, ◌<◌, ◌≤◌, List, [], ◌∷◌, ◌++◌, length, length-append, get_or, Err, IfErr, sym, ap, subst, inr, arith, rules}
+use Rattle.std.specs.List.{All}
+use Rattle.std.proofs.lemmas.Option.{slice_get_within, get_or_from_slice_get}
+use Rattle.std.proofs.lemmas.List.Elements.{All-push}
+use Rattle.psy_base.specs.declared.limits.TheConstants.{RING}
+use Rattle.psy_tree.specs.declared.unit.Unit.{Unit as Whole}
+use Rattle.psy_meaning.specs.Flow.{AreAllNexts}
+use Rattle.psy_meaning.specs.RingSizes.{IsRingSize, IsLargeRing}
+use Rattle.psy_sizes.specs.declared.fault.SizeFault.{SizeFault}
+use Rattle.psy_sizes.specs.declared.fault.SizeFault.TheVariants.{LargeRing, Memory}
+use Rattle.psy_sizes.specs.Faults.{IsRingFault}
+use Rattle.psy_sizes.proofs.RingsOf.{one_size, each_more}
+use Rattle.psy_sizes.proofs.variables.rings.Goals as goal
+
+-- A variable whose ring is too large is the first one, where those before it have rings that aren't.
+first_large : (unit : Whole) (nexts : List (List (List ℕ))) (sizes : List ℕ) (variable size : ℕ) → length sizes ≡ variable →
+    ((before d : ℕ) → before < variable → IsRingSize unit nexts before (get_or sizes before d)) → All (λ n. (1 ≤ n) × (n ≤ RING)) sizes →
+    IsRingSize unit nexts variable size → RING < size → IsLargeRing unit nexts variable
+first_large unit nexts sizes variable size count each small is passes = record {
+  size = size;
+  is_size = is;
+  passes = passes;
+  earlier = λ before other less its. (
+      let same = one_size unit nexts before other (get_or sizes before 0) its (each before 0 less) in
+      omega (arith, same, (small before 0 (omega (arith, less, count))).1)
+      );
+}
+
+pub returns-in_err-ring-clause-cause : goal.returns-in_err-ring-clause-cause
+returns-in_err-ring-clause-cause c =
+    let unit = c.args.unit.now in
+    let fault = c.in_err-ring.field-0.0 in
+    let variable = c.variables.variable in
+    let kept = c.variables.invariant in
+    let Q : SizeFault → Type 0 = λ f. (f ≡ Memory) ⊎ IsRingFault unit f in
+    let large : IsRingFault unit (LargeRing variable) = λ nexts are. (
+    let (size, is, passes) = c.in_err-ring.ensures.large nexts are in
+    first_large unit nexts c.variables.sizes variable size kept.count (λ before d less. kept.each before d less nexts are) kept.small is passes
+    ) in
+    let is : Q fault = inr (subst (IsRingFault unit) (sym c.in_err-ring.ensures.fault) large) in
+    let e : c.from_residual.result ≡ Err fault = search rules in
+    subst (λ r. IfErr r Q) (sym e) is
+
+pub variables-preserved : goal.variables-preserved
+variables-preserved c =
+    let unit = c.args.unit.now in
+    let old = c.variables.sizes in
+    let new = c.push.new.sizes in
+    let size = c.in_ok-ring.field-0 in
+    let pushed : new ≡ old ++ size ∷ [] = c.in_ok-push.ensures in
+    let count : length new ≡ length (old ++ size ∷ []) = ap length pushed in
+    let Each : ℕ → ℕ → Type 0 = λ variable n. (nexts : List (List (List ℕ))) → AreAllNexts unit nexts → IsRingSize unit nexts variable n in
+    let Fit : ℕ → Type 0 = λ n. (1 ≤ n) × (n ≤ RING) in
+    record {
+      count = omega (arith, count, c.variables.invariant.count, length-append old (size ∷ []));
+      each = each_more Each old new size c.variables.variable c.variables.invariant.count c.variables.invariant.each c.in_ok-ring.ensures.size pushed;
+      small = subst (All Fit) (sym pushed) (All-push Fit old size c.variables.invariant.small c.in_ok-ring.ensures.small);
+    }
+
+pub returns-clause-rings : goal.returns-clause-rings
+returns-clause-rings c nexts are =
+    let unit = c.args.unit.now in
+    let sizes = c.variables.sizes in
+    let kept = c.variables.invariant in
+    record {
+      count = omega (arith, kept.count, c.variables-test.false, c.variables.auto.variable-end, c.len-variable-end.ensures);
+      each = λ variable size e. (
+          let l = slice_get_within sizes variable size e in
+          subst (IsRingSize unit nexts variable) (get_or_from_slice_get sizes variable size size e) (kept.each variable size (omega (arith, l, kept.count)) nexts are)
+          );
+    }

@@ -1,0 +1,10 @@
+//! The sizes of the buffers of a program: the rings in which its temporal variables keep their values.
+#![tactic(auto)]
+
+mod divisors;
+mod fault;
+mod variables;
+mod windows;
+
+pub use fault::SizeFault;
+pub use variables::rings;
