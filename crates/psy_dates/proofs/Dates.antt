@@ -2,9 +2,11 @@
 use Rattle.std.proofs.Common.{◌≡◌, ℕ, suc, ◌+◌, ◌-◌, ◌^◌, ◌<◌, ◌≤◌, List, [], ◌∷◌, length, get_or, Option, Some, None, refl, sym, ap, subst, ◌∙◌, add-one, arith}
 use Rattle.std.specs.Prelude.{slice_get, if◌then◌else◌, ℤ, pos}
 use Rattle.std.proofs.lemmas.Option.{get_or_from_slice_get, same_Some, slice_get-get_or, slice_get_within}
+use Rattle.std.proofs.lemmas.List.Elements.{All-get_or}
 use Rattle.psy_budget.specs.declared.charge.Stall.{Stall}
+use Rattle.psy_clock.specs.Dates.{IsClock}
 use Rattle.psy_code.specs.Views.{found_in}
-use Rattle.psy_meaning.specs.Actions.{Action, Next, System, first_action, variable_of}
+use Rattle.psy_meaning.specs.Actions.{Action, Next, System, first_action, publishing, variable_of}
 use Rattle.psy_meaning.specs.Executors.{by_code}
 use Rattle.psy_meaning.specs.History.{history}
 use Rattle.psy_meaning.specs.Schedule.{Turn, units}
@@ -16,9 +18,11 @@ use Rattle.psy_dates.specs.declared.seat.Seat.{Seat}
 use Rattle.psy_dates.specs.declared.shared.Shared.{Shared}
 use Rattle.psy_dates.specs.Moves.{IsNumbered, commits_at, ends_at, owner_of, seat_then, timing_in}
 use Rattle.psy_dates.specs.Plans.{system_of}
-use Rattle.psy_dates.specs.Standing.{KeepsCopy, NoneActs, SeatStands, SharedStands, committed_by, dates_done}
+use Rattle.psy_dates.specs.Publications.{ring_then}
+use Rattle.psy_dates.specs.Standing.{KeepsCopy, NoneActs, RingStands, SeatStands, SharedStands, committed_by, dates_done}
 use Rattle.psy_dates.proofs.Committed.{committed_moves, kept_moves}
 use Rattle.psy_dates.proofs.Histories.{few, numbered, was_started}
+use Rattle.psy_dates.proofs.Publications.{Goes, ring_moves}
 use Rattle.psy_dates.proofs.Seats.{seat_moves}
 
 one_back : (n : ℕ) → (n + 1) - 1 ≡ n
@@ -36,21 +40,23 @@ seat_numbered s lawful date agent turns seat early = from (history s date agent)
     from (r ∷ before) is stands = λ ended. omega (arith, early, stands.number, (was_started s lawful date agent r before is).number, few s lawful date agent r before is)
 
 -- What a date changes
-pub record Moved (plan : Plan) (date : ℕ) (old new : Shared) : Type 0 where
+pub record Moved (plan : Plan) (inputs : List (List ℤ)) (date : ℕ) (old new : Shared) : Type 0 where
   pub date_is : new.date ≡ Some date
   pub seated : length new.seats.items ≡ length old.seats.items
   pub seats : (agent : ℕ) (seat : Seat) → slice_get old.seats.items agent ≡ Some seat → slice_get new.seats.items agent ≡ Some (seat_then (timing_in plan agent) date seat)
   pub valued : length new.committed.items ≡ length old.committed.items
   pub committed : (variable : ℕ) → variable < length plan.unit.variables → get_or new.committed.items variable (pos 0) ≡ (if commits_at date old.seats.items (owner_of plan.unit.variables variable) then get_or old.ended.items variable (pos 0) else get_or old.committed.items variable (pos 0))
   pub ended : new.ended.items ≡ old.ended.items
-  pub rings : length new.rings.items ≡ length old.rings.items
+  pub ringed : length new.rings.items ≡ length old.rings.items
+  pub rings : (variable : ℕ) (ring : List ℤ) → slice_get old.rings.items variable ≡ Some ring → slice_get new.rings.items variable ≡ Some (ring_then (system_of plan inputs (λ agent. [])) new.committed.items date variable ring)
   pub queues : length new.queues.items ≡ length old.queues.items
   pub outboxes : length new.outboxes.items ≡ length old.outboxes.items
   pub taken : length new.taken.items ≡ length old.taken.items
 
 module _ (plan : Plan) (inputs : List (List ℤ)) (stalls : ℕ → List Stall) (bare : IsBare plan.unit) (lawful : IsLawful (system_of plan inputs stalls)) (date : ℕ) (turns : List (Option Turn))
+    (goes : (variable : ℕ) → IsClock (publishing (system_of plan inputs stalls) variable) → Goes (system_of plan inputs stalls) date variable)
     (unstarted : (agent number : ℕ) → length (history (system_of plan inputs stalls) date agent) ≤ number → units agent number turns ≡ 0)
-    (old new : Shared) (due : NoneActs date old.seats.items) (stands : SharedStands (system_of plan inputs stalls) turns date old) (moved : Moved plan date old new) where
+    (old new : Shared) (due : NoneActs date old.seats.items) (stands : SharedStands (system_of plan inputs stalls) turns date old) (moved : Moved plan inputs date old new) where
   abbrev s : System
   s = system_of plan inputs stalls
 
@@ -103,6 +109,20 @@ module _ (plan : Plan) (inputs : List (List ℤ)) (stalls : ℕ → List Stall) 
   ended_is variable owner value is owned =
       kept_moves s lawful date turns owner (unstarted owner) variable value (numbered s lawful date owner) (stands.ended variable owner value (ap (λ items. slice_get items variable) (sym moved.ended) ∙ is) owned)
 
+  clock_is : (variable : ℕ) → variable < length plan.unit.variables → IsClock (publishing s variable)
+  clock_is variable within = All-get_or IsClock plan.unit.clocks (variable_of s variable).clock _ (bare.variables variable _ within).clock bare.clocks
+
+  ring_stands : (variable : ℕ) (ring : List ℤ) → slice_get new.rings.items variable ≡ Some ring → RingStands s (date + 1) variable ring
+  ring_stands variable ring is =
+      let within : variable < length plan.unit.variables = omega (arith, slice_get_within new.rings.items variable ring is, moved.ringed, stands.ringed) in
+      let before = get_or old.rings.items variable [] in
+      let was : slice_get old.rings.items variable ≡ Some before = slice_get-get_or old.rings.items variable [] (omega (arith, within, stands.ringed)) in
+      let value = get_or new.committed.items variable (pos 0) in
+      let committed = committed_is variable value (slice_get-get_or new.committed.items variable (pos 0) (omega (arith, within, moved.valued, stands.valued))) in
+      subst (RingStands s (date + 1) variable) (same_Some _ _ (sym (moved.rings variable before was) ∙ is))
+      (ring_moves s date variable (goes variable (clock_is variable within)) new.committed.items before
+      (subst (λ n. value ≡ committed_by s (history s n) variable date (variable_of s variable).owner) (sym (add-one date)) committed) (stands.rings variable before was))
+
   pub shared_moves : SharedStands s turns (date + 1) new
   shared_moves = record {
     date = ap dates_done moved.date_is;
@@ -112,7 +132,8 @@ module _ (plan : Plan) (inputs : List (List ℤ)) (stalls : ℕ → List Stall) 
     committed = λ variable value is. subst (λ d. value ≡ committed_by s (history s (date + 1)) variable d (variable_of s variable).owner) (sym (one_back date)) (subst (λ n. value ≡ committed_by s (history s n) variable date (variable_of s variable).owner) (sym (add-one date)) (committed_is variable value is));
     kept = ap length moved.ended ∙ stands.kept;
     ended = λ variable owner value is owned. subst (λ d. KeepsCopy d turns variable (history s (date + 1) owner) value) (sym (one_back date)) (subst (λ n. KeepsCopy date turns variable (history s n owner) value) (sym (add-one date)) (ended_is variable owner value is owned));
-    rings = moved.rings ∙ stands.rings;
+    ringed = moved.ringed ∙ stands.ringed;
+    rings = ring_stands;
     queues = moved.queues ∙ stands.queues;
     outboxes = moved.outboxes ∙ stands.outboxes;
     taken = moved.taken ∙ stands.taken;

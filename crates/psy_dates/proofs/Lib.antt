@@ -4,4 +4,6 @@ pub mod Histories
 pub mod Lists
 pub mod Opened
 pub mod Phases
+pub mod Publications
 pub mod Seats
+pub mod Values

@@ -1,22 +1,32 @@
 -- What the agents share before date 0 stands for the empty history.
 use Rattle.std.proofs.Common.{◌≡◌, ℕ, ◌-◌, ◌<◌, List, [], All, length, get_or, Option, Some, None, refl, sym, ap, subst, ◌∙◌, arith}
-use Rattle.std.specs.Prelude.{map, ℤ, pos}
-use Rattle.std.proofs.lemmas.List.{get_or-map, length-map}
+use Rattle.std.specs.Prelude.{map, replicate, slice_get, ℤ, pos}
+use Rattle.std.proofs.lemmas.List.{get_or-map, length-map, length-replicate}
 use Rattle.std.proofs.lemmas.List.Elements.{All-get_or}
-use Rattle.std.proofs.lemmas.Option.{get_or_from_slice_get, slice_get_within}
+use Rattle.std.proofs.lemmas.Option.{get_or_from_slice_get, same_Some, slice_get-get_or, slice_get_within}
 use Rattle.psy_budget.specs.declared.charge.Stall.{Stall}
 use Rattle.psy_tree.specs.declared.unit.VarDecl.{VarDecl}
 use Rattle.psy_meaning.specs.Actions.{System, variable_of}
 use Rattle.psy_meaning.specs.History.{history}
+use Rattle.psy_meaning.specs.RingSizes.{IsRingSize}
 use Rattle.psy_dates.specs.declared.plan.Plan.{Plan}
 use Rattle.psy_dates.specs.declared.seat.Phase.TheVariants as phase
 use Rattle.psy_dates.specs.declared.shared.Shared.{Shared}
-use Rattle.psy_dates.specs.Plans.{system_of}
-use Rattle.psy_dates.specs.Standing.{SharedStands, committed_by, dates_done}
+use Rattle.psy_dates.specs.Plans.{AreSizes, system_of}
+use Rattle.psy_dates.specs.Standing.{RingStands, SharedStands, committed_by, dates_done}
 
 first_value : (s : System) (variable : ℕ) (owner : Option ℕ) → s.opening.committed variable ≡ committed_by s (history s 0) variable (0 - 1) owner
 first_value s variable None = refl
 first_value s variable (Some owner) = refl
+
+-- the ring of a variable, filled with its first value
+first_ring : (s : System) (variable size : ℕ) (value : ℤ) → IsRingSize s.unit s.nexts variable size → value ≡ (variable_of s variable).init → RingStands s 0 variable (replicate size value)
+first_ring s variable size value of_size is =
+    let long = length-replicate size value in
+    record {
+      size = subst (IsRingSize s.unit s.nexts variable) (sym long) of_size;
+      values = ap (replicate size) is ∙ ap (λ n. replicate n (variable_of s variable).init) (sym long);
+    }
 
 -- What is shared before date 0
 pub record IsFirst (plan : Plan) (shared : Shared) : Type 0 where
@@ -25,13 +35,14 @@ pub record IsFirst (plan : Plan) (shared : Shared) : Type 0 where
   pub waiting : All (λ seat. seat.phase ≡ phase.Waiting) shared.seats.items
   pub committed : shared.committed.items ≡ map (λ v. v.init) plan.unit.variables
   pub ended : shared.ended.items ≡ map (λ v. v.init) plan.unit.variables
-  pub rings : shared.rings.items ≡ []
+  pub ringed : length shared.rings.items ≡ length plan.unit.variables
+  pub rings : (variable : ℕ) → variable < length plan.unit.variables → slice_get shared.rings.items variable ≡ Some (replicate (get_or plan.sizes.rings variable 0) (get_or (map (λ v. v.init) plan.unit.variables) variable (pos 0)))
   pub queues : shared.queues.items ≡ []
   pub outboxes : shared.outboxes.items ≡ []
   pub taken : shared.taken.items ≡ []
 
-pub first_stands : (plan : Plan) (inputs : List (List ℤ)) (stalls : ℕ → List Stall) (shared : Shared) → IsFirst plan shared → SharedStands (system_of plan inputs stalls) [] 0 shared
-first_stands plan inputs stalls shared is =
+pub first_stands : (plan : Plan) (inputs : List (List ℤ)) (stalls : ℕ → List Stall) (shared : Shared) → AreSizes plan.unit plan.nexts plan.sizes → IsFirst plan shared → SharedStands (system_of plan inputs stalls) [] 0 shared
+first_stands plan inputs stalls shared sizes is =
     let s = system_of plan inputs stalls in
     let count : length shared.committed.items ≡ length plan.unit.variables = ap length is.committed ∙ length-map plan.unit.variables (λ v. v.init) in
     let init : VarDecl → ℤ = λ v. v.init in
@@ -44,7 +55,11 @@ first_stands plan inputs stalls shared is =
           sym (get_or_from_slice_get shared.committed.items variable value (pos 0) at) ∙ ap (λ xs. get_or xs variable (pos 0)) is.committed ∙ get_or-map init plan.unit.variables variable _ (pos 0) within ∙ first_value s variable (variable_of s variable).owner);
       kept = ap length is.ended ∙ length-map plan.unit.variables (λ v. v.init);
       ended = λ variable owner value at owned. tt {0};
-      rings = ap length is.rings;
+      ringed = is.ringed;
+      rings = λ variable ring at. (let within : variable < length plan.unit.variables = omega (arith, slice_get_within shared.rings.items variable ring at, is.ringed) in
+          let size = get_or plan.sizes.rings variable 0 in
+          let of_size : IsRingSize plan.unit plan.nexts variable size = sizes.rings.each variable size (slice_get-get_or plan.sizes.rings variable 0 (omega (arith, within, sizes.rings.count))) in
+          subst (RingStands s 0 variable) (same_Some _ _ (sym (is.rings variable within) ∙ at)) (first_ring s variable size _ of_size (get_or-map init plan.unit.variables variable _ (pos 0) within)));
       queues = ap length is.queues;
       outboxes = ap length is.outboxes;
       taken = ap length is.taken;

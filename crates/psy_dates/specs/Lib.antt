@@ -1,3 +1,4 @@
 pub mod Moves
 pub mod Plans
+pub mod Publications
 pub mod Standing

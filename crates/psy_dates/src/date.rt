@@ -8,11 +8,13 @@ ghost use Rattle.psy_dates.specs.Standing.{NoneActs, SharedStands, dates_done};
 use crate::commits::commit_all;
 use crate::moves::move_all;
 use crate::plan::Plan;
+use crate::rings::publish_all;
 use crate::shared::Shared;
-use psy_history::laws::{given, regular};
+use psy_history::laws::{given, regular, rings};
 
-/// Does a date: the actions that end there commit, those that were stopped and are due make their agents silent, and each agent
-/// whose next action starts there starts it. It takes no memory.
+/// Does a date: the actions that end there commit, each variable whose clock has that date publishes the value committed last or that
+/// of its list, those that were stopped and are due make their agents silent, and each agent whose next action starts there starts
+/// it. It takes no memory.
 pub fn at_date(shared: &mut Shared, plan: &Plan, date: u64)
     requires plan { IsPlan plan.now }
     requires inputs { AreInputs plan.now.unit shared.old.inputs.lists }
@@ -31,6 +33,7 @@ pub fn at_date(shared: &mut Shared, plan: &Plan, date: u64)
 {
     given();
     regular();
+    rings();
     // the proof needs its range
     let _until = plan.until;
     commit_all(
@@ -39,6 +42,13 @@ pub fn at_date(shared: &mut Shared, plan: &Plan, date: u64)
         &shared.seats,
         &shared.ended,
         &mut shared.committed,
+    );
+    publish_all(
+        plan,
+        &shared.inputs,
+        &shared.committed,
+        date,
+        &mut shared.rings,
     );
     move_all(plan, date, &mut shared.seats);
     shared.date = Some(date);

@@ -12,7 +12,7 @@ use psy_clock::Clock;
 use psy_tree::Point;
 
 /// A clock of a plan's program.
-fn clock_of(plan: &Plan, clock: u32) -> Clock
+pub fn clock_of(plan: &Plan, clock: u32) -> Clock
     requires { IsBare plan.now.unit }
     ensures value { result ≡ get_or plan.now.unit.clocks clock (record { period = 1; first = 0 }) }
     ensures lawful { IsClock result }

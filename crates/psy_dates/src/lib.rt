@@ -7,6 +7,7 @@ mod date;
 mod due;
 mod moves;
 mod plan;
+mod rings;
 mod seat;
 mod shared;
 

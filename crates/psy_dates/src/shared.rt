@@ -1,5 +1,6 @@
-ghost use Rattle.std.specs.Prelude.{◌≡◌, ℕ, List, [], IfOk, length, map};
+ghost use Rattle.std.specs.Prelude.{◌≡◌, ℕ, ◌<◌, ◌≤◌, List, [], IfOk, Some, get_or, length, map, pos, replicate, slice_get};
 ghost use Rattle.std.specs.List.{All};
+ghost use Rattle.psy_base.specs.declared.limits.TheConstants.{RING};
 ghost use Rattle.psy_dates.specs.declared.seat.Phase.TheVariants as phase;
 ghost use Rattle.psy_budget.specs.declared.charge.Stall.{Stall};
 ghost use Rattle.psy_history.specs.Compiled.{AreInputs};
@@ -18,7 +19,7 @@ use std::alloc::Global;
 /// What all agents share.
 #[derive(Drop)]
 pub struct Shared {
-    /// By variable, what it published last.
+    /// By variable, the values that it published last.
     pub rings: Vec<Ring>,
     /// By stream, the messages that it holds.
     pub queues: Vec<Queue>,
@@ -42,6 +43,21 @@ fn first_values(alloc: Global, variables: &[VarDecl]) -> Result<Vec<i32>, Memory
     ensures { IfOk result (λ values. values.items ≡ map (λ v. v.init) variables.now) }
 {
     Ok(variables.iter().map(|v| v.init).collect(alloc)?)
+}
+
+/// By variable, a ring of its size, filled with its first value.
+fn first_rings(alloc: Global, variables: &[VarDecl], sizes: &[u32]) -> Result<Vec<Ring>, Memory>
+    requires sized { length sizes.now ≡ length variables.now }
+    requires places { All (λ size. (1 ≤ size) × (size ≤ RING)) sizes.now }
+    ensures count { IfOk result (λ rings. length rings.items ≡ length variables.now) }
+    ensures filled { IfOk result (λ rings. (variable : ℕ) → variable < length variables.now
+        → slice_get rings.items variable ≡ Some (replicate (get_or sizes.now variable 0) (get_or (map (λ v. v.init) variables.now) variable (pos 0)))) }
+{
+    let mut rings = Vec::with_capacity(alloc, variables.len())?;
+    'variables: for variable in 0..variables.len() {
+        rings.push(Ring::new(alloc, sizes[variable], variables[variable].init)?)?;
+    }
+    Ok(rings)
 }
 
 /// A seat for each of so many agents, none of which has begun.
@@ -70,7 +86,11 @@ impl Shared {
         ensures inputs { IfOk result (λ shared. shared.inputs ≡ inputs) }
     {
         Ok(Shared {
-            rings: Vec::new(alloc),
+            rings: first_rings(
+                alloc,
+                plan.unit.variables.as_slice(),
+                plan.sizes.rings.as_slice(),
+            )?,
             queues: Vec::new(alloc),
             outboxes: Vec::new(alloc),
             taken: Vec::new(alloc),

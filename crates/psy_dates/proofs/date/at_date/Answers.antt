@@ -1,4 +1,4 @@
-use Rattle.std.proofs.Common.{◌≡◌, ℕ, ◌<◌, ◌≤◌, ◌*◌, ◌^◌, List, All, length, get_or, refl, sym, ap, subst, ◌∙◌, arith}
+use Rattle.std.proofs.Common.{◌≡◌, ℕ, ◌<◌, ◌≤◌, ◌*◌, ◌^◌, List, [], All, Some, length, get_or, refl, sym, ap, subst, ◌∙◌, arith}
 use Rattle.std.specs.Prelude.{slice_get, if◌then◌else◌, ℤ, pos}
 use Rattle.std.specs.Vec.{with_items}
 use Rattle.std.proofs.lemmas.List.{with_items_is}
@@ -8,6 +8,7 @@ use Rattle.psy_dates.specs.declared.seat.Seat.{Seat}
 use Rattle.psy_tree.specs.declared.unit.VarDecl.{VarDecl}
 use Rattle.psy_dates.specs.Moves.{IsNumbered, commits_at, owner_of}
 use Rattle.psy_dates.specs.Plans.{system_of}
+use Rattle.psy_dates.specs.Publications.{ring_then}
 use Rattle.psy_dates.proofs.Dates.{seat_numbered, shared_moves}
 use Rattle.psy_dates.proofs.date.at_date.Goals as goal
 
@@ -21,7 +22,7 @@ move_all-requires-clause-numbered c =
     let early : c.args.date ≤ 2 ^ 40 = omega arith in
     let lawful = c.regular.ensures.lawful plan.unit plan.code plan.nexts stalls inputs c.requires.plan.compiled c.requires.inputs in
     let numbered : All IsNumbered seats = λ k d l. seat_numbered s lawful c.args.date k (turns_of s order (c.args.date * plan.unit.quantum)) (get_or seats k d) early (stands.seats k (get_or seats k d) (slice_get-get_or seats k d l)) in
-    subst (All IsNumbered) (sym c.deref_mut-2.ensures.value) numbered
+    subst (All IsNumbered) (sym c.deref_mut-3.ensures.value) numbered
 
 pub returns-clause-stands : goal.returns-clause-stands
 returns-clause-stands c stalls order stands =
@@ -36,12 +37,14 @@ returns-clause-stands c stalls order stands =
     let upto : cycles ≤ date * plan.unit.quantum = omega arith in
     let committed : (with_items old.committed c.commit_all.new.committed).items ≡ c.commit_all.new.committed =
     with_items_is old.committed c.commit_all.new.committed (c.commit_all.auto.committed ∙ c.deref_mut.ensures.len) in
+    let rings : (with_items old.rings c.publish_all.new.rings).items ≡ c.publish_all.new.rings =
+    with_items_is old.rings c.publish_all.new.rings (c.publish_all.auto.rings ∙ c.deref_mut-2.ensures.len) in
     let seats : (with_items old.seats c.move_all.new.seats).items ≡ c.move_all.new.seats =
-    with_items_is old.seats c.move_all.new.seats (c.move_all.auto.seats ∙ c.deref_mut-2.ensures.len) in
-    shared_moves plan inputs stalls bare lawful date (turns_of s order cycles) (λ agent number new. c.given.ensures.unstarted s order date cycles agent number lawful bare.quantum.0 upto new) old _ c.requires.due stands (record {
+    with_items_is old.seats c.move_all.new.seats (c.move_all.auto.seats ∙ c.deref_mut-3.ensures.len) in
+    shared_moves plan inputs stalls bare lawful date (turns_of s order cycles) (λ variable clock size. c.rings.ensures.next s date variable size lawful clock) (λ agent number new. c.given.ensures.unstarted s order date cycles agent number lawful bare.quantum.0 upto new) old _ c.requires.due stands (record {
       date_is = refl;
-      seated = ap length seats ∙ c.move_all.auto.seats ∙ ap length c.deref_mut-2.ensures.value;
-      seats = λ agent seat is. ap (λ xs. slice_get xs agent) seats ∙ c.move_all.ensures agent seat (ap (λ xs. slice_get xs agent) c.deref_mut-2.ensures.value ∙ is);
+      seated = ap length seats ∙ c.move_all.auto.seats ∙ ap length c.deref_mut-3.ensures.value;
+      seats = λ agent seat is. ap (λ xs. slice_get xs agent) seats ∙ c.move_all.ensures agent seat (ap (λ xs. slice_get xs agent) c.deref_mut-3.ensures.value ∙ is);
       valued = ap length committed ∙ c.commit_all.auto.committed ∙ ap length c.deref_mut.ensures.value;
       committed = λ variable l.
           ap (λ xs. get_or xs variable (pos 0)) committed
@@ -51,7 +54,8 @@ returns-clause-stands c stalls order stands =
           ∙ ap (λ xs. told old.seats.items plan.unit.variables xs c.deref_mut.result.now variable) c.deref-2.ensures.value
           ∙ ap (λ xs. told old.seats.items plan.unit.variables old.ended.items xs variable) c.deref_mut.ensures.value;
       ended = refl;
-      rings = refl;
+      ringed = ap length rings ∙ c.publish_all.auto.rings ∙ ap length c.deref_mut-2.ensures.value;
+      rings = λ variable ring is. ap (λ xs. slice_get xs variable) rings ∙ c.publish_all.ensures variable ring (ap (λ xs. slice_get xs variable) c.deref_mut-2.ensures.value ∙ is) ∙ ap (λ xs. Some (ring_then (system_of plan inputs (λ agent. [])) xs date variable ring)) c.deref-3.ensures.value;
       queues = refl;
       outboxes = refl;
       taken = refl;
