@@ -1,5 +1,7 @@
 mod Actions
+mod AllRings
 mod Distances
+mod Existence
 mod Multiples
 mod Passed
 mod RingsOf

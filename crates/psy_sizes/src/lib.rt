@@ -3,6 +3,7 @@
 
 mod divisors;
 mod fault;
+pub mod laws;
 mod variables;
 mod windows;
 

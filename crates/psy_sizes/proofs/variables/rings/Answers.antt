@@ -1,29 +1,24 @@
 use Rattle.std.proofs.Common.{◌≡◌, ◌⊎◌, ℕ, ◌<◌, ◌≤◌, List, [], ◌∷◌, ◌++◌, length, length-append, get_or, Err, IfErr, sym, ap, subst, inr, arith, rules}
 use Rattle.std.specs.List.{All}
-use Rattle.std.proofs.lemmas.Option.{slice_get_within, get_or_from_slice_get}
-use Rattle.std.proofs.lemmas.List.Elements.{All-push}
+use Rattle.std.proofs.lemmas.List.Elements.{All-push, All-weaker}
 use Rattle.psy_base.specs.declared.limits.TheConstants.{RING}
 use Rattle.psy_tree.specs.declared.unit.Unit.{Unit as Whole}
 use Rattle.psy_meaning.specs.Flow.{AreAllNexts}
-use Rattle.psy_meaning.specs.RingSizes.{IsRingSize, IsLargeRing}
+use Rattle.psy_meaning.specs.RingSizes.{IsRingSize}
 use Rattle.psy_sizes.specs.declared.fault.SizeFault.{SizeFault}
 use Rattle.psy_sizes.specs.declared.fault.SizeFault.TheVariants.{LargeRing, Memory}
 use Rattle.psy_sizes.specs.Faults.{IsRingFault}
-use Rattle.psy_sizes.proofs.RingsOf.{one_size, each_more}
+use Rattle.psy_sizes.proofs.AllRings.{AreRingsBefore, all_rings, first_large}
+use Rattle.psy_sizes.proofs.RingsOf.{each_more}
 use Rattle.psy_sizes.proofs.variables.rings.Goals as goal
 
--- A variable whose ring is too large is the first one, where those before it have rings that aren't.
-first_large : (unit : Whole) (nexts : List (List (List ℕ))) (sizes : List ℕ) (variable size : ℕ) → length sizes ≡ variable →
-    ((before d : ℕ) → before < variable → IsRingSize unit nexts before (get_or sizes before d)) → All (λ n. (1 ≤ n) × (n ≤ RING)) sizes →
-    IsRingSize unit nexts variable size → RING < size → IsLargeRing unit nexts variable
-first_large unit nexts sizes variable size count each small is passes = record {
-  size = size;
-  is_size = is;
-  passes = passes;
-  earlier = λ before other less its. (
-      let same = one_size unit nexts before other (get_or sizes before 0) its (each before 0 less) in
-      omega (arith, same, (small before 0 (omega (arith, less, count))).1)
-      );
+-- The sizes that were found are those of the variables so far.
+so_far : (unit : Whole) (nexts : List (List (List ℕ))) (sizes : List ℕ) (variable : ℕ) → length sizes ≡ variable → ((before d : ℕ) → before < variable → IsRingSize unit nexts before (get_or sizes before d)) →
+    All (λ n. (1 ≤ n) × (n ≤ RING)) sizes → AreRingsBefore unit nexts variable sizes
+so_far unit nexts sizes variable count each small = record {
+  count = count;
+  each = each;
+  small = All-weaker (λ n. (1 ≤ n) × (n ≤ RING)) (λ n. n ≤ RING) (λ n h. h.1) sizes small;
 }
 
 pub returns-in_err-ring-clause-cause : goal.returns-in_err-ring-clause-cause
@@ -35,7 +30,7 @@ returns-in_err-ring-clause-cause c =
     let Q : SizeFault → Type 0 = λ f. (f ≡ Memory) ⊎ IsRingFault unit f in
     let large : IsRingFault unit (LargeRing variable) = λ nexts are. (
     let (size, is, passes) = c.in_err-ring.ensures.large nexts are in
-    first_large unit nexts c.variables.sizes variable size kept.count (λ before d less. kept.each before d less nexts are) kept.small is passes
+    first_large unit nexts c.variables.sizes variable size (so_far unit nexts c.variables.sizes variable kept.count (λ before d less. kept.each before d less nexts are) kept.small) is passes
     ) in
     let is : Q fault = inr (subst (IsRingFault unit) (sym c.in_err-ring.ensures.fault) large) in
     let e : c.from_residual.result ≡ Err fault = search rules in
@@ -62,10 +57,5 @@ returns-clause-rings c nexts are =
     let unit = c.args.unit.now in
     let sizes = c.variables.sizes in
     let kept = c.variables.invariant in
-    record {
-      count = omega (arith, kept.count, c.variables-test.false, c.variables.auto.variable-end, c.len-variable-end.ensures);
-      each = λ variable size e. (
-          let l = slice_get_within sizes variable size e in
-          subst (IsRingSize unit nexts variable) (get_or_from_slice_get sizes variable size size e) (kept.each variable size (omega (arith, l, kept.count)) nexts are)
-          );
-    }
+    let all : c.variables.variable ≡ length unit.variables = omega (arith, kept.count, c.variables-test.false, c.variables.auto.variable-end, c.len-variable-end.ensures) in
+    all_rings unit nexts sizes (subst (λ k. AreRingsBefore unit nexts k sizes) all (so_far unit nexts sizes c.variables.variable kept.count (λ before d less. kept.each before d less nexts are) kept.small))
