@@ -37,7 +37,7 @@ module _ (s : System) (order : ℕ → List ℕ) where
       let more = units_grow r.agent r.number first cycles h in
       le-ltb (units r.agent r.number (turns_of s order cycles)) (work r) (omega (arith, done, more))
 
-  tick_of_cycle : (date cycle : ℕ) → date * s.unit.quantum ≤ cycle → cycle < (date + 1) * s.unit.quantum → cycle / s.unit.quantum ≡ date
+  pub tick_of_cycle : (date cycle : ℕ) → date * s.unit.quantum ≤ cycle → cycle < (date + 1) * s.unit.quantum → cycle / s.unit.quantum ≡ date
   tick_of_cycle date cycle low high =
       let rest : cycle ≡ date * s.unit.quantum + (cycle - date * s.unit.quantum) = omega (arith, low) in
       ap (λ n. n / s.unit.quantum) rest ∙ div-mul-add date s.unit.quantum (cycle - date * s.unit.quantum) (by (date * s.unit.quantum) cycle s.unit.quantum ((date + 1) * s.unit.quantum) (grind arith) low high)

@@ -1,7 +1,7 @@
 -- A kernel after the cycle that its chosen agent gets, or nobody.
 use Rattle.std.proofs.Common.{◌≡◌, ◌≢◌, Vec, Global, refl, sym, ap, ◌∙◌, subst, arith}
-use Rattle.std.specs.Prelude.{ℕ, ◌+◌, ◌-◌, ◌<◌, Bool, true, false, List, ◌∷◌, length, Option, Some, None, slice_get, slice_set, ℤ}
-use Rattle.std.proofs.lemmas.Option.{slice_get-get_or}
+use Rattle.std.specs.Prelude.{ℕ, ◌+◌, ◌-◌, ◌<◌, ◌≤◌, Bool, true, false, List, ◌∷◌, length, get_or, Option, Some, None, slice_get, slice_set, ℤ}
+use Rattle.std.proofs.lemmas.Option.{same_Some, slice_get-get_or, slice_get_within}
 use Rattle.psy_budget.specs.Charges.{Charged}
 use Rattle.psy_dates.specs.declared.seat.Seat.{Seat}
 use Rattle.psy_dates.specs.declared.shared.Shared.{Shared}
@@ -10,25 +10,36 @@ use Rattle.psy_history.specs.Regular.{IsLawful}
 use Rattle.psy_machine.specs.Stepping.{AgentMachine}
 use Rattle.psy_meaning.specs.Actions.{Action}
 use Rattle.psy_meaning.specs.History.{history}
-use Rattle.psy_meaning.specs.Schedule.{Turn, is_pending, turn_of}
+use Rattle.psy_meaning.specs.Schedule.{Turn, is_pending, turn_of, units}
+use Rattle.psy_meaning.specs.Summary.{reach}
 use Rattle.psy_ready.specs.Choice.{IsPick, pending_deadline}
 use Rattle.psy_tree.specs.declared.unit.VarDecl.{VarDecl}
-use Rattle.psy_kernel.specs.Cycles.{AreOver, GetsCycle, IsCycleOf, IsGiven, OneStands}
+use Rattle.psy_kernel.specs.Acting.{IsLookIn, ShowsAs}
+use Rattle.psy_kernel.specs.Cycles.{AreOver, AreRingsOf, GetsCycle, IsGiven, IsNear, LooksBack, OneStands, reach_by}
 use Rattle.psy_kernel.specs.declared.kernel.Figure.{Figure}
 use Rattle.psy_kernel.specs.declared.kernel.Kernel.TheInside.{Inside}
 use Rattle.psy_kernel.specs.Scripts.{order_of, stalls_of}
+use Rattle.psy_kernel.specs.Seeing.{view_in}
 use Rattle.psy_kernel.specs.Standing.{IsChosen, KernelStands}
-use Rattle.psy_kernel.proofs.Kernels.{IsBetween, next_in, parts_in, run_in, turns_in}
+use Rattle.psy_kernel.proofs.Kernels.{IsBetween, IsDue, next_in, parts_in, run_in, turns_in}
 use Rattle.psy_kernel.proofs.Parts.{PartsStand, given, idle, nobody_soonest, one_of, pick_known, pick_soonest, shared_given}
 use Rattle.psy_kernel.proofs.Stages.{IsInside}
 
 last_date : (dates date : ℕ) → dates ≡ date + 1 → dates - 1 ≡ date
 last_date dates date e = omega (arith, e)
 
-module _ (k : Inside) (is : KernelStands k) (date : ℕ) (inside : IsInside k.plan.unit.quantum k.plan.until (dates_done k.shared.date) k.cycles date) (cycle : IsCycleOf k.plan k.shared.inputs.lists k.script date k.cycles)
-    (lawful : IsLawful (run_in k)) (over : (agent : ℕ) → AreOver (turns_in k k.cycles) (history (run_in k) (date + 1) agent)) where
+module _ (k : Inside) (is : KernelStands k) (d : IsDue k) where
   abbrev dates : ℕ
   dates = dates_done k.shared.date
+
+  abbrev date : ℕ
+  date = d.date
+
+  abbrev inside : IsInside k.plan.unit.quantum k.plan.until dates k.cycles date
+  inside = d.inside
+
+  abbrev lawful : IsLawful (run_in k)
+  lawful = d.lawful
 
   abbrev order : List ℕ
   order = order_of k.plan.unit k.script k.cycles
@@ -37,7 +48,7 @@ module _ (k : Inside) (is : KernelStands k) (date : ℕ) (inside : IsInside k.pl
   before_cycle = turns_in k k.cycles
 
   over_now : (agent : ℕ) → AreOver before_cycle (history (run_in k) dates agent)
-  over_now agent = subst (λ n. AreOver before_cycle (history (run_in k) n agent)) (sym inside.0) (over agent)
+  over_now agent = subst (λ n. AreOver before_cycle (history (run_in k) n agent)) (sym inside.0) (d.over agent)
 
   -- ---- nobody waits
 
@@ -48,9 +59,11 @@ module _ (k : Inside) (is : KernelStands k) (date : ℕ) (inside : IsInside k.pl
       record {
         date = date;
         dates = inside.0;
-        cycle = cycle;
+        cycle = d.cycle;
         parts = subst (λ ts. PartsStand (run_in k) k.plan.code k.plan.until ts dates k.shared k.machines.items k.charges.items k.ready k.figures.items) (sym turns)
             (idle (run_in k) k.plan.code k.plan.until before_cycle dates k.shared k.machines.items k.charges.items k.ready k.figures.items (parts_in k is));
+        reaching = is.reaching;
+        reached = λ variable n at. is.reached variable n at ∙ sym (d.idle before_cycle (history (run_in k) dates) variable) ∙ ap (λ ts. reach (run_in k) ts (history (run_in k) dates) variable) (sym turns);
         all = is.all;
         orders = is.orders;
         choice = λ fresh. choice;
@@ -85,14 +98,65 @@ module _ (k : Inside) (is : KernelStands k) (date : ℕ) (inside : IsInside k.pl
     waits_at : slice_get k.ready agent ≡ Some (pending_deadline k.ready agent)
     waits_at = slice_get-get_or k.ready agent None (omega (arith, known, is.waiting))
 
-    -- what it has
-    pub is_given : ((r : Action) (before : List Action) → history (run_in k) (date + 1) agent ≡ r ∷ before → is_pending before_cycle r ≡ true → GetsCycle (run_in k) k.plan.code before_cycle k.plan.until date k.cycles agent r before)
-        → (r : Action) (before : List Action) → Takes r before → (machine : AgentMachine) (charge : Charged) (figure : Figure) (seat : Seat) → slice_get k.machines.items agent ≡ Some machine → slice_get k.charges.items agent ≡ Some charge → slice_get k.figures.items agent ≡ Some figure → slice_get k.shared.seats.items agent ≡ Some seat
-        → IsGiven k.plan k.shared.inputs.lists (stalls_of k.script) before_cycle date k.cycles agent r before charge machine (pending_deadline k.ready agent) figure seat k.shared.ended.items
-    is_given gets r before t machine charge figure seat m c f x = record {
-      gets = gets r before (ap (λ n. history (run_in k) n agent) (sym inside.0) ∙ t.is_last) t.pending;
-      has = one_of (run_in k) k.plan.code k.plan.until before_cycle dates k.shared k.machines.items k.charges.items k.ready k.figures.items (parts_in k is) date agent r before (last_date dates date inside.0) t.is_last machine charge (pending_deadline k.ready agent) figure seat m c waits_at f x;
-    }
+    -- the rings that it has
+    pub rings_stand : AreRingsOf (run_in k) dates k.shared.rings.items
+    rings_stand = (is.shared.ringed, is.shared.rings)
+
+    module _ (r : Action) (before : List Action) (t : Takes r before) where
+      last : history (run_in k) (date + 1) agent ≡ r ∷ before
+      last = ap (λ n. history (run_in k) n agent) (sym inside.0) ∙ t.is_last
+
+      abbrev looks : LooksBack (run_in k) k.plan.code before_cycle date r
+      looks = d.looks agent r before last t.pending
+
+      -- what it has, and what it sees
+      module _ (now : ℕ) (now_is : now ≡ dates - 1) (machine : AgentMachine) (charge : Charged) (figure : Figure) (seat : Seat)
+          (m : slice_get k.machines.items agent ≡ Some machine) (c : slice_get k.charges.items agent ≡ Some charge) (f : slice_get k.figures.items agent ≡ Some figure) (x : slice_get k.shared.seats.items agent ≡ Some seat) where
+        one : OneStands (run_in k) k.plan.code before_cycle k.plan.until date agent (r ∷ before) charge machine (pending_deadline k.ready agent) figure seat k.shared.ended.items
+        one = one_of (run_in k) k.plan.code k.plan.until before_cycle dates k.shared k.machines.items k.charges.items k.ready k.figures.items (parts_in k is) date agent r before (last_date dates date inside.0) t.is_last machine charge (pending_deadline k.ready agent) figure seat m c waits_at f x
+
+        pub is_given : IsGiven k.plan k.shared.inputs.lists (stalls_of k.script) before_cycle now k.cycles agent r before charge machine (pending_deadline k.ready agent) figure seat k.shared.ended.items (view_in k.shared.rings.items k.plan.unit.variables k.plan.unit.clocks seat.start now)
+        is_given =
+            let given : (start : ℕ) → start ≡ r.start → IsGiven k.plan k.shared.inputs.lists (stalls_of k.script) before_cycle date k.cycles agent r before charge machine (pending_deadline k.ready agent) figure seat k.shared.ended.items (view_in k.shared.rings.items k.plan.unit.variables k.plan.unit.clocks start date) = λ start e. record {
+              gets = d.gets agent r before last t.pending;
+              has = one;
+              shows = subst (λ n. ShowsAs (run_in k) r (view_in k.shared.rings.items k.plan.unit.variables k.plan.unit.clocks n date)) (sym e) (looks.shows k.shared.rings.items (subst (λ n. AreRingsOf (run_in k) n k.shared.rings.items) inside.0 rings_stand));
+            } in
+            subst (λ n. IsGiven k.plan k.shared.inputs.lists (stalls_of k.script) before_cycle n k.cycles agent r before charge machine (pending_deadline k.ready agent) figure seat k.shared.ended.items (view_in k.shared.rings.items k.plan.unit.variables k.plan.unit.clocks seat.start n))
+            (sym (now_is ∙ last_date dates date inside.0)) (given seat.start one.seated.start)
+
+        pub started_at : seat.start ≡ r.start
+        started_at = one.seated.start
+
+      -- the date done last
+      pub on_date : (now : ℕ) → now ≡ dates - 1 → now ≡ date
+      on_date now now_is = now_is ∙ last_date dates date inside.0
+
+      -- how far back it looks
+      module _ (start now : ℕ) (start_is : start ≡ r.start) (now_is : now ≡ dates - 1) (look : Option (ℕ × ℕ)) (in_cycle : IsLookIn (run_in k) k.plan.code r (units r.agent r.number before_cycle) look) where
+        here : now ≡ date
+        here = on_date now now_is
+
+        pub near : IsNear (run_in k) start now look
+        near = subst (λ n. IsNear (run_in k) n now look) (sym start_is) (subst (λ n. IsNear (run_in k) r.start n look) (sym here) (looks.near look in_cycle))
+
+        pub early : k.plan.until ≤ 4294967295 → (start ≤ now) × (now ≤ 1099511627776)
+        early most = (omega (arith, start_is, here, GetsCycle.started (d.gets agent r before last t.pending)), omega (arith, here, d.inside.1, most))
+
+        -- the rings are reached for so far behind the cycle
+        pub reached_given : (reaches : List (Option ℕ)) → length reaches ≡ length k.reaches.items
+            → ((variable : ℕ) (n : Option ℕ) → slice_get k.reaches.items variable ≡ Some n → slice_get reaches variable ≡ Some (reach_by (run_in k) variable start now look n))
+            → (variable : ℕ) (n : Option ℕ) → slice_get reaches variable ≡ Some n → n ≡ reach (run_in k) (turns_in k (k.cycles + 1)) (history (run_in k) dates) variable
+        reached_given reaches as_many noted variable n at =
+            let old : Option ℕ = get_or k.reaches.items variable None in
+            let there : slice_get k.reaches.items variable ≡ Some old = slice_get-get_or k.reaches.items variable None (omega (arith, slice_get_within reaches variable n at, as_many)) in
+            let new : n ≡ reach_by (run_in k) variable start now look old = same_Some n (reach_by (run_in k) variable start now look old) (sym at ∙ noted variable old there) in
+            new
+            ∙ ap (λ m. reach_by (run_in k) variable m now look old) start_is ∙ ap (λ m. reach_by (run_in k) variable r.start m look old) here
+            ∙ ap (reach_by (run_in k) variable r.start date look) (is.reached variable old there ∙ ap (λ m. reach (run_in k) before_cycle (history (run_in k) m) variable) inside.0)
+            ∙ sym (looks.reached variable look in_cycle)
+            ∙ ap (λ m. reach (run_in k) (turn_of (Some r) ∷ before_cycle) (history (run_in k) m) variable) (sym inside.0)
+            ∙ ap (λ ts. reach (run_in k) ts (history (run_in k) dates) variable) (sym t.turns)
 
     -- the kernel with what it has then
     module _ (r : Action) (before : List Action) (t : Takes r before) (machine : AgentMachine) (charge : Charged) (waiting : Option ℕ) (figure : Figure) (seat : Seat) (ended : List ℤ)
@@ -107,19 +171,22 @@ module _ (k : Inside) (is : KernelStands k) (date : ℕ) (inside : IsInside k.pl
           (given (run_in k) k.plan.code k.plan.until before_cycle dates k.shared k.machines.items k.charges.items k.ready k.figures.items (parts_in k is) lawful date agent r before (last_date dates date inside.0) t.is_last machine charge waiting figure seat ended one all others ready as_many own rest after
           (shared_given (run_in k) k.plan.code k.plan.until before_cycle dates k.shared k.machines.items k.charges.items k.ready k.figures.items (parts_in k is) lawful date agent r before (last_date dates date inside.0) t.is_last machine charge waiting figure seat ended one all others after a b c d e f g h))
 
-      pub given_between : (seats : Vec Seat Global) (copies : Vec ℤ Global) (machines : Vec AgentMachine Global) (charges : Vec Charged Global) (figures : Vec Figure Global) (chosen : Option ℕ) (stale : Bool)
+      pub given_between : (seats : Vec Seat Global) (copies : Vec ℤ Global) (machines : Vec AgentMachine Global) (charges : Vec Charged Global) (figures : Vec Figure Global) (reaches : Vec (Option ℕ) Global) (chosen : Option ℕ) (stale : Bool)
           → seats.items ≡ slice_set k.shared.seats.items agent seat → copies.items ≡ ended → machines.items ≡ slice_set k.machines.items agent machine → charges.items ≡ slice_set k.charges.items agent charge → figures.items ≡ slice_set k.figures.items agent figure
+          → length reaches.items ≡ length k.reaches.items → ((variable : ℕ) (n : Option ℕ) → slice_get reaches.items variable ≡ Some n → n ≡ reach (run_in k) (turns_in k (k.cycles + 1)) (history (run_in k) dates) variable)
           → (stale ≡ false → IsChosen ready order chosen)
-          → IsBetween (record k { shared = record k.shared { seats = seats; ended = copies }; machines = machines; charges = charges; figures = figures; ready = ready; chosen = chosen; stale = stale })
-      given_between seats copies machines charges figures chosen stale a b c d e choice = record {
+          → IsBetween (record k { shared = record k.shared { seats = seats; ended = copies }; machines = machines; charges = charges; figures = figures; ready = ready; reaches = reaches; chosen = chosen; stale = stale })
+      given_between seats copies machines charges figures reaches chosen stale a b c e f as_many reached choice = record {
         date = date;
         dates = inside.0;
-        cycle = cycle;
+        cycle = d.cycle;
         parts =
             subst (λ ms. PartsStand (run_in k) k.plan.code k.plan.until (turns_in k (k.cycles + 1)) dates (record k.shared { seats = seats; ended = copies }) ms charges.items ready figures.items) (sym c)
-            (subst (λ cs. PartsStand (run_in k) k.plan.code k.plan.until (turns_in k (k.cycles + 1)) dates (record k.shared { seats = seats; ended = copies }) (slice_set k.machines.items agent machine) cs ready figures.items) (sym d)
-            (subst (λ fs. PartsStand (run_in k) k.plan.code k.plan.until (turns_in k (k.cycles + 1)) dates (record k.shared { seats = seats; ended = copies }) (slice_set k.machines.items agent machine) (slice_set k.charges.items agent charge) ready fs) (sym e)
+            (subst (λ cs. PartsStand (run_in k) k.plan.code k.plan.until (turns_in k (k.cycles + 1)) dates (record k.shared { seats = seats; ended = copies }) (slice_set k.machines.items agent machine) cs ready figures.items) (sym e)
+            (subst (λ fs. PartsStand (run_in k) k.plan.code k.plan.until (turns_in k (k.cycles + 1)) dates (record k.shared { seats = seats; ended = copies }) (slice_set k.machines.items agent machine) (slice_set k.charges.items agent charge) ready fs) (sym f)
             (parts_given (record k.shared { seats = seats; ended = copies }) refl a b refl refl refl refl refl)));
+        reaching = as_many ∙ is.reaching;
+        reached = reached;
         all = is.all;
         orders = is.orders;
         choice = choice;

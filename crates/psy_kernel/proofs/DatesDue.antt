@@ -11,6 +11,7 @@ use Rattle.psy_tree.specs.declared.unit.Unit.{Unit as Whole}
 use Rattle.psy_meaning.specs.Actions.{Action, System}
 use Rattle.psy_meaning.specs.History.{history}
 use Rattle.psy_meaning.specs.Schedule.{is_pending, units}
+use Rattle.psy_meaning.specs.Summary.{reach}
 use Rattle.psy_history.specs.Compiled.{AreInputs, IsCompiled, coded}
 use Rattle.psy_history.specs.Regular.{IsLawful}
 use Rattle.psy_history.specs.Scheduled.{IsFinished, IsSupplied, turns_of}
@@ -35,6 +36,11 @@ Unstarted = (s : System) (order : ℕ → List ℕ) (date cycles agent number : 
 -- Each action that is due is finished, or stopped.
 abbrev pub InTime : Type 0
 InTime = (s : System) (order : ℕ → List ℕ) (until date agent : ℕ) (r : Action) → IsSupplied s order until → date ≤ until → Contains (history s date agent) r → r.deadline ≤ date → IsFinished s order (date * s.unit.quantum) r
+
+-- The actions that a date starts reach for nothing before it.
+abbrev pub LeavesReach : Type 0
+LeavesReach = (s : System) (order : ℕ → List ℕ) (date cycles variable : ℕ) → IsLawful s → 1 ≤ s.unit.quantum → cycles ≤ date * s.unit.quantum
+    → reach s (turns_of s order cycles) (history s (date + 1)) variable ≡ reach s (turns_of s order cycles) (history s date) variable
 
 -- The code of a compiled program is lawful.
 abbrev pub Lawful : Type 0
@@ -111,6 +117,11 @@ module _ (k : Inside) (date : ℕ) (at : IsDue k date) where
 
   pub none_due : NoneActs date k.shared.seats.items
   none_due agent seat there by = none_acts k.plan.unit k.plan.code k.plan.nexts (stalls_of k.script) k.shared.inputs.lists date k.plan.until agent (turns_of its ties k.cycles) lawful small (unstarted agent) (in_time agent) seat (date - 1) (before.seats agent seat there) by
+
+  pub same_reach : LeavesReach → (variable : ℕ) (n : Option ℕ) → slice_get k.reaches.items variable ≡ Some n → n ≡ reach its (turns_of its ties k.cycles) (history its (date + 1)) variable
+  same_reach leaves variable n there =
+      h.reached variable n there ∙ ap (λ d. reach its (turns_of its ties k.cycles) (history its d) variable) (sym is_date)
+      ∙ sym (leaves its ties date k.cycles variable lawful quantum_some (omega (arith, filled)))
 
   -- ---- behind the date
 

@@ -1,12 +1,12 @@
--- The lines of the summary by the figures, place by place.
-use Rattle.std.proofs.Common.{◌≡◌, ℕ, suc, ◌+◌, ◌-◌, ◌<◌, List, ◌∷◌, ◌++◌, map, length, slice_get, Some, refl, ap, ◌∙◌, arith, length-append}
+-- The lines of the summary by the figures and the reaches, place by place.
+use Rattle.std.proofs.Common.{◌≡◌, ℕ, suc, ◌+◌, ◌-◌, ◌<◌, List, ◌∷◌, ◌++◌, map, length, slice_get, Option, Some, refl, ap, ◌∙◌, arith, length-append}
 use Rattle.std.specs.List.{range_with_len}
 use Rattle.std.proofs.lemmas.List.{get_or_append_left, get_or-append_right}
 use Rattle.std.proofs.lemmas.List.FromFn.{length-map-range_with_len, get_or-map-range_with_len}
 use Rattle.std.proofs.lemmas.Option.{slice_get-get_or}
 use Rattle.psy_dates.specs.declared.plan.Plan.{Plan}
 use Rattle.psy_kernel.specs.declared.kernel.Figure.{Figure}
-use Rattle.psy_kernel.specs.Telling.{figure_line, figured_lines, size_line}
+use Rattle.psy_kernel.specs.Telling.{figure_line, figured_lines, reach_line}
 
 -- ---- two lists made from numbers, one behind the other
 
@@ -34,7 +34,7 @@ next_place x xs place i e = ap (slice_get (x ∷ xs)) e
 
 -- ---- the lines
 
-module _ (plan : Plan) (figures : List Figure) where
+module _ (plan : Plan) (figures : List Figure) (reaches : List (Option ℕ)) where
   abbrev agents : ℕ
   agents = length plan.unit.agents
 
@@ -42,13 +42,13 @@ module _ (plan : Plan) (figures : List Figure) where
   variables = length plan.unit.variables
 
   abbrev behind_first : List (List ℕ)
-  behind_first = both (figure_line plan.unit figures) (size_line plan) agents variables
+  behind_first = both (figure_line plan.unit figures) (reach_line plan reaches) agents variables
 
-  pub agent_figured : (place agent : ℕ) → place ≡ suc agent → agent < agents → slice_get (figured_lines plan figures) place ≡ Some (figure_line plan.unit figures agent)
-  agent_figured place agent e l = next_place _ behind_first place agent e ∙ in_first (figure_line plan.unit figures) (size_line plan) agents variables agent l
+  pub agent_figured : (place agent : ℕ) → place ≡ suc agent → agent < agents → slice_get (figured_lines plan figures reaches) place ≡ Some (figure_line plan.unit figures agent)
+  agent_figured place agent e l = next_place _ behind_first place agent e ∙ in_first (figure_line plan.unit figures) (reach_line plan reaches) agents variables agent l
 
-  pub variable_figured : (place variable : ℕ) → place ≡ suc (agents + variable) → variable < variables → slice_get (figured_lines plan figures) place ≡ Some (size_line plan variable)
-  variable_figured place variable e l = next_place _ behind_first place (agents + variable) e ∙ in_second (figure_line plan.unit figures) (size_line plan) agents variables (agents + variable) variable refl l
+  pub variable_figured : (place variable : ℕ) → place ≡ suc (agents + variable) → variable < variables → slice_get (figured_lines plan figures reaches) place ≡ Some (reach_line plan reaches variable)
+  variable_figured place variable e l = next_place _ behind_first place (agents + variable) e ∙ in_second (figure_line plan.unit figures) (reach_line plan reaches) agents variables (agents + variable) variable refl l
 
-  pub figured_length : length (figured_lines plan figures) ≡ suc (agents + variables)
-  figured_length = ap suc (both_length (figure_line plan.unit figures) (size_line plan) agents variables)
+  pub figured_length : length (figured_lines plan figures reaches) ≡ suc (agents + variables)
+  figured_length = ap suc (both_length (figure_line plan.unit figures) (reach_line plan reaches) agents variables)

@@ -9,7 +9,7 @@ use Rattle.std.proofs.lemmas.Option.{slice_get-get_or}
 use Rattle.psy_budget.specs.declared.charge.Stall.{Stall}
 use Rattle.psy_dates.specs.declared.plan.Plan.{Plan}
 use Rattle.psy_dates.specs.Plans.{IsPlan, system_of}
-use Rattle.psy_history.specs.Regular.{AreRegular, IsLawful, IsRegular, RunsAlone, WasStarted, WereStarted}
+use Rattle.psy_history.specs.Regular.{AreRegular, IsLawful, IsRegular, Runs, WasStarted, WereStarted}
 use Rattle.psy_history.specs.Scheduled.{IsFinished, IsSupplied, turns_of}
 use Rattle.psy_meaning.specs.Actions.{Action, History, Next, System, charge_of, next_of, timing, verdict_of}
 use Rattle.psy_meaning.specs.Executors.{agent_at}
@@ -132,9 +132,9 @@ module _ (plan : Plan) (inputs : List (List ℤ)) (stalls : ℕ → List Stall) 
 
     pub gets : ((s : System) (order : ℕ → List ℕ) (until date agent : ℕ) (r : Action) → IsSupplied s order until → date ≤ until → Contains (history s date agent) r → r.deadline ≤ date → IsFinished s order (date * s.unit.quantum) r)
         → ((unit : Whole) (number : ℕ) (agent : AgentDecl) → IsOfText unit × (slice_get unit.agents number ≡ Some agent) → (point to : ℕ) → IsNext unit.functions agent point to → (1 ≤ to) × (to < length agent.points))
-        → plan.until ≤ 4294967295 → (agent : ℕ) (r : Action) (before : List Action) → history s (date + 1) agent ≡ r ∷ before → All (RunsAlone s plan.code) (history s (date + 1) agent) → is_pending turns r ≡ true
+        → plan.until ≤ 4294967295 → (agent : ℕ) (r : Action) (before : List Action) → history s (date + 1) agent ≡ r ∷ before → All (Runs s plan.code) (history s (date + 1) agent) → is_pending turns r ≡ true
         → GetsCycle s plan.code turns plan.until date cycle agent r before
-    gets due within most agent r before e alone pending =
+    gets due within most agent r before e all_run pending =
         let are : AreRegular s (date + 1) agent (r ∷ before) = subst (AreRegular s (date + 1) agent) e (supply.lawful.actions (date + 1) agent) in
         let its : IsRegular s agent r = All-head (IsRegular s agent) r before are.each in
         let w : WasStarted s (date + 1) agent before r = are.were_started.0 in
@@ -147,12 +147,13 @@ module _ (plan : Plan) (inputs : List (List ℤ)) (stalls : ℕ → List Stall) 
             after = t.1;
             charge = t.2;
             verdict = t.3;
-            alone = All-head (RunsAlone s plan.code) r before (subst (All (RunsAlone s plan.code)) e alone);
+            runs = All-head (Runs s plan.code) r before (subst (All (Runs s plan.code)) e all_run);
           };
           agent_is = its.agent_is;
           pending = pending;
           numbers = All-weaker (λ (q : Action). q.number < length before) (λ (q : Action). q.number < r.number) (λ q less. omega (arith, less, w.number)) before (numbers_below s (date + 1) agent before are.were_started.1);
           few = omega (arith, are.few, inside);
+          started = omega (arith, start, w.at);
           later = later;
           at = as_many s order cycle;
           within = omega (arith, high, mul-le (date + 1) plan.unit.quantum r.deadline plan.unit.quantum (omega (arith, later)) (omega arith));

@@ -1,6 +1,6 @@
 -- A kernel that has given its cycle and not yet counted it.
 use Rattle.std.proofs.Common.{◌≡◌, sym, ap, ◌∙◌, subst, arith}
-use Rattle.std.specs.Prelude.{ℕ, ◌+◌, ◌<◌, ◌≤◌, Bool, true, false, nat_lt, List, ◌∷◌, length, Option, ℤ}
+use Rattle.std.specs.Prelude.{ℕ, ◌+◌, ◌<◌, ◌≤◌, Bool, true, false, nat_lt, List, ◌∷◌, length, slice_get, Option, None, Some, ℤ}
 use Rattle.std.specs.List.{range_with_len}
 use Rattle.std.proofs.lemmas.Bool.{ltb-false, true≢false}
 use Rattle.std.proofs.lemmas.Nat.{mul-le}
@@ -9,11 +9,12 @@ use Rattle.psy_dates.specs.Plans.{IsPlan}
 use Rattle.psy_history.specs.Compiled.{AreInputs}
 use Rattle.psy_dates.specs.Standing.{dates_done}
 use Rattle.psy_history.specs.Regular.{IsLawful}
-use Rattle.psy_meaning.specs.Actions.{System}
+use Rattle.psy_meaning.specs.Actions.{Action, History, System}
 use Rattle.psy_meaning.specs.History.{history}
-use Rattle.psy_meaning.specs.Schedule.{Turn, pending, soonest, turn_of}
+use Rattle.psy_meaning.specs.Schedule.{Turn, is_pending, pending, soonest, turn_of}
+use Rattle.psy_meaning.specs.Summary.{reach}
 use Rattle.psy_ready.specs.Choice.{ListsEach}
-use Rattle.psy_kernel.specs.Cycles.{AreOver, IsCycleOf, order_by, run_of, run_turns}
+use Rattle.psy_kernel.specs.Cycles.{AreOver, GetsCycle, IsCycleOf, LooksBack, order_by, run_of, run_turns}
 use Rattle.psy_kernel.specs.declared.kernel.Kernel.TheInside.{Inside}
 use Rattle.psy_kernel.specs.declared.script.Order.{Order}
 use Rattle.psy_kernel.specs.declared.script.Script.{Script}
@@ -36,11 +37,17 @@ turns_in k cycles = run_turns k.plan k.shared.inputs.lists k.script cycles
 abbrev pub PartsIn : Inside → ℕ → Type 0
 PartsIn k cycles = PartsStand (run_in k) k.plan.code k.plan.until (turns_in k cycles) (dates_done k.shared.date) k.shared k.machines.items k.charges.items k.ready k.figures.items
 
+-- rings were reached for as far back as the first so many cycles did
+abbrev pub ReachedIn : Inside → ℕ → Type 0
+ReachedIn k cycles = (variable : ℕ) (n : Option ℕ) → slice_get k.reaches.items variable ≡ Some n → n ≡ reach (run_in k) (turns_in k cycles) (history (run_in k) (dates_done k.shared.date)) variable
+
 pub record IsBetween (m : Inside) : Type 0 where
   pub date : ℕ
   pub dates : dates_done m.shared.date ≡ date + 1
   pub cycle : IsCycleOf m.plan m.shared.inputs.lists m.script date m.cycles
   pub parts : PartsIn m (m.cycles + 1)
+  pub reaching : length m.reaches.items ≡ length m.plan.unit.variables
+  pub reached : ReachedIn m (m.cycles + 1)
   pub all : m.declared.items ≡ range_with_len 0 (length m.plan.unit.agents)
   pub orders : AreInForce m.script.orders m.passed m.cycles
   pub choice : m.stale ≡ false → IsChosen m.ready (order_of m.plan.unit m.script m.cycles) m.chosen
@@ -104,6 +111,8 @@ module _ (m : Inside) (b : IsBetween m) where
     shared = b.parts.shares;
     machined = b.parts.machined;
     charges = b.parts.charged;
+    reaching = b.reaching;
+    reached = b.reached;
     waiting = b.parts.waiting;
     figured = b.parts.figured;
     agents = b.parts.agents;
@@ -138,6 +147,9 @@ pub record IsDue (k : Inside) : Type 0 where
   pub cycle : IsCycleOf k.plan k.shared.inputs.lists k.script date k.cycles
   pub lawful : IsLawful (run_in k)
   pub over : (agent : ℕ) → AreOver (turns_in k k.cycles) (history (run_in k) (date + 1) agent)
+  pub gets : (agent : ℕ) (r : Action) (before : List Action) → history (run_in k) (date + 1) agent ≡ r ∷ before → is_pending (turns_in k k.cycles) r ≡ true → GetsCycle (run_in k) k.plan.code (turns_in k k.cycles) k.plan.until date k.cycles agent r before
+  pub looks : (agent : ℕ) (r : Action) (before : List Action) → history (run_in k) (date + 1) agent ≡ r ∷ before → is_pending (turns_in k k.cycles) r ≡ true → LooksBack (run_in k) k.plan.code (turns_in k k.cycles) date r
+  pub idle : (turns : List (Option Turn)) (h : History) (variable : ℕ) → reach (run_in k) (None ∷ turns) h variable ≡ reach (run_in k) turns h variable
   pub small : k.cycles + 1 < 18446744073709551615
 
 module _ (k : Inside) (is : KernelStands k) where
@@ -149,8 +161,13 @@ module _ (k : Inside) (is : KernelStands k) where
   pub due_by : (p : Progress) → progress_of k ≡ p → stage_of p ≡ CycleDue p.cycles → k.plan.until ≤ 4294967295
       → ((plan : Plan) (inputs : List (List ℤ)) (script : Script) → IsPlan plan → AreInputs plan.unit inputs → IsLawful (run_of plan inputs script))
       → ((plan : Plan) (inputs : List (List ℤ)) (script : Script) (date cycle agent : ℕ) → IsCycleOf plan inputs script date cycle → AreOver (run_turns plan inputs script cycle) (history (run_of plan inputs script) (date + 1) agent))
+      → ((plan : Plan) (inputs : List (List ℤ)) (script : Script) (date cycle agent : ℕ) (r : Action) (before : List Action) → IsCycleOf plan inputs script date cycle → history (run_of plan inputs script) (date + 1) agent ≡ r ∷ before → is_pending (run_turns plan inputs script cycle) r ≡ true
+      → GetsCycle (run_of plan inputs script) plan.code (run_turns plan inputs script cycle) plan.until date cycle agent r before)
+      → ((plan : Plan) (inputs : List (List ℤ)) (script : Script) (date cycle agent : ℕ) (r : Action) (before : List Action) → IsCycleOf plan inputs script date cycle → history (run_of plan inputs script) (date + 1) agent ≡ r ∷ before → is_pending (run_turns plan inputs script cycle) r ≡ true
+      → LooksBack (run_of plan inputs script) plan.code (run_turns plan inputs script cycle) date r)
+      → ((s : System) (turns : List (Option Turn)) (h : History) (variable : ℕ) → reach s (None ∷ turns) h variable ≡ reach s turns h variable)
       → IsDue k
-  due_by p e due most lawful over =
+  due_by p e due most lawful over gets looks idle =
       let w = inside_of k is (subst (λ q. stage_of q ≡ CycleDue q.cycles) (sym e) due) in
       let cycle = cycle_in k is most w.0 w.1 in
       record {
@@ -159,6 +176,9 @@ module _ (k : Inside) (is : KernelStands k) where
         cycle = cycle;
         lawful = lawful k.plan k.shared.inputs.lists k.script is.plan is.inputs;
         over = λ agent. over k.plan k.shared.inputs.lists k.script w.0 k.cycles agent cycle;
+        gets = λ agent r before. gets k.plan k.shared.inputs.lists k.script w.0 k.cycles agent r before cycle;
+        looks = λ agent r before. looks k.plan k.shared.inputs.lists k.script w.0 k.cycles agent r before cycle;
+        idle = idle (run_in k);
         small = small_cycles w.0 cycle;
       }
 

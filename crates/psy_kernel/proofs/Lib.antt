@@ -9,8 +9,9 @@ pub mod GetsCycle
 mod GivenLines
 pub mod KeptCopies
 pub mod Kernels
+pub mod LooksBack
+mod LooksMade
 mod Named
-mod NoReach
 pub mod OneAgent
 pub mod OrdersInForce
 pub mod OtherAgents
@@ -21,8 +22,10 @@ pub mod PickIsSoonest
 pub mod Placed
 mod PlacesTold
 mod Publications
+mod RingViews
 mod RunsOn
 pub mod Sets
+mod SeenValues
 mod Settled
 pub mod Stages
 pub mod Started

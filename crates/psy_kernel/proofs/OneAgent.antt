@@ -13,6 +13,7 @@ use Rattle.psy_code.specs.Execution.{Machine, copy_of}
 use Rattle.psy_dates.specs.declared.seat.Seat.{Seat}
 use Rattle.psy_dates.specs.declared.seat.Phase.TheVariants as phase
 use Rattle.psy_dates.specs.Standing.{KeepsCopy, SeatOf, TellsEnd, phase_by, phase_of, trap_of}
+use Rattle.psy_history.specs.Compiled.{IsBuilt}
 use Rattle.psy_machine.specs.Stepping.{AgentMachine, IsOf}
 use Rattle.psy_meaning.specs.Actions.{Action, System, Verdict, Done, Trapped, Overran, is_done, is_silent, timing, variable_of}
 use Rattle.psy_meaning.specs.Executors.{agent_code_at, copy_in, machine_at}
@@ -206,13 +207,14 @@ module _ (s : System) (code : Code) (turns : List (Option Turn)) (until date cyc
       let copy = are variable (variable_of s variable) value (variable_known s variable agent owned) owned at in
       ap value_or_zero (sym copy ∙ ap (λ (m : Machine). copy_of variable m.copies) e)
 
-  pub in_action : (charge : Charged) (machine : AgentMachine) (waits : Option ℕ) (figure : Figure) (seat : Seat) (ended : List ℤ) → OneStands s code turns until date agent (r ∷ before) charge machine waits figure seat ended → InAction s code r had charge machine
-  in_action charge machine waits figure seat ended old = record {
+  pub in_action : IsBuilt s.unit → (charge : Charged) (machine : AgentMachine) (waits : Option ℕ) (figure : Figure) (seat : Seat) (ended : List ℤ) → OneStands s code turns until date agent (r ∷ before) charge machine waits figure seat ended → InAction s code r had charge machine
+  in_action built charge machine waits figure seat ended old = record {
     of_code = g.of_code;
     agent = old.stands.is_agent ∙ sym g.agent_is;
     pending = early;
     charged = old.stands.charged;
     running = subst (λ test. MachineIn s code turns r test machine) g.pending old.stands.executes;
+    built = built;
   }
 
   pub moved : (charge : Charged) (machine : AgentMachine) (waits : Option ℕ) (figure other : Figure) (seat seat' : Seat) (ended ended' : List ℤ) → figure ≡ other → seat ≡ seat' → ended ≡ ended'

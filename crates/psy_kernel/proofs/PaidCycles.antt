@@ -1,5 +1,6 @@
 -- How many instructions the first cycles of an action paid.
 use Rattle.std.proofs.Common.{◌≡◌, ◌⊎◌, ℕ, zero, suc, ◌+◌, ◌-◌, ◌<◌, ◌≤◌, cond, ◌==◌, ◌&&◌, nat_lt, List, [], ◌∷◌, refl, sym, ap, ◌∙◌, subst, inl, inr, arith, add-one}
+use Rattle.std.proofs.lemmas.Bool.{cases_lt}
 use Rattle.std.proofs.lemmas.Bool.Decides.{nat_tests}
 use Rattle.std.proofs.lemmas.List.Sums.{sum_by-cons}
 use Rattle.psy_budget.specs.declared.charge.Stall.{Stall}
@@ -125,6 +126,22 @@ module _ (stalls : List Stall) (number budget : ℕ) where
     where
       stalled_paid : tick.Stalled ≡ tick.Paid → ⊥
       stalled_paid e = cc
+
+  -- a cycle that goes to a stall is that of no instruction
+  pub stalled_at : (u : ℕ) → u < budget → tick_of (ticked begun u) ≡ tick.Stalled → (instr : ℕ) → u ≡ cycle_of stalls number instr → ⊥
+  stalled_at u less e instr at =
+      let h = has_paid u (omega (arith, less)) in
+      let same : cycle_of stalls number instr ≡ cycle_of stalls action instr = ap (λ a. cycle_of stalls a instr) (sym action_is) in
+      elim (next_tick u (paid u) less) [
+        | inl k ↦ elim (cases_lt instr (paid u)) [
+          | inl fewer ↦ omega (arith, at, same, h.before, fewer, more_stalled action (instr + 1) (paid u) stalls (omega (arith, fewer)))
+          | inr more ↦ omega (arith, at, same, k.1, more, more_stalled action (paid u + 1) (instr + 1) stalls (omega (arith, more)))
+        ]
+        | inr k ↦ paid_stalled (sym k.0 ∙ same_tick u (omega (arith, less)) ∙ e)
+      ]
+    where
+      paid_stalled : tick.Paid ≡ tick.Stalled → ⊥
+      paid_stalled e = cc
 
   -- whether the budget is spent
   pub spent_is : (u : ℕ) → u ≤ budget → ((ticked begun u).consumed == (ticked begun u).budget) ≡ (u == budget)

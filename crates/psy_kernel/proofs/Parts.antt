@@ -51,6 +51,7 @@ shared_same s turns now dates shared same h = record {
   committed = h.committed;
   kept = h.kept;
   ended = λ variable owner value at owned. copy_kept turns now (dates - 1) variable (history s dates owner) value (same owner) (h.ended variable owner value at owned);
+  ringed = h.ringed;
   rings = h.rings;
   queues = h.queues;
   outboxes = h.outboxes;
@@ -160,7 +161,8 @@ module _ (s : System) (code : Code) (until : ℕ) (turns : List (Option Turn)) (
         committed = λ variable value at. p.shares.committed variable value (sym (ap (λ v. slice_get v.items variable) committed_is) ∙ at);
         kept = ap length ended_are ∙ all ∙ p.shares.kept;
         ended = λ variable owner value at owned. ended_given variable owner value (sym (ap (λ xs. slice_get xs variable) ended_are) ∙ at) owned;
-        rings = ap (λ v. length v.items) rings_are ∙ p.shares.rings;
+        ringed = ap (λ v. length v.items) rings_are ∙ p.shares.ringed;
+        rings = λ variable ring at. p.shares.rings variable ring (sym (ap (λ v. slice_get v.items variable) rings_are) ∙ at);
         queues = ap (λ v. length v.items) queues_are ∙ p.shares.queues;
         outboxes = ap (λ v. length v.items) outboxes_are ∙ p.shares.outboxes;
         taken = ap (λ v. length v.items) taken_is ∙ p.shares.taken;

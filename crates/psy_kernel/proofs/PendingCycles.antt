@@ -1,5 +1,5 @@
 -- A cycle of a pending action.
-use Rattle.std.proofs.Common.{◌≡◌, ◌≢◌, ℕ, suc, ◌<◌, ◌≤◌, ◌==◌, Some, None, slice_get, refl, sym, ap, ◌∙◌, subst, inl, inr, arith}
+use Rattle.std.proofs.Common.{◌≡◌, ◌≢◌, ℕ, suc, ◌<◌, ◌≤◌, ◌==◌, Option, Some, None, slice_get, refl, sym, ap, ◌∙◌, subst, inl, inr, arith}
 use Rattle.std.specs.Prelude.{if◌then◌else◌}
 use Rattle.std.proofs.lemmas.Bool.{cases_lt, cases_eq, eq-eqb, ne_eqb}
 use Rattle.psy_budget.specs.declared.charge.Tick.{Tick}
@@ -7,18 +7,19 @@ use Rattle.psy_budget.specs.declared.charge.Tick.TheVariants as tick
 use Rattle.psy_budget.specs.Charges.{Charged, after_tick, cycle_of, tick_of}
 use Rattle.psy_code.specs.declared.code.Code.{Code}
 use Rattle.psy_code.specs.Execution.{RunState, Run, Running, Next, Went, Ended, Trapped, Stuck, call_of, next_of, run_by, run_code, state_then}
-use Rattle.psy_code.specs.Views.{View}
+use Rattle.psy_code.specs.Views.{View, Call, PermitsAll, Window}
 use Rattle.psy_machine.specs.declared.machine.Step.{Step}
 use Rattle.psy_machine.specs.declared.machine.Step.TheVariants as step
-use Rattle.psy_machine.specs.Stepping.{AgentMachine, Answers, machine_after, next_for, stepped}
+use Rattle.psy_machine.specs.Stepping.{AgentMachine, Answers, machine_after, next_for, stepped, window_after}
 use Rattle.psy_meaning.specs.Actions.{Action, System}
+use Rattle.psy_history.specs.Regular.{AnswerAlike}
 use Rattle.psy_kernel.specs.declared.kernel.advance.Gone.{Gone}
 use Rattle.psy_kernel.specs.declared.kernel.advance.Gone.TheVariants as gone
-use Rattle.psy_kernel.specs.Acting.{AfterCycle, InAction, IsGone, IsOfCode}
+use Rattle.psy_kernel.specs.Acting.{AfterCycle, InAction, IsGone, IsLookIn, IsOfCode, ShowsAs, look_of}
 use Rattle.psy_kernel.specs.Standing.{IsRunning, charge_after}
 use Rattle.psy_kernel.proofs.PaidCycles.{not_spent as is_granted, paid_at, paid_next, spent_is, stalled_next, up_to_next}
-use Rattle.psy_kernel.proofs.RunsOn.{able as can_go, asks_nothing, at_end, early, next_run}
-use Rattle.psy_kernel.proofs.Verdicts.{alone, ended, is_alone, its, less_charge, of_code, overran, start, trapped}
+use Rattle.psy_kernel.proofs.RunsOn.{able as can_go, answers_alike, asks as asks_of, at_end, early, next_run, noted_after, pasts, permits, served}
+use Rattle.psy_kernel.proofs.Verdicts.{ended, is_whole, its, less_charge, of_code, overran, runs as runs_of, start, trapped}
 
 -- An action that isn't over goes on, or its budget is spent.
 abbrev on_or_spent : Charged → Gone
@@ -31,7 +32,7 @@ goes_on : (s : System) (code : Code) (r : Action) → IsOfCode s code r → (had
     → IsGone s code r had machine (on_or_spent (charge_after s r (suc had)))
 goes_on s code r w had machine less running =
     let within : suc had ≤ r.budget = omega (arith, less) in
-    let before = early _ _ _ _ _ (is_alone s code r w) (charge_after s r (suc had)).paid running.0 running.1 in
+    let before = early _ _ _ _ _ _ (is_whole s code r w) (charge_after s r (suc had)).paid running.0 running.1 in
     let more : suc had < r.charge = less_charge s code r w (suc had) _ within before (up_to_next (s.stalls r.agent) r.number r.budget (suc had) within) in
     let test = spent_is (s.stalls r.agent) r.number r.budget (suc had) within in
     elim (cases_eq (suc had) r.budget) [
@@ -60,11 +61,25 @@ module _ (s : System) (code : Code) (r : Action) (had : ℕ) (charge : Charged) 
       let found : slice_get code.agents machine.agent ≡ Some (its s code r w.of_code) = ap (slice_get code.agents) w.agent ∙ of_code s code r w.of_code in
       rw found (ap (next_of code (its s code r w.of_code) view) (sym w.running.2))
 
-  pub able : (view : View) → next_for code view machine ≢ Stuck
-  able view e = can_go _ _ _ _ _ (is_alone s code r w.of_code) paid state w.running.1 view (sym (next_is view) ∙ e)
+  -- what the next instruction asks
+  abbrev call : Option Call
+  call = call_of code state.machine
 
-  pub asks : call_of code machine.machine ≡ None
-  asks = ap (call_of code) (sym w.running.2) ∙ asks_nothing _ _ _ _ _ (is_alone s code r w.of_code) paid state w.running.1
+  call_is : call ≡ call_of code machine.machine
+  call_is = ap (call_of code) w.running.2
+
+  alike : (view : View) → ShowsAs s r view → AnswerAlike view state.view call
+  alike view shows =
+      answers_alike s r w.built view state.view shows (pasts _ _ _ _ _ _ (is_whole s code r w.of_code) paid state w.running.1) call (asks_of _ _ _ _ _ _ (is_whole s code r w.of_code) paid state w.running.1)
+
+  pub able : (view : View) → ShowsAs s r view → next_for code view machine ≢ Stuck
+  able view shows e = can_go _ _ _ _ _ _ (is_whole s code r w.of_code) paid state w.running.1 view (alike view shows) (sym (next_is view) ∙ e)
+
+  pub permitted : (window : Window) → ShowsAs s r window.view → PermitsAll window (call_of code machine.machine)
+  permitted window shows =
+      subst (PermitsAll window) call_is
+      (permits s r w.built window state.view call (asks_of _ _ _ _ _ _ (is_whole s code r w.of_code) paid state w.running.1) (alike window.view shows)
+      (served _ _ _ _ _ _ (is_whole s code r w.of_code) paid state w.running.1))
 
   charge_by : (t : Tick) → tick_of charge ≡ t → after_tick charge t ≡ charge_after s r (suc had)
   charge_by t e = ap (after_tick charge) (sym e) ∙ ap (λ (c : Charged). after_tick c (tick_of c)) w.charged
@@ -83,6 +98,10 @@ module _ (s : System) (code : Code) (r : Action) (had : ℕ) (charge : Charged) 
         gone = subst (IsGone s code r had machine) (sym (result_is ∙ ap on_or_spent charged)) (goes_on s code r w.of_code had machine less (subst (λ n. IsRunning code r n machine) (sym same) w.running));
       }
 
+  -- which looks at nothing
+  pub looks_stalled : tick_of charge ≡ tick.Stalled → (look : Option (ℕ × ℕ)) → look ≡ None → IsLookIn s code r had look
+  looks_stalled e look none = rw (tick_by tick.Stalled e) none
+
   -- what an action comes to with a step of its machine
   abbrev gone_by : Charged → Step → Gone
   gone_by after step.Went = on_or_spent after
@@ -90,24 +109,33 @@ module _ (s : System) (code : Code) (r : Action) (had : ℕ) (charge : Charged) 
   gone_by after (step.Trapped kind) = gone.Trapped kind
 
   -- a cycle that pays an instruction
-  module _ (paying : tick_of charge ≡ tick.Paid) (view : View) where
+  module _ (paying : tick_of charge ≡ tick.Paid) where
+    -- looks as its instruction does
+    pub looks_paid : (before after : Window) → before.noted ≡ None → after ≡ window_after before (call_of code machine.machine) → IsLookIn s code r had after.noted
+    looks_paid before after fresh is = rw (tick_by tick.Paid paying) (
+      state,
+      w.running.1,
+      ap (λ (window : Window). window.noted) is ∙ noted_after before (call_of code machine.machine) fresh ∙ ap look_of (sym call_is),
+    )
+
+  module _ (paying : tick_of charge ≡ tick.Paid) (view : View) (shows : ShowsAs s r view) where
     more_paid : (charge_after s r (suc had)).paid ≡ suc paid
     more_paid = paid_next (s.stalls r.agent) r.number r.budget had (tick_by tick.Paid paying)
 
     at : had ≡ cycle_of (s.stalls r.agent) r.number paid
     at = paid_at (s.stalls r.agent) r.number r.budget had less (tick_by tick.Paid paying)
 
-    runs : (next : Next) → next_for code view machine ≡ next → run (suc paid) ≡ run_by state None next
-    runs next e = next_run _ _ _ _ _ (is_alone s code r w.of_code) paid state w.running.1 view ∙ ap (run_by state None) (sym (next_is view) ∙ e)
+    runs : (next : Next) → next_for code view machine ≡ next → run (suc paid) ≡ run_by state call next
+    runs next e = next_run _ _ _ _ _ _ (is_whole s code r w.of_code) paid state w.running.1 view (alike view shows) ∙ ap (run_by state call) (sym (next_is view) ∙ e)
 
-    is_last : (after : Run) → run (suc paid) ≡ after → ((t : RunState) → after ≡ Running t → ⊥) → (alone s code r w.of_code).steps ≡ suc paid
+    is_last : (after : Run) → run (suc paid) ≡ after → ((t : RunState) → after ≡ Running t → ⊥) → (runs_of s code r w.of_code).steps ≡ suc paid
     is_last after e halts =
-        let going = is_alone s code r w.of_code in
-        at_end _ _ _ _ _ going paid (early _ _ _ _ _ going paid state w.running.1) (λ t h. halts t (sym e ∙ h))
+        let going = is_whole s code r w.of_code in
+        at_end _ _ _ _ _ _ going paid (early _ _ _ _ _ _ going paid state w.running.1) (λ t h. halts t (sym e ∙ h))
 
     gone_after : (next : Next) (answer : Step) → next_for code view machine ≡ next → Answers next answer → (after : AgentMachine) → after.machine ≡ machine_after next machine.machine → IsGone s code r had after (gone_by (charge_after s r (suc had)) answer)
     gone_after (Went m) answer e answers after same =
-        let running : IsRunning code r (charge_after s r (suc had)).paid after = subst (λ n. IsRunning code r n after) (sym more_paid) (state_then state None m, runs (Went m) e, sym same) in
+        let running : IsRunning code r (charge_after s r (suc had)).paid after = subst (λ n. IsRunning code r n after) (sym more_paid) (state_then state call m, runs (Went m) e, sym same) in
         rw answers (goes_on s code r w.of_code had after less running)
     gone_after (Ended point m) answer e answers after same =
         let ran = runs (Ended point m) e in

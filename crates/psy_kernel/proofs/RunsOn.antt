@@ -1,38 +1,27 @@
--- A run of an action's code that asks nothing, from its beginning to its end.
-use Rattle.std.proofs.Common.{◌≡◌, ◌≢◌, ℕ, zero, suc, ◌+◌, ◌-◌, ◌<◌, ◌≤◌, Option, None, refl, sym, ap, ◌∙◌, subst, inl, inr, arith}
-use Rattle.std.specs.Prelude.{⊤}
+-- A run of an action's code from its beginning to its end, under any view that shows it what it may look at.
+use Rattle.std.proofs.Common.{◌≡◌, ◌≢◌, ℕ, zero, suc, ◌+◌, ◌-◌, ◌<◌, ◌≤◌, List, map, Option, Some, None, slice_get, refl, sym, ap, ◌∙◌, subst, inl, inr, arith}
+use Rattle.std.specs.Prelude.{IsSome, length, ◌==◌}
 use Rattle.std.proofs.lemmas.Bool.{cases_lt}
 use Rattle.psy_code.specs.declared.code.AgentCode.{AgentCode}
 use Rattle.psy_code.specs.declared.code.Code.{Code}
-use Rattle.psy_code.specs.Execution.{RunState, Run, Running, RanTo, TrappedBy, NoRun, Next, Went, Ended, Trapped, Stuck, call_of, next_of, go_on, run_by, run_one, run_code}
+use Rattle.psy_code.specs.declared.look.Sent.{Sent}
+use Rattle.psy_code.specs.Execution.{RunState, Run, Running, RanTo, TrappedBy, NoRun, Stuck, call_of, next_of, go_on, run_by, run_one, run_code}
 use Rattle.psy_code.specs.Lasting.{IsOver}
-use Rattle.psy_code.specs.Views.{Call, View}
-use Rattle.psy_history.specs.Regular.{GoesAlone}
+use Rattle.psy_code.specs.Views.{Call, Past, Ready, Take, Send, View, Window, PermitsAll, ServesAll, found_in, past_of}
+use Rattle.psy_machine.specs.Stepping.{window_after}
+use Rattle.psy_tree.specs.declared.unit.StreamDecl.{StreamDecl}
+use Rattle.psy_tree.specs.declared.unit.Unit.{Unit as Whole}
+use Rattle.psy_meaning.specs.Actions.{Action, System}
+use Rattle.psy_meaning.specs.Kept.{IsSentOf, Receives}
+use Rattle.psy_history.specs.Compiled.{IsBuilt}
+use Rattle.psy_history.specs.Regular.{AnswerAlike, Goes, MayAsk, begun_by}
+use Rattle.psy_kernel.specs.Acting.{ShowsAs, look_of}
 
 same_state : (s t : RunState) → Running s ≡ Running t → s ≡ t
 same_state s t e = cc
 
 not_over : (s t : RunState) (run : Run) → run ≡ Running s → IsOver run t → ⊥
 not_over s t run e h = subst (λ r. IsOver r t) e h
-
--- a run counts its instructions
-abbrev HasCount : ℕ → Run → Type 0
-HasCount n (Running s) = s.deeds.steps ≡ n
-HasCount n (RanTo point s) = s.deeds.steps ≡ n
-HasCount n (TrappedBy kind s) = s.deeds.steps ≡ n
-HasCount n NoRun = ⊤
-
-one_counted : (n : ℕ) (s : RunState) (next : Next) → s.deeds.steps ≡ n → HasCount (suc n) (run_by s None next)
-one_counted n s (Went m) e = omega (arith, e)
-one_counted n s (Ended point m) e = omega (arith, e)
-one_counted n s (Trapped kind) e = omega (arith, e)
-one_counted n s Stuck e = tt {0}
-
-over_counted : (n : ℕ) (run : Run) (t : RunState) → IsOver run t → HasCount n run → t.deeds.steps ≡ n
-over_counted n (RanTo point s) t over h = ap (λ (s : RunState). s.deeds.steps) over ∙ h
-over_counted n (TrappedBy kind s) t over h = ap (λ (s : RunState). s.deeds.steps) over ∙ h
-over_counted n (Running s) t over h = absurd over
-over_counted n NoRun t over h = absurd over
 
 module _ (code : Code) (its : AgentCode) where
   -- a run that is over stays so
@@ -55,57 +44,92 @@ module _ (code : Code) (its : AgentCode) where
       let e : m ≡ n + (m - n) = omega (arith, less) in
       ap (run_code code its s) e ∙ stays t n (m - n) s over
 
--- A run that is over after so many instructions, and asks nothing on the way.
-pub record IsAlone (code : Code) (its : AgentCode) (start : RunState) (steps : ℕ) (last : RunState) : Type 0 where
-  pub over : IsOver (run_code code its start steps) last
-  pub on_the_way : (n : ℕ) → n < steps → GoesAlone code its start n
+-- ---- what is asked where there are no streams
 
-module _ (code : Code) (its : AgentCode) (start : RunState) (steps : ℕ) (last : RunState) (alone : IsAlone code its start steps last) where
+none_received : (unit : Whole) (agent stream : ℕ) → IsBuilt unit → Receives unit agent stream → ⊥
+none_received unit agent stream built receives = none_is (sym (ap (λ (streams : List StreamDecl). slice_get (map (λ s. s.receiver == agent) streams) stream) built.streams) ∙ receives)
+  where
+    none_is : {A : Type 0} {x : A} → ◌≡◌ {A = Option A} None (Some x) → ⊥
+    none_is e = cc
+
+none_sent : (unit : Whole) (sent : Sent) → IsBuilt unit → IsSentOf unit sent → ⊥
+none_sent unit sent built is = omega (arith, is.stream, ap length built.streams)
+
+some_by : {A : Type 0} (o p : Option A) → o ≡ p → IsSome p → IsSome o
+some_by o p e some = subst IsSome (sym e) some
+
+module _ (s : System) (r : Action) (built : IsBuilt s.unit) where
+  -- a view that shows an action what it saw answers what it asks as its own view does
+  pub answers_alike : (view own : View) → ShowsAs s r view → own.pasts ≡ r.view.pasts → (call : Option Call) → MayAsk s.unit r.agent r.point call → AnswerAlike view own call
+  answers_alike view own shows pasts None asks = tt {0}
+  answers_alike view own shows pasts (Some (Past variable back)) asks = shows variable back asks ∙ sym (ap (λ lists. found_in (slice_get lists variable) (λ values. slice_get values back)) pasts)
+  answers_alike view own shows pasts (Some (Ready stream)) asks = absurd (none_received s.unit r.agent stream built asks)
+  answers_alike view own shows pasts (Some (Take stream)) asks = absurd (none_received s.unit r.agent stream built asks)
+  answers_alike view own shows pasts (Some (Send sent)) asks = tt {0}
+
+  -- it permits what that view serves
+  pub permits : (window : Window) (own : View) (call : Option Call) → MayAsk s.unit r.agent r.point call → AnswerAlike window.view own call → ServesAll own call → PermitsAll window call
+  permits window own None asks alike served = tt {0}
+  permits window own (Some (Past variable back)) asks alike served = (some_by (past_of window.view variable back) (past_of own variable back) alike served, tt {0})
+  permits window own (Some (Ready stream)) asks alike served = absurd (none_received s.unit r.agent stream built asks)
+  permits window own (Some (Take stream)) asks alike served = absurd (none_received s.unit r.agent stream built asks)
+  permits window own (Some (Send sent)) asks alike served = absurd (none_sent s.unit sent built asks)
+
+-- a window that noted no look notes that of a call
+pub noted_after : (window : Window) (call : Option Call) → window.noted ≡ None → (window_after window call).noted ≡ look_of call
+noted_after window None fresh = fresh
+noted_after window (Some (Past variable back)) fresh = refl
+noted_after window (Some (Ready stream)) fresh = fresh
+noted_after window (Some (Take stream)) fresh = fresh
+noted_after window (Some (Send sent)) fresh = fresh
+
+-- ---- a run that is over after so many instructions, and goes on till then
+
+pub record IsWhole (s : System) (code : Code) (its : AgentCode) (r : Action) (steps : ℕ) (last : RunState) : Type 0 where
+  pub over : IsOver (run_code code its (begun_by its r) steps) last
+  pub counted : last.deeds.steps ≡ steps
+  pub on_the_way : (n : ℕ) → n < steps → Goes s code its r n
+
+module _ (s : System) (code : Code) (its : AgentCode) (r : Action) (steps : ℕ) (last : RunState) (whole : IsWhole s code its r steps last) where
   abbrev run : ℕ → Run
-  run n = run_code code its start n
+  run n = run_code code its (begun_by its r) n
 
   -- a run that goes on isn't at its end
-  pub early : (n : ℕ) (s : RunState) → run n ≡ Running s → n < steps
-  early n s e = elim (cases_lt n steps) [
+  pub early : (n : ℕ) (t : RunState) → run n ≡ Running t → n < steps
+  early n t e = elim (cases_lt n steps) [
     | inl less ↦ less
-    | inr more ↦ absurd (not_over s last (run steps) (sym (stays_over code its last steps n start more alone.over) ∙ e) alone.over)
+    | inr more ↦ absurd (not_over t last (run steps) (sym (stays_over code its last steps n (begun_by its r) more whole.over) ∙ e) whole.over)
   ]
 
-  pub at_end : (n : ℕ) → n < steps → ((s : RunState) → run (suc n) ≡ Running s → ⊥) → steps ≡ suc n
+  pub at_end : (n : ℕ) → n < steps → ((t : RunState) → run (suc n) ≡ Running t → ⊥) → steps ≡ suc n
   at_end n less halts = elim (cases_lt (suc n) steps) [
-    | inl other ↦ absurd (halts _ (alone.on_the_way (suc n) other).running)
+    | inl other ↦ absurd (halts _ (whole.on_the_way (suc n) other).running)
     | inr more ↦ omega (arith, less, more)
   ]
 
-  counted : start.deeds.steps ≡ 0 → (n : ℕ) → n ≤ steps → HasCount n (run n)
-  counted e zero less = e
-  counted e (suc n) less =
-      let g = alone.on_the_way n (omega (arith, less)) in
-      let here : HasCount n (Running g.state) = subst (HasCount n) g.running (counted e n (omega (arith, less))) in
-      let next : run (suc n) ≡ run_by g.state None (next_of code its g.state.view g.state.machine) = g.next ∙ ap (λ (call : Option Call). run_by g.state call (next_of code its g.state.view g.state.machine)) g.alone in
-      subst (HasCount (suc n)) (sym next) (one_counted n g.state (next_of code its g.state.view g.state.machine) here)
-
-  pub last_counted : start.deeds.steps ≡ 0 → last.deeds.steps ≡ steps
-  last_counted e = over_counted steps (run steps) last alone.over (counted e steps (omega arith))
-
   -- the next instruction of a run that goes on
-  module _ (n : ℕ) (s : RunState) (running : run n ≡ Running s) where
-    goes : GoesAlone code its start n
-    goes = alone.on_the_way n (early n s running)
+  module _ (n : ℕ) (t : RunState) (running : run n ≡ Running t) where
+    goes : Goes s code its r n
+    goes = whole.on_the_way n (early n t running)
 
-    same : goes.state ≡ s
-    same = same_state goes.state s (sym goes.running ∙ running)
+    same : goes.state ≡ t
+    same = same_state goes.state t (sym goes.running ∙ running)
 
-    seen : (view : View) → next_of code its view s.machine ≡ next_of code its s.view s.machine
-    seen view = subst (λ (t : RunState). next_of code its view t.machine ≡ next_of code its t.view t.machine) same (goes.same view)
+    pub asks : MayAsk s.unit r.agent r.point (call_of code t.machine)
+    asks = subst (λ (t : RunState). MayAsk s.unit r.agent r.point (call_of code t.machine)) same goes.asks
 
-    pub asks_nothing : call_of code s.machine ≡ None
-    asks_nothing = subst (λ (t : RunState). call_of code t.machine ≡ None) same goes.alone
+    pub served : ServesAll t.view (call_of code t.machine)
+    served = subst (λ (t : RunState). ServesAll t.view (call_of code t.machine)) same goes.served
 
-    pub able : (view : View) → next_of code its view s.machine ≢ Stuck
-    able view stuck = subst (λ (t : RunState). next_of code its t.view t.machine ≢ Stuck) same goes.able (sym (seen view) ∙ stuck)
+    pub pasts : t.view.pasts ≡ r.view.pasts
+    pasts = subst (λ (t : RunState). t.view.pasts ≡ r.view.pasts) same goes.pasts
 
-    pub next_run : (view : View) → run (suc n) ≡ run_by s None (next_of code its view s.machine)
-    next_run view =
-        goes.next ∙ ap (run_one code its) same ∙ ap (λ (call : Option Call). run_by s call (next_of code its s.view s.machine)) asks_nothing
-        ∙ ap (run_by s None) (sym (seen view))
+    seen : (view : View) → AnswerAlike view t.view (call_of code t.machine) → next_of code its view t.machine ≡ next_of code its t.view t.machine
+    seen view alike =
+        subst (λ (t : RunState). AnswerAlike view t.view (call_of code t.machine) → next_of code its view t.machine ≡ next_of code its t.view t.machine) same (goes.same view) alike
+
+    pub able : (view : View) → AnswerAlike view t.view (call_of code t.machine) → next_of code its view t.machine ≢ Stuck
+    able view alike stuck = subst (λ (t : RunState). next_of code its t.view t.machine ≢ Stuck) same goes.able (sym (seen view alike) ∙ stuck)
+
+    pub next_run : (view : View) → AnswerAlike view t.view (call_of code t.machine) → run (suc n) ≡ run_by t (call_of code t.machine) (next_of code its view t.machine)
+    next_run view alike = goes.next ∙ ap (run_one code its) same ∙ ap (run_by t (call_of code t.machine)) (sym (seen view alike))

@@ -1,5 +1,5 @@
--- Over all dates, the figures are those of the history, so their lines are the summary's.
-use Rattle.std.proofs.Common.{◌≡◌, ℕ, zero, suc, ◌+◌, ◌*◌, ◌<◌, ◌≤◌, Bool, true, false, if◌then◌else◌, ◌==◌, List, [], ◌∷◌, ◌++◌, All, map, length, get_or, slice_get, Option, Some, None, refl, sym, ap, subst, ◌∙◌, arith}
+-- Over all dates, the figures and the reaches are those of the history, so their lines are the summary's.
+use Rattle.std.proofs.Common.{◌≡◌, ℕ, zero, suc, ◌+◌, ◌*◌, ◌<◌, ◌≤◌, Bool, true, false, if◌then◌else◌, ◌==◌, List, [], ◌∷◌, ◌++◌, map, length, get_or, slice_get, Option, Some, None, refl, sym, ap, subst, ◌∙◌, arith}
 use Rattle.std.specs.List.{Contains, range_with_len}
 use Rattle.std.proofs.lemmas.Bool.{eqb-true}
 use Rattle.std.proofs.lemmas.List.{append-nil}
@@ -11,18 +11,16 @@ use Rattle.psy_meaning.specs.Executors.{agent_at}
 use Rattle.psy_meaning.specs.History.{history}
 use Rattle.psy_meaning.specs.Schedule.{Turn}
 use Rattle.psy_meaning.specs.Summary.{due_by, reach, slack}
-use Rattle.psy_history.specs.Regular.{IsLawful, RunsAlone}
+use Rattle.psy_history.specs.Regular.{IsLawful}
 use Rattle.psy_history.specs.Scheduled.{IsFinished, IsSupplied, turns_of}
 use Rattle.psy_dates.specs.Standing.{dates_done}
 use Rattle.psy_kernel.specs.declared.kernel.Figure.{Figure}
 use Rattle.psy_kernel.specs.declared.kernel.Kernel.TheInside.{Inside}
 use Rattle.psy_kernel.specs.declared.stage.Stage.TheVariants.{DateDue, CycleDue, Over}
 use Rattle.psy_kernel.specs.Progress.{Progress, order, stage_of, summary_told, system}
-use Rattle.psy_kernel.specs.Scripts.{stalls_of}
 use Rattle.psy_kernel.specs.Standing.{InTick, KernelStands, progress_of, settled}
-use Rattle.psy_kernel.specs.Telling.{figure_line, figured_lines, size_line}
+use Rattle.psy_kernel.specs.Telling.{figure_line, figured_lines, reach_line}
 use Rattle.psy_kernel.specs.Texts.{agent_end, stream_end, variable_end}
-use Rattle.psy_kernel.proofs.NoReach.{no_reach}
 use Rattle.psy_kernel.proofs.Settled.{date_settled, settled_all}
 use Rattle.psy_kernel.proofs.Supplied.{supplied}
 
@@ -67,7 +65,20 @@ module _ (k : Inside) (w : KernelStands k) (over : stage_of (progress_of k) ≡ 
       let tick : InTick k.plan.unit.quantum until (suc until) k.cycles = subst (λ n. InTick k.plan.unit.quantum until n k.cycles) last w.in_tick in
       tick.3 refl
 
-  module _ (lawful : IsLawful s) (runs : (dates agent : ℕ) → All (RunsAlone s k.plan.code) (history s dates agent))
+  -- ---- variables
+
+  reach_told : (variable : ℕ) → variable < length s.unit.variables → get_or k.reaches.items variable None ≡ reach s turns (history s (until + 1)) variable
+  reach_told variable l =
+      w.reached variable (get_or k.reaches.items variable None) (slice_get-get_or k.reaches.items variable None (omega (arith, l, w.reaching)))
+      ∙ ap (λ c. reach s (turns_of s (order (progress_of k)) c) (history s (dates_done k.shared.date)) variable) all_cycles
+      ∙ ap (λ n. reach s turns (history s n) variable) done
+
+  variable_told : (variable : ℕ) → variable < length s.unit.variables → reach_line k.plan k.reaches.items variable ≡ variable_end s turns k.plan.sizes until variable
+  variable_told variable l = ap (variable_line (variable_of s variable).name (get_or k.plan.sizes.rings variable 0)) (reach_told variable l)
+
+  -- ---- agents
+
+  module _ (lawful : IsLawful s)
       (due : (agent : ℕ) (r : Action) → IsSupplied s (order (progress_of k)) until → Contains (history s until agent) r → r.deadline ≤ until → IsFinished s (order (progress_of k)) (until * s.unit.quantum) r) where
     abbrev actions : ℕ → List Action
     actions agent = history s (until + 1) agent
@@ -97,22 +108,16 @@ module _ (k : Inside) (w : KernelStands k) (over : stage_of (progress_of k) ≡ 
     agent_told agent l =
         figure_told agent (get_or k.figures.items agent (record { count = 0; slack = None })) l (slice_get-get_or k.figures.items agent (record { count = 0; slack = None }) (omega (arith, l, w.figured)))
 
-    variable_told : (variable : ℕ) → size_line k.plan variable ≡ variable_end s turns k.plan.sizes until variable
-    variable_told variable =
-        let none : reach s turns (history s (until + 1)) variable ≡ None =
-        no_reach k.plan.unit k.plan.code k.plan.nexts (stalls_of k.script) k.shared.inputs.lists turns (until + 1) variable (λ agent. (lawful.actions (until + 1) agent).were_started) (runs (until + 1)) in
-        ap (variable_line (variable_of s variable).name (get_or k.plan.sizes.rings variable 0)) (sym none)
-
-    -- The figures tell the summary.
-    pub summary_figured : summary_told (progress_of k) ≡ figured_lines k.plan k.figures.items
+    -- The figures and the reaches tell the summary.
+    pub summary_figured : summary_told (progress_of k) ≡ figured_lines k.plan k.figures.items k.reaches.items
     summary_figured =
         let agents = range_with_len 0 (length s.unit.agents) in
         let variables = range_with_len 0 (length s.unit.variables) in
         let streams : map (stream_end s k.plan.sizes until) (range_with_len 0 (length s.unit.streams)) ≡ [] = ap (λ xs. map (stream_end s k.plan.sizes until) (range_with_len 0 (length xs))) w.plan.built.streams in
         let of_agents : map (agent_end s turns until) agents ≡ map (figure_line k.plan.unit k.figures.items) agents =
         sym (same_map (figure_line k.plan.unit k.figures.items) (agent_end s turns until) (length s.unit.agents) agent_told) in
-        let of_variables : map (variable_end s turns k.plan.sizes until) variables ≡ map (size_line k.plan) variables =
-        sym (same_map (size_line k.plan) (variable_end s turns k.plan.sizes until) (length s.unit.variables) (λ variable _. variable_told variable)) in
+        let of_variables : map (variable_end s turns k.plan.sizes until) variables ≡ map (reach_line k.plan k.reaches.items) variables =
+        sym (same_map (reach_line k.plan k.reaches.items) (variable_end s turns k.plan.sizes until) (length s.unit.variables) variable_told) in
         ap (λ lines. end_line until ∷ (map (agent_end s turns until) agents ++ (map (variable_end s turns k.plan.sizes until) variables ++ lines))) streams
         ∙ ap (λ lines. end_line until ∷ (map (agent_end s turns until) agents ++ lines)) (append-nil (map (variable_end s turns k.plan.sizes until) variables))
         ∙ ap (λ lines. end_line until ∷ (lines ++ map (variable_end s turns k.plan.sizes until) variables)) of_agents

@@ -1,5 +1,5 @@
 -- What an action is charged and comes to, where it is what its code came to.
-use Rattle.std.proofs.Common.{◌≡◌, ℕ, suc, ◌+◌, ◌<◌, ◌≤◌, List, Some, IsSome, slice_get, refl, sym, ap, ◌∙◌, subst, inl, inr, arith}
+use Rattle.std.proofs.Common.{◌≡◌, ℕ, suc, ◌+◌, ◌<◌, ◌≤◌, List, Some, IsSome, slice_get, sym, ap, ◌∙◌, subst, inl, inr, arith}
 use Rattle.std.specs.Prelude.{if◌then◌else◌}
 use Rattle.std.proofs.lemmas.Bool.{cases_lt, lt-ltb, le-ltb}
 use Rattle.std.proofs.lemmas.Option.{get_or_from_slice_get}
@@ -16,11 +16,11 @@ use Rattle.psy_meaning.specs.Actions.{Action, System, Overran, timing, verdict_b
 use Rattle.psy_meaning.specs.Executors.{Acted, Carried, acted_as, agent_code_at, carried_by, machine_at}
 use Rattle.psy_meaning.specs.Schedule.{work}
 use Rattle.psy_meaning.specs.Timing.{end_date}
-use Rattle.psy_history.specs.Regular.{RunsAlone, begun_by}
+use Rattle.psy_history.specs.Regular.{Runs, begun_by}
 use Rattle.psy_kernel.specs.declared.kernel.advance.Gone.TheVariants as gone
 use Rattle.psy_kernel.specs.Acting.{IsGone, IsOfCode, came_to}
 use Rattle.psy_kernel.proofs.PaidCycles.{more_stalled}
-use Rattle.psy_kernel.proofs.RunsOn.{IsAlone, last_counted, stays_over}
+use Rattle.psy_kernel.proofs.RunsOn.{IsWhole, stays_over}
 
 -- what was done by a run that is over
 acted_over : (budget : ℕ) (before : Carried) (run : Run) (t : RunState) → IsOver run t → (acted_as budget before run).deeds.steps ≡ t.deeds.steps
@@ -30,8 +30,8 @@ acted_over budget before (Running s) t over = absurd over
 acted_over budget before NoRun t over = absurd over
 
 module _ (s : System) (code : Code) (r : Action) (w : IsOfCode s code r) where
-  abbrev pub alone : RunsAlone s code r
-  alone = w.alone
+  abbrev pub runs : Runs s code r
+  runs = w.runs
 
   abbrev pub its : AgentCode
   its = agent_code_at code r.agent
@@ -42,37 +42,37 @@ module _ (s : System) (code : Code) (r : Action) (w : IsOfCode s code r) where
   abbrev stalls : List Stall
   stalls = s.stalls r.agent
 
-  same_code : alone.its ≡ its
-  same_code = sym (get_or_from_slice_get code.agents r.agent alone.its _ alone.of_code)
+  same_code : runs.its ≡ its
+  same_code = sym (get_or_from_slice_get code.agents r.agent runs.its _ runs.of_code)
 
   pub of_code : slice_get code.agents r.agent ≡ Some its
-  of_code = alone.of_code ∙ ap Some same_code
+  of_code = runs.of_code ∙ ap Some same_code
 
-  pub is_alone : IsAlone code its start alone.steps alone.last
-  is_alone = subst (λ (c : AgentCode). IsAlone code c (begun_by c r) alone.steps alone.last) same_code (record { over = alone.over; on_the_way = alone.on_the_way })
+  pub is_whole : IsWhole s code its r runs.steps runs.last
+  is_whole = subst (λ (c : AgentCode). IsWhole s code c r runs.steps runs.last) same_code (record { over = runs.over; counted = runs.counted; on_the_way = runs.on_the_way })
 
   -- ---- its cost and charge
 
-  in_budget : alone.steps ≤ r.budget → came_to code r ≡ acted_as r.budget r.before (run_code code its start alone.steps)
-  in_budget few = ap (acted_as r.budget r.before) (stays_over code its alone.last alone.steps r.budget start few is_alone.over)
+  in_budget : runs.steps ≤ r.budget → came_to code r ≡ acted_as r.budget r.before (run_code code its start runs.steps)
+  in_budget few = ap (acted_as r.budget r.before) (stays_over code its runs.last runs.steps r.budget start few is_whole.over)
 
-  cost_in_budget : alone.steps ≤ r.budget → r.deeds.steps ≡ alone.steps
+  cost_in_budget : runs.steps ≤ r.budget → r.deeds.steps ≡ runs.steps
   cost_in_budget few =
       ap (λ (d : Deeds). d.steps) w.deeds ∙ ap (λ (a : Acted). a.deeds.steps) (in_budget few)
-      ∙ acted_over r.budget r.before (run_code code its start alone.steps) alone.last is_alone.over ∙ last_counted code its start alone.steps alone.last is_alone refl
+      ∙ acted_over r.budget r.before (run_code code its start runs.steps) runs.last is_whole.over ∙ is_whole.counted
 
-  cost_past_budget : r.budget < alone.steps → r.deeds.steps ≡ r.budget + 1
+  cost_past_budget : r.budget < runs.steps → r.deeds.steps ≡ r.budget + 1
   cost_past_budget many =
-      ap (λ (d : Deeds). d.steps) w.deeds ∙ ap (λ (run : Run). (acted_as r.budget r.before run).deeds.steps) (is_alone.on_the_way r.budget many).running
+      ap (λ (d : Deeds). d.steps) w.deeds ∙ ap (λ (run : Run). (acted_as r.budget r.before run).deeds.steps) (is_whole.on_the_way r.budget many).running
 
   charge_is : (cost : ℕ) → r.deeds.steps ≡ cost → r.charge ≡ cost + stalled stalls r.number cost
   charge_is cost e = w.charge ∙ ap (λ n. n + stalled stalls r.number n) e
 
   -- before its last instruction is paid it had fewer cycles than its charge
-  pub less_charge : (had paid : ℕ) → had ≤ r.budget → paid < alone.steps → had ≤ cycle_of stalls r.number paid → had < r.charge
-  less_charge had paid within before up_to = elim (cases_lt r.budget alone.steps) [
+  pub less_charge : (had paid : ℕ) → had ≤ r.budget → paid < runs.steps → had ≤ cycle_of stalls r.number paid → had < r.charge
+  less_charge had paid within before up_to = elim (cases_lt r.budget runs.steps) [
     | inl many ↦ omega (arith, within, charge_is (r.budget + 1) (cost_past_budget many))
-    | inr few ↦ omega (arith, up_to, before, charge_is alone.steps (cost_in_budget few), more_stalled r.number (paid + 1) alone.steps stalls (omega (arith, before)))
+    | inr few ↦ omega (arith, up_to, before, charge_is runs.steps (cost_in_budget few), more_stalled r.number (paid + 1) runs.steps stalls (omega (arith, before)))
   ]
 
   pub overran : r.budget < r.charge → r.verdict ≡ Overran
@@ -80,8 +80,8 @@ module _ (s : System) (code : Code) (r : Action) (w : IsOfCode s code r) where
 
   -- ---- the cycle that pays its last instruction
 
-  module _ (had paid : ℕ) (less : had < r.budget) (at : had ≡ cycle_of stalls r.number paid) (is_last : alone.steps ≡ suc paid) where
-    few : alone.steps ≤ r.budget
+  module _ (had paid : ℕ) (less : had < r.budget) (at : had ≡ cycle_of stalls r.number paid) (is_last : runs.steps ≡ suc paid) where
+    few : runs.steps ≤ r.budget
     few = omega (arith, less, at, is_last)
 
     charge_had : r.charge ≡ suc had
@@ -99,16 +99,16 @@ module _ (s : System) (code : Code) (r : Action) (w : IsOfCode s code r) where
         ∙ ap (λ (a : Acted). verdict_by (timing s r.agent) r.start a.fate) (comes_to run e)
 
     module _ (point : ℕ) (t : RunState) (ran : run_code code its start (suc paid) ≡ RanTo point t) where
-      ran_to : run_code code its start alone.steps ≡ RanTo point t
+      ran_to : run_code code its start runs.steps ≡ RanTo point t
       ran_to = ap (run_code code its start) is_last ∙ ran
 
-      last_is : alone.last ≡ t
-      last_is = subst (λ (run : Run). IsOver run alone.last) ran_to is_alone.over
+      last_is : runs.last ≡ t
+      last_is = subst (λ (run : Run). IsOver run runs.last) ran_to is_whole.over
 
       stands : t.machine ≡ machine_at its point (carried_by t.machine)
       stands =
-          subst (λ (t : RunState). run_code code its start alone.steps ≡ RanTo point t → t.machine ≡ machine_at its point (carried_by t.machine)) last_is
-          (subst (λ (c : AgentCode). run_code code c (begun_by c r) alone.steps ≡ RanTo point alone.last → alone.last.machine ≡ machine_at c point (carried_by alone.last.machine)) same_code (alone.stands point))
+          subst (λ (t : RunState). run_code code its start runs.steps ≡ RanTo point t → t.machine ≡ machine_at its point (carried_by t.machine)) last_is
+          (subst (λ (c : AgentCode). run_code code c (begun_by c r) runs.steps ≡ RanTo point runs.last → runs.last.machine ≡ machine_at c point (carried_by runs.last.machine)) same_code (runs.stands point))
           ran_to
 
       pub ended : (machine : AgentMachine) → machine.machine ≡ t.machine → IsGone s code r had machine (gone.Ended point)
@@ -117,7 +117,7 @@ module _ (s : System) (code : Code) (r : Action) (w : IsOfCode s code r) where
         end_date (timing s r.agent) r.start point,
         decided (RanTo point t) ran,
         e ∙ stands ∙ ap (machine_at its point) (sym (w.after ∙ ap (λ (a : Acted). a.carried) (comes_to (RanTo point t) ran))),
-        λ variable v found owned. subst (λ (m : Machine). IsSome (copy_of variable m.copies)) (ap (λ (t : RunState). t.machine) last_is ∙ sym e) (alone.copies variable v found owned),
+        λ variable v found owned. subst (λ (m : Machine). IsSome (copy_of variable m.copies)) (ap (λ (t : RunState). t.machine) last_is ∙ sym e) (runs.copies variable v found owned),
       )
 
     pub trapped : (kind : Trap) (t : RunState) → run_code code its start (suc paid) ≡ TrappedBy kind t → (machine : AgentMachine) → IsGone s code r had machine (gone.Trapped kind)

@@ -11,6 +11,7 @@ use Rattle.psy_tree.specs.declared.unit.VarDecl.{VarDecl}
 use Rattle.psy_meaning.specs.Actions.{Action, System, Done, Trapped, Overran, charge_of, timing, verdict_of}
 use Rattle.psy_meaning.specs.Executors.{Acted, acted_as, agent_code_at, machine_at}
 use Rattle.psy_meaning.specs.Schedule.{work}
+use Rattle.psy_history.specs.Compiled.{IsBuilt}
 use Rattle.psy_history.specs.Regular.{MayAsk, Runs, begun_by}
 use Rattle.psy_kernel.specs.declared.kernel.advance.Gone.{Gone}
 use Rattle.psy_kernel.specs.declared.kernel.advance.Gone.TheVariants as gone
@@ -28,13 +29,14 @@ pub record IsOfCode (s : System) (code : Code) (r : Action) : Type 0 where
   pub verdict : r.verdict ≡ verdict_of (timing s r.agent) r.start r.budget r.charge (came_to code r).fate
   pub runs : Runs s code r
 
--- An action that had so many cycles, fewer than its work, with its charge and machine
+-- An action that had so many cycles, fewer than its work, with its charge and machine, in a program without streams
 pub record InAction (s : System) (code : Code) (r : Action) (had : ℕ) (charge : Charged) (machine : AgentMachine) : Type 0 where
   pub of_code : IsOfCode s code r
   pub agent : machine.agent ≡ r.agent
   pub pending : had < work r
   pub charged : charge ≡ charge_after s r had
   pub running : IsRunning code r (charge_after s r had).paid machine
+  pub built : IsBuilt s.unit
 
 -- A view shows an action what it may look at as it saw it from the start.
 abbrev pub ShowsAs : System → Action → View → Type 0

@@ -10,20 +10,22 @@ use Rattle.psy_code.specs.Views.{View}
 use Rattle.psy_dates.specs.declared.plan.Plan.{Plan}
 use Rattle.psy_dates.specs.declared.seat.Seat.{Seat}
 use Rattle.psy_dates.specs.Plans.{IsPlan, system_of}
-use Rattle.psy_dates.specs.Standing.{KeepsCopy, SeatStands}
+use Rattle.psy_dates.specs.Standing.{KeepsCopy, RingStands, SeatStands}
 use Rattle.psy_history.specs.Compiled.{AreInputs}
 use Rattle.psy_history.specs.Rings.{age_at}
 use Rattle.psy_history.specs.Scheduled.{turns_of}
 use Rattle.psy_machine.specs.Stepping.{AgentMachine}
 use Rattle.psy_meaning.specs.Actions.{Action, System, Done, timing, variable_of}
-use Rattle.psy_meaning.specs.Schedule.{Turn, is_pending}
-use Rattle.psy_meaning.specs.Summary.{greater, lesser}
+use Rattle.psy_meaning.specs.History.{history}
+use Rattle.psy_meaning.specs.Schedule.{Turn, is_pending, turn_of, units}
+use Rattle.psy_meaning.specs.Summary.{greater, lesser, reach}
 use Rattle.psy_meaning.specs.Timing.{Timing, clock_at, end_date, point_at}
-use Rattle.psy_kernel.specs.Acting.{IsOfCode, ShowsAs}
+use Rattle.psy_kernel.specs.Acting.{IsLookIn, IsOfCode, ShowsAs}
 use Rattle.psy_kernel.specs.declared.kernel.Figure.{Figure}
 use Rattle.psy_kernel.specs.declared.script.Order.{Order}
 use Rattle.psy_kernel.specs.declared.script.Script.{Script}
 use Rattle.psy_kernel.specs.Scripts.{IsScript, order_of, stalls_of}
+use Rattle.psy_kernel.specs.Seeing.{view_in}
 use Rattle.psy_kernel.specs.Standing.{AgentStands}
 
 -- The order of the last of so many orders that have come into force, and the first one where none has
@@ -62,6 +64,7 @@ pub record GetsCycle (s : System) (code : Code) (turns : List (Option Turn)) (un
   pub pending : is_pending turns r ≡ true
   pub numbers : All (λ (q : Action). q.number < r.number) before
   pub few : length before ≤ until
+  pub started : r.start ≤ date
   pub later : date < r.deadline
   pub at : length turns ≡ cycle
   pub within : cycle < r.deadline * s.unit.quantum
@@ -85,6 +88,17 @@ reach_by s variable start date (Some (looked, back)) reach = if looked == variab
 abbrev pub IsNear : System → ℕ → ℕ → Option (ℕ × ℕ) → Type 0
 IsNear s start date None = ⊤
 IsNear s start date (Some (variable, back)) = (variable < length s.unit.variables) × (age_at s variable back start date < 2 ^ 32)
+
+-- By variable, the rings stand for the history of the first so many dates.
+abbrev pub AreRingsOf : System → ℕ → List (List ℤ) → Type 0
+AreRingsOf s dates rings = (length rings ≡ length s.unit.variables) × ((variable : ℕ) (ring : List ℤ) → slice_get rings variable ≡ Some ring → RingStands s dates variable ring)
+
+-- What the action that gets the next cycle sees by the rings, and how far back it looks with that cycle, behind the last of so many dates
+pub record LooksBack (s : System) (code : Code) (turns : List (Option Turn)) (date : ℕ) (r : Action) : Type 0 where
+  pub shows : (rings : List (List ℤ)) → AreRingsOf s (date + 1) rings → ShowsAs s r (view_in rings s.unit.variables s.unit.clocks r.start date)
+  pub near : (look : Option (ℕ × ℕ)) → IsLookIn s code r (units r.agent r.number turns) look → IsNear s r.start date look
+  pub reached : (variable : ℕ) (look : Option (ℕ × ℕ)) → IsLookIn s code r (units r.agent r.number turns) look
+      → reach s (turn_of (Some r) ∷ turns) (history s (date + 1)) variable ≡ reach_by s variable r.start date look (reach s turns (history s (date + 1)) variable)
 
 -- The actions before an agent's last one are finished or stopped.
 abbrev pub AreOver : List (Option Turn) → List Action → Type 0

@@ -1,12 +1,12 @@
 -- What an action sees of the variables while others publish on.
-use Rattle.std.specs.Prelude.{◌≡◌, ℕ, ◌^◌, ◌≤◌, List, [], map, take, drop, length, get_or, ℤ, pos, None}
+use Rattle.std.specs.Prelude.{ℕ, ◌^◌, ◌≤◌, List, [], map, take, drop, length, get_or, ℤ, pos, Option, None}
 use Rattle.std.specs.List.{All, range_with_len}
+use Rattle.psy_base.specs.declared.limits.TheConstants.{RING}
 use Rattle.psy_clock.specs.declared.clock.Clock.{Clock}
 use Rattle.psy_clock.specs.Dates.{IsClock}
 use Rattle.psy_code.specs.Views.{View, Window}
 use Rattle.psy_tree.specs.declared.unit.VarDecl.{VarDecl}
 use Rattle.psy_meaning.specs.RingSizes.{dates_between}
-use Rattle.psy_kernel.specs.declared.eyes.Eyes.{Eyes}
 
 -- The clock of a number: that of all ticks where there is none
 abbrev pub clock_in : List Clock → ℕ → Clock
@@ -24,19 +24,29 @@ view_in rings variables clocks start date = record {
   messages = [];
 }
 
--- What is seen can be counted: the clocks are lawful, and the dates early enough.
-pub record CanSee (clocks : List Clock) (start date : ℕ) : Type 0 where
+-- What is seen can be counted: rings have no more places than a ring may, the clocks are lawful, and the dates early enough.
+pub record CanSee (rings : List (List ℤ)) (clocks : List Clock) (start date : ℕ) : Type 0 where
+  pub few : All (λ ring. length ring ≤ RING) rings
   pub lawful : All IsClock clocks
-  pub start : start ≤ 2 ^ 40
-  pub date : date ≤ 2 ^ 40
+  pub start_early : start ≤ 2 ^ 40
+  pub date_early : date ≤ 2 ^ 40
 
--- What eyes serve, and the look that they noted last
-abbrev pub window_of : Eyes → Window
-window_of eyes = record {
-  view = view_in eyes.rings eyes.variables eyes.clocks eyes.start eyes.date;
+-- What eyes look at, the dates at which their action started and which was done last, and the look that they noted last
+pub record Sight : Type 0 where
+  pub rings : List (List ℤ)
+  pub variables : List VarDecl
+  pub clocks : List Clock
+  pub start : ℕ
+  pub date : ℕ
+  pub noted : Option (ℕ × ℕ)
+
+-- What eyes serve
+abbrev pub window_of : Sight → Window
+window_of sight = record {
+  view = view_in sight.rings sight.variables sight.clocks sight.start sight.date;
   streams = 0;
   clocks = 0;
   room = 0;
   sends = [];
-  noted = eyes.noted;
+  noted = sight.noted;
 }

@@ -1,12 +1,16 @@
 //! What an agent's action sees of the variables.
 
-ghost use Rattle.std.specs.Prelude.{◌≡◌, [], None, ⊤};
-ghost use Rattle.psy_kernel.specs.Seeing.{CanSee, view_in, window_of};
+ghost use Rattle.std.specs.Prelude.{◌≡◌, ◌≤◌, ◌^◌, None, ⊤};
+ghost use Rattle.std.specs.List.{All};
+ghost use Rattle.psy_clock.specs.Dates.{IsClock};
+ghost use Rattle.psy_meaning.specs.RingSizes.{dates_between};
+ghost use Rattle.psy_kernel.specs.Seeing.{CanSee, clock_in, view_in, window_of};
 
 use psy_clock::Clock;
 use psy_code::{Look, Sent};
 use psy_ring::Ring;
 use psy_tree::VarDecl;
+use std::marker::Model;
 
 /// What an action sees that started at one date, at another, while others publish on: a value is found as many places further back in the
 /// variable's ring as dates of it have passed since the start. There are no streams.
@@ -22,6 +26,44 @@ pub struct Eyes<'a> {
     noted: Option<(u32, u32)>,
 }
 
+impl<'a> Model for Eyes<'a> {
+    ghost use Rattle.psy_kernel.specs.Seeing.{CanSee, Sight};
+
+    ghost Value = { Sight };
+
+    ghost view = { λ eyes. record {
+      rings = eyes.rings.now;
+      variables = eyes.variables.now;
+      clocks = eyes.clocks.now;
+      start = eyes.start;
+      date = eyes.date;
+      noted = eyes.noted;
+    } };
+
+    ghost invariant = { λ eyes. CanSee eyes.rings.now eyes.clocks.now eyes.start eyes.date };
+}
+
+/// The clock of a number: that of all ticks where there is none.
+pub fn clock_in(clocks: &[Clock], clock: u32) -> Clock
+    requires lawful { All IsClock clocks.now }
+    ensures clock { result ≡ clock_in clocks.now clock }
+    ensures lawful { IsClock result }
+{
+    match clocks.get(clock as usize) {
+        Some(found) => *found,
+        None => Clock::base(),
+    }
+}
+
+/// How many dates of a clock stand behind one date and up to another.
+pub fn dates_between(clock: Clock, behind: u64, upto: u64) -> u64
+    requires clock { IsClock clock }
+    requires early { (behind ≤ 2 ^ 40) × (upto ≤ 2 ^ 40) }
+    ensures { result ≡ dates_between clock behind upto }
+{
+    clock.count_to(upto).saturating_sub(clock.count_to(behind))
+}
+
 impl<'a> Eyes<'a> {
     /// The eyes of an action that started at a date, at another one.
     pub fn new(
@@ -31,7 +73,7 @@ impl<'a> Eyes<'a> {
         start: u64,
         date: u64,
     ) -> Eyes<'a>
-        requires { CanSee clocks.now start date }
+        requires { CanSee rings.now clocks.now start date }
         ensures view { (window_of result).view ≡ view_in rings.now variables.now clocks.now start date }
         ensures fresh { (window_of result).noted ≡ None }
     {
@@ -62,8 +104,8 @@ impl<'a> Look for Eyes<'a> {
 
     fn past(&mut self, variable: u32, back: u32) -> i32 {
         let number = variable as usize;
-        let clock = self.clocks[self.variables[number].clock as usize];
-        let passed = clock.count_to(self.date) - clock.count_to(self.start);
+        let clock = clock_in(self.clocks, self.variables[number].clock);
+        let passed = dates_between(clock, self.start, self.date);
         self.noted = Some((variable, back));
         self.rings[number].look(back + passed as u32)
     }

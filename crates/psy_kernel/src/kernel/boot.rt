@@ -17,6 +17,7 @@ use psy_base::{Items, Memory};
 use psy_budget::{Charge, Stall};
 use psy_code::Code;
 use psy_dates::{Inputs, Plan, Shared};
+use psy_history::laws::reaches;
 use psy_machine::Machine;
 use psy_ready::Ready;
 use std::alloc::Global;
@@ -98,6 +99,7 @@ impl Kernel {
         requires script { IsScript plan.unit script }
         ensures { IfOk result (λ kernel. kernel ≡ booted plan inputs.lists script) }
     {
+        reaches();
         let agents = plan.unit.agents.len() as u32;
         let machines = machines_of(alloc, &plan.code)?;
         let charges = charges_of(alloc, &script, agents)?;
@@ -106,7 +108,7 @@ impl Kernel {
             slack: None
         }; agents as usize]?;
         let ready = Ready::new(alloc, agents)?;
-        let reaches = vec![in alloc; None; plan.unit.variables.len()]?;
+        let reached = vec![in alloc; None; plan.unit.variables.len()]?;
         let declared = declared_of(alloc, agents)?;
         let passed = passed_first(script.orders.as_slice());
         let shared = Shared::new(alloc, &plan, inputs)?;
@@ -118,7 +120,7 @@ impl Kernel {
             charges,
             figures,
             ready,
-            reaches,
+            reaches: reached,
             declared,
             passed,
             chosen: None,

@@ -1,6 +1,6 @@
 ghost use Rattle.std.specs.Prelude.{◌≡◌, ◌≢◌, ℕ, ◌+◌, ◌*◌, ◌-◌, ◌^◌, ◌<◌, ◌≤◌, List, [], ◌∷◌, Option, Some, None, IsSome, length, slice_get, if◌then◌else◌, true, false, ℤ};
-ghost use Rattle.std.specs.List.{AllPairs};
-ghost use Rattle.psy_base.specs.declared.limits.TheConstants.{VARIABLES};
+ghost use Rattle.std.specs.List.{All, AllPairs};
+ghost use Rattle.psy_base.specs.declared.limits.TheConstants.{RING, VARIABLES};
 ghost use Rattle.psy_budget.specs.declared.charge.Stall.{Stall};
 ghost use Rattle.psy_code.specs.Execution.{copy_of};
 ghost use Rattle.psy_dates.specs.declared.plan.Plan.{Plan};
@@ -8,16 +8,16 @@ ghost use Rattle.psy_dates.specs.Plans.{IsPlan, system_of};
 ghost use Rattle.psy_dates.specs.Standing.{dates_done};
 ghost use Rattle.psy_history.specs.Compiled.{AreInputs};
 ghost use Rattle.psy_history.specs.Regular.{IsLawful};
-ghost use Rattle.psy_meaning.specs.Actions.{Action};
+ghost use Rattle.psy_meaning.specs.Actions.{Action, History, System};
 ghost use Rattle.psy_meaning.specs.Executors.{agent_at};
 ghost use Rattle.psy_meaning.specs.History.{history};
 ghost use Rattle.psy_meaning.specs.Schedule.{Turn, is_pending, units};
-ghost use Rattle.psy_meaning.specs.Summary.{greater};
+ghost use Rattle.psy_meaning.specs.Summary.{greater, reach};
 ghost use Rattle.psy_meaning.specs.Timing.{end_date, timing_of};
 ghost use Rattle.psy_ready.specs.Choice.{ListsEach};
 ghost use Rattle.psy_tree.specs.declared.unit.VarDecl.{VarDecl};
 ghost use Rattle.psy_kernel.specs.Acting.{IsLookIn};
-ghost use Rattle.psy_kernel.specs.Cycles.{AreOver, GetsCycle, IsCycleOf, IsGiven, IsNear, MayEnd, OneStands, figured, is_owned, order_by, reach_by, run_of, run_turns};
+ghost use Rattle.psy_kernel.specs.Cycles.{AreOver, GetsCycle, IsCycleOf, IsGiven, IsNear, LooksBack, MayEnd, OneStands, figured, is_owned, order_by, reach_by, run_of, run_turns};
 ghost use Rattle.psy_kernel.specs.declared.script.Script.{Script};
 ghost use Rattle.psy_kernel.specs.Progress.{after_cycle, stage_of};
 ghost use Rattle.psy_kernel.specs.Seeing.{view_in};
@@ -25,13 +25,13 @@ ghost use Rattle.psy_kernel.specs.Standing.{AreInForce, IsChosen};
 
 use super::advance::{Gone, advance};
 use super::{Figure, Kernel};
-use crate::eyes::Eyes;
+use crate::eyes::{Eyes, clock_in, dates_between};
 use crate::script::Order;
 use crate::stage::Stage;
 use psy_arith::Trap;
 use psy_budget::Charge;
 use psy_dates::{Phase, Plan, Seat};
-use psy_history::laws::{on_time, regular};
+use psy_history::laws::{on_time, reaches, regular, ring_sizes, rings};
 use psy_machine::Machine;
 use psy_meaning::laws::{follows, sound};
 use psy_ready::Ready;
@@ -167,8 +167,8 @@ fn note(
     if let Some((variable, back)) = look {
         let number = variable as usize;
         let of = &plan.unit.variables.as_slice()[number];
-        let clock = plan.unit.clocks.as_slice()[of.clock as usize];
-        let passed = clock.count_to(date) - clock.count_to(start);
+        let clock = clock_in(plan.unit.clocks.as_slice(), of.clock);
+        let passed = dates_between(clock, start, date);
         reaches[number] = reached(reaches[number], back + passed as u32);
     }
 }
@@ -207,6 +207,7 @@ fn go(
     requires known { agent < length plan.now.unit.agents }
     requires valued { length ended.old.items ≡ length plan.now.unit.variables }
     requires early { date ≤ 2 ^ 40 }
+    requires few { All (λ ring. length ring ≤ RING) rings.now }
     requires given { (inputs : List (List ℤ)) × (stalls : ℕ → List Stall) × (turns : List (Option Turn)) × (r : Action) × (before : List Action) × (waits : Option ℕ)
         × IsGiven plan.now inputs stalls turns date cycle agent r before charge.old machine.old waits figure.old seat.old ended.old.items (view_in rings.now plan.now.unit.variables plan.now.unit.clocks seat.old.start date) }
     ensures has { (inputs : List (List ℤ)) (stalls : ℕ → List Stall) (turns : List (Option Turn)) (r : Action) (before : List Action) (waits : Option ℕ)
@@ -248,7 +249,8 @@ fn go(
     Course { goes: false, look }
 }
 
-/// In a run up to a date, of each agent's actions the last alone may be pending; and where it is, it can get the next cycle.
+/// In a run up to a date, of each agent's actions the last alone may be pending; and where it is, it can get the next cycle, sees by the
+/// rings what it saw at its start, and looks no further back than they hold. A cycle that nobody gets reaches for none.
 fn gets(until: u32)
     ensures most { until ≤ 4294967295 }
     ensures over { (plan : Plan) (inputs : List (List ℤ)) (script : Script) (date cycle agent : ℕ) → IsCycleOf plan inputs script date cycle
@@ -256,10 +258,17 @@ fn gets(until: u32)
     ensures gets { (plan : Plan) (inputs : List (List ℤ)) (script : Script) (date cycle agent : ℕ) (r : Action) (before : List Action) → IsCycleOf plan inputs script date cycle
         → history (run_of plan inputs script) (date + 1) agent ≡ r ∷ before → is_pending (run_turns plan inputs script cycle) r ≡ true
         → GetsCycle (run_of plan inputs script) plan.code (run_turns plan inputs script cycle) plan.until date cycle agent r before }
+    ensures looks { (plan : Plan) (inputs : List (List ℤ)) (script : Script) (date cycle agent : ℕ) (r : Action) (before : List Action) → IsCycleOf plan inputs script date cycle
+        → history (run_of plan inputs script) (date + 1) agent ≡ r ∷ before → is_pending (run_turns plan inputs script cycle) r ≡ true
+        → LooksBack (run_of plan inputs script) plan.code (run_turns plan inputs script cycle) date r }
+    ensures idle { (s : System) (turns : List (Option Turn)) (h : History) (variable : ℕ) → reach s (None ∷ turns) h variable ≡ reach s turns h variable }
     ensures lawful { (plan : Plan) (inputs : List (List ℤ)) (script : Script) → IsPlan plan → AreInputs plan.unit inputs → IsLawful (run_of plan inputs script) }
 {
     regular();
     on_time();
+    rings();
+    ring_sizes();
+    reaches();
     sound();
     follows();
 }

@@ -8,7 +8,7 @@ use super::Kernel;
 use crate::stage::Stage;
 use psy_budget::Charge;
 use psy_dates::{Phase, Seat, at_date};
-use psy_history::laws::{given, on_time, regular};
+use psy_history::laws::{given, on_time, reaches, regular};
 use psy_ready::Ready;
 use psy_tree::{AgentDecl, Point};
 
@@ -68,6 +68,7 @@ impl Kernel {
         given();
         regular();
         on_time();
+        reaches();
         let date = self.dates();
         at_date(&mut self.shared, &self.plan, date);
         start_all(

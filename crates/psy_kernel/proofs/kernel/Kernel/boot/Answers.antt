@@ -1,4 +1,4 @@
-use Rattle.std.proofs.Common.{◌≡◌, ◌<◌, ℤ, List, [], length, None, refl, ap, sym, subst, ◌∙◌, arith}
+use Rattle.std.proofs.Common.{◌≡◌, ◌<◌, ℕ, ℤ, List, [], length, Option, None, refl, ap, sym, subst, ◌∙◌, arith, rules}
 use Rattle.std.specs.List.{AllPairs, range_with_len, slice_get}
 use Rattle.std.proofs.lemmas.List.{length-replicate}
 use Rattle.std.proofs.lemmas.List.FromFn.{length-map-range_with_len}
@@ -34,6 +34,8 @@ invariant_of-result c =
     let charges = c.in_ok-charges.ensures in
     let ready = c.in_ok-ready.ensures in
     let figures = c.in_ok-figures.ensures.items_if_clones_equal (λ y e. e) in
+    let never : Option ℕ = None in
+    let reached = c.in_ok-reached.ensures.items_if_clones_equal (λ y e. search (rules)) in
     record {
       plan = c.requires.plan;
       inputs = subst (AreInputs unit) lists c.requires.inputs;
@@ -43,6 +45,10 @@ invariant_of-result c =
           (subst (λ d. SharedStands (s c.args.inputs.lists) [] d shared) dates first);
       machined = machines.count ∙ c.requires.plan.compiled.alike.agents;
       charges = ap length charges ∙ length-map-range_with_len (first_charge script) 0 count ∙ counted;
+      reaching = ap length reached ∙ length-replicate c.len.result never ∙ c.len.ensures;
+      reached = λ variable n en.
+          replicated_at never c.len.result variable n (ap (λ xs. slice_get xs variable) (sym reached) ∙ en)
+          ∙ sym (c.reaches.ensures.none (s shared.inputs.lists) (history (s shared.inputs.lists) (dates_done shared.date)) variable);
       waiting = ap length ready ∙ length-replicate count None ∙ counted;
       figured = ap length figures ∙ length-replicate count none ∙ counted;
       agents = λ agent machine charge waits figure em ec ew ef.

@@ -3,6 +3,7 @@ use Rattle.std.proofs.Math.Numerals.{add-one}
 use Rattle.psy_ready.specs.Choice.{pending_deadline}
 use Rattle.psy_meaning.specs.Actions.{System}
 use Rattle.psy_meaning.specs.History.{history}
+use Rattle.psy_meaning.specs.Summary.{reach}
 use Rattle.psy_history.specs.Compiled.{AreInputs, coded}
 use Rattle.psy_history.specs.Scheduled.{turns_of}
 use Rattle.psy_dates.specs.Standing.{SharedStands, dates_done}
@@ -12,7 +13,7 @@ use Rattle.psy_kernel.specs.Scripts.{stalls_of}
 use Rattle.psy_kernel.specs.Standing.{AgentStands, InTick, given_at}
 use Rattle.psy_kernel.specs.Starting.{IsDoneBelow, charge_at, deadline_at, seat_at, starts_at}
 use Rattle.psy_kernel.proofs.Dated.{cycle_after, date_due, over_after}
-use Rattle.psy_kernel.proofs.DatesDue.{after, agents, before_filled, free, is_due, its, none_due, none_given, tick, ties, view_after}
+use Rattle.psy_kernel.proofs.DatesDue.{after, agents, before_filled, free, is_due, its, none_due, none_given, same_reach, tick, ties, view_after}
 use Rattle.psy_kernel.proofs.kernel.Kernel.date.Goals as goal
 
 pub at_date-requires-clause-due : goal.at_date-requires-clause-due
@@ -72,6 +73,11 @@ invariant_of-self c =
           (subst (λ d. SharedStands (its k date due) (turns_of (its k date due) order k.cycles) d shared) (sym done.date) (after k date due shared done));
       machined = h.machined;
       charges = same_seats.count ∙ h.charges;
+      reaching = h.reaching;
+      reached = λ variable n en.
+          subst (λ i. n ≡ reach (s i) (turns_of (s i) order k.cycles) (history (s i) (dates_done shared.date)) variable) lists
+          (subst (λ d. n ≡ reach (its k date due) (turns_of (its k date due) order k.cycles) (history (its k date due) d) variable) (sym done.date)
+          (same_reach k date due c.reaches.ensures.date variable n en));
       waiting = same_ready.count ∙ h.waiting;
       figured = h.figured;
       agents = λ agent machine charge waits figure em ec ew ef.

@@ -1,36 +1,48 @@
-use Rattle.std.proofs.Common.{[], ◌∷◌, Some, pos, refl, sym, ◌∙◌}
-use Rattle.psy_code.specs.Views.{View}
+use Rattle.std.proofs.Common.{refl, sym, ◌∙◌}
 use Rattle.psy_machine.specs.declared.machine.Step.TheVariants as step
-use Rattle.psy_kernel.proofs.PendingCycles.{able, after_paid, after_stalled, asks, not_spent}
+use Rattle.psy_kernel.specs.Seeing.{window_of}
+use Rattle.psy_kernel.proofs.PendingCycles.{able, after_paid, after_stalled, looks_paid, looks_stalled, not_spent, permitted}
 use Rattle.psy_kernel.proofs.kernel.advance.advance.Goals as goal
 
-abbrev seen : View
-seen = record { pasts = (pos 0 ∷ []) ∷ []; messages = Some [] ∷ [] }
-
 pub step-requires-clause-able : goal.step-requires-clause-able
-step-requires-clause-able c = let w = c.requires.in_action in able w.0 _ w.1 w.2 _ _ w.3 seen
+step-requires-clause-able c = let w = c.requires.in_action in able w.0 _ w.1 w.2 _ _ w.3 (window_of c.args.eyes.now).view w.4
 
 pub step-requires-clause-permitted : goal.step-requires-clause-permitted
-step-requires-clause-permitted c = let w = c.requires.in_action in rw (asks w.0 _ w.1 w.2 _ _ w.3) (tt {0})
+step-requires-clause-permitted c = let w = c.requires.in_action in permitted w.0 _ w.1 w.2 _ _ w.3 (window_of c.args.eyes.now) w.4
 
 pub returns-in-Spent-clause-after : goal.returns-in-Spent-clause-after
-returns-in-Spent-clause-after c s r had w = absurd (not_spent s _ r had _ _ w (sym c.tick.ensures.answer ∙ c.in-Spent.is))
+returns-in-Spent-clause-after c s r had w shows = absurd (not_spent s _ r had _ _ w (sym c.tick.ensures.answer ∙ c.in-Spent.is))
+
+pub returns-in-Spent-clause-look : goal.returns-in-Spent-clause-look
+returns-in-Spent-clause-look c s r had w shows = absurd (not_spent s _ r had _ _ w (sym c.tick.ensures.answer ∙ c.in-Spent.is))
 
 pub returns-in-Stalled-clause-after : goal.returns-in-Stalled-clause-after
-returns-in-Stalled-clause-after c s r had w =
+returns-in-Stalled-clause-after c s r had w shows =
     after_stalled s _ r had _ _ w (sym c.tick.ensures.answer ∙ c.in-Stalled.is) _ c.in-Stalled.ensures.charge _ c.going.ensures
 
+pub returns-in-Stalled-clause-look : goal.returns-in-Stalled-clause-look
+returns-in-Stalled-clause-look c s r had w shows = looks_stalled s _ r had _ _ w (sym c.tick.ensures.answer ∙ c.in-Stalled.is) _ c.requires.fresh
+
 pub returns-in-Went-clause-after : goal.returns-in-Went-clause-after
-returns-in-Went-clause-after c s r had w =
-    after_paid s _ r had _ _ w (sym c.tick.ensures.answer ∙ c.in-Paid.is) seen
+returns-in-Went-clause-after c s r had w shows =
+    after_paid s _ r had _ _ w (sym c.tick.ensures.answer ∙ c.in-Paid.is) (window_of c.args.eyes.now).view shows
     _ c.in-Paid.ensures.charge step.Went c.in-Went.ensures.answer _ c.in-Went.ensures.machine _ c.going-in-Went.ensures
 
+pub returns-in-Went-clause-look : goal.returns-in-Went-clause-look
+returns-in-Went-clause-look c s r had w shows = looks_paid s _ r had _ _ w (sym c.tick.ensures.answer ∙ c.in-Paid.is) _ _ c.requires.fresh c.in-Went.ensures.window
+
 pub returns-in-Ended-clause-after : goal.returns-in-Ended-clause-after
-returns-in-Ended-clause-after c s r had w =
-    after_paid s _ r had _ _ w (sym c.tick.ensures.answer ∙ c.in-Paid.is) seen
+returns-in-Ended-clause-after c s r had w shows =
+    after_paid s _ r had _ _ w (sym c.tick.ensures.answer ∙ c.in-Paid.is) (window_of c.args.eyes.now).view shows
     _ c.in-Paid.ensures.charge (step.Ended c.in-Ended.point) c.in-Ended.ensures.answer _ c.in-Ended.ensures.machine _ refl
 
+pub returns-in-Ended-clause-look : goal.returns-in-Ended-clause-look
+returns-in-Ended-clause-look c s r had w shows = looks_paid s _ r had _ _ w (sym c.tick.ensures.answer ∙ c.in-Paid.is) _ _ c.requires.fresh c.in-Ended.ensures.window
+
 pub returns-in-Trapped-clause-after : goal.returns-in-Trapped-clause-after
-returns-in-Trapped-clause-after c s r had w =
-    after_paid s _ r had _ _ w (sym c.tick.ensures.answer ∙ c.in-Paid.is) seen
+returns-in-Trapped-clause-after c s r had w shows =
+    after_paid s _ r had _ _ w (sym c.tick.ensures.answer ∙ c.in-Paid.is) (window_of c.args.eyes.now).view shows
     _ c.in-Paid.ensures.charge (step.Trapped c.in-Trapped.kind) c.in-Trapped.ensures.answer _ c.in-Trapped.ensures.machine _ refl
+
+pub returns-in-Trapped-clause-look : goal.returns-in-Trapped-clause-look
+returns-in-Trapped-clause-look c s r had w shows = looks_paid s _ r had _ _ w (sym c.tick.ensures.answer ∙ c.in-Paid.is) _ _ c.requires.fresh c.in-Trapped.ensures.window

@@ -18,7 +18,7 @@ returns-then-agent-agents-clause-some c =
     let named : c.bytes.result.now ≡ (agent_at plan.unit agent).name =
     c.bytes.ensures ∙ ap (λ (a : AgentDecl). a.name) (agent_found plan.unit agent c.as_slice-agents.result.now c.index-agents-agent.result c.as_slice-agents.ensures c.if-agent-agents.true) in
     let told : c.set-then-agent-agents.new.self ≡ agent_line c.bytes.result.now figure.count figure.slack = c.set-then-agent-agents.ensures in
-    λ _. agent_figured plan c.args.figures.now c.args.place agent (omega (arith, c.if-place-eq0.false)) within
+    λ _. agent_figured plan c.args.figures.now c.args.reaches.now c.args.place agent (omega (arith, c.if-place-eq0.false)) within
     ∙ ap Some (sym (told ∙ ap (λ name. agent_line name figure.count figure.slack) named))
 
 pub returns-then-variable-variables-clause-some : goal.returns-then-variable-variables-clause-some
@@ -35,13 +35,16 @@ returns-then-variable-variables-clause-some c =
     ∙ ap (λ (v : VarDecl). v.name) (variable_found plan.unit variable c.as_slice-variables.result.now counted c.index-variables-variable.result c.as_slice-variables.ensures same among) in
     let sized : get_or c.as_slice.result.now counted 0 ≡ get_or plan.sizes.rings variable 0 =
     ap (λ xs. get_or xs counted 0) c.as_slice.ensures ∙ ap (λ n. get_or plan.sizes.rings n 0) same in
-    let told : c.set-then-variable-variables.new.self ≡ variable_line c.bytes-then-variable-variables.result.now (get_or c.as_slice.result.now counted 0) None = c.set-then-variable-variables.ensures in
-    λ _. variable_figured plan c.args.figures.now c.args.place variable (omega (arith, c.if-place-eq0.false, behind)) within
-    ∙ ap Some (sym (told ∙ ap (λ name. variable_line name (get_or c.as_slice.result.now counted 0) None) named ∙ ap (λ n. variable_line (variable_at plan.unit variable).name n None) sized))
+    let reach : get_or c.args.reaches.now counted None ≡ get_or c.args.reaches.now variable None = ap (λ n. get_or c.args.reaches.now n None) same in
+    let told : c.set-then-variable-variables.new.self ≡ variable_line c.bytes-then-variable-variables.result.now (get_or c.as_slice.result.now counted 0) (get_or c.args.reaches.now counted None) = c.set-then-variable-variables.ensures in
+    λ _. variable_figured plan c.args.figures.now c.args.reaches.now c.args.place variable (omega (arith, c.if-place-eq0.false, behind)) within
+    ∙ ap Some (sym (told ∙ ap (λ name. variable_line name (get_or c.as_slice.result.now counted 0) (get_or c.args.reaches.now counted None)) named
+    ∙ ap (λ n. variable_line (variable_at plan.unit variable).name n (get_or c.args.reaches.now counted None)) sized
+    ∙ ap (variable_line (variable_at plan.unit variable).name (get_or plan.sizes.rings variable 0)) reach))
 
 pub returns-clause-none : goal.returns-clause-none
 returns-clause-none c =
     let plan = c.args.plan.now in
     let agents : length c.as_slice-agents.result.now ≡ length plan.unit.agents = ap length c.as_slice-agents.ensures in
     let variables : length c.as_slice-variables.result.now ≡ length plan.unit.variables = ap length c.as_slice-variables.ensures in
-    λ _. (omega (arith, figured_length plan c.args.figures.now, agents, variables, c.if-place-eq0.false, c.if-agent-agents.false, c.if-variable-variables.false), refl)
+    λ _. (omega (arith, figured_length plan c.args.figures.now c.args.reaches.now, agents, variables, c.if-place-eq0.false, c.if-agent-agents.false, c.if-variable-variables.false), refl)
