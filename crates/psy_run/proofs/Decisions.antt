@@ -42,10 +42,6 @@ pub decided_true : (b : Bool) → Decided (IsTrue b)
 decided_true true = inl refl
 decided_true false = inr (λ h. true≢false (sym h))
 
-pub decided_false : (b : Bool) → Decided (b ≡ false)
-decided_false true = inr (λ e. true≢false e)
-decided_false false = inl refl
-
 pub decided_each : (sort : ℕ → Bool) (bytes : List ℕ) → Decided (Each sort bytes)
 decided_each sort [] = inl tt
 decided_each sort (b ∷ bytes) = both (decided_true (sort b)) (decided_each sort bytes)

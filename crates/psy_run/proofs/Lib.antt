@@ -3,11 +3,11 @@ pub mod Courses
 pub mod Decisions
 pub mod GrowthLemmas
 pub mod LogLemmas
-pub mod LookLemmas
 pub mod MeaningText
 pub mod OneAnswer
 pub mod OneStep
 pub mod PlanLemmas
+pub mod RefusalLemmas
 pub mod RowLemmas
 pub mod SomeAnswer
 pub mod SomeStep

@@ -20,7 +20,7 @@ use Rattle.psy_meaning.specs.Lines.{events}
 use Rattle.psy_meaning.specs.Summary.{due_by, most_held, reach, slack}
 use Rattle.psy_run.specs.Outcome.{CanServe}
 use Rattle.psy_run.specs.Runs.{all_given, ended}
-use Rattle.psy_run.specs.Services.{HasRun, Leaves, Service, Ran, depths_of, no_inputs, no_script, service_of}
+use Rattle.psy_run.specs.Services.{HasRun, Leaves, Service, Ran, sizes_of, no_inputs, no_script, service_of}
 use Rattle.psy_run.specs.Services as service
 use Rattle.psy_run.specs.declared.served.Served.{Served}
 use Rattle.psy_run.specs.declared.served.Served.TheVariants as served
@@ -56,11 +56,12 @@ module _ (unit : Whole) (code : Code) (nexts : List (List (List ℕ))) (stalls :
 -- ---- what is left
 
 -- the kernel of a run at its end
-pub has_run : (kernel : Progress) → CanServe (served.Ran kernel) → HasRun kernel.plan.unit kernel.plan.nexts kernel.plan.until (ended kernel)
+pub has_run : (kernel : Progress) → CanServe (served.Ran kernel) → HasRun kernel.plan.unit kernel.plan.nexts kernel.plan.sizes.rings kernel.plan.until (ended kernel)
 has_run kernel (is, plan) = record {
   plan = plan;
   its_unit = refl;
   its_nexts = refl;
+  its_rings = refl;
   its_until = refl;
   inputs = ap (λ (p : Progress). p.inputs) is;
   script = ap (λ (p : Progress). p.script) is;
@@ -72,13 +73,13 @@ has_run kernel (is, plan) = record {
 -- what is served leaves something
 pub some_left : (done : Served) → CanServe done → (left : Option Progress) × Leaves (service_of done) left
 some_left (served.Ran kernel) can = (Some (ended kernel), (ended kernel, refl, has_run kernel can))
-some_left (served.Checked unit until) can = (None, refl)
+some_left (served.Checked unit rings until) can = (None, refl)
 some_left (served.Drawn unit graphs costs) can = (None, refl)
 
 -- ---- the text of what is served
 
-same_sizes : (unit : Whole) (sizes : Sizes) → AreSizes unit sizes → sizes ≡ depths_of unit
-same_sizes unit sizes are = λ i. record { rings = are.rings i; queues = are.queues i; outboxes = are.outboxes i }
+same_sizes : (unit : Whole) (nexts : List (List (List ℕ))) (sizes : Sizes) → AreSizes unit nexts sizes → sizes ≡ sizes_of unit sizes.rings
+same_sizes unit nexts sizes are = λ i. record { rings = sizes.rings; queues = are.queues i; outboxes = are.outboxes i }
 
 -- a kernel that was just booted, without inputs and script, writes the text of the statements
 pub served_text : (kernel : Progress) → CanServe (served.Ran kernel) → AreAlike (coded kernel.plan.unit kernel.plan.code kernel.plan.nexts (stalls_of no_script) (no_inputs kernel.plan.unit)) (stated kernel.plan.unit kernel.plan.nexts (stalls_of no_script) (no_inputs kernel.plan.unit))
@@ -86,6 +87,6 @@ pub served_text : (kernel : Progress) → CanServe (served.Ran kernel) → AreAl
 served_text kernel (is, plan) alike =
     let inputs = ap (λ (p : Progress). p.inputs) is in
     let script = ap (λ (p : Progress). p.script) is in
-    let sizes = same_sizes kernel.plan.unit kernel.plan.sizes plan.buffers in
+    let sizes = same_sizes kernel.plan.unit kernel.plan.nexts kernel.plan.sizes plan.buffers in
     (λ i. run_text (coded kernel.plan.unit kernel.plan.code kernel.plan.nexts (stalls_of (script i)) (inputs i)) (order_of kernel.plan.unit (script i)) (sizes i) kernel.plan.until)
-    ∙ same_text kernel.plan.unit kernel.plan.code kernel.plan.nexts (stalls_of no_script) (no_inputs kernel.plan.unit) alike (order_of kernel.plan.unit no_script) (depths_of kernel.plan.unit) kernel.plan.until
+    ∙ same_text kernel.plan.unit kernel.plan.code kernel.plan.nexts (stalls_of no_script) (no_inputs kernel.plan.unit) alike (order_of kernel.plan.unit no_script) (sizes_of kernel.plan.unit kernel.plan.sizes.rings) kernel.plan.until

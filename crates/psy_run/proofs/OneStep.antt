@@ -1,7 +1,8 @@
 -- Each step comes to one end at most.
 use Rattle.std.proofs.Common.{◌≡◌, ◌∙◌, sym, subst, ap, refl, ℕ, ◌*◌, ◌<◌, ◌≤◌, List, [], ◌∷◌, length, ◌⊎◌, inl, inr, Option, Some, None, if◌then◌else◌, bytes_eq, codes, zero, suc, slice_get, arith}
+use Rattle.std.specs.List.{All}
 use Rattle.std.proofs.lemmas.Option.{slice_get_within}
-use Rattle.psy_base.specs.declared.limits.TheConstants.{COST, FILE_BYTES}
+use Rattle.psy_base.specs.declared.limits.TheConstants.{COST, FILE_BYTES, RING}
 use Rattle.psy_door.specs.Files.{Files, bytes_under}
 use Rattle.psy_tree.specs.declared.faults.LexKind.{LexKind}
 use Rattle.psy_tree.specs.declared.raw.Raw.{Raw}
@@ -18,22 +19,22 @@ use Rattle.psy_tree.specs.Rules.{LeastFault, NoFault}
 use Rattle.psy_tree.specs.Stands.{Stands, first_passed}
 use Rattle.psy_tree.specs.Tokens.{TokensOf}
 use Rattle.psy_flow.specs.Agents.{IsAgentOf}
-use Rattle.psy_meaning.specs.Demand.{IsOverload}
 use Rattle.psy_meaning.specs.Flow.{IsCut, HasCost}
+use Rattle.psy_meaning.specs.RingSizes.{AreRings, IsLargeRing}
 use Rattle.psy_meaning.specs.Timing.{Timing, timing_of}
 use Rattle.psy_meaning.specs.Units.{IsOfText}
 use Rattle.psy_meaning.proofs.Demands.{feasible-no-overload, overload-one}
 use Rattle.psy_graph.specs.declared.fault.GraphFault.{GraphFault}
-use Rattle.psy_graph.specs.declared.fault.GraphFault.TheVariants as fault
 use Rattle.psy_graph.specs.declared.graph.Graph.{Graph}
 use Rattle.psy_graph.specs.Graphs.{AreGraphs, IsCause, IsTimingOf}
 use Rattle.psy_run.specs.declared.refusal.File.{File}
 use Rattle.psy_run.specs.declared.refusal.Refusal.{Refusal}
-use Rattle.psy_run.specs.declared.refusal.Refusal.TheVariants.{Words, TooLong, Lexical, Syntax, Deep, Rule, Many, NotBuilt, Nodes, Edges, Cells, Infeasible}
+use Rattle.psy_run.specs.declared.refusal.Refusal.TheVariants.{Lexical, Deep, Rule, Many, Infeasible}
 use Rattle.psy_run.specs.Answer.{following, building}
 use Rattle.psy_run.specs.Asked.{Command, Run, Check, Graph as Draw, Asks, asks_run, asks_check, asks_graph}
-use Rattle.psy_run.specs.Steps.{asking, reading, lexing, IsLexical, parsing, IsUnparsed, resolving, IsUnlawful, graphing, IsUndrawn, costing, AreCosts, windowing, HasCells, demanding, IsOverloaded, edges_of}
+use Rattle.psy_run.specs.Steps.{asking, reading, lexing, parsing, resolving, graphing, sizing, costing, AreCosts, windowing, HasCells, demanding, edges_of}
 use Rattle.psy_run.proofs.Courses.{IsOne}
+use Rattle.psy_run.proofs.RefusalLemmas.{lexical_is, unparsed_is, unlawful_is, undrawn_by, undrawn_is, unsized_is, overloaded_is}
 
 -- What the laws of the steps say of one end.
 pub record StepsAgree : Type 0 where
@@ -54,6 +55,8 @@ pub record StepsAgree : Type 0 where
   pub graphs_or_cause : (unit : Whole) (graphs : List Graph) (fault : GraphFault) → IsOfText unit → AreGraphs unit graphs → IsCause unit fault → ⊥
   pub cause : (unit : Whole) (fault other : GraphFault) → IsOfText unit → IsCause unit fault → IsCause unit other → fault ≡ other
   pub timing : (unit : Whole) (number : ℕ) (timing other : Timing) → IsTimingOf unit number timing → IsTimingOf unit number other → timing ≡ other
+  pub rings : (unit : Whole) (nexts : List (List (List ℕ))) (sizes others : List ℕ) → AreRings unit nexts sizes → AreRings unit nexts others → sizes ≡ others
+  pub rings_or_large : (unit : Whole) (nexts : List (List (List ℕ))) (sizes : List ℕ) (variable : ℕ) → AreRings unit nexts sizes → All (λ size. size ≤ RING) sizes → IsLargeRing unit nexts variable → ⊥
   pub cost : (unit : Whole) (number : ℕ) (agent : AgentDecl) (point cost other : ℕ) → IsAgentOf unit number agent → IsCut (HasCost unit.functions agent point) COST cost → IsCut (HasCost unit.functions agent point) COST other → cost ≡ other
 
 -- ---- lists
@@ -105,83 +108,6 @@ one_reading files file name = record {
 }
 
 -- ---- the text
-
-lexical_is : (bytes : List ℕ) (refusal : Refusal) → IsLexical bytes refusal → (kind : LexKind) × (place : ℕ) × (refusal ≡ Lexical kind place) × FirstFault bytes kind place
-lexical_is bytes Words never = absurd never
-lexical_is bytes (TooLong file) never = absurd never
-lexical_is bytes (Lexical kind place) at = (kind, place, refl, at)
-lexical_is bytes (Deep token) never = absurd never
-lexical_is bytes Syntax never = absurd never
-lexical_is bytes (Rule kind token) never = absurd never
-lexical_is bytes (Many count) never = absurd never
-lexical_is bytes NotBuilt never = absurd never
-lexical_is bytes Nodes never = absurd never
-lexical_is bytes Edges never = absurd never
-lexical_is bytes Cells never = absurd never
-lexical_is bytes (Infeasible length demand supply) never = absurd never
-
-unparsed_is : (tokens : List Token) (refusal : Refusal) → IsUnparsed tokens refusal → ((token : ℕ) × (refusal ≡ Deep token) × deep.Deep tokens token) ⊎ ((refusal ≡ Syntax) × deep.Shallow tokens × ((raw : Raw) → Spells raw tokens → ⊥))
-unparsed_is tokens Words never = absurd never
-unparsed_is tokens (TooLong file) never = absurd never
-unparsed_is tokens (Lexical kind place) never = absurd never
-unparsed_is tokens (Deep token) at = inl (token, refl, at)
-unparsed_is tokens Syntax none = inr (refl, none.0, none.1)
-unparsed_is tokens (Rule kind token) never = absurd never
-unparsed_is tokens (Many count) never = absurd never
-unparsed_is tokens NotBuilt never = absurd never
-unparsed_is tokens Nodes never = absurd never
-unparsed_is tokens Edges never = absurd never
-unparsed_is tokens Cells never = absurd never
-unparsed_is tokens (Infeasible length demand supply) never = absurd never
-
-unlawful_is : (raw : Raw) (refusal : Refusal) → IsUnlawful raw refusal → ((kind : RuleKind) × (token : ℕ) × (refusal ≡ Rule kind token) × LeastFault raw kind token) ⊎ ((count : Count) × (refusal ≡ Many count) × NoFault raw × (first_passed raw ≡ Some count))
-unlawful_is raw Words never = absurd never
-unlawful_is raw (TooLong file) never = absurd never
-unlawful_is raw (Lexical kind place) never = absurd never
-unlawful_is raw (Deep token) never = absurd never
-unlawful_is raw Syntax never = absurd never
-unlawful_is raw (Rule kind token) least = inl (kind, token, refl, least)
-unlawful_is raw (Many count) passed = inr (count, refl, passed.0, passed.1)
-unlawful_is raw NotBuilt never = absurd never
-unlawful_is raw Nodes never = absurd never
-unlawful_is raw Edges never = absurd never
-unlawful_is raw Cells never = absurd never
-unlawful_is raw (Infeasible length demand supply) never = absurd never
-
--- the refusal of a fault
-undrawn_by : GraphFault → Refusal
-undrawn_by (fault.Nodes agent) = Nodes
-undrawn_by (fault.Edges agent) = Edges
-undrawn_by fault.Memory = Cells
-
-undrawn_is : (unit : Whole) (refusal : Refusal) → IsUndrawn unit refusal → (cause : GraphFault) × (refusal ≡ undrawn_by cause) × IsCause unit cause
-unfolding undrawn_by
-undrawn_is unit Words never = absurd never
-undrawn_is unit (TooLong file) never = absurd never
-undrawn_is unit (Lexical kind place) never = absurd never
-undrawn_is unit (Deep token) never = absurd never
-undrawn_is unit Syntax never = absurd never
-undrawn_is unit (Rule kind token) never = absurd never
-undrawn_is unit (Many count) never = absurd never
-undrawn_is unit NotBuilt never = absurd never
-undrawn_is unit Nodes it = (fault.Nodes it.0, refl, it.1)
-undrawn_is unit Edges it = (fault.Edges it.0, refl, it.1)
-undrawn_is unit Cells never = absurd never
-undrawn_is unit (Infeasible length demand supply) never = absurd never
-
-overloaded_is : (unit : Whole) (graphs : List Graph) (until : ℕ) (refusal : Refusal) → IsOverloaded unit graphs until refusal → (within : ℕ) × (demand : ℕ) × (refusal ≡ Infeasible within demand (unit.quantum * within)) × IsOverload (edges_of graphs) unit.quantum until within demand
-overloaded_is unit graphs until Words never = absurd never
-overloaded_is unit graphs until (TooLong file) never = absurd never
-overloaded_is unit graphs until (Lexical kind place) never = absurd never
-overloaded_is unit graphs until (Deep token) never = absurd never
-overloaded_is unit graphs until Syntax never = absurd never
-overloaded_is unit graphs until (Rule kind token) never = absurd never
-overloaded_is unit graphs until (Many count) never = absurd never
-overloaded_is unit graphs until NotBuilt never = absurd never
-overloaded_is unit graphs until Nodes never = absurd never
-overloaded_is unit graphs until Edges never = absurd never
-overloaded_is unit graphs until Cells never = absurd never
-overloaded_is unit graphs until (Infeasible length demand supply) it = (length, demand, ap (Infeasible length demand) it.1, it.0)
 
 module _ (agree : StepsAgree) where
   pub one_lexing : (bytes : List ℕ) → IsOne (lexing bytes)
@@ -268,6 +194,15 @@ module _ (agree : StepsAgree) where
         ap (λ (t : Timing). t.nexts) one);
     stop = λ r s p q. absurd p;
     apart = λ x r p q. q;
+  }
+
+  -- ---- the sizes of its rings
+
+  pub one_sizing : (unit : Whole) (nexts : List (List (List ℕ))) → IsOne (sizing unit nexts)
+  one_sizing unit nexts = record {
+    gift = λ x y p q. agree.rings unit nexts x y p.0 q.0;
+    stop = λ r s p q. (unsized_is unit nexts r p).1 ∙ sym (unsized_is unit nexts s q).1;
+    apart = λ x r p q. let (variable, is, large) = unsized_is unit nexts r q in agree.rings_or_large unit nexts x variable p.0 p.1 large;
   }
 
 -- ---- its demand

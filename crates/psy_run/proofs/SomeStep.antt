@@ -1,12 +1,12 @@
 -- Each step comes to some end.
 use Rattle.std.proofs.Common.{◌≡◌, ◌∙◌, sym, subst, ap, refl, ℕ, zero, suc, ◌+◌, ◌*◌, ◌<◌, ◌≤◌, List, [], ◌∷◌, length, ◌⊎◌, inl, inr, Option, Some, None, Bool, true, false, bytes_eq, codes, slice_get, arith}
-use Rattle.std.specs.List.{All, list_any}
+use Rattle.std.specs.List.{All}
 use Rattle.std.specs.Char.{is_ascii_digit}
 use Rattle.std.proofs.lemmas.Bool.{cases_lt, false≢true}
 use Rattle.std.proofs.lemmas.Option.{same_Some, none-some}
 use Rattle.std.proofs.lemmas.Slice.Eq.{bytes_eq-Decides}
 use Rattle.psy_base.specs.declared.edge.Edge.{Edge}
-use Rattle.psy_base.specs.declared.limits.TheConstants.{COST, FILE_BYTES, UNTIL, WINDOW_CELLS, WORD_DIGITS}
+use Rattle.psy_base.specs.declared.limits.TheConstants.{COST, FILE_BYTES, RING, UNTIL, WINDOW_CELLS, WORD_DIGITS}
 use Rattle.psy_base.specs.Paths.{FitsDueLast, IsGreatestWeight}
 use Rattle.psy_door.specs.Files.{Files, bytes_under}
 use Rattle.psy_tree.specs.declared.faults.LexKind.{LexKind}
@@ -24,7 +24,8 @@ use Rattle.psy_tree.specs.Rules.{LeastFault, NoFault}
 use Rattle.psy_tree.specs.Stands.{Stands, first_passed}
 use Rattle.psy_tree.specs.Tokens.{TokensOf}
 use Rattle.psy_flow.specs.Agents.{IsAgentOf}
-use Rattle.psy_meaning.specs.Flow.{AreNexts, IsCut, HasCost}
+use Rattle.psy_meaning.specs.Flow.{AreAllNexts, AreNexts, IsCut, HasCost}
+use Rattle.psy_meaning.specs.RingSizes.{AreRings, IsLargeRing}
 use Rattle.psy_meaning.specs.Units.{IsOfText}
 use Rattle.psy_meaning.proofs.Demands.{demand-some, feasible-or-overload}
 use Rattle.psy_window.specs.declared.span.Span.{Span}
@@ -36,13 +37,12 @@ use Rattle.psy_graph.specs.declared.graph.Graph.{Graph}
 use Rattle.psy_graph.specs.Graphs.{AreGraphs, IsCause}
 use Rattle.psy_run.specs.declared.refusal.File.{File}
 use Rattle.psy_run.specs.declared.refusal.Refusal.{Refusal}
-use Rattle.psy_run.specs.declared.refusal.Refusal.TheVariants.{Words, TooLong, Lexical, Syntax, Deep, Rule, Many, NotBuilt, Nodes, Edges, Cells, Infeasible}
+use Rattle.psy_run.specs.declared.refusal.Refusal.TheVariants.{Words, TooLong, Lexical, Syntax, Deep, Rule, Many, NotBuilt, Nodes, Edges, Ring, Cells, Infeasible}
 use Rattle.psy_run.specs.Answer.{building, following}
 use Rattle.psy_run.specs.Asked.{IsDate, Command, Run, Check, Graph as Draw, Asks, asks_run, asks_check, asks_graph}
-use Rattle.psy_history.specs.Compiled.{agent_looks}
-use Rattle.psy_run.specs.Steps.{asking, reading, lexing, parsing, resolving, graphing, IsUndrawn, costing, AreCosts, windowing, HasCells, PassesCells, demanding, edges_of}
+use Rattle.psy_run.specs.Steps.{asking, reading, lexing, parsing, resolving, graphing, IsUndrawn, sizing, costing, AreCosts, windowing, HasCells, PassesCells, demanding, edges_of}
 use Rattle.psy_run.proofs.Courses.{IsSome}
-use Rattle.psy_run.proofs.Decisions.{Decided, both, alike, decided_most, decided_each, decided_none, decided_false, all_or_any, list_of}
+use Rattle.psy_run.proofs.Decisions.{Decided, both, alike, decided_most, decided_each, decided_none, all_or_any, list_of}
 use Rattle.std.proofs.lemmas.Option.{get_or_from_slice_get, slice_get_within}
 
 -- What the laws of the steps say of some end.
@@ -56,6 +56,8 @@ pub record StepsEnd : Type 0 where
   pub edges : (unit : Whole) (graphs : List Graph) → IsOfText unit → AreGraphs unit graphs → All (λ graph. All (IsEdge (length graph.nodes)) graph.edges) graphs
   pub cost : (unit : Whole) (number : ℕ) (agent : AgentDecl) (point : ℕ) → IsAgentOf unit number agent → point < length agent.points → (cost : ℕ) × IsCut (HasCost unit.functions agent point) COST cost
   pub next : (unit : Whole) (number : ℕ) (agent : AgentDecl) → IsAgentOf unit number agent → (nexts : List (List ℕ)) × AreNexts unit.functions agent nexts
+  pub rings_or_large : (unit : Whole) (graphs : List Graph) (nexts : List (List (List ℕ))) → IsOfText unit → AreGraphs unit graphs → AreAllNexts unit nexts
+      → ((sizes : List ℕ) × AreRings unit nexts sizes × All (λ size. size ≤ RING) sizes) ⊎ ((variable : ℕ) × IsLargeRing unit nexts variable)
   pub greatest : (graph : List Edge) (nodes : ℕ) (span : Span) (within : ℕ) → All (IsEdge nodes) graph → (n : ℕ) × IsGreatestWeight graph (Fits span within) n
 
 -- ---- words
@@ -135,9 +137,9 @@ some_reading files file name = elim (cases_lt FILE_BYTES (length (bytes_under fi
 -- ---- what is built so far
 
 pub some_building : (unit : Whole) → IsSome (building unit)
-some_building unit = elim (both (decided_none unit.streams) (decided_false (list_any agent_looks unit.agents))) [
-  | inl is ↦ inl (tt, record { streams = is.0; looks = is.1 })
-  | inr none ↦ inr (NotBuilt, (refl, λ built. none (built.streams, built.looks)))
+some_building unit = elim (decided_none unit.streams) [
+  | inl is ↦ inl (tt, record { streams = is })
+  | inr some ↦ inr (NotBuilt, (refl, λ built. some built.streams))
 ]
 
 -- ---- its demand
@@ -227,6 +229,12 @@ module _ (ends : StepsEnd) where
   some_following unit of =
       let (lists, long, each) = list_of (length unit.agents) (λ number list. (agent : AgentDecl) → slice_get unit.agents number ≡ Some agent → AreNexts unit.functions agent list) (some_followed unit of) in
       inl (lists, record { count = long; each = λ number agent list its at. each number list at agent its })
+
+  pub some_sizing : (unit : Whole) (graphs : List Graph) (nexts : List (List (List ℕ))) → IsOfText unit → AreGraphs unit graphs → AreAllNexts unit nexts → IsSome (sizing unit nexts)
+  some_sizing unit graphs nexts of are follow = elim (ends.rings_or_large unit graphs nexts of are follow) [
+    | inl rings ↦ inl (rings.0, (rings.1, rings.2))
+    | inr large ↦ inr (Ring, large)
+  ]
 
   -- each graph has a greatest weight of the paths that fit a length
   some_weight : (unit : Whole) (graphs : List Graph) → IsOfText unit → AreGraphs unit graphs → (within number : ℕ) (edges : List Edge) → slice_get (edges_of graphs) number ≡ Some edges → (n : ℕ) × IsGreatestWeight edges (FitsDueLast within) n

@@ -12,13 +12,19 @@ use Rattle.psy_graph.specs.declared.fault.GraphFault.TheVariants as fault
 use Rattle.psy_graph.specs.declared.graph.Graph.{Graph}
 use Rattle.psy_graph.specs.Graphs.{AreGraphs, IsCause, IsSmall}
 use Rattle.psy_meaning.specs.Demand.{IsFeasible, IsOverload}
+use Rattle.psy_meaning.specs.Flow.{AreAllNexts}
+use Rattle.psy_meaning.specs.RingSizes.{AreRings}
 use Rattle.psy_meaning.proofs.Demands.{AreGreatest, feasible-is, overload-is}
-use Rattle.psy_run.specs.declared.refusal.Refusal.TheVariants.{Nodes, Edges, Cells}
+use Rattle.psy_sizes.specs.declared.fault.SizeFault.{SizeFault}
+use Rattle.psy_sizes.specs.declared.fault.SizeFault.TheVariants as size
+use Rattle.psy_sizes.specs.Faults.{IsRingFault}
+use Rattle.psy_run.specs.declared.refusal.Refusal.TheVariants.{Nodes, Edges, Ring, Cells}
 use Rattle.psy_run.specs.declared.refusal.Stop.{Stop}
 use Rattle.psy_run.specs.declared.refusal.Stop.TheVariants as stop
-use Rattle.psy_run.specs.Answer.{supplying}
+use Rattle.psy_run.specs.Answer.{Supply, supplying}
+use Rattle.psy_run.specs.Courses.{in_row}
 use Rattle.psy_run.specs.Outcome.{Halts, halts_refused, halts_memory}
-use Rattle.psy_run.specs.Steps.{graphing, windowing, demanding, edges_of, HasCells, PassesCells, IsUndrawn}
+use Rattle.psy_run.specs.Steps.{graphing, sizing, windowing, demanding, edges_of, HasCells, PassesCells, IsUndrawn, IsUnsized}
 use Rattle.psy_run.specs.Tables.{AreAllWeights}
 use Rattle.psy_run.proofs.Courses.{gives_then, halts_first, halts_later}
 use Rattle.psy_run.proofs.RowLemmas.{there}
@@ -32,6 +38,11 @@ undrawn_nodes unit f agent is (inr cause) = (agent, subst (IsCause unit) is caus
 pub undrawn_edges : (unit : Whole) (f : GraphFault) (agent : ℕ) → f ≡ fault.Edges agent → (f ≡ fault.Memory) ⊎ IsCause unit f → IsUndrawn unit Edges
 undrawn_edges unit f agent is (inl memory) = let no : fault.Edges agent ≡ fault.Memory = sym is ∙ memory in absurd cc
 undrawn_edges unit f agent is (inr cause) = (agent, subst (IsCause unit) is cause)
+
+-- the ring that is too large
+pub unsized_ring : (unit : Whole) (f : SizeFault) (variable : ℕ) → f ≡ size.LargeRing variable → (f ≡ size.Memory) ⊎ IsRingFault unit f → (nexts : List (List (List ℕ))) → AreAllNexts unit nexts → IsUnsized unit nexts Ring
+unsized_ring unit f variable is (inl memory) nexts follow = let no : size.LargeRing variable ≡ size.Memory = sym is ∙ memory in absurd cc
+unsized_ring unit f variable is (inr cause) nexts follow = (variable, subst (IsRingFault unit) is cause nexts follow)
 
 pub small_graphs : (unit : Whole) (graphs : List Graph) → AreGraphs unit graphs → All IsSmall graphs
 small_graphs unit graphs are k d less = (are.each k (get_or graphs k d) (slice_get-get_or graphs k d less)).3
@@ -82,14 +93,36 @@ module _ (unit : Whole) (until : ℕ) (failed : List ℕ) (before after : ℕ) (
   pub supply_undrawn : Halts (graphing unit) failed before after s → Halts (supplying unit until) failed before after s
   supply_undrawn halts = halts_first _ _ failed before after s halts
 
-  pub supply_unwindowed : (graphs : List Graph) → AreGraphs unit graphs → Halts (windowing graphs until) failed before after s → Halts (supplying unit until) failed before after s
-  supply_unwindowed graphs are halts = halts_later _ _ failed before after graphs s are (halts_first _ _ failed before after s halts)
+  module _ (graphs : List Graph) (nexts : List (List (List ℕ))) where
+    pub supply_unsized : AreGraphs unit graphs → AreAllNexts unit nexts → Halts (sizing unit nexts) failed before after s → Halts (supplying unit until) failed before after s
+    supply_unsized are follow halts = halts_later _ _ failed before after graphs s are (halts_later _ _ failed before after nexts s follow (halts_first _ _ failed before after s halts))
 
-  pub supply_overloaded : (graphs : List Graph) → AreGraphs unit graphs → All (HasCells until) graphs → Halts (demanding unit graphs until) failed before after s → Halts (supplying unit until) failed before after s
-  supply_overloaded graphs are cells halts = halts_later _ _ failed before after graphs s are (halts_later _ _ failed before after tt s cells (halts_first _ _ failed before after s halts))
+    module _ (rings : List ℕ) where
+      pub supply_unwindowed : AreGraphs unit graphs → AreAllNexts unit nexts → (sizing unit nexts).gives rings → Halts (windowing graphs until) failed before after s → Halts (supplying unit until) failed before after s
+      supply_unwindowed are follow sized halts =
+          halts_later _ _ failed before after graphs s are (halts_later _ _ failed before after nexts s follow (halts_later _ _ failed before after rings s sized (halts_first _ _ failed before after s halts)))
 
-pub supply_gives : (unit : Whole) (until : ℕ) (graphs : List Graph) → AreGraphs unit graphs → All (HasCells until) graphs → IsFeasible (edges_of graphs) unit.quantum until → (supplying unit until).gives graphs
-supply_gives unit until graphs are cells feasible = gives_then _ _ graphs graphs are (gives_then _ _ tt graphs cells (gives_then _ _ tt graphs feasible refl))
+      pub supply_overloaded : AreGraphs unit graphs → AreAllNexts unit nexts → (sizing unit nexts).gives rings → All (HasCells until) graphs → Halts (demanding unit graphs until) failed before after s → Halts (supplying unit until) failed before after s
+      supply_overloaded are follow sized cells halts =
+          halts_later _ _ failed before after graphs s are (halts_later _ _ failed before after nexts s follow (halts_later _ _ failed before after rings s sized
+          (halts_later _ _ failed before after tt s cells (halts_first _ _ failed before after s halts))))
+
+pub supply_gives : (unit : Whole) (until : ℕ) (supply : Supply) → AreGraphs unit supply.graphs → AreAllNexts unit supply.nexts → (sizing unit supply.nexts).gives supply.rings → All (HasCells until) supply.graphs
+    → IsFeasible (edges_of supply.graphs) unit.quantum until → (supplying unit until).gives supply
+supply_gives unit until supply are follow sized cells feasible =
+    gives_then _ _ supply.graphs supply are (gives_then _ _ supply.nexts supply follow (gives_then _ _ supply.rings supply sized (gives_then _ _ tt supply cells (gives_then _ _ tt supply feasible refl))))
+
+-- What a program has that is supplied
+pub record IsSupply (unit : Whole) (until : ℕ) (supply : Supply) : Type 0 where
+  pub drawn : AreGraphs unit supply.graphs
+  pub followed : AreAllNexts unit supply.nexts
+  pub sized : AreRings unit supply.nexts supply.rings
+  pub feasible : IsFeasible (edges_of supply.graphs) unit.quantum until
+
+pub supply_is : (unit : Whole) (until : ℕ) (supply : Supply) → (supplying unit until).gives supply → IsSupply unit until supply
+unfolding in_row
+supply_is unit until supply (graphs, drawn, (nexts, followed, (rings, sized, (few, held, (done, feasible, same))))) =
+    subst (IsSupply unit until) (sym same) (record { drawn = drawn; followed = followed; sized = sized.0; feasible = feasible })
 
 -- ---- outcomes
 

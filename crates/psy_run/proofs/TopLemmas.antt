@@ -11,7 +11,7 @@ use Rattle.psy_tree.specs.declared.unit.Unit.{Unit as Whole}
 use Rattle.psy_run.specs.declared.refusal.File.{File}
 use Rattle.psy_run.specs.declared.refusal.File.TheVariants.{Program}
 use Rattle.psy_run.specs.declared.refusal.Refusal.{Refusal}
-use Rattle.psy_run.specs.declared.refusal.Refusal.TheVariants.{Words, TooLong, Lexical, Syntax, Deep, Rule, Many, NotBuilt, Nodes, Edges, Cells, Infeasible}
+use Rattle.psy_run.specs.declared.refusal.Refusal.TheVariants.{Words, TooLong, Lexical, Syntax, Deep, Rule, Many, NotBuilt, Nodes, Edges, Ring, Cells, Infeasible}
 use Rattle.psy_run.specs.declared.refusal.Stop.{Stop}
 use Rattle.psy_run.specs.declared.refusal.Stop.TheVariants as stop
 use Rattle.psy_run.specs.Answer.{Answers, refused, served, compiling, supplying, building, following, serving, answering}
@@ -20,7 +20,7 @@ use Rattle.psy_run.specs.Courses.{Course, in_row}
 use Rattle.psy_run.specs.Outcome.{Halts, halts_refused, halts_unread, halts_memory, Seen, coming, IsUnread, MayAnswer, may_refuse, may_miss, may_serve, Ends, ends_memory, ends_said, ends_cut, Says}
 use Rattle.psy_run.specs.Refusals.{status_of, line_of, file_name}
 use Rattle.psy_run.specs.Services.{Service, Ran, Checked, Drawn, HasRun, Leaves, text_of}
-use Rattle.psy_run.specs.Steps.{reading, lexing, parsing, graphing, costing, windowing, demanding}
+use Rattle.psy_run.specs.Steps.{reading, lexing, parsing, graphing, sizing, costing, windowing, demanding}
 
 -- ---- the statuses of refusals
 
@@ -49,6 +49,7 @@ is_status (Many count) = seven (Many count)
 is_status NotBuilt = one NotBuilt
 is_status Nodes = seven Nodes
 is_status Edges = seven Edges
+is_status Ring = seven Ring
 is_status Cells = seven Cells
 is_status (Infeasible length demand supply) = five (Infeasible length demand supply)
 
@@ -157,16 +158,18 @@ compiling_never files name =
 supplying_never : (unit : Whole) (until : ℕ) → Never (supplying unit until)
 supplying_never unit until =
     never_then (graphing unit) _ (λ stops. stops)
-    (λ graphs. never_then (windowing graphs until) _ (λ stops. apart Cells (λ e. absurd (omega arith)) stops.0) (λ done. never_then (demanding unit graphs until) _ (λ stops. stops) (λ again stops. stops)))
+    (λ graphs. never_then (following unit) _ (λ stops. stops)
+    (λ nexts. never_then (sizing unit nexts) _ (λ stops. stops)
+    (λ rings. never_then (windowing graphs until) _ (λ stops. apart Cells (λ e. absurd (omega arith)) stops.0) (λ done. never_then (demanding unit graphs until) _ (λ stops. stops) (λ again stops. stops)))))
 
 serving_never : (files : Option Files) (command : Command) → Never (serving files command)
 serving_never files (Run name until) =
     never_then (compiling files name) _ (compiling_never files name)
     (λ unit. never_then (building unit) _ (λ stops. apart NotBuilt (λ e. absurd (omega arith)) stops.0)
-    (λ done. never_then (supplying unit until) _ (supplying_never unit until) (λ graphs. never_then (following unit) _ (λ stops. stops) (λ nexts stops. stops))))
+    (λ done. never_then (supplying unit until) _ (supplying_never unit until) (λ supply stops. stops)))
 serving_never files (Check name until) =
     never_then (compiling files name) _ (compiling_never files name)
-    (λ unit. never_then (building unit) _ (λ stops. apart NotBuilt (λ e. absurd (omega arith)) stops.0) (λ done. never_then (supplying unit until) _ (supplying_never unit until) (λ graphs stops. stops)))
+    (λ unit. never_then (building unit) _ (λ stops. apart NotBuilt (λ e. absurd (omega arith)) stops.0) (λ done. never_then (supplying unit until) _ (supplying_never unit until) (λ supply stops. stops)))
 serving_never files (Graph name) =
     never_then (compiling files name) _ (compiling_never files name) (λ unit. never_then (graphing unit) _ (λ stops. stops) (λ graphs. never_then (costing unit) _ (λ stops. stops) (λ costs stops. stops)))
 
@@ -219,16 +222,16 @@ ends_left seen old now before after _ _ (ends_said _ _ _ (may_serve done other g
 ends_left seen old now before after _ _ (ends_cut status text left may rose front) zero = absurd (omega (arith, zero))
 
 -- A kernel is left by a run alone, and is over.
-over_at : (unit : Whole) (nexts : List (List (List ℕ))) (until : ℕ) (p : Progress) → HasRun unit nexts until p → stage_of p ≡ Over
-over_at unit nexts until p ran = by (p.dates == p.plan.until + 1) refl
+over_at : (unit : Whole) (nexts : List (List (List ℕ))) (rings : List ℕ) (until : ℕ) (p : Progress) → HasRun unit nexts rings until p → stage_of p ≡ Over
+over_at unit nexts rings until p ran = by (p.dates == p.plan.until + 1) refl
   where
     by : (t : Bool) → (p.dates == p.plan.until + 1) ≡ t → stage_of p ≡ Over
     by true e = rw e refl
     by false e = let dates = ran.dates in let last = ran.its_until in grind (arith, nat_tests)
 
 over_of : (done : Service) (left : Option Progress) → Leaves done left → IfSome left (λ kernel. stage_of kernel ≡ Over)
-over_of (Ran unit nexts until) left (p, is, ran) = subst (λ l. IfSome l (λ kernel. stage_of kernel ≡ Over)) (sym is) (over_at unit nexts until p ran)
-over_of (Checked unit until) left is = subst (λ l. IfSome l (λ kernel. stage_of kernel ≡ Over)) (sym is) tt
+over_of (Ran unit nexts rings until) left (p, is, ran) = subst (λ l. IfSome l (λ kernel. stage_of kernel ≡ Over)) (sym is) (over_at unit nexts rings until p ran)
+over_of (Checked unit rings until) left is = subst (λ l. IfSome l (λ kernel. stage_of kernel ≡ Over)) (sym is) tt
 over_of (Drawn unit graphs costs) left is = subst (λ l. IfSome l (λ kernel. stage_of kernel ≡ Over)) (sym is) tt
 
 pub ends_over : (seen : Seen) (old now : Option (List ℕ)) (before after answer : ℕ) (left : Option Progress) → Ends seen old now before after answer left → IfSome left (λ kernel. stage_of kernel ≡ Over)

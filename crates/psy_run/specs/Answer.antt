@@ -12,7 +12,7 @@ use Rattle.psy_run.specs.Asked.{Command, Run, Check, Graph as Draw}
 use Rattle.psy_run.specs.Courses.{Course, step, pure, unless, ◌>>=◌}
 use Rattle.psy_run.specs.Refusals.{status_of, line_of}
 use Rattle.psy_run.specs.Services.{Service, Ran, Checked, Drawn, text_of}
-use Rattle.psy_run.specs.Steps.{asking, reading, lexing, parsing, resolving, graphing, costing, windowing, demanding}
+use Rattle.psy_run.specs.Steps.{asking, reading, lexing, parsing, resolving, graphing, sizing, costing, windowing, demanding}
 
 -- ---- the commands
 
@@ -24,38 +24,45 @@ compiling files name = do
   raw ← parsing tokens
   resolving raw
 
--- The graphs of a program's agents, where the processor can supply what they may demand up to this date
-abbrev pub supplying : Whole → ℕ → Course (List Graph)
+-- By agent, the points that may follow each of its points: they are there for each program.
+abbrev pub following : Whole → Course (List (List (List ℕ)))
+following unit = step (AreAllNexts unit) (λ refusal. ⊥)
+
+-- What a program that the processor can run has: its graphs, the points that follow each of its points, and the sizes of its rings
+pub record Supply : Type 0 where
+  pub graphs : List Graph
+  pub nexts : List (List (List ℕ))
+  pub rings : List ℕ
+
+-- That, where the processor can supply what the program's agents may demand up to this date
+abbrev pub supplying : Whole → ℕ → Course Supply
 supplying unit until = do
   graphs ← graphing unit
+  nexts ← following unit
+  rings ← sizing unit nexts
   _ ← windowing graphs until
   _ ← demanding unit graphs until
-  pure graphs
+  pure (record { graphs = graphs; nexts = nexts; rings = rings })
 
 -- A program of those that are run and checked so far
 abbrev pub building : Whole → Course (Unit {0})
 building unit = unless (IsBuilt unit) (IsBuilt unit → ⊥) NotBuilt
-
--- By agent, the points that may follow each of its points: they are there for each program.
-abbrev pub following : Whole → Course (List (List (List ℕ)))
-following unit = step (AreAllNexts unit) (λ refusal. ⊥)
 
 -- `run PROG UNTIL`
 abbrev pub running : Option Files → List ℕ → ℕ → Course Service
 running files name until = do
   unit ← compiling files name
   _ ← building unit
-  _ ← supplying unit until
-  nexts ← following unit
-  pure (Ran unit nexts until)
+  supply ← supplying unit until
+  pure (Ran unit supply.nexts supply.rings until)
 
 -- `check PROG UNTIL`
 abbrev pub checking : Option Files → List ℕ → ℕ → Course Service
 checking files name until = do
   unit ← compiling files name
   _ ← building unit
-  _ ← supplying unit until
-  pure (Checked unit until)
+  supply ← supplying unit until
+  pure (Checked unit supply.rings until)
 
 -- `graph PROG`
 abbrev pub drawing : Option Files → List ℕ → Course Service

@@ -9,7 +9,7 @@ use Rattle.psy_log.specs.Forms.{words_line, limit_line, refused_line, not_built_
 use Rattle.psy_run.specs.declared.refusal.File.{File}
 use Rattle.psy_run.specs.declared.refusal.File.TheVariants.{Program}
 use Rattle.psy_run.specs.declared.refusal.Refusal.{Refusal}
-use Rattle.psy_run.specs.declared.refusal.Refusal.TheVariants.{Words, TooLong, Lexical, Syntax, Deep, Rule, Many, NotBuilt, Nodes, Edges, Cells, Infeasible}
+use Rattle.psy_run.specs.declared.refusal.Refusal.TheVariants.{Words, TooLong, Lexical, Syntax, Deep, Rule, Many, NotBuilt, Nodes, Edges, Ring, Cells, Infeasible}
 
 -- the status of each refusal
 abbrev pub status_of : Refusal → ℕ
@@ -23,6 +23,7 @@ status_of (Many count) = 7
 status_of NotBuilt = 1
 status_of Nodes = 7
 status_of Edges = 7
+status_of Ring = 7
 status_of Cells = 7
 status_of (Infeasible length demand supply) = 5
 
@@ -62,5 +63,6 @@ line_of (Many count) = limit_line (count_name count) (count_limit count)
 line_of NotBuilt = not_built_line
 line_of Nodes = limit_line (codes "nodes") limit.NODES
 line_of Edges = limit_line (codes "edges") limit.EDGES
+line_of Ring = limit_line (codes "ring") limit.RING
 line_of Cells = limit_line (codes "cells") limit.WINDOW_CELLS
 line_of (Infeasible length demand supply) = infeasible_line length demand supply None

@@ -10,13 +10,14 @@ use Rattle.psy_graph.specs.declared.graph.Node.{Node}
 
 -- ---- check
 
--- the size of a variable's ring: its depth, where nobody looks at it
-abbrev pub size_line : VarDecl → List ℕ
-size_line variable = variable_size_line variable.name variable.depth
+-- the sizes of the rings of variables
+abbrev pub sizes_text : List VarDecl → List ℕ → List ℕ
+sizes_text (variable ∷ variables) (size ∷ sizes) = variable_size_line variable.name size ++ sizes_text variables sizes
+sizes_text _ _ = []
 
 -- the sizes, and the verdict
-abbrev pub check_text : Whole → ℕ → List ℕ
-check_text unit until = flat_map size_line unit.variables ++ feasible_line until
+abbrev pub check_text : Whole → List ℕ → ℕ → List ℕ
+check_text unit rings until = sizes_text unit.variables rings ++ feasible_line until
 
 -- ---- graph
 

@@ -63,6 +63,29 @@ const LOOKS: &str =
     "tick 10; clock c = 1 * tick; input x on c = 0 depth 3; temporal v of A on c = 0 depth 2;
 agent A on c budget 9 { body { while (v) max 2 { v = 1 + past(x, 0); } advance 1 on c; } }";
 
+// While an action of B runs, 9 dates of v pass behind its start.
+const SLOW_LOOK: &str =
+    "tick 100; clock f = 1 * tick; clock s = 10 * tick; temporal v of A on f = 0 depth 2;
+agent A on f budget 9 { body { v = v + 1; advance 1 on f; } }
+agent B on s budget 9 { int n = 0; body { n = past(v, 1); advance 1 on s; } }";
+
+// 65,534 dates pass: a ring of as many places as there may be, and then of one more.
+const LARGEST_RING: &str =
+    "tick 100; clock f = 1 * tick; clock s = 4369 * tick; temporal v of A on f = 0 depth 2;
+agent A on f budget 9 { body { v = v + 1; advance 1 on f; } }
+agent B on s budget 9 { int n = 0; body { n = past(v, 1); advance 15 on s; } }";
+
+const ONE_PLACE_MORE: &str =
+    "tick 100; clock f = 1 * tick; clock s = 4369 * tick; temporal v of A on f = 0 depth 3;
+agent A on f budget 9 { body { v = v + 1; advance 1 on f; } }
+agent B on s budget 9 { int n = 0; body { n = past(v, 1); advance 15 on s; } }";
+
+// A ring that is too large, and a table that is.
+const RING_AND_CELLS: &str =
+    "tick 100; clock f = 1 * tick; clock d = 49 * tick; clock s = 10000 * tick; temporal v of A on f = 0 depth 2;
+agent A on f budget 9 { body { if (1) { advance 1 on f; } else { advance 1 on d; } } }
+agent B on s budget 9 { int n = 0; body { n = past(v, 1); advance 7 on s; } }";
+
 const STREAM: &str = "tick 10; clock c = 1 * tick; stream s to A keep 1 on c;
 agent A on c budget 9 { body { advance 1 on c; } }";
 
@@ -72,7 +95,7 @@ const COSTLY: &str =
 // A check: the program, the last date, and the status and the text that are wanted.
 type Check = (&'static str, &'static str, u8, &'static str);
 
-const CHECKED: [Check; 27] = [
+const CHECKED: [Check; 31] = [
     (COUNTS, "20", 0, "variable v 1\nfeasible 20\n"),
     (COUNTS, "0", 0, "variable v 1\nfeasible 0\n"),
     (COUNTS, "100000", 0, "variable v 1\nfeasible 100000\n"),
@@ -96,7 +119,11 @@ const CHECKED: [Check; 27] = [
     (FIVE_TICKS, "100000", 5, "infeasible 5 51 50\n"),
     ("tick 10;", "20", 0, "feasible 20\n"),
     (INPUTS, "4", 0, "variable x 3\nvariable v 2\nfeasible 4\n"),
-    (LOOKS, "4", 1, "not built\n"),
+    (LOOKS, "4", 0, "variable x 3\nvariable v 2\nfeasible 4\n"),
+    (SLOW_LOOK, "20", 0, "variable v 11\nfeasible 20\n"),
+    (LARGEST_RING, "20", 0, "variable v 65536\nfeasible 20\n"),
+    (ONE_PLACE_MORE, "20", 7, "limit ring 65536\n"),
+    (RING_AND_CELLS, "79999", 7, "limit ring 65536\n"),
     (STREAM, "4", 1, "not built\n"),
     // 63 times 63,492 cells are below 4,000,000, 63 times 63,493 are not.
     (TWO_CLOCKS, "63491", 0, "feasible 63491\n"),

@@ -1,5 +1,7 @@
 //! The commands: each is its list of steps.
 ghost use Rattle.std.specs.Prelude.{ℕ, ◌≡◌, ◌≤◌, List, map, string_bytes, IfOk, IfErr};
+ghost use Rattle.std.specs.List.{All};
+ghost use Rattle.psy_base.specs.declared.limits.TheConstants.{RING};
 ghost use Rattle.psy_dates.specs.Plans.{IsPlan};
 ghost use Rattle.psy_graph.specs.declared.graph.Graph.{Graph};
 ghost use Rattle.psy_history.specs.Compiled.{IsBuilt};
@@ -11,41 +13,43 @@ ghost use Rattle.psy_run.specs.Outcome.{CanServe, Halts};
 ghost use Rattle.psy_run.specs.Services.{no_inputs, no_script, service_of};
 
 use crate::asked::{Command, read_words};
-use crate::built::is_built;
 use crate::costs::all_costs;
 use crate::plan::{inputs_of, plan_of, script_of};
 use crate::refusal::{Refusal, Stop};
 use crate::served::Served;
 use crate::steps::compile;
-use crate::supply::{graphs, supply};
+use crate::supply::{Supplied, graphs, supply};
 use psy_base::Memory;
 use psy_door::Shelf;
 use psy_kernel::Kernel;
 use psy_tree::Unit;
 use std::alloc::Global;
 
-// The program is of those that are run and checked so far.
+// The program is of those that are run and checked so far: it has no streams.
 fn built(unit: &Unit) -> Result<(), Stop>
     ensures ok { IfOk result (λ done. (building unit.now).gives done) }
     ensures err { (failed : List ℕ) (before after : ℕ) → IfErr result (Halts (building unit.now) failed before after) }
 {
-    if is_built(unit) {
+    if unit.streams.is_empty() {
         return Ok(());
     }
     Err(Stop::Refused(Refusal::NotBuilt))
 }
 
 // A kernel of a program that can be run up to a date, without inputs and script.
-fn boot(alloc: Global, unit: Unit, until: u32) -> Result<Kernel, Memory>
+fn boot(alloc: Global, unit: Unit, supply: Supplied, until: u32) -> Result<Kernel, Memory>
     requires text { IsOfText unit }
     requires built { IsBuilt unit }
-    requires supplied { (graphs : List Graph) × (supplying unit until).gives graphs }
+    requires supplied { (graphs : List Graph) × (supplying unit until).gives (record { graphs = graphs; nexts = supply.nexts; rings = supply.rings }) }
+    requires places { All (λ size. (1 ≤ size) × (size ≤ RING)) supply.rings }
     ensures booted { IfOk result (λ kernel. kernel ≡ booted kernel.plan (no_inputs kernel.plan.unit) no_script) }
     ensures plan { IfOk result (λ kernel. IsPlan kernel.plan) }
     ensures its_unit { IfOk result (λ kernel. kernel.plan.unit ≡ unit) }
+    ensures its_nexts { IfOk result (λ kernel. kernel.plan.nexts ≡ supply.nexts) }
+    ensures its_rings { IfOk result (λ kernel. kernel.plan.sizes.rings ≡ supply.rings) }
     ensures its_until { IfOk result (λ kernel. kernel.plan.until ≡ until) }
 {
-    let plan = plan_of(alloc, unit, until)?;
+    let plan = plan_of(alloc, unit, supply, until)?;
     let inputs = inputs_of(alloc, &plan.unit)?;
     Kernel::boot(alloc, plan, inputs, script_of(alloc))
 }
@@ -59,8 +63,8 @@ fn run<F: Shelf>(alloc: Global, shelf: &mut F, name: &str, until: u32) -> Result
 {
     let unit = compile(alloc, shelf, name)?;
     built(&unit)?;
-    supply(alloc, &unit, until)?;
-    match boot(alloc, unit, until) {
+    let supply = supply(alloc, &unit, until)?;
+    match boot(alloc, unit, supply, until) {
         Ok(kernel) => Ok(Served::Ran(kernel)),
         Err(_) => Err(Stop::Memory),
     }
@@ -75,8 +79,12 @@ fn check<F: Shelf>(alloc: Global, shelf: &mut F, name: &str, until: u32) -> Resu
 {
     let unit = compile(alloc, shelf, name)?;
     built(&unit)?;
-    supply(alloc, &unit, until)?;
-    Ok(Served::Checked { unit, until })
+    let supply = supply(alloc, &unit, until)?;
+    Ok(Served::Checked {
+        unit,
+        rings: supply.rings,
+        until,
+    })
 }
 
 // `graph PROG`

@@ -8,6 +8,7 @@ use psy_graph::laws::one_graph;
 use psy_meaning::laws::of_text;
 use psy_parse::laws::one_tree;
 use psy_rules::laws::one_verdict;
+use psy_sizes::laws::one_size;
 use psy_token::laws::one_reading;
 use psy_window::laws::greatest;
 
@@ -21,6 +22,7 @@ pub fn one_answer()
     of_text();
     one_graph();
     costs();
+    one_size();
 }
 
 /// Words have some answer, where files are told.
@@ -34,5 +36,6 @@ pub fn some_answer()
     one_graph();
     costs();
     nexts();
+    one_size();
     greatest();
 }

@@ -2,12 +2,13 @@
 #![tactic(auto)]
 
 mod asked;
-mod built;
 #[cfg(test)]
 mod command_tests;
 mod commands;
 mod costs;
 pub mod laws;
+mod lists;
+mod nexts;
 mod plan;
 mod refusal;
 #[cfg(test)]

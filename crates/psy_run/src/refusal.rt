@@ -58,6 +58,8 @@ pub enum Refusal {
     Nodes,
     /// It has no more than 512 nodes, but more than 4,096 edges.
     Edges,
+    /// The ring of a variable would have more than 65,536 places.
+    Ring,
     /// The table of an agent's demand would have more than 4,000,000 cells.
     Cells,
     /// Over so many ticks the agents may demand more cycles than the processor supplies.
@@ -103,6 +105,7 @@ impl Refusal {
             | Refusal::Many(_)
             | Refusal::Nodes
             | Refusal::Edges
+            | Refusal::Ring
             | Refusal::Cells => 7,
         }
     }
@@ -122,6 +125,7 @@ impl Refusal {
             Refusal::Many(count) => limit(count_word(count), most_of(count)),
             Refusal::Nodes => limit(b"nodes", u64::from(limits::NODES)),
             Refusal::Edges => limit(b"edges", u64::from(limits::EDGES)),
+            Refusal::Ring => limit(b"ring", u64::from(limits::RING)),
             Refusal::Cells => limit(b"cells", limits::WINDOW_CELLS),
             Refusal::Infeasible {
                 length,

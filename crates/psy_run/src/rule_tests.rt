@@ -649,6 +649,7 @@ fn lines_of_limits_have_their_numbers(rt: HostRuntime) -> Result<(), Fail> {
         (Refusal::Many(Count::Points), "points", limits::POINTS),
         (Refusal::Nodes, "nodes", limits::NODES as usize),
         (Refusal::Edges, "edges", limits::EDGES as usize),
+        (Refusal::Ring, "ring", limits::RING as usize),
         (Refusal::Cells, "cells", limits::WINDOW_CELLS as usize),
     ];
     for (refusal, name, limit) in cases {

@@ -9,9 +9,10 @@ use psy_tree::Unit;
 pub enum Served {
     /// Runs a program: its kernel, just booted.
     Ran(Kernel),
-    /// Writes the sizes of a program, and that its demand can be met up to a date.
+    /// Writes the sizes of a program's rings, and that its demand can be met up to a date.
     Checked {
         unit: Unit,
+        rings: Items<u32>,
         until: u32,
     },
     /// Writes the graphs of a program's agents, with the greatest costs by agent and point, in instructions.

@@ -1,22 +1,34 @@
-//! The steps on the action graphs of a program: whether the processor can supply what its agents may demand.
-ghost use Rattle.std.specs.Prelude.{ℕ, ◌≡◌, ◌+◌, ◌^◌, ◌<◌, ◌≤◌, ◌⊎◌, List, [], ◌∷◌, ◌++◌, length, IfOk, IfErr, OnOk};
+//! The steps on the action graphs of a program: the sizes of its rings, and whether the processor can supply what its agents may demand.
+ghost use Rattle.std.specs.Prelude.{ℕ, ◌≡◌, ◌+◌, ◌^◌, ◌<◌, ◌≤◌, ◌⊎◌, List, length, IfOk, IfErr};
 ghost use Rattle.std.specs.List.{All, Any};
-ghost use Rattle.psy_base.specs.declared.limits.TheConstants.{AGENTS};
+ghost use Rattle.psy_base.specs.declared.limits.TheConstants.{AGENTS, RING};
 ghost use Rattle.psy_graph.specs.declared.graph.Graph.{Graph as Drawn};
-ghost use Rattle.psy_graph.specs.Graphs.{IsSmall};
+ghost use Rattle.psy_graph.specs.Graphs.{AreGraphs, IsSmall};
+ghost use Rattle.psy_meaning.specs.Flow.{AreAllNexts};
 ghost use Rattle.psy_meaning.specs.Units.{IsOfText};
 ghost use Rattle.psy_run.specs.Answer.{supplying};
 ghost use Rattle.psy_run.specs.Outcome.{Halts};
-ghost use Rattle.psy_run.specs.Steps.{graphing, demanding, PassesCells};
+ghost use Rattle.psy_run.specs.Steps.{graphing, sizing, demanding, PassesCells};
 ghost use Rattle.psy_run.specs.Tables.{IsDrawn, AreWeights, AreAllWeights};
 
+use crate::lists::push;
+use crate::nexts::all_nexts;
 use crate::refusal::{Refusal, Stop};
-use psy_base::{Items, Memory};
+use psy_base::Items;
 use psy_demand::{Verdict, feasible};
 use psy_graph::{Graph, GraphFault, build};
+use psy_sizes::SizeFault;
 use psy_tree::Unit;
 use psy_window::{Span, WindowFault, weights};
 use std::alloc::Global;
+
+/// What a program that the processor can run needs: by agent the points that follow each of its points, and by variable the size of its
+/// ring.
+#[derive(Drop)]
+pub struct Supplied {
+    pub nexts: Items<Items<Items<u32>>>,
+    pub rings: Items<u32>,
+}
 
 /// The action graphs of a program's agents.
 pub fn graphs(alloc: Global, unit: &Unit) -> Result<Items<Graph>, Stop>
@@ -34,6 +46,21 @@ pub fn graphs(alloc: Global, unit: &Unit) -> Result<Items<Graph>, Stop>
     }
 }
 
+// The sizes of the rings of a program's variables.
+fn ring_sizes(alloc: Global, unit: &Unit, graphs: &Items<Graph>) -> Result<Items<u32>, Stop>
+    requires text { IsOfText unit.now }
+    requires graphs { AreGraphs unit.now graphs.now }
+    ensures ok { IfOk result (λ rings. (nexts : List (List (List ℕ))) → AreAllNexts unit.now nexts → (sizing unit.now nexts).gives rings) }
+    ensures places { IfOk result (All (λ size. (1 ≤ size) × (size ≤ RING))) }
+    ensures err { (nexts : List (List (List ℕ))) (failed : List ℕ) (before after : ℕ) → AreAllNexts unit.now nexts → IfErr result (Halts (sizing unit.now nexts) failed before after) }
+{
+    match psy_sizes::rings(alloc, unit, graphs.as_slice()) {
+        Ok(rings) => Ok(rings),
+        Err(SizeFault::LargeRing(_)) => Err(Stop::Refused(Refusal::Ring)),
+        Err(SizeFault::Memory) => Err(Stop::Memory),
+    }
+}
+
 // The greatest budgets of an agent's paths whose last action is due within each length up to this one.
 fn weights_of(alloc: Global, graph: &Graph, until: u32) -> Result<Items<u64>, Stop>
     requires edges { IsDrawn graph.now }
@@ -47,14 +74,6 @@ fn weights_of(alloc: Global, graph: &Graph, until: u32) -> Result<Items<u64>, St
         Err(WindowFault::Cells) => Err(Stop::Refused(Refusal::Cells)),
         Err(WindowFault::Memory) => Err(Stop::Memory),
     }
-}
-
-// A list more.
-fn push(lists: &mut Items<Items<u64>>, list: Items<u64>) -> Result<(), Memory>
-    ensures { OnOk result (lists.new ≡ lists.old ++ list ∷ []) }
-{
-    lists.push(list)?;
-    Ok(())
 }
 
 // The same of all agents.
@@ -93,13 +112,18 @@ fn demand(unit: &Unit, lists: &Items<Items<u64>>, until: u32) -> Result<(), Stop
     }
 }
 
-/// Whether the processor can supply what a program's agents may demand over each length up to a date.
-pub fn supply(alloc: Global, unit: &Unit, until: u32) -> Result<(), Stop>
+/// Whether the processor can run a program: its rings keep their limit, and what its agents may demand over each length up to a date is
+/// supplied.
+pub fn supply(alloc: Global, unit: &Unit, until: u32) -> Result<Supplied, Stop>
     requires text { IsOfText unit.now }
-    ensures ok { IfOk result (λ done. (graphs : List Drawn) × (supplying unit.now until).gives graphs) }
+    ensures ok { IfOk result (λ supply. (graphs : List Drawn) × (supplying unit.now until).gives (record { graphs = graphs; nexts = supply.nexts; rings = supply.rings })) }
+    ensures places { IfOk result (λ supply. All (λ size. (1 ≤ size) × (size ≤ RING)) supply.rings) }
     ensures err { (failed : List ℕ) (before after : ℕ) → IfErr result (Halts (supplying unit.now until) failed before after) }
 {
     let graphs = graphs(alloc, unit)?;
+    let nexts = all_nexts(alloc, unit)?;
+    let rings = ring_sizes(alloc, unit, &graphs)?;
     let lists = all_weights(alloc, &graphs, until)?;
-    demand(unit, &lists, until)
+    demand(unit, &lists, until)?;
+    Ok(Supplied { nexts, rings })
 }

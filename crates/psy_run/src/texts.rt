@@ -10,7 +10,7 @@ ghost use Rattle.std.specs.Prelude.{get_or};
 ghost use Rattle.psy_base.specs.declared.limits.TheConstants.{NODES};
 ghost use Rattle.psy_graph.specs.Graphs.{IsSmall};
 ghost use Rattle.psy_log.specs.Forms.{node_line};
-ghost use Rattle.psy_run.specs.Texts.{size_line, check_text, nodes_text, edge_text, agent_text, graph_text};
+ghost use Rattle.psy_run.specs.Texts.{sizes_text, check_text, nodes_text, edge_text, agent_text, graph_text};
 
 use psy_base::{Edge, Items};
 use psy_door::Sink;
@@ -30,17 +30,24 @@ pub fn write_note<S: Sink>(out: &mut S, note: &Note) -> Result<(), WriteFault>
     write_all_of(out, line.bytes())
 }
 
-// Writes the sizes of variables, in their order.
-fn write_sizes<S: Sink>(variables: &[VarDecl], out: &mut S) -> Result<(), WriteFault>
+// Writes the sizes of the rings of variables, in their order.
+fn write_sizes<S: Sink>(
+    variables: &[VarDecl],
+    rings: &[u32],
+    out: &mut S,
+) -> Result<(), WriteFault>
     requires { All (λ v. length v.name ≤ WORD_BYTES) variables.now }
     ensures counted { S.faults out.old ≤ S.faults out.new }
     ensures failed { OnErr result (Rose (S.faults out.old) (S.faults out.new)) }
-    ensures written { Written (S.held out.old) (S.held out.new) result (flat_map size_line variables.now) }
+    ensures written { Written (S.held out.old) (S.held out.new) result (sizes_text variables.now rings.now) }
 {
-    'variables: for variable in variables {
+    let count = variables.len().min(rings.len());
+    'variables: for number in 0..count {
+        let variable = &variables[number];
+        let size = rings[number];
         let note = Note::VariableSize {
             variable: variable.name.bytes(),
-            size: variable.depth,
+            size,
         };
         if let Err(fault) = write_note(out, &note) {
             return Err(fault);
@@ -49,14 +56,19 @@ fn write_sizes<S: Sink>(variables: &[VarDecl], out: &mut S) -> Result<(), WriteF
     Ok(())
 }
 
-/// Writes the sizes of a program's buffers, and that its demand can be met up to this date.
-pub fn write_check<S: Sink>(unit: &Unit, until: u32, out: &mut S) -> Result<(), WriteFault>
+/// Writes the sizes of a program's rings, and that its demand can be met up to this date.
+pub fn write_check<S: Sink>(
+    unit: &Unit,
+    rings: &[u32],
+    until: u32,
+    out: &mut S,
+) -> Result<(), WriteFault>
     requires { IsBare unit.now }
     ensures counted { S.faults out.old ≤ S.faults out.new }
     ensures failed { OnErr result (Rose (S.faults out.old) (S.faults out.new)) }
-    ensures written { Written (S.held out.old) (S.held out.new) result (check_text unit.now until) }
+    ensures written { Written (S.held out.old) (S.held out.new) result (check_text unit.now rings.now until) }
 {
-    if let Err(fault) = write_sizes(unit.variables.as_slice(), out) {
+    if let Err(fault) = write_sizes(unit.variables.as_slice(), rings, out) {
         return Err(fault);
     }
     write_note(

@@ -16,5 +16,7 @@ returns-in_err-supply-clause-err g c = halts_exit _ _ _ _ _ _ c.from_residual-in
 
 pub returns-clause-ok : goal.returns-clause-ok
 returns-clause-ok g c =
-    let drawn = c.in_ok-supply.ensures.ok in
-    gives_then (compiling _ _) _ _ _ c.in_ok-unit.ensures.ok (gives_then (building _) _ _ _ c.in_ok-built.ensures.ok (gives_then (supplying _ _) _ drawn.0 _ drawn.1 refl))
+    let supply = c.in_ok-supply.supply in
+    let (graphs, gives) = c.in_ok-supply.ensures.ok in
+    gives_then (compiling _ _) _ _ _ c.in_ok-unit.ensures.ok
+    (gives_then (building _) _ _ _ c.in_ok-built.ensures.ok (gives_then (supplying _ _) _ (record { graphs = graphs; nexts = supply.nexts; rings = supply.rings }) _ gives refl))

@@ -1,6 +1,5 @@
-use Rattle.std.proofs.Common.{◌≡◌, ◌∙◌, ap, subst}
-use Rattle.psy_meaning.specs.Flow.{AreAllNexts}
-use Rattle.psy_run.specs.Answer.{compiling, building, supplying, following}
+use Rattle.std.proofs.Common.{◌≡◌}
+use Rattle.psy_run.specs.Answer.{compiling, building, supplying}
 use Rattle.psy_run.specs.Outcome.{halts_memory}
 use Rattle.psy_run.specs.Services.{Ran}
 use Rattle.psy_run.proofs.Courses.{gives_then, halts_exit, halts_first, halts_later}
@@ -19,11 +18,13 @@ returns-in_err-supply-clause-err g c = halts_exit _ _ _ _ _ _ c.from_residual-in
 
 pub returns-in-Ok-clause-ok : goal.returns-in-Ok-clause-ok
 returns-in-Ok-clause-ok g c =
-    let supplied = c.in_ok-supply.ensures.ok in
+    let supply = c.in_ok-supply.supply in
+    let (graphs, gives) = c.in_ok-supply.ensures.ok in
     let plan = c.in-Ok.kernel.plan in
-    let followed = subst (λ unit. AreAllNexts unit plan.nexts) c.in-Ok.ensures.its_unit c.in-Ok.ensures.plan.compiled.followed in
-    let same : Ran plan.unit plan.nexts plan.until ≡ Ran c.in_ok-unit.unit plan.nexts c.args.until = ap (λ unit. Ran unit plan.nexts plan.until) c.in-Ok.ensures.its_unit ∙ ap (Ran c.in_ok-unit.unit plan.nexts) c.in-Ok.ensures.its_until in
-    gives_then (compiling _ _) _ _ _ c.in_ok-unit.ensures.ok (gives_then (building _) _ _ _ c.in_ok-built.ensures.ok (gives_then (supplying _ _) _ supplied.0 _ supplied.1 (gives_then (following _) _ plan.nexts _ followed same)))
+    let its = c.in-Ok.ensures in
+    let same : Ran plan.unit plan.nexts plan.sizes.rings plan.until ≡ Ran c.in_ok-unit.unit supply.nexts supply.rings c.args.until = λ i. Ran (its.its_unit i) (its.its_nexts i) (its.its_rings i) (its.its_until i) in
+    gives_then (compiling _ _) _ _ _ c.in_ok-unit.ensures.ok
+    (gives_then (building _) _ _ _ c.in_ok-built.ensures.ok (gives_then (supplying _ _) _ (record { graphs = graphs; nexts = supply.nexts; rings = supply.rings }) _ gives same))
 
 pub returns-in-Err-clause-err : goal.returns-in-Err-clause-err
 returns-in-Err-clause-err g c = halts_memory

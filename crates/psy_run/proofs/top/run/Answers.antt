@@ -42,4 +42,4 @@ returns-clause-written g c =
     subst (Grew (g.S.Sink.held c.args.out.now) (g.S.Sink.held c.run_loop.new.out)) text c.in_default.ensures.written
 
 pub returns-clause-over : goal.returns-clause-over
-returns-clause-over g c = (c.run_loop.new.kernel, refl, subst (HasRun c.args.kernel.plan.unit c.args.kernel.plan.nexts c.args.kernel.plan.until) (sym c.in_default.ensures.over) (has_run c.args.kernel c.requires.can))
+returns-clause-over g c = (c.run_loop.new.kernel, refl, subst (HasRun c.args.kernel.plan.unit c.args.kernel.plan.nexts c.args.kernel.plan.sizes.rings c.args.kernel.plan.until) (sym c.in_default.ensures.over) (has_run c.args.kernel c.requires.can))

@@ -2,7 +2,7 @@ use Rattle.std.proofs.Common.{◌≡◌, ap, sym, subst, ℕ, List, [], ◌∷�
 use Rattle.psy_tree.specs.declared.unit.AgentDecl.{AgentDecl}
 use Rattle.psy_meaning.specs.Flow.{AreNexts}
 use Rattle.psy_run.proofs.RowLemmas.{each_pushed}
-use Rattle.psy_run.proofs.plan.all_nexts.Goals as goal
+use Rattle.psy_run.proofs.nexts.all_nexts.Goals as goal
 
 pub agents-preserved : goal.agents-preserved
 agents-preserved c =

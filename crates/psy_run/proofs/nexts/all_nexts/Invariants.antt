@@ -1,7 +1,7 @@
 use Rattle.std.proofs.Common.{◌≡◌, ℕ, List, length, slice_get, Some}
 use Rattle.psy_tree.specs.declared.unit.AgentDecl.{AgentDecl}
 use Rattle.psy_meaning.specs.Flow.{AreNexts}
-use Rattle.psy_run.proofs.plan.all_nexts.Given as goal
+use Rattle.psy_run.proofs.nexts.all_nexts.Given as goal
 
 abbrev pub invariant-agents : goal.invariant-agents
 invariant-agents l =

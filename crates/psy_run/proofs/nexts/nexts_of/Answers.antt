@@ -4,7 +4,7 @@ use Rattle.std.specs.List.{Contains}
 use Rattle.psy_tree.specs.declared.unit.AgentDecl.{AgentDecl}
 use Rattle.psy_meaning.specs.Flow.{IsNext, Rises}
 use Rattle.psy_run.proofs.RowLemmas.{each_pushed, read_is}
-use Rattle.psy_run.proofs.plan.nexts_of.Goals as goal
+use Rattle.psy_run.proofs.nexts.nexts_of.Goals as goal
 
 pub next_points-requires-clause-text : goal.next_points-requires-clause-text
 next_points-requires-clause-text c =

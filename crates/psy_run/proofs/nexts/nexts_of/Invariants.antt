@@ -2,7 +2,7 @@ use Rattle.std.proofs.Common.{◌≡◌, ℕ, ◌↔◌, List, length, slice_get
 use Rattle.std.specs.List.{Contains}
 use Rattle.psy_tree.specs.declared.unit.AgentDecl.{AgentDecl}
 use Rattle.psy_meaning.specs.Flow.{IsNext, Rises}
-use Rattle.psy_run.proofs.plan.nexts_of.Given as goal
+use Rattle.psy_run.proofs.nexts.nexts_of.Given as goal
 
 abbrev pub invariant-points : goal.invariant-points
 invariant-points l =
