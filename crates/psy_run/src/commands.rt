@@ -25,8 +25,8 @@ use psy_kernel::Kernel;
 use psy_tree::Unit;
 use std::alloc::Global;
 
-// The program is of those that are run and checked so far: it has no streams.
-fn built(unit: &Unit) -> Result<(), Stop>
+/// The program is of those that are run and checked so far: it has no streams.
+pub fn built(unit: &Unit) -> Result<(), Stop>
     ensures ok { IfOk result (λ done. (building unit.now).gives done) }
     ensures err { (failed : List ℕ) (before after : ℕ) → IfErr result (Halts (building unit.now) failed before after) }
 {

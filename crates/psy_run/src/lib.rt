@@ -9,6 +9,8 @@ mod costs;
 pub mod laws;
 mod lists;
 mod nexts;
+#[cfg(test)]
+mod past_tests;
 mod plan;
 mod refusal;
 #[cfg(test)]
@@ -16,6 +18,8 @@ mod rule_tests;
 mod run;
 #[cfg(test)]
 mod run_tests;
+#[cfg(test)]
+mod script_tests;
 mod served;
 mod steps;
 mod supply;

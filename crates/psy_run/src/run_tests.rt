@@ -93,7 +93,7 @@ agent A63 on c budget 2 { body { advance 1 on c; } }";
 const MANY_LINES: &str =
     "end 1\nagent A0 1 199\nagent A1 1 198\nagent A2 1 197\nagent A3 1 196\nagent A4 1 195\nagent A5 1 194\nagent A6 1 193\nagent A7 1 192\nagent A8 1 191\nagent A9 1 190\nagent A10 1 189\nagent A11 1 188\nagent A12 1 187\nagent A13 1 186\nagent A14 1 185\nagent A15 1 184\nagent A16 1 183\nagent A17 1 182\nagent A18 1 181\nagent A19 1 180\nagent A20 1 179\nagent A21 1 178\nagent A22 1 177\nagent A23 1 176\nagent A24 1 175\nagent A25 1 174\nagent A26 1 173\nagent A27 1 172\nagent A28 1 171\nagent A29 1 170\nagent A30 1 169\nagent A31 1 168\nagent A32 1 167\nagent A33 1 166\nagent A34 1 165\nagent A35 1 164\nagent A36 1 163\nagent A37 1 162\nagent A38 1 161\nagent A39 1 160\nagent A40 1 159\nagent A41 1 158\nagent A42 1 157\nagent A43 1 156\nagent A44 1 155\nagent A45 1 154\nagent A46 1 153\nagent A47 1 152\nagent A48 1 151\nagent A49 1 150\nagent A50 1 149\nagent A51 1 148\nagent A52 1 147\nagent A53 1 146\nagent A54 1 145\nagent A55 1 144\nagent A56 1 143\nagent A57 1 142\nagent A58 1 141\nagent A59 1 140\nagent A60 1 139\nagent A61 1 138\nagent A62 1 137\nagent A63 1 136\n";
 
-const RUNS: [Run; 15] = [
+const RUNS: [Run; 16] = [
     (
         COUNTS,
         "20",
@@ -148,6 +148,12 @@ agent Fast on f budget 8 { body { v = v + 1; advance 1 on f; } }",
         "tick 10; clock c = 1 * tick; input x on c = 7 depth 3; temporal v of A on c = 0 depth 2; agent A on c budget 9 { body { v = 1; advance 1 on c; } }",
         "1",
         "0 v 0\n1 v 1\nend 1\nagent A 1 7\nvariable x 3 -\nvariable v 2 -\n",
+    ),
+    // An agent whose first date lies beyond the last one.
+    (
+        "tick 10; clock c = 10 * tick + 5; temporal v of A on c = 3 depth 1; agent A on c budget 9 { body { v = 1; advance 1 on c; } }",
+        "4",
+        "end 4\nagent A 0 -\nvariable v 1 -\n",
     ),
     // Traps.
     (
