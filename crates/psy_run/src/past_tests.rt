@@ -28,28 +28,26 @@ temporal v of A on c = 5 depth 1024; temporal w of A on c = 0 depth 1;
 agent A on c budget 9 { body { v = 7; w = past(v, 1023); advance 1 on c; } }";
 
 // An input without a list.
-const NO_LIST: &str = "tick 10; clock c = 1 * tick; input x on c = 7 depth 3; temporal v of A on c = 0 depth 1;
+const NO_LIST: &str =
+    "tick 10; clock c = 1 * tick; input x on c = 7 depth 3; temporal v of A on c = 0 depth 1;
 agent A on c budget 9 { body { v = past(x, 2); advance 1 on c; } }";
 
 // A writer whose first action needs 3 cycles and has 2: its variable repeats.
-const STOPPED_WRITER: &str = "tick 20; clock c = 1 * tick; temporal v of W on c = 5 depth 1; temporal w of R on c = 0 depth 1;
+const STOPPED_WRITER: &str =
+    "tick 20; clock c = 1 * tick; temporal v of W on c = 5 depth 1; temporal w of R on c = 0 depth 1;
 agent W on c budget 2 { body { v = 1; advance 1 on c; } } agent R on c budget 9 { body { w = past(v, 0); advance 1 on c; } }";
 
 // An action of 65,536 ticks looks at a variable of each tick: the ring has as many places as a ring may.
-const GREATEST_RING: &str = "tick 10; clock t = 1 * tick; clock c = 8192 * tick; temporal v of A on t = 0 depth 1;
+const GREATEST_RING: &str =
+    "tick 10; clock t = 1 * tick; clock c = 8192 * tick; temporal v of A on t = 0 depth 1;
 agent A on c budget 9 { body { v = past(v, 0); advance 8 on c; } }";
 
-const ONE_PLACE_MORE: &str = "tick 10; clock t = 1 * tick; clock c = 8192 * tick; temporal v of A on t = 0 depth 2;
+const ONE_PLACE_MORE: &str =
+    "tick 10; clock t = 1 * tick; clock c = 8192 * tick; temporal v of A on t = 0 depth 2;
 agent A on c budget 9 { body { v = past(v, 0); advance 8 on c; } }";
 
 // A command, a program, the last date, the status and the text.
-type Case = (
-    &'static str,
-    &'static str,
-    &'static str,
-    u8,
-    &'static str,
-);
+type Case = (&'static str, &'static str, &'static str, u8, &'static str);
 
 const CASES: [Case; 11] = [
     (

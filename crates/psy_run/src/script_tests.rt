@@ -115,7 +115,12 @@ fn script_of(rt: &(impl Abort + AllocGlobal), unit: &Unit, said: Said) -> Result
 }
 
 // A kernel of a program up to a date, with a script.
-fn kernel_with(rt: &(impl Abort + AllocGlobal), text: &str, until: u32, said: Said) -> Result<Kernel, Fail>
+fn kernel_with(
+    rt: &(impl Abort + AllocGlobal),
+    text: &str,
+    until: u32,
+    said: Said,
+) -> Result<Kernel, Fail>
     ensures { IfOk result (λ kernel. kernel ≡ booted kernel.plan kernel.inputs kernel.script) }
 {
     let mut files = Vec::new(rt.alloc());

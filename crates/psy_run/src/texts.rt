@@ -31,11 +31,7 @@ pub fn write_note<S: Sink>(out: &mut S, note: &Note) -> Result<(), WriteFault>
 }
 
 // Writes the sizes of the rings of variables, in their order.
-fn write_sizes<S: Sink>(
-    variables: &[VarDecl],
-    rings: &[u32],
-    out: &mut S,
-) -> Result<(), WriteFault>
+fn write_sizes<S: Sink>(variables: &[VarDecl], rings: &[u32], out: &mut S) -> Result<(), WriteFault>
     requires { All (λ v. length v.name ≤ WORD_BYTES) variables.now }
     ensures counted { S.faults out.old ≤ S.faults out.new }
     ensures failed { OnErr result (Rose (S.faults out.old) (S.faults out.new)) }

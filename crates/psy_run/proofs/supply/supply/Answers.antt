@@ -55,9 +55,8 @@ pub returns-clause-ok : goal.returns-clause-ok
 returns-clause-ok c =
     let graphs = c.in_ok-graphs.graphs in
     let nexts = c.in_ok-nexts.nexts in
-    let are = c.in_ok-lists.ensures.ok in
-    (
+    let are = c.in_ok-lists.ensures.ok in (
       graphs,
       supply_gives c.args.unit.now c.args.until (record { graphs = graphs; nexts = nexts; rings = c.in_ok-rings.rings }) c.in_ok-graphs.ensures.ok c.in_ok-nexts.ensures (c.in_ok-rings.ensures.ok nexts c.in_ok-nexts.ensures)
-      (all_have_cells c.args.until graphs c.in_ok-lists.lists are) (c.in_ok-demand.ensures.ok graphs are),
+          (all_have_cells c.args.until graphs c.in_ok-lists.lists are) (c.in_ok-demand.ensures.ok graphs are),
     )
