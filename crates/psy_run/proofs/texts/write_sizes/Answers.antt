@@ -1,5 +1,6 @@
-use Rattle.std.proofs.Common.{◌≡◌, ◌∙◌, ap, subst, ℕ, ◌+◌, ◌<◌, length, take, min, arith}
+use Rattle.std.proofs.Common.{◌≡◌, ◌∙◌, ap, subst, ℕ, ◌+◌, ◌<◌, get_or, length, take, min, arith}
 use Rattle.psy_door.specs.Growth.{Grew, GrewByFront}
+use Rattle.psy_tree.specs.declared.unit.VarDecl.{VarDecl}
 use Rattle.psy_log.specs.Forms.{variable_size_line}
 use Rattle.psy_run.specs.Texts.{sizes_text}
 use Rattle.psy_run.proofs.TextLemmas.{sizes_more, sizes_split, sizes_all}
@@ -12,12 +13,12 @@ returns-in-Err-clause-written g c =
     let rings = c.args.rings.now in
     let i = c.variables.number in
     let variable = c.index-variables-number.result in
-    let size = c.index-rings-number.result in
+    let size = get_or rings i 0 in
     let within : i < length variables = omega (arith, c.variables-test.true, c.min-count.ensures) in
     let within' : i < length rings = omega (arith, c.variables-test.true, c.min-count.ensures) in
-    let line = ap (λ name. variable_size_line name size) c.bytes.ensures ∙ (λ j. variable_size_line (c.index-variables-number.is j).name (c.index-rings-number.is j)) in
+    let line = ap (λ name. variable_size_line name size) c.bytes.ensures ∙ ap (λ (v : VarDecl). variable_size_line v.name size) c.index-variables-number.is in
     let front = subst (λ text. GrewByFront (g.S.Sink.held c.variables.out) (g.S.Sink.held c.write_note.new.out) text) line c.in-Err.ensures.written in
-    GrewByFront-item _ _ _ (sizes_text (take i variables) (take i rings)) _ _ _ _ (sizes_more variables rings i variable size within within') (sizes_split variables rings (i + 1)) c.variables.invariant.grew front
+    GrewByFront-item _ _ _ (sizes_text (take i variables) (take i rings)) _ _ _ _ (sizes_more variables rings i variable 0 within within') (sizes_split variables rings (i + 1)) c.variables.invariant.grew front
 
 pub variables-preserved : goal.variables-preserved
 variables-preserved g c =
@@ -25,14 +26,14 @@ variables-preserved g c =
     let rings = c.args.rings.now in
     let i = c.variables.number in
     let variable = c.index-variables-number.result in
-    let size = c.index-rings-number.result in
+    let size = get_or rings i 0 in
     let within : i < length variables = omega (arith, c.variables-test.true, c.min-count.ensures) in
     let within' : i < length rings = omega (arith, c.variables-test.true, c.min-count.ensures) in
-    let line = ap (λ name. variable_size_line name size) c.bytes.ensures ∙ (λ j. variable_size_line (c.index-variables-number.is j).name (c.index-rings-number.is j)) in
+    let line = ap (λ name. variable_size_line name size) c.bytes.ensures ∙ ap (λ (v : VarDecl). variable_size_line v.name size) c.index-variables-number.is in
     let whole = subst (λ text. Grew (g.S.Sink.held c.variables.out) (g.S.Sink.held c.write_note.new.out) text) line c.in_default.ensures.written in
     record {
       counted = omega (arith, c.in_default.ensures.counted, c.variables.invariant.counted);
-      grew = Grew-item _ _ _ (sizes_text (take i variables) (take i rings)) _ _ (sizes_more variables rings i variable size within within') c.variables.invariant.grew whole;
+      grew = Grew-item _ _ _ (sizes_text (take i variables) (take i rings)) _ _ (sizes_more variables rings i variable 0 within within') c.variables.invariant.grew whole;
     }
 
 pub returns-clause-written : goal.returns-clause-written
