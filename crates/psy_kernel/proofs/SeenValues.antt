@@ -9,6 +9,7 @@ use Rattle.std.proofs.lemmas.List.FromFn.{get_or-map-range_with_len, length-map-
 use Rattle.std.proofs.lemmas.Option.{slice_get-get_or, slice_get_past}
 use Rattle.psy_base.specs.declared.limits.TheConstants.{RING}
 use Rattle.psy_clock.specs.declared.clock.Clock.{Clock}
+use Rattle.psy_code.specs.declared.look.Sent.{Sent}
 use Rattle.psy_code.specs.Views.{found_in, past_of}
 use Rattle.psy_tree.specs.declared.unit.VarDecl.{VarDecl}
 use Rattle.psy_meaning.specs.RingSizes.{dates_between}
@@ -107,7 +108,7 @@ module _ (rings : List (List ℤ)) (variables : List VarDecl) (clocks : List Clo
       pub inside : (other : List ℤ) → back + dates < length (get_or rings variable other)
       pub value : (other : List ℤ) (x : ℤ) → slice_get (get_or rings variable other) (back + dates) ≡ Some x → past_of (window_of now).view variable back ≡ Some x
 
-    module _ (now : Sight) (noted : Option (ℕ × ℕ)) (is : record { rings = rings; variables = variables; clocks = clocks; start = start; date = date; noted = noted } ≡ now) (variable back : ℕ)
+    module _ (now : Sight) (noted : Option (ℕ × ℕ)) (sent : Option Sent) (is : record { rings = rings; variables = variables; clocks = clocks; start = start; date = date; noted = noted; sent = sent } ≡ now) (variable back : ℕ)
         (some : IsSome (past_of (window_of now).view variable back)) where
       pub seen_in : IsSeen variable back
       seen_in = is_seen variable back (subst (λ (sight : Sight). IsSome (past_of (window_of sight).view variable back)) (sym is) some)

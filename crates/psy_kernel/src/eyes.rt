@@ -13,7 +13,8 @@ use psy_tree::VarDecl;
 use std::marker::Model;
 
 /// What an action sees that started at one date, at another, while others publish on: a value is found as many places further back in the
-/// variable's ring as dates of it have passed since the start. There are no streams.
+/// variable's ring as dates of it have passed since the start. An agent of a program without streams asks for nothing else; there is one stream
+/// without messages, and one send is taken.
 #[derive(Drop)]
 pub struct Eyes<'a> {
     rings: &'a [Ring],
@@ -24,6 +25,7 @@ pub struct Eyes<'a> {
     date: u64,
     /// The variable and the `back` of the look made last.
     noted: Option<(u32, u32)>,
+    sent: Option<Sent>,
 }
 
 impl<'a> Model for Eyes<'a> {
@@ -38,6 +40,7 @@ impl<'a> Model for Eyes<'a> {
       start = eyes.start;
       date = eyes.date;
       noted = eyes.noted;
+      sent = eyes.sent;
     } };
 
     ghost invariant = { λ eyes. CanSee eyes.rings.now eyes.clocks.now eyes.start eyes.date };
@@ -84,6 +87,7 @@ impl<'a> Eyes<'a> {
             start,
             date,
             noted: None,
+            sent: None,
         }
     }
 
@@ -118,5 +122,12 @@ impl<'a> Look for Eyes<'a> {
         None
     }
 
-    fn send(&mut self, _stream: u32, _value: i32, _after: u32, _clock: u32) {}
+    fn send(&mut self, stream: u32, value: i32, after: u32, clock: u32) {
+        self.sent = Some(Sent {
+            stream,
+            value,
+            after,
+            clock,
+        });
+    }
 }

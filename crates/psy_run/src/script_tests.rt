@@ -81,14 +81,14 @@ fn turned(alloc: Global, unit: &Unit, cycle: u64) -> Result<Option<Script>, Memo
     }))
 }
 
-// The script of a program that says it.
-fn script_of(rt: &(impl Abort + AllocGlobal), unit: &Unit, said: Said) -> Result<Script, Fail>
-    ensures { IfOk result (IsScript unit.now) }
+// The script that says it, where the program has such agents.
+fn script_of(alloc: Global, unit: &Unit, said: Said) -> Result<Option<Script>, Memory>
+    ensures { IfOk result (λ script. IfSome script (IsScript unit.now)) }
 {
-    let script = match said {
-        Said::Turned(cycle) => turned(rt.alloc(), unit, cycle)?,
+    match said {
+        Said::Turned(cycle) => turned(alloc, unit, cycle),
         Said::SecondStalled(instr, cycles) => stalled(
-            rt.alloc(),
+            alloc,
             unit,
             Stall {
                 agent: 1,
@@ -96,9 +96,9 @@ fn script_of(rt: &(impl Abort + AllocGlobal), unit: &Unit, said: Said) -> Result
                 instr,
                 cycles,
             },
-        )?,
+        ),
         Said::FirstStalled(instr, cycles) => stalled(
-            rt.alloc(),
+            alloc,
             unit,
             Stall {
                 agent: 0,
@@ -106,11 +106,7 @@ fn script_of(rt: &(impl Abort + AllocGlobal), unit: &Unit, said: Said) -> Result
                 instr,
                 cycles,
             },
-        )?,
-    };
-    match script {
-        Some(script) => Ok(script),
-        None => panic!(rt; "no script of the program"),
+        ),
     }
 }
 
@@ -139,7 +135,10 @@ fn kernel_with(
         Ok(supply) => supply,
         Err(_) => panic!(rt; "not supplied"),
     };
-    let script = script_of(rt, &unit, said)?;
+    let script = match script_of(rt.alloc(), &unit, said)? {
+        Some(script) => script,
+        None => panic!(rt; "no script of the program"),
+    };
     let plan = plan_of(rt.alloc(), unit, supply, until)?;
     let inputs = inputs_of(rt.alloc(), &plan.unit)?;
     Ok(Kernel::boot(rt.alloc(), plan, inputs, script)?)

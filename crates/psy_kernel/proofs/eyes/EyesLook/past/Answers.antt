@@ -5,26 +5,26 @@ use Rattle.psy_kernel.proofs.SeenValues.{read_in, seen_in}
 use Rattle.psy_kernel.proofs.eyes.EyesLook.past.Goals as goal
 
 pub bounds-self-inside-number : goal.bounds-self-inside-number
-bounds-self-inside-number c = (seen_in _ _ _ _ _ c.self.invariant _ _ c.self.view_is c.args.variable c.args.back c.requires.0).known
+bounds-self-inside-number c = (seen_in _ _ _ _ _ c.self.invariant _ _ _ c.self.view_is c.args.variable c.args.back c.requires.0).known
 
 pub bounds-self-inside-number-2 : goal.bounds-self-inside-number-2
-bounds-self-inside-number-2 c = (seen_in _ _ _ _ _ c.self.invariant _ _ c.self.view_is c.args.variable c.args.back c.requires.0).ringed
+bounds-self-inside-number-2 c = (seen_in _ _ _ _ _ c.self.invariant _ _ _ c.self.view_is c.args.variable c.args.back c.requires.0).ringed
 
 pub overflow_cast-passed : goal.overflow_cast-passed
 overflow_cast-passed c =
-    let read = read_in _ _ _ _ _ c.self.invariant _ _ c.self.view_is c.args.variable c.args.back c.requires.0 _ _ _ c.clock_in-clock.ensures.clock c.dates_between-passed.ensures in
+    let read = read_in _ _ _ _ _ c.self.invariant _ _ _ c.self.view_is c.args.variable c.args.back c.requires.0 _ _ _ c.clock_in-clock.ensures.clock c.dates_between-passed.ensures in
     omega (arith, read.few)
 
 pub overflow_add-back : goal.overflow_add-back
 overflow_add-back c =
-    let read = read_in _ _ _ _ _ c.self.invariant _ _ c.self.view_is c.args.variable c.args.back c.requires.0 _ _ _ c.clock_in-clock.ensures.clock c.dates_between-passed.ensures in
+    let read = read_in _ _ _ _ _ c.self.invariant _ _ _ c.self.view_is c.args.variable c.args.back c.requires.0 _ _ _ c.clock_in-clock.ensures.clock c.dates_between-passed.ensures in
     omega (arith, read.few)
 
 pub look-requires : goal.look-requires
-look-requires c = (read_in _ _ _ _ _ c.self.invariant _ _ c.self.view_is c.args.variable c.args.back c.requires.0 _ _ _ c.clock_in-clock.ensures.clock c.dates_between-passed.ensures).inside _
+look-requires c = (read_in _ _ _ _ _ c.self.invariant _ _ _ c.self.view_is c.args.variable c.args.back c.requires.0 _ _ _ c.clock_in-clock.ensures.clock c.dates_between-passed.ensures).inside _
 
 pub returns-clause-value : goal.returns-clause-value
 returns-clause-value c =
     let bits : to_z w32 (of_z w32 c.look.result) ≡ c.look.result = grind (arith, to_z-of_z) in
-    (read_in _ _ _ _ _ c.self.invariant _ _ c.self.view_is c.args.variable c.args.back c.requires.0 _ _ _ c.clock_in-clock.ensures.clock c.dates_between-passed.ensures).value _ _
+    (read_in _ _ _ _ _ c.self.invariant _ _ _ c.self.view_is c.args.variable c.args.back c.requires.0 _ _ _ c.clock_in-clock.ensures.clock c.dates_between-passed.ensures).value _ _
     (c.look.ensures ∙ ap Some (sym bits))
