@@ -1,7 +1,9 @@
 //! Runs with a script: ties that go by another order, and stalls.
 ghost use Rattle.std.specs.Prelude.{◌≡◌, IfOk, IfSome, length};
+ghost use Rattle.psy_dates.specs.Plans.{IsPlan};
 ghost use Rattle.psy_kernel.specs.Progress.{booted};
 ghost use Rattle.psy_kernel.specs.Scripts.{IsScript};
+ghost use Rattle.psy_meaning.specs.Units.{IsOfText};
 
 use crate::commands::built;
 use crate::plan::{inputs_of, plan_of};
@@ -9,6 +11,7 @@ use crate::run::run_loop;
 use crate::steps::compile;
 use crate::supply::supply;
 use psy_base::{Items, Memory, Text};
+use psy_dates::Plan;
 use psy_door::{CleanShelf, SinkVec};
 use psy_kernel::{Kernel, Order, Script, Stage, Stall};
 use psy_tree::Unit;
@@ -110,38 +113,60 @@ fn script_of(alloc: Global, unit: &Unit, said: Said) -> Result<Option<Script>, M
     }
 }
 
-// A kernel of a program up to a date, with a script.
-fn kernel_with(
-    rt: &(impl Abort + AllocGlobal),
-    text: &str,
-    until: u32,
-    said: Said,
-) -> Result<Kernel, Fail>
-    ensures { IfOk result (λ kernel. kernel ≡ booted kernel.plan kernel.inputs kernel.script) }
+// The program of a text.
+fn unit_of(alloc: Global, text: &str) -> Result<Option<Unit>, Memory>
+    ensures { IfOk result (λ unit. IfSome unit IsOfText) }
 {
-    let mut files = Vec::new(rt.alloc());
-    let program = Vec::from_slice(rt.alloc(), text.as_bytes())?;
-    files.push((Text::from_bytes(rt.alloc(), b"p")?, program))?;
+    let mut files = Vec::new(alloc);
+    let program = Vec::from_slice(alloc, text.as_bytes())?;
+    files.push((Text::from_bytes(alloc, b"p")?, program))?;
     let mut shelf = CleanShelf::new(files);
-    let unit = match compile(rt.alloc(), &mut shelf, "p") {
-        Ok(unit) => unit,
-        Err(_) => panic!(rt; "no program"),
-    };
+    match compile(alloc, &mut shelf, "p") {
+        Ok(unit) => Ok(Some(unit)),
+        Err(_) => Ok(None),
+    }
+}
+
+// Its plan up to a date, where it can be run.
+fn planned(alloc: Global, unit: Unit, until: u32) -> Result<Option<Plan>, Memory>
+    requires { IsOfText unit }
+    ensures { IfOk result (λ plan. IfSome plan IsPlan) }
+{
     match built(&unit) {
         Ok(()) => {}
-        Err(_) => panic!(rt; "not built"),
+        Err(_) => return Ok(None),
     }
-    let supply = match supply(rt.alloc(), &unit, until) {
-        Ok(supply) => supply,
-        Err(_) => panic!(rt; "not supplied"),
-    };
-    let script = match script_of(rt.alloc(), &unit, said)? {
-        Some(script) => script,
-        None => panic!(rt; "no script of the program"),
-    };
-    let plan = plan_of(rt.alloc(), unit, supply, until)?;
-    let inputs = inputs_of(rt.alloc(), &plan.unit)?;
-    Ok(Kernel::boot(rt.alloc(), plan, inputs, script)?)
+    match supply(alloc, &unit, until) {
+        Ok(supply) => Ok(Some(plan_of(alloc, unit, supply, until)?)),
+        Err(_) => Ok(None),
+    }
+}
+
+// A kernel of a plan with a script.
+fn with_script(alloc: Global, plan: Plan, said: Said) -> Result<Option<Kernel>, Memory>
+    requires { IsPlan plan }
+    ensures { IfOk result (λ kernel. IfSome kernel (λ k. k ≡ booted k.plan k.inputs k.script)) }
+{
+    match script_of(alloc, &plan.unit, said)? {
+        Some(script) => {
+            let inputs = inputs_of(alloc, &plan.unit)?;
+            Ok(Some(Kernel::boot(alloc, plan, inputs, script)?))
+        }
+        None => Ok(None),
+    }
+}
+
+// A kernel of the program of a text up to a date, with a script, where there is one.
+fn kernel_with(alloc: Global, text: &str, until: u32, said: Said) -> Result<Option<Kernel>, Memory>
+    ensures { IfOk result (λ kernel. IfSome kernel (λ k. k ≡ booted k.plan k.inputs k.script)) }
+{
+    match unit_of(alloc, text)? {
+        Some(unit) => match planned(alloc, unit, until)? {
+            Some(plan) => with_script(alloc, plan, said),
+            None => Ok(None),
+        },
+        None => Ok(None),
+    }
 }
 
 // The text of the run with a script.
@@ -152,7 +177,10 @@ fn expect_run(
     said: Said,
     text: &str,
 ) -> Result<(), Fail> {
-    let mut kernel = kernel_with(rt, program, until, said)?;
+    let mut kernel = match kernel_with(rt.alloc(), program, until, said)? {
+        Some(kernel) => kernel,
+        None => panic!(rt; "no such run"),
+    };
     let mut out = SinkVec::new(rt.alloc(), 999, 999, Vec::new(rt.alloc()))?;
     let ran = run_loop(&mut kernel, &mut out);
     assert!(rt; ran.is_ok(), "a write failed");
