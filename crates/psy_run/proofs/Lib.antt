@@ -9,6 +9,7 @@ pub mod OneStep
 pub mod PlanLemmas
 pub mod RefusalLemmas
 pub mod RowLemmas
+pub mod ScriptLemmas
 pub mod SomeAnswer
 pub mod SomeStep
 pub mod SupplyLemmas

@@ -18,6 +18,8 @@ mod rule_tests;
 mod run;
 #[cfg(test)]
 mod run_tests;
+#[cfg(test)]
+mod script_tests;
 mod served;
 mod steps;
 mod supply;
