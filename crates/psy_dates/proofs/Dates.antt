@@ -6,24 +6,31 @@ use Rattle.std.proofs.lemmas.List.Elements.{All-get_or}
 use Rattle.psy_budget.specs.declared.charge.Stall.{Stall}
 use Rattle.psy_clock.specs.Dates.{IsClock}
 use Rattle.psy_code.specs.Views.{found_in}
-use Rattle.psy_meaning.specs.Actions.{Action, Next, System, first_action, publishing, variable_of}
+use Rattle.psy_queue.specs.Order.{Queued}
+use Rattle.psy_meaning.specs.Actions.{Action, Next, System, first_action, publishing, stream_of, variable_of}
 use Rattle.psy_meaning.specs.Executors.{by_code}
 use Rattle.psy_meaning.specs.History.{history}
+use Rattle.psy_meaning.specs.QueueSizes.{stream_at}
 use Rattle.psy_meaning.specs.Schedule.{Turn, units}
+use Rattle.psy_meaning.specs.Timing.{first_date}
 use Rattle.psy_meaning.specs.Units.{IsBare, OwnedWithin}
 use Rattle.psy_history.specs.Regular.{IsLawful}
 use Rattle.psy_dates.specs.declared.plan.Plan.{Plan}
 use Rattle.psy_dates.specs.declared.seat.Phase.TheVariants as phase
 use Rattle.psy_dates.specs.declared.seat.Seat.{Seat}
 use Rattle.psy_dates.specs.declared.shared.Shared.{Shared}
+use Rattle.psy_dates.specs.Messages.{nowhere, sent_from, settled_then, with_entered}
 use Rattle.psy_dates.specs.Moves.{IsNumbered, commits_at, ends_at, owner_of, seat_then, timing_in}
+use Rattle.psy_dates.specs.Outboxes.{Outboxed}
 use Rattle.psy_dates.specs.Plans.{system_of}
 use Rattle.psy_dates.specs.Publications.{ring_then}
-use Rattle.psy_dates.specs.Standing.{KeepsCopy, NoneActs, RingStands, SeatStands, SharedStands, committed_by, dates_done}
+use Rattle.psy_dates.specs.Standing.{KeepsCopy, KeepsTakes, NoneActs, OutboxStands, RingStands, SeatStands, SharedStands, committed_by, dates_done}
 use Rattle.psy_dates.proofs.Committed.{committed_moves, kept_moves}
 use Rattle.psy_dates.proofs.Histories.{few, numbered, was_started}
 use Rattle.psy_dates.proofs.Publications.{Goes, ring_moves}
 use Rattle.psy_dates.proofs.Seats.{seat_moves}
+use Rattle.psy_dates.proofs.StreamLaws.{AreStreamLaws}
+use Rattle.psy_dates.proofs.StreamsThen.{outbox_stands, queue_stands, takes_stand}
 
 one_back : (n : ℕ) → (n + 1) - 1 ≡ n
 one_back n = omega arith
@@ -49,11 +56,15 @@ pub record Moved (plan : Plan) (inputs : List (List ℤ)) (date : ℕ) (old new 
   pub ended : new.ended.items ≡ old.ended.items
   pub ringed : length new.rings.items ≡ length old.rings.items
   pub rings : (variable : ℕ) (ring : List ℤ) → slice_get old.rings.items variable ≡ Some ring → slice_get new.rings.items variable ≡ Some (ring_then (system_of plan inputs (λ agent. [])) new.committed.items date variable ring)
-  pub queues : length new.queues.items ≡ length old.queues.items
-  pub outboxes : length new.outboxes.items ≡ length old.outboxes.items
-  pub taken : length new.taken.items ≡ length old.taken.items
+  pub queued : length new.queues.items ≡ length old.queues.items
+  pub queues : (stream : ℕ) (queue : Queued) → slice_get old.queues.items stream ≡ Some queue → slice_get new.queues.items stream ≡ Some (with_entered (sent_from (system_of plan [] (λ agent. [])) date old.seats.items old.outboxes.items 0 (length plan.unit.agents) stream)
+      (settled_then date (first_date (timing_in plan (stream_at plan.unit stream).receiver)) (get_or old.seats.items (stream_at plan.unit stream).receiver nowhere) (get_or old.taken.items stream 0) queue))
+  pub boxed : length new.outboxes.items ≡ length old.outboxes.items
+  pub outboxes : (agent : ℕ) (outbox : Outboxed) → slice_get old.outboxes.items agent ≡ Some outbox → slice_get new.outboxes.items agent ≡ Some (if ends_at date (slice_get old.seats.items agent) then record outbox { sends = [] } else outbox)
+  pub taking : length new.taken.items ≡ length old.taken.items
+  pub taken : (stream n : ℕ) → slice_get old.taken.items stream ≡ Some n → slice_get new.taken.items stream ≡ Some (if ends_at date (slice_get old.seats.items (stream_at plan.unit stream).receiver) then 0 else n)
 
-module _ (plan : Plan) (inputs : List (List ℤ)) (stalls : ℕ → List Stall) (bare : IsBare plan.unit) (lawful : IsLawful (system_of plan inputs stalls)) (date : ℕ) (turns : List (Option Turn))
+module _ (plan : Plan) (inputs : List (List ℤ)) (stalls : ℕ → List Stall) (bare : IsBare plan.unit) (lawful : IsLawful (system_of plan inputs stalls)) (laws : AreStreamLaws (system_of plan inputs stalls)) (date : ℕ) (turns : List (Option Turn))
     (goes : (variable : ℕ) → IsClock (publishing (system_of plan inputs stalls) variable) → Goes (system_of plan inputs stalls) date variable)
     (unstarted : (agent number : ℕ) → length (history (system_of plan inputs stalls) date agent) ≤ number → units agent number turns ≡ 0)
     (old new : Shared) (due : NoneActs date old.seats.items) (stands : SharedStands (system_of plan inputs stalls) turns date old) (moved : Moved plan inputs date old new) where
@@ -134,7 +145,10 @@ module _ (plan : Plan) (inputs : List (List ℤ)) (stalls : ℕ → List Stall) 
     ended = λ variable owner value is owned. subst (λ d. KeepsCopy d turns variable (history s (date + 1) owner) value) (sym (one_back date)) (subst (λ n. KeepsCopy date turns variable (history s n owner) value) (sym (add-one date)) (ended_is variable owner value is owned));
     ringed = moved.ringed ∙ stands.ringed;
     rings = ring_stands;
-    queues = moved.queues ∙ stands.queues;
-    outboxes = moved.outboxes ∙ stands.outboxes;
-    taken = moved.taken ∙ stands.taken;
+    queued = moved.queued ∙ stands.queued;
+    queues = queue_stands plan inputs stalls bare lawful laws date turns old due stands new.queues.items moved.queued moved.queues;
+    boxed = moved.boxed ∙ stands.boxed;
+    outboxes = λ agent outbox is. subst (λ d. OutboxStands s d turns agent (history s (date + 1) agent) outbox) (sym (one_back date)) (subst (λ n. OutboxStands s date turns agent (history s n agent) outbox) (sym (add-one date)) (outbox_stands plan inputs stalls bare lawful laws date turns old due stands unstarted new.outboxes.items moved.boxed moved.outboxes agent outbox is));
+    taking = moved.taking ∙ stands.taking;
+    taken = λ stream n is. subst (λ d. KeepsTakes d turns stream (history s (date + 1) (stream_of s stream).receiver) n) (sym (one_back date)) (subst (λ k. KeepsTakes date turns stream (history s k (stream_of s stream).receiver) n) (sym (add-one date)) (takes_stand plan inputs stalls bare lawful laws date turns old due stands unstarted new.taken.items moved.taking moved.taken stream n is));
   }

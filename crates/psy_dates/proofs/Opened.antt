@@ -1,19 +1,22 @@
 -- What the agents share before date 0 stands for the empty history.
-use Rattle.std.proofs.Common.{◌≡◌, ℕ, ◌-◌, ◌<◌, List, [], All, length, get_or, Option, Some, None, refl, sym, ap, subst, ◌∙◌, arith}
+use Rattle.std.proofs.Common.{◌≡◌, ℕ, ◌-◌, ◌<◌, ◌≤◌, List, [], All, length, get_or, Option, Some, None, refl, sym, ap, subst, ◌∙◌, arith}
 use Rattle.std.specs.Prelude.{map, replicate, slice_get, ℤ, pos}
 use Rattle.std.proofs.lemmas.List.{get_or-map, length-map, length-replicate}
 use Rattle.std.proofs.lemmas.List.Elements.{All-get_or}
 use Rattle.std.proofs.lemmas.Option.{get_or_from_slice_get, same_Some, slice_get-get_or, slice_get_within}
+use Rattle.psy_base.specs.declared.limits.TheConstants.{RING}
 use Rattle.psy_budget.specs.declared.charge.Stall.{Stall}
 use Rattle.psy_tree.specs.declared.unit.VarDecl.{VarDecl}
 use Rattle.psy_meaning.specs.Actions.{System, variable_of}
 use Rattle.psy_meaning.specs.History.{history}
 use Rattle.psy_meaning.specs.RingSizes.{IsRingSize}
+use Rattle.psy_meaning.specs.Units.{IsBare}
 use Rattle.psy_dates.specs.declared.plan.Plan.{Plan}
 use Rattle.psy_dates.specs.declared.seat.Phase.TheVariants as phase
 use Rattle.psy_dates.specs.declared.shared.Shared.{Shared}
-use Rattle.psy_dates.specs.Plans.{AreSizes, system_of}
-use Rattle.psy_dates.specs.Standing.{RingStands, SharedStands, committed_by, dates_done}
+use Rattle.psy_meaning.specs.BufferSizes.{AreSizes}
+use Rattle.psy_dates.specs.Plans.{system_of}
+use Rattle.psy_dates.specs.Standing.{OutboxStands, QueueStands, RingStands, SharedStands, committed_by, dates_done}
 
 first_value : (s : System) (variable : ℕ) (owner : Option ℕ) → s.opening.committed variable ≡ committed_by s (history s 0) variable (0 - 1) owner
 first_value s variable None = refl
@@ -28,6 +31,15 @@ first_ring s variable size value of_size is =
       values = ap (replicate size) is ∙ ap (λ n. replicate n (variable_of s variable).init) (sym long);
     }
 
+-- a ring has a place at least, since a variable has a depth
+pub ring_places : (plan : Plan) → IsBare plan.unit → AreSizes plan.unit plan.nexts plan.sizes → All (λ size. (1 ≤ size) × (size ≤ RING)) plan.sizes.rings
+ring_places plan bare sizes variable d l =
+    let its = sizes.rings.each variable (get_or plan.sizes.rings variable d) (slice_get-get_or plan.sizes.rings variable d l) in
+    let depth = (bare.variables variable its.decl (omega (arith, l, sizes.rings.count))).depth in
+    let same : get_or plan.unit.variables variable its.decl ≡ its.decl = get_or_from_slice_get plan.unit.variables variable its.decl its.decl its.declared in
+    let some : 1 ≤ its.decl.depth = subst (λ v. 1 ≤ v.depth) same depth.0 in
+    (omega (arith, its.sum, some), sizes.small_rings variable d l)
+
 -- What is shared before date 0
 pub record IsFirst (plan : Plan) (shared : Shared) : Type 0 where
   pub date : shared.date ≡ None
@@ -37,9 +49,12 @@ pub record IsFirst (plan : Plan) (shared : Shared) : Type 0 where
   pub ended : shared.ended.items ≡ map (λ v. v.init) plan.unit.variables
   pub ringed : length shared.rings.items ≡ length plan.unit.variables
   pub rings : (variable : ℕ) → variable < length plan.unit.variables → slice_get shared.rings.items variable ≡ Some (replicate (get_or plan.sizes.rings variable 0) (get_or (map (λ v. v.init) plan.unit.variables) variable (pos 0)))
-  pub queues : shared.queues.items ≡ []
-  pub outboxes : shared.outboxes.items ≡ []
-  pub taken : shared.taken.items ≡ []
+  pub queued : length shared.queues.items ≡ length plan.sizes.queues
+  pub queues : (stream : ℕ) → stream < length plan.sizes.queues → slice_get shared.queues.items stream ≡ Some (record { size = get_or plan.sizes.queues stream 0; messages = [] })
+  pub boxed : length shared.outboxes.items ≡ length plan.sizes.outboxes
+  pub outboxes : (agent : ℕ) → agent < length plan.sizes.outboxes → slice_get shared.outboxes.items agent ≡ Some (record { size = get_or plan.sizes.outboxes agent 0; sends = [] })
+  pub taking : length shared.taken.items ≡ length plan.unit.streams
+  pub taken : All (λ n. n ≡ 0) shared.taken.items
 
 pub first_stands : (plan : Plan) (inputs : List (List ℤ)) (stalls : ℕ → List Stall) (shared : Shared) → AreSizes plan.unit plan.nexts plan.sizes → IsFirst plan shared → SharedStands (system_of plan inputs stalls) [] 0 shared
 first_stands plan inputs stalls shared sizes is =
@@ -60,7 +75,23 @@ first_stands plan inputs stalls shared sizes is =
           let size = get_or plan.sizes.rings variable 0 in
           let of_size : IsRingSize plan.unit plan.nexts variable size = sizes.rings.each variable size (slice_get-get_or plan.sizes.rings variable 0 (omega (arith, within, sizes.rings.count))) in
           subst (RingStands s 0 variable) (same_Some _ _ (sym (is.rings variable within) ∙ at)) (first_ring s variable size _ of_size (get_or-map init plan.unit.variables variable _ (pos 0) within)));
-      queues = ap length is.queues;
-      outboxes = ap length is.outboxes;
-      taken = ap length is.taken;
+      queued = is.queued ∙ sizes.queues.count;
+      queues = λ stream queue at. (let within : stream < length plan.sizes.queues = omega (arith, slice_get_within shared.queues.items stream queue at, is.queued) in
+          let size = get_or plan.sizes.queues stream 0 in
+          let first : QueueStands s 0 stream (record { size = size; messages = [] }) = record {
+            size = sizes.queues.each stream size (slice_get-get_or plan.sizes.queues stream 0 within);
+            small = sizes.small_queues stream 0 within;
+            messages = refl;
+          } in
+          subst (QueueStands s 0 stream) (same_Some _ _ (sym (is.queues stream within) ∙ at)) first);
+      boxed = is.boxed ∙ sizes.outboxes.count;
+      outboxes = λ agent outbox at. (let within : agent < length plan.sizes.outboxes = omega (arith, slice_get_within shared.outboxes.items agent outbox at, is.boxed) in
+          let size = get_or plan.sizes.outboxes agent 0 in
+          let first : OutboxStands s (0 - 1) [] agent [] (record { size = size; sends = [] }) = record {
+            size = sizes.outboxes.each agent size (slice_get-get_or plan.sizes.outboxes agent 0 within);
+            sends = refl;
+          } in
+          subst (OutboxStands s (0 - 1) [] agent []) (same_Some _ _ (sym (is.outboxes agent within) ∙ at)) first);
+      taking = is.taking;
+      taken = λ stream n at. sym (get_or_from_slice_get shared.taken.items stream n n at) ∙ is.taken stream n (slice_get_within shared.taken.items stream n at);
     }

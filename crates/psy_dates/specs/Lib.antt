@@ -1,4 +1,7 @@
+pub mod BoxStanding
+pub mod Messages
 pub mod Moves
+pub mod Outboxes
 pub mod Plans
 pub mod Publications
 pub mod Standing

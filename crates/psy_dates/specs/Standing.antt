@@ -1,17 +1,24 @@
 -- When what the agents share stands for a dated history.
-use Rattle.std.specs.Prelude.{◌≡◌, ◌≢◌, ℕ, ◌+◌, ◌-◌, ◌≤◌, Bool, true, false, List, [], ◌∷◌, length, Option, Some, None, slice_get, ⊤, ℤ}
+use Rattle.std.specs.Prelude.{◌≡◌, ◌≢◌, ℕ, ◌+◌, ◌-◌, ◌<◌, ◌≤◌, Bool, true, false, List, [], ◌∷◌, length, Option, Some, None, slice_get, ⊤, ℤ}
 use Rattle.psy_arith.specs.declared.operators.Trap.{Trap}
-use Rattle.psy_meaning.specs.Actions.{Action, History, System, Verdict, Done, Trapped, is_done, is_silent, variable_of}
-use Rattle.psy_meaning.specs.Executors.{copy_in}
+use Rattle.psy_base.specs.declared.limits.TheConstants.{QUEUE}
+use Rattle.psy_code.specs.declared.look.Sent.{Sent}
+use Rattle.psy_queue.specs.Order.{Queued}
+use Rattle.psy_meaning.specs.Actions.{Action, History, System, Verdict, Done, Trapped, is_done, is_silent, stream_of, variable_of}
+use Rattle.psy_meaning.specs.Executors.{agent_at, copy_in}
+use Rattle.psy_meaning.specs.Flow.{IsGreatest}
 use Rattle.psy_meaning.specs.History.{history}
+use Rattle.psy_meaning.specs.QueueSizes.{HasSendsTo, IsQueueSize}
 use Rattle.psy_meaning.specs.RingSizes.{IsRingSize}
 use Rattle.psy_meaning.specs.Schedule.{Turn, is_pending}
-use Rattle.psy_meaning.specs.Visible.{committed_in}
+use Rattle.psy_meaning.specs.Visible.{committed_in, taken}
+use Rattle.psy_history.specs.Queues.{queue_of}
 use Rattle.psy_history.specs.Rings.{ring_of}
 use Rattle.psy_dates.specs.declared.seat.Phase.{Phase}
 use Rattle.psy_dates.specs.declared.seat.Phase.TheVariants as phase
 use Rattle.psy_dates.specs.declared.seat.Seat.{Seat}
 use Rattle.psy_dates.specs.declared.shared.Shared.{Shared}
+use Rattle.psy_dates.specs.Outboxes.{Outboxed}
 
 -- How many dates are done, by the last one
 abbrev pub dates_done : Option ℕ → ℕ
@@ -75,8 +82,28 @@ pub record RingStands (s : System) (dates variable : ℕ) (ring : List ℤ) : Ty
   pub size : IsRingSize s.unit s.nexts variable (length ring)
   pub values : ring ≡ ring_of s dates variable (length ring)
 
--- The shared state stands for the history of the first so many dates, where the cycles done went to these turns. There are no queues,
--- since there are no streams.
+-- The queue of a stream has the size that it needs, and holds what the stream holds when the first so many dates are done.
+pub record QueueStands (s : System) (dates stream : ℕ) (queue : Queued) : Type 0 where
+  pub size : IsQueueSize s.unit s.nexts stream queue.size
+  pub small : queue.size ≤ QUEUE
+  pub messages : queue.messages ≡ queue_of s dates stream
+
+-- What an agent that has ended its action sent is kept; before its first action there is nothing.
+abbrev pub KeepsSends : ℕ → List (Option Turn) → List Action → List Sent → Type 0
+KeepsSends date turns [] sends = sends ≡ []
+KeepsSends date turns (r ∷ before) sends = phase_of date turns r ≡ phase.Ended → sends ≡ r.deeds.sends
+
+-- The outbox of an agent has the size that it needs, and keeps what was sent.
+pub record OutboxStands (s : System) (date : ℕ) (turns : List (Option Turn)) (agent : ℕ) (actions : List Action) (outbox : Outboxed) : Type 0 where
+  pub size : IsGreatest (HasSendsTo s.unit (agent_at s.unit agent)) outbox.size
+  pub sends : KeepsSends date turns actions outbox.sends
+
+-- How many messages of a stream its receiver took in an action that it has ended is kept; before its first action there are none.
+abbrev pub KeepsTakes : ℕ → List (Option Turn) → ℕ → List Action → ℕ → Type 0
+KeepsTakes date turns stream [] n = n ≡ 0
+KeepsTakes date turns stream (r ∷ before) n = phase_of date turns r ≡ phase.Ended → n ≡ length (taken r stream)
+
+-- The shared state stands for the history of the first so many dates, where the cycles done went to these turns.
 pub record SharedStands (s : System) (turns : List (Option Turn)) (dates : ℕ) (shared : Shared) : Type 0 where
   pub date : dates_done shared.date ≡ dates
   pub seated : length shared.seats.items ≡ length s.unit.agents
@@ -87,10 +114,23 @@ pub record SharedStands (s : System) (turns : List (Option Turn)) (dates : ℕ) 
   pub ended : (variable owner : ℕ) (value : ℤ) → slice_get shared.ended.items variable ≡ Some value → (variable_of s variable).owner ≡ Some owner → KeepsCopy (dates - 1) turns variable (history s dates owner) value
   pub ringed : length shared.rings.items ≡ length s.unit.variables
   pub rings : (variable : ℕ) (ring : List ℤ) → slice_get shared.rings.items variable ≡ Some ring → RingStands s dates variable ring
-  pub queues : length shared.queues.items ≡ 0
-  pub outboxes : length shared.outboxes.items ≡ 0
-  pub taken : length shared.taken.items ≡ 0
+  pub queued : length shared.queues.items ≡ length s.unit.streams
+  pub queues : (stream : ℕ) (queue : Queued) → slice_get shared.queues.items stream ≡ Some queue → QueueStands s dates stream queue
+  pub boxed : length shared.outboxes.items ≡ length s.unit.agents
+  pub outboxes : (agent : ℕ) (outbox : Outboxed) → slice_get shared.outboxes.items agent ≡ Some outbox → OutboxStands s (dates - 1) turns agent (history s dates agent) outbox
+  pub taking : length shared.taken.items ≡ length s.unit.streams
+  pub taken : (stream n : ℕ) → slice_get shared.taken.items stream ≡ Some n → KeepsTakes (dates - 1) turns stream (history s dates (stream_of s stream).receiver) n
 
 -- No seat whose deadline is this date or was before is acting.
 abbrev pub NoneActs : ℕ → List Seat → Type 0
 NoneActs date seats = (agent : ℕ) (seat : Seat) → slice_get seats agent ≡ Some seat → seat.deadline ≤ date → seat.phase ≢ phase.Acting
+
+-- ---- the actions that a date starts, and those that go on
+
+-- The agent's action is pending, and started at this date.
+abbrev pub Begins : ℕ → List Seat → ℕ → Type 0
+Begins date seats agent = (seat : Seat) × (slice_get seats agent ≡ Some seat) × (seat.phase ≡ phase.Acting) × (seat.start ≡ date)
+
+-- The agent's action is pending, and started before this date.
+abbrev pub GoesOn : ℕ → List Seat → ℕ → Type 0
+GoesOn date seats agent = (seat : Seat) × (slice_get seats agent ≡ Some seat) × (seat.phase ≡ phase.Acting) × (seat.start < date)

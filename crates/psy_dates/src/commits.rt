@@ -1,7 +1,7 @@
 //! What a date does to the values committed.
 
-ghost use Rattle.std.specs.Prelude.{◌≡◌, ℕ, ◌<◌, length, get_or, if◌then◌else◌, pos};
-ghost use Rattle.psy_dates.specs.Moves.{commits_at, ends_by, owner_of};
+ghost use Rattle.std.specs.Prelude.{◌≡◌, ℕ, ◌<◌, length, get_or, if◌then◌else◌, pos, slice_get};
+ghost use Rattle.psy_dates.specs.Moves.{commits_at, ends_at, ends_by, owner_of};
 
 use crate::seat::{Phase, Seat};
 use psy_tree::VarDecl;
@@ -16,15 +16,22 @@ fn ends(phase: Phase, at: bool) -> bool
     }
 }
 
+/// An agent ends its action at this date.
+pub fn ends_there(date: u64, seats: &[Seat], agent: usize) -> bool
+    ensures { result ≡ ends_at date (slice_get seats.now agent) }
+{
+    match seats.get(agent) {
+        Some(seat) => ends(seat.phase, seat.end == date),
+        None => false,
+    }
+}
+
 /// A variable's owner ends its action at this date.
 fn commits(date: u64, seats: &[Seat], owner: Option<u32>) -> bool
     ensures { result ≡ commits_at date seats.now owner }
 {
     match owner {
-        Some(owner) => match seats.get(owner as usize) {
-            Some(seat) => ends(seat.phase, seat.end == date),
-            None => false,
-        },
+        Some(owner) => ends_there(date, seats, owner as usize),
         None => false,
     }
 }

@@ -1,20 +1,26 @@
-ghost use Rattle.std.specs.Prelude.{◌≡◌, ℕ, ◌+◌, ◌*◌, ◌≤◌, List};
+ghost use Rattle.std.specs.Prelude.{◌≡◌, ℕ, ◌+◌, ◌*◌, ◌≤◌, List, [], Some, slice_get};
 ghost use Rattle.psy_budget.specs.declared.charge.Stall.{Stall};
 ghost use Rattle.psy_history.specs.Compiled.{AreInputs};
 ghost use Rattle.psy_history.specs.Scheduled.{turns_of};
 ghost use Rattle.psy_dates.specs.Plans.{IsPlan, system_of};
-ghost use Rattle.psy_dates.specs.Standing.{NoneActs, SharedStands, dates_done};
+ghost use Rattle.psy_dates.specs.Outboxes.{Outboxed};
+ghost use Rattle.psy_dates.specs.Standing.{Begins, GoesOn, NoneActs, SharedStands, dates_done};
+ghost use Rattle.psy_tree.specs.declared.unit.StreamDecl.{StreamDecl};
 
+use crate::clears::{clear_outboxes, clear_takes};
 use crate::commits::commit_all;
+use crate::enters::enter_all;
 use crate::moves::move_all;
 use crate::plan::Plan;
 use crate::rings::publish_all;
+use crate::settles::settle_all;
 use crate::shared::Shared;
-use psy_history::laws::{given, regular, rings};
+use psy_history::laws::{given, queue_sizes, queues, regular, rings};
 
-/// Does a date: the actions that end there commit, each variable whose clock has that date publishes the value committed last or that
-/// of its list, those that were stopped and are due make their agents silent, and each agent whose next action starts there starts
-/// it. It takes no memory.
+/// Does a date. The actions that end there commit. Of each stream whose receiver ends there what it took goes, and what has expired where
+/// the receiver starts there or is silent. The messages of the actions that end there enter. Each variable whose clock has that date
+/// publishes the value committed last or that of its list. Agents that were stopped and are due fall silent, and each agent whose next
+/// action starts there starts it. It takes no memory.
 pub fn at_date(shared: &mut Shared, plan: &Plan, date: u64)
     requires plan { IsPlan plan.now }
     requires inputs { AreInputs plan.now.unit shared.old.inputs.lists }
@@ -29,11 +35,20 @@ pub fn at_date(shared: &mut Shared, plan: &Plan, date: u64)
     ensures stands { (stalls : ℕ → List Stall) (order : ℕ → List ℕ)
         → SharedStands (system_of plan.now shared.old.inputs.lists stalls) (turns_of (system_of plan.now shared.old.inputs.lists stalls) order (date * plan.now.unit.quantum)) date shared.old
         → SharedStands (system_of plan.now shared.old.inputs.lists stalls) (turns_of (system_of plan.now shared.old.inputs.lists stalls) order (date * plan.now.unit.quantum)) (date + 1) shared.new }
+    // an action that starts there has sent and taken nothing, and what one that goes on has sent and taken stays
+    ensures begun { (agent : ℕ) → Begins date shared.new.seats.items agent
+        → ((outbox : Outboxed) → slice_get shared.new.outboxes.items agent ≡ Some outbox → outbox.sends ≡ [])
+        × ((stream : ℕ) (decl : StreamDecl) → slice_get plan.now.unit.streams stream ≡ Some decl → decl.receiver ≡ agent → slice_get shared.new.taken.items stream ≡ Some 0) }
+    ensures going { (agent : ℕ) → GoesOn date shared.new.seats.items agent
+        → (slice_get shared.new.outboxes.items agent ≡ slice_get shared.old.outboxes.items agent)
+        × ((stream : ℕ) (decl : StreamDecl) → slice_get plan.now.unit.streams stream ≡ Some decl → decl.receiver ≡ agent → slice_get shared.new.taken.items stream ≡ slice_get shared.old.taken.items stream) }
     ensures inputs { shared.new.inputs ≡ shared.old.inputs }
 {
     given();
     regular();
     rings();
+    queues();
+    queue_sizes();
     // the proof needs its range
     let _until = plan.until;
     commit_all(
@@ -43,6 +58,14 @@ pub fn at_date(shared: &mut Shared, plan: &Plan, date: u64)
         &shared.ended,
         &mut shared.committed,
     );
+    settle_all(plan, date, &shared.seats, &shared.taken, &mut shared.queues);
+    enter_all(
+        plan,
+        date,
+        &shared.seats,
+        &shared.outboxes,
+        &mut shared.queues,
+    );
     publish_all(
         plan,
         &shared.inputs,
@@ -50,6 +73,8 @@ pub fn at_date(shared: &mut Shared, plan: &Plan, date: u64)
         date,
         &mut shared.rings,
     );
+    clear_outboxes(date, &shared.seats, &mut shared.outboxes);
+    clear_takes(plan, date, &shared.seats, &mut shared.taken);
     move_all(plan, date, &mut shared.seats);
     shared.date = Some(date);
 }

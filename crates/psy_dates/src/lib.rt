@@ -1,17 +1,22 @@
-//! The work at a date: actions that end there commit, agents that were stopped fall silent, and the next actions start; and what all
-//! agents share between two dates.
+//! The work at a date: actions that end there commit, what receivers took and what has expired goes, messages enter, variables publish,
+//! agents that were stopped fall silent, and the next actions start; and what all agents share between two dates.
 #![tactic(auto)]
 
+mod clears;
 mod commits;
 mod date;
 mod due;
+mod enters;
 mod moves;
+mod outbox;
 mod plan;
 mod rings;
 mod seat;
+mod settles;
 mod shared;
 
 pub use date::at_date;
+pub use outbox::Outbox;
 pub use plan::{Inputs, Plan};
 pub use psy_code::Sent;
 pub use seat::{Phase, Seat};

@@ -1,16 +1,16 @@
 ghost use Rattle.std.specs.Prelude.{◌≡◌, ℕ, ◌<◌, ◌≤◌, List, [], IfOk, Some, get_or, length, map, pos, replicate, slice_get};
 ghost use Rattle.std.specs.List.{All};
-ghost use Rattle.psy_base.specs.declared.limits.TheConstants.{RING};
+ghost use Rattle.psy_base.specs.declared.limits.TheConstants.{QUEUE, RING};
 ghost use Rattle.psy_dates.specs.declared.seat.Phase.TheVariants as phase;
 ghost use Rattle.psy_budget.specs.declared.charge.Stall.{Stall};
 ghost use Rattle.psy_history.specs.Compiled.{AreInputs};
 ghost use Rattle.psy_dates.specs.Plans.{IsPlan, system_of};
 ghost use Rattle.psy_dates.specs.Standing.{SharedStands};
 
+use crate::outbox::Outbox;
 use crate::plan::{Inputs, Plan};
 use crate::seat::{Phase, Seat};
 use psy_base::{Items, Memory};
-use psy_code::Sent;
 use psy_queue::Queue;
 use psy_ring::Ring;
 use psy_tree::VarDecl;
@@ -24,7 +24,7 @@ pub struct Shared {
     /// By stream, the messages that it holds.
     pub queues: Vec<Queue>,
     /// By agent, what its action sent so far.
-    pub outboxes: Vec<Vec<Sent>>,
+    pub outboxes: Vec<Outbox>,
     /// By stream, how many of its messages the receiver's action took so far.
     pub taken: Vec<u32>,
     /// By variable, the working copy of an owner that has ended its action.
@@ -60,6 +60,40 @@ fn first_rings(alloc: Global, variables: &[VarDecl], sizes: &[u32]) -> Result<Ve
     Ok(rings)
 }
 
+/// By stream, an empty queue of its size.
+fn first_queues(alloc: Global, sizes: &[u32]) -> Result<Vec<Queue>, Memory>
+    requires { All (λ size. size ≤ QUEUE) sizes.now }
+    ensures count { IfOk result (λ queues. length queues.items ≡ length sizes.now) }
+    ensures empty { IfOk result (λ queues. (stream : ℕ) → stream < length sizes.now
+        → slice_get queues.items stream ≡ Some (record { size = get_or sizes.now stream 0; messages = [] })) }
+{
+    let mut queues = Vec::with_capacity(alloc, sizes.len())?;
+    'streams: for stream in 0..sizes.len() {
+        queues.push(Queue::new(alloc, sizes[stream])?)?;
+    }
+    Ok(queues)
+}
+
+/// By agent, an empty outbox of its size.
+fn first_outboxes(alloc: Global, sizes: &[u32]) -> Result<Vec<Outbox>, Memory>
+    ensures count { IfOk result (λ outboxes. length outboxes.items ≡ length sizes.now) }
+    ensures empty { IfOk result (λ outboxes. (agent : ℕ) → agent < length sizes.now
+        → slice_get outboxes.items agent ≡ Some (record { size = get_or sizes.now agent 0; sends = [] })) }
+{
+    let mut outboxes = Vec::with_capacity(alloc, sizes.len())?;
+    'agents: for agent in 0..sizes.len() {
+        outboxes.push(Outbox::new(alloc, sizes[agent])?)?;
+    }
+    Ok(outboxes)
+}
+
+/// For each of so many streams, that nothing was taken.
+fn first_takes(alloc: Global, streams: usize) -> Result<Vec<u32>, Memory>
+    ensures { IfOk result (λ taken. (length taken.items ≡ streams) × All (λ n. n ≡ 0) taken.items) }
+{
+    Ok(vec![in alloc; 0; streams]?)
+}
+
 /// A seat for each of so many agents, none of which has begun.
 fn first_seats(alloc: Global, agents: usize) -> Result<Vec<Seat>, Memory>
     ensures { IfOk result (λ seats. (length seats.items ≡ agents) × All (λ seat. seat.phase ≡ phase.Waiting) seats.items) }
@@ -91,9 +125,9 @@ impl Shared {
                 plan.unit.variables.as_slice(),
                 plan.sizes.rings.as_slice(),
             )?,
-            queues: Vec::new(alloc),
-            outboxes: Vec::new(alloc),
-            taken: Vec::new(alloc),
+            queues: first_queues(alloc, plan.sizes.queues.as_slice())?,
+            outboxes: first_outboxes(alloc, plan.sizes.outboxes.as_slice())?,
+            taken: first_takes(alloc, plan.unit.streams.len())?,
             ended: first_values(alloc, plan.unit.variables.as_slice())?,
             committed: first_values(alloc, plan.unit.variables.as_slice())?,
             seats: first_seats(alloc, plan.unit.agents.len())?,

@@ -2,7 +2,9 @@
 
 ghost use Rattle.std.specs.Prelude.{◌≡◌, ◌⊎◌, ℕ, List, length};
 ghost use Rattle.std.specs.List.{All};
+ghost use Rattle.psy_base.specs.declared.edge.Edge.{Edge};
 ghost use Rattle.psy_tree.specs.declared.unit.Unit.{Unit as Whole};
+ghost use Rattle.psy_meaning.specs.Graph.{Spot, IsGraph};
 ghost use Rattle.psy_meaning.specs.Units.{IsOfText};
 ghost use Rattle.psy_window.specs.Windows.{IsEdge};
 ghost use Rattle.psy_graph.specs.declared.fault.GraphFault.{GraphFault};
@@ -14,10 +16,12 @@ use psy_clock::laws::distances;
 use psy_flow::laws::{known, nexts};
 
 /// The agents of a text have graphs that keep the limits, or a first agent is at fault: one of both, and there is only one
-/// such list of graphs and one such fault. The actions of an agent begin and end in one way.
+/// such list of graphs and one such fault. The actions of an agent begin and end in one way, and what begins and ends so has
+/// one graph.
 pub fn one_graph()
     ensures same { (unit : Whole) (graphs others : List Graph) → IsOfText unit → AreGraphs unit graphs → AreGraphs unit others → graphs ≡ others }
     ensures timing { (unit : Whole) (number : ℕ) (timing other : Timing) → IsTimingOf unit number timing → IsTimingOf unit number other → timing ≡ other }
+    ensures graph { (timing : Timing) (spots others : List Spot) (edges more : List Edge) → IsGraph timing spots edges → IsGraph timing others more → (spots ≡ others) × (edges ≡ more) }
     ensures apart { (unit : Whole) (graphs : List Graph) (fault : GraphFault) → IsOfText unit → AreGraphs unit graphs → IsCause unit fault → ⊥ }
     ensures cause { (unit : Whole) (fault other : GraphFault) → IsOfText unit → IsCause unit fault → IsCause unit other → fault ≡ other }
     // Edges lead from node to node, an action is due behind its start and by its end, and its budget keeps the limit.

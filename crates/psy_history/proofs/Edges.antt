@@ -37,7 +37,7 @@ module _ (s : System) (graphs : List (List Edge)) (agent : ℕ) (g : Drawn s gra
   abbrev pub IsStep : ℕ → ℕ → ℕ → Edge → Type 0
   IsStep point start to e = IsEdgeOf (timing s agent) g.graph.cycle g.spots point start to e
 
-  node_of : (point start : ℕ) → MayStart (timing s agent) point start → (node : ℕ) × IsNode point start node
+  pub node_of : (point start : ℕ) → MayStart (timing s agent) point start → (node : ℕ) × IsNode point start node
   node_of point start may =
       let spot = spot_at g.graph.cycle point start in
       let (k, l, e) = (g.graph.nodes.all spot).1 (start, may, refl) in

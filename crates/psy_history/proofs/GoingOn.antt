@@ -91,7 +91,7 @@ goes_on code agent view m call leaves asks able = went_by code agent view m call
 -- ---- what is left of them
 
 module _ (code : Code) (its : AgentCode) (start : RunState) (n : ℕ) (all : Deeds) (on : GoesOn code its start n all) where
-  left_behind : (call : Call) → LeavesDeed call → call_of code on.state.machine ≡ Some call → IsFront (deeds_then on.state.deeds (Some call)) all
+  pub left_behind : (call : Call) → LeavesDeed call → call_of code on.state.machine ≡ Some call → IsFront (deeds_then on.state.deeds (Some call)) all
   left_behind call leaves asks =
       let goes = goes_on code its on.state.view on.state.machine call leaves asks on.able in
       subst (λ c. IsFront (deeds_then on.state.deeds c) all) asks (on.behind goes.0 goes.1)

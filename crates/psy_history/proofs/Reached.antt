@@ -39,10 +39,10 @@ pub record IsReached (s : System) (turns : List (Option Turn)) (h : History) (va
   pub executed : cycle_of_unit r.agent r.number (cycle_of (s.stalls r.agent) r.number look.number) turns ≡ Some cycle
   pub is : age ≡ age_then s r look cycle
 
-in_range : (agent n : ℕ) → agent < n → Contains (range_with_len 0 n) agent
+pub in_range : (agent n : ℕ) → agent < n → Contains (range_with_len 0 n) agent
 in_range agent n less = (agent, omega (arith, less, length-range_with_len 0 n), get_or-range_with_len 0 n agent agent less ∙ omega arith)
 
-of_range : (agent n : ℕ) → Contains (range_with_len 0 n) agent → agent < n
+pub of_range : (agent n : ℕ) → Contains (range_with_len 0 n) agent → agent < n
 of_range agent n (k, less, e) =
     let within : k < n = omega (arith, less, length-range_with_len 0 n) in
     omega (arith, within, sym (get_or-range_with_len 0 n k agent within), e)

@@ -42,7 +42,7 @@ made_of f (x ∷ xs) zero y at = (x, refl, same_Some (f x) y at)
 made_of f (x ∷ xs) (suc i) y at = made_of f xs i y at
 
 -- the state of an action that is over
-abbrev state_in : Final → State
+abbrev pub state_in : Final → State
 state_in (by.Ended point t) = t
 state_in (by.Trapped kind t) = t
 

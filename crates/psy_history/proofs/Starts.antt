@@ -87,6 +87,10 @@ module _ (unit : Whole) (code : Code) (nexts : List (List (List ℕ))) (stalls :
   pub acts_to : (to : ℕ) → acted.fate ≡ Reached to → (s : State) × (act unit.functions (rest decl.stmts n.point) (begun (store_of decl n.carried) view) ≡ Halts (by.Ended to s))
   acts_to to h = (let (s, ends, same) = reached to h in (s, it.acts ∙ ap Halts ends))
 
+  -- what was done is what the statements did
+  pub deeds_to : (to : ℕ) → acted.fate ≡ Reached to → (s : State) × (act unit.functions (rest decl.stmts n.point) (begun (store_of decl n.carried) view) ≡ Halts (by.Ended to s)) × (acted.deeds ≡ s.deeds)
+  deeds_to to h = (let (s, ends, same) = reached to h in (s, it.acts ∙ ap Halts ends, ap (λ (a : Acted). a.deeds) same))
+
   kept_at : (to : ℕ) → acted.fate ≡ Reached to → IsAdvanceOf decl to × Carries unit agent acted.carried × All (IsSentOf unit) acted.deeds.sends
   kept_at to h =
       let (s, ends, same) = reached to h in

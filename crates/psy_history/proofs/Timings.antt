@@ -20,7 +20,7 @@ listed [] point to (k, less, is) = absurd (omega (arith, less))
 listed (list ∷ nexts) zero to c = refl
 listed (list ∷ nexts) (suc point) to c = listed nexts point to c
 
-every_tick : IsClock (record { period = 1; first = 0 })
+pub every_tick : IsClock (record { period = 1; first = 0 })
 every_tick = record { first = omega arith; period = omega arith }
 
 module _ (unit : Whole) (agent : AgentDecl) where

@@ -36,9 +36,3 @@ stated unit nexts stalls inputs = from_start unit nexts (by_statements unit) sta
 pub record AreEdgesOf (s : System) (graphs : List (List Edge)) : Type 0 where
   pub count : length graphs ≡ length s.unit.agents
   pub each : (agent : ℕ) (edges : List Edge) → slice_get graphs agent ≡ Some edges → (spots : List Spot) × IsGraph (timing s agent) spots edges
-
--- ---- what is built so far
-
--- No stream is declared.
-pub record IsBuilt (unit : Whole) : Type 0 where
-  pub streams : unit.streams ≡ []

@@ -1,33 +1,39 @@
 //! Laws of the dated history, each the contract of a function that does nothing.
 
-ghost use Rattle.std.specs.Prelude.{◌≡◌, ℕ, ◌+◌, ◌*◌, ◌/◌, ◌<◌, ◌≤◌, if◌then◌else◌, List, [], ◌∷◌, Option, None, Some, ℤ, length, slice_get, take};
-ghost use Rattle.std.specs.List.{All, Contains};
+ghost use Rattle.std.specs.Prelude.{◌≡◌, ℕ, ◌+◌, ◌*◌, ◌/◌, ◌==◌, ◌<◌, ◌≤◌, if◌then◌else◌, List, [], ◌∷◌, Option, None, Some, ℤ, drop, filter, length, map, nat_le, slice_get, take};
+ghost use Rattle.std.specs.List.{All, Contains, count_by};
+ghost use Rattle.psy_base.specs.declared.limits.TheConstants.{QUEUE};
+ghost use Rattle.psy_base.specs.declared.message.Message.{Message};
 ghost use Rattle.psy_budget.specs.declared.charge.Stall.{Stall};
 ghost use Rattle.psy_budget.specs.Charges.{cycle_of};
 ghost use Rattle.psy_clock.specs.Dates.{IsClock};
 ghost use Rattle.psy_code.specs.declared.code.Code.{Code};
+ghost use Rattle.psy_code.specs.declared.look.Sent.{Sent};
 ghost use Rattle.psy_code.specs.Execution.{RunState, Running, call_of, run_code};
-ghost use Rattle.psy_code.specs.Views.{past_of};
+ghost use Rattle.psy_code.specs.Views.{Send, messages_of, past_of};
+ghost use Rattle.psy_tree.specs.declared.unit.StreamDecl.{StreamDecl};
 ghost use Rattle.psy_tree.specs.declared.unit.Unit.{Unit as Whole};
 ghost use Rattle.psy_tree.specs.declared.unit.VarDecl.{VarDecl};
-ghost use Rattle.psy_meaning.specs.Actions.{Action, History, System, publishing};
+ghost use Rattle.psy_meaning.specs.Actions.{Action, Done, History, System, publishing};
 ghost use Rattle.psy_meaning.specs.Executors.{agent_at, agent_code_at};
-ghost use Rattle.psy_meaning.specs.Flow.{MayLook};
+ghost use Rattle.psy_meaning.specs.Flow.{IsGreatest, MayLook};
 ghost use Rattle.psy_meaning.specs.History.{history};
 ghost use Rattle.psy_meaning.specs.Lines.{events, is_date};
+ghost use Rattle.psy_meaning.specs.QueueSizes.{AreQueues, HasSendsTo, IsQueueSize};
 ghost use Rattle.psy_meaning.specs.RingSizes.{IsRingSize};
 ghost use Rattle.psy_meaning.specs.Schedule.{Turn, finish, turn_of, units, work};
 ghost use Rattle.psy_meaning.specs.Summary.{due_by, most_held, reach, slack};
-ghost use Rattle.psy_meaning.specs.Visible.{published};
+ghost use Rattle.psy_meaning.specs.Visible.{messages, published};
 ghost use Rattle.psy_history.specs.Compiled.{AreInputs, IsCompiled, coded, stated};
 ghost use Rattle.psy_history.specs.Likeness.{AreLike};
+ghost use Rattle.psy_history.specs.Queues.{entered, entering, queue_of, settled};
 ghost use Rattle.psy_history.specs.Regular.{IsLawful, Runs, begun_by};
 ghost use Rattle.psy_history.specs.Rings.{age_at, reach_with, ring_of};
 ghost use Rattle.psy_history.specs.Scheduled.{IsFinished, IsSupplied, turns_of};
 
 use psy_clock::laws::{dates, distances};
 use psy_code::laws::lasting;
-use psy_meaning::laws::{follows, keeps, sound, traps, ways};
+use psy_meaning::laws::{follows, keeps, sendings, sound, traps, ways};
 
 /// The history of a program's code is regular, and the code of its actions runs to an end.
 pub fn regular()
@@ -125,5 +131,72 @@ pub fn ring_sizes()
         → (order : ℕ → List ℕ) (until cycles variable size n : ℕ) → IsSupplied (coded unit code nexts stalls inputs) order until → cycles ≤ until * unit.quantum → IsRingSize unit nexts variable size
         → reach (coded unit code nexts stalls inputs) (turns_of (coded unit code nexts stalls inputs) order cycles) (history (coded unit code nexts stalls inputs) (until + 1)) variable ≡ Some n → n < size }
 {
+    regular();
+}
+
+/// What a stream holds, date by date: what its receiver took goes where that action ends, then what has expired, where the receiver starts
+/// or is silent; then the messages of the actions that end there enter. The receiver's action finds at each date before its deadline, and
+/// before its end, the messages that it saw at its start in front of all others. A message that becomes visible is held.
+pub fn queues()
+    ensures next { (unit : Whole) (code : Code) (nexts : List (List (List ℕ))) (stalls : ℕ → List Stall) (inputs : List (List ℤ)) → IsCompiled unit code nexts → AreInputs unit inputs
+        → (date stream : ℕ) → stream < length unit.streams
+        → queue_of (coded unit code nexts stalls inputs) (date + 1) stream ≡ entered (entering (coded unit code nexts stalls inputs) date stream) (settled (coded unit code nexts stalls inputs) date stream (queue_of (coded unit code nexts stalls inputs) date stream)) }
+    ensures look { (unit : Whole) (code : Code) (nexts : List (List (List ℕ))) (stalls : ℕ → List Stall) (inputs : List (List ℤ)) → IsCompiled unit code nexts → AreInputs unit inputs
+        → (date stream agent : ℕ) (decl : StreamDecl) (r : Action) (before : List Action) → slice_get unit.streams stream ≡ Some decl → decl.receiver ≡ agent
+        → history (coded unit code nexts stalls inputs) (date + 1) agent ≡ r ∷ before → date < r.deadline
+        → (filter (λ (m : Message). nat_le m.visible r.start) (queue_of (coded unit code nexts stalls inputs) (date + 1) stream) ≡ r.seen stream)
+        × (take (length (r.seen stream)) (queue_of (coded unit code nexts stalls inputs) (date + 1) stream) ≡ r.seen stream) }
+    ensures ended { (unit : Whole) (code : Code) (nexts : List (List (List ℕ))) (stalls : ℕ → List Stall) (inputs : List (List ℤ)) → IsCompiled unit code nexts → AreInputs unit inputs
+        → (date stream agent point end : ℕ) (decl : StreamDecl) (r : Action) (before : List Action) → slice_get unit.streams stream ≡ Some decl → decl.receiver ≡ agent
+        → history (coded unit code nexts stalls inputs) (date + 1) agent ≡ r ∷ before → r.verdict ≡ Done point end → date < end
+        → take (length (r.seen stream)) (queue_of (coded unit code nexts stalls inputs) (date + 1) stream) ≡ r.seen stream }
+    ensures shows { (unit : Whole) (code : Code) (nexts : List (List (List ℕ))) (stalls : ℕ → List Stall) (inputs : List (List ℤ)) → IsCompiled unit code nexts → AreInputs unit inputs
+        → (date stream : ℕ) → stream < length unit.streams
+        → filter (λ (m : Message). m.visible == date) (messages (coded unit code nexts stalls inputs) (history (coded unit code nexts stalls inputs) (date + 1)) stream)
+        ≡ filter (λ (m : Message). m.visible == date) (queue_of (coded unit code nexts stalls inputs) (date + 1) stream) }
+{
+    distances();
+    regular();
+}
+
+/// No stream ever holds more messages than its queue has places, where that is no more than a queue may have.
+pub fn queue_sizes()
+    ensures held { (unit : Whole) (code : Code) (nexts : List (List (List ℕ))) (stalls : ℕ → List Stall) (inputs : List (List ℤ)) → IsCompiled unit code nexts → AreInputs unit inputs
+        → (date stream size : ℕ) → stream < length unit.streams → IsQueueSize unit nexts stream size → size ≤ QUEUE
+        → length (queue_of (coded unit code nexts stalls inputs) date stream) ≤ size }
+    ensures most { (unit : Whole) (code : Code) (nexts : List (List (List ℕ))) (stalls : ℕ → List Stall) (inputs : List (List ℤ)) → IsCompiled unit code nexts → AreInputs unit inputs
+        → (until stream size : ℕ) → stream < length unit.streams → IsQueueSize unit nexts stream size → size ≤ QUEUE
+        → most_held (coded unit code nexts stalls inputs) until stream ≤ size }
+{
+    sound();
+    keeps();
+    lasting();
+    ways();
+    sendings();
+    distances();
+    regular();
+}
+
+/// What an action has done on the way: it never sends more than its agent's outbox holds, where no queue has more places than it may; and it
+/// has taken the first of the messages that it saw.
+pub fn deeds()
+    ensures sends { (unit : Whole) (code : Code) (nexts : List (List (List ℕ))) (stalls : ℕ → List Stall) (inputs : List (List ℤ)) → IsCompiled unit code nexts → AreInputs unit inputs
+        → (queues : List ℕ) → AreQueues unit nexts queues → All (λ size. size ≤ QUEUE) queues
+        → (dates agent size instr : ℕ) (r : Action) (state : RunState) (sent : Sent) → IsGreatest (HasSendsTo unit (agent_at unit agent)) size
+        → Contains (history (coded unit code nexts stalls inputs) dates agent) r
+        → run_code code (agent_code_at code agent) (begun_by (agent_code_at code agent) r) instr ≡ Running state
+        → call_of code state.machine ≡ Some (Send sent) → length state.deeds.sends < size }
+    ensures takes { (unit : Whole) (code : Code) (nexts : List (List (List ℕ))) (stalls : ℕ → List Stall) (inputs : List (List ℤ)) → IsCompiled unit code nexts → AreInputs unit inputs
+        → (dates agent stream instr : ℕ) (decl : StreamDecl) (r : Action) (state : RunState) → slice_get unit.streams stream ≡ Some decl → decl.receiver ≡ agent
+        → Contains (history (coded unit code nexts stalls inputs) dates agent) r
+        → run_code code (agent_code_at code agent) (begun_by (agent_code_at code agent) r) instr ≡ Running state
+        → messages_of state.view stream ≡ Some (map (λ (m : Message). m.value) (drop (count_by (λ t. t == stream) state.deeds.takes) (r.seen stream))) }
+{
+    sound();
+    keeps();
+    ways();
+    traps();
+    sendings();
+    lasting();
     regular();
 }

@@ -5,22 +5,27 @@ use Rattle.std.proofs.lemmas.Option.{same_Some, slice_get-get_or, slice_get_with
 use Rattle.psy_budget.specs.Charges.{Charged}
 use Rattle.psy_dates.specs.declared.seat.Seat.{Seat}
 use Rattle.psy_dates.specs.declared.shared.Shared.{Shared}
+use Rattle.psy_dates.specs.Outboxes.{Outboxed}
 use Rattle.psy_dates.specs.Standing.{dates_done}
 use Rattle.psy_history.specs.Regular.{IsLawful}
 use Rattle.psy_machine.specs.Stepping.{AgentMachine}
 use Rattle.psy_meaning.specs.Actions.{Action}
+use Rattle.psy_meaning.specs.Executors.{agent_at}
+use Rattle.psy_meaning.specs.Flow.{IsGreatest}
 use Rattle.psy_meaning.specs.History.{history}
+use Rattle.psy_meaning.specs.QueueSizes.{HasSendsTo}
 use Rattle.psy_meaning.specs.Schedule.{Turn, is_pending, turn_of, units}
 use Rattle.psy_meaning.specs.Summary.{reach}
 use Rattle.psy_ready.specs.Choice.{IsPick, pending_deadline}
+use Rattle.psy_tree.specs.declared.unit.StreamDecl.{StreamDecl}
 use Rattle.psy_tree.specs.declared.unit.VarDecl.{VarDecl}
-use Rattle.psy_kernel.specs.Acting.{IsLookIn, ShowsAs}
-use Rattle.psy_kernel.specs.Cycles.{AreOver, AreRingsOf, GetsCycle, IsGiven, IsNear, LooksBack, OneStands, reach_by}
+use Rattle.psy_kernel.specs.Acting.{IsLookIn}
+use Rattle.psy_kernel.specs.Cycles.{ActsIn, AreOver, AreQueuesOf, AreRingsOf, BoxStands, GetsCycle, IsGiven, IsNear, LooksBack, OneStands, reach_by}
 use Rattle.psy_kernel.specs.declared.kernel.Figure.{Figure}
 use Rattle.psy_kernel.specs.declared.kernel.Kernel.TheInside.{Inside}
 use Rattle.psy_kernel.specs.Scripts.{order_of, stalls_of}
-use Rattle.psy_kernel.specs.Seeing.{view_in}
-use Rattle.psy_kernel.specs.Standing.{IsChosen, KernelStands}
+use Rattle.psy_kernel.specs.Seeing.{sight_in}
+use Rattle.psy_kernel.specs.Standing.{DeedsStand, HasDone, IsChosen, KernelStands, charge_after}
 use Rattle.psy_kernel.proofs.Kernels.{IsBetween, IsDue, next_in, parts_in, run_in, turns_in}
 use Rattle.psy_kernel.proofs.Parts.{PartsStand, given, idle, nobody_soonest, one_of, pick_known, pick_soonest, shared_given}
 use Rattle.psy_kernel.proofs.Stages.{IsInside}
@@ -63,11 +68,14 @@ module _ (k : Inside) (is : KernelStands k) (d : IsDue k) where
         parts = subst (λ ts. PartsStand (run_in k) k.plan.code k.plan.until ts dates k.shared k.machines.items k.charges.items k.ready k.figures.items) (sym turns)
             (idle (run_in k) k.plan.code k.plan.until before_cycle dates k.shared k.machines.items k.charges.items k.ready k.figures.items (parts_in k is));
         reaching = is.reaching;
+        holding = is.holding;
+        held = is.held;
         reached = λ variable n at. is.reached variable n at ∙ sym (d.idle before_cycle (history (run_in k) dates) variable) ∙ ap (λ ts. reach (run_in k) ts (history (run_in k) dates) variable) (sym turns);
         all = is.all;
         orders = is.orders;
         choice = λ fresh. choice;
         place = is.place;
+        unshown = is.unshown;
         given = is.given;
       }
 
@@ -102,6 +110,10 @@ module _ (k : Inside) (is : KernelStands k) (d : IsDue k) where
     pub rings_stand : AreRingsOf (run_in k) dates k.shared.rings.items
     rings_stand = (is.shared.ringed, is.shared.rings)
 
+    -- the queues that it has
+    pub queues_stand : AreQueuesOf (run_in k) dates k.shared.queues.items
+    queues_stand = (is.shared.queued, is.shared.queues)
+
     module _ (r : Action) (before : List Action) (t : Takes r before) where
       last : history (run_in k) (date + 1) agent ≡ r ∷ before
       last = ap (λ n. history (run_in k) n agent) (sym inside.0) ∙ t.is_last
@@ -115,15 +127,30 @@ module _ (k : Inside) (is : KernelStands k) (d : IsDue k) where
         one : OneStands (run_in k) k.plan.code before_cycle k.plan.until date agent (r ∷ before) charge machine (pending_deadline k.ready agent) figure seat k.shared.ended.items
         one = one_of (run_in k) k.plan.code k.plan.until before_cycle dates k.shared k.machines.items k.charges.items k.ready k.figures.items (parts_in k is) date agent r before (last_date dates date inside.0) t.is_last machine charge (pending_deadline k.ready agent) figure seat m c waits_at f x
 
-        pub is_given : IsGiven k.plan k.shared.inputs.lists (stalls_of k.script) before_cycle now k.cycles agent r before charge machine (pending_deadline k.ready agent) figure seat k.shared.ended.items (view_in k.shared.rings.items k.plan.unit.variables k.plan.unit.clocks seat.start now)
-        is_given =
-            let given : (start : ℕ) → start ≡ r.start → IsGiven k.plan k.shared.inputs.lists (stalls_of k.script) before_cycle date k.cycles agent r before charge machine (pending_deadline k.ready agent) figure seat k.shared.ended.items (view_in k.shared.rings.items k.plan.unit.variables k.plan.unit.clocks start date) = λ start e. record {
-              gets = d.gets agent r before last t.pending;
-              has = one;
-              shows = subst (λ n. ShowsAs (run_in k) r (view_in k.shared.rings.items k.plan.unit.variables k.plan.unit.clocks n date)) (sym e) (looks.shows k.shared.rings.items (subst (λ n. AreRingsOf (run_in k) n k.shared.rings.items) inside.0 rings_stand));
-            } in
-            subst (λ n. IsGiven k.plan k.shared.inputs.lists (stalls_of k.script) before_cycle n k.cycles agent r before charge machine (pending_deadline k.ready agent) figure seat k.shared.ended.items (view_in k.shared.rings.items k.plan.unit.variables k.plan.unit.clocks seat.start n))
-            (sym (now_is ∙ last_date dates date inside.0)) (given seat.start one.seated.start)
+        module _ (outbox : Outboxed) (o : slice_get k.shared.outboxes.items agent ≡ Some outbox) where
+          -- what its action sees, and what it has done
+          acts : ActsIn (run_in k) k.plan.code r (units r.agent r.number before_cycle) (sight_in k.plan.unit k.shared.rings.items k.shared.queues.items agent r.start date) k.shared.taken.items outbox
+          acts =
+              let own : r.agent ≡ agent = GetsCycle.agent_is (d.gets agent r before last t.pending) in
+              let size = subst (λ n. IsGreatest (HasSendsTo k.plan.unit (agent_at k.plan.unit n)) outbox.size) (sym own) (is.shared.outboxes agent outbox o).size in
+              let did : HasDone (run_in k) k.plan.code r (charge_after (run_in k) r (units r.agent r.number before_cycle)).paid outbox.sends k.shared.taken.items =
+              subst (λ actions. DeedsStand (run_in k) k.plan.code before_cycle actions outbox.sends k.shared.taken.items) t.is_last (is.doing agent outbox o) t.pending in
+              subst (λ n. ActsIn (run_in k) k.plan.code r (units r.agent r.number before_cycle) (sight_in k.plan.unit k.shared.rings.items k.shared.queues.items n r.start date) k.shared.taken.items outbox) own
+              (looks.acts k.shared.rings.items k.shared.queues.items k.shared.taken.items outbox (subst (λ n. AreRingsOf (run_in k) n k.shared.rings.items) inside.0 rings_stand) (subst (λ n. AreQueuesOf (run_in k) n k.shared.queues.items) inside.0 queues_stand)
+              is.shared.taking size did)
+
+          pub is_given : IsGiven k.plan k.shared.inputs.lists (stalls_of k.script) before_cycle now k.cycles agent r before charge machine (pending_deadline k.ready agent) figure seat k.shared.ended.items
+              (sight_in k.plan.unit k.shared.rings.items k.shared.queues.items agent seat.start now) k.shared.taken.items outbox
+          is_given =
+              let given : (start : ℕ) → start ≡ r.start → IsGiven k.plan k.shared.inputs.lists (stalls_of k.script) before_cycle date k.cycles agent r before charge machine (pending_deadline k.ready agent) figure seat k.shared.ended.items
+              (sight_in k.plan.unit k.shared.rings.items k.shared.queues.items agent start date) k.shared.taken.items outbox = λ start e. record {
+                gets = d.gets agent r before last t.pending;
+                has = one;
+                acts = subst (λ n. ActsIn (run_in k) k.plan.code r (units r.agent r.number before_cycle) (sight_in k.plan.unit k.shared.rings.items k.shared.queues.items agent n date) k.shared.taken.items outbox) (sym e) acts;
+              } in
+              subst (λ n. IsGiven k.plan k.shared.inputs.lists (stalls_of k.script) before_cycle n k.cycles agent r before charge machine (pending_deadline k.ready agent) figure seat k.shared.ended.items
+              (sight_in k.plan.unit k.shared.rings.items k.shared.queues.items agent seat.start n) k.shared.taken.items outbox)
+              (sym (now_is ∙ last_date dates date inside.0)) (given seat.start one.seated.start)
 
         pub started_at : seat.start ≡ r.start
         started_at = one.seated.start
@@ -162,34 +189,40 @@ module _ (k : Inside) (is : KernelStands k) (d : IsDue k) where
     module _ (r : Action) (before : List Action) (t : Takes r before) (machine : AgentMachine) (charge : Charged) (waiting : Option ℕ) (figure : Figure) (seat : Seat) (ended : List ℤ)
         (one : OneStands (run_in k) k.plan.code (Some (record { agent = r.agent; number = r.number }) ∷ before_cycle) k.plan.until date agent (r ∷ before) charge machine waiting figure seat ended)
         (all : length ended ≡ length k.shared.ended.items) (others : (variable : ℕ) (v : VarDecl) → slice_get k.plan.unit.variables variable ≡ Some v → v.owner ≢ Some agent → slice_get ended variable ≡ slice_get k.shared.ended.items variable)
+        (outbox : Outboxed) (taken : List ℕ) (box : BoxStands (run_in k) k.plan.code (Some (record { agent = r.agent; number = r.number }) ∷ before_cycle) date agent (r ∷ before) outbox.sends taken)
+        (size : (old : Outboxed) → slice_get k.shared.outboxes.items agent ≡ Some old → outbox.size ≡ old.size) (count : length taken ≡ length k.shared.taken.items)
+        (untaken : (stream : ℕ) (decl : StreamDecl) → slice_get k.plan.unit.streams stream ≡ Some decl → decl.receiver ≢ agent → slice_get taken stream ≡ slice_get k.shared.taken.items stream)
         (ready : List (Option ℕ)) (as_many : length ready ≡ length k.ready) (own : (w : Option ℕ) → slice_get ready agent ≡ Some w → w ≡ waiting) (rest : (other : ℕ) → (other ≡ agent → ⊥) → slice_get ready other ≡ slice_get k.ready other) where
       pub parts_given : (after : Shared) → after.date ≡ k.shared.date → after.seats.items ≡ slice_set k.shared.seats.items agent seat → after.ended.items ≡ ended → after.committed ≡ k.shared.committed
-          → after.rings ≡ k.shared.rings → after.queues ≡ k.shared.queues → after.outboxes ≡ k.shared.outboxes → after.taken ≡ k.shared.taken
+          → after.rings ≡ k.shared.rings → after.queues ≡ k.shared.queues → after.outboxes.items ≡ slice_set k.shared.outboxes.items agent outbox → after.taken.items ≡ taken
           → PartsStand (run_in k) k.plan.code k.plan.until (turns_in k (k.cycles + 1)) dates after (slice_set k.machines.items agent machine) (slice_set k.charges.items agent charge) ready (slice_set k.figures.items agent figure)
       parts_given after a b c d e f g h =
           subst (λ ts. PartsStand (run_in k) k.plan.code k.plan.until ts dates after (slice_set k.machines.items agent machine) (slice_set k.charges.items agent charge) ready (slice_set k.figures.items agent figure)) (sym t.turns)
-          (given (run_in k) k.plan.code k.plan.until before_cycle dates k.shared k.machines.items k.charges.items k.ready k.figures.items (parts_in k is) lawful date agent r before (last_date dates date inside.0) t.is_last machine charge waiting figure seat ended one all others ready as_many own rest after
-          (shared_given (run_in k) k.plan.code k.plan.until before_cycle dates k.shared k.machines.items k.charges.items k.ready k.figures.items (parts_in k is) lawful date agent r before (last_date dates date inside.0) t.is_last machine charge waiting figure seat ended one all others after a b c d e f g h))
+          (given (run_in k) k.plan.code k.plan.until before_cycle dates k.shared k.machines.items k.charges.items k.ready k.figures.items (parts_in k is) lawful date agent r before (last_date dates date inside.0) t.is_last machine charge waiting figure seat ended one all others outbox taken box size count untaken ready as_many own rest after g h
+          (shared_given (run_in k) k.plan.code k.plan.until before_cycle dates k.shared k.machines.items k.charges.items k.ready k.figures.items (parts_in k is) lawful date agent r before (last_date dates date inside.0) t.is_last machine charge waiting figure seat ended one all others outbox taken box size count untaken after a b c d e f g h))
 
-      pub given_between : (seats : Vec Seat Global) (copies : Vec ℤ Global) (machines : Vec AgentMachine Global) (charges : Vec Charged Global) (figures : Vec Figure Global) (reaches : Vec (Option ℕ) Global) (chosen : Option ℕ) (stale : Bool)
-          → seats.items ≡ slice_set k.shared.seats.items agent seat → copies.items ≡ ended → machines.items ≡ slice_set k.machines.items agent machine → charges.items ≡ slice_set k.charges.items agent charge → figures.items ≡ slice_set k.figures.items agent figure
+      pub given_between : (seats : Vec Seat Global) (copies : Vec ℤ Global) (outboxes : Vec Outboxed Global) (counts : Vec ℕ Global) (machines : Vec AgentMachine Global) (charges : Vec Charged Global) (figures : Vec Figure Global) (reaches : Vec (Option ℕ) Global) (chosen : Option ℕ) (stale : Bool)
+          → seats.items ≡ slice_set k.shared.seats.items agent seat → copies.items ≡ ended → outboxes.items ≡ slice_set k.shared.outboxes.items agent outbox → counts.items ≡ taken → machines.items ≡ slice_set k.machines.items agent machine → charges.items ≡ slice_set k.charges.items agent charge → figures.items ≡ slice_set k.figures.items agent figure
           → length reaches.items ≡ length k.reaches.items → ((variable : ℕ) (n : Option ℕ) → slice_get reaches.items variable ≡ Some n → n ≡ reach (run_in k) (turns_in k (k.cycles + 1)) (history (run_in k) dates) variable)
           → (stale ≡ false → IsChosen ready order chosen)
-          → IsBetween (record k { shared = record k.shared { seats = seats; ended = copies }; machines = machines; charges = charges; figures = figures; ready = ready; reaches = reaches; chosen = chosen; stale = stale })
-      given_between seats copies machines charges figures reaches chosen stale a b c e f as_many reached choice = record {
+          → IsBetween (record k { shared = record k.shared { seats = seats; ended = copies; outboxes = outboxes; taken = counts }; machines = machines; charges = charges; figures = figures; ready = ready; reaches = reaches; chosen = chosen; stale = stale })
+      given_between seats copies outboxes counts machines charges figures reaches chosen stale a b g h c e f as_many reached choice = record {
         date = date;
         dates = inside.0;
         cycle = d.cycle;
         parts =
-            subst (λ ms. PartsStand (run_in k) k.plan.code k.plan.until (turns_in k (k.cycles + 1)) dates (record k.shared { seats = seats; ended = copies }) ms charges.items ready figures.items) (sym c)
-            (subst (λ cs. PartsStand (run_in k) k.plan.code k.plan.until (turns_in k (k.cycles + 1)) dates (record k.shared { seats = seats; ended = copies }) (slice_set k.machines.items agent machine) cs ready figures.items) (sym e)
-            (subst (λ fs. PartsStand (run_in k) k.plan.code k.plan.until (turns_in k (k.cycles + 1)) dates (record k.shared { seats = seats; ended = copies }) (slice_set k.machines.items agent machine) (slice_set k.charges.items agent charge) ready fs) (sym f)
-            (parts_given (record k.shared { seats = seats; ended = copies }) refl a b refl refl refl refl refl)));
+            subst (λ ms. PartsStand (run_in k) k.plan.code k.plan.until (turns_in k (k.cycles + 1)) dates (record k.shared { seats = seats; ended = copies; outboxes = outboxes; taken = counts }) ms charges.items ready figures.items) (sym c)
+            (subst (λ cs. PartsStand (run_in k) k.plan.code k.plan.until (turns_in k (k.cycles + 1)) dates (record k.shared { seats = seats; ended = copies; outboxes = outboxes; taken = counts }) (slice_set k.machines.items agent machine) cs ready figures.items) (sym e)
+            (subst (λ fs. PartsStand (run_in k) k.plan.code k.plan.until (turns_in k (k.cycles + 1)) dates (record k.shared { seats = seats; ended = copies; outboxes = outboxes; taken = counts }) (slice_set k.machines.items agent machine) (slice_set k.charges.items agent charge) ready fs) (sym f)
+            (parts_given (record k.shared { seats = seats; ended = copies; outboxes = outboxes; taken = counts }) refl a b refl refl refl g h)));
         reaching = as_many ∙ is.reaching;
         reached = reached;
+        holding = is.holding;
+        held = is.held;
         all = is.all;
         orders = is.orders;
         choice = choice;
         place = is.place;
+        unshown = is.unshown;
         given = is.given;
       }

@@ -1,5 +1,5 @@
 -- A kernel whose next date is due: every action that is due by then is over.
-use Rattle.std.proofs.Common.{◌≡◌, ℤ, ℕ, suc, ◌+◌, ◌-◌, ◌*◌, ◌^◌, ◌≤◌, true, false, List, length, Option, Some, None, refl, ap, sym, subst, ◌∙◌, arith}
+use Rattle.std.proofs.Common.{◌≡◌, ℤ, ℕ, suc, ◌+◌, ◌-◌, ◌*◌, ◌^◌, ◌≤◌, true, false, List, length, Option, Some, None, ap, sym, subst, ◌∙◌, arith}
 use Rattle.std.specs.List.{Contains, slice_get}
 use Rattle.std.proofs.Math.Numerals.{add-one}
 use Rattle.psy_budget.specs.Charges.{Charged}
@@ -17,17 +17,21 @@ use Rattle.psy_history.specs.Regular.{IsLawful}
 use Rattle.psy_history.specs.Scheduled.{IsFinished, IsSupplied, turns_of}
 use Rattle.psy_dates.specs.declared.seat.Seat.{Seat}
 use Rattle.psy_dates.specs.declared.shared.Shared.{Shared}
+use Rattle.psy_dates.specs.Outboxes.{Outboxed}
 use Rattle.psy_dates.specs.Standing.{NoneActs, SeatStands, SharedStands, dates_done}
 use Rattle.psy_kernel.specs.declared.kernel.Figure.{Figure}
 use Rattle.psy_kernel.specs.declared.kernel.Kernel.TheInside.{Inside}
 use Rattle.psy_kernel.specs.declared.stage.Stage.TheVariants.{DateDue}
 use Rattle.psy_kernel.specs.Progress.{Progress, after_date, order, stage_of, system}
 use Rattle.psy_kernel.specs.Scripts.{stalls_of}
-use Rattle.psy_kernel.specs.Standing.{AgentStands, InTick, KernelStands, given_at, progress_of}
-use Rattle.psy_kernel.specs.Starting.{IsDoneBelow, charge_at, deadline_at, seat_at, starts_at}
+use Rattle.psy_kernel.specs.Standing.{AgentStands, DeedsStand, InTick, KernelStands, given_at, most_held_in, progress_of}
+use Rattle.psy_kernel.specs.Starting.{IsDoneBelow, charge_at, deadline_at, held_at, seat_at, starts_at}
 use Rattle.psy_kernel.proofs.Dated.{agents_after, date_due, free_before, tick_after, within_until}
+use Rattle.psy_kernel.proofs.DeedsDated.{HaveBegun, HaveStayed, deeds_after}
+use Rattle.psy_kernel.proofs.HeldMessages.{held_more}
 use Rattle.psy_kernel.proofs.Started.{none_acts}
 use Rattle.psy_kernel.proofs.Supplied.{supplied as is_supplied}
+use Rattle.psy_kernel.proofs.ToldPlaces.{none_first}
 
 -- No action that isn't started had a cycle.
 abbrev pub Unstarted : Type 0
@@ -145,11 +149,22 @@ module _ (k : Inside) (date : ℕ) (at : IsDue k date) where
         → (agent : ℕ) (machine : AgentMachine) (charge : Charged) (waits : Option ℕ) (figure : Figure) → slice_get k.machines.items agent ≡ Some machine → slice_get charges agent ≡ Some charge → slice_get ready agent ≡ Some waits → slice_get k.figures.items agent ≡ Some figure → AgentStands its k.plan.code (turns_of its ties k.cycles) k.plan.until agent (history its (suc date) agent) charge machine waits figure
     agents = agents_after k.plan.unit k.plan.code k.plan.nexts (stalls_of k.script) k.shared.inputs.lists date k.plan.until (turns_of its ties k.cycles) lawful small unstarted in_time k.machines.items k.charges.items k.ready k.figures.items h.charges h.waiting was shared.seats.items after.seated sits
 
+    pub helds : (after : List ℕ) → IsDoneBelow (held_at shared.queues.items) (length shared.queues.items) k.helds.items after → (stream n : ℕ) → slice_get after stream ≡ Some n → n ≡ most_held_in its (date + 1) stream
+    helds after_each done_each = held_more its (turns_of its ties k.cycles) date shared after k.helds.items after_each h.holding (λ stream n there. subst (λ d. n ≡ most_held_in its d stream) (sym is_date) (h.held stream n there)) done_each
+
+    pub deeds : HaveBegun its date shared.seats.items shared.outboxes.items shared.taken.items → HaveStayed its date shared.seats.items k.shared.outboxes.items shared.outboxes.items k.shared.taken.items shared.taken.items
+        → (agent : ℕ) (outbox : Outboxed) → slice_get shared.outboxes.items agent ≡ Some outbox → DeedsStand its k.plan.code (turns_of its ties k.cycles) (history its (suc date) agent) outbox.sends shared.taken.items
+    deeds begun stayed = deeds_after its k.plan.code date (turns_of its ties k.cycles) lawful unstarted in_time shared.seats.items after.seated sits k.shared.outboxes.items shared.outboxes.items after.boxed k.shared.taken.items shared.taken.items after.taking begun stayed
+        (λ agent outbox there. subst (λ d. DeedsStand its k.plan.code (turns_of its ties k.cycles) (history its d agent) outbox.sends k.shared.taken.items) (sym is_date) (h.doing agent outbox there))
+
   pub tick : InTick k.plan.unit.quantum k.plan.until (suc date) k.cycles
   tick = tick_after k.plan.unit.quantum k.plan.until date k.cycles within filled
 
-pub none_given : (s : System) (date : ℕ) → 0 ≡ given_at s (suc date) 0
-none_given s date = (let none : 0 - length s.unit.agents ≡ 0 = omega arith in rw none refl)
+pub none_given : (s : System) (date : ℕ) → 0 ≡ given_at s (suc date) 0 0
+none_given s date =
+    let none : 0 - length s.unit.agents ≡ 0 = omega arith in
+    let none_more : 0 - length s.unit.variables ≡ 0 = omega arith in
+    rw (none, none_more) (ap length (sym (none_first s date 0)))
 
 pub view_after : (k : Inside) (inputs : List (List ℤ)) (dates : ℕ) → inputs ≡ k.shared.inputs.lists → dates ≡ dates_done k.shared.date + 1 → ◌≡◌ {A = Progress} (record { plan = k.plan; inputs = inputs; script = k.script; dates = dates; cycles = k.cycles; given = 0 }) (after_date (progress_of k))
 view_after k inputs dates same more = cc (same, more)

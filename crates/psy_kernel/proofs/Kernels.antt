@@ -21,7 +21,7 @@ use Rattle.psy_kernel.specs.declared.script.Script.{Script}
 use Rattle.psy_kernel.specs.declared.stage.Stage.TheVariants.{CycleDue}
 use Rattle.psy_kernel.specs.Progress.{Progress, stage_of}
 use Rattle.psy_kernel.specs.Scripts.{order_of}
-use Rattle.psy_kernel.specs.Standing.{AreInForce, IsChosen, KernelStands, given_at, progress_of}
+use Rattle.psy_kernel.specs.Standing.{AreInForce, IsChosen, KernelStands, given_at, most_held_in, progress_of}
 use Rattle.psy_kernel.proofs.CyclesDone.{next_turn}
 use Rattle.psy_kernel.proofs.OrdersInForce.{in_force_is, lists_order}
 use Rattle.psy_kernel.proofs.Parts.{PartsStand}
@@ -41,6 +41,10 @@ PartsIn k cycles = PartsStand (run_in k) k.plan.code k.plan.until (turns_in k cy
 abbrev pub ReachedIn : Inside → ℕ → Type 0
 ReachedIn k cycles = (variable : ℕ) (n : Option ℕ) → slice_get k.reaches.items variable ≡ Some n → n ≡ reach (run_in k) (turns_in k cycles) (history (run_in k) (dates_done k.shared.date)) variable
 
+-- streams held as many messages at the dates done
+abbrev pub HeldIn : Inside → Type 0
+HeldIn k = (stream n : ℕ) → slice_get k.helds.items stream ≡ Some n → n ≡ most_held_in (run_in k) (dates_done k.shared.date) stream
+
 pub record IsBetween (m : Inside) : Type 0 where
   pub date : ℕ
   pub dates : dates_done m.shared.date ≡ date + 1
@@ -48,11 +52,14 @@ pub record IsBetween (m : Inside) : Type 0 where
   pub parts : PartsIn m (m.cycles + 1)
   pub reaching : length m.reaches.items ≡ length m.plan.unit.variables
   pub reached : ReachedIn m (m.cycles + 1)
+  pub holding : length m.helds.items ≡ length m.plan.unit.streams
+  pub held : HeldIn m
   pub all : m.declared.items ≡ range_with_len 0 (length m.plan.unit.agents)
   pub orders : AreInForce m.script.orders m.passed m.cycles
   pub choice : m.stale ≡ false → IsChosen m.ready (order_of m.plan.unit m.script m.cycles) m.chosen
-  pub place : m.place ≤ length m.plan.unit.agents + length m.plan.unit.variables
-  pub given : m.given ≡ given_at (run_in m) (dates_done m.shared.date) m.place
+  pub place : m.place ≤ length m.plan.unit.agents + length m.plan.unit.variables + length m.plan.unit.streams
+  pub unshown : m.place < length m.plan.unit.agents + length m.plan.unit.variables → m.shown ≡ 0
+  pub given : m.given ≡ given_at (run_in m) (dates_done m.shared.date) m.place m.shown
 
 -- ---- before the cycle
 
@@ -65,6 +72,7 @@ module _ (k : Inside) (is : KernelStands k) where
     waiting = is.waiting;
     figured = is.figured;
     agents = is.agents;
+    doing = is.doing;
   }
 
   pub same_order : order_of k.plan.unit k.script k.cycles ≡ order_by k.declared.items k.script.orders k.passed
@@ -113,6 +121,9 @@ module _ (m : Inside) (b : IsBetween m) where
     charges = b.parts.charged;
     reaching = b.reaching;
     reached = b.reached;
+    holding = b.holding;
+    held = b.held;
+    doing = b.parts.doing;
     waiting = b.parts.waiting;
     figured = b.parts.figured;
     agents = b.parts.agents;
@@ -120,6 +131,7 @@ module _ (m : Inside) (b : IsBetween m) where
     orders = orders;
     choice = choice;
     place = b.place;
+    unshown = b.unshown;
     given = b.given;
   }
 

@@ -1,10 +1,12 @@
--- Agents and variables that code reads by their number.
+-- Agents, variables and streams that code reads by their number.
 use Rattle.std.proofs.Common.{◌≡◌, ℕ, ◌<◌, List, [], length, get_or, ap, ◌∙◌}
 use Rattle.std.proofs.lemmas.List.{get_or_default}
 use Rattle.psy_tree.specs.declared.unit.AgentDecl.{AgentDecl}
+use Rattle.psy_tree.specs.declared.unit.StreamDecl.{StreamDecl}
 use Rattle.psy_tree.specs.declared.unit.Unit.{Unit as Whole}
 use Rattle.psy_tree.specs.declared.unit.VarDecl.{VarDecl}
 use Rattle.psy_meaning.specs.Executors.{agent_at}
+use Rattle.psy_meaning.specs.QueueSizes.{stream_at}
 use Rattle.psy_kernel.specs.Telling.{variable_at}
 
 module _ (unit : Whole) (number : ℕ) where
@@ -13,3 +15,6 @@ module _ (unit : Whole) (number : ℕ) where
 
   pub variable_found : (variables : List VarDecl) (at : ℕ) (v : VarDecl) → variables ≡ unit.variables → at ≡ number → at < length variables → get_or variables at v ≡ variable_at unit number
   variable_found variables at v same is within = get_or_default variables at v _ within ∙ ap (λ all. variable_at (record unit { variables = all }) at) same ∙ ap (variable_at unit) is
+
+  pub stream_found : (streams : List StreamDecl) (at : ℕ) (d : StreamDecl) → streams ≡ unit.streams → at ≡ number → at < length streams → get_or streams at d ≡ stream_at unit number
+  stream_found streams at d same is within = get_or_default streams at d _ within ∙ ap (λ all. stream_at (record unit { streams = all }) at) same ∙ ap (stream_at unit) is

@@ -13,7 +13,6 @@ use Rattle.psy_code.specs.Execution.{Machine, copy_of}
 use Rattle.psy_dates.specs.declared.seat.Seat.{Seat}
 use Rattle.psy_dates.specs.declared.seat.Phase.TheVariants as phase
 use Rattle.psy_dates.specs.Standing.{KeepsCopy, SeatOf, TellsEnd, phase_by, phase_of, trap_of}
-use Rattle.psy_history.specs.Compiled.{IsBuilt}
 use Rattle.psy_machine.specs.Stepping.{AgentMachine, IsOf}
 use Rattle.psy_meaning.specs.Actions.{Action, System, Verdict, Done, Trapped, Overran, is_done, is_silent, timing, variable_of}
 use Rattle.psy_meaning.specs.Executors.{agent_code_at, copy_in, machine_at}
@@ -66,19 +65,19 @@ variable_known s variable owner e = elim (cases_lt variable (length s.unit.varia
 -- ---- the action that gets the cycle
 
 module _ (s : System) (code : Code) (turns : List (Option Turn)) (until date cycle agent : ℕ) (r : Action) (before : List Action) (g : GetsCycle s code turns until date cycle agent r before) where
-  abbrev had : ℕ
+  abbrev pub had : ℕ
   had = units r.agent r.number turns
 
-  abbrev turn : Turn
+  abbrev pub turn : Turn
   turn = record { agent = r.agent; number = r.number }
 
-  abbrev now : List (Option Turn)
+  abbrev pub now : List (Option Turn)
   now = Some turn ∷ turns
 
   older : All (AreSameFor turns now) before
   older = All-weaker (λ (q : Action). q.number < r.number) (AreSameFor turns now) (λ q h. missed (Some turn) turns q (other_number q.agent q.number turn (λ e. absurd (omega (arith, h, e))))) before g.numbers
 
-  more : units r.agent r.number now ≡ suc had
+  pub more : units r.agent r.number now ≡ suc had
   more = cond-true (is_of r.agent r.number (Some turn)) (suc had) had (is_own r.agent r.number)
 
   finished : finish r.agent r.number now ≡ cycle + 1
@@ -87,10 +86,10 @@ module _ (s : System) (code : Code) (turns : List (Option Turn)) (until date cyc
   pub early : had < work r
   early = ltb-true had (work r) g.pending
 
-  still : suc had < work r → is_pending now r ≡ true
+  pub still : suc had < work r → is_pending now r ≡ true
   still h = ap (λ n. nat_lt n (work r)) more ∙ lt-ltb (suc had) (work r) h
 
-  over : suc had ≡ work r → is_pending now r ≡ false
+  pub over : suc had ≡ work r → is_pending now r ≡ false
   over h = ap (λ n. nat_lt n (work r)) more ∙ le-ltb (suc had) (work r) (omega (arith, h))
 
   settled_now : is_pending now r ≡ true → settled now until (r ∷ before) ≡ settled now until before
@@ -150,13 +149,13 @@ module _ (s : System) (code : Code) (turns : List (Option Turn)) (until date cyc
   awake : is_silent date (r ∷ []) ≡ false
   awake = and_right (not (is_done r.verdict)) (nat_le r.deadline date) (lt-leb r.deadline date g.later)
 
-  phase_acting : is_pending now r ≡ true → phase_of date now r ≡ phase.Acting
+  pub phase_acting : is_pending now r ≡ true → phase_of date now r ≡ phase.Acting
   phase_acting h = ap (λ silent. phase_by silent (is_pending now r) (is_done r.verdict)) awake ∙ ap (λ pending. phase_by false pending (is_done r.verdict)) h
 
   phase_then : phase_of date turns r ≡ phase.Acting
   phase_then = ap (λ silent. phase_by silent (is_pending turns r) (is_done r.verdict)) awake ∙ ap (λ pending. phase_by false pending (is_done r.verdict)) g.pending
 
-  phase_over : is_pending now r ≡ false → phase_of date now r ≡ phase_by false false (is_done r.verdict)
+  pub phase_over : is_pending now r ≡ false → phase_of date now r ≡ phase_by false false (is_done r.verdict)
   phase_over h = ap (λ silent. phase_by silent (is_pending now r) (is_done r.verdict)) awake ∙ ap (λ pending. phase_by false pending (is_done r.verdict)) h
 
   module _ (seat : Seat) (at : SeatOf date turns r seat) where
@@ -207,14 +206,13 @@ module _ (s : System) (code : Code) (turns : List (Option Turn)) (until date cyc
       let copy = are variable (variable_of s variable) value (variable_known s variable agent owned) owned at in
       ap value_or_zero (sym copy ∙ ap (λ (m : Machine). copy_of variable m.copies) e)
 
-  pub in_action : IsBuilt s.unit → (charge : Charged) (machine : AgentMachine) (waits : Option ℕ) (figure : Figure) (seat : Seat) (ended : List ℤ) → OneStands s code turns until date agent (r ∷ before) charge machine waits figure seat ended → InAction s code r had charge machine
-  in_action built charge machine waits figure seat ended old = record {
+  pub in_action : (charge : Charged) (machine : AgentMachine) (waits : Option ℕ) (figure : Figure) (seat : Seat) (ended : List ℤ) → OneStands s code turns until date agent (r ∷ before) charge machine waits figure seat ended → InAction s code r had charge machine
+  in_action charge machine waits figure seat ended old = record {
     of_code = g.of_code;
     agent = old.stands.is_agent ∙ sym g.agent_is;
     pending = early;
     charged = old.stands.charged;
     running = subst (λ test. MachineIn s code turns r test machine) g.pending old.stands.executes;
-    built = built;
   }
 
   pub moved : (charge : Charged) (machine : AgentMachine) (waits : Option ℕ) (figure other : Figure) (seat seat' : Seat) (ended ended' : List ℤ) → figure ≡ other → seat ≡ seat' → ended ≡ ended'

@@ -1,22 +1,23 @@
 -- A cycle that an action doesn't get changes nothing of it, and so nothing of what its agent has.
 use Rattle.std.proofs.Common.{◌≡◌, refl, sym, ap, ◌∙◌, subst}
-use Rattle.std.specs.Prelude.{ℕ, suc, ◌+◌, ◌-◌, ◌*◌, ◌==◌, Bool, true, false, not, nat_le, nat_lt, if◌then◌else◌, List, [], ◌∷◌, filter, map, length, Option, Some, None, ℤ}
+use Rattle.std.specs.Prelude.{ℕ, suc, ◌+◌, ◌-◌, ◌*◌, ◌==◌, Bool, true, false, not, nat_le, nat_lt, if◌then◌else◌, List, [], ◌∷◌, filter, map, length, slice_get, Option, Some, None, ℤ}
 use Rattle.std.specs.List.{All}
 use Rattle.std.proofs.lemmas.Bool.{cond-false, and_left, and_right, and_from, eq-eqb, ne_eqb}
 use Rattle.std.proofs.lemmas.List.Elements.{All-filter, All-head, All-tail, All-weaker}
 use Rattle.psy_budget.specs.Charges.{Charged}
 use Rattle.psy_code.specs.declared.code.Code.{Code}
+use Rattle.psy_code.specs.declared.look.Sent.{Sent}
 use Rattle.psy_code.specs.Execution.{RunState, Running, run_code}
 use Rattle.psy_history.specs.Regular.{begun_by}
 use Rattle.psy_dates.specs.declared.seat.Seat.{Seat}
-use Rattle.psy_dates.specs.Standing.{KeepsCopy, SeatStands, phase_by, phase_of}
+use Rattle.psy_dates.specs.Standing.{KeepsCopy, KeepsSends, KeepsTakes, SeatStands, phase_by, phase_of}
 use Rattle.psy_machine.specs.Stepping.{AgentMachine}
-use Rattle.psy_meaning.specs.Actions.{Action, System, is_done, is_silent}
+use Rattle.psy_meaning.specs.Actions.{Action, System, is_done, is_silent, stream_of}
 use Rattle.psy_meaning.specs.Executors.{agent_code_at}
 use Rattle.psy_meaning.specs.Schedule.{Turn, finish, is_of, is_pending, units, work}
 use Rattle.psy_meaning.specs.Summary.{due_by, least_of, slack, slack_of}
 use Rattle.psy_kernel.specs.declared.kernel.Figure.{Figure}
-use Rattle.psy_kernel.specs.Standing.{AgentStands, ChargeStands, MachineIn, MachineStands, charge_after, deadline_of, settled}
+use Rattle.psy_kernel.specs.Standing.{AgentStands, ChargeStands, DeedsStand, HasDone, MachineIn, MachineStands, charge_after, deadline_of, settled}
 
 -- ---- lists
 
@@ -127,3 +128,32 @@ module _ (turns now : List (Option Turn)) where
   pub copy_kept : (date variable : ℕ) (actions : List Action) (value : ℤ) → All (AreSameFor turns now) actions → KeepsCopy date turns variable actions value → KeepsCopy date now variable actions value
   copy_kept date variable [] value same h = h
   copy_kept date variable (r ∷ before) value same h = λ ended. h (sym (phase_same date r (All-head (AreSameFor turns now) r before same)) ∙ ended)
+
+  -- ---- what an agent has sent and taken
+
+  pub sends_kept : (date : ℕ) (actions : List Action) (sends : List Sent) → All (AreSameFor turns now) actions → KeepsSends date turns actions sends → KeepsSends date now actions sends
+  sends_kept date [] sends same h = h
+  sends_kept date (r ∷ before) sends same h = λ ended. h (sym (phase_same date r (All-head (AreSameFor turns now) r before same)) ∙ ended)
+
+  pub takes_kept : (date stream : ℕ) (actions : List Action) (n : ℕ) → All (AreSameFor turns now) actions → KeepsTakes date turns stream actions n → KeepsTakes date now stream actions n
+  takes_kept date stream [] n same h = h
+  takes_kept date stream (r ∷ before) n same h = λ ended. h (sym (phase_same date r (All-head (AreSameFor turns now) r before same)) ∙ ended)
+
+  pub deeds_kept : (s : System) (code : Code) (actions : List Action) (sends : List Sent) (taken : List ℕ) → All (AreSameFor turns now) actions → DeedsStand s code turns actions sends taken → DeedsStand s code now actions sends taken
+  deeds_kept s code [] sends taken same h = h
+  deeds_kept s code (r ∷ before) sends taken same h = λ pending.
+      let head = All-head (AreSameFor turns now) r before same in
+      subst (λ n. HasDone s code r (charge_after s r n).paid sends taken) (sym head.units) (h (sym (pending_same r head) ∙ pending))
+
+-- an agent's action has done the same where the counts of the streams that it receives are the same
+pub deeds_untaken : (s : System) (code : Code) (turns : List (Option Turn)) (agent : ℕ) (actions : List Action) (sends : List Sent) (old taken : List ℕ) → All (λ (q : Action). q.agent ≡ agent) actions
+    → ((stream n : ℕ) → slice_get taken stream ≡ Some n → (stream_of s stream).receiver ≡ agent → slice_get old stream ≡ Some n) → DeedsStand s code turns actions sends old → DeedsStand s code turns actions sends taken
+deeds_untaken s code turns agent [] sends old taken own same h = h
+deeds_untaken s code turns agent (r ∷ before) sends old taken own same h = λ pending.
+    let did : HasDone s code r (charge_after s r (units r.agent r.number turns)).paid sends old = h pending in
+    record {
+      state = did.state;
+      running = did.running;
+      sent = did.sent;
+      took = λ stream n at its. did.took stream n (same stream n at (its ∙ All-head (λ (q : Action). q.agent ≡ agent) r before own)) its;
+    }

@@ -5,24 +5,29 @@ use Rattle.std.specs.List.{All}
 use Rattle.std.proofs.lemmas.Bool.{cases_eq, cases_lt}
 use Rattle.std.proofs.lemmas.List.{get_or_past, length-set}
 use Rattle.std.proofs.lemmas.List.Elements.{All-head, All-weaker}
-use Rattle.std.proofs.lemmas.Option.{get_or_from_slice_get}
+use Rattle.std.proofs.lemmas.Option.{get_or_from_slice_get, slice_get-get_or, slice_get_within}
 use Rattle.psy_budget.specs.Charges.{Charged}
 use Rattle.psy_code.specs.declared.code.Code.{Code}
 use Rattle.psy_dates.specs.declared.seat.Seat.{Seat}
 use Rattle.psy_dates.specs.declared.shared.Shared.{Shared}
-use Rattle.psy_dates.specs.Standing.{KeepsCopy, SeatStands, SharedStands, dates_done}
+use Rattle.psy_dates.specs.Outboxes.{Outboxed}
+use Rattle.psy_dates.specs.Standing.{KeepsCopy, KeepsSends, KeepsTakes, OutboxStands, SeatStands, SharedStands, dates_done}
 use Rattle.psy_history.specs.Regular.{AreRegular, IsLawful, IsRegular}
 use Rattle.psy_machine.specs.Stepping.{AgentMachine}
-use Rattle.psy_meaning.specs.Actions.{Action, System, variable_of}
+use Rattle.psy_meaning.specs.Actions.{Action, System, stream_of, variable_of}
+use Rattle.psy_meaning.specs.Executors.{agent_at}
+use Rattle.psy_meaning.specs.Flow.{IsGreatest}
 use Rattle.psy_meaning.specs.History.{history}
+use Rattle.psy_meaning.specs.QueueSizes.{HasSendsTo}
 use Rattle.psy_meaning.specs.Schedule.{Turn, pending, soonest}
 use Rattle.psy_ready.specs.Choice.{IsPick, pending_deadline}
+use Rattle.psy_tree.specs.declared.unit.StreamDecl.{StreamDecl}
 use Rattle.psy_tree.specs.declared.unit.VarDecl.{VarDecl}
-use Rattle.psy_kernel.specs.Cycles.{AreOver, OneStands}
+use Rattle.psy_kernel.specs.Cycles.{AreOver, BoxStands, OneStands}
 use Rattle.psy_kernel.specs.declared.kernel.Figure.{Figure}
-use Rattle.psy_kernel.specs.Standing.{AgentStands, IsChosen, deadline_of}
+use Rattle.psy_kernel.specs.Standing.{AgentStands, DeedsStand, IsChosen, deadline_of}
 use Rattle.psy_kernel.proofs.OneAgent.{variable_known}
-use Rattle.psy_kernel.proofs.OtherAgents.{AreSameFor, agent_kept, copy_kept, missed, other_agent, seat_kept}
+use Rattle.psy_kernel.proofs.OtherAgents.{AreSameFor, agent_kept, copy_kept, deeds_kept, deeds_untaken, missed, other_agent, seat_kept, sends_kept, takes_kept}
 use Rattle.psy_kernel.proofs.PickIsSoonest.{Front, IsSoonest, front_of, soonest_by_pick, soonest_of_nobody}
 use Rattle.psy_kernel.proofs.Sets.{get_set_other, get_set_same}
 
@@ -36,6 +41,7 @@ pub record PartsStand (s : System) (code : Code) (until : ℕ) (turns : List (Op
   pub agents : (agent : ℕ) (machine : AgentMachine) (charge : Charged) (waits : Option ℕ) (figure : Figure)
       → slice_get machines agent ≡ Some machine → slice_get charges agent ≡ Some charge → slice_get ready agent ≡ Some waits → slice_get figures agent ≡ Some figure
       → AgentStands s code turns until agent (history s dates agent) charge machine waits figure
+  pub doing : (agent : ℕ) (outbox : Outboxed) → slice_get shared.outboxes.items agent ≡ Some outbox → DeedsStand s code turns (history s dates agent) outbox.sends shared.taken.items
 
 found : {X : Type 0} (xs : List X) (place : ℕ) → place < length xs → (x : X) × (slice_get xs place ≡ Some x)
 found [] place less = absurd (omega (arith, less))
@@ -53,9 +59,12 @@ shared_same s turns now dates shared same h = record {
   ended = λ variable owner value at owned. copy_kept turns now (dates - 1) variable (history s dates owner) value (same owner) (h.ended variable owner value at owned);
   ringed = h.ringed;
   rings = h.rings;
+  queued = h.queued;
   queues = h.queues;
-  outboxes = h.outboxes;
-  taken = h.taken;
+  boxed = h.boxed;
+  outboxes = λ agent outbox at. (let its = h.outboxes agent outbox at in record { size = its.size; sends = sends_kept turns now (dates - 1) (history s dates agent) outbox.sends (same agent) its.sends });
+  taking = h.taking;
+  taken = λ stream n at. takes_kept turns now (dates - 1) stream (history s dates (stream_of s stream).receiver) n (same (stream_of s stream).receiver) (h.taken stream n at);
 }
 
 module _ (s : System) (code : Code) (until : ℕ) (turns : List (Option Turn)) (dates : ℕ) (shared : Shared) (machines : List AgentMachine) (charges : List Charged) (ready : List (Option ℕ)) (figures : List Figure) (p : PartsStand s code until turns dates shared machines charges ready figures) where
@@ -70,6 +79,7 @@ module _ (s : System) (code : Code) (until : ℕ) (turns : List (Option Turn)) (
         waiting = p.waiting;
         figured = p.figured;
         agents = λ agent machine charge waits figure m c w f. agent_kept turns (None ∷ turns) s code until agent (history s dates agent) charge machine waits figure (same agent) (p.agents agent machine charge waits figure m c w f);
+        doing = λ agent outbox at. deeds_kept turns (None ∷ turns) s code (history s dates agent) outbox.sends shared.taken.items (same agent) (p.doing agent outbox at);
       }
 
   module _ (lawful : IsLawful s) (over : (agent : ℕ) → AreOver turns (history s dates agent)) where
@@ -132,7 +142,49 @@ module _ (s : System) (code : Code) (until : ℕ) (turns : List (Option Turn)) (
         (history s dates other) (of_agent other (history s dates other) (AreRegular.each (lawful.actions dates other)))
 
     module _ (machine : AgentMachine) (charge : Charged) (waits : Option ℕ) (figure : Figure) (seat : Seat) (ended : List ℤ) (one : OneStands s code now until date agent (r ∷ before) charge machine waits figure seat ended)
-        (all : length ended ≡ length shared.ended.items) (others : (variable : ℕ) (v : VarDecl) → slice_get s.unit.variables variable ≡ Some v → v.owner ≢ Some agent → slice_get ended variable ≡ slice_get shared.ended.items variable) where
+        (all : length ended ≡ length shared.ended.items) (others : (variable : ℕ) (v : VarDecl) → slice_get s.unit.variables variable ≡ Some v → v.owner ≢ Some agent → slice_get ended variable ≡ slice_get shared.ended.items variable)
+        (outbox : Outboxed) (taken : List ℕ) (box : BoxStands s code now date agent (r ∷ before) outbox.sends taken) (size : (old : Outboxed) → slice_get shared.outboxes.items agent ≡ Some old → outbox.size ≡ old.size)
+        (count : length taken ≡ length shared.taken.items) (untaken : (stream : ℕ) (decl : StreamDecl) → slice_get s.unit.streams stream ≡ Some decl → decl.receiver ≢ agent → slice_get taken stream ≡ slice_get shared.taken.items stream) where
+      -- what was taken of a stream that another agent receives
+      same_taken : (stream n : ℕ) → slice_get taken stream ≡ Some n → ((stream_of s stream).receiver ≡ agent → ⊥) → slice_get shared.taken.items stream ≡ Some n
+      same_taken stream n at differs =
+          let known : stream < length s.unit.streams = omega (arith, slice_get_within taken stream n at, count, p.shares.taking) in
+          sym (untaken stream (stream_of s stream) (slice_get-get_or s.unit.streams stream (record { name = []; receiver = 0; keep = 1; clock = 0 }) known) differs) ∙ at
+
+      taken_given : (stream n : ℕ) → slice_get taken stream ≡ Some n → KeepsTakes (dates - 1) now stream (history s dates (stream_of s stream).receiver) n
+      taken_given stream n at = elim (cases_eq (stream_of s stream).receiver agent) [
+        | inl same ↦
+            subst (λ a. KeepsTakes (dates - 1) now stream (history s dates a) n) (sym same) (subst (λ actions. KeepsTakes (dates - 1) now stream actions n) (sym is) (subst (λ d. KeepsTakes d now stream (r ∷ before) n) (sym last) (box.took stream n at same)))
+        | inr differs ↦
+            takes_kept turns now (dates - 1) stream (history s dates (stream_of s stream).receiver) n (others_same (stream_of s stream).receiver differs) (p.shares.taken stream n (same_taken stream n at differs))
+      ]
+
+      outboxes_given : (other : ℕ) (x : Outboxed) → slice_get (slice_set shared.outboxes.items agent outbox) other ≡ Some x → OutboxStands s (dates - 1) now other (history s dates other) x
+      outboxes_given other x at = elim (cases_eq other agent) [
+        | inl same ↦
+            (let here : slice_get (slice_set shared.outboxes.items agent outbox) agent ≡ Some x = sym (ap (slice_get (slice_set shared.outboxes.items agent outbox)) same) ∙ at in
+            let x_is : x ≡ outbox = get_set_same shared.outboxes.items agent outbox x here in
+            let old = found shared.outboxes.items agent (omega (arith, slice_get_within (slice_set shared.outboxes.items agent outbox) agent x here, length-set shared.outboxes.items agent outbox)) in
+            subst (λ a. OutboxStands s (dates - 1) now a (history s dates a) x) (sym same) (subst (OutboxStands s (dates - 1) now agent (history s dates agent)) (sym x_is) (record {
+              size = subst (IsGreatest (HasSendsTo s.unit (agent_at s.unit agent))) (sym (size old.0 old.1)) (p.shares.outboxes agent old.0 old.1).size;
+              sends = subst (λ actions. KeepsSends (dates - 1) now actions outbox.sends) (sym is) (subst (λ d. KeepsSends d now (r ∷ before) outbox.sends) (sym last) box.sent);
+            })))
+        | inr differs ↦
+            (let its = p.shares.outboxes other x (sym (get_set_other shared.outboxes.items agent other outbox differs) ∙ at) in
+            record { size = its.size; sends = sends_kept turns now (dates - 1) (history s dates other) x.sends (others_same other differs) its.sends })
+      ]
+
+      doing_given : (other : ℕ) (x : Outboxed) → slice_get (slice_set shared.outboxes.items agent outbox) other ≡ Some x → DeedsStand s code now (history s dates other) x.sends taken
+      doing_given other x at = elim (cases_eq other agent) [
+        | inl same ↦
+            (let x_is : x ≡ outbox = get_set_same shared.outboxes.items agent outbox x (sym (ap (slice_get (slice_set shared.outboxes.items agent outbox)) same) ∙ at) in
+            subst (λ a. DeedsStand s code now (history s dates a) x.sends taken) (sym same) (subst (λ actions. DeedsStand s code now actions x.sends taken) (sym is) (subst (λ (o : Outboxed). DeedsStand s code now (r ∷ before) o.sends taken) (sym x_is) box.doing)))
+        | inr differs ↦
+            deeds_untaken s code now other (history s dates other) x.sends shared.taken.items taken (of_agent other (history s dates other) (AreRegular.each (lawful.actions dates other)))
+            (λ stream n here own. same_taken stream n here (λ e. differs (sym own ∙ e)))
+            (deeds_kept turns now s code (history s dates other) x.sends shared.taken.items (others_same other differs) (p.doing other x (sym (get_set_other shared.outboxes.items agent other outbox differs) ∙ at)))
+      ]
+
       seats_given : (other : ℕ) (x : Seat) → slice_get (slice_set shared.seats.items agent seat) other ≡ Some x → SeatStands (dates - 1) now (history s dates other) x
       seats_given other x at = elim (cases_eq other agent) [
         | inl same ↦
@@ -152,7 +204,7 @@ module _ (s : System) (code : Code) (until : ℕ) (turns : List (Option Turn)) (
       ]
 
       pub shared_given : (after : Shared) → after.date ≡ shared.date → after.seats.items ≡ slice_set shared.seats.items agent seat → after.ended.items ≡ ended → after.committed ≡ shared.committed
-          → after.rings ≡ shared.rings → after.queues ≡ shared.queues → after.outboxes ≡ shared.outboxes → after.taken ≡ shared.taken → SharedStands s now dates after
+          → after.rings ≡ shared.rings → after.queues ≡ shared.queues → after.outboxes.items ≡ slice_set shared.outboxes.items agent outbox → after.taken.items ≡ taken → SharedStands s now dates after
       shared_given after date_is seats_are ended_are committed_is rings_are queues_are outboxes_are taken_is = record {
         date = ap dates_done date_is ∙ p.shares.date;
         seated = ap length seats_are ∙ length-set shared.seats.items agent seat ∙ p.shares.seated;
@@ -163,9 +215,12 @@ module _ (s : System) (code : Code) (until : ℕ) (turns : List (Option Turn)) (
         ended = λ variable owner value at owned. ended_given variable owner value (sym (ap (λ xs. slice_get xs variable) ended_are) ∙ at) owned;
         ringed = ap (λ v. length v.items) rings_are ∙ p.shares.ringed;
         rings = λ variable ring at. p.shares.rings variable ring (sym (ap (λ v. slice_get v.items variable) rings_are) ∙ at);
-        queues = ap (λ v. length v.items) queues_are ∙ p.shares.queues;
-        outboxes = ap (λ v. length v.items) outboxes_are ∙ p.shares.outboxes;
-        taken = ap (λ v. length v.items) taken_is ∙ p.shares.taken;
+        queued = ap (λ v. length v.items) queues_are ∙ p.shares.queued;
+        queues = λ stream queue at. p.shares.queues stream queue (sym (ap (λ v. slice_get v.items stream) queues_are) ∙ at);
+        boxed = ap length outboxes_are ∙ length-set shared.outboxes.items agent outbox ∙ p.shares.boxed;
+        outboxes = λ other x at. outboxes_given other x (sym (ap (λ xs. slice_get xs other) outboxes_are) ∙ at);
+        taking = ap length taken_is ∙ count ∙ p.shares.taking;
+        taken = λ stream n at. taken_given stream n (sym (ap (λ ns. slice_get ns stream) taken_is) ∙ at);
       }
 
       -- the agent's own, and those of another agent
@@ -187,12 +242,13 @@ module _ (s : System) (code : Code) (until : ℕ) (turns : List (Option Turn)) (
       ]
 
       pub given : (ready' : List (Option ℕ)) → length ready' ≡ length ready → ((w : Option ℕ) → slice_get ready' agent ≡ Some w → w ≡ waits) → ((other : ℕ) → (other ≡ agent → ⊥) → slice_get ready' other ≡ slice_get ready other)
-          → (after : Shared) → SharedStands s now dates after → PartsStand s code until now dates after (slice_set machines agent machine) (slice_set charges agent charge) ready' (slice_set figures agent figure)
-      given ready' as_many own rest after shares = record {
+          → (after : Shared) → after.outboxes.items ≡ slice_set shared.outboxes.items agent outbox → after.taken.items ≡ taken → SharedStands s now dates after → PartsStand s code until now dates after (slice_set machines agent machine) (slice_set charges agent charge) ready' (slice_set figures agent figure)
+      given ready' as_many own rest after outboxes_are taken_is shares = record {
         shares = shares;
         machined = length-set machines agent machine ∙ p.machined;
         charged = length-set charges agent charge ∙ p.charged;
         waiting = as_many ∙ p.waiting;
         figured = length-set figures agent figure ∙ p.figured;
         agents = agents_given ready' own rest;
+        doing = λ other x at. subst (λ ns. DeedsStand s code now (history s dates other) x.sends ns) (sym taken_is) (doing_given other x (sym (ap (λ xs. slice_get xs other) outboxes_are) ∙ at));
       }

@@ -1,25 +1,27 @@
 -- A cycle of a pending action.
-use Rattle.std.proofs.Common.{◌≡◌, ◌≢◌, ℕ, suc, ◌<◌, ◌≤◌, ◌==◌, Option, Some, None, slice_get, refl, sym, ap, ◌∙◌, subst, inl, inr, arith}
+use Rattle.std.proofs.Common.{◌≡◌, ◌≢◌, ℕ, suc, ◌<◌, ◌≤◌, ◌==◌, Bool, true, false, List, Option, Some, None, slice_get, refl, sym, ap, ◌∙◌, subst, inl, inr, arith}
 use Rattle.std.specs.Prelude.{if◌then◌else◌}
 use Rattle.std.proofs.lemmas.Bool.{cases_lt, cases_eq, eq-eqb, ne_eqb}
 use Rattle.psy_budget.specs.declared.charge.Tick.{Tick}
 use Rattle.psy_budget.specs.declared.charge.Tick.TheVariants as tick
 use Rattle.psy_budget.specs.Charges.{Charged, after_tick, cycle_of, tick_of}
 use Rattle.psy_code.specs.declared.code.Code.{Code}
-use Rattle.psy_code.specs.Execution.{RunState, Run, Running, Next, Went, Ended, Trapped, Stuck, call_of, next_of, run_by, run_code, state_then}
+use Rattle.psy_code.specs.declared.look.Sent.{Sent}
+use Rattle.psy_code.specs.Execution.{RunState, Run, Running, Next, Went, Ended, Trapped, Stuck, call_of, deeds_then, next_of, run_by, run_code, state_then}
 use Rattle.psy_code.specs.Views.{View, Call, PermitsAll, Window}
 use Rattle.psy_machine.specs.declared.machine.Step.{Step}
 use Rattle.psy_machine.specs.declared.machine.Step.TheVariants as step
 use Rattle.psy_machine.specs.Stepping.{AgentMachine, Answers, machine_after, next_for, stepped, window_after}
 use Rattle.psy_meaning.specs.Actions.{Action, System}
+use Rattle.psy_meaning.specs.Executors.{Acted}
 use Rattle.psy_history.specs.Regular.{AnswerAlike}
 use Rattle.psy_kernel.specs.declared.kernel.advance.Gone.{Gone}
 use Rattle.psy_kernel.specs.declared.kernel.advance.Gone.TheVariants as gone
-use Rattle.psy_kernel.specs.Acting.{AfterCycle, InAction, IsGone, IsLookIn, IsOfCode, ShowsAs, look_of}
-use Rattle.psy_kernel.specs.Standing.{IsRunning, charge_after}
+use Rattle.psy_kernel.specs.Acting.{AfterCycle, AreDone, HasDoneBy, InAction, IsGone, IsLookIn, IsOfCode, ShowsAs, look_of}
+use Rattle.psy_kernel.specs.Standing.{HasDone, IsRunning, charge_after}
 use Rattle.psy_kernel.proofs.PaidCycles.{not_spent as is_granted, paid_at, paid_next, spent_is, stalled_next, up_to_next}
 use Rattle.psy_kernel.proofs.RunsOn.{able as can_go, answers_alike, asks as asks_of, at_end, early, next_run, noted_after, pasts, permits, served}
-use Rattle.psy_kernel.proofs.Verdicts.{ended, is_whole, its, less_charge, of_code, overran, runs as runs_of, start, trapped}
+use Rattle.psy_kernel.proofs.Verdicts.{comes_to, ended, is_whole, its, less_charge, of_code, overran, runs as runs_of, start, trapped}
 
 -- An action that isn't over goes on, or its budget is spent.
 abbrev on_or_spent : Charged → Gone
@@ -68,17 +70,17 @@ module _ (s : System) (code : Code) (r : Action) (had : ℕ) (charge : Charged) 
   call_is : call ≡ call_of code machine.machine
   call_is = ap (call_of code) w.running.2
 
-  alike : (view : View) → ShowsAs s r view → AnswerAlike view state.view call
-  alike view shows =
-      answers_alike s r w.built view state.view shows (pasts _ _ _ _ _ _ (is_whole s code r w.of_code) paid state w.running.1) call (asks_of _ _ _ _ _ _ (is_whole s code r w.of_code) paid state w.running.1)
+  alike : (window : Window) → ShowsAs s code r paid window → AnswerAlike window.view state.view call
+  alike window shows =
+      answers_alike s code r paid window shows state w.running.1 (pasts _ _ _ _ _ _ (is_whole s code r w.of_code) paid state w.running.1) call (asks_of _ _ _ _ _ _ (is_whole s code r w.of_code) paid state w.running.1)
 
-  pub able : (view : View) → ShowsAs s r view → next_for code view machine ≢ Stuck
-  able view shows e = can_go _ _ _ _ _ _ (is_whole s code r w.of_code) paid state w.running.1 view (alike view shows) (sym (next_is view) ∙ e)
+  pub able : (window : Window) → ShowsAs s code r paid window → next_for code window.view machine ≢ Stuck
+  able window shows e = can_go _ _ _ _ _ _ (is_whole s code r w.of_code) paid state w.running.1 window.view (alike window shows) (sym (next_is window.view) ∙ e)
 
-  pub permitted : (window : Window) → ShowsAs s r window.view → PermitsAll window (call_of code machine.machine)
+  pub permitted : (window : Window) → ShowsAs s code r paid window → PermitsAll window (call_of code machine.machine)
   permitted window shows =
       subst (PermitsAll window) call_is
-      (permits s r w.built window state.view call (asks_of _ _ _ _ _ _ (is_whole s code r w.of_code) paid state w.running.1) (alike window.view shows)
+      (permits s code r paid window shows state w.running.1 call refl (asks_of _ _ _ _ _ _ (is_whole s code r w.of_code) paid state w.running.1) (alike window shows)
       (served _ _ _ _ _ _ (is_whole s code r w.of_code) paid state w.running.1))
 
   charge_by : (t : Tick) → tick_of charge ≡ t → after_tick charge t ≡ charge_after s r (suc had)
@@ -98,7 +100,18 @@ module _ (s : System) (code : Code) (r : Action) (had : ℕ) (charge : Charged) 
         gone = subst (IsGone s code r had machine) (sym (result_is ∙ ap on_or_spent charged)) (goes_on s code r w.of_code had machine less (subst (λ n. IsRunning code r n machine) (sym same) w.running));
       }
 
-  -- which looks at nothing
+  -- an action that may go on has done what its paid instructions did
+  on_done : (sends : List Sent) (taken : List ℕ) → HasDone s code r (charge_after s r (suc had)).paid sends taken → (test : Bool) → HasDoneBy s code r had sends taken (if test then gone.Spent else gone.Going)
+  on_done sends taken did true = tt {0}
+  on_done sends taken did false = did
+
+  -- which sends and takes nothing
+  pub did_stalled : tick_of charge ≡ tick.Stalled → (after : Charged) (result : Gone) → result ≡ on_or_spent after → (sends : List Sent) (taken : List ℕ) → HasDone s code r paid sends taken → HasDoneBy s code r had sends taken result
+  did_stalled e after result result_is sends taken did =
+      subst (HasDoneBy s code r had sends taken) (sym result_is)
+      (on_done sends taken (subst (λ n. HasDone s code r n sends taken) (sym (stalled_next (s.stalls r.agent) r.number r.budget had (tick_by tick.Stalled e))) did) (after.consumed == after.budget))
+
+  -- and looks at nothing
   pub looks_stalled : tick_of charge ≡ tick.Stalled → (look : Option (ℕ × ℕ)) → look ≡ None → IsLookIn s code r had look
   looks_stalled e look none = rw (tick_by tick.Stalled e) none
 
@@ -118,7 +131,10 @@ module _ (s : System) (code : Code) (r : Action) (had : ℕ) (charge : Charged) 
       ap (λ (window : Window). window.noted) is ∙ noted_after before (call_of code machine.machine) fresh ∙ ap look_of (sym call_is),
     )
 
-  module _ (paying : tick_of charge ≡ tick.Paid) (view : View) (shows : ShowsAs s r view) where
+  module _ (paying : tick_of charge ≡ tick.Paid) (window : Window) (shows : ShowsAs s code r paid window) where
+    abbrev view : View
+    view = window.view
+
     more_paid : (charge_after s r (suc had)).paid ≡ suc paid
     more_paid = paid_next (s.stalls r.agent) r.number r.budget had (tick_by tick.Paid paying)
 
@@ -126,7 +142,7 @@ module _ (s : System) (code : Code) (r : Action) (had : ℕ) (charge : Charged) 
     at = paid_at (s.stalls r.agent) r.number r.budget had less (tick_by tick.Paid paying)
 
     runs : (next : Next) → next_for code view machine ≡ next → run (suc paid) ≡ run_by state call next
-    runs next e = next_run _ _ _ _ _ _ (is_whole s code r w.of_code) paid state w.running.1 view (alike view shows) ∙ ap (run_by state call) (sym (next_is view) ∙ e)
+    runs next e = next_run _ _ _ _ _ _ (is_whole s code r w.of_code) paid state w.running.1 view (alike window shows) ∙ ap (run_by state call) (sym (next_is view) ∙ e)
 
     is_last : (after : Run) → run (suc paid) ≡ after → ((t : RunState) → after ≡ Running t → ⊥) → (runs_of s code r w.of_code).steps ≡ suc paid
     is_last after e halts =
@@ -154,3 +170,19 @@ module _ (s : System) (code : Code) (r : Action) (had : ℕ) (charge : Charged) 
           agent = ap (λ (m : AgentMachine). m.agent) after_is ∙ w.agent;
           gone = subst (IsGone s code r had after) (sym (result_is ∙ ap (λ (c : Charged). gone_by c answer) charged)) (gone_after (next_for code view machine) answer refl answers after (ap (λ (m : AgentMachine). m.machine) after_is));
         }
+
+    -- what it sent and took with the instruction
+    module _ (sends : List Sent) (taken : List ℕ) (did : AreDone s r (deeds_then state.deeds call) sends taken) where
+      did_after : (next : Next) (answer : Step) → next_for code view machine ≡ next → Answers next answer → (c : Charged) → HasDoneBy s code r had sends taken (gone_by c answer)
+      did_after (Went m) answer e answers c =
+          let on : HasDone s code r (suc paid) sends taken = record { state = state_then state call m; running = runs (Went m) e; sent = did.sent; took = did.took } in
+          rw answers (on_done sends taken (subst (λ n. HasDone s code r n sends taken) (sym more_paid) on) (c.consumed == c.budget))
+      did_after (Ended point m) answer e answers c =
+          let ran = runs (Ended point m) e in
+          let deeds : r.deeds ≡ deeds_then state.deeds call = w.of_code.deeds ∙ ap (λ (a : Acted). a.deeds) (comes_to s code r w.of_code had paid less at (is_last _ ran (λ t h. cc)) _ ran) in
+          rw answers (subst (λ d. AreDone s r d sends taken) (sym deeds) did)
+      did_after (Trapped kind) answer e answers c = rw answers (tt {0})
+      did_after Stuck answer e answers c = absurd answers
+
+      pub did_paid : (c : Charged) (answer : Step) → Answers (next_for code view machine) answer → (result : Gone) → result ≡ gone_by c answer → HasDoneBy s code r had sends taken result
+      did_paid c answer answers result result_is = subst (HasDoneBy s code r had sends taken) (sym result_is) (did_after (next_for code view machine) answer refl answers c)

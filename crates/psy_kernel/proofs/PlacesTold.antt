@@ -1,5 +1,5 @@
 -- A line at a place tells what is told of a date there.
-use Rattle.std.proofs.Common.{◌≡◌, ℕ, ◌+◌, ◌-◌, ◌<◌, ◌≤◌, Bool, true, false, List, [], ◌∷◌, ◌++◌, length, slice_get, Option, Some, ℤ, sym, ap, subst, ◌∙◌, arith}
+use Rattle.std.proofs.Common.{◌≡◌, ℕ, ◌+◌, ◌-◌, ◌<◌, ◌≤◌, Bool, true, false, List, [], ◌∷◌, ◌++◌, length, slice_get, Option, Some, None, ℤ, refl, sym, ap, subst, ◌∙◌, arith}
 use Rattle.std.proofs.lemmas.List.{append-nil}
 use Rattle.psy_clock.specs.declared.clock.Clock.{Clock}
 use Rattle.psy_tree.specs.declared.unit.VarDecl.{VarDecl}
@@ -11,6 +11,7 @@ use Rattle.psy_history.specs.Regular.{AreRegular}
 use Rattle.psy_dates.specs.declared.seat.Seat.{Seat}
 use Rattle.psy_dates.specs.declared.shared.Shared.{Shared}
 use Rattle.psy_dates.specs.Standing.{SeatStands, SharedStands, committed_at}
+use Rattle.psy_kernel.specs.declared.kernel.lines.Mark.{Mark}
 use Rattle.psy_kernel.specs.Standing.{told_from}
 use Rattle.psy_kernel.specs.Telling.{IsNextTold, IsToldBy, TellsStop, TellsValue, places_of, told_by}
 use Rattle.psy_kernel.proofs.Publications.{value_told}
@@ -41,15 +42,22 @@ module _ (s : System) (turns : List (Option Turn)) (date : ℕ) (shared : Shared
 
 module _ (s : System) (date : ℕ) where
   -- Behind a place that tells nothing as much is told as before it.
-  pub walked_on : (place at : ℕ) (old new : List ℕ) → at < places_of s → told_from s date at ≡ told_from s date place → IsToldBy s date (told_by s date at) false old new → told_from s date (at + 1) ≡ told_from s date place
+  pub walked_on : (place at : ℕ) (old new : List ℕ) → at < places_of s → told_from s date at 0 ≡ told_from s date place 0 → IsToldBy s date (told_by s date at) false old new → told_from s date (at + 1) 0 ≡ told_from s date place 0
   walked_on place at old new within same told =
-      told_more s date at within ∙ ap (λ xs. told_from s date at ++ xs) told.0 ∙ append-nil (told_from s date at) ∙ same
+      told_more s date at within ∙ ap (λ xs. told_from s date at 0 ++ xs) told.0 ∙ append-nil (told_from s date at 0) ∙ same
 
   -- Behind one that tells an event that one is told as well.
-  pub walked_to : (place at : ℕ) (old new : List ℕ) → at < places_of s → told_from s date at ≡ told_from s date place → IsToldBy s date (told_by s date at) true old new → IsNextTold s date place (Some (at + 1)) old new
+  pub walked_to : (place at : ℕ) (old new : List ℕ) → at < places_of s → told_from s date at 0 ≡ told_from s date place 0 → IsToldBy s date (told_by s date at) true old new
+      → IsNextTold s date (places_of s) place 0 (Some (record { place = at + 1; shown = 0 })) old new
   walked_to place at old new within same told = (
     omega (arith, within),
+    λ _. refl,
     told.0,
-    told_more s date at within ∙ ap (λ xs. told_from s date at ++ xs) told.1 ∙ ap (λ xs. xs ++ told.0 ∷ []) same,
+    told_more s date at within ∙ ap (λ xs. told_from s date at 0 ++ xs) told.1 ∙ ap (λ xs. xs ++ told.0 ∷ []) same,
     told.2,
   )
+
+  -- The first event from a place on is the first one from another before which as much is told.
+  pub told_as : (end first m place n : ℕ) (result : Option Mark) (old new : List ℕ) → told_from s date first m ≡ told_from s date place n → IsNextTold s date end first m result old new → IsNextTold s date end place n result old new
+  told_as end first m place n None old new same told = (told.0 ∙ same, told.1)
+  told_as end first m place n (Some mark) old new same told = (told.0, told.1, told.2, told.3 ∙ ap (λ xs. xs ++ told.2 ∷ []) same, told.4)

@@ -1,12 +1,13 @@
 -- What an action sees by rings that stand for a history, and how large these are.
 use Rattle.std.proofs.Common.{◌≡◌, sym, ap, ◌∙◌, subst, inl, inr, arith}
-use Rattle.std.specs.Prelude.{ℕ, ◌+◌, ◌<◌, ◌≤◌, List, [], length, get_or, Some, None, slice_get, ℤ, pos}
+use Rattle.std.specs.Prelude.{ℕ, ◌+◌, ◌<◌, ◌≤◌, List, [], length, get_or, Option, Some, None, slice_get, ℤ, pos}
 use Rattle.std.specs.List.{All}
 use Rattle.std.proofs.lemmas.Option.{get_or_from_slice_get, same_Some, slice_get-get_or, slice_get_within}
 use Rattle.psy_base.specs.declared.limits.TheConstants.{RING}
-use Rattle.psy_code.specs.Views.{past_of}
+use Rattle.psy_code.specs.Views.{Past, past_of}
 use Rattle.psy_dates.specs.declared.plan.Plan.{Plan}
 use Rattle.psy_dates.specs.Plans.{IsPlan}
+use Rattle.psy_history.specs.Regular.{MayAsk}
 use Rattle.psy_history.specs.Rings.{age_at, ring_of}
 use Rattle.psy_meaning.specs.Actions.{Action, System, variable_of}
 use Rattle.psy_meaning.specs.Executors.{agent_at}
@@ -14,7 +15,6 @@ use Rattle.psy_meaning.specs.Flow.{MayLook}
 use Rattle.psy_meaning.specs.RingSizes.{IsRingSize}
 use Rattle.psy_tree.specs.declared.unit.Unit.{Unit as Whole}
 use Rattle.psy_tree.specs.declared.unit.VarDecl.{VarDecl}
-use Rattle.psy_kernel.specs.Acting.{ShowsAs}
 use Rattle.psy_kernel.specs.Cycles.{AreRingsOf}
 use Rattle.psy_kernel.specs.Seeing.{view_in}
 use Rattle.psy_kernel.proofs.SeenValues.{found_at}
@@ -40,7 +40,7 @@ module _ (plan : Plan) (is : IsPlan plan) where
   size_of variable less =
       let within : variable < length plan.sizes.rings = omega (arith, less, is.buffers.rings.count) in
       let size : ℕ = get_or plan.sizes.rings variable 0 in
-      (size, is.buffers.rings.each variable size (slice_get-get_or plan.sizes.rings variable 0 within), (is.buffers.places variable 0 within).1)
+      (size, is.buffers.rings.each variable size (slice_get-get_or plan.sizes.rings variable 0 within), is.buffers.small_rings variable 0 within)
 
   pub few_places : (s : System) → s.unit ≡ plan.unit → s.nexts ≡ plan.nexts → (dates : ℕ) (rings : List (List ℤ)) → AreRingsOf s dates rings → All (λ ring. length ring ≤ RING) rings
   few_places s e f dates rings stand variable d less =
@@ -53,11 +53,11 @@ module _ (plan : Plan) (is : IsPlan plan) where
 
 -- ---- the view
 
-module _ (s : System) (date : ℕ) (r : Action) (rings : List (List ℤ)) (stand : AreRingsOf s (date + 1) rings) where
+module _ (s : System) (date : ℕ) (r : Action) (rings : List (List ℤ)) (stand : AreRingsOf s (date + 1) rings) (messages : List (Option (List ℤ))) where
   -- what is found at each age that a ring has is what the action saw
   pub shows : ((variable back size : ℕ) (decl : VarDecl) → slice_get s.unit.variables variable ≡ Some decl → MayLook s.unit.functions (agent_at s.unit r.agent) r.point variable → back < decl.depth → IsRingSize s.unit s.nexts variable size → age_at s variable back r.start date < size)
       → ((variable back size : ℕ) (decl : VarDecl) → slice_get s.unit.variables variable ≡ Some decl → back < decl.depth → age_at s variable back r.start date < size → slice_get (ring_of s (date + 1) variable size) (age_at s variable back r.start date) ≡ past_of r.view variable back)
-      → ShowsAs s r (view_in rings s.unit.variables s.unit.clocks r.start date)
+      → (variable back : ℕ) → MayAsk s.unit r.agent r.point (Some (Past variable back)) → past_of (view_in rings s.unit.variables s.unit.clocks r.start date messages) variable back ≡ past_of r.view variable back
   shows ages values variable back asks =
       let decl : VarDecl = asks.0 in
       let there : variable < length s.unit.variables = slice_get_within s.unit.variables variable decl asks.1 in

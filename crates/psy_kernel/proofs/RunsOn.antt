@@ -1,23 +1,19 @@
 -- A run of an action's code from its beginning to its end, under any view that shows it what it may look at.
-use Rattle.std.proofs.Common.{◌≡◌, ◌≢◌, ℕ, zero, suc, ◌+◌, ◌-◌, ◌<◌, ◌≤◌, List, map, Option, Some, None, slice_get, refl, sym, ap, ◌∙◌, subst, inl, inr, arith}
-use Rattle.std.specs.Prelude.{IsSome, length, ◌==◌}
+use Rattle.std.proofs.Common.{◌≡◌, ◌≢◌, ℕ, zero, suc, ◌+◌, ◌-◌, ◌<◌, ◌≤◌, Option, Some, None, slice_get, refl, sym, ap, ◌∙◌, subst, inl, inr, arith}
+use Rattle.std.specs.Prelude.{IsSome, length}
 use Rattle.std.proofs.lemmas.Bool.{cases_lt}
 use Rattle.psy_code.specs.declared.code.AgentCode.{AgentCode}
 use Rattle.psy_code.specs.declared.code.Code.{Code}
-use Rattle.psy_code.specs.declared.look.Sent.{Sent}
 use Rattle.psy_code.specs.Execution.{RunState, Run, Running, RanTo, TrappedBy, NoRun, Stuck, call_of, next_of, go_on, run_by, run_one, run_code}
 use Rattle.psy_code.specs.Lasting.{IsOver}
-use Rattle.psy_code.specs.Views.{Call, Past, Ready, Take, Send, View, Window, PermitsAll, ServesAll, found_in, past_of}
+use Rattle.psy_code.specs.Views.{Call, Past, Ready, Take, Send, View, Window, PermitsAll, ServesAll, first_of, found_in}
 use Rattle.psy_machine.specs.Stepping.{window_after}
-use Rattle.psy_tree.specs.declared.unit.StreamDecl.{StreamDecl}
-use Rattle.psy_tree.specs.declared.unit.Unit.{Unit as Whole}
 use Rattle.psy_meaning.specs.Actions.{Action, System}
-use Rattle.psy_meaning.specs.Kept.{IsSentOf, Receives}
-use Rattle.psy_history.specs.Compiled.{IsBuilt}
+use Rattle.psy_meaning.specs.Executors.{agent_code_at}
 use Rattle.psy_history.specs.Regular.{AnswerAlike, Goes, MayAsk, begun_by}
 use Rattle.psy_kernel.specs.Acting.{ShowsAs, look_of}
 
-same_state : (s t : RunState) → Running s ≡ Running t → s ≡ t
+pub same_state : (s t : RunState) → Running s ≡ Running t → s ≡ t
 same_state s t e = cc
 
 not_over : (s t : RunState) (run : Run) → run ≡ Running s → IsOver run t → ⊥
@@ -44,36 +40,25 @@ module _ (code : Code) (its : AgentCode) where
       let e : m ≡ n + (m - n) = omega (arith, less) in
       ap (run_code code its s) e ∙ stays t n (m - n) s over
 
--- ---- what is asked where there are no streams
+-- ---- what is asked of a window that shows an action what it may ask
 
-none_received : (unit : Whole) (agent stream : ℕ) → IsBuilt unit → Receives unit agent stream → ⊥
-none_received unit agent stream built receives = none_is (sym (ap (λ (streams : List StreamDecl). slice_get (map (λ s. s.receiver == agent) streams) stream) built.streams) ∙ receives)
-  where
-    none_is : {A : Type 0} {x : A} → ◌≡◌ {A = Option A} None (Some x) → ⊥
-    none_is e = cc
-
-none_sent : (unit : Whole) (sent : Sent) → IsBuilt unit → IsSentOf unit sent → ⊥
-none_sent unit sent built is = omega (arith, is.stream, ap length built.streams)
-
-some_by : {A : Type 0} (o p : Option A) → o ≡ p → IsSome p → IsSome o
-some_by o p e some = subst IsSome (sym e) some
-
-module _ (s : System) (r : Action) (built : IsBuilt s.unit) where
-  -- a view that shows an action what it saw answers what it asks as its own view does
-  pub answers_alike : (view own : View) → ShowsAs s r view → own.pasts ≡ r.view.pasts → (call : Option Call) → MayAsk s.unit r.agent r.point call → AnswerAlike view own call
-  answers_alike view own shows pasts None asks = tt {0}
-  answers_alike view own shows pasts (Some (Past variable back)) asks = shows variable back asks ∙ sym (ap (λ lists. found_in (slice_get lists variable) (λ values. slice_get values back)) pasts)
-  answers_alike view own shows pasts (Some (Ready stream)) asks = absurd (none_received s.unit r.agent stream built asks)
-  answers_alike view own shows pasts (Some (Take stream)) asks = absurd (none_received s.unit r.agent stream built asks)
-  answers_alike view own shows pasts (Some (Send sent)) asks = tt {0}
+module _ (s : System) (code : Code) (r : Action) (paid : ℕ) (window : Window) (shows : ShowsAs s code r paid window) (state : RunState) (running : run_code code (agent_code_at code r.agent) (begun_by (agent_code_at code r.agent) r) paid ≡ Running state) where
+  -- it answers what the action asks as its own view does
+  pub answers_alike : state.view.pasts ≡ r.view.pasts → (call : Option Call) → MayAsk s.unit r.agent r.point call → AnswerAlike window.view state.view call
+  answers_alike pasts None asks = tt {0}
+  answers_alike pasts (Some (Past variable back)) asks = shows.pasts variable back asks ∙ sym (ap (λ lists. found_in (slice_get lists variable) (λ values. slice_get values back)) pasts)
+  answers_alike pasts (Some (Ready stream)) asks = ap (λ messages. found_in messages (λ values. Some (length values))) (shows.messages state running stream asks)
+  answers_alike pasts (Some (Take stream)) asks =
+      (ap (λ messages. found_in messages (λ values. Some (length values))) (shows.messages state running stream asks), ap (λ messages. found_in messages first_of) (shows.messages state running stream asks))
+  answers_alike pasts (Some (Send sent)) asks = tt {0}
 
   -- it permits what that view serves
-  pub permits : (window : Window) (own : View) (call : Option Call) → MayAsk s.unit r.agent r.point call → AnswerAlike window.view own call → ServesAll own call → PermitsAll window call
-  permits window own None asks alike served = tt {0}
-  permits window own (Some (Past variable back)) asks alike served = (some_by (past_of window.view variable back) (past_of own variable back) alike served, tt {0})
-  permits window own (Some (Ready stream)) asks alike served = absurd (none_received s.unit r.agent stream built asks)
-  permits window own (Some (Take stream)) asks alike served = absurd (none_received s.unit r.agent stream built asks)
-  permits window own (Some (Send sent)) asks alike served = absurd (none_sent s.unit sent built asks)
+  pub permits : (call : Option Call) → call_of code state.machine ≡ call → MayAsk s.unit r.agent r.point call → AnswerAlike window.view state.view call → ServesAll state.view call → PermitsAll window call
+  permits None is asks alike served = tt {0}
+  permits (Some (Past variable back)) is asks alike served = (subst IsSome (sym alike) served, tt {0})
+  permits (Some (Ready stream)) is asks alike served = (subst IsSome (sym (shows.messages state running stream asks)) served, tt {0})
+  permits (Some (Take stream)) is asks alike served = (subst IsSome (sym (shows.messages state running stream asks)) served, tt {0})
+  permits (Some (Send sent)) is asks alike served = (tt {0}, (omega (arith, asks.stream, shows.streams), omega (arith, asks.clock, shows.clocks), shows.room state running sent is))
 
 -- a window that noted no look notes that of a call
 pub noted_after : (window : Window) (call : Option Call) → window.noted ≡ None → (window_after window call).noted ≡ look_of call

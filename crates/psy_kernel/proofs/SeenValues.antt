@@ -9,23 +9,24 @@ use Rattle.std.proofs.lemmas.List.FromFn.{get_or-map-range_with_len, length-map-
 use Rattle.std.proofs.lemmas.Option.{slice_get-get_or, slice_get_past}
 use Rattle.psy_base.specs.declared.limits.TheConstants.{RING}
 use Rattle.psy_clock.specs.declared.clock.Clock.{Clock}
-use Rattle.psy_code.specs.declared.look.Sent.{Sent}
 use Rattle.psy_code.specs.Views.{found_in, past_of}
+use Rattle.psy_queue.specs.Order.{Queued}
+use Rattle.psy_tree.specs.declared.unit.StreamDecl.{StreamDecl}
 use Rattle.psy_tree.specs.declared.unit.VarDecl.{VarDecl}
 use Rattle.psy_meaning.specs.RingSizes.{dates_between}
-use Rattle.psy_kernel.specs.Seeing.{CanSee, Sight, clock_in, values_of, view_in, window_of}
+use Rattle.psy_kernel.specs.Seeing.{CanSee, Sight, clock_in, values_of, view_in}
 
-none_some : (X : Type 0) → IsSome {T = X} None → ⊥
+pub none_some : (X : Type 0) → IsSome {T = X} None → ⊥
 none_some X some = cc
 
 module _ {X : Type 0} where
-  slice_get-take : (m : ℕ) (xs : List X) (i : ℕ) → i < m → slice_get (take m xs) i ≡ slice_get xs i
+  pub slice_get-take : (m : ℕ) (xs : List X) (i : ℕ) → i < m → slice_get (take m xs) i ≡ slice_get xs i
   slice_get-take zero xs i less = absurd (omega (arith, less))
   slice_get-take (suc m) [] i less = refl
   slice_get-take (suc m) (x ∷ xs) zero less = refl
   slice_get-take (suc m) (x ∷ xs) (suc i) less = slice_get-take m xs i (omega (arith, less))
 
-  slice_get-drop : (n : ℕ) (xs : List X) (i : ℕ) → slice_get (drop n xs) i ≡ slice_get xs (i + n)
+  pub slice_get-drop : (n : ℕ) (xs : List X) (i : ℕ) → slice_get (drop n xs) i ≡ slice_get xs (i + n)
   slice_get-drop zero xs i = let same : i ≡ i + 0 = omega arith in ap (slice_get xs) same
   slice_get-drop (suc n) [] i = refl
   slice_get-drop (suc n) (x ∷ xs) i = let same : suc (i + n) ≡ i + suc n = omega arith in slice_get-drop n xs i ∙ ap (slice_get (x ∷ xs)) same
@@ -55,14 +56,14 @@ module _ (rings : List (List ℤ)) (variables : List VarDecl) (clocks : List Clo
   abbrev ring : ℕ → List ℤ
   ring variable = get_or rings variable []
 
-  seen_by : (variable : ℕ) → variable < length variables → (back : ℕ) → past_of (view_in rings variables clocks start date) variable back ≡ slice_get (values variable) back
+  seen_by : (variable : ℕ) → variable < length variables → (back : ℕ) → past_of (view_in rings variables clocks start date []) variable back ≡ slice_get (values variable) back
   seen_by variable known back =
       let lists = map values (range_with_len 0 (length variables)) in
       let there : slice_get lists variable ≡ Some (get_or lists variable []) = slice_get-get_or lists variable [] (omega (arith, known, length-map-range_with_len values 0 (length variables))) in
       ap (λ list. found_in list (λ (list : List ℤ). slice_get list back)) (there ∙ ap Some (get_or-map-range_with_len values 0 (length variables) variable variable [] known (omega arith)))
 
   -- a look no deeper than its variable finds its value in the ring, behind what has passed
-  pub found_at : (variable back : ℕ) → variable < length variables → back < (decl variable).depth → past_of (view_in rings variables clocks start date) variable back ≡ slice_get (ring variable) (back + passed variable)
+  pub found_at : (variable back : ℕ) → variable < length variables → back < (decl variable).depth → past_of (view_in rings variables clocks start date []) variable back ≡ slice_get (ring variable) (back + passed variable)
   found_at variable back known shallow =
       seen_by variable known back ∙ slice_get-take (decl variable).depth (drop (passed variable) (ring variable)) back shallow ∙ slice_get-drop (passed variable) (ring variable) back
 
@@ -73,9 +74,9 @@ module _ (rings : List (List ℤ)) (variables : List VarDecl) (clocks : List Clo
       pub ringed : variable < length rings
       pub inside : back + passed variable < length (ring variable)
       pub few : length (ring variable) ≤ RING
-      pub value : past_of (view_in rings variables clocks start date) variable back ≡ slice_get (ring variable) (back + passed variable)
+      pub value : past_of (view_in rings variables clocks start date []) variable back ≡ slice_get (ring variable) (back + passed variable)
 
-    is_seen : (variable back : ℕ) → IsSome (past_of (view_in rings variables clocks start date) variable back) → IsSeen variable back
+    is_seen : (variable back : ℕ) → IsSome (past_of (view_in rings variables clocks start date []) variable back) → IsSeen variable back
     is_seen variable back some =
         let lists = map values (range_with_len 0 (length variables)) in
         let listed : variable < length lists = some_within lists variable (some_found (slice_get lists variable) (λ (list : List ℤ). slice_get list back) some) in
@@ -102,16 +103,16 @@ module _ (rings : List (List ℤ)) (variables : List VarDecl) (clocks : List Clo
     passed_is variable other clock dates known clock_is dates_is =
         dates_is ∙ ap (λ clock. dates_between clock start date) (clock_is ∙ ap (λ (v : VarDecl). clock_in clocks v.clock) (get_or_default variables variable other _ known))
 
-    -- a look of eyes that look at these, where so many dates have passed
+    -- a look of a sight that has these, where so many dates have passed
     pub record IsRead (now : Sight) (variable back dates : ℕ) : Type 0 where
       pub few : back + dates < RING
       pub inside : (other : List ℤ) → back + dates < length (get_or rings variable other)
-      pub value : (other : List ℤ) (x : ℤ) → slice_get (get_or rings variable other) (back + dates) ≡ Some x → past_of (window_of now).view variable back ≡ Some x
+      pub value : (other : List ℤ) (x : ℤ) → slice_get (get_or rings variable other) (back + dates) ≡ Some x → past_of (view_in now.rings now.variables now.clocks now.start now.date []) variable back ≡ Some x
 
-    module _ (now : Sight) (noted : Option (ℕ × ℕ)) (sent : Option Sent) (is : record { rings = rings; variables = variables; clocks = clocks; start = start; date = date; noted = noted; sent = sent } ≡ now) (variable back : ℕ)
-        (some : IsSome (past_of (window_of now).view variable back)) where
+    module _ (queues : List Queued) (streams : List StreamDecl) (agent : ℕ) (now : Sight) (is : record { rings = rings; variables = variables; clocks = clocks; queues = queues; streams = streams; agent = agent; start = start; date = date } ≡ now) (variable back : ℕ)
+        (some : IsSome (past_of (view_in now.rings now.variables now.clocks now.start now.date []) variable back)) where
       pub seen_in : IsSeen variable back
-      seen_in = is_seen variable back (subst (λ (sight : Sight). IsSome (past_of (window_of sight).view variable back)) (sym is) some)
+      seen_in = is_seen variable back (subst (λ (sight : Sight). IsSome (past_of (view_in sight.rings sight.variables sight.clocks sight.start sight.date []) variable back)) (sym is) some)
 
       pub read_in : (other : VarDecl) (clock : Clock) (dates : ℕ) → clock ≡ clock_in clocks (get_or variables variable other).clock → dates ≡ dates_between clock start date → IsRead now variable back dates
       read_in other clock dates clock_is dates_is =
@@ -120,6 +121,6 @@ module _ (rings : List (List ℤ)) (variables : List VarDecl) (clocks : List Clo
           record {
             few = omega (arith, same, seen_in.inside, seen_in.few);
             inside = λ other. omega (arith, same, seen_in.inside, ap length (ring_is other));
-            value = λ other x found. subst (λ (sight : Sight). past_of (window_of sight).view variable back ≡ Some x) is
+            value = λ other x found. subst (λ (sight : Sight). past_of (view_in sight.rings sight.variables sight.clocks sight.start sight.date []) variable back ≡ Some x) is
                 (seen_in.value ∙ sym (ap (λ list. slice_get list (back + dates)) (ring_is other) ∙ ap (λ n. slice_get (ring variable) (back + n)) same) ∙ found);
           }

@@ -1,16 +1,16 @@
--- Over all dates, the figures and the reaches are those of the history, so their lines are the summary's.
-use Rattle.std.proofs.Common.{◌≡◌, ℕ, zero, suc, ◌+◌, ◌*◌, ◌<◌, ◌≤◌, Bool, true, false, if◌then◌else◌, ◌==◌, List, [], ◌∷◌, ◌++◌, map, length, get_or, slice_get, Option, Some, None, refl, sym, ap, subst, ◌∙◌, arith}
+-- Over all dates, the figures, the reaches and what was held are those of the history, so their lines are the summary's.
+use Rattle.std.proofs.Common.{◌≡◌, ℕ, suc, ◌+◌, ◌*◌, ◌<◌, ◌≤◌, Bool, true, false, if◌then◌else◌, ◌==◌, List, [], ◌∷◌, ◌++◌, map, length, get_or, slice_get, Option, Some, None, refl, sym, ap, subst, ◌∙◌, arith}
 use Rattle.std.specs.List.{Contains, range_with_len}
 use Rattle.std.proofs.lemmas.Bool.{eqb-true}
-use Rattle.std.proofs.lemmas.List.{append-nil}
+use Rattle.std.proofs.Math.Numerals.{add-one}
 use Rattle.std.proofs.lemmas.List.FromFn.{fill_by_all, length-map-range_with_len, get_or-map-range_with_len}
 use Rattle.std.proofs.lemmas.Option.{slice_get-get_or}
-use Rattle.psy_log.specs.Forms.{agent_line, end_line, variable_line}
-use Rattle.psy_meaning.specs.Actions.{Action, System, variable_of}
+use Rattle.psy_log.specs.Forms.{agent_line, end_line, stream_line, variable_line}
+use Rattle.psy_meaning.specs.Actions.{Action, System, stream_of, variable_of}
 use Rattle.psy_meaning.specs.Executors.{agent_at}
 use Rattle.psy_meaning.specs.History.{history}
 use Rattle.psy_meaning.specs.Schedule.{Turn}
-use Rattle.psy_meaning.specs.Summary.{due_by, reach, slack}
+use Rattle.psy_meaning.specs.Summary.{due_by, most_held, reach, slack}
 use Rattle.psy_history.specs.Regular.{IsLawful}
 use Rattle.psy_history.specs.Scheduled.{IsFinished, IsSupplied, turns_of}
 use Rattle.psy_dates.specs.Standing.{dates_done}
@@ -18,9 +18,10 @@ use Rattle.psy_kernel.specs.declared.kernel.Figure.{Figure}
 use Rattle.psy_kernel.specs.declared.kernel.Kernel.TheInside.{Inside}
 use Rattle.psy_kernel.specs.declared.stage.Stage.TheVariants.{DateDue, CycleDue, Over}
 use Rattle.psy_kernel.specs.Progress.{Progress, order, stage_of, summary_told, system}
-use Rattle.psy_kernel.specs.Standing.{InTick, KernelStands, progress_of, settled}
-use Rattle.psy_kernel.specs.Telling.{figure_line, figured_lines, reach_line}
+use Rattle.psy_kernel.specs.Standing.{InTick, KernelStands, most_held_in, progress_of, settled}
+use Rattle.psy_kernel.specs.Telling.{figure_line, figured_lines, held_line, reach_line}
 use Rattle.psy_kernel.specs.Texts.{agent_end, stream_end, variable_end}
+use Rattle.psy_kernel.proofs.ShownMessages.{some_at}
 use Rattle.psy_kernel.proofs.Settled.{date_settled, settled_all}
 use Rattle.psy_kernel.proofs.Supplied.{supplied}
 
@@ -29,11 +30,6 @@ use Rattle.psy_kernel.proofs.Supplied.{supplied}
 same_map : (f g : ℕ → List ℕ) (n : ℕ) → ((i : ℕ) → i < n → f i ≡ g i) → map f (range_with_len 0 n) ≡ map g (range_with_len 0 n)
 same_map f g n same =
     fill_by_all g (map f (range_with_len 0 n)) n [] (length-map-range_with_len f 0 n) (λ i l. get_or-map-range_with_len f 0 n i i [] l (omega arith) ∙ same i l)
-
-some_at : {X : Type 0} (xs : List X) (i : ℕ) → i < length xs → (x : X) × (slice_get xs i ≡ Some x)
-some_at [] i l = absurd (omega (arith, l))
-some_at (x ∷ xs) zero l = (x, refl)
-some_at (x ∷ xs) (suc i) l = some_at xs i (omega (arith, l))
 
 -- ---- the end
 
@@ -76,6 +72,16 @@ module _ (k : Inside) (w : KernelStands k) (over : stage_of (progress_of k) ≡ 
   variable_told : (variable : ℕ) → variable < length s.unit.variables → reach_line k.plan k.reaches.items variable ≡ variable_end s turns k.plan.sizes until variable
   variable_told variable l = ap (variable_line (variable_of s variable).name (get_or k.plan.sizes.rings variable 0)) (reach_told variable l)
 
+  -- ---- streams
+
+  held_told : (stream : ℕ) → stream < length s.unit.streams → get_or k.helds.items stream 0 ≡ most_held s until stream
+  held_told stream l =
+      w.held stream (get_or k.helds.items stream 0) (slice_get-get_or k.helds.items stream 0 (omega (arith, l, w.holding)))
+      ∙ ap (λ n. most_held_in s n stream) (done ∙ add-one until)
+
+  stream_told : (stream : ℕ) → stream < length s.unit.streams → held_line k.plan k.helds.items stream ≡ stream_end s k.plan.sizes until stream
+  stream_told stream l = ap (stream_line (stream_of s stream).name (get_or k.plan.sizes.queues stream 0)) (held_told stream l)
+
   -- ---- agents
 
   module _ (lawful : IsLawful s)
@@ -108,17 +114,18 @@ module _ (k : Inside) (w : KernelStands k) (over : stage_of (progress_of k) ≡ 
     agent_told agent l =
         figure_told agent (get_or k.figures.items agent (record { count = 0; slack = None })) l (slice_get-get_or k.figures.items agent (record { count = 0; slack = None }) (omega (arith, l, w.figured)))
 
-    -- The figures and the reaches tell the summary.
-    pub summary_figured : summary_told (progress_of k) ≡ figured_lines k.plan k.figures.items k.reaches.items
+    -- The figures, the reaches and what was held tell the summary.
+    pub summary_figured : summary_told (progress_of k) ≡ figured_lines k.plan k.figures.items k.reaches.items k.helds.items
     summary_figured =
         let agents = range_with_len 0 (length s.unit.agents) in
         let variables = range_with_len 0 (length s.unit.variables) in
-        let streams : map (stream_end s k.plan.sizes until) (range_with_len 0 (length s.unit.streams)) ≡ [] = ap (λ xs. map (stream_end s k.plan.sizes until) (range_with_len 0 (length xs))) w.plan.built.streams in
+        let streams = range_with_len 0 (length s.unit.streams) in
         let of_agents : map (agent_end s turns until) agents ≡ map (figure_line k.plan.unit k.figures.items) agents =
         sym (same_map (figure_line k.plan.unit k.figures.items) (agent_end s turns until) (length s.unit.agents) agent_told) in
         let of_variables : map (variable_end s turns k.plan.sizes until) variables ≡ map (reach_line k.plan k.reaches.items) variables =
         sym (same_map (reach_line k.plan k.reaches.items) (variable_end s turns k.plan.sizes until) (length s.unit.variables) variable_told) in
-        ap (λ lines. end_line until ∷ (map (agent_end s turns until) agents ++ (map (variable_end s turns k.plan.sizes until) variables ++ lines))) streams
-        ∙ ap (λ lines. end_line until ∷ (map (agent_end s turns until) agents ++ lines)) (append-nil (map (variable_end s turns k.plan.sizes until) variables))
-        ∙ ap (λ lines. end_line until ∷ (lines ++ map (variable_end s turns k.plan.sizes until) variables)) of_agents
-        ∙ ap (λ lines. end_line until ∷ (map (figure_line k.plan.unit k.figures.items) agents ++ lines)) of_variables
+        let of_streams : map (stream_end s k.plan.sizes until) streams ≡ map (held_line k.plan k.helds.items) streams =
+        sym (same_map (held_line k.plan k.helds.items) (stream_end s k.plan.sizes until) (length s.unit.streams) stream_told) in
+        ap (λ lines. end_line until ∷ (map (agent_end s turns until) agents ++ (map (variable_end s turns k.plan.sizes until) variables ++ lines))) of_streams
+        ∙ ap (λ lines. end_line until ∷ (lines ++ (map (variable_end s turns k.plan.sizes until) variables ++ map (held_line k.plan k.helds.items) streams))) of_agents
+        ∙ ap (λ lines. end_line until ∷ (map (figure_line k.plan.unit k.figures.items) agents ++ (lines ++ map (held_line k.plan k.helds.items) streams))) of_variables

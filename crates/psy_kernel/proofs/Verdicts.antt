@@ -90,7 +90,7 @@ module _ (s : System) (code : Code) (r : Action) (w : IsOfCode s code r) where
     worked : suc had ≡ work r
     worked = omega (arith, charge_had, less)
 
-    comes_to : (run : Run) → run_code code its start (suc paid) ≡ run → came_to code r ≡ acted_as r.budget r.before run
+    pub comes_to : (run : Run) → run_code code its start (suc paid) ≡ run → came_to code r ≡ acted_as r.budget r.before run
     comes_to run e = in_budget few ∙ ap (acted_as r.budget r.before) (ap (run_code code its start) is_last ∙ e)
 
     decided : (run : Run) → run_code code its start (suc paid) ≡ run → r.verdict ≡ verdict_by (timing s r.agent) r.start (acted_as r.budget r.before run).fate

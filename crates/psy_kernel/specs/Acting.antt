@@ -1,21 +1,25 @@
--- What a cycle does to the charge and the machine of the action that gets it.
-use Rattle.std.specs.Prelude.{◌≡◌, ℕ, suc, ◌<◌, Option, None, Some, IsSome, slice_get}
+-- What a cycle does to the charge, the machine, the outbox and the takes of the action that gets it.
+use Rattle.std.specs.Prelude.{◌≡◌, ℕ, suc, ◌<◌, ◌==◌, List, length, take, Option, None, Some, IsSome, slice_get, ⊤}
+use Rattle.std.specs.List.{count_by}
 use Rattle.psy_budget.specs.declared.charge.Tick.{Tick}
 use Rattle.psy_budget.specs.declared.charge.Tick.TheVariants as tick
 use Rattle.psy_budget.specs.Charges.{Charged, tick_of}
 use Rattle.psy_code.specs.declared.code.Code.{Code}
+use Rattle.psy_code.specs.declared.look.Sent.{Sent}
 use Rattle.psy_code.specs.Execution.{RunState, Running, call_of, copy_of, run_code}
-use Rattle.psy_code.specs.Views.{Call, Past, View, past_of}
+use Rattle.psy_code.specs.Views.{Call, Deeds, Past, Send, Window, messages_of, past_of}
 use Rattle.psy_machine.specs.Stepping.{AgentMachine}
+use Rattle.psy_queue.specs.Order.{Queued}
 use Rattle.psy_tree.specs.declared.unit.VarDecl.{VarDecl}
-use Rattle.psy_meaning.specs.Actions.{Action, System, Done, Trapped, Overran, charge_of, timing, verdict_of}
+use Rattle.psy_meaning.specs.Actions.{Action, System, Done, Trapped, Overran, charge_of, stream_of, timing, verdict_of}
 use Rattle.psy_meaning.specs.Executors.{Acted, acted_as, agent_code_at, machine_at}
+use Rattle.psy_meaning.specs.Kept.{Receives}
 use Rattle.psy_meaning.specs.Schedule.{work}
-use Rattle.psy_history.specs.Compiled.{IsBuilt}
 use Rattle.psy_history.specs.Regular.{MayAsk, Runs, begun_by}
 use Rattle.psy_kernel.specs.declared.kernel.advance.Gone.{Gone}
 use Rattle.psy_kernel.specs.declared.kernel.advance.Gone.TheVariants as gone
-use Rattle.psy_kernel.specs.Standing.{IsRunning, charge_after}
+use Rattle.psy_kernel.specs.Seeing.{Sight, seen_by}
+use Rattle.psy_kernel.specs.Standing.{HasDone, IsRunning, charge_after}
 
 -- What the code of an action comes to within its budget
 abbrev pub came_to : Code → Action → Acted
@@ -29,18 +33,38 @@ pub record IsOfCode (s : System) (code : Code) (r : Action) : Type 0 where
   pub verdict : r.verdict ≡ verdict_of (timing s r.agent) r.start r.budget r.charge (came_to code r).fate
   pub runs : Runs s code r
 
--- An action that had so many cycles, fewer than its work, with its charge and machine, in a program without streams
+-- An action that had so many cycles, fewer than its work, with its charge and machine
 pub record InAction (s : System) (code : Code) (r : Action) (had : ℕ) (charge : Charged) (machine : AgentMachine) : Type 0 where
   pub of_code : IsOfCode s code r
   pub agent : machine.agent ≡ r.agent
   pub pending : had < work r
   pub charged : charge ≡ charge_after s r had
   pub running : IsRunning code r (charge_after s r had).paid machine
-  pub built : IsBuilt s.unit
 
--- A view shows an action what it may look at as it saw it from the start.
-abbrev pub ShowsAs : System → Action → View → Type 0
-ShowsAs s r view = (variable back : ℕ) → MayAsk s.unit r.agent r.point (Some (Past variable back)) → past_of view variable back ≡ past_of r.view variable back
+-- After so many paid instructions a window shows an action what it may look at as it saw it from the start, and of the streams that its
+-- agent receives what it has left; it has the program's streams and clocks, and room for the send that comes next.
+pub record ShowsAs (s : System) (code : Code) (r : Action) (paid : ℕ) (window : Window) : Type 0 where
+  pub pasts : (variable back : ℕ) → MayAsk s.unit r.agent r.point (Some (Past variable back)) → past_of window.view variable back ≡ past_of r.view variable back
+  pub messages : (state : RunState) → run_code code (agent_code_at code r.agent) (begun_by (agent_code_at code r.agent) r) paid ≡ Running state
+      → (stream : ℕ) → Receives s.unit r.agent stream → messages_of window.view stream ≡ messages_of state.view stream
+  pub streams : window.streams ≡ length s.unit.streams
+  pub clocks : window.clocks ≡ length s.unit.clocks
+  pub room : (state : RunState) → run_code code (agent_code_at code r.agent) (begun_by (agent_code_at code r.agent) r) paid ≡ Running state
+      → (sent : Sent) → call_of code state.machine ≡ Some (Send sent) → length window.sends < window.room
+
+-- What is looked at is for the action's agent; of the streams that it receives as many messages are visible as the action saw, and what was
+-- taken is counted.
+pub record SeesAs (s : System) (r : Action) (sight : Sight) (taken : List ℕ) : Type 0 where
+  pub agent : sight.agent ≡ r.agent
+  pub streams : sight.streams ≡ s.unit.streams
+  pub queued : length sight.queues ≡ length s.unit.streams
+  pub counted : length taken ≡ length s.unit.streams
+  pub seen : (stream : ℕ) (queue : Queued) → Receives s.unit r.agent stream → slice_get sight.queues stream ≡ Some queue → seen_by queue.messages sight.start ≡ length (r.seen stream)
+
+-- These are the sends and the counts of what was taken, by stream, of an action that did this.
+pub record AreDone (s : System) (r : Action) (deeds : Deeds) (sends : List Sent) (taken : List ℕ) : Type 0 where
+  pub sent : sends ≡ deeds.sends
+  pub took : (stream n : ℕ) → slice_get taken stream ≡ Some n → (stream_of s stream).receiver ≡ r.agent → n ≡ length (take (count_by (λ t. t == stream) deeds.takes) (r.seen stream))
 
 -- The variable and the `back` that an instruction looks at, where it does
 abbrev pub look_of : Option Call → Option (ℕ × ℕ)
@@ -72,3 +96,11 @@ pub record AfterCycle (s : System) (code : Code) (r : Action) (had : ℕ) (resul
   pub charged : charge ≡ charge_after s r (suc had)
   pub agent : machine.agent ≡ r.agent
   pub gone : IsGone s code r had machine result
+
+-- What an action sent and took is kept behind a cycle: where it goes on, what its paid instructions did; where it reached a point, all that
+-- it did.
+abbrev pub HasDoneBy : System → Code → Action → ℕ → List Sent → List ℕ → Gone → Type 0
+HasDoneBy s code r had sends taken gone.Going = HasDone s code r (charge_after s r (suc had)).paid sends taken
+HasDoneBy s code r had sends taken (gone.Ended point) = AreDone s r r.deeds sends taken
+HasDoneBy s code r had sends taken (gone.Trapped kind) = ⊤
+HasDoneBy s code r had sends taken gone.Spent = ⊤

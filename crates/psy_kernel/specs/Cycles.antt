@@ -6,27 +6,32 @@ use Rattle.psy_clock.specs.Dates.{IsClock}
 use Rattle.psy_budget.specs.declared.charge.Stall.{Stall}
 use Rattle.psy_budget.specs.Charges.{Charged}
 use Rattle.psy_code.specs.declared.code.Code.{Code}
-use Rattle.psy_code.specs.Views.{View}
+use Rattle.psy_code.specs.declared.look.Sent.{Sent}
+use Rattle.psy_queue.specs.Order.{Queued}
 use Rattle.psy_dates.specs.declared.plan.Plan.{Plan}
 use Rattle.psy_dates.specs.declared.seat.Seat.{Seat}
+use Rattle.psy_dates.specs.Outboxes.{Outboxed}
 use Rattle.psy_dates.specs.Plans.{IsPlan, system_of}
-use Rattle.psy_dates.specs.Standing.{KeepsCopy, RingStands, SeatStands}
+use Rattle.psy_dates.specs.Standing.{KeepsCopy, KeepsSends, KeepsTakes, QueueStands, RingStands, SeatStands}
 use Rattle.psy_history.specs.Compiled.{AreInputs}
 use Rattle.psy_history.specs.Rings.{age_at}
 use Rattle.psy_history.specs.Scheduled.{turns_of}
 use Rattle.psy_machine.specs.Stepping.{AgentMachine}
-use Rattle.psy_meaning.specs.Actions.{Action, System, Done, timing, variable_of}
+use Rattle.psy_meaning.specs.Actions.{Action, System, Done, stream_of, timing, variable_of}
+use Rattle.psy_meaning.specs.Executors.{agent_at}
+use Rattle.psy_meaning.specs.Flow.{IsGreatest}
 use Rattle.psy_meaning.specs.History.{history}
+use Rattle.psy_meaning.specs.QueueSizes.{HasSendsTo}
 use Rattle.psy_meaning.specs.Schedule.{Turn, is_pending, turn_of, units}
 use Rattle.psy_meaning.specs.Summary.{greater, lesser, reach}
 use Rattle.psy_meaning.specs.Timing.{Timing, clock_at, end_date, point_at}
-use Rattle.psy_kernel.specs.Acting.{IsLookIn, IsOfCode, ShowsAs}
+use Rattle.psy_kernel.specs.Acting.{IsLookIn, IsOfCode, SeesAs, ShowsAs}
 use Rattle.psy_kernel.specs.declared.kernel.Figure.{Figure}
 use Rattle.psy_kernel.specs.declared.script.Order.{Order}
 use Rattle.psy_kernel.specs.declared.script.Script.{Script}
 use Rattle.psy_kernel.specs.Scripts.{IsScript, order_of, stalls_of}
-use Rattle.psy_kernel.specs.Seeing.{view_in}
-use Rattle.psy_kernel.specs.Standing.{AgentStands}
+use Rattle.psy_kernel.specs.Seeing.{Sight, sight_in, window_in}
+use Rattle.psy_kernel.specs.Standing.{AgentStands, DeedsStand, HasDone, charge_after}
 
 -- The order of the last of so many orders that have come into force, and the first one where none has
 abbrev pub order_by : List ℕ → List Order → ℕ → List ℕ
@@ -73,11 +78,24 @@ pub record GetsCycle (s : System) (code : Code) (turns : List (Option Turn)) (un
   pub quantum : s.unit.quantum ≤ QUANTUM
   pub ends : (point end : ℕ) → r.verdict ≡ Done point end → (end ≡ end_date (timing s agent) r.start point) × MayEnd (timing s agent) r.start point
 
--- The same in the run of a plan with these inputs and stalls, what the agent has before the cycle, and what its action sees then
-pub record IsGiven (plan : Plan) (inputs : List (List ℤ)) (stalls : ℕ → List Stall) (turns : List (Option Turn)) (date cycle agent : ℕ) (r : Action) (before : List Action) (charge : Charged) (machine : AgentMachine) (waits : Option ℕ) (figure : Figure) (seat : Seat) (ended : List ℤ) (view : View) : Type 0 where
+-- What the outbox of an agent has, and what was taken of the streams that it receives
+pub record BoxStands (s : System) (code : Code) (turns : List (Option Turn)) (date agent : ℕ) (actions : List Action) (sends : List Sent) (taken : List ℕ) : Type 0 where
+  pub doing : DeedsStand s code turns actions sends taken
+  pub sent : KeepsSends date turns actions sends
+  pub took : (stream n : ℕ) → slice_get taken stream ≡ Some n → (stream_of s stream).receiver ≡ agent → KeepsTakes date turns stream actions n
+
+-- What an action that had so many cycles sees, and what it sent and took
+pub record ActsIn (s : System) (code : Code) (r : Action) (had : ℕ) (sight : Sight) (taken : List ℕ) (outbox : Outboxed) : Type 0 where
+  pub shows : ShowsAs s code r (charge_after s r had).paid (window_in sight taken outbox None)
+  pub sees : SeesAs s r sight taken
+  pub did : HasDone s code r (charge_after s r had).paid outbox.sends taken
+
+-- The same in the run of a plan with these inputs and stalls, what the agent has before the cycle, what its action sees then, and what it
+-- has done
+pub record IsGiven (plan : Plan) (inputs : List (List ℤ)) (stalls : ℕ → List Stall) (turns : List (Option Turn)) (date cycle agent : ℕ) (r : Action) (before : List Action) (charge : Charged) (machine : AgentMachine) (waits : Option ℕ) (figure : Figure) (seat : Seat) (ended : List ℤ) (sight : Sight) (taken : List ℕ) (outbox : Outboxed) : Type 0 where
   pub gets : GetsCycle (system_of plan inputs stalls) plan.code turns plan.until date cycle agent r before
   pub has : OneStands (system_of plan inputs stalls) plan.code turns plan.until date agent (r ∷ before) charge machine waits figure seat ended
-  pub shows : ShowsAs (system_of plan inputs stalls) r view
+  pub acts : ActsIn (system_of plan inputs stalls) plan.code r (units r.agent r.number turns) sight taken outbox
 
 -- How far back a variable's ring is reached for, with the look of a cycle at a date, of an action that started at another
 abbrev pub reach_by : System → ℕ → ℕ → ℕ → Option (ℕ × ℕ) → Option ℕ → Option ℕ
@@ -93,9 +111,16 @@ IsNear s start date (Some (variable, back)) = (variable < length s.unit.variable
 abbrev pub AreRingsOf : System → ℕ → List (List ℤ) → Type 0
 AreRingsOf s dates rings = (length rings ≡ length s.unit.variables) × ((variable : ℕ) (ring : List ℤ) → slice_get rings variable ≡ Some ring → RingStands s dates variable ring)
 
--- What the action that gets the next cycle sees by the rings, and how far back it looks with that cycle, behind the last of so many dates
+-- By stream, the queues stand for the history of the first so many dates.
+abbrev pub AreQueuesOf : System → ℕ → List Queued → Type 0
+AreQueuesOf s dates queues = (length queues ≡ length s.unit.streams) × ((stream : ℕ) (queue : Queued) → slice_get queues stream ≡ Some queue → QueueStands s dates stream queue)
+
+-- What the action that gets the next cycle sees by the rings and the queues, once it has sent and taken so much, and how far back it looks
+-- with that cycle, behind the last of so many dates
 pub record LooksBack (s : System) (code : Code) (turns : List (Option Turn)) (date : ℕ) (r : Action) : Type 0 where
-  pub shows : (rings : List (List ℤ)) → AreRingsOf s (date + 1) rings → ShowsAs s r (view_in rings s.unit.variables s.unit.clocks r.start date)
+  pub acts : (rings : List (List ℤ)) (queues : List Queued) (taken : List ℕ) (outbox : Outboxed) → AreRingsOf s (date + 1) rings → AreQueuesOf s (date + 1) queues
+      → length taken ≡ length s.unit.streams → IsGreatest (HasSendsTo s.unit (agent_at s.unit r.agent)) outbox.size → HasDone s code r (charge_after s r (units r.agent r.number turns)).paid outbox.sends taken
+      → ActsIn s code r (units r.agent r.number turns) (sight_in s.unit rings queues r.agent r.start date) taken outbox
   pub near : (look : Option (ℕ × ℕ)) → IsLookIn s code r (units r.agent r.number turns) look → IsNear s r.start date look
   pub reached : (variable : ℕ) (look : Option (ℕ × ℕ)) → IsLookIn s code r (units r.agent r.number turns) look
       → reach s (turn_of (Some r) ∷ turns) (history s (date + 1)) variable ≡ reach_by s variable r.start date look (reach s turns (history s (date + 1)) variable)

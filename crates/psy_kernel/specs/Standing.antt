@@ -1,20 +1,22 @@
 -- When a kernel stands for the dated history and the schedule.
-use Rattle.std.specs.Prelude.{◌≡◌, ℕ, zero, suc, ◌+◌, ◌-◌, ◌*◌, ◌<◌, ◌≤◌, Bool, true, false, not, if◌then◌else◌, List, [], ◌∷◌, ◌++◌, filter, length, take, Option, Some, None, slice_get, ⊤}
-use Rattle.std.specs.List.{flat_map, range_with_len}
+use Rattle.std.specs.Prelude.{◌≡◌, ℕ, zero, suc, ◌+◌, ◌-◌, ◌*◌, ◌==◌, ◌<◌, ◌≤◌, Bool, true, false, nat_lt, not, if◌then◌else◌, List, [], ◌∷◌, ◌++◌, filter, length, take, Option, Some, None, slice_get, ⊤}
+use Rattle.std.specs.List.{count_by, flat_map, range_with_len}
 use Rattle.psy_budget.specs.Charges.{Charged, ticked}
 use Rattle.psy_code.specs.declared.code.Code.{Code}
+use Rattle.psy_code.specs.declared.look.Sent.{Sent}
 use Rattle.psy_code.specs.Execution.{RunState, Running, run_code}
 use Rattle.psy_machine.specs.Stepping.{AgentMachine, IsNew, IsOf}
 use Rattle.psy_ready.specs.Choice.{IsPick, pending_deadline}
-use Rattle.psy_meaning.specs.Actions.{Action, System, Verdict, Done}
+use Rattle.psy_meaning.specs.Actions.{Action, System, Verdict, Done, stream_of}
 use Rattle.psy_meaning.specs.Executors.{agent_code_at, machine_at}
 use Rattle.psy_meaning.specs.History.{history}
-use Rattle.psy_meaning.specs.Lines.{Event, publications, stops_of}
+use Rattle.psy_meaning.specs.Lines.{Event, publications, shows, stops_of}
 use Rattle.psy_meaning.specs.Schedule.{Turn, is_pending, units}
-use Rattle.psy_meaning.specs.Summary.{due_by, reach, slack}
+use Rattle.psy_meaning.specs.Summary.{due_by, most_held, reach, slack}
 use Rattle.psy_history.specs.Compiled.{AreInputs}
 use Rattle.psy_history.specs.Regular.{begun_by}
 use Rattle.psy_history.specs.Scheduled.{turns_of}
+use Rattle.psy_dates.specs.Outboxes.{Outboxed}
 use Rattle.psy_dates.specs.Plans.{IsPlan}
 use Rattle.psy_dates.specs.Standing.{SharedStands, dates_done}
 use Rattle.psy_kernel.specs.declared.kernel.Figure.{Figure}
@@ -64,6 +66,18 @@ abbrev pub MachineStands : System → Code → List (Option Turn) → ℕ → Li
 MachineStands s code turns agent [] machine = IsNew code agent machine
 MachineStands s code turns agent (r ∷ before) machine = MachineIn s code turns r (is_pending turns r) machine
 
+-- What an action that goes on sent and took so far: what the instructions did that its cycles paid.
+pub record HasDone (s : System) (code : Code) (r : Action) (paid : ℕ) (sends : List Sent) (taken : List ℕ) : Type 0 where
+  pub state : RunState
+  pub running : run_code code (agent_code_at code r.agent) (begun_by (agent_code_at code r.agent) r) paid ≡ Running state
+  pub sent : sends ≡ state.deeds.sends
+  pub took : (stream n : ℕ) → slice_get taken stream ≡ Some n → (stream_of s stream).receiver ≡ r.agent → n ≡ length (take (count_by (λ t. t == stream) state.deeds.takes) (r.seen stream))
+
+-- The outbox of an agent with these actions, and what it took of each stream, where its last action is pending
+abbrev pub DeedsStand : System → Code → List (Option Turn) → List Action → List Sent → List ℕ → Type 0
+DeedsStand s code turns [] sends taken = ⊤
+DeedsStand s code turns (r ∷ before) sends taken = is_pending turns r ≡ true → HasDone s code r (charge_after s r (units r.agent r.number turns)).paid sends taken
+
 -- The deadline of an agent's last action, where it is pending
 abbrev pub deadline_of : List (Option Turn) → List Action → Option ℕ
 deadline_of turns [] = None
@@ -98,17 +112,32 @@ IsChosen ready order (Some agent) = IsPick ready order agent
 
 -- ---- lines
 
--- What is told of a date at a place: first the stops by agent, then the publications by variable
-abbrev pub told_from : System → ℕ → ℕ → List Event
-told_from s date place =
+-- The first so many messages that a stream shows at a date, where there is such a stream
+abbrev pub shows_first : System → ℕ → ℕ → ℕ → List Event
+shows_first s date stream shown = if nat_lt stream (length s.unit.streams) then take shown (shows s (history s (date + 1)) date stream) else []
+
+-- What is told of a date before a place: first the stops by agent, then the publications by variable, then the messages by stream; and of
+-- the stream at the place, the first so many messages
+abbrev pub told_from : System → ℕ → ℕ → ℕ → List Event
+told_from s date place shown =
     let h = history s (date + 1) in
+    let stream = place - length s.unit.agents - length s.unit.variables in
     flat_map (λ agent. stops_of date (h agent)) (take place (range_with_len 0 (length s.unit.agents)))
-    ++ flat_map (publications s h date) (take (place - length s.unit.agents) (range_with_len 0 (length s.unit.variables)))
+    ++ (flat_map (publications s h date) (take (place - length s.unit.agents) (range_with_len 0 (length s.unit.variables)))
+    ++ (flat_map (shows s h date) (take stream (range_with_len 0 (length s.unit.streams)))
+    ++ shows_first s date stream shown))
 
 -- How many lines were given of the last of so many dates
-abbrev pub given_at : System → ℕ → ℕ → ℕ
-given_at s zero place = 0
-given_at s (suc date) place = length (told_from s date place)
+abbrev pub given_at : System → ℕ → ℕ → ℕ → ℕ
+given_at s zero place shown = 0
+given_at s (suc date) place shown = length (told_from s date place shown)
+
+-- ---- streams
+
+-- The greatest number of messages that a stream held at the first so many dates
+abbrev pub most_held_in : System → ℕ → ℕ → ℕ
+most_held_in s zero stream = 0
+most_held_in s (suc date) stream = most_held s date stream
 
 -- ---- the kernel
 
@@ -130,6 +159,10 @@ pub record KernelStands (k : Inside) : Type 0 where
   pub reaching : length k.reaches.items ≡ length k.plan.unit.variables
   pub reached : (variable : ℕ) (n : Option ℕ) → slice_get k.reaches.items variable ≡ Some n
       → n ≡ reach (system (progress_of k)) (turns_of (system (progress_of k)) (order (progress_of k)) k.cycles) (history (system (progress_of k)) (dates_done k.shared.date)) variable
+  pub holding : length k.helds.items ≡ length k.plan.unit.streams
+  pub held : (stream n : ℕ) → slice_get k.helds.items stream ≡ Some n → n ≡ most_held_in (system (progress_of k)) (dates_done k.shared.date) stream
+  pub doing : (agent : ℕ) (outbox : Outboxed) → slice_get k.shared.outboxes.items agent ≡ Some outbox
+      → DeedsStand (system (progress_of k)) k.plan.code (turns_of (system (progress_of k)) (order (progress_of k)) k.cycles) (history (system (progress_of k)) (dates_done k.shared.date) agent) outbox.sends k.shared.taken.items
   pub waiting : length k.ready ≡ length k.plan.unit.agents
   pub figured : length k.figures.items ≡ length k.plan.unit.agents
   pub agents : (agent : ℕ) (machine : AgentMachine) (charge : Charged) (waits : Option ℕ) (figure : Figure)
@@ -138,5 +171,6 @@ pub record KernelStands (k : Inside) : Type 0 where
   pub all : k.declared.items ≡ range_with_len 0 (length k.plan.unit.agents)
   pub orders : AreInForce k.script.orders k.passed k.cycles
   pub choice : k.stale ≡ false → IsChosen k.ready (order (progress_of k) k.cycles) k.chosen
-  pub place : k.place ≤ length k.plan.unit.agents + length k.plan.unit.variables
-  pub given : k.given ≡ given_at (system (progress_of k)) (dates_done k.shared.date) k.place
+  pub place : k.place ≤ length k.plan.unit.agents + length k.plan.unit.variables + length k.plan.unit.streams
+  pub unshown : k.place < length k.plan.unit.agents + length k.plan.unit.variables → k.shown ≡ 0
+  pub given : k.given ≡ given_at (system (progress_of k)) (dates_done k.shared.date) k.place k.shown

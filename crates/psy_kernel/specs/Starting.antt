@@ -1,11 +1,12 @@
 -- What starts at a date, and what a kernel begins with.
-use Rattle.std.specs.Prelude.{◌≡◌, ℕ, ◌<◌, ◌≤◌, ◌==◌, ◌&&◌, Bool, true, false, if◌then◌else◌, List, [], length, Option, Some, None, slice_get, slice_index_or}
+use Rattle.std.specs.Prelude.{◌≡◌, ℕ, ◌<◌, ◌≤◌, ◌==◌, ◌&&◌, Bool, true, false, if◌then◌else◌, List, [], length, Option, Some, None, slice_get, slice_index_or, max}
 use Rattle.psy_budget.specs.Charges.{Charged, after_start}
 use Rattle.psy_code.specs.declared.code.Code.{Code}
 use Rattle.psy_dates.specs.declared.seat.Phase.{Phase}
 use Rattle.psy_dates.specs.declared.seat.Phase.TheVariants as phase
 use Rattle.psy_dates.specs.declared.seat.Seat.{Seat}
 use Rattle.psy_machine.specs.Stepping.{AgentMachine, IsNew, IsOf}
+use Rattle.psy_queue.specs.Order.{Queued}
 use Rattle.psy_tree.specs.declared.unit.AgentDecl.{AgentDecl}
 use Rattle.psy_tree.specs.declared.unit.Point.{Point}
 use Rattle.psy_kernel.specs.declared.script.Script.{Script}
@@ -51,6 +52,10 @@ charge_at date seats agents agent charge = if starts_at date (seat_at seats agen
 -- The deadline for which it waits then
 abbrev pub deadline_at : ℕ → List Seat → ℕ → Option ℕ → Option ℕ
 deadline_at date seats agent waits = if starts_at date (seat_at seats agent) then Some (seat_at seats agent).deadline else waits
+
+-- The greatest number of messages that a stream held, with those of its queue
+abbrev pub held_at : List Queued → ℕ → ℕ → ℕ
+held_at queues stream most = max most (length (slice_index_or queues stream (record { size = 0; messages = [] })).messages)
 
 -- The first n items of a list became what this makes of them, by their places, and the others are as they were.
 pub record IsDoneBelow {X : Type 0} (made : ℕ → X → X) (n : ℕ) (before after : List X) : Type 0 where

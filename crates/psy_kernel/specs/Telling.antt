@@ -1,19 +1,22 @@
 -- What the seats, the variables and the figures of a run tell, line by line.
-use Rattle.std.specs.Prelude.{◌≡◌, ℕ, ◌+◌, ◌-◌, ◌≤◌, Bool, true, false, nat_lt, if◌then◌else◌, List, [], ◌∷◌, ◌++◌, map, length, get_or, Option, Some, None, IsSome, ℤ, pos}
+use Rattle.std.specs.Prelude.{◌≡◌, ℕ, ◌+◌, ◌-◌, ◌≤◌, Bool, true, false, nat_lt, ◌==◌, ◌<◌, if◌then◌else◌, List, [], ◌∷◌, ◌++◌, map, filter, length, get_or, slice_get, Option, Some, None, IsSome, ℤ, pos}
 use Rattle.std.specs.List.{range_with_len}
 use Rattle.psy_arith.specs.declared.operators.Trap.{Trap}
+use Rattle.psy_base.specs.declared.message.Message.{Message}
 use Rattle.psy_clock.specs.declared.clock.Clock.{Clock}
-use Rattle.psy_log.specs.Forms.{agent_line, end_line, stop_overrun_line, stop_trap_line, value_line, variable_line}
+use Rattle.psy_log.specs.Forms.{agent_line, end_line, stop_overrun_line, stop_trap_line, message_line, stream_line, value_line, variable_line}
 use Rattle.psy_tree.specs.declared.unit.Unit.{Unit as Whole}
 use Rattle.psy_tree.specs.declared.unit.VarDecl.{VarDecl}
 use Rattle.psy_meaning.specs.Actions.{System}
 use Rattle.psy_meaning.specs.Executors.{agent_at}
 use Rattle.psy_meaning.specs.History.{history}
-use Rattle.psy_meaning.specs.Lines.{Event, is_date, publications, stops_of}
+use Rattle.psy_meaning.specs.Lines.{Event, is_date, publications, shows, stops_of}
+use Rattle.psy_meaning.specs.QueueSizes.{stream_at}
 use Rattle.psy_dates.specs.declared.plan.Plan.{Plan}
 use Rattle.psy_dates.specs.declared.seat.Phase.TheVariants as phase
 use Rattle.psy_dates.specs.declared.seat.Seat.{Seat}
 use Rattle.psy_kernel.specs.declared.kernel.Figure.{Figure}
+use Rattle.psy_kernel.specs.declared.kernel.lines.Mark.{Mark}
 use Rattle.psy_kernel.specs.Standing.{told_from}
 use Rattle.psy_kernel.specs.Texts.{event_line}
 
@@ -45,14 +48,27 @@ abbrev pub IsToldBy : System → ℕ → List Event → Bool → List ℕ → Li
 IsToldBy s date events true old new = (event : Event) × (events ≡ event ∷ []) × (new ≡ event_line s date event)
 IsToldBy s date events false old new = (events ≡ []) × (new ≡ old)
 
--- How many places there are: one for each agent and one for each variable
+-- A message that becomes visible at a date, behind so many others of its stream, is told by its value; or there are no more.
+abbrev pub TellsMessage : List Message → List ℕ → ℕ → ℕ → Bool → List ℕ → List ℕ → Type 0
+TellsMessage messages name date shown true old new = (m : Message) × (slice_get (filter (λ (n : Message). n.visible == date) messages) shown ≡ Some m) × (new ≡ message_line date name m.value)
+TellsMessage messages name date shown false old new = (length (filter (λ (n : Message). n.visible == date) messages) ≤ shown) × (new ≡ old)
+
+-- The event that a stream shows at a date behind so many others is told by its line; or there are no more.
+abbrev pub IsShownBy : System → ℕ → ℕ → ℕ → Bool → List ℕ → List ℕ → Type 0
+IsShownBy s date stream shown true old new = (event : Event) × (slice_get (shows s (history s (date + 1)) date stream) shown ≡ Some event) × (new ≡ event_line s date event)
+IsShownBy s date stream shown false old new = (length (shows s (history s (date + 1)) date stream) ≤ shown) × (new ≡ old)
+
+-- How many places there are before those of the streams: one for each agent and one for each variable
 abbrev pub places_of : System → ℕ
 places_of s = length s.unit.agents + length s.unit.variables
 
--- From a place on, the first event is told by its line, and the walk goes on behind it; or there is none to tell.
-abbrev pub IsNextTold : System → ℕ → ℕ → Option ℕ → List ℕ → List ℕ → Type 0
-IsNextTold s date place (Some next) old new = (next ≤ places_of s) × (event : Event) × (told_from s date next ≡ told_from s date place ++ event ∷ []) × (new ≡ event_line s date event)
-IsNextTold s date place None old new = (told_from s date (places_of s) ≡ told_from s date place) × (new ≡ old)
+-- From a place on, behind so many messages of the stream there, the first event up to an end is told by its line, and the walk goes on
+-- behind it; or there is none to tell.
+abbrev pub IsNextTold : System → ℕ → ℕ → ℕ → ℕ → Option Mark → List ℕ → List ℕ → Type 0
+IsNextTold s date end place shown (Some mark) old new =
+    (mark.place ≤ end) × (mark.place < places_of s → mark.shown ≡ 0)
+    × (event : Event) × (told_from s date mark.place mark.shown ≡ told_from s date place shown ++ event ∷ []) × (new ≡ event_line s date event)
+IsNextTold s date end place shown None old new = (told_from s date end 0 ≡ told_from s date place shown) × (new ≡ old)
 
 -- ---- lines of the summary
 
@@ -70,9 +86,14 @@ variable_at unit variable = get_or unit.variables variable (record { name = []; 
 abbrev pub reach_line : Plan → List (Option ℕ) → ℕ → List ℕ
 reach_line plan reaches variable = variable_line (variable_at plan.unit variable).name (get_or plan.sizes.rings variable 0) (get_or reaches variable None)
 
--- The lines of the summary, by the figures and by how far back rings were reached for
-abbrev pub figured_lines : Plan → List Figure → List (Option ℕ) → List (List ℕ)
-figured_lines plan figures reaches =
+-- A stream's line, by the most messages that it held
+abbrev pub held_line : Plan → List ℕ → ℕ → List ℕ
+held_line plan helds stream = stream_line (stream_at plan.unit stream).name (get_or plan.sizes.queues stream 0) (get_or helds stream 0)
+
+-- The lines of the summary, by the figures, by how far back rings were reached for and by how many messages streams held
+abbrev pub figured_lines : Plan → List Figure → List (Option ℕ) → List ℕ → List (List ℕ)
+figured_lines plan figures reaches helds =
     end_line plan.until
     ∷ (map (figure_line plan.unit figures) (range_with_len 0 (length plan.unit.agents))
-    ++ map (reach_line plan reaches) (range_with_len 0 (length plan.unit.variables)))
+    ++ (map (reach_line plan reaches) (range_with_len 0 (length plan.unit.variables))
+    ++ map (held_line plan helds) (range_with_len 0 (length plan.unit.streams))))

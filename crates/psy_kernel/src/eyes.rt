@@ -1,49 +1,54 @@
-//! What an agent's action sees of the variables.
+//! What an action sees of the variables and the streams, and where its messages go.
 
-ghost use Rattle.std.specs.Prelude.{◌≡◌, ◌≤◌, ◌^◌, None, ⊤};
+ghost use Rattle.std.specs.Prelude.{◌≡◌, ◌<◌, ◌≤◌, ◌^◌, [], IsSome, Some, ℕ, length, slice_get};
 ghost use Rattle.std.specs.List.{All};
 ghost use Rattle.psy_clock.specs.Dates.{IsClock};
+ghost use Rattle.psy_code.specs.Views.{past_of};
 ghost use Rattle.psy_meaning.specs.RingSizes.{dates_between};
-ghost use Rattle.psy_kernel.specs.Seeing.{CanSee, clock_in, view_in, window_of};
+ghost use Rattle.psy_queue.specs.Order.{Queued, message_values};
+ghost use Rattle.psy_kernel.specs.Seeing.{CanSee, Sight, clock_in, seen_by, view_in};
 
 use psy_clock::Clock;
 use psy_code::{Look, Sent};
+use psy_dates::Outbox;
+use psy_queue::Queue;
 use psy_ring::Ring;
-use psy_tree::VarDecl;
+use psy_tree::{StreamDecl, VarDecl};
 use std::marker::Model;
 
-/// What an action sees that started at one date, at another, while others publish on: a value is found as many places further back in the
-/// variable's ring as dates of it have passed since the start. An agent of a program without streams asks for nothing else; there is one stream
-/// without messages, and one send is taken.
+/// What an agent's action that started at one date looks at, at another, while others publish and send on: a value is found as many places
+/// further back in the variable's ring as dates of it have passed since the start, and the messages that were visible at the start stand
+/// in front of their queue.
 #[derive(Drop)]
-pub struct Eyes<'a> {
+pub struct Scene<'a> {
     rings: &'a [Ring],
     variables: &'a [VarDecl],
     clocks: &'a [Clock],
+    queues: &'a [Queue],
+    streams: &'a [StreamDecl],
+    agent: u32,
     /// The start date of the action, and the date done last.
     start: u64,
     date: u64,
-    /// The variable and the `back` of the look made last.
-    noted: Option<(u32, u32)>,
-    sent: Option<Sent>,
 }
 
-impl<'a> Model for Eyes<'a> {
+impl<'a> Model for Scene<'a> {
     ghost use Rattle.psy_kernel.specs.Seeing.{CanSee, Sight};
 
     ghost Value = { Sight };
 
-    ghost view = { λ eyes. record {
-      rings = eyes.rings.now;
-      variables = eyes.variables.now;
-      clocks = eyes.clocks.now;
-      start = eyes.start;
-      date = eyes.date;
-      noted = eyes.noted;
-      sent = eyes.sent;
+    ghost view = { λ scene. record {
+      rings = scene.rings.now;
+      variables = scene.variables.now;
+      clocks = scene.clocks.now;
+      queues = scene.queues.now;
+      streams = scene.streams.now;
+      agent = scene.agent;
+      start = scene.start;
+      date = scene.date;
     } };
 
-    ghost invariant = { λ eyes. CanSee eyes.rings.now eyes.clocks.now eyes.start eyes.date };
+    ghost invariant = { λ scene. CanSee scene.rings.now scene.clocks.now scene.start scene.date };
 }
 
 /// The clock of a number: that of all ticks where there is none.
@@ -67,63 +72,114 @@ pub fn dates_between(clock: Clock, behind: u64, upto: u64) -> u64
     clock.count_to(upto).saturating_sub(clock.count_to(behind))
 }
 
-impl<'a> Eyes<'a> {
-    /// The eyes of an action that started at a date, at another one.
+impl<'a> Scene<'a> {
+    /// What an agent's action that started at a date looks at, at another one.
     pub fn new(
         rings: &'a [Ring],
         variables: &'a [VarDecl],
         clocks: &'a [Clock],
+        queues: &'a [Queue],
+        streams: &'a [StreamDecl],
+        agent: u32,
         start: u64,
         date: u64,
-    ) -> Eyes<'a>
+    ) -> Scene<'a>
         requires { CanSee rings.now clocks.now start date }
-        ensures view { (window_of result).view ≡ view_in rings.now variables.now clocks.now start date }
-        ensures fresh { (window_of result).noted ≡ None }
+        ensures { result ≡ record { rings = rings.now; variables = variables.now; clocks = clocks.now; queues = queues.now; streams = streams.now; agent = agent; start = start; date = date } }
     {
-        Eyes {
+        Scene {
             rings,
             variables,
             clocks,
+            queues,
+            streams,
+            agent,
             start,
             date,
-            noted: None,
-            sent: None,
         }
     }
 
-    /// The variable and the `back` of the look made last.
-    pub fn noted(&self) -> Option<(u32, u32)>
-        ensures { result ≡ (window_of self.now).noted }
+    /// The value that the variable published `back` of its dates before the start.
+    fn past(&self, variable: u32, back: u32) -> i32
+        requires { IsSome (past_of (view_in self.now.rings self.now.variables self.now.clocks self.now.start self.now.date []) variable back) }
+        ensures { past_of (view_in self.now.rings self.now.variables self.now.clocks self.now.start self.now.date []) variable back ≡ Some result }
     {
-        self.noted
-    }
-}
-
-impl<'a> Look for Eyes<'a> {
-    ghost window = { window_of };
-
-    ghost Keeps = { λ before after. ⊤ };
-
-    ghost keeps = { λ eyes. tt {0} };
-
-    fn past(&mut self, variable: u32, back: u32) -> i32 {
         let number = variable as usize;
         let clock = clock_in(self.clocks, self.variables[number].clock);
         let passed = dates_between(clock, self.start, self.date);
-        self.noted = Some((variable, back));
         self.rings[number].look(back + passed as u32)
     }
 
-    fn ready(&self, _stream: u32) -> u32 {
-        0
+    /// How many messages of a stream were visible at the start.
+    fn seen(&self, stream: u32) -> u32
+        requires { stream < length self.now.queues }
+        ensures { (queue : Queued) → slice_get self.now.queues stream ≡ Some queue → result ≡ seen_by queue.messages self.now.start }
+    {
+        self.queues[stream as usize].seen(self.start)
     }
 
-    fn take(&mut self, _stream: u32) -> Option<i32> {
-        None
+    /// The value of a message of a stream, by its place.
+    fn value(&self, stream: u32, place: u32) -> i32
+        requires { (queue : Queued) × (slice_get self.now.queues stream ≡ Some queue) × (place < length queue.messages) }
+        ensures { (queue : Queued) → slice_get self.now.queues stream ≡ Some queue → slice_get (message_values queue.messages) place ≡ Some result }
+    {
+        self.queues[stream as usize].value(place)
+    }
+}
+
+/// What serves the calls of an action.
+#[derive(Drop)]
+pub struct Eyes<'a> {
+    pub scene: &'a Scene<'a>,
+    /// By stream, how many of its messages the receiver's action took so far.
+    pub taken: &'a mut Vec<u32>,
+    /// What the action sent so far.
+    pub outbox: &'a mut Outbox,
+    /// The variable and the `back` of the look made last.
+    pub noted: Option<(u32, u32)>,
+}
+
+impl<'a> Look for Eyes<'a> {
+    ghost use Rattle.std.proofs.Common.{inl, refl};
+    ghost use Rattle.psy_kernel.specs.Looking.{KeepsRest, window_of};
+
+    ghost window = { window_of };
+
+    ghost Keeps = { KeepsRest };
+
+    ghost keeps = { λ eyes. record {
+      same_taken = refl;
+      same_outbox = refl;
+      scene = refl;
+      size = refl;
+      count = refl;
+      others = λ stream other. refl;
+      within = λ stream n queue there at. inl at;
+    } };
+
+    fn past(&mut self, variable: u32, back: u32) -> i32 {
+        self.noted = Some((variable, back));
+        self.scene.past(variable, back)
+    }
+
+    fn ready(&self, stream: u32) -> u32 {
+        self.scene
+            .seen(stream)
+            .saturating_sub(self.taken[stream as usize])
+    }
+
+    fn take(&mut self, stream: u32) -> Option<i32> {
+        let number = stream as usize;
+        let place = self.taken[number];
+        if place >= self.scene.seen(stream) {
+            return None;
+        }
+        self.taken[number] = place + 1;
+        Some(self.scene.value(stream, place))
     }
 
     fn send(&mut self, stream: u32, value: i32, after: u32, clock: u32) {
-        self.sent = Some(Sent {
+        self.outbox.send(Sent {
             stream,
             value,
             after,

@@ -33,6 +33,8 @@ pub struct Kernel {
     ready: Ready,
     /// By variable, how far back its ring was reached for, and none where it never was.
     reaches: Vec<Option<u32>>,
+    /// By stream, the greatest number of messages that it held at a date.
+    helds: Vec<u32>,
     /// All agents, in the order of declaration.
     declared: Vec<u32>,
     /// How many of the script's orders have come into force.
@@ -41,8 +43,10 @@ pub struct Kernel {
     chosen: Option<u32>,
     stale: bool,
     cycles: u64,
-    /// Where the lines of the date done last go on: agents, then variables, counted through; and how many were given.
+    /// Where the lines of the date done last go on: agents, then variables, then streams, counted through; how many messages of the stream
+    /// there were shown; and how many lines were given.
     place: usize,
+    shown: u32,
     given: u64,
 }
 

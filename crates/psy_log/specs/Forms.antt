@@ -103,10 +103,6 @@ edge_line from to len = codes "edge " ++ decimal from ++ codes " " ++ decimal to
 abbrev pub words_line : List ℕ
 words_line = codes "words\n"
 
--- `not built`
-abbrev pub not_built_line : List ℕ
-not_built_line = codes "not built\n"
-
 -- `read FILE`
 abbrev pub read_line : List ℕ → List ℕ
 read_line file = codes "read " ++ file ++ codes "\n"
@@ -151,7 +147,6 @@ line_of (note.AgentGraph agent nodes edges) = agent_graph_line agent.now nodes e
 line_of (note.Node number point phase budget worst due) = node_line number point phase budget worst due
 line_of (note.EdgeOf from to len) = edge_line from to len
 line_of note.Words = words_line
-line_of note.NotBuilt = not_built_line
 line_of (note.Read file) = read_line file.now
 line_of (note.Limit name number) = limit_line name.now number
 line_of (note.Refused what number at) = refused_line what.now number at

@@ -100,8 +100,6 @@ pub enum Note<'a> {
     },
     /// The words are of no listed form.
     Words,
-    /// The program isn't of a form that is served so far.
-    NotBuilt,
     /// A file can't be read.
     Read {
         file: &'a [u8],

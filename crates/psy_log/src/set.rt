@@ -70,7 +70,6 @@ impl Line {
             } => graph::set_node(self, number, point, phase, budget, worst, due),
             Note::EdgeOf { from, to, len } => graph::set_edge(self, from, to, len),
             Note::Words => self.start(b"words\n"),
-            Note::NotBuilt => self.start(b"not built\n"),
             Note::Read { file } => refusal::set_read(self, file),
             Note::Limit { name, number } => refusal::set_limit(self, name, number),
             Note::Refused { what, number, at } => refusal::set_refused(self, what, number, at),

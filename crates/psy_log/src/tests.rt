@@ -122,7 +122,6 @@ fn a_graph_is_said(rt: HostRuntime) {
 fn refusals_of_words_and_files_are_said(rt: HostRuntime) {
     says! { &rt;
         Note::Words => "words\n";
-        Note::NotBuilt => "not built\n";
         Note::Read { file: b"program" } => "read program\n";
         Note::Read { file: b"inputs" } => "read inputs\n";
         Note::Read { file: b"script" } => "read script\n";

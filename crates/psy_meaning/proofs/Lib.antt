@@ -17,6 +17,7 @@ pub mod Leasts
 mod Literals
 mod Lowered
 mod NamesOf
+pub mod NoSends
 pub mod NoWays
 pub mod OpenWays
 mod PathsOf
@@ -25,6 +26,7 @@ pub mod Rests
 pub mod RestsOf
 mod Runs
 mod Sizes
+pub mod SendWays
 mod SoundExprs
 pub mod SoundParts
 pub mod SoundPaths

@@ -1,5 +1,6 @@
 pub mod Actions
 pub mod Alike
+pub mod BufferSizes
 pub mod Demand
 pub mod Depths
 pub mod Executors
@@ -10,6 +11,7 @@ pub mod History
 pub mod Kept
 pub mod Lines
 pub mod Paths
+pub mod QueueSizes
 pub mod Rest
 pub mod RingSizes
 pub mod Schedule

@@ -1,6 +1,7 @@
 //! Laws of the definitions, each the contract of a function that does nothing.
 
 ghost use Rattle.std.specs.Prelude.{◌≡◌, ◌<◌, ◌≤◌, ◌*◌, ℕ, List, length, slice_get, Some};
+ghost use Rattle.std.specs.List.{Contains};
 ghost use Rattle.psy_arith.specs.declared.operators.Trap.{Trap};
 ghost use Rattle.psy_base.specs.declared.limits.TheConstants.{FILE_BYTES};
 ghost use Rattle.psy_tree.specs.declared.raw.Raw.{Raw};
@@ -15,6 +16,7 @@ ghost use Rattle.psy_code.specs.Views.{View, nothing_done};
 ghost use Rattle.psy_meaning.specs.Alike.{IsStoreOf, IsViewOf, begun, first_store};
 ghost use Rattle.psy_meaning.specs.Flow.{IsNext};
 ghost use Rattle.psy_meaning.specs.Kept.{IsAdvanceOf, IsKept};
+ghost use Rattle.psy_meaning.specs.QueueSizes.{sendings_in};
 ghost use Rattle.psy_meaning.specs.States.{State, Store, Final, Ended, Trapped, Halts};
 ghost use Rattle.psy_meaning.specs.Rest.{rest};
 ghost use Rattle.psy_meaning.specs.Sizes.{unit_size};
@@ -22,7 +24,7 @@ ghost use Rattle.psy_meaning.specs.Sound.{IsSoundUnit};
 ghost use Rattle.psy_meaning.specs.Statements.{Piece, act};
 ghost use Rattle.psy_meaning.specs.Paths.{NoneAdvances};
 ghost use Rattle.psy_meaning.specs.Units.{IsOfText};
-ghost use Rattle.psy_meaning.specs.Ways.{Meter, IsWay, IsFrontOf, met_by};
+ghost use Rattle.psy_meaning.specs.Ways.{Meter, Sending, IsWay, IsFrontOf, met_by};
 
 /// What an action does up to an `advance` is a way to it.
 pub fn ways()
@@ -33,6 +35,12 @@ pub fn ways()
 pub fn traps()
     ensures { (unit : Whole) (number : ℕ) (agent : AgentDecl) (point : ℕ) (s t : State) (kind : Trap) → IsSoundUnit unit → slice_get unit.agents number ≡ Some agent → s.deeds ≡ nothing_done → act unit.functions (rest agent.stmts point) s ≡ Halts (Trapped kind t)
         → (end : ℕ) × (met : Meter) × IsWay unit.functions (rest agent.stmts point) end met × IsFrontOf (met_by t.deeds) met }
+{}
+
+/// Each send on a way of a sound unit's agent is one of the agent's text.
+pub fn sendings()
+    ensures { (unit : Whole) (number : ℕ) (agent : AgentDecl) (from to : ℕ) (met : Meter) (sending : Sending) → IsSoundUnit unit → slice_get unit.agents number ≡ Some agent → IsWay unit.functions (rest agent.stmts from) to met → Contains met.sends sending
+        → Contains (sendings_in agent.stmts) sending }
 {}
 
 /// An action of a sound unit's agent ends at an `advance` or traps, from any of its points.

@@ -1,11 +1,9 @@
 -- What holds or not, one of both.
-use Rattle.std.proofs.Common.{◌≡◌, sym, subst, ap, refl, ℕ, zero, suc, ◌<◌, ◌≤◌, List, [], ◌∷◌, length, ◌⊎◌, inl, inr, Option, Some, None, Bool, true, false, IsTrue, arith, ℤ, ◌≤ℤ◌, slice_get}
+use Rattle.std.proofs.Common.{◌≡◌, sym, subst, refl, ℕ, zero, suc, ◌<◌, ◌≤◌, List, [], ◌∷◌, length, ◌⊎◌, inl, inr, Some, Bool, true, false, IsTrue, arith, slice_get}
 use Rattle.std.specs.List.{All, Any}
-use Rattle.std.proofs.lemmas.Bool.{cases_eq, cases_lt, true≢false}
-use Rattle.std.proofs.lemmas.Int.{by_lt_z}
+use Rattle.std.proofs.lemmas.Bool.{cases_lt, true≢false}
 use Rattle.std.proofs.lemmas.List.Elements.{All-nil, All-cons}
 use Rattle.std.proofs.lemmas.Option.{none-some, same_Some}
-use borrow.Author.Differences.{ints}
 use Rattle.psy_tree.specs.Lexemes.{Each}
 
 -- It holds or not.
@@ -24,17 +22,11 @@ alike there back (inr p) = inr (λ q. p (back q))
 
 -- ---- numbers
 
-pub decided_same : (m n : ℕ) → Decided (m ≡ n)
-decided_same m n = cases_eq m n
-
 pub decided_most : (m n : ℕ) → Decided (m ≤ n)
 decided_most m n = elim (cases_lt n m) [
   | inl less ↦ inr (λ most. omega (arith, less, most))
   | inr most ↦ inl most
 ]
-
-pub decided_most_z : (m n : ℤ) → Decided (m ≤ℤ n)
-decided_most_z m n = by_lt_z n m (λ less. inr (λ most. omega (arith, ints, less, most))) (λ most. inl most)
 
 -- ---- tests
 
@@ -47,23 +39,6 @@ decided_each sort [] = inl tt
 decided_each sort (b ∷ bytes) = both (decided_true (sort b)) (decided_each sort bytes)
 
 -- ---- lists
-
-pub decided_none : {X : Type 0} (xs : List X) → Decided (xs ≡ [])
-decided_none [] = inl refl
-decided_none (x ∷ xs) = inr (λ e. let l : length (x ∷ xs) ≡ 0 = ap length e in omega (arith, l))
-
--- A list holds just one thing, or not.
-pub decided_one : {X : Type 0} (xs : List X) → Decided ((x : X) × (xs ≡ x ∷ []))
-decided_one [] = inr (λ h. let l : 0 ≡ length (h.0 ∷ []) = ap length h.1 in omega (arith, l))
-decided_one (x ∷ []) = inl (x, refl)
-decided_one (x ∷ y ∷ xs) = inr (λ h. let l : length (x ∷ y ∷ xs) ≡ 1 = ap length h.1 in omega (arith, l))
-
--- Just two things, or not
-pub decided_two : {X : Type 0} (xs : List X) → Decided ((x : X) × (y : X) × (xs ≡ x ∷ y ∷ []))
-decided_two [] = inr (λ h. let l : 0 ≡ length (h.0 ∷ h.1 ∷ []) = ap length h.2 in omega (arith, l))
-decided_two (x ∷ []) = inr (λ h. let l : 1 ≡ length (h.0 ∷ h.1 ∷ []) = ap length h.2 in omega (arith, l))
-decided_two (x ∷ y ∷ []) = inl (x, y, refl)
-decided_two (x ∷ y ∷ z ∷ xs) = inr (λ h. let l : length (x ∷ y ∷ z ∷ xs) ≡ 2 = ap length h.2 in omega (arith, l))
 
 -- Each keeps the one, or some the other.
 pub all_or_any : {X : Type 0} (P Q : X → Type 0) → ((x : X) → P x ⊎ Q x) → (xs : List X) → All P xs ⊎ Any Q xs
@@ -87,9 +62,3 @@ list_of {X = X} (suc n) P each =
     keeps : (first : X) (rest : List X) → P 0 first → ((k : ℕ) (x : X) → slice_get rest k ≡ Some x → P (suc k) x) → (k : ℕ) (x : X) → slice_get (first ∷ rest) k ≡ Some x → P k x
     keeps first rest held others zero x at = subst (P 0) (same_Some first x at) held
     keeps first rest held others (suc k) x at = others k x at
-
--- ---- options
-
-pub decided_some : (o : Option ℕ) (n : ℕ) → Decided (o ≡ Some n)
-decided_some None n = inr (none-some n)
-decided_some (Some m) n = alike (ap Some) (same_Some m n) (decided_same m n)

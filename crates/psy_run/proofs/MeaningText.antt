@@ -1,17 +1,16 @@
 -- The text of a run is the same by the code and by the statements; and what a run leaves.
-use Rattle.std.proofs.Common.{◌≡◌, refl, ap, sym, subst, ◌∙◌, ℕ, ◌+◌, ◌*◌, List, ◌∷◌, ◌++◌, length, get_or, map, Option, None, Some, ℤ}
+use Rattle.std.proofs.Common.{◌≡◌, refl, ap, ◌∙◌, ℕ, ◌+◌, ◌*◌, List, ◌∷◌, ◌++◌, length, get_or, map, Option, None, Some, ℤ}
 use Rattle.std.specs.List.{flat_map, range_with_len}
 use Rattle.std.proofs.Math.Path.{fun_ext}
 use Rattle.psy_budget.specs.declared.charge.Stall.{Stall}
 use Rattle.psy_code.specs.declared.code.Code.{Code}
 use Rattle.psy_tree.specs.declared.unit.Unit.{Unit as Whole}
 use Rattle.psy_base.specs.declared.sizes.Sizes.{Sizes}
-use Rattle.psy_dates.specs.Plans.{AreSizes, IsPlan}
-use Rattle.psy_history.specs.Compiled.{AreInputs, IsCompiled, coded, stated}
+use Rattle.psy_history.specs.Compiled.{coded, stated}
 use Rattle.psy_history.specs.Scheduled.{turns_of}
-use Rattle.psy_kernel.specs.Progress.{Progress, booted, lines_told, order, stage_of, system}
+use Rattle.psy_kernel.specs.Progress.{Progress, booted, order, system}
 use Rattle.psy_kernel.specs.Scripts.{order_of, stalls_of}
-use Rattle.psy_kernel.specs.Texts.{agent_end, event_line, lines_of, log_of, run_text, stream_end, summary_of, text_of, variable_end}
+use Rattle.psy_kernel.specs.Texts.{agent_end, event_line, lines_of, run_text, stream_end, summary_of, text_of, variable_end}
 use Rattle.psy_log.specs.Forms.{agent_line, end_line, stream_line, variable_line}
 use Rattle.psy_meaning.specs.Actions.{System, stream_of, variable_of}
 use Rattle.psy_meaning.specs.Executors.{agent_at}
@@ -19,8 +18,8 @@ use Rattle.psy_meaning.specs.History.{history}
 use Rattle.psy_meaning.specs.Lines.{events}
 use Rattle.psy_meaning.specs.Summary.{due_by, most_held, reach, slack}
 use Rattle.psy_run.specs.Outcome.{CanServe}
-use Rattle.psy_run.specs.Runs.{all_given, ended}
-use Rattle.psy_run.specs.Services.{HasRun, Leaves, Service, Ran, sizes_of, no_inputs, no_script, service_of}
+use Rattle.psy_run.specs.Runs.{ended}
+use Rattle.psy_run.specs.Services.{HasRun, Leaves, Ran, no_inputs, no_script, service_of}
 use Rattle.psy_run.specs.Services as service
 use Rattle.psy_run.specs.declared.served.Served.{Served}
 use Rattle.psy_run.specs.declared.served.Served.TheVariants as served
@@ -56,12 +55,12 @@ module _ (unit : Whole) (code : Code) (nexts : List (List (List ℕ))) (stalls :
 -- ---- what is left
 
 -- the kernel of a run at its end
-pub has_run : (kernel : Progress) → CanServe (served.Ran kernel) → HasRun kernel.plan.unit kernel.plan.nexts kernel.plan.sizes.rings kernel.plan.until (ended kernel)
+pub has_run : (kernel : Progress) → CanServe (served.Ran kernel) → HasRun kernel.plan.unit kernel.plan.nexts kernel.plan.sizes kernel.plan.until (ended kernel)
 has_run kernel (is, plan) = record {
   plan = plan;
   its_unit = refl;
   its_nexts = refl;
-  its_rings = refl;
+  its_sizes = refl;
   its_until = refl;
   inputs = ap (λ (p : Progress). p.inputs) is;
   script = ap (λ (p : Progress). p.script) is;
@@ -73,13 +72,10 @@ has_run kernel (is, plan) = record {
 -- what is served leaves something
 pub some_left : (done : Served) → CanServe done → (left : Option Progress) × Leaves (service_of done) left
 some_left (served.Ran kernel) can = (Some (ended kernel), (ended kernel, refl, has_run kernel can))
-some_left (served.Checked unit rings until) can = (None, refl)
+some_left (served.Checked unit sizes until) can = (None, refl)
 some_left (served.Drawn unit graphs costs) can = (None, refl)
 
 -- ---- the text of what is served
-
-same_sizes : (unit : Whole) (nexts : List (List (List ℕ))) (sizes : Sizes) → AreSizes unit nexts sizes → sizes ≡ sizes_of unit sizes.rings
-same_sizes unit nexts sizes are = λ i. record { rings = sizes.rings; queues = are.queues i; outboxes = are.outboxes i }
 
 -- a kernel that was just booted, without inputs and script, writes the text of the statements
 pub served_text : (kernel : Progress) → CanServe (served.Ran kernel) → AreAlike (coded kernel.plan.unit kernel.plan.code kernel.plan.nexts (stalls_of no_script) (no_inputs kernel.plan.unit)) (stated kernel.plan.unit kernel.plan.nexts (stalls_of no_script) (no_inputs kernel.plan.unit))
@@ -87,6 +83,5 @@ pub served_text : (kernel : Progress) → CanServe (served.Ran kernel) → AreAl
 served_text kernel (is, plan) alike =
     let inputs = ap (λ (p : Progress). p.inputs) is in
     let script = ap (λ (p : Progress). p.script) is in
-    let sizes = same_sizes kernel.plan.unit kernel.plan.nexts kernel.plan.sizes plan.buffers in
-    (λ i. run_text (coded kernel.plan.unit kernel.plan.code kernel.plan.nexts (stalls_of (script i)) (inputs i)) (order_of kernel.plan.unit (script i)) (sizes i) kernel.plan.until)
-    ∙ same_text kernel.plan.unit kernel.plan.code kernel.plan.nexts (stalls_of no_script) (no_inputs kernel.plan.unit) alike (order_of kernel.plan.unit no_script) (sizes_of kernel.plan.unit kernel.plan.sizes.rings) kernel.plan.until
+    (λ i. run_text (coded kernel.plan.unit kernel.plan.code kernel.plan.nexts (stalls_of (script i)) (inputs i)) (order_of kernel.plan.unit (script i)) kernel.plan.sizes kernel.plan.until)
+    ∙ same_text kernel.plan.unit kernel.plan.code kernel.plan.nexts (stalls_of no_script) (no_inputs kernel.plan.unit) alike (order_of kernel.plan.unit no_script) kernel.plan.sizes kernel.plan.until

@@ -16,7 +16,7 @@ use Rattle.psy_run.specs.Courses.{in_row, pure}
 use Rattle.psy_run.specs.Refusals.{status_of, line_of}
 use Rattle.psy_run.specs.Services.{Ran, Checked, Drawn, text_of}
 use Rattle.psy_run.proofs.Courses.{IsOne, one_then}
-use Rattle.psy_run.proofs.OneStep.{StepsAgree, one_asking, one_reading, one_lexing, one_parsing, one_resolving, one_graphing, one_sizing, one_costing, one_windowing, one_demanding, one_following, one_building}
+use Rattle.psy_run.proofs.OneStep.{StepsAgree, one_asking, one_reading, one_lexing, one_parsing, one_resolving, one_graphing, one_sizing, one_costing, one_windowing, one_demanding, one_following}
 
 one_pure : {X : Type 0} (x : X) → IsOne (pure x)
 one_pure x = record {
@@ -41,22 +41,20 @@ module _ (agree : StepsAgree) (files : Files) where
   one_supplying : (unit : Whole) (until : ℕ) → IsOfText unit → IsOne (supplying unit until)
   one_supplying unit until of = one_then _ _ (one_graphing agree unit of) (λ graphs drawn.
       one_then _ _ (one_following agree unit) (λ nexts follow.
-      one_then _ _ (one_sizing agree unit nexts) (λ rings sized.
+      one_then _ _ (one_sizing agree unit graphs nexts of drawn follow) (λ sizes sized.
       one_then _ _ (one_windowing graphs until) (λ few held.
       one_then _ _ (one_demanding unit graphs until) (λ done feasible.
-      one_pure (record { graphs = graphs; nexts = nexts; rings = rings }))))))
+      one_pure (record { graphs = graphs; nexts = nexts; sizes = sizes }))))))
 
   one_running : (name : List ℕ) (until : ℕ) → IsOne (running (Some files) name until)
   one_running name until = one_then _ _ (one_compiling name) (λ unit made.
-      one_then _ _ (one_building unit) (λ done built.
       one_then _ _ (one_supplying unit until (compiled agree.of_text (Some files) name unit made)) (λ supply supplied.
-      one_pure (Ran unit supply.nexts supply.rings until))))
+      one_pure (Ran unit supply.nexts supply.sizes until)))
 
   one_checking : (name : List ℕ) (until : ℕ) → IsOne (checking (Some files) name until)
   one_checking name until = one_then _ _ (one_compiling name) (λ unit made.
-      one_then _ _ (one_building unit) (λ done built.
       one_then _ _ (one_supplying unit until (compiled agree.of_text (Some files) name unit made)) (λ supply supplied.
-      one_pure (Checked unit supply.rings until))))
+      one_pure (Checked unit supply.sizes until)))
 
   one_drawing : (name : List ℕ) → IsOne (drawing (Some files) name)
   one_drawing name = one_then _ _ (one_compiling name) (λ unit made.

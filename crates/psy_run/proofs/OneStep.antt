@@ -1,8 +1,8 @@
 -- Each step comes to one end at most.
-use Rattle.std.proofs.Common.{◌≡◌, ◌∙◌, sym, subst, ap, refl, ℕ, ◌*◌, ◌<◌, ◌≤◌, List, [], ◌∷◌, length, ◌⊎◌, inl, inr, Option, Some, None, if◌then◌else◌, bytes_eq, codes, zero, suc, slice_get, arith}
-use Rattle.std.specs.List.{All}
+use Rattle.std.proofs.Common.{◌≡◌, ◌∙◌, sym, subst, ap, refl, ℕ, ◌*◌, ◌<◌, ◌≤◌, List, [], ◌∷◌, length, inl, inr, Option, Some, None, if◌then◌else◌, bytes_eq, codes, zero, suc, slice_get, arith}
 use Rattle.std.proofs.lemmas.Option.{slice_get_within}
-use Rattle.psy_base.specs.declared.limits.TheConstants.{COST, FILE_BYTES, RING}
+use Rattle.psy_base.specs.declared.limits.TheConstants.{COST, FILE_BYTES}
+use Rattle.psy_base.specs.declared.sizes.Sizes.{Sizes}
 use Rattle.psy_door.specs.Files.{Files, bytes_under}
 use Rattle.psy_tree.specs.declared.faults.LexKind.{LexKind}
 use Rattle.psy_tree.specs.declared.raw.Raw.{Raw}
@@ -19,22 +19,23 @@ use Rattle.psy_tree.specs.Rules.{LeastFault, NoFault}
 use Rattle.psy_tree.specs.Stands.{Stands, first_passed}
 use Rattle.psy_tree.specs.Tokens.{TokensOf}
 use Rattle.psy_flow.specs.Agents.{IsAgentOf}
-use Rattle.psy_meaning.specs.Flow.{IsCut, HasCost}
-use Rattle.psy_meaning.specs.RingSizes.{AreRings, IsLargeRing}
+use Rattle.psy_meaning.specs.BufferSizes.{AreSizes}
+use Rattle.psy_meaning.specs.Flow.{AreAllNexts, IsCut, HasCost}
 use Rattle.psy_meaning.specs.Timing.{Timing, timing_of}
 use Rattle.psy_meaning.specs.Units.{IsOfText}
 use Rattle.psy_meaning.proofs.Demands.{feasible-no-overload, overload-one}
 use Rattle.psy_graph.specs.declared.fault.GraphFault.{GraphFault}
 use Rattle.psy_graph.specs.declared.graph.Graph.{Graph}
 use Rattle.psy_graph.specs.Graphs.{AreGraphs, IsCause, IsTimingOf}
+use Rattle.psy_sizes.specs.declared.fault.SizeFault.{SizeFault}
+use Rattle.psy_sizes.specs.Faults.{CanCount, IsFaultBy}
 use Rattle.psy_run.specs.declared.refusal.File.{File}
-use Rattle.psy_run.specs.declared.refusal.Refusal.{Refusal}
 use Rattle.psy_run.specs.declared.refusal.Refusal.TheVariants.{Lexical, Deep, Rule, Many, Infeasible}
-use Rattle.psy_run.specs.Answer.{following, building}
+use Rattle.psy_run.specs.Answer.{following}
 use Rattle.psy_run.specs.Asked.{Command, Run, Check, Graph as Draw, Asks, asks_run, asks_check, asks_graph}
 use Rattle.psy_run.specs.Steps.{asking, reading, lexing, parsing, resolving, graphing, sizing, costing, AreCosts, windowing, HasCells, demanding, edges_of}
 use Rattle.psy_run.proofs.Courses.{IsOne}
-use Rattle.psy_run.proofs.RefusalLemmas.{lexical_is, unparsed_is, unlawful_is, undrawn_by, undrawn_is, unsized_is, overloaded_is}
+use Rattle.psy_run.proofs.RefusalLemmas.{lexical_is, unparsed_is, unlawful_is, undrawn_by, undrawn_is, unsized_by, unsized_is, overloaded_is}
 
 -- What the laws of the steps say of one end.
 pub record StepsAgree : Type 0 where
@@ -55,8 +56,9 @@ pub record StepsAgree : Type 0 where
   pub graphs_or_cause : (unit : Whole) (graphs : List Graph) (fault : GraphFault) → IsOfText unit → AreGraphs unit graphs → IsCause unit fault → ⊥
   pub cause : (unit : Whole) (fault other : GraphFault) → IsOfText unit → IsCause unit fault → IsCause unit other → fault ≡ other
   pub timing : (unit : Whole) (number : ℕ) (timing other : Timing) → IsTimingOf unit number timing → IsTimingOf unit number other → timing ≡ other
-  pub rings : (unit : Whole) (nexts : List (List (List ℕ))) (sizes others : List ℕ) → AreRings unit nexts sizes → AreRings unit nexts others → sizes ≡ others
-  pub rings_or_large : (unit : Whole) (nexts : List (List (List ℕ))) (sizes : List ℕ) (variable : ℕ) → AreRings unit nexts sizes → All (λ size. size ≤ RING) sizes → IsLargeRing unit nexts variable → ⊥
+  pub sizes : (unit : Whole) (graphs : List Graph) (nexts : List (List (List ℕ))) (sizes others : Sizes) → IsOfText unit → AreGraphs unit graphs → AreAllNexts unit nexts → AreSizes unit nexts sizes → AreSizes unit nexts others → sizes ≡ others
+  pub sizes_or_fault : (unit : Whole) (graphs : List Graph) (nexts : List (List (List ℕ))) (sizes : Sizes) (fault : SizeFault) → IsOfText unit → AreGraphs unit graphs → AreAllNexts unit nexts → AreSizes unit nexts sizes → CanCount unit nexts → IsFaultBy unit nexts fault → ⊥
+  pub size_fault : (unit : Whole) (graphs : List Graph) (nexts : List (List (List ℕ))) (fault other : SizeFault) → IsOfText unit → AreGraphs unit graphs → AreAllNexts unit nexts → IsFaultBy unit nexts fault → IsFaultBy unit nexts other → fault ≡ other
   pub cost : (unit : Whole) (number : ℕ) (agent : AgentDecl) (point cost other : ℕ) → IsAgentOf unit number agent → IsCut (HasCost unit.functions agent point) COST cost → IsCut (HasCost unit.functions agent point) COST other → cost ≡ other
 
 -- ---- lists
@@ -196,13 +198,16 @@ module _ (agree : StepsAgree) where
     apart = λ x r p q. q;
   }
 
-  -- ---- the sizes of its rings
+  -- ---- the sizes of its buffers
 
-  pub one_sizing : (unit : Whole) (nexts : List (List (List ℕ))) → IsOne (sizing unit nexts)
-  one_sizing unit nexts = record {
-    gift = λ x y p q. agree.rings unit nexts x y p.0 q.0;
-    stop = λ r s p q. (unsized_is unit nexts r p).1 ∙ sym (unsized_is unit nexts s q).1;
-    apart = λ x r p q. let (variable, is, large) = unsized_is unit nexts r q in agree.rings_or_large unit nexts x variable p.0 p.1 large;
+  pub one_sizing : (unit : Whole) (graphs : List Graph) (nexts : List (List (List ℕ))) → IsOfText unit → AreGraphs unit graphs → AreAllNexts unit nexts → IsOne (sizing unit nexts)
+  one_sizing unit graphs nexts of drawn follow = record {
+    gift = λ x y p q. agree.sizes unit graphs nexts x y of drawn follow p.0 q.0;
+    stop = λ r s p q.
+        let (cause, is, it) = unsized_is unit nexts r p in
+        let (other, is', it') = unsized_is unit nexts s q in
+        is ∙ ap unsized_by (agree.size_fault unit graphs nexts cause other of drawn follow it it') ∙ sym is';
+    apart = λ x r p q. let (cause, is, it) = unsized_is unit nexts r q in agree.sizes_or_fault unit graphs nexts x cause of drawn follow p.0 p.1 it;
   }
 
 -- ---- its demand
@@ -226,13 +231,4 @@ one_demanding unit graphs until = record {
       let same = overload-one (edges_of graphs) unit.quantum until within other demand more over over' in
       is ∙ (λ i. Infeasible (same.0 i) (same.1 i) (unit.quantum * same.0 i)) ∙ sym is';
   apart = λ x r p q. let (within, demand, is, over) = overloaded_is unit graphs until r q in feasible-no-overload (edges_of graphs) unit.quantum until within demand p over;
-}
-
--- ---- what is built so far
-
-pub one_building : (unit : Whole) → IsOne (building unit)
-one_building unit = record {
-  gift = λ x y p q. refl;
-  stop = λ r s p q. p.0 ∙ sym q.0;
-  apart = λ x r p q. q.1 p;
 }

@@ -1,12 +1,9 @@
 -- What makes a plan of a program, and what is known of inputs that have no lists.
-use Rattle.std.proofs.Common.{◌≡◌, ◌∙◌, sym, ap, subst, refl, ℕ, zero, suc, ◌<◌, ◌≤◌, List, [], ◌∷◌, map, length, get_or, slice_get, Some, ℤ, arith}
-use Rattle.std.specs.List.{All}
+use Rattle.std.proofs.Common.{◌≡◌, ◌∙◌, sym, ap, subst, ℕ, zero, suc, ◌<◌, List, [], ◌∷◌, map, length, get_or, slice_get, Some, ℤ, arith}
 use Rattle.std.proofs.lemmas.List.{length-map}
 use Rattle.std.proofs.lemmas.Option.{slice_get_within, slice_get-get_or, get_or_from_slice_get}
-use Rattle.psy_base.specs.declared.limits.TheConstants.{RING}
-use Rattle.psy_base.specs.declared.sizes.Sizes.{Sizes}
 use Rattle.psy_dates.specs.declared.plan.Plan.{Plan}
-use Rattle.psy_dates.specs.Plans.{AreSizes, IsFeasibleFor, system_of}
+use Rattle.psy_dates.specs.Plans.{IsFeasibleFor, system_of}
 use Rattle.psy_graph.specs.declared.graph.Graph.{Graph}
 use Rattle.psy_graph.specs.Graphs.{AreGraphs, IsTimingOf, spot_of}
 use Rattle.psy_history.specs.Compiled.{AreEdgesOf, AreInputs}
@@ -14,11 +11,10 @@ use Rattle.psy_meaning.specs.Flow.{AreAllNexts}
 use Rattle.psy_meaning.specs.Alike.{AllFit}
 use Rattle.psy_meaning.specs.Executors.{agent_at}
 use Rattle.psy_meaning.specs.Graph.{IsGraph}
-use Rattle.psy_meaning.specs.RingSizes.{AreRings}
 use Rattle.psy_meaning.specs.Timing.{Timing, timing_of}
 use Rattle.psy_tree.specs.declared.unit.Unit.{Unit as Whole}
 use Rattle.psy_run.specs.Answer.{Supply}
-use Rattle.psy_run.specs.Services.{no_inputs, sizes_of}
+use Rattle.psy_run.specs.Services.{no_inputs}
 use Rattle.psy_run.specs.Steps.{edges_of}
 use Rattle.psy_run.proofs.RowLemmas.{there}
 use Rattle.psy_run.proofs.SupplyLemmas.{IsSupply, edges_at}
@@ -53,11 +49,6 @@ module _ (one : (unit : Whole) (number : ℕ) (timing other : Timing) → IsTimi
     drawn = are_edges plan supply.graphs follow is.drawn;
     feasible = is.feasible;
   }
-
--- ---- its buffers
-
-pub are_sizes : (unit : Whole) (nexts : List (List (List ℕ))) (rings : List ℕ) (sizes : Sizes) → sizes ≡ sizes_of unit rings → AreRings unit nexts rings → All (λ size. (1 ≤ size) × (size ≤ RING)) rings → AreSizes unit nexts sizes
-are_sizes unit nexts rings sizes same are places = subst (AreSizes unit nexts) (sym same) (record { rings = are; places = places; queues = refl; outboxes = refl })
 
 -- ---- no inputs
 

@@ -12,13 +12,15 @@ use Rattle.psy_tree.specs.Grammar.{Spells}
 use Rattle.psy_tree.specs.Rules.{LeastFault, NoFault}
 use Rattle.psy_tree.specs.Stands.{first_passed}
 use Rattle.psy_meaning.specs.Demand.{IsOverload}
-use Rattle.psy_meaning.specs.RingSizes.{IsLargeRing}
 use Rattle.psy_graph.specs.declared.fault.GraphFault.{GraphFault}
 use Rattle.psy_graph.specs.declared.fault.GraphFault.TheVariants as fault
 use Rattle.psy_graph.specs.declared.graph.Graph.{Graph}
 use Rattle.psy_graph.specs.Graphs.{IsCause}
+use Rattle.psy_sizes.specs.declared.fault.SizeFault.{SizeFault}
+use Rattle.psy_sizes.specs.declared.fault.SizeFault.TheVariants as size
+use Rattle.psy_sizes.specs.Faults.{IsFaultBy}
 use Rattle.psy_run.specs.declared.refusal.Refusal.{Refusal}
-use Rattle.psy_run.specs.declared.refusal.Refusal.TheVariants.{Words, TooLong, Lexical, Syntax, Deep, Rule, Many, NotBuilt, Nodes, Edges, Ring, Cells, Infeasible}
+use Rattle.psy_run.specs.declared.refusal.Refusal.TheVariants.{Words, TooLong, Lexical, Syntax, Deep, Rule, Many, Nodes, Edges, Ring, Queue, Cells, Infeasible}
 use Rattle.psy_run.specs.Steps.{IsLexical, IsUnparsed, IsUnlawful, IsUndrawn, IsUnsized, IsOverloaded, edges_of}
 
 pub lexical_is : (bytes : List ℕ) (refusal : Refusal) → IsLexical bytes refusal → (kind : LexKind) × (place : ℕ) × (refusal ≡ Lexical kind place) × FirstFault bytes kind place
@@ -29,10 +31,10 @@ lexical_is bytes (Deep token) never = absurd never
 lexical_is bytes Syntax never = absurd never
 lexical_is bytes (Rule kind token) never = absurd never
 lexical_is bytes (Many count) never = absurd never
-lexical_is bytes NotBuilt never = absurd never
 lexical_is bytes Nodes never = absurd never
 lexical_is bytes Edges never = absurd never
 lexical_is bytes Ring never = absurd never
+lexical_is bytes Queue never = absurd never
 lexical_is bytes Cells never = absurd never
 lexical_is bytes (Infeasible length demand supply) never = absurd never
 
@@ -44,10 +46,10 @@ unparsed_is tokens (Deep token) at = inl (token, refl, at)
 unparsed_is tokens Syntax none = inr (refl, none.0, none.1)
 unparsed_is tokens (Rule kind token) never = absurd never
 unparsed_is tokens (Many count) never = absurd never
-unparsed_is tokens NotBuilt never = absurd never
 unparsed_is tokens Nodes never = absurd never
 unparsed_is tokens Edges never = absurd never
 unparsed_is tokens Ring never = absurd never
+unparsed_is tokens Queue never = absurd never
 unparsed_is tokens Cells never = absurd never
 unparsed_is tokens (Infeasible length demand supply) never = absurd never
 
@@ -59,10 +61,10 @@ unlawful_is raw (Deep token) never = absurd never
 unlawful_is raw Syntax never = absurd never
 unlawful_is raw (Rule kind token) least = inl (kind, token, refl, least)
 unlawful_is raw (Many count) passed = inr (count, refl, passed.0, passed.1)
-unlawful_is raw NotBuilt never = absurd never
 unlawful_is raw Nodes never = absurd never
 unlawful_is raw Edges never = absurd never
 unlawful_is raw Ring never = absurd never
+unlawful_is raw Queue never = absurd never
 unlawful_is raw Cells never = absurd never
 unlawful_is raw (Infeasible length demand supply) never = absurd never
 
@@ -81,14 +83,22 @@ undrawn_is unit (Deep token) never = absurd never
 undrawn_is unit Syntax never = absurd never
 undrawn_is unit (Rule kind token) never = absurd never
 undrawn_is unit (Many count) never = absurd never
-undrawn_is unit NotBuilt never = absurd never
 undrawn_is unit Nodes it = (fault.Nodes it.0, refl, it.1)
 undrawn_is unit Edges it = (fault.Edges it.0, refl, it.1)
 undrawn_is unit Ring never = absurd never
+undrawn_is unit Queue never = absurd never
 undrawn_is unit Cells never = absurd never
 undrawn_is unit (Infeasible length demand supply) never = absurd never
 
-pub unsized_is : (unit : Whole) (nexts : List (List (List ℕ))) (refusal : Refusal) → IsUnsized unit nexts refusal → (variable : ℕ) × (refusal ≡ Ring) × IsLargeRing unit nexts variable
+-- the refusal of a fault of sizes
+pub unsized_by : SizeFault → Refusal
+unsized_by (size.LargeRing variable) = Ring
+unsized_by (size.Cells stream) = Cells
+unsized_by (size.LargeQueue stream) = Queue
+unsized_by size.Memory = Words
+
+pub unsized_is : (unit : Whole) (nexts : List (List (List ℕ))) (refusal : Refusal) → IsUnsized unit nexts refusal → (cause : SizeFault) × (refusal ≡ unsized_by cause) × IsFaultBy unit nexts cause
+unfolding unsized_by
 unsized_is unit nexts Words never = absurd never
 unsized_is unit nexts (TooLong file) never = absurd never
 unsized_is unit nexts (Lexical kind place) never = absurd never
@@ -96,11 +106,11 @@ unsized_is unit nexts (Deep token) never = absurd never
 unsized_is unit nexts Syntax never = absurd never
 unsized_is unit nexts (Rule kind token) never = absurd never
 unsized_is unit nexts (Many count) never = absurd never
-unsized_is unit nexts NotBuilt never = absurd never
 unsized_is unit nexts Nodes never = absurd never
 unsized_is unit nexts Edges never = absurd never
-unsized_is unit nexts Ring it = (it.0, refl, it.1)
-unsized_is unit nexts Cells never = absurd never
+unsized_is unit nexts Ring it = (size.LargeRing it.0, refl, it.1)
+unsized_is unit nexts Queue it = (size.LargeQueue it.0, refl, it.1)
+unsized_is unit nexts Cells it = (size.Cells it.0, refl, it.1)
 unsized_is unit nexts (Infeasible length demand supply) never = absurd never
 
 pub overloaded_is : (unit : Whole) (graphs : List Graph) (until : ℕ) (refusal : Refusal) → IsOverloaded unit graphs until refusal → (within : ℕ) × (demand : ℕ) × (refusal ≡ Infeasible within demand (unit.quantum * within)) × IsOverload (edges_of graphs) unit.quantum until within demand
@@ -111,9 +121,9 @@ overloaded_is unit graphs until (Deep token) never = absurd never
 overloaded_is unit graphs until Syntax never = absurd never
 overloaded_is unit graphs until (Rule kind token) never = absurd never
 overloaded_is unit graphs until (Many count) never = absurd never
-overloaded_is unit graphs until NotBuilt never = absurd never
 overloaded_is unit graphs until Nodes never = absurd never
 overloaded_is unit graphs until Edges never = absurd never
 overloaded_is unit graphs until Ring never = absurd never
+overloaded_is unit graphs until Queue never = absurd never
 overloaded_is unit graphs until Cells never = absurd never
 overloaded_is unit graphs until (Infeasible length demand supply) it = (length, demand, ap (Infeasible length demand) it.1, it.0)

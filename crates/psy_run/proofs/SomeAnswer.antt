@@ -11,7 +11,7 @@ use Rattle.psy_run.specs.Refusals.{status_of, line_of}
 use Rattle.psy_run.specs.Services.{Ran, Checked, Drawn, text_of}
 use Rattle.psy_run.proofs.Courses.{IsSome, some_then}
 use Rattle.psy_run.proofs.OneAnswer.{compiled}
-use Rattle.psy_run.proofs.SomeStep.{StepsEnd, some_asking, some_reading, some_lexing, some_parsing, some_resolving, some_graphing, some_sizing, some_costing, some_windowing, some_demanding, some_building, some_following}
+use Rattle.psy_run.proofs.SomeStep.{StepsEnd, some_asking, some_reading, some_lexing, some_parsing, some_resolving, some_graphing, some_sizing, some_costing, some_windowing, some_demanding, some_following}
 
 some_pure : {X : Type 0} (x : X) → IsSome (pure x)
 some_pure x = inl (x, refl)
@@ -26,22 +26,20 @@ module _ (ends : StepsEnd) (files : Files) where
   some_supplying : (unit : Whole) (until : ℕ) → IsOfText unit → IsSome (supplying unit until)
   some_supplying unit until of = some_then _ _ (some_graphing ends unit of) (λ graphs drawn.
       some_then _ _ (some_following ends unit of) (λ nexts follow.
-      some_then _ _ (some_sizing ends unit graphs nexts of drawn follow) (λ rings sized.
+      some_then _ _ (some_sizing ends unit graphs nexts of drawn follow) (λ sizes sized.
       some_then _ _ (some_windowing graphs until) (λ few held.
       some_then _ _ (some_demanding ends unit graphs until of drawn) (λ done feasible.
-      some_pure (record { graphs = graphs; nexts = nexts; rings = rings }))))))
+      some_pure (record { graphs = graphs; nexts = nexts; sizes = sizes }))))))
 
   some_running : (name : List ℕ) (until : ℕ) → IsSome (running (Some files) name until)
   some_running name until = some_then _ _ (some_compiling name) (λ unit made.
-      some_then _ _ (some_building unit) (λ done built.
       some_then _ _ (some_supplying unit until (compiled ends.of_text (Some files) name unit made)) (λ supply supplied.
-      some_pure (Ran unit supply.nexts supply.rings until))))
+      some_pure (Ran unit supply.nexts supply.sizes until)))
 
   some_checking : (name : List ℕ) (until : ℕ) → IsSome (checking (Some files) name until)
   some_checking name until = some_then _ _ (some_compiling name) (λ unit made.
-      some_then _ _ (some_building unit) (λ done built.
       some_then _ _ (some_supplying unit until (compiled ends.of_text (Some files) name unit made)) (λ supply supplied.
-      some_pure (Checked unit supply.rings until))))
+      some_pure (Checked unit supply.sizes until)))
 
   some_drawing : (name : List ℕ) → IsSome (drawing (Some files) name)
   some_drawing name = some_then _ _ (some_compiling name) (λ unit made.

@@ -6,7 +6,8 @@ use Rattle.std.proofs.lemmas.Bool.{cases_lt, false≢true}
 use Rattle.std.proofs.lemmas.Option.{same_Some, none-some}
 use Rattle.std.proofs.lemmas.Slice.Eq.{bytes_eq-Decides}
 use Rattle.psy_base.specs.declared.edge.Edge.{Edge}
-use Rattle.psy_base.specs.declared.limits.TheConstants.{COST, FILE_BYTES, RING, UNTIL, WINDOW_CELLS, WORD_DIGITS}
+use Rattle.psy_base.specs.declared.limits.TheConstants.{COST, FILE_BYTES, UNTIL, WINDOW_CELLS, WORD_DIGITS}
+use Rattle.psy_base.specs.declared.sizes.Sizes.{Sizes}
 use Rattle.psy_base.specs.Paths.{FitsDueLast, IsGreatestWeight}
 use Rattle.psy_door.specs.Files.{Files, bytes_under}
 use Rattle.psy_tree.specs.declared.faults.LexKind.{LexKind}
@@ -24,8 +25,8 @@ use Rattle.psy_tree.specs.Rules.{LeastFault, NoFault}
 use Rattle.psy_tree.specs.Stands.{Stands, first_passed}
 use Rattle.psy_tree.specs.Tokens.{TokensOf}
 use Rattle.psy_flow.specs.Agents.{IsAgentOf}
+use Rattle.psy_meaning.specs.BufferSizes.{AreSizes}
 use Rattle.psy_meaning.specs.Flow.{AreAllNexts, AreNexts, IsCut, HasCost}
-use Rattle.psy_meaning.specs.RingSizes.{AreRings, IsLargeRing}
 use Rattle.psy_meaning.specs.Units.{IsOfText}
 use Rattle.psy_meaning.proofs.Demands.{demand-some, feasible-or-overload}
 use Rattle.psy_window.specs.declared.span.Span.{Span}
@@ -35,14 +36,17 @@ use Rattle.psy_graph.specs.declared.fault.GraphFault.{GraphFault}
 use Rattle.psy_graph.specs.declared.fault.GraphFault.TheVariants as fault
 use Rattle.psy_graph.specs.declared.graph.Graph.{Graph}
 use Rattle.psy_graph.specs.Graphs.{AreGraphs, IsCause}
+use Rattle.psy_sizes.specs.declared.fault.SizeFault.{SizeFault}
+use Rattle.psy_sizes.specs.declared.fault.SizeFault.TheVariants as size
+use Rattle.psy_sizes.specs.Faults.{CanCount, IsFaultBy}
 use Rattle.psy_run.specs.declared.refusal.File.{File}
 use Rattle.psy_run.specs.declared.refusal.Refusal.{Refusal}
-use Rattle.psy_run.specs.declared.refusal.Refusal.TheVariants.{Words, TooLong, Lexical, Syntax, Deep, Rule, Many, NotBuilt, Nodes, Edges, Ring, Cells, Infeasible}
-use Rattle.psy_run.specs.Answer.{building, following}
+use Rattle.psy_run.specs.declared.refusal.Refusal.TheVariants.{Words, TooLong, Lexical, Syntax, Deep, Rule, Many, Nodes, Edges, Ring, Queue, Cells, Infeasible}
+use Rattle.psy_run.specs.Answer.{following}
 use Rattle.psy_run.specs.Asked.{IsDate, Command, Run, Check, Graph as Draw, Asks, asks_run, asks_check, asks_graph}
-use Rattle.psy_run.specs.Steps.{asking, reading, lexing, parsing, resolving, graphing, IsUndrawn, sizing, costing, AreCosts, windowing, HasCells, PassesCells, demanding, edges_of}
+use Rattle.psy_run.specs.Steps.{asking, reading, lexing, parsing, resolving, graphing, IsUndrawn, IsUnsized, sizing, costing, AreCosts, windowing, HasCells, PassesCells, demanding, edges_of}
 use Rattle.psy_run.proofs.Courses.{IsSome}
-use Rattle.psy_run.proofs.Decisions.{Decided, both, alike, decided_most, decided_each, decided_none, all_or_any, list_of}
+use Rattle.psy_run.proofs.Decisions.{Decided, both, alike, decided_most, decided_each, all_or_any, list_of}
 use Rattle.std.proofs.lemmas.Option.{get_or_from_slice_get, slice_get_within}
 
 -- What the laws of the steps say of some end.
@@ -56,8 +60,8 @@ pub record StepsEnd : Type 0 where
   pub edges : (unit : Whole) (graphs : List Graph) → IsOfText unit → AreGraphs unit graphs → All (λ graph. All (IsEdge (length graph.nodes)) graph.edges) graphs
   pub cost : (unit : Whole) (number : ℕ) (agent : AgentDecl) (point : ℕ) → IsAgentOf unit number agent → point < length agent.points → (cost : ℕ) × IsCut (HasCost unit.functions agent point) COST cost
   pub next : (unit : Whole) (number : ℕ) (agent : AgentDecl) → IsAgentOf unit number agent → (nexts : List (List ℕ)) × AreNexts unit.functions agent nexts
-  pub rings_or_large : (unit : Whole) (graphs : List Graph) (nexts : List (List (List ℕ))) → IsOfText unit → AreGraphs unit graphs → AreAllNexts unit nexts
-      → ((sizes : List ℕ) × AreRings unit nexts sizes × All (λ size. size ≤ RING) sizes) ⊎ ((variable : ℕ) × IsLargeRing unit nexts variable)
+  pub sizes_or_fault : (unit : Whole) (graphs : List Graph) (nexts : List (List (List ℕ))) → IsOfText unit → AreGraphs unit graphs → AreAllNexts unit nexts
+      → ((sizes : Sizes) × AreSizes unit nexts sizes × CanCount unit nexts) ⊎ ((fault : SizeFault) × IsFaultBy unit nexts fault)
   pub greatest : (graph : List Edge) (nodes : ℕ) (span : Span) (within : ℕ) → All (IsEdge nodes) graph → (n : ℕ) × IsGreatestWeight graph (Fits span within) n
 
 -- ---- words
@@ -134,14 +138,6 @@ some_reading files file name = elim (cases_lt FILE_BYTES (length (bytes_under fi
   | inr short ↦ inl (bytes_under files name, (short, refl))
 ]
 
--- ---- what is built so far
-
-pub some_building : (unit : Whole) → IsSome (building unit)
-some_building unit = elim (decided_none unit.streams) [
-  | inl is ↦ inl (tt, record { streams = is })
-  | inr some ↦ inr (NotBuilt, (refl, λ built. some built.streams))
-]
-
 -- ---- its demand
 
 pub some_windowing : (graphs : List Graph) (until : ℕ) → IsSome (windowing graphs until)
@@ -157,6 +153,12 @@ undrawn : (unit : Whole) (cause : GraphFault) → IsCause unit cause → (refusa
 undrawn unit (fault.Nodes agent) is = (Nodes, (agent, is))
 undrawn unit (fault.Edges agent) is = (Edges, (agent, is))
 undrawn unit fault.Memory never = absurd never
+
+unsized : (unit : Whole) (nexts : List (List (List ℕ))) (cause : SizeFault) → IsFaultBy unit nexts cause → (refusal : Refusal) × IsUnsized unit nexts refusal
+unsized unit nexts (size.LargeRing variable) is = (Ring, (variable, is))
+unsized unit nexts (size.Cells stream) is = (Cells, (stream, is))
+unsized unit nexts (size.LargeQueue stream) is = (Queue, (stream, is))
+unsized unit nexts size.Memory never = absurd never
 
 -- the graph of an edge list
 graph_at : (graphs : List Graph) (number : ℕ) (edges : List Edge) → slice_get (edges_of graphs) number ≡ Some edges → (graph : Graph) × (slice_get graphs number ≡ Some graph) × (graph.edges ≡ edges)
@@ -231,9 +233,9 @@ module _ (ends : StepsEnd) where
       inl (lists, record { count = long; each = λ number agent list its at. each number list at agent its })
 
   pub some_sizing : (unit : Whole) (graphs : List Graph) (nexts : List (List (List ℕ))) → IsOfText unit → AreGraphs unit graphs → AreAllNexts unit nexts → IsSome (sizing unit nexts)
-  some_sizing unit graphs nexts of are follow = elim (ends.rings_or_large unit graphs nexts of are follow) [
-    | inl rings ↦ inl (rings.0, (rings.1, rings.2))
-    | inr large ↦ inr (Ring, large)
+  some_sizing unit graphs nexts of are follow = elim (ends.sizes_or_fault unit graphs nexts of are follow) [
+    | inl sizes ↦ inl (sizes.0, (sizes.1, sizes.2))
+    | inr cause ↦ inr (unsized unit nexts cause.0 cause.1)
   ]
 
   -- each graph has a greatest weight of the paths that fit a length

@@ -1,8 +1,9 @@
 -- What the steps on action graphs come to: the graphs, the lists of weights, the demand.
-use Rattle.std.proofs.Common.{◌≡◌, ◌∙◌, ◌⊎◌, inl, inr, refl, sym, subst, ℕ, zero, suc, ◌+◌, ◌^◌, ◌<◌, List, [], ◌∷◌, length, get_or, slice_get, slice_index, Some, All, Any, arith, Result, Ok, Err, IfOk, IfErr}
+use Rattle.std.proofs.Common.{◌≡◌, ◌∙◌, ◌⊎◌, inl, inr, refl, sym, subst, ℕ, zero, suc, ◌+◌, ◌^◌, ◌<◌, List, [], ◌∷◌, length, get_or, slice_get, slice_index, Some, All, Any, arith, Result, Ok, Err}
 use Rattle.std.proofs.lemmas.List.{length-map}
 use Rattle.std.proofs.lemmas.Option.{slice_get-get_or}
 use Rattle.psy_base.specs.declared.edge.Edge.{Edge}
+use Rattle.psy_base.specs.declared.sizes.Sizes.{Sizes}
 use Rattle.psy_base.specs.Paths.{FitsDueLast, IsGreatestWeight}
 use Rattle.psy_tree.specs.declared.unit.Unit.{Unit as Whole}
 use Rattle.psy_demand.specs.Demand.{DemandFits, IsVerdict}
@@ -11,14 +12,14 @@ use Rattle.psy_graph.specs.declared.fault.GraphFault.{GraphFault}
 use Rattle.psy_graph.specs.declared.fault.GraphFault.TheVariants as fault
 use Rattle.psy_graph.specs.declared.graph.Graph.{Graph}
 use Rattle.psy_graph.specs.Graphs.{AreGraphs, IsCause, IsSmall}
+use Rattle.psy_meaning.specs.BufferSizes.{AreSizes}
 use Rattle.psy_meaning.specs.Demand.{IsFeasible, IsOverload}
 use Rattle.psy_meaning.specs.Flow.{AreAllNexts}
-use Rattle.psy_meaning.specs.RingSizes.{AreRings}
 use Rattle.psy_meaning.proofs.Demands.{AreGreatest, feasible-is, overload-is}
 use Rattle.psy_sizes.specs.declared.fault.SizeFault.{SizeFault}
 use Rattle.psy_sizes.specs.declared.fault.SizeFault.TheVariants as size
-use Rattle.psy_sizes.specs.Faults.{IsRingFault}
-use Rattle.psy_run.specs.declared.refusal.Refusal.TheVariants.{Nodes, Edges, Ring, Cells}
+use Rattle.psy_sizes.specs.Faults.{IsCause as IsSizeCause}
+use Rattle.psy_run.specs.declared.refusal.Refusal.TheVariants.{Nodes, Edges, Ring, Queue, Cells}
 use Rattle.psy_run.specs.declared.refusal.Stop.{Stop}
 use Rattle.psy_run.specs.declared.refusal.Stop.TheVariants as stop
 use Rattle.psy_run.specs.Answer.{Supply, supplying}
@@ -40,9 +41,19 @@ undrawn_edges unit f agent is (inl memory) = let no : fault.Edges agent ≡ faul
 undrawn_edges unit f agent is (inr cause) = (agent, subst (IsCause unit) is cause)
 
 -- the ring that is too large
-pub unsized_ring : (unit : Whole) (f : SizeFault) (variable : ℕ) → f ≡ size.LargeRing variable → (f ≡ size.Memory) ⊎ IsRingFault unit f → (nexts : List (List (List ℕ))) → AreAllNexts unit nexts → IsUnsized unit nexts Ring
+pub unsized_ring : (unit : Whole) (f : SizeFault) (variable : ℕ) → f ≡ size.LargeRing variable → (f ≡ size.Memory) ⊎ IsSizeCause unit f → (nexts : List (List (List ℕ))) → AreAllNexts unit nexts → IsUnsized unit nexts Ring
 unsized_ring unit f variable is (inl memory) nexts follow = let no : size.LargeRing variable ≡ size.Memory = sym is ∙ memory in absurd cc
-unsized_ring unit f variable is (inr cause) nexts follow = (variable, subst (IsRingFault unit) is cause nexts follow)
+unsized_ring unit f variable is (inr cause) nexts follow = (variable, subst (IsSizeCause unit) is cause nexts follow)
+
+-- the table that has too many cells
+pub unsized_cells : (unit : Whole) (f : SizeFault) (stream : ℕ) → f ≡ size.Cells stream → (f ≡ size.Memory) ⊎ IsSizeCause unit f → (nexts : List (List (List ℕ))) → AreAllNexts unit nexts → IsUnsized unit nexts Cells
+unsized_cells unit f stream is (inl memory) nexts follow = let no : size.Cells stream ≡ size.Memory = sym is ∙ memory in absurd cc
+unsized_cells unit f stream is (inr cause) nexts follow = (stream, subst (IsSizeCause unit) is cause nexts follow)
+
+-- the queue that is too large
+pub unsized_queue : (unit : Whole) (f : SizeFault) (stream : ℕ) → f ≡ size.LargeQueue stream → (f ≡ size.Memory) ⊎ IsSizeCause unit f → (nexts : List (List (List ℕ))) → AreAllNexts unit nexts → IsUnsized unit nexts Queue
+unsized_queue unit f stream is (inl memory) nexts follow = let no : size.LargeQueue stream ≡ size.Memory = sym is ∙ memory in absurd cc
+unsized_queue unit f stream is (inr cause) nexts follow = (stream, subst (IsSizeCause unit) is cause nexts follow)
 
 pub small_graphs : (unit : Whole) (graphs : List Graph) → AreGraphs unit graphs → All IsSmall graphs
 small_graphs unit graphs are k d less = (are.each k (get_or graphs k d) (slice_get-get_or graphs k d less)).3
@@ -97,42 +108,34 @@ module _ (unit : Whole) (until : ℕ) (failed : List ℕ) (before after : ℕ) (
     pub supply_unsized : AreGraphs unit graphs → AreAllNexts unit nexts → Halts (sizing unit nexts) failed before after s → Halts (supplying unit until) failed before after s
     supply_unsized are follow halts = halts_later _ _ failed before after graphs s are (halts_later _ _ failed before after nexts s follow (halts_first _ _ failed before after s halts))
 
-    module _ (rings : List ℕ) where
-      pub supply_unwindowed : AreGraphs unit graphs → AreAllNexts unit nexts → (sizing unit nexts).gives rings → Halts (windowing graphs until) failed before after s → Halts (supplying unit until) failed before after s
+    module _ (sizes : Sizes) where
+      pub supply_unwindowed : AreGraphs unit graphs → AreAllNexts unit nexts → (sizing unit nexts).gives sizes → Halts (windowing graphs until) failed before after s → Halts (supplying unit until) failed before after s
       supply_unwindowed are follow sized halts =
-          halts_later _ _ failed before after graphs s are (halts_later _ _ failed before after nexts s follow (halts_later _ _ failed before after rings s sized (halts_first _ _ failed before after s halts)))
+          halts_later _ _ failed before after graphs s are (halts_later _ _ failed before after nexts s follow (halts_later _ _ failed before after sizes s sized (halts_first _ _ failed before after s halts)))
 
-      pub supply_overloaded : AreGraphs unit graphs → AreAllNexts unit nexts → (sizing unit nexts).gives rings → All (HasCells until) graphs → Halts (demanding unit graphs until) failed before after s → Halts (supplying unit until) failed before after s
+      pub supply_overloaded : AreGraphs unit graphs → AreAllNexts unit nexts → (sizing unit nexts).gives sizes → All (HasCells until) graphs → Halts (demanding unit graphs until) failed before after s → Halts (supplying unit until) failed before after s
       supply_overloaded are follow sized cells halts =
-          halts_later _ _ failed before after graphs s are (halts_later _ _ failed before after nexts s follow (halts_later _ _ failed before after rings s sized
+          halts_later _ _ failed before after graphs s are (halts_later _ _ failed before after nexts s follow (halts_later _ _ failed before after sizes s sized
           (halts_later _ _ failed before after tt s cells (halts_first _ _ failed before after s halts))))
 
-pub supply_gives : (unit : Whole) (until : ℕ) (supply : Supply) → AreGraphs unit supply.graphs → AreAllNexts unit supply.nexts → (sizing unit supply.nexts).gives supply.rings → All (HasCells until) supply.graphs
+pub supply_gives : (unit : Whole) (until : ℕ) (supply : Supply) → AreGraphs unit supply.graphs → AreAllNexts unit supply.nexts → (sizing unit supply.nexts).gives supply.sizes → All (HasCells until) supply.graphs
     → IsFeasible (edges_of supply.graphs) unit.quantum until → (supplying unit until).gives supply
 supply_gives unit until supply are follow sized cells feasible =
-    gives_then _ _ supply.graphs supply are (gives_then _ _ supply.nexts supply follow (gives_then _ _ supply.rings supply sized (gives_then _ _ tt supply cells (gives_then _ _ tt supply feasible refl))))
+    gives_then _ _ supply.graphs supply are (gives_then _ _ supply.nexts supply follow (gives_then _ _ supply.sizes supply sized (gives_then _ _ tt supply cells (gives_then _ _ tt supply feasible refl))))
 
 -- What a program has that is supplied
 pub record IsSupply (unit : Whole) (until : ℕ) (supply : Supply) : Type 0 where
   pub drawn : AreGraphs unit supply.graphs
   pub followed : AreAllNexts unit supply.nexts
-  pub sized : AreRings unit supply.nexts supply.rings
+  pub sized : AreSizes unit supply.nexts supply.sizes
   pub feasible : IsFeasible (edges_of supply.graphs) unit.quantum until
 
 pub supply_is : (unit : Whole) (until : ℕ) (supply : Supply) → (supplying unit until).gives supply → IsSupply unit until supply
 unfolding in_row
-supply_is unit until supply (graphs, drawn, (nexts, followed, (rings, sized, (few, held, (done, feasible, same))))) =
+supply_is unit until supply (graphs, drawn, (nexts, followed, (sizes, sized, (few, held, (done, feasible, same))))) =
     subst (IsSupply unit until) (sym same) (record { drawn = drawn; followed = followed; sized = sized.0; feasible = feasible })
 
 -- ---- outcomes
-
-pub if_ok : {A E : Type 0} {P Q : A → Type 0} (result : Result A E) → IfOk result P → ((x : A) → P x → Q x) → IfOk result Q
-if_ok (Ok x) holds more = more x holds
-if_ok (Err e) holds more = holds
-
-pub if_err : {A E : Type 0} {P Q : E → Type 0} (result : Result A E) → IfErr result P → ((e : E) → P e → Q e) → IfErr result Q
-if_err (Ok x) holds more = holds
-if_err (Err e) holds more = more e holds
 
 pub ok_no_err : {A E : Type 0} (result : Result A E) (x : A) (e : E) → result ≡ Ok x → result ≡ Err e → ⊥
 ok_no_err result x e is other = let no = sym is ∙ other in cc

@@ -3,11 +3,10 @@ use Rattle.std.proofs.Common.{◌≡◌, ◌∙◌, sym, ap, refl, ℕ, zero, su
 use Rattle.std.proofs.lemmas.Grind.{flat_map-append}
 use Rattle.std.proofs.lemmas.List.{take_more, take-append-drop, length-take-le}
 use Rattle.psy_tree.specs.declared.unit.AgentDecl.{AgentDecl}
-use Rattle.psy_tree.specs.declared.unit.VarDecl.{VarDecl}
 use Rattle.psy_graph.specs.declared.graph.Graph.{Graph}
 use Rattle.psy_graph.specs.declared.graph.Node.{Node}
-use Rattle.psy_log.specs.Forms.{node_line, variable_size_line}
-use Rattle.psy_run.specs.Texts.{nodes_text, agent_text, graph_text, sizes_text}
+use Rattle.psy_log.specs.Forms.{node_line}
+use Rattle.psy_run.specs.Texts.{nodes_text, agent_text, graph_text, sized_text}
 
 -- ---- texts of the items of one list
 
@@ -18,42 +17,43 @@ items_more text xs i x less =
 pub items_split : {X : Type 0} (text : X → List ℕ) (xs : List X) (n : ℕ) → flat_map text xs ≡ flat_map text (take n xs) ++ flat_map text (drop n xs)
 items_split text xs n = ap (flat_map text) (sym (take-append-drop n xs)) ∙ flat_map-append text (take n xs) (drop n xs)
 
--- ---- variables, with the sizes of their rings
+-- ---- what is declared, with sizes
 
-sizes_next : (variables : List VarDecl) (rings : List ℕ) (i : ℕ) (variable : VarDecl) (size : ℕ) → i < length variables → i < length rings
-    → sizes_text (take (suc i) variables) (take (suc i) rings) ≡ sizes_text (take i variables) (take i rings) ++ variable_size_line (get_or variables i variable).name (get_or rings i size)
-sizes_next [] rings i variable size less less' = absurd (omega (arith, less))
-sizes_next (v ∷ vs) [] i variable size less less' = absurd (omega (arith, less'))
-sizes_next (v ∷ vs) (r ∷ rs) zero variable size less less' = append-nil (variable_size_line v.name r)
-sizes_next (v ∷ vs) (r ∷ rs) (suc i) variable size less less' =
-    ap (λ rest. variable_size_line v.name r ++ rest) (sizes_next vs rs i variable size (omega (arith, less)) (omega (arith, less')))
-    ∙ sym (append_assoc (variable_size_line v.name r) (sizes_text (take i vs) (take i rs)) (variable_size_line (get_or vs i variable).name (get_or rs i size)))
+module _ {X : Type 0} (line : X → ℕ → List ℕ) where
+  sizes_next : (xs : List X) (sizes : List ℕ) (i : ℕ) (x : X) (size : ℕ) → i < length xs → i < length sizes
+      → sized_text line (take (suc i) xs) (take (suc i) sizes) ≡ sized_text line (take i xs) (take i sizes) ++ line (get_or xs i x) (get_or sizes i size)
+  sizes_next [] sizes i x size less less' = absurd (omega (arith, less))
+  sizes_next (y ∷ ys) [] i x size less less' = absurd (omega (arith, less'))
+  sizes_next (y ∷ ys) (s ∷ ss) zero x size less less' = append-nil (line y s)
+  sizes_next (y ∷ ys) (s ∷ ss) (suc i) x size less less' =
+      ap (λ rest. line y s ++ rest) (sizes_next ys ss i x size (omega (arith, less)) (omega (arith, less')))
+      ∙ sym (append_assoc (line y s) (sized_text line (take i ys) (take i ss)) (line (get_or ys i x) (get_or ss i size)))
 
-pub sizes_more : (variables : List VarDecl) (rings : List ℕ) (i : ℕ) (variable : VarDecl) (size : ℕ) → i < length variables → i < length rings
-    → sizes_text (take (i + 1) variables) (take (i + 1) rings) ≡ sizes_text (take i variables) (take i rings) ++ variable_size_line (get_or variables i variable).name (get_or rings i size)
-sizes_more variables rings i variable size less less' =
-    let on : i + 1 ≡ suc i = omega arith in
-    ap (λ n. sizes_text (take n variables) (take n rings)) on ∙ sizes_next variables rings i variable size less less'
+  pub sizes_more : (xs : List X) (sizes : List ℕ) (i : ℕ) (x : X) (size : ℕ) → i < length xs → i < length sizes
+      → sized_text line (take (i + 1) xs) (take (i + 1) sizes) ≡ sized_text line (take i xs) (take i sizes) ++ line (get_or xs i x) (get_or sizes i size)
+  sizes_more xs sizes i x size less less' =
+      let on : i + 1 ≡ suc i = omega arith in
+      ap (λ n. sized_text line (take n xs) (take n sizes)) on ∙ sizes_next xs sizes i x size less less'
 
-no_sizes : (variables : List VarDecl) → sizes_text variables [] ≡ []
-no_sizes [] = refl
-no_sizes (v ∷ vs) = refl
+  no_sizes : (xs : List X) → sized_text line xs [] ≡ []
+  no_sizes [] = refl
+  no_sizes (x ∷ xs) = refl
 
-pub sizes_split : (variables : List VarDecl) (rings : List ℕ) (n : ℕ) → sizes_text variables rings ≡ sizes_text (take n variables) (take n rings) ++ sizes_text (drop n variables) (drop n rings)
-sizes_split variables rings zero = refl
-sizes_split [] rings (suc n) = refl
-sizes_split (v ∷ vs) [] (suc n) = sym (no_sizes (drop n vs))
-sizes_split (v ∷ vs) (r ∷ rs) (suc n) =
-    ap (λ rest. variable_size_line v.name r ++ rest) (sizes_split vs rs n) ∙ sym (append_assoc (variable_size_line v.name r) (sizes_text (take n vs) (take n rs)) (sizes_text (drop n vs) (drop n rs)))
+  pub sizes_split : (xs : List X) (sizes : List ℕ) (n : ℕ) → sized_text line xs sizes ≡ sized_text line (take n xs) (take n sizes) ++ sized_text line (drop n xs) (drop n sizes)
+  sizes_split xs sizes zero = refl
+  sizes_split [] sizes (suc n) = refl
+  sizes_split (x ∷ xs) [] (suc n) = sym (no_sizes (drop n xs))
+  sizes_split (x ∷ xs) (s ∷ ss) (suc n) =
+      ap (λ rest. line x s ++ rest) (sizes_split xs ss n) ∙ sym (append_assoc (line x s) (sized_text line (take n xs) (take n ss)) (sized_text line (drop n xs) (drop n ss)))
 
--- the text of as many as the shorter list has is the whole
-pub sizes_all : (variables : List VarDecl) (rings : List ℕ) (n : ℕ) → n ≡ min (length variables) (length rings) → sizes_text (take n variables) (take n rings) ≡ sizes_text variables rings
-sizes_all [] rings zero is = refl
-sizes_all [] rings (suc n) is = refl
-sizes_all (v ∷ vs) [] zero is = refl
-sizes_all (v ∷ vs) [] (suc n) is = refl
-sizes_all (v ∷ vs) (r ∷ rs) zero is = absurd (omega (arith, is))
-sizes_all (v ∷ vs) (r ∷ rs) (suc n) is = ap (λ rest. variable_size_line v.name r ++ rest) (sizes_all vs rs n (omega (arith, is)))
+  -- the text of as many as the shorter list has is the whole
+  pub sizes_all : (xs : List X) (sizes : List ℕ) (n : ℕ) → n ≡ min (length xs) (length sizes) → sized_text line (take n xs) (take n sizes) ≡ sized_text line xs sizes
+  sizes_all [] sizes zero is = refl
+  sizes_all [] sizes (suc n) is = refl
+  sizes_all (x ∷ xs) [] zero is = refl
+  sizes_all (x ∷ xs) [] (suc n) is = refl
+  sizes_all (x ∷ xs) (s ∷ ss) zero is = absurd (omega (arith, is))
+  sizes_all (x ∷ xs) (s ∷ ss) (suc n) is = ap (λ rest. line x s ++ rest) (sizes_all xs ss n (omega (arith, is)))
 
 -- ---- nodes, which are numbered
 

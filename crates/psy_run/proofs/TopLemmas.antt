@@ -1,6 +1,7 @@
 -- How the top call ends, clause by clause.
 use Rattle.std.proofs.Common.{◌≡◌, ◌≢◌, ◌∙◌, sym, ap, subst, refl, ℕ, ◌+◌, ◌==◌, List, [], Bool, true, false, Option, None, Some, ◌⊎◌, inl, inr, IfSome, arith}
 use Rattle.std.proofs.lemmas.Bool.Decides.{nat_tests}
+use Rattle.psy_base.specs.declared.sizes.Sizes.{Sizes}
 use Rattle.psy_door.specs.Faults.{Rose}
 use Rattle.psy_door.specs.Files.{Files}
 use Rattle.psy_door.specs.Growth.{Grew, GrewByFront}
@@ -11,10 +12,10 @@ use Rattle.psy_tree.specs.declared.unit.Unit.{Unit as Whole}
 use Rattle.psy_run.specs.declared.refusal.File.{File}
 use Rattle.psy_run.specs.declared.refusal.File.TheVariants.{Program}
 use Rattle.psy_run.specs.declared.refusal.Refusal.{Refusal}
-use Rattle.psy_run.specs.declared.refusal.Refusal.TheVariants.{Words, TooLong, Lexical, Syntax, Deep, Rule, Many, NotBuilt, Nodes, Edges, Ring, Cells, Infeasible}
+use Rattle.psy_run.specs.declared.refusal.Refusal.TheVariants.{Words, TooLong, Lexical, Syntax, Deep, Rule, Many, Nodes, Edges, Ring, Queue, Cells, Infeasible}
 use Rattle.psy_run.specs.declared.refusal.Stop.{Stop}
 use Rattle.psy_run.specs.declared.refusal.Stop.TheVariants as stop
-use Rattle.psy_run.specs.Answer.{Answers, refused, served, compiling, supplying, building, following, serving, answering}
+use Rattle.psy_run.specs.Answer.{Answers, refused, served, compiling, supplying, following, serving, answering}
 use Rattle.psy_run.specs.Asked.{Command, Asks, AskNothing, Run, Check, Graph}
 use Rattle.psy_run.specs.Courses.{Course, in_row}
 use Rattle.psy_run.specs.Outcome.{Halts, halts_refused, halts_unread, halts_memory, Seen, coming, IsUnread, MayAnswer, may_refuse, may_miss, may_serve, Ends, ends_memory, ends_said, ends_cut, Says}
@@ -46,10 +47,10 @@ is_status Syntax = one Syntax
 is_status (Deep token) = one (Deep token)
 is_status (Rule kind token) = one (Rule kind token)
 is_status (Many count) = seven (Many count)
-is_status NotBuilt = one NotBuilt
 is_status Nodes = seven Nodes
 is_status Edges = seven Edges
 is_status Ring = seven Ring
+is_status Queue = seven Queue
 is_status Cells = seven Cells
 is_status (Infeasible length demand supply) = five (Infeasible length demand supply)
 
@@ -160,16 +161,15 @@ supplying_never unit until =
     never_then (graphing unit) _ (λ stops. stops)
     (λ graphs. never_then (following unit) _ (λ stops. stops)
     (λ nexts. never_then (sizing unit nexts) _ (λ stops. stops)
-    (λ rings. never_then (windowing graphs until) _ (λ stops. apart Cells (λ e. absurd (omega arith)) stops.0) (λ done. never_then (demanding unit graphs until) _ (λ stops. stops) (λ again stops. stops)))))
+    (λ sizes. never_then (windowing graphs until) _ (λ stops. apart Cells (λ e. absurd (omega arith)) stops.0) (λ done. never_then (demanding unit graphs until) _ (λ stops. stops) (λ again stops. stops)))))
 
 serving_never : (files : Option Files) (command : Command) → Never (serving files command)
 serving_never files (Run name until) =
     never_then (compiling files name) _ (compiling_never files name)
-    (λ unit. never_then (building unit) _ (λ stops. apart NotBuilt (λ e. absurd (omega arith)) stops.0)
-    (λ done. never_then (supplying unit until) _ (supplying_never unit until) (λ supply stops. stops)))
+    (λ unit. never_then (supplying unit until) _ (supplying_never unit until) (λ supply stops. stops))
 serving_never files (Check name until) =
     never_then (compiling files name) _ (compiling_never files name)
-    (λ unit. never_then (building unit) _ (λ stops. apart NotBuilt (λ e. absurd (omega arith)) stops.0) (λ done. never_then (supplying unit until) _ (supplying_never unit until) (λ supply stops. stops)))
+    (λ unit. never_then (supplying unit until) _ (supplying_never unit until) (λ supply stops. stops))
 serving_never files (Graph name) =
     never_then (compiling files name) _ (compiling_never files name) (λ unit. never_then (graphing unit) _ (λ stops. stops) (λ graphs. never_then (costing unit) _ (λ stops. stops) (λ costs stops. stops)))
 
@@ -222,16 +222,16 @@ ends_left seen old now before after _ _ (ends_said _ _ _ (may_serve done other g
 ends_left seen old now before after _ _ (ends_cut status text left may rose front) zero = absurd (omega (arith, zero))
 
 -- A kernel is left by a run alone, and is over.
-over_at : (unit : Whole) (nexts : List (List (List ℕ))) (rings : List ℕ) (until : ℕ) (p : Progress) → HasRun unit nexts rings until p → stage_of p ≡ Over
-over_at unit nexts rings until p ran = by (p.dates == p.plan.until + 1) refl
+over_at : (unit : Whole) (nexts : List (List (List ℕ))) (sizes : Sizes) (until : ℕ) (p : Progress) → HasRun unit nexts sizes until p → stage_of p ≡ Over
+over_at unit nexts sizes until p ran = by (p.dates == p.plan.until + 1) refl
   where
     by : (t : Bool) → (p.dates == p.plan.until + 1) ≡ t → stage_of p ≡ Over
     by true e = rw e refl
     by false e = let dates = ran.dates in let last = ran.its_until in grind (arith, nat_tests)
 
 over_of : (done : Service) (left : Option Progress) → Leaves done left → IfSome left (λ kernel. stage_of kernel ≡ Over)
-over_of (Ran unit nexts rings until) left (p, is, ran) = subst (λ l. IfSome l (λ kernel. stage_of kernel ≡ Over)) (sym is) (over_at unit nexts rings until p ran)
-over_of (Checked unit rings until) left is = subst (λ l. IfSome l (λ kernel. stage_of kernel ≡ Over)) (sym is) tt
+over_of (Ran unit nexts sizes until) left (p, is, ran) = subst (λ l. IfSome l (λ kernel. stage_of kernel ≡ Over)) (sym is) (over_at unit nexts sizes until p ran)
+over_of (Checked unit sizes until) left is = subst (λ l. IfSome l (λ kernel. stage_of kernel ≡ Over)) (sym is) tt
 over_of (Drawn unit graphs costs) left is = subst (λ l. IfSome l (λ kernel. stage_of kernel ≡ Over)) (sym is) tt
 
 pub ends_over : (seen : Seen) (old now : Option (List ℕ)) (before after answer : ℕ) (left : Option Progress) → Ends seen old now before after answer left → IfSome left (λ kernel. stage_of kernel ≡ Over)

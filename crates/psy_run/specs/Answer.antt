@@ -1,15 +1,14 @@
 -- The defined answer: the status and the text that belong to the words and to the files that are told.
-use Rattle.std.specs.Prelude.{◌≡◌, ℕ, List, Option, Some, None}
+use Rattle.std.specs.Prelude.{ℕ, List, Option}
+use Rattle.psy_base.specs.declared.sizes.Sizes.{Sizes}
 use Rattle.psy_door.specs.Files.{Files}
 use Rattle.psy_tree.specs.declared.unit.Unit.{Unit as Whole}
-use Rattle.psy_history.specs.Compiled.{IsBuilt}
 use Rattle.psy_meaning.specs.Flow.{AreAllNexts}
 use Rattle.psy_graph.specs.declared.graph.Graph.{Graph}
 use Rattle.psy_run.specs.declared.refusal.File.TheVariants as file
 use Rattle.psy_run.specs.declared.refusal.Refusal.{Refusal}
-use Rattle.psy_run.specs.declared.refusal.Refusal.TheVariants.{NotBuilt}
 use Rattle.psy_run.specs.Asked.{Command, Run, Check, Graph as Draw}
-use Rattle.psy_run.specs.Courses.{Course, step, pure, unless, ◌>>=◌}
+use Rattle.psy_run.specs.Courses.{Course, step, pure, ◌>>=◌}
 use Rattle.psy_run.specs.Refusals.{status_of, line_of}
 use Rattle.psy_run.specs.Services.{Service, Ran, Checked, Drawn, text_of}
 use Rattle.psy_run.specs.Steps.{asking, reading, lexing, parsing, resolving, graphing, sizing, costing, windowing, demanding}
@@ -28,41 +27,35 @@ compiling files name = do
 abbrev pub following : Whole → Course (List (List (List ℕ)))
 following unit = step (AreAllNexts unit) (λ refusal. ⊥)
 
--- What a program that the processor can run has: its graphs, the points that follow each of its points, and the sizes of its rings
+-- What a program that the processor can run has: its graphs, the points that follow each of its points, and the sizes of its buffers
 pub record Supply : Type 0 where
   pub graphs : List Graph
   pub nexts : List (List (List ℕ))
-  pub rings : List ℕ
+  pub sizes : Sizes
 
 -- That, where the processor can supply what the program's agents may demand up to this date
 abbrev pub supplying : Whole → ℕ → Course Supply
 supplying unit until = do
   graphs ← graphing unit
   nexts ← following unit
-  rings ← sizing unit nexts
+  sizes ← sizing unit nexts
   _ ← windowing graphs until
   _ ← demanding unit graphs until
-  pure (record { graphs = graphs; nexts = nexts; rings = rings })
-
--- A program of those that are run and checked so far
-abbrev pub building : Whole → Course (Unit {0})
-building unit = unless (IsBuilt unit) (IsBuilt unit → ⊥) NotBuilt
+  pure (record { graphs = graphs; nexts = nexts; sizes = sizes })
 
 -- `run PROG UNTIL`
 abbrev pub running : Option Files → List ℕ → ℕ → Course Service
 running files name until = do
   unit ← compiling files name
-  _ ← building unit
   supply ← supplying unit until
-  pure (Ran unit supply.nexts supply.rings until)
+  pure (Ran unit supply.nexts supply.sizes until)
 
 -- `check PROG UNTIL`
 abbrev pub checking : Option Files → List ℕ → ℕ → Course Service
 checking files name until = do
   unit ← compiling files name
-  _ ← building unit
   supply ← supplying unit until
-  pure (Checked unit supply.rings until)
+  pure (Checked unit supply.sizes until)
 
 -- `graph PROG`
 abbrev pub drawing : Option Files → List ℕ → Course Service

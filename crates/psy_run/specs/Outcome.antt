@@ -66,5 +66,5 @@ Says old now before after answer status text = ((answer ≡ status) × Grew old 
 -- What is served can be: a kernel was just booted, without inputs and script, and the names of a unit are short.
 abbrev pub CanServe : Served → Type 0
 CanServe (served.Ran kernel) = (kernel ≡ booted kernel.plan (no_inputs kernel.plan.unit) no_script) × IsPlan kernel.plan
-CanServe (served.Checked unit rings until) = IsBare unit
+CanServe (served.Checked unit sizes until) = IsBare unit
 CanServe (served.Drawn unit graphs costs) = IsBare unit × All IsSmall graphs

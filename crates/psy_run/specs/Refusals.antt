@@ -5,11 +5,11 @@ use Rattle.psy_tree.specs.declared.rules.Count.{Count}
 use Rattle.psy_tree.specs.declared.rules.Count.TheVariants.{Clocks, Agents, Variables, Streams, Functions, Names, Points}
 use Rattle.psy_tree.specs.Faults.{lex_number}
 use Rattle.psy_tree.specs.Rules.{rule_number}
-use Rattle.psy_log.specs.Forms.{words_line, limit_line, refused_line, not_built_line, infeasible_line}
+use Rattle.psy_log.specs.Forms.{words_line, limit_line, refused_line, infeasible_line}
 use Rattle.psy_run.specs.declared.refusal.File.{File}
 use Rattle.psy_run.specs.declared.refusal.File.TheVariants.{Program}
 use Rattle.psy_run.specs.declared.refusal.Refusal.{Refusal}
-use Rattle.psy_run.specs.declared.refusal.Refusal.TheVariants.{Words, TooLong, Lexical, Syntax, Deep, Rule, Many, NotBuilt, Nodes, Edges, Ring, Cells, Infeasible}
+use Rattle.psy_run.specs.declared.refusal.Refusal.TheVariants.{Words, TooLong, Lexical, Syntax, Deep, Rule, Many, Nodes, Edges, Ring, Queue, Cells, Infeasible}
 
 -- the status of each refusal
 abbrev pub status_of : Refusal → ℕ
@@ -20,10 +20,10 @@ status_of Syntax = 1
 status_of (Deep token) = 1
 status_of (Rule kind token) = 1
 status_of (Many count) = 7
-status_of NotBuilt = 1
 status_of Nodes = 7
 status_of Edges = 7
 status_of Ring = 7
+status_of Queue = 7
 status_of Cells = 7
 status_of (Infeasible length demand supply) = 5
 
@@ -60,9 +60,9 @@ line_of Syntax = refused_line (codes "parse") 1 None
 line_of (Deep token) = refused_line (codes "parse") 2 (Some token)
 line_of (Rule kind token) = refused_line (codes "rule") (rule_number kind) (Some token)
 line_of (Many count) = limit_line (count_name count) (count_limit count)
-line_of NotBuilt = not_built_line
 line_of Nodes = limit_line (codes "nodes") limit.NODES
 line_of Edges = limit_line (codes "edges") limit.EDGES
 line_of Ring = limit_line (codes "ring") limit.RING
+line_of Queue = limit_line (codes "queue") limit.QUEUE
 line_of Cells = limit_line (codes "cells") limit.WINDOW_CELLS
 line_of (Infeasible length demand supply) = infeasible_line length demand supply None

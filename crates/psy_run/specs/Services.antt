@@ -14,11 +14,11 @@ use Rattle.psy_run.specs.declared.served.Served.{Served}
 use Rattle.psy_run.specs.declared.served.Served.TheVariants as served
 use Rattle.psy_run.specs.Texts.{check_text, graph_text}
 
--- What a command does: it runs a program, whose points may be followed by these and whose rings have these sizes, up to a date; it checks
+-- What a command does: it runs a program, whose points may be followed by these and whose buffers have these sizes, up to a date; it checks
 -- one; or it draws its graphs.
 pub data Service : Type 0 where
-  Ran : (unit : Whole) (nexts : List (List (List ℕ))) (rings : List ℕ) (until : ℕ) → Service
-  Checked : (unit : Whole) (rings : List ℕ) (until : ℕ) → Service
+  Ran : (unit : Whole) (nexts : List (List (List ℕ))) (sizes : Sizes) (until : ℕ) → Service
+  Checked : (unit : Whole) (sizes : Sizes) (until : ℕ) → Service
   Drawn : (unit : Whole) (graphs : List Graph) (costs : List (List ℕ)) → Service
 
 -- ---- a run without inputs and script
@@ -31,10 +31,6 @@ no_inputs unit = map (λ v. []) unit.variables
 abbrev pub no_script : Script
 no_script = record { stalls = []; orders = [] }
 
--- The buffers of a program without streams, with these rings
-abbrev pub sizes_of : Whole → List ℕ → Sizes
-sizes_of unit rings = record { rings = rings; queues = []; outboxes = map (λ a. 0) unit.agents }
-
 -- The dated meaning of a program's statements, without inputs and script
 abbrev pub meaning_of : Whole → List (List (List ℕ)) → System
 meaning_of unit nexts = stated unit nexts (stalls_of no_script) (no_inputs unit)
@@ -43,18 +39,18 @@ meaning_of unit nexts = stated unit nexts (stalls_of no_script) (no_inputs unit)
 
 -- The text of what is done. That of a run is the one of the dated meaning, which knows no code and no schedule but for the summary.
 abbrev pub text_of : Service → List ℕ
-text_of (Ran unit nexts rings until) = run_text (meaning_of unit nexts) (order_of unit no_script) (sizes_of unit rings) until
-text_of (Checked unit rings until) = check_text unit rings until
+text_of (Ran unit nexts sizes until) = run_text (meaning_of unit nexts) (order_of unit no_script) sizes until
+text_of (Checked unit sizes until) = check_text unit sizes until
 text_of (Drawn unit graphs costs) = graph_text unit.agents graphs costs
 
 -- ---- what is left
 
 -- A kernel that ran the program to its last date: it is over, and gave all its lines.
-pub record HasRun (unit : Whole) (nexts : List (List (List ℕ))) (rings : List ℕ) (until : ℕ) (p : Progress) : Type 0 where
+pub record HasRun (unit : Whole) (nexts : List (List (List ℕ))) (sizes : Sizes) (until : ℕ) (p : Progress) : Type 0 where
   pub plan : IsPlan p.plan
   pub its_unit : p.plan.unit ≡ unit
   pub its_nexts : p.plan.nexts ≡ nexts
-  pub its_rings : p.plan.sizes.rings ≡ rings
+  pub its_sizes : p.plan.sizes ≡ sizes
   pub its_until : p.plan.until ≡ until
   pub inputs : p.inputs ≡ no_inputs unit
   pub script : p.script ≡ no_script
@@ -64,13 +60,13 @@ pub record HasRun (unit : Whole) (nexts : List (List (List ℕ))) (rings : List 
 
 -- The kernel that is left: that of a run, and none of another command
 abbrev pub Leaves : Service → Option Progress → Type 0
-Leaves (Ran unit nexts rings until) left = (p : Progress) × (left ≡ Some p) × HasRun unit nexts rings until p
+Leaves (Ran unit nexts sizes until) left = (p : Progress) × (left ≡ Some p) × HasRun unit nexts sizes until p
 Leaves service left = left ≡ None
 
 -- ---- what is served
 
 -- What was made ready for it: a kernel that was just booted, or what is written
 abbrev pub service_of : Served → Service
-service_of (served.Ran kernel) = Ran kernel.plan.unit kernel.plan.nexts kernel.plan.sizes.rings kernel.plan.until
-service_of (served.Checked unit rings until) = Checked unit rings until
+service_of (served.Ran kernel) = Ran kernel.plan.unit kernel.plan.nexts kernel.plan.sizes kernel.plan.until
+service_of (served.Checked unit sizes until) = Checked unit sizes until
 service_of (served.Drawn unit graphs costs) = Drawn unit graphs costs

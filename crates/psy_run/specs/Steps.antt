@@ -2,7 +2,8 @@
 use Rattle.std.specs.Prelude.{◌≡◌, ℕ, ◌+◌, ◌*◌, ◌<◌, ◌≤◌, List, map, length, Some, Option, slice_get}
 use Rattle.std.specs.List.{All, Any}
 use Rattle.psy_base.specs.declared.edge.Edge.{Edge}
-use Rattle.psy_base.specs.declared.limits.TheConstants.{COST, FILE_BYTES, RING, WINDOW_CELLS}
+use Rattle.psy_base.specs.declared.sizes.Sizes.{Sizes}
+use Rattle.psy_base.specs.declared.limits.TheConstants.{COST, FILE_BYTES, WINDOW_CELLS}
 use Rattle.psy_door.specs.Files.{Files, WhereTold, bytes_under}
 use Rattle.psy_tree.specs.declared.raw.Raw.{Raw}
 use Rattle.psy_tree.specs.declared.token.Token.{Token}
@@ -14,15 +15,17 @@ use Rattle.psy_tree.specs.Grammar.{Spells}
 use Rattle.psy_tree.specs.Rules.{LeastFault, NoFault}
 use Rattle.psy_tree.specs.Stands.{Stands, first_passed}
 use Rattle.psy_tree.specs.Tokens.{TokensOf}
+use Rattle.psy_meaning.specs.BufferSizes.{AreSizes}
 use Rattle.psy_meaning.specs.Demand.{IsFeasible, IsOverload}
 use Rattle.psy_meaning.specs.Flow.{IsCut, HasCost}
-use Rattle.psy_meaning.specs.RingSizes.{AreRings, IsLargeRing}
 use Rattle.psy_graph.specs.declared.fault.GraphFault.TheVariants as fault
 use Rattle.psy_graph.specs.declared.graph.Graph.{Graph}
 use Rattle.psy_graph.specs.Graphs.{AreGraphs, IsCause}
+use Rattle.psy_sizes.specs.declared.fault.SizeFault.TheVariants as size
+use Rattle.psy_sizes.specs.Faults.{CanCount, IsFaultBy}
 use Rattle.psy_run.specs.declared.refusal.File.{File}
 use Rattle.psy_run.specs.declared.refusal.Refusal.{Refusal}
-use Rattle.psy_run.specs.declared.refusal.Refusal.TheVariants.{Words, TooLong, Lexical, Syntax, Deep, Rule, Many, Nodes, Edges, Ring, Cells, Infeasible}
+use Rattle.psy_run.specs.declared.refusal.Refusal.TheVariants.{Words, TooLong, Lexical, Syntax, Deep, Rule, Many, Nodes, Edges, Ring, Queue, Cells, Infeasible}
 use Rattle.psy_run.specs.Asked.{Command, Asks, AskNothing}
 use Rattle.psy_run.specs.Courses.{Course, step, unless}
 
@@ -77,14 +80,17 @@ IsUndrawn unit _ = ⊥
 abbrev pub graphing : Whole → Course (List Graph)
 graphing unit = step (AreGraphs unit) (IsUndrawn unit)
 
--- the first variable whose ring would have more than 65,536 places
+-- the first variable whose ring would have more than 65,536 places, or else the first stream whose queue would, or for which a table would
+-- have more than 4,000,000 cells
 abbrev pub IsUnsized : Whole → List (List (List ℕ)) → Refusal → Type 0
-IsUnsized unit nexts Ring = (variable : ℕ) × IsLargeRing unit nexts variable
+IsUnsized unit nexts Ring = (variable : ℕ) × IsFaultBy unit nexts (size.LargeRing variable)
+IsUnsized unit nexts Cells = (stream : ℕ) × IsFaultBy unit nexts (size.Cells stream)
+IsUnsized unit nexts Queue = (stream : ℕ) × IsFaultBy unit nexts (size.LargeQueue stream)
 IsUnsized unit nexts _ = ⊥
 
--- The sizes of the rings of a program's variables, none of which has more than 65,536 places
-abbrev pub sizing : Whole → List (List (List ℕ)) → Course (List ℕ)
-sizing unit nexts = step (λ rings. AreRings unit nexts rings × All (λ size. size ≤ RING) rings) (IsUnsized unit nexts)
+-- The sizes of a program's buffers: no ring or queue has more than 65,536 places, and no table for a queue more than 4,000,000 cells.
+abbrev pub sizing : Whole → List (List (List ℕ)) → Course Sizes
+sizing unit nexts = step (λ sizes. AreSizes unit nexts sizes × CanCount unit nexts) (IsUnsized unit nexts)
 
 -- The greatest cost of an action from each point of an agent, cut at 1,000,000,000
 pub record AreCosts (unit : Whole) (agent : AgentDecl) (costs : List ℕ) : Type 0 where

@@ -1,23 +1,33 @@
 -- The texts of `check` and `graph`.
 use Rattle.std.specs.Prelude.{ℕ, ◌+◌, List, [], ◌∷◌, ◌++◌, length, flat_map, get_or}
 use Rattle.psy_base.specs.declared.edge.Edge.{Edge}
+use Rattle.psy_base.specs.declared.sizes.Sizes.{Sizes}
 use Rattle.psy_tree.specs.declared.unit.AgentDecl.{AgentDecl}
+use Rattle.psy_tree.specs.declared.unit.StreamDecl.{StreamDecl}
 use Rattle.psy_tree.specs.declared.unit.Unit.{Unit as Whole}
 use Rattle.psy_tree.specs.declared.unit.VarDecl.{VarDecl}
-use Rattle.psy_log.specs.Forms.{variable_size_line, feasible_line, agent_graph_line, node_line, edge_line}
+use Rattle.psy_log.specs.Forms.{variable_size_line, stream_size_line, feasible_line, agent_graph_line, node_line, edge_line}
 use Rattle.psy_graph.specs.declared.graph.Graph.{Graph}
 use Rattle.psy_graph.specs.declared.graph.Node.{Node}
 
 -- ---- check
 
+-- a line for each of what is declared, with its size
+abbrev pub sized_text : {X : Type 0} → (X → ℕ → List ℕ) → List X → List ℕ → List ℕ
+sized_text line (x ∷ xs) (size ∷ sizes) = line x size ++ sized_text line xs sizes
+sized_text line _ _ = []
+
 -- the sizes of the rings of variables
-abbrev pub sizes_text : List VarDecl → List ℕ → List ℕ
-sizes_text (variable ∷ variables) (size ∷ sizes) = variable_size_line variable.name size ++ sizes_text variables sizes
-sizes_text _ _ = []
+abbrev pub rings_text : List VarDecl → List ℕ → List ℕ
+rings_text = sized_text (λ (v : VarDecl). variable_size_line v.name)
+
+-- the sizes of the queues of streams
+abbrev pub queues_text : List StreamDecl → List ℕ → List ℕ
+queues_text = sized_text (λ (s : StreamDecl). stream_size_line s.name)
 
 -- the sizes, and the verdict
-abbrev pub check_text : Whole → List ℕ → ℕ → List ℕ
-check_text unit rings until = sizes_text unit.variables rings ++ feasible_line until
+abbrev pub check_text : Whole → Sizes → ℕ → List ℕ
+check_text unit sizes until = rings_text unit.variables sizes.rings ++ (queues_text unit.streams sizes.queues ++ feasible_line until)
 
 -- ---- graph
 

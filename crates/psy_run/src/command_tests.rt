@@ -124,7 +124,7 @@ const CHECKED: [Check; 31] = [
     (LARGEST_RING, "20", 0, "variable v 65536\nfeasible 20\n"),
     (ONE_PLACE_MORE, "20", 7, "limit ring 65536\n"),
     (RING_AND_CELLS, "79999", 7, "limit ring 65536\n"),
-    (STREAM, "4", 1, "not built\n"),
+    (STREAM, "4", 0, "stream s 0\nfeasible 4\n"),
     // 63 times 63,492 cells are below 4,000,000, 63 times 63,493 are not.
     (TWO_CLOCKS, "63491", 0, "feasible 63491\n"),
     (TWO_CLOCKS, "63492", 7, "limit cells 4000000\n"),

@@ -1,13 +1,10 @@
 //! The commands: each is its list of steps.
-ghost use Rattle.std.specs.Prelude.{ℕ, ◌≡◌, ◌≤◌, List, map, string_bytes, IfOk, IfErr};
-ghost use Rattle.std.specs.List.{All};
-ghost use Rattle.psy_base.specs.declared.limits.TheConstants.{RING};
+ghost use Rattle.std.specs.Prelude.{◌≡◌, ◌≤◌, List, map, string_bytes, IfOk, IfErr};
 ghost use Rattle.psy_dates.specs.Plans.{IsPlan};
 ghost use Rattle.psy_graph.specs.declared.graph.Graph.{Graph};
-ghost use Rattle.psy_history.specs.Compiled.{IsBuilt};
 ghost use Rattle.psy_kernel.specs.Progress.{booted};
 ghost use Rattle.psy_meaning.specs.Units.{IsOfText};
-ghost use Rattle.psy_run.specs.Answer.{building, supplying, running, checking, drawing, answering};
+ghost use Rattle.psy_run.specs.Answer.{supplying, running, checking, drawing, answering};
 ghost use Rattle.psy_run.specs.Asked.{Command as Asked, Asks};
 ghost use Rattle.psy_run.specs.Outcome.{CanServe, Halts};
 ghost use Rattle.psy_run.specs.Services.{no_inputs, no_script, service_of};
@@ -25,28 +22,15 @@ use psy_kernel::Kernel;
 use psy_tree::Unit;
 use std::alloc::Global;
 
-/// The program is of those that are run and checked so far: it has no streams.
-pub fn built(unit: &Unit) -> Result<(), Stop>
-    ensures ok { IfOk result (λ done. (building unit.now).gives done) }
-    ensures err { (failed : List ℕ) (before after : ℕ) → IfErr result (Halts (building unit.now) failed before after) }
-{
-    if unit.streams.is_empty() {
-        return Ok(());
-    }
-    Err(Stop::Refused(Refusal::NotBuilt))
-}
-
 // A kernel of a program that can be run up to a date, without inputs and script.
 fn boot(alloc: Global, unit: Unit, supply: Supplied, until: u32) -> Result<Kernel, Memory>
     requires text { IsOfText unit }
-    requires built { IsBuilt unit }
-    requires supplied { (graphs : List Graph) × (supplying unit until).gives (record { graphs = graphs; nexts = supply.nexts; rings = supply.rings }) }
-    requires places { All (λ size. (1 ≤ size) × (size ≤ RING)) supply.rings }
+    requires supplied { (graphs : List Graph) × (supplying unit until).gives (record { graphs = graphs; nexts = supply.nexts; sizes = supply.sizes }) }
     ensures booted { IfOk result (λ kernel. kernel ≡ booted kernel.plan (no_inputs kernel.plan.unit) no_script) }
     ensures plan { IfOk result (λ kernel. IsPlan kernel.plan) }
     ensures its_unit { IfOk result (λ kernel. kernel.plan.unit ≡ unit) }
     ensures its_nexts { IfOk result (λ kernel. kernel.plan.nexts ≡ supply.nexts) }
-    ensures its_rings { IfOk result (λ kernel. kernel.plan.sizes.rings ≡ supply.rings) }
+    ensures its_sizes { IfOk result (λ kernel. kernel.plan.sizes ≡ supply.sizes) }
     ensures its_until { IfOk result (λ kernel. kernel.plan.until ≡ until) }
 {
     let plan = plan_of(alloc, unit, supply, until)?;
@@ -62,7 +46,6 @@ fn run<F: Shelf>(alloc: Global, shelf: &mut F, name: &str, until: u32) -> Result
     ensures shelf { (F.faults shelf.old ≤ F.faults shelf.new) × (F.files shelf.new ≡ F.files shelf.old) }
 {
     let unit = compile(alloc, shelf, name)?;
-    built(&unit)?;
     let supply = supply(alloc, &unit, until)?;
     match boot(alloc, unit, supply, until) {
         Ok(kernel) => Ok(Served::Ran(kernel)),
@@ -78,11 +61,10 @@ fn check<F: Shelf>(alloc: Global, shelf: &mut F, name: &str, until: u32) -> Resu
     ensures shelf { (F.faults shelf.old ≤ F.faults shelf.new) × (F.files shelf.new ≡ F.files shelf.old) }
 {
     let unit = compile(alloc, shelf, name)?;
-    built(&unit)?;
     let supply = supply(alloc, &unit, until)?;
     Ok(Served::Checked {
         unit,
-        rings: supply.rings,
+        sizes: supply.sizes,
         until,
     })
 }

@@ -22,6 +22,8 @@ mod run_tests;
 mod script_tests;
 mod served;
 mod steps;
+#[cfg(test)]
+mod stream_tests;
 mod supply;
 #[cfg(test)]
 mod tests;

@@ -1,17 +1,14 @@
 //! What a program needs to be run: its code, the points that follow, and its buffers.
-ghost use Rattle.std.specs.Prelude.{◌≡◌, ◌≤◌, List, IfOk};
-ghost use Rattle.std.specs.List.{All};
-ghost use Rattle.psy_base.specs.declared.limits.TheConstants.{RING};
+ghost use Rattle.std.specs.Prelude.{◌≡◌, List, IfOk};
 ghost use Rattle.psy_meaning.specs.Units.{IsOfText};
 ghost use Rattle.psy_graph.specs.declared.graph.Graph.{Graph};
-ghost use Rattle.psy_history.specs.Compiled.{IsBuilt};
 ghost use Rattle.psy_dates.specs.Plans.{IsPlan};
 ghost use Rattle.psy_run.specs.Answer.{supplying};
-ghost use Rattle.psy_run.specs.Services.{sizes_of, no_inputs, no_script};
+ghost use Rattle.psy_run.specs.Services.{no_inputs, no_script};
 
 use crate::lists::push;
 use crate::supply::Supplied;
-use psy_base::{Items, Memory, Sizes};
+use psy_base::{Items, Memory};
 use psy_dates::{Inputs, Plan};
 use psy_gen::generate;
 use psy_graph::laws::one_graph;
@@ -19,41 +16,23 @@ use psy_kernel::Script;
 use psy_tree::Unit;
 use std::alloc::Global;
 
-// Rings of these sizes, and no other buffers.
-fn buffers_of(alloc: Global, unit: &Unit, rings: Items<u32>) -> Result<Sizes, Memory>
-    ensures { IfOk result (λ sizes. sizes ≡ sizes_of unit.now rings) }
-{
-    let mut outboxes = Items::new(alloc);
-    'agents: for _ in unit.agents.as_slice() {
-        push(&mut outboxes, 0)?;
-    }
-    Ok(Sizes {
-        rings,
-        queues: Items::new(alloc),
-        outboxes,
-    })
-}
-
 /// The plan of a program that can be run, and whose demand the processor can supply up to a date.
 pub fn plan_of(alloc: Global, unit: Unit, supply: Supplied, until: u32) -> Result<Plan, Memory>
     requires text { IsOfText unit }
-    requires built { IsBuilt unit }
-    requires supplied { (graphs : List Graph) × (supplying unit until).gives (record { graphs = graphs; nexts = supply.nexts; rings = supply.rings }) }
-    requires places { All (λ size. (1 ≤ size) × (size ≤ RING)) supply.rings }
+    requires supplied { (graphs : List Graph) × (supplying unit until).gives (record { graphs = graphs; nexts = supply.nexts; sizes = supply.sizes }) }
     ensures plan { IfOk result IsPlan }
     ensures its_unit { IfOk result (λ plan. plan.unit ≡ unit) }
     ensures its_nexts { IfOk result (λ plan. plan.nexts ≡ supply.nexts) }
-    ensures its_rings { IfOk result (λ plan. plan.sizes.rings ≡ supply.rings) }
+    ensures its_sizes { IfOk result (λ plan. plan.sizes ≡ supply.sizes) }
     ensures its_until { IfOk result (λ plan. plan.until ≡ until) }
 {
     one_graph();
     let code = generate(alloc, &unit)?;
-    let sizes = buffers_of(alloc, &unit, supply.rings)?;
     Ok(Plan {
         unit,
         code,
         nexts: supply.nexts,
-        sizes,
+        sizes: supply.sizes,
         until,
     })
 }

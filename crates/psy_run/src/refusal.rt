@@ -52,15 +52,15 @@ pub enum Refusal {
     },
     /// So many declarations of one sort that their limit is passed.
     Many(Count),
-    /// The program isn't of a form that is served so far.
-    NotBuilt,
     /// The action graph of an agent would have more than 512 nodes.
     Nodes,
     /// It has no more than 512 nodes, but more than 4,096 edges.
     Edges,
     /// The ring of a variable would have more than 65,536 places.
     Ring,
-    /// The table of an agent's demand would have more than 4,000,000 cells.
+    /// The queue of a stream would have more than 65,536 places.
+    Queue,
+    /// A table of windows, for the demand or for a queue, would have more than 4,000,000 cells.
     Cells,
     /// Over so many ticks the agents may demand more cycles than the processor supplies.
     Infeasible {
@@ -94,11 +94,8 @@ impl Refusal {
         ensures { result ≡ status_of self }
     {
         match self {
-            Refusal::Lexical { .. }
-            | Refusal::Deep(_)
-            | Refusal::Syntax
-            | Refusal::Rule { .. }
-            | Refusal::NotBuilt => 1,
+            Refusal::Lexical { .. } | Refusal::Deep(_) | Refusal::Syntax | Refusal::Rule { .. } =>
+                1,
             Refusal::Words => 2,
             Refusal::Infeasible { .. } => 5,
             Refusal::TooLong(_)
@@ -106,6 +103,7 @@ impl Refusal {
             | Refusal::Nodes
             | Refusal::Edges
             | Refusal::Ring
+            | Refusal::Queue
             | Refusal::Cells => 7,
         }
     }
@@ -116,7 +114,6 @@ impl Refusal {
     {
         match self {
             Refusal::Words => line(&Note::Words),
-            Refusal::NotBuilt => line(&Note::NotBuilt),
             Refusal::TooLong(file) => limit(file.name(), limits::FILE_BYTES as u64),
             Refusal::Lexical { kind, place } => refused(b"lex", kind.number(), Some(place)),
             Refusal::Deep(token) => refused(b"parse", 2, Some(token)),
@@ -126,6 +123,7 @@ impl Refusal {
             Refusal::Nodes => limit(b"nodes", u64::from(limits::NODES)),
             Refusal::Edges => limit(b"edges", u64::from(limits::EDGES)),
             Refusal::Ring => limit(b"ring", u64::from(limits::RING)),
+            Refusal::Queue => limit(b"queue", u64::from(limits::QUEUE)),
             Refusal::Cells => limit(b"cells", limits::WINDOW_CELLS),
             Refusal::Infeasible {
                 length,

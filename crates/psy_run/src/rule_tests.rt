@@ -460,19 +460,11 @@ const MEETINGS: [Case; 15] = [
     ),
 ];
 
-// Declarations that make a lawful program one that isn't run so far.
-const A_STREAM: &str =
-    " clock z = 1 * tick; agent Z on z budget 1 { body { advance 1 on z; } } stream zs to Z keep 1 on z;";
+// Declarations of a ring that is too large: with them a lawful program is refused for no other cause.
+const A_LARGE_RING: &str =
+    " clock zt = 1 * tick; clock zc = 8192 * tick; temporal zv of Z on zt = 0 depth 2; agent Z on zc budget 1 { body { zv = past(zv, 0); advance 8 on zc; } }";
 
-// The text that is written of a program that breaks a rule, or of one that isn't run so far.
-fn refusal(alloc: Global, rule: u32, token: u32) -> Result<String, Fail> {
-    if rule == 0 {
-        return Ok(String::from_str(alloc, "not built\n")?);
-    }
-    Ok(format!(in alloc; "refused rule {rule} at {token}\n")?)
-}
-
-// The program is refused, or not built, with the text of the rule.
+// The program is refused with the text of the rule, or breaks none.
 fn expect_refusal(
     rt: &(impl Abort + AllocGlobal),
     program: &str,
@@ -480,11 +472,11 @@ fn expect_refusal(
     token: u32,
 ) -> Result<(), Fail> {
     let words = ["run", "prog.psy", "20"];
-    let text = refusal(rt.alloc(), rule, token)?;
     if rule == 0 {
-        let unbuilt = format!(in rt.alloc(); "{program}{A_STREAM}")?;
-        return compare(rt, &words, unbuilt.as_bytes(), SOUND, 1, text.as_str());
+        let large = format!(in rt.alloc(); "{program}{A_LARGE_RING}")?;
+        return compare(rt, &words, large.as_bytes(), SOUND, 7, "limit ring 65536\n");
     }
+    let text = format!(in rt.alloc(); "refused rule {rule} at {token}\n")?;
     compare(rt, &words, program.as_bytes(), SOUND, 1, text.as_str())
 }
 

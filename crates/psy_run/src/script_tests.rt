@@ -5,7 +5,6 @@ ghost use Rattle.psy_kernel.specs.Progress.{booted};
 ghost use Rattle.psy_kernel.specs.Scripts.{IsScript};
 ghost use Rattle.psy_meaning.specs.Units.{IsOfText};
 
-use crate::commands::built;
 use crate::plan::{inputs_of, plan_of};
 use crate::run::run_loop;
 use crate::steps::compile;
@@ -38,6 +37,15 @@ temporal v of Fast on f = 0 depth 1;
 temporal w of Slow on s = 0 depth 1;
 agent Fast on f budget 8 { int n = 0; body { n = n + 1; v = n; advance 1 on f; } }
 agent Slow on s budget 60 { body { w = past(v, 0); advance 1 on s; } }";
+
+// A receiver that counts the messages that it sees, and takes the first.
+const SEEN_AND_TAKEN: &str = "tick 50; clock c = 1 * tick; clock d = 4 * tick;
+temporal g of B on d = 0 depth 1; temporal r of B on d = 0 depth 1;
+stream s to B keep 1 on c;
+agent A on d budget 20 { int n = 0; body {
+  if (n == 0) { send 7 to s after 0 on c; send 8 to s after 0 on c; }
+  n = 1; advance 1 on d; } }
+agent B on d budget 90 { body { r = ready(s); if (r) { g = take(s); } advance 1 on d; } }";
 
 // What a script says: of two agents the second one goes first from a cycle on; or the second agent's second action is stalled before an
 // instruction of this number, for so many cycles; or the first agent's first one.
@@ -132,10 +140,6 @@ fn planned(alloc: Global, unit: Unit, until: u32) -> Result<Option<Plan>, Memory
     requires { IsOfText unit }
     ensures { IfOk result (λ plan. IfSome plan IsPlan) }
 {
-    match built(&unit) {
-        Ok(()) => {}
-        Err(_) => return Ok(None),
-    }
     match supply(alloc, &unit, until) {
         Ok(supply) => Ok(Some(plan_of(alloc, unit, supply, until)?)),
         Err(_) => Ok(None),
@@ -219,7 +223,7 @@ const TURNS: [Case; 3] = [
     ),
 ];
 
-const STALLS: [Case; 6] = [
+const STALLS: [Case; 7] = [
     // A's charge is 11 of 10 cycles, and then 10.
     (
         TWO_AGENTS,
@@ -253,6 +257,13 @@ const STALLS: [Case; 6] = [
         20,
         Said::SecondStalled(1, 47),
         "0 v 0\n0 w 0\n2 v 1\n4 v 2\n6 v 3\n8 v 4\n10 v 5\n10 w 0\n12 v 6\n14 v 7\n16 v 8\n18 v 9\n20 stop Slow overrun\n20 v 10\n20 w 0\nend 20\nagent Fast 10 12\nagent Slow 2 10\nvariable v 5 4\nvariable w 1 -\n",
+    ),
+    // Both messages expire before the receiver counts them: it sees them all the same, and none at its next start.
+    (
+        SEEN_AND_TAKEN,
+        12,
+        Said::SecondStalled(1, 60),
+        "0 g 0\n0 r 0\n4 g 0\n4 r 0\n4 s msg 7\n4 s msg 8\n8 g 7\n8 r 2\n12 g 7\n12 r 0\nend 12\nagent A 3 189\nagent B 3 124\nvariable g 1 -\nvariable r 1 -\nstream s 2 2\n",
     ),
     // An instruction that the action doesn't have: nothing is charged.
     (

@@ -1,5 +1,5 @@
 //! What the commands come to.
-use psy_base::Items;
+use psy_base::{Items, Sizes};
 use psy_graph::Graph;
 use psy_kernel::Kernel;
 use psy_tree::Unit;
@@ -9,10 +9,10 @@ use psy_tree::Unit;
 pub enum Served {
     /// Runs a program: its kernel, just booted.
     Ran(Kernel),
-    /// Writes the sizes of a program's rings, and that its demand can be met up to a date.
+    /// Writes the sizes of a program's rings and queues, and that its demand can be met up to a date.
     Checked {
         unit: Unit,
-        rings: Items<u32>,
+        sizes: Sizes,
         until: u32,
     },
     /// Writes the graphs of a program's agents, with the greatest costs by agent and point, in instructions.

@@ -1,7 +1,7 @@
-//! The steps on the action graphs of a program: the sizes of its rings, and whether the processor can supply what its agents may demand.
+//! The steps on the action graphs of a program: the sizes of its buffers, and whether the processor can supply what its agents may demand.
 ghost use Rattle.std.specs.Prelude.{ℕ, ◌≡◌, ◌+◌, ◌^◌, ◌<◌, ◌≤◌, ◌⊎◌, List, length, IfOk, IfErr};
 ghost use Rattle.std.specs.List.{All, Any};
-ghost use Rattle.psy_base.specs.declared.limits.TheConstants.{AGENTS, RING};
+ghost use Rattle.psy_base.specs.declared.limits.TheConstants.{AGENTS};
 ghost use Rattle.psy_graph.specs.declared.graph.Graph.{Graph as Drawn};
 ghost use Rattle.psy_graph.specs.Graphs.{AreGraphs, IsSmall};
 ghost use Rattle.psy_meaning.specs.Flow.{AreAllNexts};
@@ -14,7 +14,7 @@ ghost use Rattle.psy_run.specs.Tables.{IsDrawn, AreWeights, AreAllWeights};
 use crate::lists::push;
 use crate::nexts::all_nexts;
 use crate::refusal::{Refusal, Stop};
-use psy_base::Items;
+use psy_base::{Items, Sizes};
 use psy_demand::{Verdict, feasible};
 use psy_graph::{Graph, GraphFault, build};
 use psy_sizes::SizeFault;
@@ -22,12 +22,11 @@ use psy_tree::Unit;
 use psy_window::{Span, WindowFault, weights};
 use std::alloc::Global;
 
-/// What a program that the processor can run needs: by agent the points that follow each of its points, and by variable the size of its
-/// ring.
+/// What a program that the processor can run needs: by agent the points that follow each of its points, and the sizes of its buffers.
 #[derive(Drop)]
 pub struct Supplied {
     pub nexts: Items<Items<Items<u32>>>,
-    pub rings: Items<u32>,
+    pub sizes: Sizes,
 }
 
 /// The action graphs of a program's agents.
@@ -46,17 +45,18 @@ pub fn graphs(alloc: Global, unit: &Unit) -> Result<Items<Graph>, Stop>
     }
 }
 
-// The sizes of the rings of a program's variables.
-fn ring_sizes(alloc: Global, unit: &Unit, graphs: &Items<Graph>) -> Result<Items<u32>, Stop>
+// The sizes of a program's buffers.
+fn sizes(alloc: Global, unit: &Unit, graphs: &Items<Graph>) -> Result<Sizes, Stop>
     requires text { IsOfText unit.now }
     requires graphs { AreGraphs unit.now graphs.now }
-    ensures ok { IfOk result (λ rings. (nexts : List (List (List ℕ))) → AreAllNexts unit.now nexts → (sizing unit.now nexts).gives rings) }
-    ensures places { IfOk result (All (λ size. (1 ≤ size) × (size ≤ RING))) }
+    ensures ok { IfOk result (λ sizes. (nexts : List (List (List ℕ))) → AreAllNexts unit.now nexts → (sizing unit.now nexts).gives sizes) }
     ensures err { (nexts : List (List (List ℕ))) (failed : List ℕ) (before after : ℕ) → AreAllNexts unit.now nexts → IfErr result (Halts (sizing unit.now nexts) failed before after) }
 {
-    match psy_sizes::rings(alloc, unit, graphs.as_slice()) {
-        Ok(rings) => Ok(rings),
+    match psy_sizes::sizes(alloc, unit, graphs.as_slice()) {
+        Ok(sizes) => Ok(sizes),
         Err(SizeFault::LargeRing(_)) => Err(Stop::Refused(Refusal::Ring)),
+        Err(SizeFault::Cells(_)) => Err(Stop::Refused(Refusal::Cells)),
+        Err(SizeFault::LargeQueue(_)) => Err(Stop::Refused(Refusal::Queue)),
         Err(SizeFault::Memory) => Err(Stop::Memory),
     }
 }
@@ -112,18 +112,17 @@ fn demand(unit: &Unit, lists: &Items<Items<u64>>, until: u32) -> Result<(), Stop
     }
 }
 
-/// Whether the processor can run a program: its rings keep their limit, and what its agents may demand over each length up to a date is
+/// Whether the processor can run a program: its buffers keep their limits, and what its agents may demand over each length up to a date is
 /// supplied.
 pub fn supply(alloc: Global, unit: &Unit, until: u32) -> Result<Supplied, Stop>
     requires text { IsOfText unit.now }
-    ensures ok { IfOk result (λ supply. (graphs : List Drawn) × (supplying unit.now until).gives (record { graphs = graphs; nexts = supply.nexts; rings = supply.rings })) }
-    ensures places { IfOk result (λ supply. All (λ size. (1 ≤ size) × (size ≤ RING)) supply.rings) }
+    ensures ok { IfOk result (λ supply. (graphs : List Drawn) × (supplying unit.now until).gives (record { graphs = graphs; nexts = supply.nexts; sizes = supply.sizes })) }
     ensures err { (failed : List ℕ) (before after : ℕ) → IfErr result (Halts (supplying unit.now until) failed before after) }
 {
     let graphs = graphs(alloc, unit)?;
     let nexts = all_nexts(alloc, unit)?;
-    let rings = ring_sizes(alloc, unit, &graphs)?;
+    let sizes = sizes(alloc, unit, &graphs)?;
     let lists = all_weights(alloc, &graphs, until)?;
     demand(unit, &lists, until)?;
-    Ok(Supplied { nexts, rings })
+    Ok(Supplied { nexts, sizes })
 }

@@ -10,13 +10,13 @@ ghost use Rattle.std.specs.Prelude.{get_or};
 ghost use Rattle.psy_base.specs.declared.limits.TheConstants.{NODES};
 ghost use Rattle.psy_graph.specs.Graphs.{IsSmall};
 ghost use Rattle.psy_log.specs.Forms.{node_line};
-ghost use Rattle.psy_run.specs.Texts.{sizes_text, check_text, nodes_text, edge_text, agent_text, graph_text};
+ghost use Rattle.psy_run.specs.Texts.{rings_text, queues_text, check_text, nodes_text, edge_text, agent_text, graph_text};
 
-use psy_base::{Edge, Items};
+use psy_base::{Edge, Items, Sizes};
 use psy_door::Sink;
 use psy_graph::{Graph, Node};
 use psy_log::{Line, Note, WriteFault, write_all_of};
-use psy_tree::{AgentDecl, Unit, VarDecl};
+use psy_tree::{AgentDecl, StreamDecl, Unit, VarDecl};
 
 /// Writes the line that says a note.
 pub fn write_note<S: Sink>(out: &mut S, note: &Note) -> Result<(), WriteFault>
@@ -31,11 +31,11 @@ pub fn write_note<S: Sink>(out: &mut S, note: &Note) -> Result<(), WriteFault>
 }
 
 // Writes the sizes of the rings of variables, in their order.
-fn write_sizes<S: Sink>(variables: &[VarDecl], rings: &[u32], out: &mut S) -> Result<(), WriteFault>
+fn write_rings<S: Sink>(variables: &[VarDecl], rings: &[u32], out: &mut S) -> Result<(), WriteFault>
     requires { All (λ v. length v.name ≤ WORD_BYTES) variables.now }
     ensures counted { S.faults out.old ≤ S.faults out.new }
     ensures failed { OnErr result (Rose (S.faults out.old) (S.faults out.new)) }
-    ensures written { Written (S.held out.old) (S.held out.new) result (sizes_text variables.now rings.now) }
+    ensures written { Written (S.held out.old) (S.held out.new) result (rings_text variables.now rings.now) }
 {
     let count = variables.len().min(rings.len());
     'variables: for number in 0..count {
@@ -52,19 +52,48 @@ fn write_sizes<S: Sink>(variables: &[VarDecl], rings: &[u32], out: &mut S) -> Re
     Ok(())
 }
 
-/// Writes the sizes of a program's rings, and that its demand can be met up to this date.
+// Writes the sizes of the queues of streams, in their order.
+fn write_queues<S: Sink>(
+    streams: &[StreamDecl],
+    queues: &[u32],
+    out: &mut S,
+) -> Result<(), WriteFault>
+    requires { All (λ s. length s.name ≤ WORD_BYTES) streams.now }
+    ensures counted { S.faults out.old ≤ S.faults out.new }
+    ensures failed { OnErr result (Rose (S.faults out.old) (S.faults out.new)) }
+    ensures written { Written (S.held out.old) (S.held out.new) result (queues_text streams.now queues.now) }
+{
+    let count = streams.len().min(queues.len());
+    'streams: for number in 0..count {
+        let stream = &streams[number];
+        let size = queues[number];
+        let note = Note::StreamSize {
+            stream: stream.name.bytes(),
+            size,
+        };
+        if let Err(fault) = write_note(out, &note) {
+            return Err(fault);
+        }
+    }
+    Ok(())
+}
+
+/// Writes the sizes of a program's rings and queues, and that its demand can be met up to this date.
 pub fn write_check<S: Sink>(
     unit: &Unit,
-    rings: &[u32],
+    sizes: &Sizes,
     until: u32,
     out: &mut S,
 ) -> Result<(), WriteFault>
     requires { IsBare unit.now }
     ensures counted { S.faults out.old ≤ S.faults out.new }
     ensures failed { OnErr result (Rose (S.faults out.old) (S.faults out.new)) }
-    ensures written { Written (S.held out.old) (S.held out.new) result (check_text unit.now rings.now until) }
+    ensures written { Written (S.held out.old) (S.held out.new) result (check_text unit.now sizes.now until) }
 {
-    if let Err(fault) = write_sizes(unit.variables.as_slice(), rings, out) {
+    if let Err(fault) = write_rings(unit.variables.as_slice(), sizes.rings.as_slice(), out) {
+        return Err(fault);
+    }
+    if let Err(fault) = write_queues(unit.streams.as_slice(), sizes.queues.as_slice(), out) {
         return Err(fault);
     }
     write_note(

@@ -84,7 +84,7 @@ fn serve<S: Sink>(served: Served, out: &mut S, left: &mut Option<Kernel>) -> Res
 {
     match served {
         Served::Ran(kernel) => run(kernel, out, left),
-        Served::Checked { unit, rings, until } => write_check(&unit, rings.as_slice(), until, out),
+        Served::Checked { unit, sizes, until } => write_check(&unit, &sizes, until, out),
         Served::Drawn {
             unit,
             graphs,

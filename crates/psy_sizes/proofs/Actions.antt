@@ -25,11 +25,11 @@ use Rattle.psy_sizes.specs.Passing.{HasDatesAt, HasDatesOf}
 
 -- ---- lists
 
-contains_map : {X Y : Type 0} (f : X → Y) (xs : List X) (x : X) → Contains xs x → Contains (map f xs) (f x)
+pub contains_map : {X Y : Type 0} (f : X → Y) (xs : List X) (x : X) → Contains xs x → Contains (map f xs) (f x)
 contains_map f xs x (k, l, e) = (k, omega (arith, l, length-map xs f), get_or-map f xs k x (f x) l ∙ ap f e)
 
 -- An item of a mapped list is that of some item.
-map_contains : {X Y : Type 0} (f : X → Y) (xs : List X) (y : Y) → Contains (map f xs) y → (x : X) × Contains xs x × (f x ≡ y)
+pub map_contains : {X Y : Type 0} (f : X → Y) (xs : List X) (y : Y) → Contains (map f xs) y → (x : X) × Contains xs x × (f x ≡ y)
 map_contains f [] y (k, l, e) = absurd (omega (arith, l))
 map_contains f (x ∷ xs) y (zero, l, e) = (x, (0, omega arith, refl), e)
 map_contains f (x ∷ xs) y (suc k, l, e) =
@@ -48,7 +48,7 @@ clocks_named unit agent (point ∷ points) h own zero d less = let same : point.
 clocks_named unit agent (point ∷ points) h own (suc k) d less = (h.1 k d (omega (arith, less))).clock
 
 -- What follows a point stands in the list of some point.
-listed : (nexts : List (List ℕ)) (point to : ℕ) → Contains (get_or nexts point []) to → slice_get nexts point ≡ Some (get_or nexts point [])
+pub listed : (nexts : List (List ℕ)) (point to : ℕ) → Contains (get_or nexts point []) to → slice_get nexts point ≡ Some (get_or nexts point [])
 listed [] point to (k, less, is) = absurd (omega (arith, less))
 listed (list ∷ nexts) zero to c = refl
 listed (list ∷ nexts) (suc point) to c = listed nexts point to c
@@ -57,7 +57,7 @@ module _ (unit : Whole) (number : ℕ) (agent : AgentDecl) (its : IsAgentOf unit
   pub agent_is : agent_at unit number ≡ agent
   agent_is = get_or_from_slice_get unit.agents number agent _ its.1
 
-  bare : IsBareAgent unit agent
+  pub bare : IsBareAgent unit agent
   bare = subst (IsBareAgent unit) (get_or_from_slice_get unit.agents number agent agent its.1) (its.0.bare.agents number agent (slice_get_within unit.agents number agent its.1))
 
   pub head : 1 ≤ length agent.points

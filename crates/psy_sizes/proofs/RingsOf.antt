@@ -18,7 +18,7 @@ use Rattle.psy_sizes.proofs.Sharing.{no_clock}
 
 module _ (unit : Whole) (nexts : List (List (List ℕ))) (are : AreAllNexts unit nexts) where
   -- The timing of an agent of the unit
-  timing_told : (number : ℕ) → number < length unit.agents → IsTimingOf unit number (agent_timing unit nexts number)
+  pub timing_told : (number : ℕ) → number < length unit.agents → IsTimingOf unit number (agent_timing unit nexts number)
   timing_told number less =
       let got : slice_get unit.agents number ≡ Some (agent_at unit number) = slice_get-get_or unit.agents number _ less in
       let list : slice_get nexts number ≡ Some (get_or nexts number []) = slice_get-get_or nexts number [] (omega (arith, less, are.count)) in

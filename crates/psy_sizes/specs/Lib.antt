@@ -1,3 +1,5 @@
 pub mod Faults
 pub mod Passing
+pub mod Queues
+pub mod Sending
 pub mod Windows

@@ -10,6 +10,12 @@ pub enum SizeFault {
     /// The ring of this variable would have more than 65,536 places.
     #[error("the ring of variable {0} passes 65,536 places")]
     LargeRing(u32),
+    /// The queue of this stream can't be computed: the table of an agent that sends to it would have more than 4,000,000 cells.
+    #[error("a table of stream {0} passes 4,000,000 cells")]
+    Cells(u32),
+    /// The queue of this stream would have more than 65,536 places.
+    #[error("the queue of stream {0} passes 65,536 places")]
+    LargeQueue(u32),
     /// Want of memory.
     #[error("out of memory")]
     Memory,

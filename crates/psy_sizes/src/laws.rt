@@ -1,30 +1,35 @@
 //! Laws of the definitions, each the contract of a function that does nothing.
 
-ghost use Rattle.std.specs.Prelude.{◌≡◌, ◌⊎◌, ℕ, ◌≤◌, List};
-ghost use Rattle.std.specs.List.{All};
-ghost use Rattle.psy_base.specs.declared.limits.TheConstants.{RING};
+ghost use Rattle.std.specs.Prelude.{◌≡◌, ◌⊎◌, ℕ, List};
+ghost use Rattle.psy_base.specs.declared.sizes.Sizes.{Sizes};
 ghost use Rattle.psy_tree.specs.declared.unit.Unit.{Unit as Whole};
+ghost use Rattle.psy_meaning.specs.BufferSizes.{AreSizes};
 ghost use Rattle.psy_meaning.specs.Flow.{AreAllNexts};
-ghost use Rattle.psy_meaning.specs.RingSizes.{AreRings, IsLargeRing};
 ghost use Rattle.psy_meaning.specs.Units.{IsOfText};
 ghost use Rattle.psy_graph.specs.declared.graph.Graph.{Graph};
 ghost use Rattle.psy_graph.specs.Graphs.{AreGraphs};
+ghost use Rattle.psy_sizes.specs.declared.fault.SizeFault.{SizeFault};
+ghost use Rattle.psy_sizes.specs.Faults.{CanCount, IsFaultBy};
 
 use psy_clock::laws::dates;
-use psy_flow::laws::{looking, nexts};
+use psy_flow::laws::{known, looking, nexts, sends};
 use psy_graph::laws::one_graph;
+use psy_window::laws::greatest;
 
-/// The rings of a program whose agents have graphs have sizes that keep the limit, or a first variable has a ring that would be too
-/// large: one of both, and there is only one such list of sizes and one such variable.
+/// The buffers of a program whose agents have graphs have sizes that keep their limits, or a first variable or stream is at fault: one of
+/// both, and there is only one such list of sizes and one such fault.
 pub fn one_size()
-    ensures same { (unit : Whole) (nexts : List (List (List ℕ))) (sizes others : List ℕ) → AreRings unit nexts sizes → AreRings unit nexts others → sizes ≡ others }
-    ensures apart { (unit : Whole) (nexts : List (List (List ℕ))) (sizes : List ℕ) (variable : ℕ) → AreRings unit nexts sizes → All (λ size. size ≤ RING) sizes → IsLargeRing unit nexts variable → ⊥ }
-    ensures large { (unit : Whole) (nexts : List (List (List ℕ))) (variable other : ℕ) → IsLargeRing unit nexts variable → IsLargeRing unit nexts other → variable ≡ other }
+    ensures same { (unit : Whole) (graphs : List Graph) (nexts : List (List (List ℕ))) (sizes others : Sizes) → IsOfText unit → AreGraphs unit graphs → AreAllNexts unit nexts → AreSizes unit nexts sizes → AreSizes unit nexts others → sizes ≡ others }
+    ensures apart { (unit : Whole) (graphs : List Graph) (nexts : List (List (List ℕ))) (sizes : Sizes) (fault : SizeFault) → IsOfText unit → AreGraphs unit graphs → AreAllNexts unit nexts → AreSizes unit nexts sizes → CanCount unit nexts → IsFaultBy unit nexts fault → ⊥ }
+    ensures cause { (unit : Whole) (graphs : List Graph) (nexts : List (List (List ℕ))) (fault other : SizeFault) → IsOfText unit → AreGraphs unit graphs → AreAllNexts unit nexts → IsFaultBy unit nexts fault → IsFaultBy unit nexts other → fault ≡ other }
     ensures some { (unit : Whole) (graphs : List Graph) (nexts : List (List (List ℕ))) → IsOfText unit → AreGraphs unit graphs → AreAllNexts unit nexts
-        → ((sizes : List ℕ) × AreRings unit nexts sizes × All (λ size. size ≤ RING) sizes) ⊎ ((variable : ℕ) × IsLargeRing unit nexts variable) }
+        → ((sizes : Sizes) × AreSizes unit nexts sizes × CanCount unit nexts) ⊎ ((fault : SizeFault) × IsFaultBy unit nexts fault) }
 {
     dates();
+    known();
     looking();
     nexts();
+    sends();
     one_graph();
+    greatest();
 }

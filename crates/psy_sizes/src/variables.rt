@@ -12,7 +12,7 @@ ghost use Rattle.psy_meaning.specs.RingSizes.{IsRingSize, AreRings};
 ghost use Rattle.psy_meaning.specs.Units.{IsOfText};
 ghost use Rattle.psy_graph.specs.Graphs.{HasGraph, AreGraphs};
 ghost use Rattle.psy_sizes.specs.declared.fault.SizeFault.TheVariants.{LargeRing as large_ring, Memory as no_memory};
-ghost use Rattle.psy_sizes.specs.Faults.{IsRingFault};
+ghost use Rattle.psy_sizes.specs.Faults.{IsCause};
 ghost use Rattle.psy_sizes.specs.Passing.{IsMost, HasDatesAt, HasDatesOf, HasDatesBefore};
 
 use crate::divisors::shared_divisor;
@@ -123,7 +123,7 @@ pub fn rings(alloc: Global, unit: &Unit, graphs: &[Graph]) -> Result<Items<u32>,
     requires graphs { AreGraphs unit.now graphs.now }
     ensures rings { IfOk result (λ rings. (nexts : List (List (List ℕ))) → AreAllNexts unit.now nexts → AreRings unit.now nexts rings) }
     ensures small { IfOk result (All (λ size. (1 ≤ size) × (size ≤ RING))) }
-    ensures cause { IfErr result (λ fault. (fault ≡ no_memory) ⊎ IsRingFault unit.now fault) }
+    ensures cause { IfErr result (λ fault. (fault ≡ no_memory) ⊎ IsCause unit.now fault) }
 {
     let mut sizes = Items::new(alloc);
     'variables: for variable in 0..unit.variables.len() {

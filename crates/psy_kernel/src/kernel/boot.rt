@@ -109,6 +109,7 @@ impl Kernel {
         }; agents as usize]?;
         let ready = Ready::new(alloc, agents)?;
         let reached = vec![in alloc; None; plan.unit.variables.len()]?;
+        let helds = vec![in alloc; 0; plan.unit.streams.len()]?;
         let declared = declared_of(alloc, agents)?;
         let passed = passed_first(script.orders.as_slice());
         let shared = Shared::new(alloc, &plan, inputs)?;
@@ -121,12 +122,14 @@ impl Kernel {
             figures,
             ready,
             reaches: reached,
+            helds,
             declared,
             passed,
             chosen: None,
             stale: true,
             cycles: 0,
             place: 0,
+            shown: 0,
             given: 0,
         })
     }

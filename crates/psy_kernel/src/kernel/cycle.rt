@@ -15,25 +15,27 @@ ghost use Rattle.psy_meaning.specs.Schedule.{Turn, is_pending, units};
 ghost use Rattle.psy_meaning.specs.Summary.{greater, reach};
 ghost use Rattle.psy_meaning.specs.Timing.{end_date, timing_of};
 ghost use Rattle.psy_ready.specs.Choice.{ListsEach};
+ghost use Rattle.psy_tree.specs.declared.unit.StreamDecl.{StreamDecl};
 ghost use Rattle.psy_tree.specs.declared.unit.VarDecl.{VarDecl};
 ghost use Rattle.psy_kernel.specs.Acting.{IsLookIn};
-ghost use Rattle.psy_kernel.specs.Cycles.{AreOver, GetsCycle, IsCycleOf, IsGiven, IsNear, LooksBack, MayEnd, OneStands, figured, is_owned, order_by, reach_by, run_of, run_turns};
+ghost use Rattle.psy_kernel.specs.Cycles.{AreOver, BoxStands, GetsCycle, IsCycleOf, IsGiven, IsNear, LooksBack, MayEnd, OneStands, figured, is_owned, order_by, reach_by, run_of, run_turns};
 ghost use Rattle.psy_kernel.specs.declared.script.Script.{Script};
 ghost use Rattle.psy_kernel.specs.Progress.{after_cycle, stage_of};
-ghost use Rattle.psy_kernel.specs.Seeing.{view_in};
+ghost use Rattle.psy_kernel.specs.Seeing.{sight_in};
 ghost use Rattle.psy_kernel.specs.Standing.{AreInForce, IsChosen};
 
 use super::advance::{Gone, advance};
 use super::{Figure, Kernel};
-use crate::eyes::{Eyes, clock_in, dates_between};
+use crate::eyes::{Eyes, Scene, clock_in, dates_between};
 use crate::script::Order;
 use crate::stage::Stage;
 use psy_arith::Trap;
 use psy_budget::Charge;
-use psy_dates::{Phase, Plan, Seat};
-use psy_history::laws::{on_time, reaches, regular, ring_sizes, rings};
+use psy_dates::{Outbox, Phase, Plan, Seat};
+use psy_history::laws::{deeds, on_time, queues, reaches, regular, ring_sizes, rings};
 use psy_machine::Machine;
 use psy_meaning::laws::{follows, sound};
+use psy_queue::Queue;
 use psy_ready::Ready;
 use psy_ring::Ring;
 use psy_tree::{Unit, VarDecl};
@@ -197,11 +199,14 @@ fn go(
     cycle: u64,
     date: u64,
     rings: &[Ring],
+    queues: &[Queue],
     charge: &mut Charge,
     machine: &mut Machine,
     figure: &mut Figure,
     seat: &mut Seat,
     ended: &mut Vec<i32>,
+    taken: &mut Vec<u32>,
+    outbox: &mut Outbox,
 ) -> Course
     requires plan { IsPlan plan.now }
     requires known { agent < length plan.now.unit.agents }
@@ -209,25 +214,40 @@ fn go(
     requires early { date ≤ 2 ^ 40 }
     requires few { All (λ ring. length ring ≤ RING) rings.now }
     requires given { (inputs : List (List ℤ)) × (stalls : ℕ → List Stall) × (turns : List (Option Turn)) × (r : Action) × (before : List Action) × (waits : Option ℕ)
-        × IsGiven plan.now inputs stalls turns date cycle agent r before charge.old machine.old waits figure.old seat.old ended.old.items (view_in rings.now plan.now.unit.variables plan.now.unit.clocks seat.old.start date) }
+        × IsGiven plan.now inputs stalls turns date cycle agent r before charge.old machine.old waits figure.old seat.old ended.old.items (sight_in plan.now.unit rings.now queues.now agent seat.old.start date) taken.old.items outbox.old }
     ensures has { (inputs : List (List ℤ)) (stalls : ℕ → List Stall) (turns : List (Option Turn)) (r : Action) (before : List Action) (waits : Option ℕ)
-        → IsGiven plan.now inputs stalls turns date cycle agent r before charge.old machine.old waits figure.old seat.old ended.old.items (view_in rings.now plan.now.unit.variables plan.now.unit.clocks seat.old.start date)
+        → IsGiven plan.now inputs stalls turns date cycle agent r before charge.old machine.old waits figure.old seat.old ended.old.items (sight_in plan.now.unit rings.now queues.now agent seat.old.start date) taken.old.items outbox.old
         → OneStands (system_of plan.now inputs stalls) plan.now.code (Some (record { agent = r.agent; number = r.number }) ∷ turns) plan.now.until date agent (r ∷ before) charge.new machine.new (if result.goes then waits else None) figure.new seat.new ended.new.items }
     ensures look { (inputs : List (List ℤ)) (stalls : ℕ → List Stall) (turns : List (Option Turn)) (r : Action) (before : List Action) (waits : Option ℕ)
-        → IsGiven plan.now inputs stalls turns date cycle agent r before charge.old machine.old waits figure.old seat.old ended.old.items (view_in rings.now plan.now.unit.variables plan.now.unit.clocks seat.old.start date)
+        → IsGiven plan.now inputs stalls turns date cycle agent r before charge.old machine.old waits figure.old seat.old ended.old.items (sight_in plan.now.unit rings.now queues.now agent seat.old.start date) taken.old.items outbox.old
         → IsLookIn (system_of plan.now inputs stalls) plan.now.code r (units r.agent r.number turns) result.look }
+    ensures boxed { (inputs : List (List ℤ)) (stalls : ℕ → List Stall) (turns : List (Option Turn)) (r : Action) (before : List Action) (waits : Option ℕ)
+        → IsGiven plan.now inputs stalls turns date cycle agent r before charge.old machine.old waits figure.old seat.old ended.old.items (sight_in plan.now.unit rings.now queues.now agent seat.old.start date) taken.old.items outbox.old
+        → BoxStands (system_of plan.now inputs stalls) plan.now.code (Some (record { agent = r.agent; number = r.number }) ∷ turns) date agent (r ∷ before) outbox.new.sends taken.new.items }
+    ensures size { outbox.new.size ≡ outbox.old.size }
+    ensures count { length taken.new.items ≡ length taken.old.items }
+    ensures untaken { (stream : ℕ) (decl : StreamDecl) → slice_get plan.now.unit.streams stream ≡ Some decl → decl.receiver ≢ agent → slice_get taken.new.items stream ≡ slice_get taken.old.items stream }
     ensures others { (variable : ℕ) (v : VarDecl) → slice_get plan.now.unit.variables variable ≡ Some v → v.owner ≢ Some agent → slice_get ended.new.items variable ≡ slice_get ended.old.items variable }
     ensures all { length ended.new.items ≡ length ended.old.items }
 {
-    let mut eyes = Eyes::new(
+    let scene = Scene::new(
         rings,
         plan.unit.variables.as_slice(),
         plan.unit.clocks.as_slice(),
+        queues,
+        plan.unit.streams.as_slice(),
+        agent,
         seat.start,
         date,
     );
+    let mut eyes = Eyes {
+        scene: &scene,
+        taken,
+        outbox,
+        noted: None,
+    };
     let gone = advance(charge, machine, &plan.code, &mut eyes);
-    let look = eyes.noted();
+    let look = eyes.noted;
     match gone {
         Gone::Going => return Course { goes: true, look },
         Gone::Ended(point) => {
@@ -250,7 +270,7 @@ fn go(
 }
 
 /// In a run up to a date, of each agent's actions the last alone may be pending; and where it is, it can get the next cycle, sees by the
-/// rings what it saw at its start, and looks no further back than they hold. A cycle that nobody gets reaches for none.
+/// rings and the queues what it saw at its start, and looks no further back than the rings hold. A cycle that nobody gets reaches for none.
 fn gets(until: u32)
     ensures most { until ≤ 4294967295 }
     ensures over { (plan : Plan) (inputs : List (List ℤ)) (script : Script) (date cycle agent : ℕ) → IsCycleOf plan inputs script date cycle
@@ -269,6 +289,8 @@ fn gets(until: u32)
     rings();
     ring_sizes();
     reaches();
+    queues();
+    deeds();
     sound();
     follows();
 }
@@ -302,11 +324,14 @@ impl Kernel {
                 cycle,
                 date,
                 &self.shared.rings,
+                &self.shared.queues,
                 &mut self.charges[number],
                 &mut self.machines[number],
                 &mut self.figures[number],
                 &mut self.shared.seats[number],
                 &mut self.shared.ended,
+                &mut self.shared.taken,
+                &mut self.shared.outboxes[number],
             );
             note(&self.plan, course.look, start, date, &mut self.reaches);
             if !course.goes {

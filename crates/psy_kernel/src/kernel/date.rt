@@ -2,13 +2,14 @@ ghost use Rattle.std.specs.Prelude.{◌≡◌, ◌≢◌, ℕ, ◌*◌, ◌≤�
 ghost use Rattle.psy_base.specs.declared.limits.TheConstants.{AGENTS};
 ghost use Rattle.psy_ready.specs.Choice.{pending_deadline};
 ghost use Rattle.psy_kernel.specs.Progress.{after_date, stage_of, told};
-ghost use Rattle.psy_kernel.specs.Starting.{IsDoneBelow, budget_in, charge_at, deadline_at, seat_at, starts_at};
+ghost use Rattle.psy_kernel.specs.Starting.{IsDoneBelow, budget_in, charge_at, deadline_at, held_at, seat_at, starts_at};
 
 use super::Kernel;
 use crate::stage::Stage;
 use psy_budget::Charge;
 use psy_dates::{Phase, Seat, at_date};
 use psy_history::laws::{given, on_time, reaches, regular};
+use psy_queue::Queue;
 use psy_ready::Ready;
 use psy_tree::{AgentDecl, Point};
 
@@ -54,6 +55,17 @@ fn start_all(
     }
 }
 
+/// By stream, the greatest number of messages that it held, with those that it holds now.
+fn hold_all(queues: &[Queue], helds: &mut Vec<u32>)
+    requires { length helds.old.items ≡ length queues.now }
+    ensures { IsDoneBelow (held_at queues.now) (length queues.now) helds.old.items helds.new.items }
+{
+    'each: for stream in 0..queues.len() {
+        let held = queues[stream].held();
+        helds[stream] = helds[stream].max(held);
+    }
+}
+
 impl Kernel {
     /// Does the date that is due, once all lines of the date before it were given. It takes no memory.
     pub fn date(&mut self)
@@ -71,6 +83,7 @@ impl Kernel {
         reaches();
         let date = self.dates();
         at_date(&mut self.shared, &self.plan, date);
+        hold_all(self.shared.queues.as_slice(), &mut self.helds);
         start_all(
             self.shared.seats.as_slice(),
             self.plan.unit.agents.as_slice(),
@@ -80,6 +93,7 @@ impl Kernel {
         );
         self.stale = true;
         self.place = 0;
+        self.shown = 0;
         self.given = 0;
     }
 }

@@ -1,6 +1,7 @@
-ghost use Rattle.std.specs.Prelude.{◌≡◌, ◌+◌, ◌^◌, ◌<◌, ◌≤◌, ℕ, List, Option, length, get_or, slice_get, Some, IsTrue, IsFalse};
+ghost use Rattle.std.specs.Prelude.{◌≡◌, ◌+◌, ◌^◌, ◌<◌, ◌≤◌, ℕ, List, Option, filter, length, nat_lt, get_or, slice_get, Some, IsNone, IsTrue, IsFalse};
 ghost use Rattle.std.specs.List.{All};
 ghost use Rattle.psy_base.specs.declared.limits.TheConstants.{WORD_BYTES};
+ghost use Rattle.psy_base.specs.declared.message.Message.{Message};
 ghost use Rattle.psy_budget.specs.declared.charge.Stall.{Stall};
 ghost use Rattle.psy_clock.specs.Dates.{IsClock};
 ghost use Rattle.psy_meaning.specs.Schedule.{Turn};
@@ -8,14 +9,22 @@ ghost use Rattle.psy_history.specs.Compiled.{AreInputs};
 ghost use Rattle.psy_dates.specs.Plans.{IsPlan, system_of};
 ghost use Rattle.psy_dates.specs.Standing.{SharedStands};
 ghost use Rattle.psy_kernel.specs.Progress.{after_line, lines_told};
-ghost use Rattle.psy_kernel.specs.Telling.{IsNextTold, IsToldBy, TellsStop, TellsValue, told_by};
+ghost use Rattle.psy_kernel.specs.Telling.{IsNextTold, IsShownBy, IsToldBy, TellsMessage, TellsStop, TellsValue, told_by};
 
 use super::Kernel;
 use psy_clock::Clock;
 use psy_dates::{Phase, Plan, Seat, Shared};
-use psy_history::laws::regular;
+use psy_history::laws::{queue_sizes, queues, regular};
 use psy_log::{Line, Note};
+use psy_queue::Queue;
 use psy_tree::VarDecl;
+
+/// Where the lines of a date go on: the place, and how many messages of the stream there were shown.
+#[derive(Clone, Copy, Debug)]
+struct Mark {
+    place: usize,
+    shown: u32,
+}
 
 /// The line of an agent's stop, where it fell silent at this date.
 fn tell_stop(seat: &Seat, name: &[u8], date: u64, line: &mut Line) -> bool
@@ -56,6 +65,38 @@ fn tell_value(variable: &VarDecl, clocks: &[Clock], value: i32, date: u64, line:
     true
 }
 
+/// How many messages of a queue were visible before a date.
+fn seen_before(queue: &Queue, date: u64) -> u32
+    ensures { result ≡ length (filter (λ (m : Message). nat_lt m.visible date) queue.now.messages) }
+{
+    if date == 0 {
+        return 0;
+    }
+    queue.seen(date - 1)
+}
+
+/// The line of a message that becomes visible at this date, behind so many others.
+fn tell_message(queue: &Queue, name: &[u8], date: u64, shown: u32, line: &mut Line) -> bool
+    requires name { length name.now ≤ WORD_BYTES }
+    ensures told { TellsMessage queue.now.messages name.now date shown result line.old line.new }
+    ensures room { IsTrue result → shown + 1 < 2 ^ 32 }
+{
+    // They stand in order, so behind those that were visible before.
+    let held = queue.held();
+    let seen = queue.seen(date);
+    let at = u64::from(seen_before(queue, date)) + u64::from(shown);
+    if at >= u64::from(seen) {
+        return false;
+    }
+    prove!(seen <= held);
+    line.set(&Note::Message {
+        date,
+        stream: name,
+        value: queue.value(at as u32),
+    });
+    true
+}
+
 /// The line of what is told of a date at a place: an agent's, or behind the agents a variable's.
 fn tell_place(plan: &Plan, shared: &Shared, date: u64, place: usize, line: &mut Line) -> bool
     requires plan { IsPlan plan.now }
@@ -84,14 +125,8 @@ fn tell_place(plan: &Plan, shared: &Shared, date: u64, place: usize, line: &mut 
     )
 }
 
-/// The first line that is told of a date from a place on, and the place behind it.
-fn tell_next(
-    plan: &Plan,
-    shared: &Shared,
-    date: u64,
-    place: usize,
-    line: &mut Line,
-) -> Option<usize>
+/// The first line of an agent or a variable that is told of a date from a place on, and the place behind it.
+fn tell_next(plan: &Plan, shared: &Shared, date: u64, place: usize, line: &mut Line) -> Option<Mark>
     requires plan { IsPlan plan.now }
     requires inputs { AreInputs plan.now.unit shared.now.inputs.lists }
     requires seated { length shared.now.seats.items ≡ length plan.now.unit.agents }
@@ -99,7 +134,8 @@ fn tell_next(
     requires early { date ≤ 2 ^ 40 }
     requires within { place ≤ length plan.now.unit.agents + length plan.now.unit.variables }
     ensures told { (stalls : ℕ → List Stall) (turns : List (Option Turn)) → SharedStands (system_of plan.now shared.now.inputs.lists stalls) turns (date + 1) shared.now
-        → IsNextTold (system_of plan.now shared.now.inputs.lists stalls) date place result line.old line.new }
+        → IsNextTold (system_of plan.now shared.now.inputs.lists stalls) date (length plan.now.unit.agents + length plan.now.unit.variables) place 0 result line.old line.new }
+    ensures kept { IsNone result → line.new ≡ line.old }
 {
     let places = plan.unit.agents.len() + plan.unit.variables.len();
     let mut at = place;
@@ -107,10 +143,105 @@ fn tell_next(
         let told = tell_place(plan, shared, date, at, line);
         at += 1;
         if told {
-            return Some(at);
+            return Some(Mark {
+                place: at,
+                shown: 0,
+            });
         }
     }
     None
+}
+
+/// The line of the message that a stream shows at a date behind so many others.
+fn tell_stream(
+    plan: &Plan,
+    shared: &Shared,
+    date: u64,
+    stream: usize,
+    shown: u32,
+    line: &mut Line,
+) -> bool
+    requires plan { IsPlan plan.now }
+    requires inputs { AreInputs plan.now.unit shared.now.inputs.lists }
+    requires queued { length shared.now.queues.items ≡ length plan.now.unit.streams }
+    requires within { stream < length plan.now.unit.streams }
+    ensures told { (stalls : ℕ → List Stall) (turns : List (Option Turn)) → SharedStands (system_of plan.now shared.now.inputs.lists stalls) turns (date + 1) shared.now
+        → IsShownBy (system_of plan.now shared.now.inputs.lists stalls) date stream shown result line.old line.new }
+    ensures room { IsTrue result → shown + 1 < 2 ^ 32 }
+    ensures kept { IsFalse result → line.new ≡ line.old }
+{
+    queues();
+    tell_message(
+        &shared.queues[stream],
+        plan.unit.streams.as_slice()[stream].name.bytes(),
+        date,
+        shown,
+        line,
+    )
+}
+
+/// The first message that is told of a date from a stream's place on, behind so many of that stream, and how many were shown with it.
+fn tell_shown(
+    plan: &Plan,
+    shared: &Shared,
+    date: u64,
+    place: usize,
+    shown: u32,
+    line: &mut Line,
+) -> Option<Mark>
+    requires plan { IsPlan plan.now }
+    requires inputs { AreInputs plan.now.unit shared.now.inputs.lists }
+    requires queued { length shared.now.queues.items ≡ length plan.now.unit.streams }
+    requires behind { length plan.now.unit.agents + length plan.now.unit.variables ≤ place }
+    requires within { place ≤ length plan.now.unit.agents + length plan.now.unit.variables + length plan.now.unit.streams }
+    ensures told { (stalls : ℕ → List Stall) (turns : List (Option Turn)) → SharedStands (system_of plan.now shared.now.inputs.lists stalls) turns (date + 1) shared.now
+        → IsNextTold (system_of plan.now shared.now.inputs.lists stalls) date (length plan.now.unit.agents + length plan.now.unit.variables + length plan.now.unit.streams) place shown result line.old line.new }
+{
+    let places = plan.unit.agents.len() + plan.unit.variables.len();
+    let end = places + plan.unit.streams.len();
+    let mut next = place;
+    let mut behind = shown;
+    'streams: while next < end {
+        if tell_stream(plan, shared, date, next - places, behind, line) {
+            return Some(Mark {
+                place: next,
+                shown: behind + 1,
+            });
+        }
+        next += 1;
+        behind = 0;
+    }
+    None
+}
+
+/// The first line that is told of a date from a place on, behind so many messages of the stream there, and where the lines go on.
+fn tell_from(
+    plan: &Plan,
+    shared: &Shared,
+    date: u64,
+    place: usize,
+    shown: u32,
+    line: &mut Line,
+) -> Option<Mark>
+    requires plan { IsPlan plan.now }
+    requires inputs { AreInputs plan.now.unit shared.now.inputs.lists }
+    requires seated { length shared.now.seats.items ≡ length plan.now.unit.agents }
+    requires valued { length shared.now.committed.items ≡ length plan.now.unit.variables }
+    requires queued { length shared.now.queues.items ≡ length plan.now.unit.streams }
+    requires early { date ≤ 2 ^ 40 }
+    requires within { place ≤ length plan.now.unit.agents + length plan.now.unit.variables + length plan.now.unit.streams }
+    requires unshown { place < length plan.now.unit.agents + length plan.now.unit.variables → shown ≡ 0 }
+    ensures told { (stalls : ℕ → List Stall) (turns : List (Option Turn)) → SharedStands (system_of plan.now shared.now.inputs.lists stalls) turns (date + 1) shared.now
+        → IsNextTold (system_of plan.now shared.now.inputs.lists stalls) date (length plan.now.unit.agents + length plan.now.unit.variables + length plan.now.unit.streams) place shown result line.old line.new }
+{
+    let places = plan.unit.agents.len() + plan.unit.variables.len();
+    if place >= places {
+        return tell_shown(plan, shared, date, place, shown, line);
+    }
+    match tell_next(plan, shared, date, place, line) {
+        Some(mark) => Some(mark),
+        None => tell_shown(plan, shared, date, places, 0, line),
+    }
 }
 
 /// The last date of a plan.
@@ -128,19 +259,25 @@ impl Kernel {
         ensures none { IsFalse result → (self.old.given ≡ length (lines_told self.old)) × (self.new ≡ self.old) × (line.new ≡ line.old) }
     {
         regular();
+        queues();
+        queue_sizes();
         let Some(date) = self.shared.date else {
             return false;
         };
         // It is a date of the plan, so it is early enough for the clocks.
         prove!(date <= u64::from(last_date(&self.plan)));
-        match tell_next(&self.plan, &self.shared, date, self.place, line) {
-            Some(place) => {
-                self.place = place;
+        match tell_from(&self.plan, &self.shared, date, self.place, self.shown, line) {
+            Some(mark) => {
+                self.place = mark.place;
+                self.shown = mark.shown;
                 self.given += 1;
                 true
             }
             None => {
-                self.place = self.plan.unit.agents.len() + self.plan.unit.variables.len();
+                self.place = self.plan.unit.agents.len()
+                    + self.plan.unit.variables.len()
+                    + self.plan.unit.streams.len();
+                self.shown = 0;
                 false
             }
         }

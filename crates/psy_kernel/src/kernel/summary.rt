@@ -9,19 +9,22 @@ use psy_dates::Plan;
 use psy_history::laws::{on_time, regular};
 use psy_log::{Line, Note};
 
-/// The line of the summary at a place, by the figures of the agents and by how far back rings were reached for.
+/// The line of the summary at a place, by the figures of the agents, by how far back rings were reached for, and by how many messages
+/// streams held.
 fn tell_figure(
     plan: &Plan,
     figures: &[Figure],
     reaches: &[Option<u32>],
+    helds: &[u32],
     place: usize,
     line: &mut Line,
 ) -> bool
     requires plan { IsPlan plan.now }
     requires figured { length figures.now ≡ length plan.now.unit.agents }
     requires reaching { length reaches.now ≡ length plan.now.unit.variables }
-    ensures some { IsTrue result → slice_get (figured_lines plan.now figures.now reaches.now) place ≡ Some line.new }
-    ensures none { IsFalse result → (length (figured_lines plan.now figures.now reaches.now) ≤ place) × (line.new ≡ line.old) }
+    requires holding { length helds.now ≡ length plan.now.unit.streams }
+    ensures some { IsTrue result → slice_get (figured_lines plan.now figures.now reaches.now helds.now) place ≡ Some line.new }
+    ensures none { IsFalse result → (length (figured_lines plan.now figures.now reaches.now helds.now) ≤ place) × (line.new ≡ line.old) }
 {
     if place == 0 {
         line.set(&Note::End {
@@ -49,6 +52,16 @@ fn tell_figure(
         });
         return true;
     }
+    let streams = plan.unit.streams.as_slice();
+    let stream = variable - variables.len();
+    if stream < streams.len() {
+        line.set(&Note::StreamEnd {
+            stream: streams[stream].name.bytes(),
+            size: plan.sizes.queues.as_slice()[stream],
+            held: helds[stream],
+        });
+        return true;
+    }
     false
 }
 
@@ -67,6 +80,7 @@ impl Kernel {
             &self.plan,
             &self.figures,
             &self.reaches,
+            &self.helds,
             place as usize,
             line,
         )

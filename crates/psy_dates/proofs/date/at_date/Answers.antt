@@ -1,15 +1,26 @@
-use Rattle.std.proofs.Common.{◌≡◌, ℕ, ◌<◌, ◌≤◌, ◌*◌, ◌^◌, List, [], All, Some, length, get_or, refl, sym, ap, subst, ◌∙◌, arith}
+use Rattle.std.proofs.Common.{◌≡◌, ℕ, ◌+◌, ◌<◌, ◌≤◌, ◌*◌, ◌^◌, List, [], All, Some, length, get_or, refl, sym, ap, subst, ◌∙◌, arith}
 use Rattle.std.specs.Prelude.{slice_get, if◌then◌else◌, ℤ, pos}
 use Rattle.std.specs.Vec.{with_items}
 use Rattle.std.proofs.lemmas.List.{with_items_is}
 use Rattle.std.proofs.lemmas.Option.{slice_get-get_or}
+use Rattle.psy_budget.specs.declared.charge.Stall.{Stall}
+use Rattle.psy_queue.specs.Order.{Queued}
+use Rattle.psy_tree.specs.declared.unit.VarDecl.{VarDecl}
+use Rattle.psy_meaning.specs.Kept.{IsSentOf}
+use Rattle.psy_meaning.specs.QueueSizes.{stream_at}
+use Rattle.psy_meaning.specs.Timing.{first_date}
 use Rattle.psy_history.specs.Scheduled.{turns_of}
 use Rattle.psy_dates.specs.declared.seat.Seat.{Seat}
-use Rattle.psy_tree.specs.declared.unit.VarDecl.{VarDecl}
-use Rattle.psy_dates.specs.Moves.{IsNumbered, commits_at, owner_of}
+use Rattle.psy_dates.specs.declared.shared.Shared.{Shared}
+use Rattle.psy_dates.specs.Messages.{HaveRoom, nowhere, sends_of, sent_from, settled_then, with_entered}
+use Rattle.psy_dates.specs.Moves.{IsNumbered, commits_at, ends_at, owner_of, timing_in}
+use Rattle.psy_dates.specs.Outboxes.{Outboxed}
 use Rattle.psy_dates.specs.Plans.{system_of}
 use Rattle.psy_dates.specs.Publications.{ring_then}
-use Rattle.psy_dates.proofs.Dates.{seat_numbered, shared_moves}
+use Rattle.psy_dates.specs.Standing.{Begins, GoesOn}
+use Rattle.psy_dates.proofs.Dates.{Moved, seat_numbered, shared_moves}
+use Rattle.psy_dates.proofs.StreamLaws.{stream_laws}
+use Rattle.psy_dates.proofs.StreamsThen.{box_begun, box_goes, has_room, holds_taken, sends_of_unit, take_begun, take_goes}
 use Rattle.psy_dates.proofs.date.at_date.Goals as goal
 
 pub move_all-requires-clause-numbered : goal.move_all-requires-clause-numbered
@@ -22,7 +33,129 @@ move_all-requires-clause-numbered c =
     let early : c.args.date ≤ 2 ^ 40 = omega arith in
     let lawful = c.regular.ensures.lawful plan.unit plan.code plan.nexts stalls inputs c.requires.plan.compiled c.requires.inputs in
     let numbered : All IsNumbered seats = λ k d l. seat_numbered s lawful c.args.date k (turns_of s order (c.args.date * plan.unit.quantum)) (get_or seats k d) early (stands.seats k (get_or seats k d) (slice_get-get_or seats k d l)) in
-    subst (All IsNumbered) (sym c.deref_mut-3.ensures.value) numbered
+    subst (All IsNumbered) (sym c.deref_mut-7.ensures.value) numbered
+
+pub settle_all-requires-clause-held : goal.settle_all-requires-clause-held
+settle_all-requires-clause-held c stream queue at ends =
+    let plan = c.args.plan.now in
+    let old = c.args.shared.now in
+    let inputs = old.inputs.lists in
+    let (stalls, order, stands) = c.requires.stands in
+    let s = system_of plan inputs stalls in
+    let lawful = c.regular.ensures.lawful plan.unit plan.code plan.nexts stalls inputs c.requires.plan.compiled c.requires.inputs in
+    let laws = stream_laws plan inputs stalls c.requires.plan.compiled c.requires.inputs c.regular.ensures.lawful c.regular.ensures.runs c.queues.ensures.next c.queues.ensures.look c.queue_sizes.ensures.held in
+    subst (λ xs. get_or xs stream 0 ≤ length queue.messages) (sym c.deref-4.ensures.value)
+    (holds_taken plan inputs stalls c.requires.plan.compiled.text.bare lawful laws c.args.date (turns_of s order (c.args.date * plan.unit.quantum)) old c.requires.due stands stream queue
+    (ap (λ xs. slice_get xs stream) (sym c.deref_mut-2.ensures.value) ∙ at) (ap (λ xs. ends_at c.args.date (slice_get xs (stream_at plan.unit stream).receiver)) (sym c.deref-3.ensures.value) ∙ ends))
+
+pub enter_all-requires-clause-sent : goal.enter_all-requires-clause-sent
+enter_all-requires-clause-sent c agent ends =
+    let plan = c.args.plan.now in
+    let old = c.args.shared.now in
+    let inputs = old.inputs.lists in
+    let (stalls, order, stands) = c.requires.stands in
+    let s = system_of plan inputs stalls in
+    let lawful = c.regular.ensures.lawful plan.unit plan.code plan.nexts stalls inputs c.requires.plan.compiled c.requires.inputs in
+    let laws = stream_laws plan inputs stalls c.requires.plan.compiled c.requires.inputs c.regular.ensures.lawful c.regular.ensures.runs c.queues.ensures.next c.queues.ensures.look c.queue_sizes.ensures.held in
+    subst (λ xs. All (IsSentOf plan.unit) (sends_of xs agent)) (sym c.deref-6.ensures.value)
+    (sends_of_unit plan inputs stalls c.requires.plan.compiled.text.bare lawful laws c.args.date (turns_of s order (c.args.date * plan.unit.quantum)) old c.requires.due stands agent
+    (ap (λ xs. ends_at c.args.date (slice_get xs agent)) (sym c.deref-5.ensures.value) ∙ ends))
+
+pub enter_all-requires-clause-room : goal.enter_all-requires-clause-room
+enter_all-requires-clause-room c =
+    let plan = c.args.plan.now in
+    let old = c.args.shared.now in
+    let inputs = old.inputs.lists in
+    let date = c.args.date in
+    let (stalls, order, stands) = c.requires.stands in
+    let s = system_of plan inputs stalls in
+    let lawful = c.regular.ensures.lawful plan.unit plan.code plan.nexts stalls inputs c.requires.plan.compiled c.requires.inputs in
+    let laws = stream_laws plan inputs stalls c.requires.plan.compiled c.requires.inputs c.regular.ensures.lawful c.regular.ensures.runs c.queues.ensures.next c.queues.ensures.look c.queue_sizes.ensures.held in
+    let now : (with_items old.queues c.settle_all.new.queues).items ≡ c.settle_all.new.queues = with_items_is old.queues c.settle_all.new.queues (c.settle_all.auto.queues ∙ c.deref_mut-2.ensures.len) in
+    let sent : List Seat → List Outboxed → ℕ → _ = λ seats outboxes. sent_from (system_of plan [] (λ agent. [])) date seats outboxes 0 (length plan.unit.agents) in
+    subst (HaveRoom (sent c.deref-5.result.now c.deref-6.result.now)) (sym (c.deref_mut-3.ensures.value ∙ now))
+    (subst (λ seats. HaveRoom (sent seats c.deref-6.result.now) c.settle_all.new.queues) (sym c.deref-5.ensures.value)
+    (subst (λ outboxes. HaveRoom (sent old.seats.items outboxes) c.settle_all.new.queues) (sym c.deref-6.ensures.value)
+    (has_room plan inputs stalls c.requires.plan.compiled.text.bare lawful laws date (turns_of s order (date * plan.unit.quantum)) old c.requires.due stands c.settle_all.new.queues (c.settle_all.auto.queues ∙ ap length c.deref_mut-2.ensures.value)
+    (λ stream queue at. c.settle_all.ensures stream queue (ap (λ xs. slice_get xs stream) c.deref_mut-2.ensures.value ∙ at)
+    ∙ ap (λ xs. Some (settled_then date (first_date (timing_in plan (stream_at plan.unit stream).receiver)) (get_or xs (stream_at plan.unit stream).receiver nowhere) (get_or c.deref-4.result.now stream 0) queue)) c.deref-3.ensures.value
+    ∙ ap (λ xs. Some (settled_then date (first_date (timing_in plan (stream_at plan.unit stream).receiver)) (get_or old.seats.items (stream_at plan.unit stream).receiver nowhere) (get_or xs stream 0) queue)) c.deref-4.ensures.value))))
+
+-- what is shared behind the date
+abbrev new_of : goal.After-shared-8-1 → Shared
+new_of c = record c.args.shared.now {
+  rings = with_items c.args.shared.now.rings c.publish_all.new.rings;
+  queues = with_items (with_items c.args.shared.now.queues c.settle_all.new.queues) c.enter_all.new.queues;
+  outboxes = with_items c.args.shared.now.outboxes c.clear_outboxes.new.outboxes;
+  taken = with_items c.args.shared.now.taken c.clear_takes.new.taken;
+  committed = with_items c.args.shared.now.committed c.commit_all.new.committed;
+  seats = with_items c.args.shared.now.seats c.move_all.new.seats;
+  date = Some c.args.date;
+}
+
+-- what each call changed
+moved_by : (c : goal.After-shared-8-1) → Moved c.args.plan.now c.args.shared.now.inputs.lists c.args.date c.args.shared.now (new_of c)
+moved_by c =
+    let plan = c.args.plan.now in
+    let old = c.args.shared.now in
+    let inputs = old.inputs.lists in
+    let date = c.args.date in
+    let committed : (with_items old.committed c.commit_all.new.committed).items ≡ c.commit_all.new.committed =
+    with_items_is old.committed c.commit_all.new.committed (c.commit_all.auto.committed ∙ c.deref_mut.ensures.len) in
+    let rings : (with_items old.rings c.publish_all.new.rings).items ≡ c.publish_all.new.rings =
+    with_items_is old.rings c.publish_all.new.rings (c.publish_all.auto.rings ∙ c.deref_mut-4.ensures.len) in
+    let settled : (with_items old.queues c.settle_all.new.queues).items ≡ c.settle_all.new.queues =
+    with_items_is old.queues c.settle_all.new.queues (c.settle_all.auto.queues ∙ c.deref_mut-2.ensures.len) in
+    let queues : (with_items (with_items old.queues c.settle_all.new.queues) c.enter_all.new.queues).items ≡ c.enter_all.new.queues =
+    with_items_is (with_items old.queues c.settle_all.new.queues) c.enter_all.new.queues (c.enter_all.auto.queues ∙ c.deref_mut-3.ensures.len) in
+    let boxes : (with_items old.outboxes c.clear_outboxes.new.outboxes).items ≡ c.clear_outboxes.new.outboxes =
+    with_items_is old.outboxes c.clear_outboxes.new.outboxes (c.clear_outboxes.auto.outboxes ∙ c.deref_mut-5.ensures.len) in
+    let takes : (with_items old.taken c.clear_takes.new.taken).items ≡ c.clear_takes.new.taken =
+    with_items_is old.taken c.clear_takes.new.taken (c.clear_takes.auto.taken ∙ c.deref_mut-6.ensures.len) in
+    let seats : (with_items old.seats c.move_all.new.seats).items ≡ c.move_all.new.seats =
+    with_items_is old.seats c.move_all.new.seats (c.move_all.auto.seats ∙ c.deref_mut-7.ensures.len) in
+    record {
+      date_is = refl;
+      seated = ap length seats ∙ c.move_all.auto.seats ∙ ap length c.deref_mut-7.ensures.value;
+      seats = λ agent seat is. ap (λ xs. slice_get xs agent) seats ∙ c.move_all.ensures agent seat (ap (λ xs. slice_get xs agent) c.deref_mut-7.ensures.value ∙ is);
+      valued = ap length committed ∙ c.commit_all.auto.committed ∙ ap length c.deref_mut.ensures.value;
+      committed = λ variable l.
+          ap (λ xs. get_or xs variable (pos 0)) committed
+          ∙ c.commit_all.ensures variable (subst (λ xs. variable < length xs) (sym c.as_slice.ensures) l)
+          ∙ ap (λ xs. told xs c.as_slice.result.now c.deref-2.result.now c.deref_mut.result.now variable) c.deref.ensures.value
+          ∙ ap (λ xs. told old.seats.items xs c.deref-2.result.now c.deref_mut.result.now variable) c.as_slice.ensures
+          ∙ ap (λ xs. told old.seats.items plan.unit.variables xs c.deref_mut.result.now variable) c.deref-2.ensures.value
+          ∙ ap (λ xs. told old.seats.items plan.unit.variables old.ended.items xs variable) c.deref_mut.ensures.value;
+      ended = refl;
+      ringed = ap length rings ∙ c.publish_all.auto.rings ∙ ap length c.deref_mut-4.ensures.value;
+      rings = λ variable ring is. ap (λ xs. slice_get xs variable) rings ∙ c.publish_all.ensures variable ring (ap (λ xs. slice_get xs variable) c.deref_mut-4.ensures.value ∙ is) ∙ ap (λ xs. Some (ring_then (system_of plan inputs (λ agent. [])) xs date variable ring)) c.deref-7.ensures.value;
+      queued = ap length queues ∙ c.enter_all.auto.queues ∙ ap length (c.deref_mut-3.ensures.value ∙ settled) ∙ c.settle_all.auto.queues ∙ ap length c.deref_mut-2.ensures.value;
+      queues = λ stream queue is.
+          ap (λ xs. slice_get xs stream) queues
+          ∙ c.enter_all.ensures stream (settles old.seats.items old.taken.items stream queue) (ap (λ xs. slice_get xs stream) (c.deref_mut-3.ensures.value ∙ settled)
+          ∙ c.settle_all.ensures stream queue (ap (λ xs. slice_get xs stream) c.deref_mut-2.ensures.value ∙ is)
+          ∙ ap (λ xs. Some (settles xs c.deref-4.result.now stream queue)) c.deref-3.ensures.value
+          ∙ ap (λ xs. Some (settles old.seats.items xs stream queue)) c.deref-4.ensures.value)
+          ∙ ap (λ xs. Some (with_entered (sent_from (system_of plan [] (λ agent. [])) date xs c.deref-6.result.now 0 (length plan.unit.agents) stream) (settles old.seats.items old.taken.items stream queue))) c.deref-5.ensures.value
+          ∙ ap (λ xs. Some (with_entered (sent_from (system_of plan [] (λ agent. [])) date old.seats.items xs 0 (length plan.unit.agents) stream) (settles old.seats.items old.taken.items stream queue))) c.deref-6.ensures.value;
+      boxed = ap length boxes ∙ c.clear_outboxes.auto.outboxes ∙ ap length c.deref_mut-5.ensures.value;
+      outboxes = λ agent outbox is.
+          ap (λ xs. slice_get xs agent) boxes
+          ∙ c.clear_outboxes.ensures agent outbox (ap (λ xs. slice_get xs agent) c.deref_mut-5.ensures.value ∙ is)
+          ∙ ap (λ xs. Some (if ends_at date (slice_get xs agent) then record outbox { sends = [] } else outbox)) c.deref-8.ensures.value;
+      taking = ap length takes ∙ c.clear_takes.auto.taken ∙ ap length c.deref_mut-6.ensures.value;
+      taken = λ stream n is.
+          ap (λ xs. slice_get xs stream) takes
+          ∙ c.clear_takes.ensures stream n (ap (λ xs. slice_get xs stream) c.deref_mut-6.ensures.value ∙ is)
+          ∙ ap (λ xs. Some (if ends_at date (slice_get xs (stream_at plan.unit stream).receiver) then 0 else n)) c.deref-9.ensures.value;
+    }
+  where
+    told : List Seat → List VarDecl → List ℤ → List ℤ → ℕ → ℤ
+    told seats variables ended committed variable = if commits_at c.args.date seats (owner_of variables variable) then get_or ended variable (pos 0) else get_or committed variable (pos 0)
+
+    settles : List Seat → List ℕ → ℕ → Queued → Queued
+    settles seats taken stream queue =
+        settled_then c.args.date (first_date (timing_in c.args.plan.now (stream_at c.args.plan.now.unit stream).receiver)) (get_or seats (stream_at c.args.plan.now.unit stream).receiver nowhere) (get_or taken stream 0) queue
 
 pub returns-clause-stands : goal.returns-clause-stands
 returns-clause-stands c stalls order stands =
@@ -33,33 +166,39 @@ returns-clause-stands c stalls order stands =
     let s = system_of plan inputs stalls in
     let bare = c.requires.plan.compiled.text.bare in
     let lawful = c.regular.ensures.lawful plan.unit plan.code plan.nexts stalls inputs c.requires.plan.compiled c.requires.inputs in
+    let laws = stream_laws plan inputs stalls c.requires.plan.compiled c.requires.inputs c.regular.ensures.lawful c.regular.ensures.runs c.queues.ensures.next c.queues.ensures.look c.queue_sizes.ensures.held in
     let cycles = date * plan.unit.quantum in
     let upto : cycles ≤ date * plan.unit.quantum = omega arith in
-    let committed : (with_items old.committed c.commit_all.new.committed).items ≡ c.commit_all.new.committed =
-    with_items_is old.committed c.commit_all.new.committed (c.commit_all.auto.committed ∙ c.deref_mut.ensures.len) in
-    let rings : (with_items old.rings c.publish_all.new.rings).items ≡ c.publish_all.new.rings =
-    with_items_is old.rings c.publish_all.new.rings (c.publish_all.auto.rings ∙ c.deref_mut-2.ensures.len) in
-    let seats : (with_items old.seats c.move_all.new.seats).items ≡ c.move_all.new.seats =
-    with_items_is old.seats c.move_all.new.seats (c.move_all.auto.seats ∙ c.deref_mut-3.ensures.len) in
-    shared_moves plan inputs stalls bare lawful date (turns_of s order cycles) (λ variable clock size. c.rings.ensures.next s date variable size lawful clock) (λ agent number new. c.given.ensures.unstarted s order date cycles agent number lawful bare.quantum.0 upto new) old _ c.requires.due stands (record {
-      date_is = refl;
-      seated = ap length seats ∙ c.move_all.auto.seats ∙ ap length c.deref_mut-3.ensures.value;
-      seats = λ agent seat is. ap (λ xs. slice_get xs agent) seats ∙ c.move_all.ensures agent seat (ap (λ xs. slice_get xs agent) c.deref_mut-3.ensures.value ∙ is);
-      valued = ap length committed ∙ c.commit_all.auto.committed ∙ ap length c.deref_mut.ensures.value;
-      committed = λ variable l.
-          ap (λ xs. get_or xs variable (pos 0)) committed
-          ∙ c.commit_all.ensures variable (subst (λ xs. variable < length xs) (sym c.as_slice.ensures) l)
-          ∙ ap (λ xs. told xs c.as_slice.result.now c.deref-2.result.now c.deref_mut.result.now variable) c.deref.ensures.value
-          ∙ ap (λ xs. told old.seats.items xs c.deref-2.result.now c.deref_mut.result.now variable) c.as_slice.ensures
-          ∙ ap (λ xs. told old.seats.items plan.unit.variables xs c.deref_mut.result.now variable) c.deref-2.ensures.value
-          ∙ ap (λ xs. told old.seats.items plan.unit.variables old.ended.items xs variable) c.deref_mut.ensures.value;
-      ended = refl;
-      ringed = ap length rings ∙ c.publish_all.auto.rings ∙ ap length c.deref_mut-2.ensures.value;
-      rings = λ variable ring is. ap (λ xs. slice_get xs variable) rings ∙ c.publish_all.ensures variable ring (ap (λ xs. slice_get xs variable) c.deref_mut-2.ensures.value ∙ is) ∙ ap (λ xs. Some (ring_then (system_of plan inputs (λ agent. [])) xs date variable ring)) c.deref-3.ensures.value;
-      queues = refl;
-      outboxes = refl;
-      taken = refl;
-    })
-  where
-    told : List Seat → List VarDecl → List ℤ → List ℤ → ℕ → ℤ
-    told seats variables ended committed variable = if commits_at c.args.date seats (owner_of variables variable) then get_or ended variable (pos 0) else get_or committed variable (pos 0)
+    shared_moves plan inputs stalls bare lawful laws date (turns_of s order cycles) (λ variable clock size. c.rings.ensures.next s date variable size lawful clock) (λ agent number new. c.given.ensures.unstarted s order date cycles agent number lawful bare.quantum.0 upto new) old (new_of c) c.requires.due stands (moved_by c)
+
+pub returns-clause-begun : goal.returns-clause-begun
+returns-clause-begun c agent begins =
+    let plan = c.args.plan.now in
+    let old = c.args.shared.now in
+    let inputs = old.inputs.lists in
+    let (stalls, order, stands) = c.requires.stands in
+    let s = system_of plan inputs stalls in
+    let lawful = c.regular.ensures.lawful plan.unit plan.code plan.nexts stalls inputs c.requires.plan.compiled c.requires.inputs in
+    let laws = stream_laws plan inputs stalls c.requires.plan.compiled c.requires.inputs c.regular.ensures.lawful c.regular.ensures.runs c.queues.ensures.next c.queues.ensures.look c.queue_sizes.ensures.held in
+    let turns = turns_of s order (c.args.date * plan.unit.quantum) in
+    let moved = moved_by c in
+    let new = new_of c in (
+      box_begun plan inputs stalls c.requires.plan.compiled.text.bare lawful laws c.args.date turns old c.requires.due stands new.seats.items moved.seated moved.seats new.outboxes.items moved.outboxes agent begins,
+      take_begun plan inputs stalls c.requires.plan.compiled.text.bare lawful laws c.args.date turns old c.requires.due stands new.seats.items moved.seated moved.seats new.taken.items moved.taken agent begins,
+    )
+
+pub returns-clause-going : goal.returns-clause-going
+returns-clause-going c agent goes =
+    let plan = c.args.plan.now in
+    let old = c.args.shared.now in
+    let inputs = old.inputs.lists in
+    let (stalls, order, stands) = c.requires.stands in
+    let s = system_of plan inputs stalls in
+    let lawful = c.regular.ensures.lawful plan.unit plan.code plan.nexts stalls inputs c.requires.plan.compiled c.requires.inputs in
+    let laws = stream_laws plan inputs stalls c.requires.plan.compiled c.requires.inputs c.regular.ensures.lawful c.regular.ensures.runs c.queues.ensures.next c.queues.ensures.look c.queue_sizes.ensures.held in
+    let turns = turns_of s order (c.args.date * plan.unit.quantum) in
+    let moved = moved_by c in
+    let new = new_of c in (
+      box_goes plan inputs stalls c.requires.plan.compiled.text.bare lawful laws c.args.date turns old c.requires.due stands new.seats.items moved.seated moved.seats new.outboxes.items moved.outboxes agent goes,
+      take_goes plan inputs stalls c.requires.plan.compiled.text.bare lawful laws c.args.date turns old c.requires.due stands new.seats.items moved.seated moved.seats new.taken.items moved.taken agent goes,
+    )

@@ -5,7 +5,7 @@ use Rattle.psy_graph.proofs.Causes.{there, same_graphs, graphs_apart, same_cause
 use Rattle.psy_graph.specs.Graphs.{IsTimed}
 use Rattle.psy_graph.proofs.EdgesKept.{edges_kept}
 use Rattle.psy_graph.proofs.Timed.{timed}
-use Rattle.psy_graph.proofs.Unique.{same_timing}
+use Rattle.psy_graph.proofs.Unique.{drawn_spots, drawn_edges, same_timing}
 use Rattle.psy_graph.proofs.laws.one_graph.Goals as goal
 
 pub returns-clause-same : goal.returns-clause-same
@@ -13,6 +13,9 @@ returns-clause-same c unit graphs others text = same_graphs unit graphs others
 
 pub returns-clause-timing : goal.returns-clause-timing
 returns-clause-timing c unit number timing other = same_timing unit number timing other
+
+pub returns-clause-graph : goal.returns-clause-graph
+returns-clause-graph c timing spots others edges more g h = (drawn_spots timing spots others edges more g h, drawn_edges timing spots others edges more g h)
 
 pub returns-clause-apart : goal.returns-clause-apart
 returns-clause-apart c unit graphs fault text = graphs_apart unit graphs fault

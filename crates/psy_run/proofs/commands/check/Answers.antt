@@ -1,22 +1,18 @@
 use Rattle.std.proofs.Common.{refl}
-use Rattle.psy_run.specs.Answer.{compiling, building, supplying}
+use Rattle.psy_run.specs.Answer.{compiling, supplying}
 use Rattle.psy_run.proofs.Courses.{gives_then, halts_exit, halts_first, halts_later}
 use Rattle.psy_run.proofs.commands.check.Goals as goal
 
 pub returns-in_err-unit-clause-err : goal.returns-in_err-unit-clause-err
 returns-in_err-unit-clause-err g c = halts_exit _ _ _ _ _ _ c.from_residual.ensures.1 (halts_first (compiling _ _) _ _ _ _ _ c.in_err-unit.ensures.err)
 
-pub returns-in_err-built-clause-err : goal.returns-in_err-built-clause-err
-returns-in_err-built-clause-err g c = halts_exit _ _ _ _ _ _ c.from_residual-in_err-built.ensures.1
-    (halts_later (compiling _ _) _ _ _ _ _ _ c.in_ok-unit.ensures.ok (halts_first (building _) _ _ _ _ _ (c.in_err-built.ensures.err _ _ _)))
-
 pub returns-in_err-supply-clause-err : goal.returns-in_err-supply-clause-err
 returns-in_err-supply-clause-err g c = halts_exit _ _ _ _ _ _ c.from_residual-in_err-supply.ensures.1
-    (halts_later (compiling _ _) _ _ _ _ _ _ c.in_ok-unit.ensures.ok (halts_later (building _) _ _ _ _ _ _ c.in_ok-built.ensures.ok (halts_first (supplying _ _) _ _ _ _ _ (c.in_err-supply.ensures.err _ _ _))))
+    (halts_later (compiling _ _) _ _ _ _ _ _ c.in_ok-unit.ensures.ok (halts_first (supplying _ _) _ _ _ _ _ (c.in_err-supply.ensures.err _ _ _)))
 
 pub returns-clause-ok : goal.returns-clause-ok
 returns-clause-ok g c =
     let supply = c.in_ok-supply.supply in
     let (graphs, gives) = c.in_ok-supply.ensures.ok in
     gives_then (compiling _ _) _ _ _ c.in_ok-unit.ensures.ok
-    (gives_then (building _) _ _ _ c.in_ok-built.ensures.ok (gives_then (supplying _ _) _ (record { graphs = graphs; nexts = supply.nexts; rings = supply.rings }) _ gives refl))
+    (gives_then (supplying _ _) _ (record { graphs = graphs; nexts = supply.nexts; sizes = supply.sizes }) _ gives refl)

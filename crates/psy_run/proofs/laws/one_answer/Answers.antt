@@ -20,7 +20,8 @@ returns c words files = Answers-unique (record {
   graphs_or_cause = c.one_graph.ensures.apart;
   cause = c.one_graph.ensures.cause;
   timing = c.one_graph.ensures.timing;
-  rings = c.one_size.ensures.same;
-  rings_or_large = c.one_size.ensures.apart;
+  sizes = c.one_size.ensures.same;
+  sizes_or_fault = c.one_size.ensures.apart;
+  size_fault = c.one_size.ensures.cause;
   cost = c.costs.ensures.one;
 }) files words

@@ -12,6 +12,6 @@ returns c words files = Answers-some (record {
   edges = c.one_graph.ensures.edges;
   cost = c.costs.ensures.some;
   next = c.nexts.ensures.some;
-  rings_or_large = c.one_size.ensures.some;
+  sizes_or_fault = c.one_size.ensures.some;
   greatest = c.greatest.ensures.some;
 }) files words

@@ -1,16 +1,15 @@
 use Rattle.psy_dates.specs.declared.plan.Plan.{Plan}
-use Rattle.psy_run.proofs.PlanLemmas.{are_sizes, is_feasible_for}
+use Rattle.psy_run.proofs.PlanLemmas.{is_feasible_for}
 use Rattle.psy_run.proofs.SupplyLemmas.{supply_is}
 use Rattle.psy_run.proofs.plan.plan_of.Goals as goal
 
 pub returns-clause-plan : goal.returns-clause-plan
 returns-clause-plan c =
     let supply = c.args.supply in
-    let plan : Plan = record { unit = c.args.unit; code = c.in_ok-code.code; nexts = supply.nexts; sizes = c.in_ok-sizes.sizes; until = c.args.until } in
-    let is = supply_is c.args.unit c.args.until (record { graphs = c.requires.supplied.0; nexts = supply.nexts; rings = supply.rings }) c.requires.supplied.1 in
+    let plan : Plan = record { unit = c.args.unit; code = c.in_ok-code.code; nexts = supply.nexts; sizes = supply.sizes; until = c.args.until } in
+    let is = supply_is c.args.unit c.args.until (record { graphs = c.requires.supplied.0; nexts = supply.nexts; sizes = supply.sizes }) c.requires.supplied.1 in
     record {
       compiled = record { text = c.requires.text; alike = c.in_ok-code.ensures.alike; followed = is.followed };
-      built = c.requires.built;
-      buffers = are_sizes c.args.unit supply.nexts supply.rings c.in_ok-sizes.sizes c.in_ok-sizes.ensures is.sized c.requires.places;
+      buffers = is.sized;
       supplied = is_feasible_for c.one_graph.ensures.timing plan is.followed _ is;
     }

@@ -10,24 +10,24 @@ returns-in_err-graphs-clause-err c failed before after =
     let stop = c.in_err-graphs.field-0.0 in
     halts_exit (supplying c.args.unit.now c.args.until) failed before after stop c.from_residual.result c.from_residual.ensures.1 (supply_undrawn c.args.unit.now c.args.until failed before after stop (c.in_err-graphs.ensures.err failed before after))
 
-pub returns-in_err-rings-clause-err : goal.returns-in_err-rings-clause-err
-returns-in_err-rings-clause-err c failed before after =
+pub returns-in_err-sizes-clause-err : goal.returns-in_err-sizes-clause-err
+returns-in_err-sizes-clause-err c failed before after =
     let unit = c.args.unit.now in
     let graphs = c.in_ok-graphs.graphs in
     let nexts = c.in_ok-nexts.nexts in
-    let stop = c.in_err-rings.field-0.0 in
-    halts_exit (supplying unit c.args.until) failed before after stop c.from_residual-in_err-rings.result c.from_residual-in_err-rings.ensures.1
-    (supply_unsized unit c.args.until failed before after stop graphs nexts c.in_ok-graphs.ensures.ok c.in_ok-nexts.ensures (c.in_err-rings.ensures.err nexts failed before after c.in_ok-nexts.ensures))
+    let stop = c.in_err-sizes.field-0.0 in
+    halts_exit (supplying unit c.args.until) failed before after stop c.from_residual-in_err-sizes.result c.from_residual-in_err-sizes.ensures.1
+    (supply_unsized unit c.args.until failed before after stop graphs nexts c.in_ok-graphs.ensures.ok c.in_ok-nexts.ensures (c.in_err-sizes.ensures.err nexts failed before after c.in_ok-nexts.ensures))
 
 pub returns-in_err-lists-clause-err : goal.returns-in_err-lists-clause-err
 returns-in_err-lists-clause-err c failed before after =
     let unit = c.args.unit.now in
     let graphs = c.in_ok-graphs.graphs in
     let nexts = c.in_ok-nexts.nexts in
-    let rings = c.in_ok-rings.rings in
+    let sizes = c.in_ok-sizes.sizes in
     let stop = c.in_err-lists.field-0.0 in
     halts_exit (supplying unit c.args.until) failed before after stop c.from_residual-in_err-lists.result c.from_residual-in_err-lists.ensures.1
-    (supply_unwindowed unit c.args.until failed before after stop graphs nexts rings c.in_ok-graphs.ensures.ok c.in_ok-nexts.ensures (c.in_ok-rings.ensures.ok nexts c.in_ok-nexts.ensures) (unwindowed c.args.until graphs failed before after stop c.in_err-lists.ensures.err))
+    (supply_unwindowed unit c.args.until failed before after stop graphs nexts sizes c.in_ok-graphs.ensures.ok c.in_ok-nexts.ensures (c.in_ok-sizes.ensures.ok nexts c.in_ok-nexts.ensures) (unwindowed c.args.until graphs failed before after stop c.in_err-lists.ensures.err))
 
 pub demand-requires-clause-long : goal.demand-requires-clause-long
 demand-requires-clause-long c = all_long c.args.until c.in_ok-graphs.graphs c.in_ok-lists.lists c.in_ok-lists.ensures.ok
@@ -44,11 +44,11 @@ returns-in_err-demand-clause-err c failed before after =
     let unit = c.args.unit.now in
     let graphs = c.in_ok-graphs.graphs in
     let nexts = c.in_ok-nexts.nexts in
-    let rings = c.in_ok-rings.rings in
+    let sizes = c.in_ok-sizes.sizes in
     let are = c.in_ok-lists.ensures.ok in
     let stop = c.in_err-demand.field-0.0 in
     halts_exit (supplying unit c.args.until) failed before after stop c.from_residual-in_err-demand.result c.from_residual-in_err-demand.ensures.1
-    (supply_overloaded unit c.args.until failed before after stop graphs nexts rings c.in_ok-graphs.ensures.ok c.in_ok-nexts.ensures (c.in_ok-rings.ensures.ok nexts c.in_ok-nexts.ensures)
+    (supply_overloaded unit c.args.until failed before after stop graphs nexts sizes c.in_ok-graphs.ensures.ok c.in_ok-nexts.ensures (c.in_ok-sizes.ensures.ok nexts c.in_ok-nexts.ensures)
     (all_have_cells c.args.until graphs c.in_ok-lists.lists are) (c.in_err-demand.ensures.err graphs failed before after are))
 
 pub returns-clause-ok : goal.returns-clause-ok
@@ -57,6 +57,6 @@ returns-clause-ok c =
     let nexts = c.in_ok-nexts.nexts in
     let are = c.in_ok-lists.ensures.ok in (
       graphs,
-      supply_gives c.args.unit.now c.args.until (record { graphs = graphs; nexts = nexts; rings = c.in_ok-rings.rings }) c.in_ok-graphs.ensures.ok c.in_ok-nexts.ensures (c.in_ok-rings.ensures.ok nexts c.in_ok-nexts.ensures)
+      supply_gives c.args.unit.now c.args.until (record { graphs = graphs; nexts = nexts; sizes = c.in_ok-sizes.sizes }) c.in_ok-graphs.ensures.ok c.in_ok-nexts.ensures (c.in_ok-sizes.ensures.ok nexts c.in_ok-nexts.ensures)
           (all_have_cells c.args.until graphs c.in_ok-lists.lists are) (c.in_ok-demand.ensures.ok graphs are),
     )

@@ -1,18 +1,41 @@
-use Rattle.std.proofs.Common.{subst}
+use Rattle.std.proofs.Common.{◌≡◌, ◌++◌, List, ℕ, subst}
 use Rattle.psy_door.specs.Growth.{Grew, GrewByFront}
 use Rattle.psy_log.specs.Forms.{feasible_line}
 use Rattle.psy_log.specs.Writing.{Written}
-use Rattle.psy_run.specs.Texts.{sizes_text}
-use Rattle.psy_run.proofs.WritingLemmas.{GrewByFront-append, Written-append}
+use Rattle.psy_tree.specs.declared.unit.StreamDecl.{StreamDecl}
+use Rattle.psy_tree.specs.declared.unit.VarDecl.{VarDecl}
+use Rattle.psy_run.specs.Texts.{rings_text, queues_text}
+use Rattle.psy_run.proofs.WritingLemmas.{GrewByFront-append, Grew-GrewByFront, Written-append}
 use Rattle.psy_run.proofs.texts.write_check.Goals as goal
+
+-- the sizes of rings, by what is listed
+rings_are : {variables others : List VarDecl} {rings sizes : List ℕ} → variables ≡ others → rings ≡ sizes → rings_text variables rings ≡ rings_text others sizes
+rings_are p q = λ i. rings_text (p i) (q i)
+
+-- the sizes of queues, by what is listed
+queues_are : {streams others : List StreamDecl} {queues sizes : List ℕ} → streams ≡ others → queues ≡ sizes → queues_text streams queues ≡ queues_text others sizes
+queues_are p q = λ i. queues_text (p i) (q i)
 
 pub returns-in-Err-clause-written : goal.returns-in-Err-clause-written
 returns-in-Err-clause-written g c =
-    let front = subst (λ items. GrewByFront (g.S.Sink.held c.args.out.now) (g.S.Sink.held c.write_sizes.new.out) (sizes_text items c.args.rings.now)) c.as_slice.ensures c.in-Err.ensures.written in
-    GrewByFront-append _ _ (sizes_text c.args.unit.now.variables c.args.rings.now) (feasible_line c.args.until) front
+    let unit = c.args.unit.now in
+    let sizes = c.args.sizes.now in
+    let front = subst (λ text. GrewByFront (g.S.Sink.held c.args.out.now) (g.S.Sink.held c.write_rings.new.out) text) (rings_are c.as_slice.ensures c.as_slice-2.ensures) c.in-Err.ensures.written in
+    GrewByFront-append _ _ (rings_text unit.variables sizes.rings) (queues_text unit.streams sizes.queues ++ feasible_line c.args.until) front
+
+pub returns-in-Err-write_queues-clause-written : goal.returns-in-Err-write_queues-clause-written
+returns-in-Err-write_queues-clause-written g c =
+    let unit = c.args.unit.now in
+    let sizes = c.args.sizes.now in
+    let rings = subst (λ text. Grew (g.S.Sink.held c.args.out.now) (g.S.Sink.held c.write_rings.new.out) text) (rings_are c.as_slice.ensures c.as_slice-2.ensures) c.in_default.ensures.written in
+    let front = subst (λ text. GrewByFront (g.S.Sink.held c.write_rings.new.out) (g.S.Sink.held c.write_queues.new.out) text) (queues_are c.as_slice-3.ensures c.as_slice-4.ensures) c.in-Err-write_queues.ensures.written in
+    Grew-GrewByFront _ _ _ (rings_text unit.variables sizes.rings) _ rings (GrewByFront-append _ _ (queues_text unit.streams sizes.queues) (feasible_line c.args.until) front)
 
 pub returns-clause-written : goal.returns-clause-written
 returns-clause-written g c =
-    let sizes = subst (λ items. Grew (g.S.Sink.held c.args.out.now) (g.S.Sink.held c.write_sizes.new.out) (sizes_text items c.args.rings.now)) c.as_slice.ensures c.in_default.ensures.written in
-    let line = subst (λ until. Written (g.S.Sink.held c.write_sizes.new.out) (g.S.Sink.held c.write_note.new.out) c.write_note.result (feasible_line until)) c.from.ensures c.write_note.ensures.written in
-    Written-append _ _ _ _ (sizes_text c.args.unit.now.variables c.args.rings.now) (feasible_line c.args.until) sizes line
+    let unit = c.args.unit.now in
+    let sizes = c.args.sizes.now in
+    let rings = subst (λ text. Grew (g.S.Sink.held c.args.out.now) (g.S.Sink.held c.write_rings.new.out) text) (rings_are c.as_slice.ensures c.as_slice-2.ensures) c.in_default.ensures.written in
+    let queues = subst (λ text. Grew (g.S.Sink.held c.write_rings.new.out) (g.S.Sink.held c.write_queues.new.out) text) (queues_are c.as_slice-3.ensures c.as_slice-4.ensures) c.in_default-write_queues.ensures.written in
+    let line = subst (λ until. Written (g.S.Sink.held c.write_queues.new.out) (g.S.Sink.held c.write_note.new.out) c.write_note.result (feasible_line until)) c.from.ensures c.write_note.ensures.written in
+    Written-append _ _ _ _ (rings_text unit.variables sizes.rings) _ rings (Written-append _ _ _ _ (queues_text unit.streams sizes.queues) (feasible_line c.args.until) queues line)

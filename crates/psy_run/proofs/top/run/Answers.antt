@@ -1,11 +1,9 @@
-use Rattle.std.proofs.Common.{◌≡◌, ◌∙◌, refl, sym, ap, subst, Some}
+use Rattle.std.proofs.Common.{refl, sym, subst}
 use Rattle.psy_door.specs.Growth.{Grew, GrewByFront}
 use Rattle.psy_dates.specs.Plans.{IsPlan}
-use Rattle.psy_kernel.specs.Progress.{Progress}
 use Rattle.psy_kernel.specs.Scripts.{stalls_of}
-use Rattle.psy_run.specs.Runs.{ended}
-use Rattle.psy_run.specs.Services.{HasRun, Leaves, no_inputs, no_script, service_of, text_of}
-use Rattle.psy_run.proofs.MeaningText.{AreAlike, has_run, served_text}
+use Rattle.psy_run.specs.Services.{HasRun, no_inputs, no_script}
+use Rattle.psy_run.proofs.MeaningText.{has_run, served_text}
 use Rattle.psy_run.proofs.PlanLemmas.{are_no_inputs}
 use Rattle.psy_run.proofs.top.run.Goals as goal
 
@@ -42,4 +40,4 @@ returns-clause-written g c =
     subst (Grew (g.S.Sink.held c.args.out.now) (g.S.Sink.held c.run_loop.new.out)) text c.in_default.ensures.written
 
 pub returns-clause-over : goal.returns-clause-over
-returns-clause-over g c = (c.run_loop.new.kernel, refl, subst (HasRun c.args.kernel.plan.unit c.args.kernel.plan.nexts c.args.kernel.plan.sizes.rings c.args.kernel.plan.until) (sym c.in_default.ensures.over) (has_run c.args.kernel c.requires.can))
+returns-clause-over g c = (c.run_loop.new.kernel, refl, subst (HasRun c.args.kernel.plan.unit c.args.kernel.plan.nexts c.args.kernel.plan.sizes c.args.kernel.plan.until) (sym c.in_default.ensures.over) (has_run c.args.kernel c.requires.can))

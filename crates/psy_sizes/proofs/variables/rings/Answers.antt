@@ -7,7 +7,7 @@ use Rattle.psy_meaning.specs.Flow.{AreAllNexts}
 use Rattle.psy_meaning.specs.RingSizes.{IsRingSize}
 use Rattle.psy_sizes.specs.declared.fault.SizeFault.{SizeFault}
 use Rattle.psy_sizes.specs.declared.fault.SizeFault.TheVariants.{LargeRing, Memory}
-use Rattle.psy_sizes.specs.Faults.{IsRingFault}
+use Rattle.psy_sizes.specs.Faults.{IsCause}
 use Rattle.psy_sizes.proofs.AllRings.{AreRingsBefore, all_rings, first_large}
 use Rattle.psy_sizes.proofs.RingsOf.{each_more}
 use Rattle.psy_sizes.proofs.variables.rings.Goals as goal
@@ -27,12 +27,12 @@ returns-in_err-ring-clause-cause c =
     let fault = c.in_err-ring.field-0.0 in
     let variable = c.variables.variable in
     let kept = c.variables.invariant in
-    let Q : SizeFault → Type 0 = λ f. (f ≡ Memory) ⊎ IsRingFault unit f in
-    let large : IsRingFault unit (LargeRing variable) = λ nexts are. (
+    let Q : SizeFault → Type 0 = λ f. (f ≡ Memory) ⊎ IsCause unit f in
+    let large : IsCause unit (LargeRing variable) = λ nexts are. (
     let (size, is, passes) = c.in_err-ring.ensures.large nexts are in
     first_large unit nexts c.variables.sizes variable size (so_far unit nexts c.variables.sizes variable kept.count (λ before d less. kept.each before d less nexts are) kept.small) is passes
     ) in
-    let is : Q fault = inr (subst (IsRingFault unit) (sym c.in_err-ring.ensures.fault) large) in
+    let is : Q fault = inr (subst (IsCause unit) (sym c.in_err-ring.ensures.fault) large) in
     let e : c.from_residual.result ≡ Err fault = search rules in
     subst (λ r. IfErr r Q) (sym e) is
 

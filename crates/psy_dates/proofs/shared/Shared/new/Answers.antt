@@ -1,25 +1,33 @@
-use Rattle.std.proofs.Common.{◌≡◌, ℕ, ◌<◌, List, length, get_or, Option, Some, refl, sym, ap, subst, ◌∙◌}
+use Rattle.std.proofs.Common.{ℕ, ◌<◌, ◌≤◌, List, [], All, length, get_or, Option, Some, refl, sym, ap, subst, ◌∙◌}
 use Rattle.std.specs.Prelude.{map, pos, replicate, ℤ}
+use Rattle.psy_base.specs.declared.limits.TheConstants.{RING}
 use Rattle.psy_tree.specs.declared.unit.VarDecl.{VarDecl}
-use Rattle.psy_dates.proofs.Opened.{first_stands}
+use Rattle.psy_dates.proofs.Opened.{first_stands, ring_places}
 use Rattle.psy_dates.proofs.shared.Shared.new.Goals as goal
+
+pub first_rings-requires-clause-places : goal.first_rings-requires-clause-places
+first_rings-requires-clause-places c =
+    subst (All (λ size. (1 ≤ size) × (size ≤ RING))) (sym c.as_slice-2.ensures) (ring_places c.args.plan.now c.requires.plan.compiled.text.bare c.requires.plan.buffers)
 
 pub returns-clause-stands : goal.returns-clause-stands
 returns-clause-stands c stalls =
     first_stands c.args.plan.now c.args.inputs.lists stalls _ c.requires.plan.buffers (record {
       date = refl;
-      seated = c.in_ok-first_seats.ensures.0 ∙ c.len.ensures;
+      seated = c.in_ok-first_seats.ensures.0 ∙ c.len-2.ensures;
       waiting = c.in_ok-first_seats.ensures.1;
-      committed = c.in_ok-first_values-2.ensures ∙ ap (map (λ v. v.init)) c.as_slice-4.ensures;
-      ended = c.in_ok-first_values.ensures ∙ ap (map (λ v. v.init)) c.as_slice-3.ensures;
+      committed = c.in_ok-first_values-2.ensures ∙ ap (map (λ v. v.init)) c.as_slice-6.ensures;
+      ended = c.in_ok-first_values.ensures ∙ ap (map (λ v. v.init)) c.as_slice-5.ensures;
       ringed = c.in_ok-first_rings.ensures.count ∙ ap length c.as_slice.ensures;
       rings = λ variable l.
           c.in_ok-first_rings.ensures.filled variable (subst (λ xs. variable < length xs) (sym c.as_slice.ensures) l)
           ∙ ap (λ xs. filled c.as_slice-2.result.now xs variable) c.as_slice.ensures
           ∙ ap (λ xs. filled xs c.args.plan.now.unit.variables variable) c.as_slice-2.ensures;
-      queues = c.new.ensures.items;
-      outboxes = c.new-2.ensures.items;
-      taken = c.new-3.ensures.items;
+      queued = c.in_ok-first_queues.ensures.count ∙ ap length c.as_slice-3.ensures;
+      queues = λ stream l. c.in_ok-first_queues.ensures.empty stream (subst (λ xs. stream < length xs) (sym c.as_slice-3.ensures) l) ∙ ap (λ xs. Some (record { size = get_or xs stream 0; messages = [] })) c.as_slice-3.ensures;
+      boxed = c.in_ok-first_outboxes.ensures.count ∙ ap length c.as_slice-4.ensures;
+      outboxes = λ agent l. c.in_ok-first_outboxes.ensures.empty agent (subst (λ xs. agent < length xs) (sym c.as_slice-4.ensures) l) ∙ ap (λ xs. Some (record { size = get_or xs agent 0; sends = [] })) c.as_slice-4.ensures;
+      taking = c.in_ok-first_takes.ensures.0 ∙ c.len.ensures;
+      taken = c.in_ok-first_takes.ensures.1;
     })
   where
     filled : List ℕ → List VarDecl → ℕ → Option (List ℤ)

@@ -1,5 +1,6 @@
 use Rattle.std.proofs.Common.{◌≡◌, ◌<◌, ℕ, ℤ, List, [], length, Option, None, refl, ap, sym, subst, ◌∙◌, arith, rules}
 use Rattle.std.specs.List.{AllPairs, range_with_len, slice_get}
+use Rattle.std.proofs.lemmas.Bool.{true≢false}
 use Rattle.std.proofs.lemmas.List.{length-replicate}
 use Rattle.std.proofs.lemmas.List.FromFn.{length-map-range_with_len}
 use Rattle.psy_history.specs.Compiled.{AreInputs, coded}
@@ -9,7 +10,7 @@ use Rattle.psy_dates.specs.Standing.{SharedStands, dates_done}
 use Rattle.psy_kernel.specs.declared.kernel.Figure.{Figure}
 use Rattle.psy_kernel.specs.declared.script.Order.{Order}
 use Rattle.psy_kernel.specs.Scripts.{stalls_of}
-use Rattle.psy_kernel.specs.Standing.{AgentStands, AreInForce, InTick, given_at}
+use Rattle.psy_kernel.specs.Standing.{AgentStands, AreInForce, DeedsStand, InTick, given_at, most_held_in}
 use Rattle.psy_kernel.specs.Starting.{first_charge}
 use Rattle.psy_kernel.proofs.Booted.{first_stands, made_at, replicated_at, view_booted}
 use Rattle.psy_kernel.proofs.kernel.Kernel.boot.Goals as goal
@@ -36,6 +37,7 @@ invariant_of-result c =
     let figures = c.in_ok-figures.ensures.items_if_clones_equal (λ y e. e) in
     let never : Option ℕ = None in
     let reached = c.in_ok-reached.ensures.items_if_clones_equal (λ y e. search (rules)) in
+    let helds = c.in_ok-helds.ensures.items_if_clones_equal (λ y e. e) in
     record {
       plan = c.requires.plan;
       inputs = subst (AreInputs unit) lists c.requires.inputs;
@@ -49,6 +51,10 @@ invariant_of-result c =
       reached = λ variable n en.
           replicated_at never c.len.result variable n (ap (λ xs. slice_get xs variable) (sym reached) ∙ en)
           ∙ sym (c.reaches.ensures.none (s shared.inputs.lists) (history (s shared.inputs.lists) (dates_done shared.date)) variable);
+      holding = ap length helds ∙ length-replicate c.len-2.result 0 ∙ c.len-2.ensures;
+      held = λ stream n en.
+          subst (λ d. n ≡ most_held_in (s shared.inputs.lists) d stream) dates (replicated_at 0 c.len-2.result stream n (ap (λ xs. slice_get xs stream) (sym helds) ∙ en));
+      doing = λ agent outbox eo. subst (λ d. DeedsStand (s shared.inputs.lists) plan.code [] (history (s shared.inputs.lists) d agent) outbox.sends shared.taken.items) dates (tt {0});
       waiting = ap length ready ∙ length-replicate count None ∙ counted;
       figured = ap length figures ∙ length-replicate count none ∙ counted;
       agents = λ agent machine charge waits figure em ec ew ef.
@@ -59,9 +65,10 @@ invariant_of-result c =
           (replicated_at none count agent figure (ap (λ xs. slice_get xs agent) (sym figures) ∙ ef))));
       all = c.in_ok-declared.ensures ∙ ap (range_with_len 0) counted;
       orders = subst (λ orders. AreInForce orders c.passed_first-passed.result 0) c.as_slice.ensures c.passed_first-passed.ensures;
-      choice = λ e. absurd (cc);
+      choice = λ e. absurd (true≢false e);
       place = omega arith;
-      given = subst (λ d. 0 ≡ given_at (s shared.inputs.lists) d 0) dates refl;
+      unshown = λ l. refl;
+      given = subst (λ d. 0 ≡ given_at (s shared.inputs.lists) d 0 0) dates refl;
     }
 
 pub returns : goal.returns

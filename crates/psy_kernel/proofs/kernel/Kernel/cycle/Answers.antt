@@ -1,23 +1,25 @@
 use Rattle.std.proofs.Common.{◌≡◌, ℕ, ◌+◌, ◌-◌, ◌*◌, ◌<◌, ◌≤◌, List, ◌∷◌, Bool, true, false, not, Option, Some, None, length, get_or, if◌then◌else◌, slice_get, slice_set, ℤ, Vec, Global, refl, sym, ap, ◌∙◌, subst, arith}
 use Rattle.std.proofs.lemmas.Bool.{true≢false}
-use Rattle.std.proofs.lemmas.Option.{get_or_from_slice_get, slice_get_read}
+use Rattle.std.proofs.lemmas.Option.{get_or_from_slice_get, same_Some, slice_get_read}
 use Rattle.std.specs.List.{All}
 use Rattle.std.specs.Vec.{with_item}
 use Rattle.psy_base.specs.declared.limits.TheConstants.{RING}
 use Rattle.psy_budget.specs.Charges.{Charged}
 use Rattle.psy_dates.specs.declared.seat.Seat.{Seat}
+use Rattle.psy_dates.specs.Outboxes.{Outboxed}
 use Rattle.psy_dates.specs.Standing.{dates_done}
 use Rattle.psy_machine.specs.Stepping.{AgentMachine}
 use Rattle.psy_meaning.specs.Actions.{Action}
 use Rattle.psy_meaning.specs.Schedule.{units}
+use Rattle.psy_queue.specs.Order.{Queued}
 use Rattle.psy_ready.specs.Choice.{IsPick, pending_deadline}
 use Rattle.psy_kernel.specs.Acting.{IsLookIn}
-use Rattle.psy_kernel.specs.Cycles.{IsGiven, OneStands}
+use Rattle.psy_kernel.specs.Cycles.{BoxStands, IsGiven, OneStands}
 use Rattle.psy_kernel.specs.declared.kernel.Figure.{Figure}
 use Rattle.psy_kernel.specs.declared.kernel.Kernel.TheInside.{Inside}
 use Rattle.psy_kernel.specs.Progress.{Progress}
 use Rattle.psy_kernel.specs.Scripts.{order_of, stalls_of}
-use Rattle.psy_kernel.specs.Seeing.{view_in}
+use Rattle.psy_kernel.specs.Seeing.{sight_in}
 use Rattle.psy_kernel.specs.Standing.{AreInForce, IsChosen, KernelStands, progress_of}
 use Rattle.psy_kernel.proofs.CyclesGiven.{Takes, early, given_between, idle_between, is_given, known, near, on_date, reached_given, started_at, takes}
 use Rattle.psy_kernel.proofs.Kernels.{IsDue, counted_fresh, counted_stale, due_by, lists_read, order_read, run_in, turns_in}
@@ -61,11 +63,19 @@ module _ (k : Inside) (is : KernelStands k) (d : IsDue k) (agent : ℕ) (pick : 
     seat_at : (other : Seat) → other ≡ get_or k.shared.seats.items agent other → slice_get k.shared.seats.items agent ≡ Some other
     seat_at other other_is = slice_get_read k.shared.seats.items (length k.shared.seats.items) agent other refl (omega (arith, less, is.shared.seated)) other_is
 
-    has : (rings : List (List ℤ)) → rings ≡ k.shared.rings.items
-        → IsGiven k.plan k.shared.inputs.lists (stalls_of k.script) (turns_in k k.cycles) date k.cycles agent r before charge machine (pending_deadline k.ready agent) figure seat k.shared.ended.items (view_in rings k.plan.unit.variables k.plan.unit.clocks seat.start date)
-    has rings e =
-        subst (λ rs. IsGiven k.plan k.shared.inputs.lists (stalls_of k.script) (turns_in k k.cycles) date k.cycles agent r before charge machine (pending_deadline k.ready agent) figure seat k.shared.ended.items (view_in rs k.plan.unit.variables k.plan.unit.clocks seat.start date)) (sym e)
-        (is_given k is d agent pick r before t date date_is machine charge figure seat machine_at charge_at figure_at (seat_at seat seat_is))
+    outbox_at : (outbox : Outboxed) → outbox ≡ get_or k.shared.outboxes.items agent outbox → slice_get k.shared.outboxes.items agent ≡ Some outbox
+    outbox_at outbox outbox_is = slice_get_read k.shared.outboxes.items (length k.shared.outboxes.items) agent outbox refl (omega (arith, less, is.shared.boxed)) outbox_is
+
+    has : (rings : List (List ℤ)) (queues : List Queued) (outbox : Outboxed) → rings ≡ k.shared.rings.items → queues ≡ k.shared.queues.items → outbox ≡ get_or k.shared.outboxes.items agent outbox
+        → IsGiven k.plan k.shared.inputs.lists (stalls_of k.script) (turns_in k k.cycles) date k.cycles agent r before charge machine (pending_deadline k.ready agent) figure seat k.shared.ended.items (sight_in k.plan.unit rings queues agent seat.start date) k.shared.taken.items outbox
+    has rings queues outbox e f outbox_is =
+        subst (λ rs. IsGiven k.plan k.shared.inputs.lists (stalls_of k.script) (turns_in k k.cycles) date k.cycles agent r before charge machine (pending_deadline k.ready agent) figure seat k.shared.ended.items (sight_in k.plan.unit rs queues agent seat.start date) k.shared.taken.items outbox) (sym e)
+        (subst (λ qs. IsGiven k.plan k.shared.inputs.lists (stalls_of k.script) (turns_in k k.cycles) date k.cycles agent r before charge machine (pending_deadline k.ready agent) figure seat k.shared.ended.items (sight_in k.plan.unit k.shared.rings.items qs agent seat.start date) k.shared.taken.items outbox) (sym f)
+        (is_given k is d agent pick r before t date date_is machine charge figure seat machine_at charge_at figure_at (seat_at seat seat_is) outbox (outbox_at outbox outbox_is)))
+
+    -- the outbox that it has then is as large
+    same_size : (outbox new : Outboxed) → outbox ≡ get_or k.shared.outboxes.items agent outbox → new.size ≡ outbox.size → (old : Outboxed) → slice_get k.shared.outboxes.items agent ≡ Some old → new.size ≡ old.size
+    same_size outbox new outbox_is e old at = e ∙ ap (λ (o : Outboxed). o.size) (same_Some outbox old (sym (outbox_at outbox outbox_is) ∙ at))
 
     began : (other : Seat) → other ≡ get_or k.shared.seats.items agent other → other.start ≡ r.start
     began other other_is = started_at k is d agent pick r before t date date_is machine charge figure other machine_at charge_at figure_at (seat_at other other_is)
@@ -110,7 +120,7 @@ go-course-requires-clause-given c =
     let date : ℕ = c.last_date-date.result in
     let date_is : date ≡ dates_done k.shared.date - 1 = c.last_date-date.ensures in
     let t = takes k is d agent pick in
-    (k.shared.inputs.lists, stalls_of k.script, turns_in k k.cycles, t.0, t.1, pending_deadline k.ready agent, has k is d agent pick date date_is c.index_mut.result.now c.index_mut-in-Some.result.now c.index_mut-in-Some-2.result.now c.index_mut-in-Some-3.result.now c.index_mut.ensures.value c.index_mut-in-Some.ensures.value c.index_mut-in-Some-2.ensures.value c.index_mut-in-Some-3.ensures.value c.deref.result.now c.deref.ensures.value)
+    (k.shared.inputs.lists, stalls_of k.script, turns_in k k.cycles, t.0, t.1, pending_deadline k.ready agent, has k is d agent pick date date_is c.index_mut.result.now c.index_mut-in-Some.result.now c.index_mut-in-Some-2.result.now c.index_mut-in-Some-3.result.now c.index_mut.ensures.value c.index_mut-in-Some.ensures.value c.index_mut-in-Some-2.ensures.value c.index_mut-in-Some-3.ensures.value c.deref.result.now c.deref-in-Some.result.now c.index_mut-in-Some-4.result.now c.deref.ensures.value c.deref-in-Some.ensures.value c.index_mut-in-Some-4.ensures.value)
 
 pub note-requires-clause-early : goal.note-requires-clause-early
 note-requires-clause-early c =
@@ -126,7 +136,7 @@ note-requires-clause-early c =
     let date : ℕ = c.last_date-date.result in
     let date_is : date ≡ dates_done k.shared.date - 1 = c.last_date-date.ensures in
     let t = takes k is d agent pick in
-    let given = has k is d agent pick date date_is c.index_mut.result.now c.index_mut-in-Some.result.now c.index_mut-in-Some-2.result.now c.index_mut-in-Some-3.result.now c.index_mut.ensures.value c.index_mut-in-Some.ensures.value c.index_mut-in-Some-2.ensures.value c.index_mut-in-Some-3.ensures.value c.deref.result.now c.deref.ensures.value in
+    let given = has k is d agent pick date date_is c.index_mut.result.now c.index_mut-in-Some.result.now c.index_mut-in-Some-2.result.now c.index_mut-in-Some-3.result.now c.index_mut.ensures.value c.index_mut-in-Some.ensures.value c.index_mut-in-Some-2.ensures.value c.index_mut-in-Some-3.ensures.value c.deref.result.now c.deref-in-Some.result.now c.index_mut-in-Some-4.result.now c.deref.ensures.value c.deref-in-Some.ensures.value c.index_mut-in-Some-4.ensures.value in
     let look : Option (ℕ × ℕ) = c.go-course.result.look in
     let looked : IsLookIn (run_in k) k.plan.code t.0 (units t.0.agent t.0.number (turns_in k k.cycles)) look = c.go-course.ensures.look k.shared.inputs.lists (stalls_of k.script) (turns_in k k.cycles) t.0 t.1 (pending_deadline k.ready agent) given in
     let start_is : c.index.result.now.start ≡ t.0.start = began k is d agent pick date date_is c.index_mut.result.now c.index_mut-in-Some.result.now c.index_mut-in-Some-2.result.now c.index_mut-in-Some-3.result.now c.index_mut.ensures.value c.index_mut-in-Some.ensures.value c.index_mut-in-Some-2.ensures.value c.index_mut-in-Some-3.ensures.value c.index.result.now c.index.ensures in
@@ -146,7 +156,7 @@ note-requires-clause-near c =
     let date : ℕ = c.last_date-date.result in
     let date_is : date ≡ dates_done k.shared.date - 1 = c.last_date-date.ensures in
     let t = takes k is d agent pick in
-    let given = has k is d agent pick date date_is c.index_mut.result.now c.index_mut-in-Some.result.now c.index_mut-in-Some-2.result.now c.index_mut-in-Some-3.result.now c.index_mut.ensures.value c.index_mut-in-Some.ensures.value c.index_mut-in-Some-2.ensures.value c.index_mut-in-Some-3.ensures.value c.deref.result.now c.deref.ensures.value in
+    let given = has k is d agent pick date date_is c.index_mut.result.now c.index_mut-in-Some.result.now c.index_mut-in-Some-2.result.now c.index_mut-in-Some-3.result.now c.index_mut.ensures.value c.index_mut-in-Some.ensures.value c.index_mut-in-Some-2.ensures.value c.index_mut-in-Some-3.ensures.value c.deref.result.now c.deref-in-Some.result.now c.index_mut-in-Some-4.result.now c.deref.ensures.value c.deref-in-Some.ensures.value c.index_mut-in-Some-4.ensures.value in
     let look : Option (ℕ × ℕ) = c.go-course.result.look in
     let looked : IsLookIn (run_in k) k.plan.code t.0 (units t.0.agent t.0.number (turns_in k k.cycles)) look = c.go-course.ensures.look k.shared.inputs.lists (stalls_of k.script) (turns_in k k.cycles) t.0 t.1 (pending_deadline k.ready agent) given in
     let start_is : c.index.result.now.start ≡ t.0.start = began k is d agent pick date date_is c.index_mut.result.now c.index_mut-in-Some.result.now c.index_mut-in-Some-2.result.now c.index_mut-in-Some-3.result.now c.index_mut.ensures.value c.index_mut-in-Some.ensures.value c.index_mut-in-Some-2.ensures.value c.index_mut-in-Some-3.ensures.value c.index.result.now c.index.ensures in
@@ -166,7 +176,7 @@ invariant_of-self c =
     let date : ℕ = c.last_date-date.result in
     let date_is : date ≡ dates_done k.shared.date - 1 = c.last_date-date.ensures in
     let t = takes k is d agent pick in
-    let given = has k is d agent pick date date_is c.index_mut.result.now c.index_mut-in-Some.result.now c.index_mut-in-Some-2.result.now c.index_mut-in-Some-3.result.now c.index_mut.ensures.value c.index_mut-in-Some.ensures.value c.index_mut-in-Some-2.ensures.value c.index_mut-in-Some-3.ensures.value c.deref.result.now c.deref.ensures.value in
+    let given = has k is d agent pick date date_is c.index_mut.result.now c.index_mut-in-Some.result.now c.index_mut-in-Some-2.result.now c.index_mut-in-Some-3.result.now c.index_mut.ensures.value c.index_mut-in-Some.ensures.value c.index_mut-in-Some-2.ensures.value c.index_mut-in-Some-3.ensures.value c.deref.result.now c.deref-in-Some.result.now c.index_mut-in-Some-4.result.now c.deref.ensures.value c.deref-in-Some.ensures.value c.index_mut-in-Some-4.ensures.value in
     let look : Option (ℕ × ℕ) = c.go-course.result.look in
     let looked : IsLookIn (run_in k) k.plan.code t.0 (units t.0.agent t.0.number (turns_in k k.cycles)) look = c.go-course.ensures.look k.shared.inputs.lists (stalls_of k.script) (turns_in k k.cycles) t.0 t.1 (pending_deadline k.ready agent) given in
     let start_is : c.index.result.now.start ≡ t.0.start = began k is d agent pick date date_is c.index_mut.result.now c.index_mut-in-Some.result.now c.index_mut-in-Some-2.result.now c.index_mut-in-Some-3.result.now c.index_mut.ensures.value c.index_mut-in-Some.ensures.value c.index_mut-in-Some-2.ensures.value c.index_mut-in-Some-3.ensures.value c.index.result.now c.index.ensures in
@@ -185,6 +195,13 @@ invariant_of-self c =
     let charges : Vec Charged Global = with_item k.charges agent charge in
     let figures : Vec Figure Global = with_item k.figures agent figure in
     let copies : Vec ℤ Global = c.go-course.new.ended in
+    let outbox : Outboxed = c.go-course.new.outbox in
+    let outboxes : Vec Outboxed Global = with_item k.shared.outboxes agent outbox in
+    let counts : Vec ℕ Global = c.go-course.new.taken in
+    let box : BoxStands (run_in k) k.plan.code (Some (record { agent = r.agent; number = r.number }) ∷ turns_in k k.cycles) d.date agent (r ∷ before) outbox.sends counts.items =
+    subst (λ n. BoxStands (run_in k) k.plan.code (Some (record { agent = r.agent; number = r.number }) ∷ turns_in k k.cycles) n agent (r ∷ before) outbox.sends counts.items) (on_date k is d agent pick r before t.2 date date_is)
+    (c.go-course.ensures.boxed k.shared.inputs.lists (stalls_of k.script) (turns_in k k.cycles) r before waits given) in
+    let size = same_size k is d agent pick date date_is c.index_mut.result.now c.index_mut-in-Some.result.now c.index_mut-in-Some-2.result.now c.index_mut-in-Some-3.result.now c.index_mut.ensures.value c.index_mut-in-Some.ensures.value c.index_mut-in-Some-2.ensures.value c.index_mut-in-Some-3.ensures.value c.index_mut-in-Some-4.result.now outbox c.index_mut-in-Some-4.ensures.value c.go-course.ensures.size in
     let reaches : Vec (Option ℕ) Global = c.note.new.reaches in
     let reached = reached_given k is d agent pick r before t.2 c.index.result.now.start date start_is date_is look looked reaches.items c.note.ensures.reaching (c.note.ensures.reached k.shared.inputs.lists (stalls_of k.script)) in
     let ready : List (Option ℕ) = c.drop_agent.new.self in
@@ -192,10 +209,10 @@ invariant_of-self c =
     let one : OneStands (run_in k) k.plan.code (Some (record { agent = r.agent; number = r.number }) ∷ turns_in k k.cycles) k.plan.until d.date agent (r ∷ before) charge machine None figure seat copies.items =
     subst (λ n. OneStands (run_in k) k.plan.code (Some (record { agent = r.agent; number = r.number }) ∷ turns_in k k.cycles) k.plan.until n agent (r ∷ before) charge machine None figure seat copies.items) (on_date k is d agent pick r before t.2 date date_is)
     (subst (λ on. OneStands (run_in k) k.plan.code (Some (record { agent = r.agent; number = r.number }) ∷ turns_in k k.cycles) k.plan.until date agent (r ∷ before) charge machine (if on then waits else None) figure seat copies.items) (is_off c.go-course.result.goes c.if-not-course.true) has_then) in
-    counted_stale (record k { shared = record k.shared { seats = seats; ended = copies }; machines = machines; charges = charges; figures = figures; ready = ready; reaches = reaches; chosen = chosen; stale = true })
-    (given_between k is d agent pick r before t.2 machine charge None figure seat copies.items one c.go-course.ensures.all c.go-course.ensures.others ready c.drop_agent.ensures.agents
+    counted_stale (record k { shared = record k.shared { seats = seats; ended = copies; outboxes = outboxes; taken = counts }; machines = machines; charges = charges; figures = figures; ready = ready; reaches = reaches; chosen = chosen; stale = true })
+    (given_between k is d agent pick r before t.2 machine charge None figure seat copies.items one c.go-course.ensures.all c.go-course.ensures.others outbox counts.items box size c.go-course.ensures.count c.go-course.ensures.untaken ready c.drop_agent.ensures.agents
     (λ w at. get_set_same k.ready agent None w (sym (ap (λ xs. slice_get xs agent) dropped) ∙ at)) (λ other differs. ap (λ xs. slice_get xs other) dropped ∙ get_set_other k.ready agent other None differs)
-    seats copies machines charges figures reaches chosen true refl refl refl refl refl c.note.ensures.reaching reached (λ wrong. absurd (true≢false wrong))) passed come
+    seats copies outboxes counts machines charges figures reaches chosen true refl refl refl refl refl refl refl c.note.ensures.reaching reached (λ wrong. absurd (true≢false wrong))) passed come
 
 pub invariant_of-self-else-not-course : goal.invariant_of-self-else-not-course
 invariant_of-self-else-not-course c =
@@ -211,7 +228,7 @@ invariant_of-self-else-not-course c =
     let date : ℕ = c.last_date-date.result in
     let date_is : date ≡ dates_done k.shared.date - 1 = c.last_date-date.ensures in
     let t = takes k is d agent pick in
-    let given = has k is d agent pick date date_is c.index_mut.result.now c.index_mut-in-Some.result.now c.index_mut-in-Some-2.result.now c.index_mut-in-Some-3.result.now c.index_mut.ensures.value c.index_mut-in-Some.ensures.value c.index_mut-in-Some-2.ensures.value c.index_mut-in-Some-3.ensures.value c.deref.result.now c.deref.ensures.value in
+    let given = has k is d agent pick date date_is c.index_mut.result.now c.index_mut-in-Some.result.now c.index_mut-in-Some-2.result.now c.index_mut-in-Some-3.result.now c.index_mut.ensures.value c.index_mut-in-Some.ensures.value c.index_mut-in-Some-2.ensures.value c.index_mut-in-Some-3.ensures.value c.deref.result.now c.deref-in-Some.result.now c.index_mut-in-Some-4.result.now c.deref.ensures.value c.deref-in-Some.ensures.value c.index_mut-in-Some-4.ensures.value in
     let look : Option (ℕ × ℕ) = c.go-course.result.look in
     let looked : IsLookIn (run_in k) k.plan.code t.0 (units t.0.agent t.0.number (turns_in k k.cycles)) look = c.go-course.ensures.look k.shared.inputs.lists (stalls_of k.script) (turns_in k k.cycles) t.0 t.1 (pending_deadline k.ready agent) given in
     let start_is : c.index.result.now.start ≡ t.0.start = began k is d agent pick date date_is c.index_mut.result.now c.index_mut-in-Some.result.now c.index_mut-in-Some-2.result.now c.index_mut-in-Some-3.result.now c.index_mut.ensures.value c.index_mut-in-Some.ensures.value c.index_mut-in-Some-2.ensures.value c.index_mut-in-Some-3.ensures.value c.index.result.now c.index.ensures in
@@ -230,15 +247,22 @@ invariant_of-self-else-not-course c =
     let charges : Vec Charged Global = with_item k.charges agent charge in
     let figures : Vec Figure Global = with_item k.figures agent figure in
     let copies : Vec ℤ Global = c.go-course.new.ended in
+    let outbox : Outboxed = c.go-course.new.outbox in
+    let outboxes : Vec Outboxed Global = with_item k.shared.outboxes agent outbox in
+    let counts : Vec ℕ Global = c.go-course.new.taken in
+    let box : BoxStands (run_in k) k.plan.code (Some (record { agent = r.agent; number = r.number }) ∷ turns_in k k.cycles) d.date agent (r ∷ before) outbox.sends counts.items =
+    subst (λ n. BoxStands (run_in k) k.plan.code (Some (record { agent = r.agent; number = r.number }) ∷ turns_in k k.cycles) n agent (r ∷ before) outbox.sends counts.items) (on_date k is d agent pick r before t.2 date date_is)
+    (c.go-course.ensures.boxed k.shared.inputs.lists (stalls_of k.script) (turns_in k k.cycles) r before waits given) in
+    let size = same_size k is d agent pick date date_is c.index_mut.result.now c.index_mut-in-Some.result.now c.index_mut-in-Some-2.result.now c.index_mut-in-Some-3.result.now c.index_mut.ensures.value c.index_mut-in-Some.ensures.value c.index_mut-in-Some-2.ensures.value c.index_mut-in-Some-3.ensures.value c.index_mut-in-Some-4.result.now outbox c.index_mut-in-Some-4.ensures.value c.go-course.ensures.size in
     let reaches : Vec (Option ℕ) Global = c.note.new.reaches in
     let reached = reached_given k is d agent pick r before t.2 c.index.result.now.start date start_is date_is look looked reaches.items c.note.ensures.reaching (c.note.ensures.reached k.shared.inputs.lists (stalls_of k.script)) in
     let one : OneStands (run_in k) k.plan.code (Some (record { agent = r.agent; number = r.number }) ∷ turns_in k k.cycles) k.plan.until d.date agent (r ∷ before) charge machine waits figure seat copies.items =
     subst (λ n. OneStands (run_in k) k.plan.code (Some (record { agent = r.agent; number = r.number }) ∷ turns_in k k.cycles) k.plan.until n agent (r ∷ before) charge machine waits figure seat copies.items) (on_date k is d agent pick r before t.2 date date_is)
     (subst (λ on. OneStands (run_in k) k.plan.code (Some (record { agent = r.agent; number = r.number }) ∷ turns_in k k.cycles) k.plan.until date agent (r ∷ before) charge machine (if on then waits else None) figure seat copies.items) (is_on c.go-course.result.goes c.if-not-course.false) has_then) in
-    counted_fresh (record k { shared = record k.shared { seats = seats; ended = copies }; machines = machines; charges = charges; figures = figures; reaches = reaches; chosen = chosen; stale = false })
-    (given_between k is d agent pick r before t.2 machine charge waits figure seat copies.items one c.go-course.ensures.all c.go-course.ensures.others k.ready refl
+    counted_fresh (record k { shared = record k.shared { seats = seats; ended = copies; outboxes = outboxes; taken = counts }; machines = machines; charges = charges; figures = figures; reaches = reaches; chosen = chosen; stale = false })
+    (given_between k is d agent pick r before t.2 machine charge waits figure seat copies.items one c.go-course.ensures.all c.go-course.ensures.others outbox counts.items box size c.go-course.ensures.count c.go-course.ensures.untaken k.ready refl
     (λ w at. sym (get_or_from_slice_get k.ready agent w None at)) (λ other differs. refl)
-    seats copies machines charges figures reaches chosen false refl refl refl refl refl c.note.ensures.reaching reached (λ fresh. choice)) refl passed come c.passed_by-passed.ensures.no_less
+    seats copies outboxes counts machines charges figures reaches chosen false refl refl refl refl refl refl refl c.note.ensures.reaching reached (λ fresh. choice)) refl passed come c.passed_by-passed.ensures.no_less
 
 pub invariant_of-self-in_default : goal.invariant_of-self-in_default
 invariant_of-self-in_default c =

@@ -1,4 +1,4 @@
-use Rattle.std.proofs.Common.{◌≡◌, ℕ, ◌+◌, ◌*◌, ◌≤◌, suc, List, length, None, true, ap, sym, subst, ◌∙◌, arith, ℤ}
+use Rattle.std.proofs.Common.{◌≡◌, ℕ, ◌+◌, ◌*◌, ◌≤◌, suc, List, length, None, true, refl, ap, sym, subst, ◌∙◌, arith, ℤ}
 use Rattle.std.proofs.Math.Numerals.{add-one}
 use Rattle.psy_ready.specs.Choice.{pending_deadline}
 use Rattle.psy_meaning.specs.Actions.{System}
@@ -10,10 +10,10 @@ use Rattle.psy_dates.specs.Standing.{SharedStands, dates_done}
 use Rattle.psy_kernel.specs.declared.stage.Stage.TheVariants.{CycleDue}
 use Rattle.psy_kernel.specs.Progress.{Progress, after_date, stage_of}
 use Rattle.psy_kernel.specs.Scripts.{stalls_of}
-use Rattle.psy_kernel.specs.Standing.{AgentStands, InTick, given_at}
-use Rattle.psy_kernel.specs.Starting.{IsDoneBelow, charge_at, deadline_at, seat_at, starts_at}
+use Rattle.psy_kernel.specs.Standing.{AgentStands, DeedsStand, InTick, given_at, most_held_in}
+use Rattle.psy_kernel.specs.Starting.{IsDoneBelow, charge_at, deadline_at, held_at, seat_at, starts_at}
 use Rattle.psy_kernel.proofs.Dated.{cycle_after, date_due, over_after}
-use Rattle.psy_kernel.proofs.DatesDue.{after, agents, before_filled, free, is_due, its, none_due, none_given, same_reach, tick, ties, view_after}
+use Rattle.psy_kernel.proofs.DatesDue.{after, agents, before_filled, deeds, free, helds, is_due, its, none_due, none_given, same_reach, tick, ties, view_after}
 use Rattle.psy_kernel.proofs.kernel.Kernel.date.Goals as goal
 
 pub at_date-requires-clause-due : goal.at_date-requires-clause-due
@@ -29,13 +29,21 @@ at_date-requires-clause-stands c =
     let due = is_due k c.args.self.now date c.self.invariant c.self.view_is c.requires.due c.dates-date.ensures.dates c.dates-date.ensures.few c.regular.ensures.lawful c.given.ensures.unstarted c.on_time.ensures.due in
     (stalls_of k.script, ties k date due, before_filled k date due)
 
+pub hold_all-requires : goal.hold_all-requires
+hold_all-requires c =
+    let k = c.self.inside in
+    let date = c.dates-date.result in
+    let due = is_due k c.args.self.now date c.self.invariant c.self.view_is c.requires.due c.dates-date.ensures.dates c.dates-date.ensures.few c.regular.ensures.lawful c.given.ensures.unstarted c.on_time.ensures.due in
+    let done = c.at_date.ensures.stands (stalls_of k.script) (ties k date due) (before_filled k date due) in
+    c.self.invariant.holding ∙ sym done.queued ∙ sym (ap length c.as_slice.ensures.value)
+
 pub start_all-requires-clause-seated : goal.start_all-requires-clause-seated
 start_all-requires-clause-seated c =
     let k = c.self.inside in
     let date = c.dates-date.result in
     let due = is_due k c.args.self.now date c.self.invariant c.self.view_is c.requires.due c.dates-date.ensures.dates c.dates-date.ensures.few c.regular.ensures.lawful c.given.ensures.unstarted c.on_time.ensures.due in
     let done = c.at_date.ensures.stands (stalls_of k.script) (ties k date due) (before_filled k date due) in
-    ap length c.as_slice.ensures.value ∙ done.seated ∙ sym (ap length c.as_slice-2.ensures)
+    ap length c.as_slice-2.ensures.value ∙ done.seated ∙ sym (ap length c.as_slice-3.ensures)
 
 pub start_all-requires-clause-free : goal.start_all-requires-clause-free
 start_all-requires-clause-free c =
@@ -43,7 +51,7 @@ start_all-requires-clause-free c =
     let date = c.dates-date.result in
     let due = is_due k c.args.self.now date c.self.invariant c.self.view_is c.requires.due c.dates-date.ensures.dates c.dates-date.ensures.few c.regular.ensures.lawful c.given.ensures.unstarted c.on_time.ensures.due in
     let done = c.at_date.ensures.stands (stalls_of k.script) (ties k date due) (before_filled k date due) in
-    subst (λ seats. (agent : ℕ) → starts_at date (seat_at seats agent) ≡ true → pending_deadline k.ready agent ≡ None) (sym c.as_slice.ensures.value) (free k date due c.at_date.new.shared done)
+    subst (λ seats. (agent : ℕ) → starts_at date (seat_at seats agent) ≡ true → pending_deadline k.ready agent ≡ None) (sym c.as_slice-2.ensures.value) (free k date due c.at_date.new.shared done)
 
 pub invariant_of-self : goal.invariant_of-self
 invariant_of-self c =
@@ -59,11 +67,13 @@ invariant_of-self c =
     let lists : k.shared.inputs.lists ≡ shared.inputs.lists = ap (λ i. i.lists) (sym c.at_date.ensures.inputs) in
     let dates : suc date ≡ dates_done shared.date = sym (done.date ∙ add-one date) in
     let same_seats : IsDoneBelow (charge_at date shared.seats.items unit.agents) (length unit.agents) k.charges.items c.start_all.new.charges.items =
-    subst (λ seats. IsDoneBelow (charge_at date seats unit.agents) (length unit.agents) k.charges.items c.start_all.new.charges.items) c.as_slice.ensures.value
-    (subst (λ agents. IsDoneBelow (charge_at date c.as_slice.result.now agents) (length agents) k.charges.items c.start_all.new.charges.items) c.as_slice-2.ensures c.start_all.ensures.charges) in
+    subst (λ seats. IsDoneBelow (charge_at date seats unit.agents) (length unit.agents) k.charges.items c.start_all.new.charges.items) c.as_slice-2.ensures.value
+    (subst (λ agents. IsDoneBelow (charge_at date c.as_slice-2.result.now agents) (length agents) k.charges.items c.start_all.new.charges.items) c.as_slice-3.ensures c.start_all.ensures.charges) in
+    let same_helds : IsDoneBelow (held_at shared.queues.items) (length shared.queues.items) k.helds.items c.hold_all.new.helds.items =
+    subst (λ queues. IsDoneBelow (held_at queues) (length queues) k.helds.items c.hold_all.new.helds.items) c.as_slice.ensures.value c.hold_all.ensures in
     let same_ready : IsDoneBelow (deadline_at date shared.seats.items) (length unit.agents) k.ready c.start_all.new.ready =
-    subst (λ seats. IsDoneBelow (deadline_at date seats) (length unit.agents) k.ready c.start_all.new.ready) c.as_slice.ensures.value
-    (subst (λ agents. IsDoneBelow (deadline_at date c.as_slice.result.now) (length agents) k.ready c.start_all.new.ready) c.as_slice-2.ensures c.start_all.ensures.ready) in
+    subst (λ seats. IsDoneBelow (deadline_at date seats) (length unit.agents) k.ready c.start_all.new.ready) c.as_slice-2.ensures.value
+    (subst (λ agents. IsDoneBelow (deadline_at date c.as_slice-2.result.now) (length agents) k.ready c.start_all.new.ready) c.as_slice-3.ensures c.start_all.ensures.ready) in
     record {
       plan = h.plan;
       inputs = subst (AreInputs unit) lists h.inputs;
@@ -78,6 +88,14 @@ invariant_of-self c =
           subst (λ i. n ≡ reach (s i) (turns_of (s i) order k.cycles) (history (s i) (dates_done shared.date)) variable) lists
           (subst (λ d. n ≡ reach (its k date due) (turns_of (its k date due) order k.cycles) (history (its k date due) d) variable) (sym done.date)
           (same_reach k date due c.reaches.ensures.date variable n en));
+      holding = same_helds.count ∙ h.holding;
+      held = λ stream n en.
+          subst (λ i. n ≡ most_held_in (s i) (dates_done shared.date) stream) lists
+          (subst (λ d. n ≡ most_held_in (its k date due) d stream) (sym done.date) (helds k date due shared done c.hold_all.new.helds.items same_helds stream n en));
+      doing = λ agent outbox eo.
+          subst (λ i. DeedsStand (s i) k.plan.code (turns_of (s i) order k.cycles) (history (s i) (dates_done shared.date) agent) outbox.sends shared.taken.items) lists
+          (subst (λ d. DeedsStand (its k date due) k.plan.code (turns_of (its k date due) order k.cycles) (history (its k date due) d agent) outbox.sends shared.taken.items) dates
+          (deeds k date due shared done c.at_date.ensures.begun c.at_date.ensures.going agent outbox eo));
       waiting = same_ready.count ∙ h.waiting;
       figured = h.figured;
       agents = λ agent machine charge waits figure em ec ew ef.
@@ -88,7 +106,8 @@ invariant_of-self c =
       orders = h.orders;
       choice = λ e. absurd (cc);
       place = omega arith;
-      given = subst (λ d. 0 ≡ given_at (s shared.inputs.lists) d 0) dates (none_given (s shared.inputs.lists) date);
+      unshown = λ l. refl;
+      given = subst (λ d. 0 ≡ given_at (s shared.inputs.lists) d 0 0) dates (none_given (s shared.inputs.lists) date);
     }
 
 pub returns-clause-state : goal.returns-clause-state

@@ -13,12 +13,13 @@ returns c =
     let k = c.self.inside in
     let w = c.self.invariant in
     let over : stage_of (progress_of k) ≡ Over = ap stage_of c.self.view_is ∙ c.requires.over in
-    let told : summary_told c.args.self.now ≡ figured_lines k.plan c.deref.result.now c.deref-2.result.now =
+    let told : summary_told c.args.self.now ≡ figured_lines k.plan c.deref.result.now c.deref-2.result.now c.deref-3.result.now =
     ap summary_told (sym c.self.view_is)
     ∙ summary_figured k w over (c.regular.ensures.lawful k.plan.unit k.plan.code k.plan.nexts (stalls_of k.script) k.shared.inputs.lists w.plan.compiled w.inputs)
     (λ agent r supplied held le. c.on_time.ensures.due (system (progress_of k)) (order (progress_of k)) k.plan.until k.plan.until agent r supplied (omega arith) held le)
-    ∙ ap (λ figures. figured_lines k.plan figures k.reaches.items) (sym c.deref.ensures.value)
-    ∙ ap (figured_lines k.plan c.deref.result.now) (sym c.deref-2.ensures.value) in
+    ∙ ap (λ figures. figured_lines k.plan figures k.reaches.items k.helds.items) (sym c.deref.ensures.value)
+    ∙ ap (λ reaches. figured_lines k.plan c.deref.result.now reaches k.helds.items) (sym c.deref-2.ensures.value)
+    ∙ ap (figured_lines k.plan c.deref.result.now c.deref-2.result.now) (sym c.deref-3.ensures.value) in
     record {
       some = λ is. ap (λ lines. slice_get lines c.args.place) told ∙ c.tell_figure.ensures.some is;
       few = subst (λ p. length (summary_told p) < 2 ^ 32) c.self.view_is (summary-few (progress_of k) w.plan);

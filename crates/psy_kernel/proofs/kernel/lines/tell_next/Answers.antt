@@ -11,8 +11,9 @@ returns-then-told c =
     let within : c.walking.at < length plan.unit.agents + length plan.unit.variables = omega (arith, c.walking-test.true, c.len.ensures, c.len-2.ensures) in
     record {
       told = λ stalls turns stands.
-          subst (λ (line : List ℕ). IsNextTold (system_of plan c.args.shared.now.inputs.lists stalls) c.args.date c.args.place (Some (c.walking.at + 1)) line c.tell_place-told.new.line) c.walking.invariant.line
+          subst (λ (line : List ℕ). IsNextTold (system_of plan c.args.shared.now.inputs.lists stalls) c.args.date (length plan.unit.agents + length plan.unit.variables) c.args.place 0 (Some (record { place = c.walking.at + 1; shown = 0 })) line c.tell_place-told.new.line) c.walking.invariant.line
           (walked_to (system_of plan c.args.shared.now.inputs.lists stalls) c.args.date c.args.place c.walking.at c.walking.line c.tell_place-told.new.line within (c.walking.invariant.told stalls turns stands) (c.if-told.ensures.told stalls turns stands));
+      kept = λ none. absurd (cc);
     }
 
 pub walking-preserved : goal.walking-preserved
@@ -32,5 +33,6 @@ returns c =
     let all : length plan.unit.agents + length plan.unit.variables ≡ c.walking.at = omega (arith, c.walking-test.false, c.walking.invariant.within, c.len.ensures, c.len-2.ensures) in
     record {
       told = λ stalls turns stands.
-          (ap (told_from (system_of plan c.args.shared.now.inputs.lists stalls) c.args.date) all ∙ c.walking.invariant.told stalls turns stands, c.walking.invariant.line);
+          (ap (λ place. told_from (system_of plan c.args.shared.now.inputs.lists stalls) c.args.date place 0) all ∙ c.walking.invariant.told stalls turns stands, c.walking.invariant.line);
+      kept = λ none. c.walking.invariant.line;
     }

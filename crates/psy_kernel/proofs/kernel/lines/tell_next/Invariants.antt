@@ -11,7 +11,7 @@ invariant-walking l = record {
   within : l.at ≤ l.places;
   line : l.line ≡ l.fn.line;
   told : (stalls : ℕ → List Stall) (turns : List (Option Turn)) → SharedStands (system_of l.plan l.shared.inputs.lists stalls) turns (l.date + 1) l.shared
-      → told_from (system_of l.plan l.shared.inputs.lists stalls) l.date l.at ≡ told_from (system_of l.plan l.shared.inputs.lists stalls) l.date l.fn.place;
+      → told_from (system_of l.plan l.shared.inputs.lists stalls) l.date l.at 0 ≡ told_from (system_of l.plan l.shared.inputs.lists stalls) l.date l.fn.place 0;
 }
 
 abbrev pub decreases-walking : goal.decreases-walking

@@ -1,0 +1,44 @@
+//! What a date clears: what the actions that end there sent and took.
+
+ghost use Rattle.std.specs.Prelude.{◌≡◌, ℕ, [], length, if◌then◌else◌, Some, slice_get};
+ghost use Rattle.psy_meaning.specs.QueueSizes.{stream_at};
+ghost use Rattle.psy_dates.specs.Moves.{ends_at};
+ghost use Rattle.psy_dates.specs.Outboxes.{Outboxed};
+
+use crate::commits::ends_there;
+use crate::outbox::Outbox;
+use crate::plan::Plan;
+use crate::seat::Seat;
+
+/// Clears the outbox of an agent where its action ends.
+fn clear(ends: bool, outbox: &mut Outbox)
+    ensures { outbox.new ≡ (if ends then record outbox.old { sends = [] } else outbox.old) }
+{
+    if ends {
+        outbox.clear();
+    }
+}
+
+/// Clears the outboxes of the agents whose actions end at a date.
+pub fn clear_outboxes(date: u64, seats: &[Seat], outboxes: &mut [Outbox])
+    ensures { (agent : ℕ) (outbox : Outboxed) → slice_get outboxes.old agent ≡ Some outbox
+        → slice_get outboxes.new agent ≡ Some (if ends_at date (slice_get seats.now agent) then record outbox { sends = [] } else outbox) }
+{
+    'agents: for agent in 0..outboxes.len() {
+        clear(ends_there(date, seats, agent), &mut outboxes[agent]);
+    }
+}
+
+/// Sets to 0 how many messages were taken from each stream whose receiver's action ends at a date.
+pub fn clear_takes(plan: &Plan, date: u64, seats: &[Seat], taken: &mut [u32])
+    requires { length taken.old ≡ length plan.now.unit.streams }
+    ensures { (stream n : ℕ) → slice_get taken.old stream ≡ Some n
+        → slice_get taken.new stream ≡ Some (if ends_at date (slice_get seats.now (stream_at plan.now.unit stream).receiver) then 0 else n) }
+{
+    'streams: for stream in 0..taken.len() {
+        let receiver = plan.unit.streams.as_slice()[stream].receiver as usize;
+        if ends_there(date, seats, receiver) {
+            taken[stream] = 0;
+        }
+    }
+}

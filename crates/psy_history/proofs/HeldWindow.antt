@@ -1,0 +1,137 @@
+-- The dates for which a message may be held: a message that is held entered less than so many dates before.
+use Rattle.std.proofs.Common.{◌≡◌, ℕ, suc, ◌+◌, ◌-◌, ◌*◌, ◌<◌, ◌≤◌, All, Bool, true, false, List, [], ◌∷◌, map, length, Option, Some, None, refl, ap, ◌∙◌, inl, inr, arith}
+use Rattle.std.specs.Prelude.{◌==◌, ◌&&◌, not, nat_le, if◌then◌else◌}
+use Rattle.std.specs.List.{Contains}
+use Rattle.std.proofs.lemmas.Bool.{eq-eqb, leb-false, ltb-true}
+use Rattle.std.proofs.lemmas.List.Elements.{All-head, All-tail, Contains-get_or}
+use Rattle.psy_base.specs.declared.message.Message.{Message}
+use Rattle.psy_clock.specs.declared.clock.Clock.{Clock}
+use Rattle.psy_clock.specs.Dates.{IsClock, after_date, from_date}
+use Rattle.psy_code.specs.declared.look.Sent.{Sent}
+use Rattle.psy_meaning.specs.Actions.{Action, Next, System, Verdict, Done, Overran, Trapped, clock_of, is_done, next_by, next_of, stream_of, timing}
+use Rattle.psy_meaning.specs.Executors.{agent_at}
+use Rattle.psy_meaning.specs.Flow.{IsGreatest}
+use Rattle.psy_meaning.specs.History.{history}
+use Rattle.psy_meaning.specs.QueueSizes.{MayLast, all_sendings, delay_of, longest_delay, lasting_of, sendings_in, sendings_to}
+use Rattle.psy_meaning.specs.Summary.{most_of}
+use Rattle.psy_meaning.specs.Timing.{end_date, first_date, following}
+use Rattle.psy_meaning.specs.Visible.{is_fresh, message_of, swept}
+use Rattle.psy_meaning.specs.Ways.{Sending, sending_of}
+use Rattle.psy_history.specs.Regular.{IsLawful, IsRegular}
+use Rattle.psy_history.proofs.Deadlines.{deadline_least, some_follows}
+use Rattle.psy_history.proofs.Members.{contains_map, contains_none, filter_in, flat_map_in, front_or_behind, get_or_holds}
+use Rattle.psy_history.proofs.NextStarts.{next_late, regular_head}
+use Rattle.psy_history.proofs.SentMessages.{HasStreams}
+use Rattle.psy_history.proofs.Timings.{every_tick}
+
+-- ---- the greatest of some numbers
+
+-- none is greater
+pub most_above : (numbers : List ℕ) (n : ℕ) → Contains numbers n → n ≤ most_of numbers
+most_above [] n c = absurd (contains_none n c)
+most_above (first ∷ numbers) n c = elim (front_or_behind first numbers n c) [
+  | inl e ↦ omega (arith, e)
+  | inr there ↦ omega (arith, most_above numbers n there)
+]
+
+-- where none is greater than a bound, neither is it
+pub most_below : (numbers : List ℕ) (bound : ℕ) → All (λ n. n ≤ bound) numbers → most_of numbers ≤ bound
+most_below [] bound all = omega arith
+most_below (first ∷ numbers) bound all = omega (arith, All-head (λ n. n ≤ bound) first numbers all, most_below numbers bound (All-tail (λ n. n ≤ bound) first numbers all))
+
+-- ---- the receiver
+
+-- Fewer dates than these have passed since a stream was rid of what had expired, or in all.
+abbrev IsNear : ℕ → ℕ → Option ℕ → Type 0
+IsNear date ticks None = date < ticks
+IsNear date ticks (Some last) = date < last + ticks
+
+module _ (s : System) (lawful : IsLawful s) (receiver longest : ℕ) (greatest : IsGreatest (MayLast (timing s receiver)) longest) where
+  -- An action that reaches a point lasts no longer.
+  lasts : (r : Action) → IsRegular s receiver r → (point : ℕ) → Contains (following (timing s receiver) r.point) point → end_date (timing s receiver) r.start point ≤ r.start + longest
+  lasts r regular point follows =
+      let times = timing s receiver in
+      let end = end_date times r.start point in
+      let behind = deadline_least times r.point r.start point follows in
+      let ticks : r.start + (end - r.start) ≡ end = omega (arith, behind, regular.due, regular.deadline) in
+      let most = greatest.most (end - r.start) (inr (r.point, r.start, point, regular.starts, follows, ticks)) in
+      omega (arith, most, ticks)
+
+  -- Nor does one until it is due.
+  due_near : (r : Action) → IsRegular s receiver r → r.deadline ≤ r.start + longest
+  due_near r regular =
+      let times = timing s receiver in
+      let (point, follows) = some_follows times r.point r.start (omega (arith, regular.due, regular.deadline)) in
+      omega (arith, lasts r regular point follows, deadline_least times r.point r.start point follows, regular.deadline)
+
+  -- where it is stopped
+  stopped_near : (date : ℕ) (r : Action) → IsRegular s receiver r → (b : Bool) → nat_le r.deadline date ≡ b → IsNear date longest (Some (if b then date else r.start))
+  stopped_near date r regular true passed = omega (arith, due_near r regular, regular.due)
+  stopped_near date r regular false due = omega (arith, due_near r regular, leb-false r.deadline date due)
+
+  -- since the start of the last action, or none where the receiver is silent
+  last_near : (date : ℕ) (r : Action) → IsRegular s receiver r → (v : Verdict) → r.verdict ≡ v → ((n : Next) → next_by r.number r.after v ≡ Some n → date < n.start)
+      → IsNear date longest (Some (if not (is_done v) && nat_le r.deadline date then date else r.start))
+  last_near date r regular (Done point end) done late =
+      let ends = regular.ends point end done in
+      omega (arith, late (record { number = r.number + 1; point = point; start = end; carried = r.after }) refl, ends.1, lasts r regular point ends.0)
+  last_near date r regular (Trapped kind) done late = stopped_near date r regular (nat_le r.deadline date) refl
+  last_near date r regular Overran done late = stopped_near date r regular (nat_le r.deadline date) refl
+
+  -- A stream's receiver starts, or was rid of what had expired, so soon.
+  pub swept_near : (date : ℕ) → ((n : Next) × (s.opening.starts receiver ≡ Some n) × (n.start ≡ first_date (timing s receiver))) → (actions : List Action) → history s (suc date) receiver ≡ actions → IsNear date longest (swept date actions)
+  swept_near date opens [] is =
+      let late = next_late s lawful (suc date) receiver opens.0 (ap (next_of s receiver) is ∙ opens.1) in
+      omega (arith, late, opens.2, greatest.most (first_date (timing s receiver)) (inl refl))
+  swept_near date opens (r ∷ before) is =
+      last_near date r (regular_head s lawful (suc date) receiver r before is) r.verdict refl
+      (λ n next. next_late s lawful (suc date) receiver n (ap (next_of s receiver) is ∙ next))
+
+-- ---- a message
+
+-- What psy_clock's laws say of how far dates lie
+pub record AreNear : Type 0 where
+  pub late : (c : Clock) (t k : ℕ) → IsClock c → 1 ≤ k → t < after_date c t k
+  pub after : (c : Clock) (t k : ℕ) → IsClock c → 1 ≤ k → after_date c t k ≤ t + k * c.period
+  pub from : (c : Clock) (t k : ℕ) → IsClock c → from_date c t k < t + (k + 1) * c.period
+
+-- What an action that reached a point sent is of its agent's text.
+abbrev pub SendsOfText : System → ℕ → Action → Type 0
+SendsOfText s agent r = (point end : ℕ) → r.verdict ≡ Done point end → (sent : Sent) → Contains r.deeds.sends sent → Contains (sendings_in (agent_at s.unit agent).stmts) (sending_of sent)
+
+module _ (s : System) (streams : HasStreams s) (near : AreNear) (stream : ℕ) where
+  -- each clock is lawful
+  clock_is : (clock : ℕ) → IsClock (clock_of s clock)
+  clock_is clock = get_or_holds IsClock s.unit.clocks clock _ every_tick streams.clocks
+
+  -- A message is kept for a tick at least.
+  some_lasting : 1 ≤ lasting_of s.unit stream
+  some_lasting =
+      let decl = stream_of s stream in
+      let is = clock_is decl.clock in
+      let behind = near.late (clock_of s decl.clock) 0 decl.keep is (streams.keeps stream) in
+      let most = near.after (clock_of s decl.clock) 0 decl.keep is (streams.keeps stream) in
+      omega (arith, behind, most)
+
+  -- The sends to the stream that an action did are of the text.
+  pub sending_there : (agent : ℕ) (sent : Sent) → agent < length s.unit.agents → Contains (sendings_in (agent_at s.unit agent).stmts) (sending_of sent) → sent.stream ≡ stream → Contains (all_sendings s.unit stream) (sending_of sent)
+  sending_there agent sent known of to =
+      flat_map_in (sendings_to stream) s.unit.agents (agent_at s.unit agent) (sending_of sent) (Contains-get_or s.unit.agents agent _ known)
+      (filter_in (λ (x : Sending). x.stream == stream) (sendings_in (agent_at s.unit agent).stmts) (sending_of sent) of (eq-eqb sent.stream stream to))
+
+  -- A message expires no later than the delays and the time for which it lasts say.
+  pub expires_near : (agent end number : ℕ) (sent : Sent) → sent.stream ≡ stream → Contains (all_sendings s.unit stream) (sending_of sent) → (message_of s agent end number sent).expiry ≤ end + longest_delay s.unit stream + lasting_of s.unit stream
+  expires_near agent end number sent to there =
+      let decl = stream_of s sent.stream in
+      let visible = from_date (clock_of s sent.clock) end sent.after in
+      let delay = most_above (map (delay_of s.unit) (all_sendings s.unit stream)) (delay_of s.unit (sending_of sent)) (contains_map (delay_of s.unit) (all_sendings s.unit stream) (sending_of sent) there) in
+      let seen = near.from (clock_of s sent.clock) end sent.after (clock_is sent.clock) in
+      let kept = near.after (clock_of s decl.clock) visible decl.keep (clock_is decl.clock) (streams.keeps sent.stream) in
+      let same : lasting_of s.unit sent.stream ≡ lasting_of s.unit stream = ap (lasting_of s.unit) to in
+      omega (arith, delay, seen, kept, same)
+
+  -- One that hasn't expired entered in the window.
+  pub fresh_near : (date longest entry : ℕ) (m : Message) (o : Option ℕ) → IsNear date longest o → m.expiry ≤ entry + longest_delay s.unit stream + lasting_of s.unit stream → is_fresh o m ≡ true
+      → date < entry + (longest_delay s.unit stream + lasting_of s.unit stream + longest - 1)
+  fresh_near date longest entry m None soon by fresh = omega (arith, soon, some_lasting)
+  fresh_near date longest entry m (Some last) soon by fresh = omega (arith, soon, by, ltb-true last m.expiry fresh)

@@ -1,0 +1,5 @@
+use Rattle.psy_kernel.specs.Starting.{IsDoneBelow, held_at}
+use Rattle.psy_kernel.proofs.kernel.date.hold_all.Given as goal
+
+abbrev pub invariant-each : goal.invariant-each
+invariant-each l = IsDoneBelow (held_at l.queues) l.stream l.initial.helds.items l.helds.items

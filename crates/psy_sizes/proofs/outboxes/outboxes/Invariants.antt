@@ -1,0 +1,11 @@
+use Rattle.std.proofs.Common.{◌≡◌, ℕ, ◌<◌, length, get_or}
+use Rattle.psy_meaning.specs.Executors.{agent_at}
+use Rattle.psy_meaning.specs.Flow.{IsGreatest}
+use Rattle.psy_meaning.specs.QueueSizes.{HasSendsTo}
+use Rattle.psy_sizes.proofs.outboxes.outboxes.Given as goal
+
+abbrev pub invariant-agents : goal.invariant-agents
+invariant-agents l = record {
+  count : length l.sizes ≡ l.number;
+  each : (number d : ℕ) → number < l.number → IsGreatest (HasSendsTo l.unit (agent_at l.unit number)) (get_or l.sizes number d);
+}

@@ -1,0 +1,53 @@
+use Rattle.std.proofs.Common.{◌≡◌, ◌⊎◌, ℕ, ◌<◌, ◌≤◌, List, [], ◌∷◌, ◌++◌, length, length-append, Err, IfErr, sym, ap, subst, inl, inr, arith, rules}
+use Rattle.std.specs.List.{All}
+use Rattle.std.proofs.lemmas.List.Elements.{All-push}
+use Rattle.psy_base.specs.declared.limits.TheConstants.{QUEUE}
+use Rattle.psy_meaning.specs.Flow.{AreAllNexts}
+use Rattle.psy_sizes.specs.declared.fault.SizeFault.{SizeFault}
+use Rattle.psy_sizes.specs.declared.fault.SizeFault.TheVariants.{Memory}
+use Rattle.psy_sizes.specs.Queues.{IsKeptQueue, IsQueueFault}
+use Rattle.psy_sizes.proofs.QueueOf.{all_queues, first_fault}
+use Rattle.psy_sizes.proofs.RingsOf.{each_more}
+use Rattle.psy_sizes.proofs.queues.queues.Goals as goal
+
+pub returns-in_err-queue-clause-cause : goal.returns-in_err-queue-clause-cause
+returns-in_err-queue-clause-cause c =
+    let unit = c.args.unit.now in
+    let fault = c.in_err-queue.field-0.0 in
+    let stream = c.streams.stream in
+    let kept = c.streams.invariant in
+    let known : stream < length unit.streams = omega (arith, c.streams-test.true, c.streams.auto.stream-end, c.len-stream-end.ensures) in
+    let Q : SizeFault → Type 0 = λ f. (f ≡ Memory) ⊎ ((nexts : List (List (List ℕ))) → AreAllNexts unit nexts → IsQueueFault unit nexts f) in
+    let is : Q fault = elim c.in_err-queue.ensures.cause [
+      | inl memory ↦ inl memory
+      | inr at ↦ inr (λ nexts are. first_fault unit nexts stream c.streams.sizes fault known (λ before d less. kept.each before d less nexts are) (at nexts are))
+    ] in
+    let e : c.from_residual.result ≡ Err fault = search rules in
+    subst (λ r. IfErr r Q) (sym e) is
+
+pub streams-preserved : goal.streams-preserved
+streams-preserved c =
+    let unit = c.args.unit.now in
+    let old = c.streams.sizes in
+    let new = c.push.new.sizes in
+    let size = c.in_ok-queue.field-0 in
+    let pushed : new ≡ old ++ size ∷ [] = c.in_ok-push.ensures in
+    let count : length new ≡ length (old ++ size ∷ []) = ap length pushed in
+    let Each : ℕ → ℕ → Type 0 = λ stream n. (nexts : List (List (List ℕ))) → AreAllNexts unit nexts → IsKeptQueue unit nexts stream n in
+    let Fit : ℕ → Type 0 = λ n. n ≤ QUEUE in
+    record {
+      count = omega (arith, count, c.streams.invariant.count, length-append old (size ∷ []));
+      each = each_more Each old new size c.streams.stream c.streams.invariant.count c.streams.invariant.each c.in_ok-queue.ensures.queue pushed;
+      small = subst (All Fit) (sym pushed) (All-push Fit old size c.streams.invariant.small c.in_ok-queue.ensures.small);
+    }
+
+pub returns-clause-queues : goal.returns-clause-queues
+returns-clause-queues c nexts are =
+    let unit = c.args.unit.now in
+    let kept = c.streams.invariant in
+    let all : c.streams.stream ≡ length unit.streams = omega (arith, kept.count, c.streams-test.false, c.streams.auto.stream-end, c.len-stream-end.ensures) in
+    all_queues unit nexts c.streams.sizes (omega (arith, kept.count, all)) (λ stream d less. kept.each stream d (omega (arith, less, all)) nexts are)
+
+pub returns-clause-counted : goal.returns-clause-counted
+returns-clause-counted c nexts are stream known =
+    (c.streams.invariant.each stream 0 (omega (arith, known, c.streams-test.false, c.streams.auto.stream-end, c.len-stream-end.ensures)) nexts are).counted
