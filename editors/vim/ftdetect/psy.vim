@@ -1,0 +1,1 @@
+autocmd BufRead,BufNewFile *.psy set filetype=psy
