@@ -1,4 +1,5 @@
 mod ActionSends
+mod ActsAlike
 mod Bounds
 mod ClockDates
 mod CodeHistories
@@ -17,6 +18,8 @@ mod Growth
 mod HeldInSize
 mod HeldMessages
 mod HeldWindow
+mod IsolatedHistories
+mod IsolatedViews
 mod KeptCycles
 mod KeptDates
 mod LastActions
@@ -41,6 +44,7 @@ mod OutboxSizes
 mod Owned
 mod PassingMessages
 mod PastValues
+mod PastsOf
 mod PathShifts
 mod QueueLooks
 mod QueueSteps
@@ -50,6 +54,7 @@ mod Regulars
 mod RingReaches
 mod RingValues
 mod RunsToEnds
+mod SameActions
 mod Seeing
 mod SendEdges
 mod SendWeights
@@ -60,6 +65,7 @@ mod Sights
 mod Soonest
 mod StartedActions
 mod Starts
+mod StatedHistories
 mod Stores
 mod Sweeps
 mod TakenMessages
@@ -68,3 +74,4 @@ mod Timings
 mod Totals
 mod Turns
 mod UnitCycles
+mod ViewsAlike

@@ -34,7 +34,7 @@ done_by times start (Reached q) p e h = (cc, cc)
 done_by times start (fate.Trapped kind) p e h = absurd cc
 done_by times start Unfinished p e h = absurd cc
 
-done_of : (times : Timing) (start budget charge : ℕ) (f : Fate) (p e : ℕ) → verdict_of times start budget charge f ≡ Done p e → (f ≡ Reached p) × (e ≡ end_date times start p)
+pub done_of : (times : Timing) (start budget charge : ℕ) (f : Fate) (p e : ℕ) → verdict_of times start budget charge f ≡ Done p e → (f ≡ Reached p) × (e ≡ end_date times start p)
 done_of times start budget charge f p e h = elim (cases_Bool (nat_lt budget charge)) [
   | inl t ↦ (let over : Overran ≡ Done p e = rw t at h in absurd cc)
   | inr t ↦ done_by times start f p e (rw t at h)

@@ -1,4 +1,5 @@
 pub mod Compiled
+pub mod Feeding
 pub mod Queues
 pub mod Regular
 pub mod Rings

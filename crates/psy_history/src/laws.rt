@@ -18,13 +18,15 @@ ghost use Rattle.psy_meaning.specs.Actions.{Action, Done, History, System, publi
 ghost use Rattle.psy_meaning.specs.Executors.{agent_at, agent_code_at};
 ghost use Rattle.psy_meaning.specs.Flow.{IsGreatest, MayLook};
 ghost use Rattle.psy_meaning.specs.History.{history};
-ghost use Rattle.psy_meaning.specs.Lines.{events, is_date};
+ghost use Rattle.psy_meaning.specs.Lines.{events, is_date, publications, stops_of};
 ghost use Rattle.psy_meaning.specs.QueueSizes.{AreQueues, HasSendsTo, IsQueueSize};
 ghost use Rattle.psy_meaning.specs.RingSizes.{IsRingSize};
 ghost use Rattle.psy_meaning.specs.Schedule.{Turn, finish, turn_of, units, work};
+ghost use Rattle.psy_meaning.specs.Units.{IsOfText};
 ghost use Rattle.psy_meaning.specs.Summary.{due_by, most_held, reach, slack};
 ghost use Rattle.psy_meaning.specs.Visible.{messages, published};
 ghost use Rattle.psy_history.specs.Compiled.{AreInputs, IsCompiled, coded, stated};
+ghost use Rattle.psy_history.specs.Feeding.{AreSame, OverranAlike, Reaches};
 ghost use Rattle.psy_history.specs.Likeness.{AreLike};
 ghost use Rattle.psy_history.specs.Queues.{entered, entering, queue_of, settled};
 ghost use Rattle.psy_history.specs.Regular.{IsLawful, Runs, begun_by};
@@ -199,4 +201,25 @@ pub fn deeds()
     sendings();
     lasting();
     regular();
+}
+
+/// Isolation: two runs of a program with the same inputs, each with stalls of its own. Where, of each agent that reaches another, actions
+/// with the same number both overran or both didn't, the other's actions are the same but for their charges; and so are its stops and
+/// what its variables publish. An agent that doesn't reach it changes nothing of it, whatever it does.
+pub fn isolation()
+    ensures actions { (unit : Whole) (nexts : List (List (List ℕ))) (stalls others : ℕ → List Stall) (inputs : List (List ℤ)) (dates to : ℕ) → IsOfText unit → AreInputs unit inputs
+        → ((from : ℕ) → Reaches unit to from → OverranAlike (history (stated unit nexts stalls inputs) dates from) (history (stated unit nexts others inputs) dates from))
+        → AreSame (history (stated unit nexts stalls inputs) dates to) (history (stated unit nexts others inputs) dates to) }
+    ensures stops { (unit : Whole) (nexts : List (List (List ℕ))) (stalls others : ℕ → List Stall) (inputs : List (List ℤ)) (dates to date : ℕ) → IsOfText unit → AreInputs unit inputs
+        → ((from : ℕ) → Reaches unit to from → OverranAlike (history (stated unit nexts stalls inputs) dates from) (history (stated unit nexts others inputs) dates from))
+        → stops_of date (history (stated unit nexts stalls inputs) dates to) ≡ stops_of date (history (stated unit nexts others inputs) dates to) }
+    ensures values { (unit : Whole) (nexts : List (List (List ℕ))) (stalls others : ℕ → List Stall) (inputs : List (List ℤ)) (dates to date variable : ℕ) (v : VarDecl) → IsOfText unit → AreInputs unit inputs
+        → ((from : ℕ) → Reaches unit to from → OverranAlike (history (stated unit nexts stalls inputs) dates from) (history (stated unit nexts others inputs) dates from))
+        → slice_get unit.variables variable ≡ Some v → v.owner ≡ Some to
+        → publications (stated unit nexts stalls inputs) (history (stated unit nexts stalls inputs) dates) date variable ≡ publications (stated unit nexts others inputs) (history (stated unit nexts others inputs) dates) date variable }
+{
+    sound();
+    keeps();
+    ways();
+    sendings();
 }

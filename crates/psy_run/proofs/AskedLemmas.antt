@@ -1,7 +1,114 @@
--- Words that are told apart by their bytes.
-use Rattle.std.proofs.Common.{◌≡◌, sym, ℕ, List, true, bytes_eq}
+-- What words ask for, as it is found word by word.
+use Rattle.std.proofs.Common.{◌≡◌, ◌∙◌, sym, subst, ap, refl, ℕ, zero, suc, ◌<◌, ◌≤◌, List, [], ◌∷◌, length, map, drop, get_or, Option, Some, None, Bool, true, if◌then◌else◌, bytes_eq, codes, arith, drop-cons}
+use Rattle.std.specs.Prelude.{◌^◌, nat_lt, nat_le, option_and_then}
+use Rattle.std.proofs.lemmas.Bool.{ltb-true, leb-true, lt-ltb, le-leb}
+use Rattle.std.proofs.lemmas.Option.{cond_some, option_and_then_some}
 use Rattle.std.proofs.lemmas.Slice.Eq.{bytes_eq-Decides}
+use Rattle.psy_base.specs.declared.limits.TheConstants.{UNTIL}
+use Rattle.psy_script.specs.Numbers.{number_of}
+use Rattle.psy_run.specs.Asked.{IsDate, IsSeed, Command, Run, Check, Graph, Make, Trial, Asks, asks_run, asks_run_with_inputs, asks_run_with_script, asks_check, asks_graph, asks_make, asks_trial, AskNothing}
 
 -- texts that aren't told apart are the same
 pub same_text : (a b : List ℕ) → true ≡ bytes_eq a b → a ≡ b
 same_text a b e = (bytes_eq-Decides a b).0 (sym e)
+
+-- What is made from the items from one place on, item by item
+pub map-next : {X Y : Type 0} {x : X} {y : Y} {ys : List Y} (f : X → Y) (xs : List X) (k : ℕ) → k < length xs → x ≡ get_or xs k x → y ≡ f x → map f (drop (suc k) xs) ≡ ys → map f (drop k xs) ≡ y ∷ ys
+map-next {x = x} f xs k less at is rest = ap (map f) (drop-cons xs k x less) ∙ (λ i. (ap f (sym at) ∙ sym is) i ∷ rest i)
+
+pub map-end : {X Y : Type 0} (f : X → Y) (xs : List X) (k : ℕ) → length xs ≤ k → map f (drop k xs) ≡ []
+map-end f [] zero long = refl
+map-end f (x ∷ xs) zero long = absurd (omega (arith, long))
+map-end f [] (suc k) long = refl
+map-end f (x ∷ xs) (suc k) long = map-end f xs k (omega (arith, long))
+
+-- ---- numbers
+
+-- The number that a word is, where it passes a test
+number_that : (ℕ → Bool) → List ℕ → Option ℕ
+number_that test word = option_and_then (λ n. if test n then Some n else None) (number_of word)
+
+to_number : (test : ℕ → Bool) (word : List ℕ) (n : ℕ) → number_of word ≡ Some n → test n ≡ true → number_that test word ≡ Some n
+unfolding number_that
+to_number test word n is passes = ap (option_and_then (λ n. if test n then Some n else None)) is ∙ ap (λ t. if t then Some n else None) passes
+
+from_number : (test : ℕ → Bool) (word : List ℕ) (n : ℕ) → number_that test word ≡ Some n → (number_of word ≡ Some n) × (test n ≡ true)
+unfolding number_that
+from_number test word n is = option_and_then_some (λ n. if test n then Some n else None) (number_of word) n is
+    (λ m found tested.
+    let (passes, same) = cond_some (test m) m n tested in
+    subst (λ k. (number_of word ≡ Some k) × (test k ≡ true)) same (found, passes))
+
+-- The date that a word is
+pub date_of : List ℕ → Option ℕ
+date_of word = number_that (λ n. nat_le n UNTIL) word
+
+to_date : (word : List ℕ) (date : ℕ) → IsDate word date → date_of word ≡ Some date
+unfolding date_of
+to_date word date is = to_number (λ n. nat_le n UNTIL) word date is.value (le-leb date UNTIL is.most)
+
+pub from_date : (word : List ℕ) (date : ℕ) → date_of word ≡ Some date → IsDate word date
+unfolding date_of
+from_date word date is =
+    let (value, most) = from_number (λ n. nat_le n UNTIL) word date is in
+    record { value = value; most = leb-true date UNTIL most }
+
+-- The number that a word is, to make a program from
+pub seed_of : List ℕ → Option ℕ
+seed_of word = number_that (λ n. nat_lt n (2 ^ 32)) word
+
+to_seed : (word : List ℕ) (seed : ℕ) → IsSeed word seed → seed_of word ≡ Some seed
+unfolding seed_of
+to_seed word seed is = to_number (λ n. nat_lt n (2 ^ 32)) word seed is.value (lt-ltb seed (2 ^ 32) is.most)
+
+pub from_seed : (word : List ℕ) (seed : ℕ) → seed_of word ≡ Some seed → IsSeed word seed
+unfolding seed_of
+from_seed word seed is =
+    let (value, most) = from_number (λ n. nat_lt n (2 ^ 32)) word seed is in
+    record { value = value; most = ltb-true seed (2 ^ 32) most }
+
+-- ---- commands
+
+-- The command that words ask for, by their count and the first of them
+unfoldable pub command_of : List (List ℕ) → Option Command
+command_of (first ∷ word ∷ []) =
+    if bytes_eq first (codes "graph") then Some (Graph word)
+    else if bytes_eq first (codes "make") then option_and_then (λ seed. Some (Make seed)) (seed_of word)
+    else None
+command_of (first ∷ word ∷ date ∷ []) = option_and_then (λ until.
+    if bytes_eq first (codes "run") then Some (Run word until None None)
+    else if bytes_eq first (codes "check") then Some (Check word until)
+    else if bytes_eq first (codes "trial") then option_and_then (λ seed. Some (Trial seed until)) (seed_of word)
+    else None) (date_of date)
+command_of (first ∷ word ∷ date ∷ inputs ∷ []) = option_and_then (λ until. if bytes_eq first (codes "run") then Some (Run word until (Some inputs) None) else None) (date_of date)
+command_of (first ∷ word ∷ date ∷ inputs ∷ script ∷ []) = option_and_then (λ until. if bytes_eq first (codes "run") then Some (Run word until (Some inputs) (Some script)) else None) (date_of date)
+command_of _ = None
+
+pub to_command : (words : List (List ℕ)) (command : Command) → Asks words command → command_of words ≡ Some command
+unfolding command_of
+to_command words command (asks_run program date until is dated) = ap command_of is ∙ ap (option_and_then (λ until. Some (Run program until None None))) (to_date date until dated)
+to_command words command (asks_run_with_inputs program date inputs until is dated) =
+    ap command_of is ∙ ap (option_and_then (λ until. Some (Run program until (Some inputs) None))) (to_date date until dated)
+to_command words command (asks_run_with_script program date inputs script until is dated) =
+    ap command_of is ∙ ap (option_and_then (λ until. Some (Run program until (Some inputs) (Some script)))) (to_date date until dated)
+to_command words command (asks_check program date until is dated) = ap command_of is ∙ ap (option_and_then (λ until. Some (Check program until))) (to_date date until dated)
+to_command words command (asks_graph program is) = ap command_of is
+to_command words command (asks_make number seed is seeded) = ap command_of is ∙ ap (option_and_then (λ seed. Some (Make seed))) (to_seed number seed seeded)
+to_command words command (asks_trial number date seed until is seeded dated) =
+    ap command_of is ∙ ap (option_and_then (λ until. option_and_then (λ seed. Some (Trial seed until)) (seed_of number))) (to_date date until dated)
+    ∙ ap (option_and_then (λ seed. Some (Trial seed until))) (to_seed number seed seeded)
+
+-- `make` and a word that is no seed ask for nothing.
+pub unmade : (first word : List ℕ) → true ≡ bytes_eq first (codes "make") → ((seed : ℕ) → IsSeed word seed → ⊥) → AskNothing (first ∷ word ∷ [])
+unfolding command_of
+unmade first word make none command asks =
+    let is = to_command (codes "make" ∷ word ∷ []) command (subst (λ w. Asks (w ∷ word ∷ []) command) (same_text first (codes "make") make) asks) in
+    option_and_then_some (λ seed. Some (Make seed)) (seed_of word) command is (λ seed found same. none seed (from_seed word seed found))
+
+-- So do `trial`, such a word and any other.
+pub untried : (first word date : List ℕ) → true ≡ bytes_eq first (codes "trial") → ((seed : ℕ) → IsSeed word seed → ⊥) → AskNothing (first ∷ word ∷ date ∷ [])
+unfolding command_of
+untried first word date trial none command asks =
+    let is = to_command (codes "trial" ∷ word ∷ date ∷ []) command (subst (λ w. Asks (w ∷ word ∷ date ∷ []) command) (same_text first (codes "trial") trial) asks) in
+    option_and_then_some (λ until. option_and_then (λ seed. Some (Trial seed until)) (seed_of word)) (date_of date) command is
+    (λ until when that. option_and_then_some (λ seed. Some (Trial seed until)) (seed_of word) command that (λ seed found same. none seed (from_seed word seed found)))

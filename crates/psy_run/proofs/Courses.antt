@@ -1,10 +1,10 @@
 -- Courses step by step: how they are left, that they come to one end, and that they come to some.
-use Rattle.std.proofs.Common.{◌≡◌, sym, subst, ℕ, List, ◌⊎◌, inl, inr, Result, Ok, Err, IfOk, IfErr}
+use Rattle.std.proofs.Common.{◌≡◌, ◌∙◌, sym, subst, refl, ℕ, List, ◌⊎◌, inl, inr, Result, Ok, Err, IfOk, IfErr}
 use Rattle.std.specs.Result.{IsErrAnd}
 use Rattle.psy_run.specs.declared.refusal.Refusal.{Refusal}
 use Rattle.psy_run.specs.declared.refusal.Stop.{Stop}
 use Rattle.psy_run.specs.declared.refusal.Stop.TheVariants.{Memory}
-use Rattle.psy_run.specs.Courses.{Course, in_row}
+use Rattle.psy_run.specs.Courses.{Course, pure, unless, in_row}
 use Rattle.psy_run.specs.Outcome.{Halts, halts_refused, halts_unread, halts_memory}
 
 -- ---- in a row
@@ -51,6 +51,23 @@ pub record IsOne {X : Type 0} (c : Course X) : Type 0 where
   pub stop : (r s : Refusal) → c.stops r → c.stops s → r ≡ s
   pub apart : (x : X) (r : Refusal) → c.gives x → c.stops r → ⊥
 
+-- no step any more
+pub one_pure : {X : Type 0} (x : X) → IsOne (pure x)
+one_pure x = record {
+  gift = λ y z p q. p ∙ sym q;
+  stop = λ r s p q. absurd p;
+  apart = λ y r p q. q;
+}
+
+-- a test, where what passes it doesn't fail it
+pub one_unless : (Holds Fails : Type 0) (refusal : Refusal) → (Holds → Fails → ⊥) → IsOne (unless Holds Fails refusal)
+one_unless Holds Fails refusal never = record {
+  gift = λ x y p q. refl;
+  stop = λ r s p q. p.0 ∙ sym q.0;
+  apart = λ x r p q. never p q.1;
+}
+
+-- one course, and with what it gives another
 pub one_then : {X Y : Type 0} (c : Course X) (f : X → Course Y) → IsOne c → ((x : X) → c.gives x → IsOne (f x)) → IsOne (in_row c f)
 unfolding in_row
 one_then c f one later = record {
@@ -77,6 +94,16 @@ one_then c f one later = record {
 abbrev pub IsSome : {X : Type 0} → Course X → Type 0
 IsSome {X = X} c = ((x : X) × c.gives x) ⊎ ((refusal : Refusal) × c.stops refusal)
 
+-- no step any more
+pub some_pure : {X : Type 0} (x : X) → IsSome (pure x)
+some_pure x = inl (x, refl)
+
+-- a test, which passes or fails
+pub some_unless : (Holds Fails : Type 0) (refusal : Refusal) → Holds ⊎ Fails → IsSome (unless Holds Fails refusal)
+some_unless Holds Fails refusal (inl holds) = inl (tt, holds)
+some_unless Holds Fails refusal (inr fails) = inr (refusal, (refl, fails))
+
+-- one course, and with what it gives another
 pub some_then : {X Y : Type 0} (c : Course X) (f : X → Course Y) → IsSome c → ((x : X) → c.gives x → IsSome (f x)) → IsSome (in_row c f)
 unfolding in_row
 some_then c f (inr stop) later = inr (stop.0, inl stop.1)

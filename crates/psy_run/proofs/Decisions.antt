@@ -1,42 +1,15 @@
--- What holds or not, one of both.
-use Rattle.std.proofs.Common.{◌≡◌, sym, subst, refl, ℕ, zero, suc, ◌<◌, ◌≤◌, List, [], ◌∷◌, length, ◌⊎◌, inl, inr, Some, Bool, true, false, IsTrue, arith, slice_get}
+-- One of two things holds.
+use Rattle.std.proofs.Common.{◌≡◌, subst, refl, ℕ, zero, suc, ◌<◌, ◌≤◌, List, [], ◌∷◌, length, ◌⊎◌, inl, inr, Some, arith, slice_get}
 use Rattle.std.specs.List.{All, Any}
-use Rattle.std.proofs.lemmas.Bool.{cases_lt, true≢false}
+use Rattle.std.proofs.lemmas.Bool.{cases_lt}
 use Rattle.std.proofs.lemmas.List.Elements.{All-nil, All-cons}
 use Rattle.std.proofs.lemmas.Option.{none-some, same_Some}
-use Rattle.psy_tree.specs.Lexemes.{Each}
-
--- It holds or not.
-abbrev pub Decided : Type 0 → Type 0
-Decided P = P ⊎ (P → ⊥)
-
-pub both : {P Q : Type 0} → Decided P → Decided Q → Decided (P × Q)
-both (inl p) (inl q) = inl (p, q)
-both (inl p) (inr q) = inr (λ h. q h.1)
-both (inr p) d = inr (λ h. p h.0)
-
--- What comes to the same is decided with it.
-pub alike : {P Q : Type 0} → (P → Q) → (Q → P) → Decided P → Decided Q
-alike there back (inl p) = inl (there p)
-alike there back (inr p) = inr (λ q. p (back q))
 
 -- ---- numbers
 
-pub decided_most : (m n : ℕ) → Decided (m ≤ n)
-decided_most m n = elim (cases_lt n m) [
-  | inl less ↦ inr (λ most. omega (arith, less, most))
-  | inr most ↦ inl most
-]
-
--- ---- tests
-
-pub decided_true : (b : Bool) → Decided (IsTrue b)
-decided_true true = inl refl
-decided_true false = inr (λ h. true≢false (sym h))
-
-pub decided_each : (sort : ℕ → Bool) (bytes : List ℕ) → Decided (Each sort bytes)
-decided_each sort [] = inl tt
-decided_each sort (b ∷ bytes) = both (decided_true (sort b)) (decided_each sort bytes)
+-- A number is at most another, or more.
+pub most_or_more : (m n : ℕ) → (m ≤ n) ⊎ (n < m)
+most_or_more m n = elim (cases_lt n m) [ inl more ↦ inr more | inr most ↦ inl most ]
 
 -- ---- lists
 

@@ -1,7 +1,10 @@
 pub mod AskedLemmas
+pub mod AskingForms
 pub mod Courses
 pub mod Decisions
 pub mod GrowthLemmas
+pub mod KeptBounds
+pub mod KeptOrders
 pub mod LogLemmas
 pub mod MeaningText
 pub mod OneAnswer
@@ -9,10 +12,10 @@ pub mod OneStep
 pub mod PlanLemmas
 pub mod RefusalLemmas
 pub mod RowLemmas
-pub mod ScriptLemmas
 pub mod SomeAnswer
 pub mod SomeStep
 pub mod SupplyLemmas
 pub mod TextLemmas
+pub mod ToldLemmas
 pub mod TopLemmas
 pub mod WritingLemmas

@@ -1,15 +1,18 @@
--- The text of a run is the same by the code and by the statements; and what a run leaves.
-use Rattle.std.proofs.Common.{◌≡◌, refl, ap, ◌∙◌, ℕ, ◌+◌, ◌*◌, List, ◌∷◌, ◌++◌, length, get_or, map, Option, None, Some, ℤ}
+-- The text of a run is the same by the code and by the statements; what a run leaves; and that it keeps its bounds.
+use Rattle.std.proofs.Common.{◌≡◌, refl, sym, ap, subst, ◌∙◌, ℕ, ◌+◌, ◌*◌, List, ◌∷◌, ◌++◌, length, get_or, map, Option, None, Some, ℤ, arith}
 use Rattle.std.specs.List.{flat_map, range_with_len}
 use Rattle.std.proofs.Math.Path.{fun_ext}
 use Rattle.psy_budget.specs.declared.charge.Stall.{Stall}
 use Rattle.psy_code.specs.declared.code.Code.{Code}
 use Rattle.psy_tree.specs.declared.unit.Unit.{Unit as Whole}
 use Rattle.psy_base.specs.declared.sizes.Sizes.{Sizes}
-use Rattle.psy_history.specs.Compiled.{coded, stated}
+use Rattle.psy_dates.specs.declared.plan.Plan.{Plan}
+use Rattle.psy_dates.specs.Plans.{IsPlan}
+use Rattle.psy_history.specs.Compiled.{AreInputs, IsCompiled, coded, stated}
 use Rattle.psy_history.specs.Scheduled.{turns_of}
+use Rattle.psy_kernel.specs.declared.script.Script.{Script}
 use Rattle.psy_kernel.specs.Progress.{Progress, booted, order, system}
-use Rattle.psy_kernel.specs.Scripts.{order_of, stalls_of}
+use Rattle.psy_kernel.specs.Scripts.{IsScript, order_of, stalls_of}
 use Rattle.psy_kernel.specs.Texts.{agent_end, event_line, lines_of, run_text, stream_end, summary_of, text_of, variable_end}
 use Rattle.psy_log.specs.Forms.{agent_line, end_line, stream_line, variable_line}
 use Rattle.psy_meaning.specs.Actions.{System, stream_of, variable_of}
@@ -17,20 +20,60 @@ use Rattle.psy_meaning.specs.Executors.{agent_at}
 use Rattle.psy_meaning.specs.History.{history}
 use Rattle.psy_meaning.specs.Lines.{events}
 use Rattle.psy_meaning.specs.Summary.{due_by, most_held, reach, slack}
+use Rattle.psy_run.specs.Bounds.{IsBounded, KeepsBounds}
 use Rattle.psy_run.specs.Outcome.{CanServe}
 use Rattle.psy_run.specs.Runs.{ended}
-use Rattle.psy_run.specs.Services.{HasRun, Leaves, Ran, no_inputs, no_script, service_of}
+use Rattle.psy_run.specs.Services.{HasRun, Leaves, meaning_of, no_inputs, no_script, service_of}
 use Rattle.psy_run.specs.Services as service
 use Rattle.psy_run.specs.declared.served.Served.{Served}
 use Rattle.psy_run.specs.declared.served.Served.TheVariants as served
+use Rattle.psy_run.proofs.PlanLemmas.{are_no_inputs}
 
--- What the law says of code and statements that are alike
+-- ---- what the law says of code and statements that are alike
+
+-- two histories have the same lines
+abbrev pub SameLines : System → System → Type 0
+SameLines a b = (date : ℕ) → events a date ≡ events b date
+
+-- as many actions that are due
+abbrev pub SameCounts : System → System → Type 0
+SameCounts a b = (dates until agent : ℕ) → length (due_by until (history a dates agent)) ≡ length (due_by until (history b dates agent))
+
+-- the same least slacks
+abbrev pub SameSlacks : System → System → Type 0
+SameSlacks a b = (order : ℕ → List ℕ) (dates cycles until agent : ℕ) → slack a.unit.quantum (turns_of a order cycles) (due_by until (history a dates agent)) ≡ slack b.unit.quantum (turns_of b order cycles) (due_by until (history b dates agent))
+
+-- as many messages held
+abbrev pub SameHeld : System → System → Type 0
+SameHeld a b = (until stream : ℕ) → most_held a until stream ≡ most_held b until stream
+
+-- and reach as far back
+abbrev pub SameReaches : System → System → Type 0
+SameReaches a b = (order : ℕ → List ℕ) (dates cycles variable : ℕ) → reach a (turns_of a order cycles) (history a dates) variable ≡ reach b (turns_of b order cycles) (history b dates) variable
+
+-- all of that
 pub record AreAlike (a b : System) : Type 0 where
-  pub lines : (date : ℕ) → events a date ≡ events b date
-  pub counts : (dates until agent : ℕ) → length (due_by until (history a dates agent)) ≡ length (due_by until (history b dates agent))
-  pub slacks : (order : ℕ → List ℕ) (dates cycles until agent : ℕ) → slack a.unit.quantum (turns_of a order cycles) (due_by until (history a dates agent)) ≡ slack b.unit.quantum (turns_of b order cycles) (due_by until (history b dates agent))
-  pub held : (until stream : ℕ) → most_held a until stream ≡ most_held b until stream
-  pub reaches : (order : ℕ → List ℕ) (dates cycles variable : ℕ) → reach a (turns_of a order cycles) (history a dates) variable ≡ reach b (turns_of b order cycles) (history b dates) variable
+  pub lines : SameLines a b
+  pub counts : SameCounts a b
+  pub slacks : SameSlacks a b
+  pub held : SameHeld a b
+  pub reaches : SameReaches a b
+
+-- Something holds of the code and the statements of each program that was compiled, with all inputs and stalls.
+abbrev pub Always : (System → System → Type 0) → Type 0
+Always Same = (unit : Whole) (code : Code) (nexts : List (List (List ℕ))) (stalls : ℕ → List Stall) (inputs : List (List ℤ)) → IsCompiled unit code nexts → AreInputs unit inputs
+    → Same (coded unit code nexts stalls inputs) (stated unit nexts stalls inputs)
+
+pub are_alike : Always SameLines → Always SameCounts → Always SameSlacks → Always SameHeld → Always SameReaches → Always AreAlike
+are_alike lines counts slacks held reaches unit code nexts stalls inputs compiled are = record {
+  lines = lines unit code nexts stalls inputs compiled are;
+  counts = counts unit code nexts stalls inputs compiled are;
+  slacks = slacks unit code nexts stalls inputs compiled are;
+  held = held unit code nexts stalls inputs compiled are;
+  reaches = reaches unit code nexts stalls inputs compiled are;
+}
+
+-- ---- the same text
 
 module _ (unit : Whole) (code : Code) (nexts : List (List (List ℕ))) (stalls : ℕ → List Stall) (inputs : List (List ℤ)) where
   module _ (alike : AreAlike (coded unit code nexts stalls inputs) (stated unit nexts stalls inputs)) (ties : ℕ → List ℕ) (sizes : Sizes) (until : ℕ) where
@@ -49,39 +92,86 @@ module _ (unit : Whole) (code : Code) (nexts : List (List (List ℕ))) (stalls :
     same_summary : summary_of (coded unit code nexts stalls inputs) ties sizes until ≡ summary_of (stated unit nexts stalls inputs) ties sizes until
     same_summary = λ i. end_line until ∷ (map (fun_ext same_agent i) (range_with_len 0 (length unit.agents)) ++ (map (fun_ext same_variable i) (range_with_len 0 (length unit.variables)) ++ map (fun_ext same_stream i) (range_with_len 0 (length unit.streams))))
 
-    pub same_text : run_text (coded unit code nexts stalls inputs) ties sizes until ≡ run_text (stated unit nexts stalls inputs) ties sizes until
+    same_text : run_text (coded unit code nexts stalls inputs) ties sizes until ≡ run_text (stated unit nexts stalls inputs) ties sizes until
     same_text = λ i. flat_map (fun_ext same_lines i) (range_with_len 0 (until + 1)) ++ text_of (same_summary i)
 
 -- ---- what is left
 
 -- the kernel of a run at its end
-pub has_run : (kernel : Progress) → CanServe (served.Ran kernel) → HasRun kernel.plan.unit kernel.plan.nexts kernel.plan.sizes kernel.plan.until (ended kernel)
-has_run kernel (is, plan) = record {
+has_run : (kernel : Progress) (inputs : List (List ℤ)) (script : Script) → IsPlan kernel.plan → kernel.inputs ≡ inputs → kernel.script ≡ script
+    → HasRun kernel.plan.unit kernel.plan.nexts kernel.plan.sizes kernel.plan.until inputs script (ended kernel)
+has_run kernel inputs script plan are is = record {
   plan = plan;
   its_unit = refl;
   its_nexts = refl;
   its_sizes = refl;
   its_until = refl;
-  inputs = ap (λ (p : Progress). p.inputs) is;
-  script = ap (λ (p : Progress). p.script) is;
+  its_inputs = are;
+  its_script = is;
   dates = refl;
   cycles = refl;
   given = refl;
 }
 
+-- a run leaves its kernel, once it has ended
+pub ran_leaves : (kernel now : Progress) → CanServe (served.Ran kernel) → now ≡ ended kernel → Leaves (service_of (served.Ran kernel)) (Some now)
+ran_leaves kernel now (is, plan, are, script) over =
+    let ran = has_run kernel kernel.inputs kernel.script plan refl refl in
+    (now, refl, subst (HasRun kernel.plan.unit kernel.plan.nexts kernel.plan.sizes kernel.plan.until kernel.inputs kernel.script) (sym over) ran)
+
+-- and so does the run of a program that was made
+pub tried_leaves : (kernel now : Progress) → CanServe (served.Tried kernel) → now ≡ ended kernel → Leaves (service_of (served.Tried kernel)) (Some now)
+tried_leaves kernel now (is, plan) over =
+    let ran = has_run kernel (no_inputs kernel.plan.unit) no_script plan (ap (λ (p : Progress). p.inputs) is) (ap (λ (p : Progress). p.script) is) in
+    (now, refl, subst (HasRun kernel.plan.unit kernel.plan.nexts kernel.plan.sizes kernel.plan.until (no_inputs kernel.plan.unit) no_script) (sym over) ran)
+
 -- what is served leaves something
 pub some_left : (done : Served) → CanServe done → (left : Option Progress) × Leaves (service_of done) left
-some_left (served.Ran kernel) can = (Some (ended kernel), (ended kernel, refl, has_run kernel can))
+some_left (served.Ran kernel) can = (Some (ended kernel), ran_leaves kernel (ended kernel) can refl)
 some_left (served.Checked unit sizes until) can = (None, refl)
 some_left (served.Drawn unit graphs costs) can = (None, refl)
+some_left (served.Made text) can = (None, refl)
+some_left (served.Tried kernel) can = (Some (ended kernel), tried_leaves kernel (ended kernel) can refl)
 
 -- ---- the text of what is served
 
--- a kernel that was just booted, without inputs and script, writes the text of the statements
-pub served_text : (kernel : Progress) → CanServe (served.Ran kernel) → AreAlike (coded kernel.plan.unit kernel.plan.code kernel.plan.nexts (stalls_of no_script) (no_inputs kernel.plan.unit)) (stated kernel.plan.unit kernel.plan.nexts (stalls_of no_script) (no_inputs kernel.plan.unit))
-    → run_text (system kernel) (order kernel) kernel.plan.sizes kernel.plan.until ≡ service.text_of (service_of (served.Ran kernel))
-served_text kernel (is, plan) alike =
+-- a kernel that was just booted writes the text of the statements
+pub served_text : Always AreAlike → (kernel : Progress) → CanServe (served.Ran kernel) → run_text (system kernel) (order kernel) kernel.plan.sizes kernel.plan.until ≡ service.text_of (service_of (served.Ran kernel))
+served_text law kernel (is, plan, are, script) =
+    same_text kernel.plan.unit kernel.plan.code kernel.plan.nexts (stalls_of kernel.script) kernel.inputs
+    (law kernel.plan.unit kernel.plan.code kernel.plan.nexts (stalls_of kernel.script) kernel.inputs plan.compiled are) (order kernel) kernel.plan.sizes kernel.plan.until
+
+-- and so does one that writes its summary alone
+pub tried_text : Always AreAlike → (kernel : Progress) → CanServe (served.Tried kernel)
+    → text_of (summary_of (system kernel) (order kernel) kernel.plan.sizes kernel.plan.until) ≡ service.text_of (service_of (served.Tried kernel))
+tried_text law kernel (is, plan) =
+    let unit = kernel.plan.unit in
     let inputs = ap (λ (p : Progress). p.inputs) is in
     let script = ap (λ (p : Progress). p.script) is in
-    (λ i. run_text (coded kernel.plan.unit kernel.plan.code kernel.plan.nexts (stalls_of (script i)) (inputs i)) (order_of kernel.plan.unit (script i)) kernel.plan.sizes kernel.plan.until)
-    ∙ same_text kernel.plan.unit kernel.plan.code kernel.plan.nexts (stalls_of no_script) (no_inputs kernel.plan.unit) alike (order_of kernel.plan.unit no_script) kernel.plan.sizes kernel.plan.until
+    let alike = law unit kernel.plan.code kernel.plan.nexts (stalls_of no_script) (no_inputs unit) plan.compiled (are_no_inputs unit) in
+    (λ i. text_of (summary_of (coded unit kernel.plan.code kernel.plan.nexts (stalls_of (script i)) (inputs i)) (order_of unit (script i)) kernel.plan.sizes kernel.plan.until))
+    ∙ ap text_of (same_summary unit kernel.plan.code kernel.plan.nexts (stalls_of no_script) (no_inputs unit) alike (order_of unit no_script) kernel.plan.sizes kernel.plan.until)
+
+-- ---- its bounds
+
+-- Runs of a plan keep their bounds.
+abbrev pub Keeps : Type 0
+Keeps = (plan : Plan) (inputs : List (List ℤ)) (script : Script) → IsPlan plan → AreInputs plan.unit inputs → IsScript plan.unit script
+    → KeepsBounds (meaning_of plan.unit plan.nexts inputs script) (order_of plan.unit script) plan.sizes plan.until
+
+-- a script with nothing in it
+is_no_script : (unit : Whole) → IsScript unit no_script
+is_no_script unit = record {
+  stalls = λ k d none. absurd (omega (arith, none));
+  stalls_rise = λ i j d less none. absurd (omega (arith, none));
+  orders = λ k d none. absurd (omega (arith, none));
+  orders_rise = λ i j d less none. absurd (omega (arith, none));
+}
+
+-- what is served keeps its bounds
+pub is_bounded : Keeps → (done : Served) → CanServe done → IsBounded (service_of done)
+is_bounded keeps (served.Ran kernel) (is, plan, are, script) = keeps kernel.plan kernel.inputs kernel.script plan are script
+is_bounded keeps (served.Checked unit sizes until) can = tt
+is_bounded keeps (served.Drawn unit graphs costs) can = tt
+is_bounded keeps (served.Made text) can = tt
+is_bounded keeps (served.Tried kernel) (is, plan) = keeps kernel.plan (no_inputs kernel.plan.unit) no_script plan (are_no_inputs kernel.plan.unit) (is_no_script kernel.plan.unit)

@@ -1,7 +1,8 @@
 -- Each step comes to one end at most.
-use Rattle.std.proofs.Common.{◌≡◌, ◌∙◌, sym, subst, ap, refl, ℕ, ◌*◌, ◌<◌, ◌≤◌, List, [], ◌∷◌, length, inl, inr, Option, Some, None, if◌then◌else◌, bytes_eq, codes, zero, suc, slice_get, arith}
-use Rattle.std.proofs.lemmas.Option.{slice_get_within}
-use Rattle.psy_base.specs.declared.limits.TheConstants.{COST, FILE_BYTES}
+use Rattle.std.proofs.Common.{◌≡◌, ◌∙◌, sym, subst, ap, refl, ℕ, ◌*◌, ◌<◌, ◌≤◌, List, [], ◌∷◌, length, ◌⊎◌, inl, inr, Some, zero, suc, slice_get, arith}
+use Rattle.std.specs.List.{All, Any}
+use Rattle.std.proofs.lemmas.Option.{none-some, same_Some, slice_get_within}
+use Rattle.psy_base.specs.declared.limits.TheConstants.{COST, FILE_BYTES, RUN}
 use Rattle.psy_base.specs.declared.sizes.Sizes.{Sizes}
 use Rattle.psy_door.specs.Files.{Files, bytes_under}
 use Rattle.psy_tree.specs.declared.faults.LexKind.{LexKind}
@@ -14,7 +15,6 @@ use Rattle.psy_tree.specs.declared.unit.Unit.{Unit as Whole}
 use Rattle.psy_tree.specs.Deep as deep
 use Rattle.psy_tree.specs.Faults.{FirstFault}
 use Rattle.psy_tree.specs.Grammar.{Spells}
-use Rattle.psy_tree.specs.Lexemes.{decimal_value}
 use Rattle.psy_tree.specs.Rules.{LeastFault, NoFault}
 use Rattle.psy_tree.specs.Stands.{Stands, first_passed}
 use Rattle.psy_tree.specs.Tokens.{TokensOf}
@@ -29,13 +29,24 @@ use Rattle.psy_graph.specs.declared.graph.Graph.{Graph}
 use Rattle.psy_graph.specs.Graphs.{AreGraphs, IsCause, IsTimingOf}
 use Rattle.psy_sizes.specs.declared.fault.SizeFault.{SizeFault}
 use Rattle.psy_sizes.specs.Faults.{CanCount, IsFaultBy}
+use Rattle.psy_make.specs.Text.{made_text}
+use Rattle.psy_script.specs.declared.fault.LineKind.{LineKind}
+use Rattle.psy_script.specs.Faults.{Judge, Fault, IsLawful, IsFirst, HasManyLines}
+use Rattle.psy_script.specs.Inputs.{AreListsOf, inputs_judge}
+use Rattle.psy_script.specs.Script.{IsScriptOf, script_judge}
 use Rattle.psy_run.specs.declared.refusal.File.{File}
-use Rattle.psy_run.specs.declared.refusal.Refusal.TheVariants.{Lexical, Deep, Rule, Many, Infeasible}
+use Rattle.psy_run.specs.declared.refusal.File.TheVariants.{Inputs, Script}
+use Rattle.psy_run.specs.declared.refusal.Refusal.{Refusal}
+use Rattle.psy_run.specs.declared.refusal.Refusal.TheVariants.{Lexical, Deep, Rule, Many, Cells, Infeasible, Line, Lines, Cycles}
 use Rattle.psy_run.specs.Answer.{following}
-use Rattle.psy_run.specs.Asked.{Command, Run, Check, Graph as Draw, Asks, asks_run, asks_check, asks_graph}
-use Rattle.psy_run.specs.Steps.{asking, reading, lexing, parsing, resolving, graphing, sizing, costing, AreCosts, windowing, HasCells, demanding, edges_of}
-use Rattle.psy_run.proofs.Courses.{IsOne}
+use Rattle.psy_run.specs.Courses.{step}
+use Rattle.psy_run.specs.Steps.{reading, lexing, parsing, resolving, graphing, sizing, costing, AreCosts, windowing, HasCells, PassesCells, demanding, edges_of, stating, directing, pacing}
+use Rattle.psy_run.proofs.Courses.{IsOne, one_unless}
 use Rattle.psy_run.proofs.RefusalLemmas.{lexical_is, unparsed_is, unlawful_is, undrawn_by, undrawn_is, unsized_by, unsized_is, overloaded_is}
+
+-- Each program of a text that is short enough to be read is one of a text.
+abbrev pub TextsHold : Type 0
+TextsHold = (bytes : List ℕ) (tokens : List Token) (raw : Raw) (unit : Whole) → length bytes ≤ FILE_BYTES → TokensOf bytes tokens → Spells raw tokens → Stands unit raw → IsOfText unit
 
 -- What the laws of the steps say of one end.
 pub record StepsAgree : Type 0 where
@@ -51,7 +62,8 @@ pub record StepsAgree : Type 0 where
   pub unit_or_rule : (raw : Raw) (unit : Whole) (kind : RuleKind) (token : ℕ) → Stands unit raw → LeastFault raw kind token → ⊥
   pub unit_or_count : (raw : Raw) (unit : Whole) (count : Count) → Stands unit raw → first_passed raw ≡ Some count → ⊥
   pub rule_or_none : (raw : Raw) (kind : RuleKind) (token : ℕ) → LeastFault raw kind token → NoFault raw → ⊥
-  pub of_text : (bytes : List ℕ) (tokens : List Token) (raw : Raw) (unit : Whole) → length bytes ≤ FILE_BYTES → TokensOf bytes tokens → Spells raw tokens → Stands unit raw → IsOfText unit
+  pub of_text : TextsHold
+  pub short : (seed : ℕ) → length (made_text seed) ≤ FILE_BYTES
   pub graphs : (unit : Whole) (graphs others : List Graph) → IsOfText unit → AreGraphs unit graphs → AreGraphs unit others → graphs ≡ others
   pub graphs_or_cause : (unit : Whole) (graphs : List Graph) (fault : GraphFault) → IsOfText unit → AreGraphs unit graphs → IsCause unit fault → ⊥
   pub cause : (unit : Whole) (fault other : GraphFault) → IsOfText unit → IsCause unit fault → IsCause unit other → fault ≡ other
@@ -78,27 +90,6 @@ there xs ys k y long at = slice_get_some xs k (let less : k < length ys = slice_
     slice_get_some [] k less = absurd (omega (arith, less))
     slice_get_some (x ∷ xs) zero less = (x, refl)
     slice_get_some (x ∷ xs) (suc k) less = slice_get_some xs k (omega (arith, less))
-
--- ---- words
-
--- What words would ask for, told by their number and the first of them
-command_of : List (List ℕ) → Option Command
-command_of (command ∷ program ∷ []) = Some (Draw program)
-command_of (command ∷ program ∷ date ∷ []) = Some (if bytes_eq command (codes "run") then Run program (decimal_value date) else Check program (decimal_value date))
-command_of _ = None
-
-asked : (words : List (List ℕ)) (command : Command) → Asks words command → command_of words ≡ Some command
-unfolding command_of
-asked words command (asks_run program date until is that) = ap command_of is ∙ ap (λ n. Some (Run program n)) (sym that.value)
-asked words command (asks_check program date until is that) = ap command_of is ∙ ap (λ n. Some (Check program n)) (sym that.value)
-asked words command (asks_graph program is) = ap command_of is
-
-pub one_asking : (words : List (List ℕ)) → IsOne (asking words)
-one_asking words = record {
-  gift = λ x y p q. let e : Some x ≡ Some y = sym (asked words x p) ∙ asked words y q in cc;
-  stop = λ r s p q. p.0 ∙ sym q.0;
-  apart = λ x r p q. q.1 x p;
-}
 
 -- ---- the file
 
@@ -213,14 +204,10 @@ module _ (agree : StepsAgree) where
 -- ---- its demand
 
 pub one_windowing : (graphs : List Graph) (until : ℕ) → IsOne (windowing graphs until)
-one_windowing graphs until = record {
-  gift = λ x y p q. refl;
-  stop = λ r s p q. p.0 ∙ sym q.0;
-  apart = λ x r p q.
-      let (number, graph, less, is, more) = q.1 in
-      let few : HasCells until graph = subst (HasCells until) is (p number graph less) in
-      absurd (omega (arith, few, more));
-}
+one_windowing graphs until = one_unless (All (HasCells until) graphs) (Any (PassesCells until) graphs) Cells (λ all any.
+    let (number, graph, less, is, more) = any in
+    let few : HasCells until graph = subst (HasCells until) is (all number graph less) in
+    omega (arith, few, more))
 
 pub one_demanding : (unit : Whole) (graphs : List Graph) (until : ℕ) → IsOne (demanding unit graphs until)
 one_demanding unit graphs until = record {
@@ -232,3 +219,48 @@ one_demanding unit graphs until = record {
       is ∙ (λ i. Infeasible (same.0 i) (same.1 i) (unit.quantum * same.0 i)) ∙ sym is';
   apart = λ x r p q. let (within, demand, is, over) = overloaded_is unit graphs until r q in feasible-no-overload (edges_of graphs) unit.quantum until within demand p over;
 }
+
+-- ---- its inputs and its script
+
+-- What the text of a file is refused for: its first fault, or its many lines
+abbrev pub IsUntold : File → Judge → List ℕ → Refusal → Type 0
+IsUntold own judge bytes (Line file kind line) = (file ≡ own) × IsFirst judge bytes kind line
+IsUntold own judge bytes Lines = HasManyLines bytes
+IsUntold own judge bytes _ = ⊥
+
+-- Such a refusal names a first fault, or many lines.
+untold_is : (own : File) (judge : Judge) (bytes : List ℕ) (refusal : Refusal) → IsUntold own judge bytes refusal → ((kind : LineKind) × (line : ℕ) × (refusal ≡ Line own kind line) × IsFirst judge bytes kind line) ⊎ ((refusal ≡ Lines) × HasManyLines bytes)
+untold_is own judge bytes (Line file kind line) at = inl (kind, line, ap (λ f. Line f kind line) at.0, at.1)
+untold_is own judge bytes Lines many = inr (refl, many)
+untold_is own judge bytes _ never = absurd never
+
+-- A lawful text states one thing at most, and another has one fault.
+one_telling : {X : Type 0} (own : File) (judge : Judge) (bytes : List ℕ) (States : X → Type 0) → ((x : X) → States x → IsLawful judge bytes) → ((x y : X) → States x → States y → x ≡ y) → IsOne (step States (IsUntold own judge bytes))
+one_telling own judge bytes States lawful same = record {
+  gift = same;
+  stop = λ r s p q. elim (untold_is own judge bytes r p) [
+    | inl a ↦ elim (untold_is own judge bytes s q) [
+      | inl b ↦ let e = same_Some (record { kind = a.0; line = a.1 }) (record { kind = b.0; line = b.1 }) (sym a.3.fault ∙ b.3.fault) in a.2 ∙ ap (λ (f : Fault). Line own f.kind f.line) e ∙ sym b.2
+      | inr b ↦ let few = a.3.few in let many = b.1 in absurd (omega (arith, few, many))
+    ]
+    | inr a ↦ elim (untold_is own judge bytes s q) [
+      | inl b ↦ let few = b.3.few in let many = a.1 in absurd (omega (arith, few, many))
+      | inr b ↦ a.0 ∙ sym b.0
+    ]
+  ];
+  apart = λ x r p q.
+      let sound = lawful x p in
+      elim (untold_is own judge bytes r q) [
+        | inl a ↦ none-some (record { kind = a.0; line = a.1 }) (sym sound.sound ∙ a.3.fault)
+        | inr a ↦ let few = sound.few in let many = a.1 in absurd (omega (arith, few, many))
+      ];
+}
+
+pub one_stating : (unit : Whole) (bytes : List ℕ) → IsOne (stating unit bytes)
+one_stating unit bytes = one_telling Inputs (inputs_judge unit) bytes (AreListsOf unit bytes) (λ lists are. are.lawful) (λ lists others p q. p.stated ∙ sym q.stated)
+
+pub one_directing : (unit : Whole) (bytes : List ℕ) → IsOne (directing unit bytes)
+one_directing unit bytes = one_telling Script (script_judge unit) bytes (IsScriptOf unit bytes) (λ script is. is.lawful) (λ script other p q. p.stated ∙ sym q.stated)
+
+pub one_pacing : (unit : Whole) (until : ℕ) → IsOne (pacing unit until)
+one_pacing unit until = one_unless (until * unit.quantum ≤ RUN) (RUN < until * unit.quantum) Cycles (λ few many. omega (arith, few, many))

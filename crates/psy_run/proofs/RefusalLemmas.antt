@@ -20,75 +20,42 @@ use Rattle.psy_sizes.specs.declared.fault.SizeFault.{SizeFault}
 use Rattle.psy_sizes.specs.declared.fault.SizeFault.TheVariants as size
 use Rattle.psy_sizes.specs.Faults.{IsFaultBy}
 use Rattle.psy_run.specs.declared.refusal.Refusal.{Refusal}
-use Rattle.psy_run.specs.declared.refusal.Refusal.TheVariants.{Words, TooLong, Lexical, Syntax, Deep, Rule, Many, Nodes, Edges, Ring, Queue, Cells, Infeasible}
+use Rattle.psy_run.specs.declared.refusal.Refusal.TheVariants.{Words, Lexical, Syntax, Deep, Rule, Many, Nodes, Edges, Ring, Queue, Cells, Infeasible}
 use Rattle.psy_run.specs.Steps.{IsLexical, IsUnparsed, IsUnlawful, IsUndrawn, IsUnsized, IsOverloaded, edges_of}
 
-pub lexical_is : (bytes : List ℕ) (refusal : Refusal) → IsLexical bytes refusal → (kind : LexKind) × (place : ℕ) × (refusal ≡ Lexical kind place) × FirstFault bytes kind place
-lexical_is bytes Words never = absurd never
-lexical_is bytes (TooLong file) never = absurd never
-lexical_is bytes (Lexical kind place) at = (kind, place, refl, at)
-lexical_is bytes (Deep token) never = absurd never
-lexical_is bytes Syntax never = absurd never
-lexical_is bytes (Rule kind token) never = absurd never
-lexical_is bytes (Many count) never = absurd never
-lexical_is bytes Nodes never = absurd never
-lexical_is bytes Edges never = absurd never
-lexical_is bytes Ring never = absurd never
-lexical_is bytes Queue never = absurd never
-lexical_is bytes Cells never = absurd never
-lexical_is bytes (Infeasible length demand supply) never = absurd never
+-- ---- the text of a program
 
+-- a text that has no tokens has a first fault
+pub lexical_is : (bytes : List ℕ) (refusal : Refusal) → IsLexical bytes refusal → (kind : LexKind) × (place : ℕ) × (refusal ≡ Lexical kind place) × FirstFault bytes kind place
+lexical_is bytes (Lexical kind place) at = (kind, place, refl, at)
+lexical_is bytes _ never = absurd never
+
+-- tokens that have no tree are nested too deep, or are those of no program
 pub unparsed_is : (tokens : List Token) (refusal : Refusal) → IsUnparsed tokens refusal → ((token : ℕ) × (refusal ≡ Deep token) × deep.Deep tokens token) ⊎ ((refusal ≡ Syntax) × deep.Shallow tokens × ((raw : Raw) → Spells raw tokens → ⊥))
-unparsed_is tokens Words never = absurd never
-unparsed_is tokens (TooLong file) never = absurd never
-unparsed_is tokens (Lexical kind place) never = absurd never
 unparsed_is tokens (Deep token) at = inl (token, refl, at)
 unparsed_is tokens Syntax none = inr (refl, none.0, none.1)
-unparsed_is tokens (Rule kind token) never = absurd never
-unparsed_is tokens (Many count) never = absurd never
-unparsed_is tokens Nodes never = absurd never
-unparsed_is tokens Edges never = absurd never
-unparsed_is tokens Ring never = absurd never
-unparsed_is tokens Queue never = absurd never
-unparsed_is tokens Cells never = absurd never
-unparsed_is tokens (Infeasible length demand supply) never = absurd never
+unparsed_is tokens _ never = absurd never
 
+-- a tree that stands for no program breaks a rule, or passes a limit
 pub unlawful_is : (raw : Raw) (refusal : Refusal) → IsUnlawful raw refusal → ((kind : RuleKind) × (token : ℕ) × (refusal ≡ Rule kind token) × LeastFault raw kind token) ⊎ ((count : Count) × (refusal ≡ Many count) × NoFault raw × (first_passed raw ≡ Some count))
-unlawful_is raw Words never = absurd never
-unlawful_is raw (TooLong file) never = absurd never
-unlawful_is raw (Lexical kind place) never = absurd never
-unlawful_is raw (Deep token) never = absurd never
-unlawful_is raw Syntax never = absurd never
 unlawful_is raw (Rule kind token) least = inl (kind, token, refl, least)
 unlawful_is raw (Many count) passed = inr (count, refl, passed.0, passed.1)
-unlawful_is raw Nodes never = absurd never
-unlawful_is raw Edges never = absurd never
-unlawful_is raw Ring never = absurd never
-unlawful_is raw Queue never = absurd never
-unlawful_is raw Cells never = absurd never
-unlawful_is raw (Infeasible length demand supply) never = absurd never
+unlawful_is raw _ never = absurd never
 
--- the refusal of a fault
+-- ---- what a program needs
+
+-- the refusal of a fault of graphs
 pub undrawn_by : GraphFault → Refusal
 undrawn_by (fault.Nodes agent) = Nodes
 undrawn_by (fault.Edges agent) = Edges
 undrawn_by fault.Memory = Cells
 
+-- a program that has no graphs has a cause of it
 pub undrawn_is : (unit : Whole) (refusal : Refusal) → IsUndrawn unit refusal → (cause : GraphFault) × (refusal ≡ undrawn_by cause) × IsCause unit cause
 unfolding undrawn_by
-undrawn_is unit Words never = absurd never
-undrawn_is unit (TooLong file) never = absurd never
-undrawn_is unit (Lexical kind place) never = absurd never
-undrawn_is unit (Deep token) never = absurd never
-undrawn_is unit Syntax never = absurd never
-undrawn_is unit (Rule kind token) never = absurd never
-undrawn_is unit (Many count) never = absurd never
 undrawn_is unit Nodes it = (fault.Nodes it.0, refl, it.1)
 undrawn_is unit Edges it = (fault.Edges it.0, refl, it.1)
-undrawn_is unit Ring never = absurd never
-undrawn_is unit Queue never = absurd never
-undrawn_is unit Cells never = absurd never
-undrawn_is unit (Infeasible length demand supply) never = absurd never
+undrawn_is unit _ never = absurd never
 
 -- the refusal of a fault of sizes
 pub unsized_by : SizeFault → Refusal
@@ -97,33 +64,15 @@ unsized_by (size.Cells stream) = Cells
 unsized_by (size.LargeQueue stream) = Queue
 unsized_by size.Memory = Words
 
+-- a program that has no sizes has a fault of them
 pub unsized_is : (unit : Whole) (nexts : List (List (List ℕ))) (refusal : Refusal) → IsUnsized unit nexts refusal → (cause : SizeFault) × (refusal ≡ unsized_by cause) × IsFaultBy unit nexts cause
 unfolding unsized_by
-unsized_is unit nexts Words never = absurd never
-unsized_is unit nexts (TooLong file) never = absurd never
-unsized_is unit nexts (Lexical kind place) never = absurd never
-unsized_is unit nexts (Deep token) never = absurd never
-unsized_is unit nexts Syntax never = absurd never
-unsized_is unit nexts (Rule kind token) never = absurd never
-unsized_is unit nexts (Many count) never = absurd never
-unsized_is unit nexts Nodes never = absurd never
-unsized_is unit nexts Edges never = absurd never
 unsized_is unit nexts Ring it = (size.LargeRing it.0, refl, it.1)
 unsized_is unit nexts Queue it = (size.LargeQueue it.0, refl, it.1)
 unsized_is unit nexts Cells it = (size.Cells it.0, refl, it.1)
-unsized_is unit nexts (Infeasible length demand supply) never = absurd never
+unsized_is unit nexts _ never = absurd never
 
+-- a demand that isn't met passes the supply over a least length
 pub overloaded_is : (unit : Whole) (graphs : List Graph) (until : ℕ) (refusal : Refusal) → IsOverloaded unit graphs until refusal → (within : ℕ) × (demand : ℕ) × (refusal ≡ Infeasible within demand (unit.quantum * within)) × IsOverload (edges_of graphs) unit.quantum until within demand
-overloaded_is unit graphs until Words never = absurd never
-overloaded_is unit graphs until (TooLong file) never = absurd never
-overloaded_is unit graphs until (Lexical kind place) never = absurd never
-overloaded_is unit graphs until (Deep token) never = absurd never
-overloaded_is unit graphs until Syntax never = absurd never
-overloaded_is unit graphs until (Rule kind token) never = absurd never
-overloaded_is unit graphs until (Many count) never = absurd never
-overloaded_is unit graphs until Nodes never = absurd never
-overloaded_is unit graphs until Edges never = absurd never
-overloaded_is unit graphs until Ring never = absurd never
-overloaded_is unit graphs until Queue never = absurd never
-overloaded_is unit graphs until Cells never = absurd never
 overloaded_is unit graphs until (Infeasible length demand supply) it = (length, demand, ap (Infeasible length demand) it.1, it.0)
+overloaded_is unit graphs until _ never = absurd never

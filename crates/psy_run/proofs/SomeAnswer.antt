@@ -1,27 +1,27 @@
 -- Words have some answer, where files are told.
-use Rattle.std.proofs.Common.{refl, ℕ, List, Some, inl, inr}
+use Rattle.std.proofs.Common.{ℕ, List, Option, None, Some, inl, inr}
 use Rattle.psy_door.specs.Files.{Files}
 use Rattle.psy_meaning.specs.Units.{IsOfText}
 use Rattle.psy_tree.specs.declared.unit.Unit.{Unit as Whole}
+use Rattle.psy_make.specs.Text.{made_text}
 use Rattle.psy_run.specs.declared.refusal.File.TheVariants as file
-use Rattle.psy_run.specs.Answer.{Answers, refused, served, answering, serving, compiling, supplying, running, checking, drawing}
-use Rattle.psy_run.specs.Asked.{Command, Run, Check, Graph as Draw}
-use Rattle.psy_run.specs.Courses.{pure}
+use Rattle.psy_run.specs.Answer.{Answers, refused, served, answering, serving, translating, compiling, supplying, listing, scripting, running, checking, drawing, making, trying}
+use Rattle.psy_run.specs.Asked.{Command, Run, Check, Graph as Draw, Make, Trial}
 use Rattle.psy_run.specs.Refusals.{status_of, line_of}
-use Rattle.psy_run.specs.Services.{Ran, Checked, Drawn, text_of}
-use Rattle.psy_run.proofs.Courses.{IsSome, some_then}
-use Rattle.psy_run.proofs.OneAnswer.{compiled}
-use Rattle.psy_run.proofs.SomeStep.{StepsEnd, some_asking, some_reading, some_lexing, some_parsing, some_resolving, some_graphing, some_sizing, some_costing, some_windowing, some_demanding, some_following}
-
-some_pure : {X : Type 0} (x : X) → IsSome (pure x)
-some_pure x = inl (x, refl)
+use Rattle.psy_run.specs.Services.{Ran, Checked, Drawn, Made, Tried, no_inputs, no_script, text_of}
+use Rattle.psy_run.proofs.AskingForms.{some_asking}
+use Rattle.psy_run.proofs.Courses.{IsSome, some_pure, some_then}
+use Rattle.psy_run.proofs.OneAnswer.{translated, compiled}
+use Rattle.psy_run.proofs.SomeStep.{StepsEnd, some_reading, some_lexing, some_parsing, some_resolving, some_graphing, some_sizing, some_costing, some_windowing, some_demanding, some_following, some_stating, some_directing, some_pacing}
 
 module _ (ends : StepsEnd) (files : Files) where
-  some_compiling : (name : List ℕ) → IsSome (compiling (Some files) name)
-  some_compiling name = some_then _ _ (some_reading files file.Program name) (λ bytes read.
-      some_then _ _ (some_lexing ends bytes) (λ tokens lexed.
+  some_translating : (bytes : List ℕ) → IsSome (translating bytes)
+  some_translating bytes = some_then _ _ (some_lexing ends bytes) (λ tokens lexed.
       some_then _ _ (some_parsing ends tokens) (λ raw parsed.
-      some_resolving ends raw)))
+      some_resolving ends raw))
+
+  some_compiling : (name : List ℕ) → IsSome (compiling (Some files) name)
+  some_compiling name = some_then _ _ (some_reading files file.Program name) (λ bytes read. some_translating bytes)
 
   some_supplying : (unit : Whole) (until : ℕ) → IsOfText unit → IsSome (supplying unit until)
   some_supplying unit until of = some_then _ _ (some_graphing ends unit of) (λ graphs drawn.
@@ -31,10 +31,21 @@ module _ (ends : StepsEnd) (files : Files) where
       some_then _ _ (some_demanding ends unit graphs until of drawn) (λ done feasible.
       some_pure (record { graphs = graphs; nexts = nexts; sizes = sizes }))))))
 
-  some_running : (name : List ℕ) (until : ℕ) → IsSome (running (Some files) name until)
-  some_running name until = some_then _ _ (some_compiling name) (λ unit made.
+  some_listing : (unit : Whole) (inputs : Option (List ℕ)) → IsSome (listing (Some files) unit inputs)
+  some_listing unit None = some_pure (no_inputs unit)
+  some_listing unit (Some name) = some_then _ _ (some_reading files file.Inputs name) (λ bytes read. some_stating unit bytes)
+
+  some_scripting : (unit : Whole) (script : Option (List ℕ)) → IsSome (scripting (Some files) unit script)
+  some_scripting unit None = some_pure no_script
+  some_scripting unit (Some name) = some_then _ _ (some_reading files file.Script name) (λ bytes read. some_directing unit bytes)
+
+  some_running : (name : List ℕ) (until : ℕ) (inputs script : Option (List ℕ)) → IsSome (running (Some files) name until inputs script)
+  some_running name until inputs script = some_then _ _ (some_compiling name) (λ unit made.
       some_then _ _ (some_supplying unit until (compiled ends.of_text (Some files) name unit made)) (λ supply supplied.
-      some_pure (Ran unit supply.nexts supply.sizes until)))
+      some_then _ _ (some_listing unit inputs) (λ lists listed.
+      some_then _ _ (some_scripting unit script) (λ said scripted.
+      some_then _ _ (some_pacing unit until) (λ done paced.
+      some_pure (Ran unit supply.nexts supply.sizes until lists said))))))
 
   some_checking : (name : List ℕ) (until : ℕ) → IsSome (checking (Some files) name until)
   some_checking name until = some_then _ _ (some_compiling name) (λ unit made.
@@ -47,10 +58,21 @@ module _ (ends : StepsEnd) (files : Files) where
       some_then _ _ (some_costing ends unit (compiled ends.of_text (Some files) name unit made)) (λ costs found.
       some_pure (Drawn unit graphs costs))))
 
+  some_making : (seed : ℕ) → IsSome (making seed)
+  some_making seed = some_pure (Made (made_text seed))
+
+  some_trying : (seed until : ℕ) → IsSome (trying seed until)
+  some_trying seed until = some_then _ _ (some_translating (made_text seed)) (λ unit made.
+      some_then _ _ (some_supplying unit until (translated ends.of_text (made_text seed) unit (ends.short seed) made)) (λ supply supplied.
+      some_then _ _ (some_pacing unit until) (λ done paced.
+      some_pure (Tried unit supply.nexts supply.sizes until))))
+
   some_serving : (command : Command) → IsSome (serving (Some files) command)
-  some_serving (Run program until) = some_running program until
+  some_serving (Run program until inputs script) = some_running program until inputs script
   some_serving (Check program until) = some_checking program until
   some_serving (Draw program) = some_drawing program
+  some_serving (Make seed) = some_making seed
+  some_serving (Trial seed until) = some_trying seed until
 
   some_answering : (words : List (List ℕ)) → IsSome (answering words (Some files))
   some_answering words = some_then _ _ (some_asking words) (λ command asks. some_serving command)

@@ -1,12 +1,9 @@
 -- Each step comes to some end.
-use Rattle.std.proofs.Common.{◌≡◌, ◌∙◌, sym, subst, ap, refl, ℕ, zero, suc, ◌+◌, ◌*◌, ◌<◌, ◌≤◌, List, [], ◌∷◌, length, ◌⊎◌, inl, inr, Option, Some, None, Bool, true, false, bytes_eq, codes, slice_get, arith}
-use Rattle.std.specs.List.{All}
-use Rattle.std.specs.Char.{is_ascii_digit}
-use Rattle.std.proofs.lemmas.Bool.{cases_lt, false≢true}
+use Rattle.std.proofs.Common.{◌≡◌, ◌∙◌, sym, subst, refl, ℕ, zero, suc, ◌+◌, ◌*◌, ◌<◌, ◌≤◌, List, [], ◌∷◌, length, ◌⊎◌, inl, inr, Option, Some, None, slice_get}
+use Rattle.std.specs.List.{All, Any}
 use Rattle.std.proofs.lemmas.Option.{same_Some, none-some}
-use Rattle.std.proofs.lemmas.Slice.Eq.{bytes_eq-Decides}
 use Rattle.psy_base.specs.declared.edge.Edge.{Edge}
-use Rattle.psy_base.specs.declared.limits.TheConstants.{COST, FILE_BYTES, UNTIL, WINDOW_CELLS, WORD_DIGITS}
+use Rattle.psy_base.specs.declared.limits.TheConstants.{COST, FILE_BYTES, LINES, RUN, WINDOW_CELLS}
 use Rattle.psy_base.specs.declared.sizes.Sizes.{Sizes}
 use Rattle.psy_base.specs.Paths.{FitsDueLast, IsGreatestWeight}
 use Rattle.psy_door.specs.Files.{Files, bytes_under}
@@ -20,7 +17,6 @@ use Rattle.psy_tree.specs.declared.unit.Unit.{Unit as Whole}
 use Rattle.psy_tree.specs.Deep as deep
 use Rattle.psy_tree.specs.Faults.{FirstFault}
 use Rattle.psy_tree.specs.Grammar.{Spells}
-use Rattle.psy_tree.specs.Lexemes.{decimal_value}
 use Rattle.psy_tree.specs.Rules.{LeastFault, NoFault}
 use Rattle.psy_tree.specs.Stands.{Stands, first_passed}
 use Rattle.psy_tree.specs.Tokens.{TokensOf}
@@ -39,14 +35,21 @@ use Rattle.psy_graph.specs.Graphs.{AreGraphs, IsCause}
 use Rattle.psy_sizes.specs.declared.fault.SizeFault.{SizeFault}
 use Rattle.psy_sizes.specs.declared.fault.SizeFault.TheVariants as size
 use Rattle.psy_sizes.specs.Faults.{CanCount, IsFaultBy}
+use Rattle.psy_make.specs.Text.{made_text}
+use Rattle.psy_script.specs.Faults.{Judge, Fault, IsLawful, first_fault}
+use Rattle.psy_script.specs.Inputs.{AreListsOf, inputs_judge, lists_in}
+use Rattle.psy_script.specs.Lines.{lines_of}
+use Rattle.psy_script.specs.Script.{IsScriptOf, script_judge, script_in}
 use Rattle.psy_run.specs.declared.refusal.File.{File}
+use Rattle.psy_run.specs.declared.refusal.File.TheVariants.{Inputs, Script}
 use Rattle.psy_run.specs.declared.refusal.Refusal.{Refusal}
-use Rattle.psy_run.specs.declared.refusal.Refusal.TheVariants.{Words, TooLong, Lexical, Syntax, Deep, Rule, Many, Nodes, Edges, Ring, Queue, Cells, Infeasible}
+use Rattle.psy_run.specs.declared.refusal.Refusal.TheVariants.{TooLong, Lexical, Syntax, Deep, Rule, Many, Nodes, Edges, Ring, Queue, Cells, Infeasible, Line, Lines, Cycles}
 use Rattle.psy_run.specs.Answer.{following}
-use Rattle.psy_run.specs.Asked.{IsDate, Command, Run, Check, Graph as Draw, Asks, asks_run, asks_check, asks_graph}
-use Rattle.psy_run.specs.Steps.{asking, reading, lexing, parsing, resolving, graphing, IsUndrawn, IsUnsized, sizing, costing, AreCosts, windowing, HasCells, PassesCells, demanding, edges_of}
-use Rattle.psy_run.proofs.Courses.{IsSome}
-use Rattle.psy_run.proofs.Decisions.{Decided, both, alike, decided_most, decided_each, all_or_any, list_of}
+use Rattle.psy_run.specs.Courses.{step}
+use Rattle.psy_run.specs.Steps.{reading, lexing, parsing, resolving, graphing, IsUndrawn, IsUnsized, sizing, costing, AreCosts, windowing, HasCells, PassesCells, demanding, edges_of, stating, directing, pacing}
+use Rattle.psy_run.proofs.Courses.{IsSome, some_unless}
+use Rattle.psy_run.proofs.Decisions.{most_or_more, all_or_any, list_of}
+use Rattle.psy_run.proofs.OneStep.{IsUntold, TextsHold}
 use Rattle.std.proofs.lemmas.Option.{get_or_from_slice_get, slice_get_within}
 
 -- What the laws of the steps say of some end.
@@ -55,7 +58,8 @@ pub record StepsEnd : Type 0 where
   pub deep_or_shallow : (tokens : List Token) → ((n : ℕ) × deep.Deep tokens n) ⊎ deep.Shallow tokens
   pub tree_or_none : (tokens : List Token) → ((raw : Raw) × Spells raw tokens) ⊎ ((raw : Raw) → Spells raw tokens → ⊥)
   pub verdict : (raw : Raw) → ((unit : Whole) × Stands unit raw) ⊎ (((kind : RuleKind) × (token : ℕ) × LeastFault raw kind token) ⊎ ((count : Count) × NoFault raw × (first_passed raw ≡ Some count)))
-  pub of_text : (bytes : List ℕ) (tokens : List Token) (raw : Raw) (unit : Whole) → length bytes ≤ FILE_BYTES → TokensOf bytes tokens → Spells raw tokens → Stands unit raw → IsOfText unit
+  pub of_text : TextsHold
+  pub short : (seed : ℕ) → length (made_text seed) ≤ FILE_BYTES
   pub graphs_or_cause : (unit : Whole) → IsOfText unit → ((graphs : List Graph) × AreGraphs unit graphs) ⊎ ((fault : GraphFault) × IsCause unit fault)
   pub edges : (unit : Whole) (graphs : List Graph) → IsOfText unit → AreGraphs unit graphs → All (λ graph. All (IsEdge (length graph.nodes)) graph.edges) graphs
   pub cost : (unit : Whole) (number : ℕ) (agent : AgentDecl) (point : ℕ) → IsAgentOf unit number agent → point < length agent.points → (cost : ℕ) × IsCut (HasCost unit.functions agent point) COST cost
@@ -64,90 +68,21 @@ pub record StepsEnd : Type 0 where
       → ((sizes : Sizes) × AreSizes unit nexts sizes × CanCount unit nexts) ⊎ ((fault : SizeFault) × IsFaultBy unit nexts fault)
   pub greatest : (graph : List Edge) (nodes : ℕ) (span : Span) (within : ℕ) → All (IsEdge nodes) graph → (n : ℕ) × IsGreatestWeight graph (Fits span within) n
 
--- ---- words
-
-decided_date : (word : List ℕ) → Decided ((date : ℕ) × IsDate word date)
-decided_date word = alike
-    (λ h. let (some, (few, (digits, most))) = h in (decimal_value word, record { some = some; few = few; digits = digits; value = refl; most = most }))
-    (λ d. (d.1.some, (d.1.few, (d.1.digits, subst (λ n. n ≤ UNTIL) d.1.value d.1.most))))
-    (both (decided_most 1 (length word)) (both (decided_most (length word) WORD_DIGITS) (both (decided_each is_ascii_digit word) (decided_most (decimal_value word) UNTIL))))
-
-decided_bytes : (a b : List ℕ) → Decided (a ≡ b)
-decided_bytes a b = by (bytes_eq a b) refl
-  where
-    by : (t : Bool) → bytes_eq a b ≡ t → Decided (a ≡ b)
-    by true e = inl ((bytes_eq-Decides a b).0 e)
-    by false e = inr (λ same. false≢true (sym e ∙ (bytes_eq-Decides a b).1 same))
-
--- the words of a command are two or three
-asked_long : (words : List (List ℕ)) (command : Command) → Asks words command → (2 ≤ length words) × (length words ≤ 3)
-asked_long words command (asks_run program date until is that) = let l : length words ≡ 3 = ap length is in (omega (arith, l), omega (arith, l))
-asked_long words command (asks_check program date until is that) = let l : length words ≡ 3 = ap length is in (omega (arith, l), omega (arith, l))
-asked_long words command (asks_graph program is) = let l : length words ≡ 2 = ap length is in (omega (arith, l), omega (arith, l))
-
--- two words ask for graphs
-asked_two : (c p : List ℕ) (command : Command) → Asks (c ∷ p ∷ []) command → c ≡ codes "graph"
-asked_two c p command (asks_run program date until is that) = let l : 2 ≡ 3 = ap length is in absurd (omega (arith, l))
-asked_two c p command (asks_check program date until is that) = let l : 2 ≡ 3 = ap length is in absurd (omega (arith, l))
-asked_two c p command (asks_graph program is) = let e : c ∷ p ∷ [] ≡ codes "graph" ∷ program ∷ [] = is in cc
-
--- three words ask for a run or a check up to a date
-asked_three : (c p d : List ℕ) (command : Command) → Asks (c ∷ p ∷ d ∷ []) command → ((date : ℕ) × IsDate d date) × ((c ≡ codes "run") ⊎ (c ≡ codes "check"))
-asked_three c p d command (asks_run program date until is that) =
-    let e : c ∷ p ∷ d ∷ [] ≡ codes "run" ∷ program ∷ date ∷ [] = is in
-    let third : d ≡ date = cc in
-    let first : c ≡ codes "run" = cc in
-    ((until, subst (λ w. IsDate w until) (sym third) that), inl first)
-asked_three c p d command (asks_check program date until is that) =
-    let e : c ∷ p ∷ d ∷ [] ≡ codes "check" ∷ program ∷ date ∷ [] = is in
-    let third : d ≡ date = cc in
-    let first : c ≡ codes "check" = cc in
-    ((until, subst (λ w. IsDate w until) (sym third) that), inr first)
-asked_three c p d command (asks_graph program is) = let l : 3 ≡ 2 = ap length is in absurd (omega (arith, l))
-
-some_two : (c p : List ℕ) → IsSome (asking (c ∷ p ∷ []))
-some_two c p = elim (decided_bytes c (codes "graph")) [
-  | inl is ↦ inl (Draw p, asks_graph p (ap (λ w. w ∷ p ∷ []) is))
-  | inr other ↦ inr (Words, (refl, λ command asks. other (asked_two c p command asks)))
-]
-
-some_three : (c p d : List ℕ) → IsSome (asking (c ∷ p ∷ d ∷ []))
-some_three c p d = elim (decided_date d) [
-  | inr none ↦ inr (Words, (refl, λ command asks. none (asked_three c p d command asks).0))
-  | inl date ↦ elim (decided_bytes c (codes "run")) [
-    | inl is ↦ inl (Run p date.0, asks_run p d date.0 (ap (λ w. w ∷ p ∷ d ∷ []) is) date.1)
-    | inr other ↦ elim (decided_bytes c (codes "check")) [
-      | inl is ↦ inl (Check p date.0, asks_check p d date.0 (ap (λ w. w ∷ p ∷ d ∷ []) is) date.1)
-      | inr neither ↦ inr (Words, (refl, λ command asks. elim (asked_three c p d command asks).1 [ inl is ↦ other is | inr is ↦ neither is ]))
-    ]
-  ]
-]
-
-pub some_asking : (words : List (List ℕ)) → IsSome (asking words)
-some_asking [] = inr (Words, (refl, λ command asks. let l = (asked_long [] command asks).0 in omega (arith, l)))
-some_asking (c ∷ []) = inr (Words, (refl, λ command asks. let l = (asked_long (c ∷ []) command asks).0 in omega (arith, l)))
-some_asking (c ∷ p ∷ []) = some_two c p
-some_asking (c ∷ p ∷ d ∷ []) = some_three c p d
-some_asking (c ∷ p ∷ d ∷ w ∷ words) = inr (Words, (refl, λ command asks. let l = (asked_long (c ∷ p ∷ d ∷ w ∷ words) command asks).1 in omega (arith, l)))
-
 -- ---- the file
 
 pub some_reading : (files : Files) (file : File) (name : List ℕ) → IsSome (reading (Some files) file name)
-some_reading files file name = elim (cases_lt FILE_BYTES (length (bytes_under files name))) [
-  | inl long ↦ inr (TooLong file, (refl, long))
-  | inr short ↦ inl (bytes_under files name, (short, refl))
+some_reading files file name = elim (most_or_more (length (bytes_under files name)) FILE_BYTES) [
+  | inl short ↦ inl (bytes_under files name, (short, refl))
+  | inr long ↦ inr (TooLong file, (refl, long))
 ]
 
 -- ---- its demand
 
 pub some_windowing : (graphs : List Graph) (until : ℕ) → IsSome (windowing graphs until)
-some_windowing graphs until = elim (all_or_any (HasCells until) (PassesCells until) each graphs) [
-  | inl all ↦ inl (tt, all)
-  | inr any ↦ inr (Cells, (refl, any))
-]
+some_windowing graphs until = some_unless (All (HasCells until) graphs) (Any (PassesCells until) graphs) Cells (all_or_any (HasCells until) (PassesCells until) each graphs)
   where
     each : (graph : Graph) → HasCells until graph ⊎ PassesCells until graph
-    each graph = elim (cases_lt WINDOW_CELLS (length graph.nodes * (until + 1))) [ inl more ↦ inr more | inr few ↦ inl few ]
+    each graph = most_or_more (length graph.nodes * (until + 1)) WINDOW_CELLS
 
 undrawn : (unit : Whole) (cause : GraphFault) → IsCause unit cause → (refusal : Refusal) × IsUndrawn unit refusal
 undrawn unit (fault.Nodes agent) is = (Nodes, (agent, is))
@@ -251,3 +186,25 @@ module _ (ends : StepsEnd) where
         | inl feasible ↦ inl (tt, feasible)
         | inr over ↦ inr (Infeasible over.0 over.1 (unit.quantum * over.0), (over.2, refl))
       ]
+
+-- ---- its inputs and its script
+
+-- A lawful text states something, and another has a first fault, or many lines.
+some_telling : {X : Type 0} (own : File) (judge : Judge) (bytes : List ℕ) (States : X → Type 0) (x : X) → (IsLawful judge bytes → States x) → IsSome (step States (IsUntold own judge bytes))
+some_telling own judge bytes States x states = elim (most_or_more (length (lines_of bytes)) LINES) [
+  | inl few ↦ by (first_fault judge (lines_of bytes)) refl few
+  | inr many ↦ inr (Lines, many)
+]
+  where
+    by : (o : Option Fault) → first_fault judge (lines_of bytes) ≡ o → length (lines_of bytes) ≤ LINES → IsSome (step States (IsUntold own judge bytes))
+    by None e few = inl (x, states (record { few = few; sound = e }))
+    by (Some first) e few = inr (Line own first.kind first.line, (refl, record { few = few; fault = e }))
+
+pub some_stating : (unit : Whole) (bytes : List ℕ) → IsSome (stating unit bytes)
+some_stating unit bytes = some_telling Inputs (inputs_judge unit) bytes (AreListsOf unit bytes) (lists_in unit (lines_of bytes)) (λ lawful. record { lawful = lawful; stated = refl })
+
+pub some_directing : (unit : Whole) (bytes : List ℕ) → IsSome (directing unit bytes)
+some_directing unit bytes = some_telling Script (script_judge unit) bytes (IsScriptOf unit bytes) (script_in unit (lines_of bytes)) (λ lawful. record { lawful = lawful; stated = refl })
+
+pub some_pacing : (unit : Whole) (until : ℕ) → IsSome (pacing unit until)
+some_pacing unit until = some_unless (until * unit.quantum ≤ RUN) (RUN < until * unit.quantum) Cycles (most_or_more (until * unit.quantum) RUN)

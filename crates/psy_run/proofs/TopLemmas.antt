@@ -1,31 +1,34 @@
 -- How the top call ends, clause by clause.
-use Rattle.std.proofs.Common.{◌≡◌, ◌≢◌, ◌∙◌, sym, ap, subst, refl, ℕ, ◌+◌, ◌==◌, List, [], Bool, true, false, Option, None, Some, ◌⊎◌, inl, inr, IfSome, arith}
+use Rattle.std.proofs.Common.{◌≡◌, ◌≢◌, ◌∙◌, sym, ap, subst, refl, ℕ, ◌+◌, ◌==◌, List, [], Bool, true, false, Option, None, Some, ◌⊎◌, inl, inr, IfSome, ℤ, arith}
 use Rattle.std.proofs.lemmas.Bool.Decides.{nat_tests}
 use Rattle.psy_base.specs.declared.sizes.Sizes.{Sizes}
 use Rattle.psy_door.specs.Faults.{Rose}
 use Rattle.psy_door.specs.Files.{Files}
 use Rattle.psy_door.specs.Growth.{Grew, GrewByFront}
+use Rattle.psy_kernel.specs.declared.script.Script.{Script as Said}
 use Rattle.psy_kernel.specs.declared.stage.Stage.TheVariants.{Over}
 use Rattle.psy_kernel.specs.Progress.{Progress, stage_of}
 use Rattle.psy_log.specs.Forms.{read_line}
+use Rattle.psy_make.specs.Text.{made_text}
 use Rattle.psy_tree.specs.declared.unit.Unit.{Unit as Whole}
 use Rattle.psy_run.specs.declared.refusal.File.{File}
-use Rattle.psy_run.specs.declared.refusal.File.TheVariants.{Program}
+use Rattle.psy_run.specs.declared.refusal.File.TheVariants.{Program, Inputs, Script}
 use Rattle.psy_run.specs.declared.refusal.Refusal.{Refusal}
-use Rattle.psy_run.specs.declared.refusal.Refusal.TheVariants.{Words, TooLong, Lexical, Syntax, Deep, Rule, Many, Nodes, Edges, Ring, Queue, Cells, Infeasible}
+use Rattle.psy_run.specs.declared.refusal.Refusal.TheVariants.{Words, TooLong, Lexical, Syntax, Deep, Rule, Many, Nodes, Edges, Ring, Queue, Cells, Infeasible, Line, Lines, Cycles}
 use Rattle.psy_run.specs.declared.refusal.Stop.{Stop}
 use Rattle.psy_run.specs.declared.refusal.Stop.TheVariants as stop
-use Rattle.psy_run.specs.Answer.{Answers, refused, served, compiling, supplying, following, serving, answering}
-use Rattle.psy_run.specs.Asked.{Command, Asks, AskNothing, Run, Check, Graph}
+use Rattle.psy_run.specs.Answer.{Answers, refused, served, translating, compiling, supplying, following, listing, scripting, serving, answering}
+use Rattle.psy_run.specs.Asked.{Command, Asks, AskNothing, Run, Check, Graph, Make, Trial}
+use Rattle.psy_run.specs.Bounds.{IsBounded}
 use Rattle.psy_run.specs.Courses.{Course, in_row}
 use Rattle.psy_run.specs.Outcome.{Halts, halts_refused, halts_unread, halts_memory, Seen, coming, IsUnread, MayAnswer, may_refuse, may_miss, may_serve, Ends, ends_memory, ends_said, ends_cut, Says}
 use Rattle.psy_run.specs.Refusals.{status_of, line_of, file_name}
-use Rattle.psy_run.specs.Services.{Service, Ran, Checked, Drawn, HasRun, Leaves, text_of}
-use Rattle.psy_run.specs.Steps.{reading, lexing, parsing, graphing, sizing, costing, windowing, demanding}
+use Rattle.psy_run.specs.Services.{Service, Ran, Checked, Drawn, Made, Tried, HasRun, Leaves, no_inputs, no_script, text_of}
+use Rattle.psy_run.specs.Steps.{reading, lexing, parsing, graphing, sizing, costing, windowing, demanding, pacing}
 
 -- ---- the statuses of refusals
 
--- 1, 2 for the words alone, 5 or 7
+-- 2 for the words alone, and else 1, 5, 6 or 7
 data IsStatus : Refusal → ℕ → Type 0 where
   of_words : IsStatus Words 2
   of_other : (refusal : Refusal) (status : ℕ) → status ≢ 0 → status ≢ 2 → status ≢ 3 → status ≢ 4 → status ≢ 8 → IsStatus refusal status
@@ -35,6 +38,9 @@ one refusal = of_other refusal 1 (λ e. absurd (omega arith)) (λ e. absurd (ome
 
 five : (refusal : Refusal) → IsStatus refusal 5
 five refusal = of_other refusal 5 (λ e. absurd (omega arith)) (λ e. absurd (omega arith)) (λ e. absurd (omega arith)) (λ e. absurd (omega arith)) (λ e. absurd (omega arith))
+
+six : (refusal : Refusal) → IsStatus refusal 6
+six refusal = of_other refusal 6 (λ e. absurd (omega arith)) (λ e. absurd (omega arith)) (λ e. absurd (omega arith)) (λ e. absurd (omega arith)) (λ e. absurd (omega arith))
 
 seven : (refusal : Refusal) → IsStatus refusal 7
 seven refusal = of_other refusal 7 (λ e. absurd (omega arith)) (λ e. absurd (omega arith)) (λ e. absurd (omega arith)) (λ e. absurd (omega arith)) (λ e. absurd (omega arith))
@@ -53,6 +59,9 @@ is_status Ring = seven Ring
 is_status Queue = seven Queue
 is_status Cells = seven Cells
 is_status (Infeasible length demand supply) = five (Infeasible length demand supply)
+is_status (Line file kind line) = six (Line file kind line)
+is_status Lines = seven Lines
+is_status Cycles = seven Cycles
 
 not_by : (refusal : Refusal) (status answer : ℕ) → IsStatus refusal status → answer ≢ 2 → (answer ≡ 0) ⊎ ((answer ≡ 3) ⊎ ((answer ≡ 4) ⊎ (answer ≡ 8))) → status ≢ answer
 not_by _ _ answer of_words two which e = two (sym e)
@@ -86,11 +95,11 @@ ends_stopped seen old now before after answer _ halts_memory asked says reads me
     let eight = memory refl in
     subst (λ s. Ends seen old now before after s None) (sym eight.0) (ends_memory asks.0 asks.1 eight.1)
 
-pub ends_served : (seen : Seen) (old now : Option (List ℕ)) (before after : ℕ) (left : Option Progress) (done : Service) → (coming seen).gives done → Grew old now (text_of done) → Leaves done left → Ends seen old now before after 0 left
-ends_served seen old now before after left done gives grew leaves = ends_said 0 (text_of done) left (may_serve done left gives leaves) grew
+pub ends_served : (seen : Seen) (old now : Option (List ℕ)) (before after : ℕ) (left : Option Progress) (done : Service) → (coming seen).gives done → Grew old now (text_of done) → Leaves done left → IsBounded done → Ends seen old now before after 0 left
+ends_served seen old now before after left done gives grew leaves bounded = ends_said 0 (text_of done) left (may_serve done left gives leaves bounded) grew
 
-pub ends_unwritten : (seen : Seen) (old now : Option (List ℕ)) (before after : ℕ) (left : Option Progress) (done : Service) → (coming seen).gives done → (other : Option Progress) × Leaves done other → Rose before after → GrewByFront old now (text_of done) → left ≡ None → Ends seen old now before after 4 left
-ends_unwritten seen old now before after left done gives (other, leaves) rose front is = subst (Ends seen old now before after 4) (sym is) (ends_cut 0 (text_of done) other (may_serve done other gives leaves) rose front)
+pub ends_unwritten : (seen : Seen) (old now : Option (List ℕ)) (before after : ℕ) (left : Option Progress) (done : Service) → (coming seen).gives done → (other : Option Progress) × Leaves done other → IsBounded done → Rose before after → GrewByFront old now (text_of done) → left ≡ None → Ends seen old now before after 4 left
+ends_unwritten seen old now before after left done gives (other, leaves) bounded rose front is = subst (Ends seen old now before after 4) (sym is) (ends_cut 0 (text_of done) other (may_serve done other gives leaves bounded) rose front)
 
 -- ---- the clauses
 
@@ -100,7 +109,7 @@ pub ends_answered : (seen : Seen) (old now : Option (List ℕ)) (before after an
 ends_answered seen old now before after _ left (ends_memory command asks grew) three four eight = absurd (eight refl)
 ends_answered seen old now before after _ _ (ends_said _ _ _ (may_refuse refusal stops) grew) three four eight = (line_of refusal, refused refusal stops, grew)
 ends_answered seen old now before after _ _ (ends_said _ _ _ (may_miss file unread) grew) three four eight = absurd (three refl)
-ends_answered seen old now before after _ _ (ends_said _ _ _ (may_serve done other gives leaves) grew) three four eight = (text_of done, served done gives, grew)
+ends_answered seen old now before after _ _ (ends_said _ _ _ (may_serve done other gives leaves bounded) grew) three four eight = (text_of done, served done gives, grew)
 ends_answered seen old now before after _ _ (ends_cut status text left may rose front) three four eight = absurd (four refl)
 
 pub ends_done : (seen : Seen) (old now : Option (List ℕ)) (before after answer : ℕ) (left : Option Progress) → Ends seen old now before after answer left → (Rose seen.before seen.after → ⊥) → (Rose before after → ⊥)
@@ -108,7 +117,7 @@ pub ends_done : (seen : Seen) (old now : Option (List ℕ)) (before after answer
 ends_done seen old now before after _ left (ends_memory command asks grew) shelf sink = inr refl
 ends_done seen old now before after _ _ (ends_said _ _ _ (may_refuse refusal stops) grew) shelf sink = inl (line_of refusal, refused refusal stops, grew)
 ends_done seen old now before after _ _ (ends_said _ _ _ (may_miss file unread) grew) shelf sink = absurd (shelf unread.rose)
-ends_done seen old now before after _ _ (ends_said _ _ _ (may_serve done other gives leaves) grew) shelf sink = inl (text_of done, served done gives, grew)
+ends_done seen old now before after _ _ (ends_said _ _ _ (may_serve done other gives leaves bounded) grew) shelf sink = inl (text_of done, served done gives, grew)
 ends_done seen old now before after _ _ (ends_cut status text left may rose front) shelf sink = absurd (sink rose)
 
 -- Words have one answer at most, where files are told.
@@ -135,7 +144,7 @@ ends_words seen old now before after _ _ (ends_said _ _ _ (may_miss file unread)
   | inl none ↦ absurd none
   | inr (command, asks, later) ↦ absurd (nothing command asks)
 ]
-ends_words seen old now before after _ _ (ends_said _ _ _ (may_serve done other (command, asks, later) leaves) grew) nothing = absurd (nothing command asks)
+ends_words seen old now before after _ _ (ends_said _ _ _ (may_serve done other (command, asks, later) leaves bounded) grew) nothing = absurd (nothing command asks)
 ends_words seen old now before after _ _ (ends_cut status text left may rose front) nothing = inr refl
 
 -- No step behind the words stops with a refusal of them.
@@ -151,10 +160,11 @@ never_then c f first later (inr (x, gives, stops)) = later x stops
 apart : (refusal : Refusal) → status_of refusal ≢ 2 → Words ≡ refusal → ⊥
 apart refusal two e = two (sym (ap status_of e))
 
+translating_never : (bytes : List ℕ) → Never (translating bytes)
+translating_never bytes = never_then (lexing bytes) _ (λ stops. stops) (λ tokens. never_then (parsing tokens) _ (λ stops. stops) (λ raw stops. stops))
+
 compiling_never : (files : Option Files) (name : List ℕ) → Never (compiling files name)
-compiling_never files name =
-    never_then (reading files Program name) _ (λ stops. apart (TooLong Program) (λ e. absurd (omega arith)) stops.0)
-    (λ bytes. never_then (lexing bytes) _ (λ stops. stops) (λ tokens. never_then (parsing tokens) _ (λ stops. stops) (λ raw stops. stops)))
+compiling_never files name = never_then (reading files Program name) _ (λ stops. apart (TooLong Program) (λ e. absurd (omega arith)) stops.0) translating_never
 
 supplying_never : (unit : Whole) (until : ℕ) → Never (supplying unit until)
 supplying_never unit until =
@@ -163,15 +173,32 @@ supplying_never unit until =
     (λ nexts. never_then (sizing unit nexts) _ (λ stops. stops)
     (λ sizes. never_then (windowing graphs until) _ (λ stops. apart Cells (λ e. absurd (omega arith)) stops.0) (λ done. never_then (demanding unit graphs until) _ (λ stops. stops) (λ again stops. stops)))))
 
+listing_never : (files : Option Files) (unit : Whole) (inputs : Option (List ℕ)) → Never (listing files unit inputs)
+listing_never files unit None = λ stops. stops
+listing_never files unit (Some name) = never_then (reading files Inputs name) _ (λ stops. apart (TooLong Inputs) (λ e. absurd (omega arith)) stops.0) (λ bytes stops. stops)
+
+scripting_never : (files : Option Files) (unit : Whole) (script : Option (List ℕ)) → Never (scripting files unit script)
+scripting_never files unit None = λ stops. stops
+scripting_never files unit (Some name) = never_then (reading files Script name) _ (λ stops. apart (TooLong Script) (λ e. absurd (omega arith)) stops.0) (λ bytes stops. stops)
+
+pacing_never : (unit : Whole) (until : ℕ) → Never (pacing unit until)
+pacing_never unit until stops = apart Cycles (λ e. absurd (omega arith)) stops.0
+
 serving_never : (files : Option Files) (command : Command) → Never (serving files command)
-serving_never files (Run name until) =
+serving_never files (Run name until inputs script) =
     never_then (compiling files name) _ (compiling_never files name)
-    (λ unit. never_then (supplying unit until) _ (supplying_never unit until) (λ supply stops. stops))
+    (λ unit. never_then (supplying unit until) _ (supplying_never unit until)
+    (λ supply. never_then (listing files unit inputs) _ (listing_never files unit inputs)
+    (λ lists. never_then (scripting files unit script) _ (scripting_never files unit script) (λ said. never_then (pacing unit until) _ (pacing_never unit until) (λ done stops. stops)))))
 serving_never files (Check name until) =
     never_then (compiling files name) _ (compiling_never files name)
     (λ unit. never_then (supplying unit until) _ (supplying_never unit until) (λ supply stops. stops))
 serving_never files (Graph name) =
     never_then (compiling files name) _ (compiling_never files name) (λ unit. never_then (graphing unit) _ (λ stops. stops) (λ graphs. never_then (costing unit) _ (λ stops. stops) (λ costs stops. stops)))
+serving_never files (Make seed) = λ stops. stops
+serving_never files (Trial seed until) =
+    never_then (translating (made_text seed)) _ (translating_never (made_text seed))
+    (λ unit. never_then (supplying unit until) _ (supplying_never unit until) (λ supply. never_then (pacing unit until) _ (pacing_never unit until) (λ done stops. stops)))
 
 nothing_asked : (words : List (List ℕ)) (files : Option Files) → (answering words files).stops Words → AskNothing words
 unfolding in_row
@@ -184,7 +211,7 @@ ends_listed seen old now before after _ left (ends_memory command asks grew) two
 ends_listed seen old now before after _ _ (ends_said _ _ _ (may_refuse refusal stops) grew) two =
     nothing_asked seen.words seen.files (subst (λ r. (coming seen).stops r) (two_by refusal _ (is_status refusal) two) stops)
 ends_listed seen old now before after _ _ (ends_said _ _ _ (may_miss file unread) grew) two = absurd (omega (arith, two))
-ends_listed seen old now before after _ _ (ends_said _ _ _ (may_serve done other gives leaves) grew) two = absurd (omega (arith, two))
+ends_listed seen old now before after _ _ (ends_said _ _ _ (may_serve done other gives leaves bounded) grew) two = absurd (omega (arith, two))
 ends_listed seen old now before after _ _ (ends_cut status text left may rose front) two = absurd (omega (arith, two))
 
 -- 3 is answered for a file that couldn't be read, with its line.
@@ -192,7 +219,7 @@ pub ends_read : (seen : Seen) (old now : Option (List ℕ)) (before after answer
 ends_read seen old now before after _ left (ends_memory command asks grew) three = absurd (omega (arith, three))
 ends_read seen old now before after _ _ (ends_said _ _ _ (may_refuse refusal stops) grew) three = absurd (not_by refusal _ 3 (is_status refusal) (λ e. absurd (omega arith)) (inr (inl refl)) three)
 ends_read seen old now before after _ _ (ends_said _ _ _ (may_miss file unread) grew) three = (file, unread, grew)
-ends_read seen old now before after _ _ (ends_said _ _ _ (may_serve done other gives leaves) grew) three = absurd (omega (arith, three))
+ends_read seen old now before after _ _ (ends_said _ _ _ (may_serve done other gives leaves bounded) grew) three = absurd (omega (arith, three))
 ends_read seen old now before after _ _ (ends_cut status text left may rose front) three = absurd (omega (arith, three))
 
 -- 4 is answered where a write failed: then a front of a text that may answer the words was written.
@@ -201,7 +228,7 @@ pub ends_cut_short : (seen : Seen) (old now : Option (List ℕ)) (before after a
 ends_cut_short seen old now before after _ left (ends_memory command asks grew) four = absurd (omega (arith, four))
 ends_cut_short seen old now before after _ _ (ends_said _ _ _ (may_refuse refusal stops) grew) four = absurd (not_by refusal _ 4 (is_status refusal) (λ e. absurd (omega arith)) (inr (inr (inl refl))) four)
 ends_cut_short seen old now before after _ _ (ends_said _ _ _ (may_miss file unread) grew) four = absurd (omega (arith, four))
-ends_cut_short seen old now before after _ _ (ends_said _ _ _ (may_serve done other gives leaves) grew) four = absurd (omega (arith, four))
+ends_cut_short seen old now before after _ _ (ends_said _ _ _ (may_serve done other gives leaves bounded) grew) four = absurd (omega (arith, four))
 ends_cut_short seen old now before after _ _ (ends_cut status text left may rose front) four = (rose, (status, text, left, may, front))
 
 -- 8 is answered with nothing written.
@@ -209,41 +236,43 @@ pub ends_for_memory : (seen : Seen) (old now : Option (List ℕ)) (before after 
 ends_for_memory seen old now before after _ left (ends_memory command asks grew) eight = grew
 ends_for_memory seen old now before after _ _ (ends_said _ _ _ (may_refuse refusal stops) grew) eight = absurd (not_by refusal _ 8 (is_status refusal) (λ e. absurd (omega arith)) (inr (inr (inr refl))) eight)
 ends_for_memory seen old now before after _ _ (ends_said _ _ _ (may_miss file unread) grew) eight = absurd (omega (arith, eight))
-ends_for_memory seen old now before after _ _ (ends_said _ _ _ (may_serve done other gives leaves) grew) eight = absurd (omega (arith, eight))
+ends_for_memory seen old now before after _ _ (ends_said _ _ _ (may_serve done other gives leaves bounded) grew) eight = absurd (omega (arith, eight))
 ends_for_memory seen old now before after _ _ (ends_cut status text left may rose front) eight = absurd (omega (arith, eight))
 
 -- 0 is answered where the whole text of what is served was written, and what is left did it.
 pub ends_left : (seen : Seen) (old now : Option (List ℕ)) (before after answer : ℕ) (left : Option Progress) → Ends seen old now before after answer left → answer ≡ 0
-    → (done : Service) × (coming seen).gives done × Grew old now (text_of done) × Leaves done left
+    → (done : Service) × (coming seen).gives done × Grew old now (text_of done) × Leaves done left × IsBounded done
 ends_left seen old now before after _ left (ends_memory command asks grew) zero = absurd (omega (arith, zero))
 ends_left seen old now before after _ _ (ends_said _ _ _ (may_refuse refusal stops) grew) zero = absurd (not_by refusal _ 0 (is_status refusal) (λ e. absurd (omega arith)) (inl refl) zero)
 ends_left seen old now before after _ _ (ends_said _ _ _ (may_miss file unread) grew) zero = absurd (omega (arith, zero))
-ends_left seen old now before after _ _ (ends_said _ _ _ (may_serve done other gives leaves) grew) zero = (done, gives, grew, leaves)
+ends_left seen old now before after _ _ (ends_said _ _ _ (may_serve done other gives leaves bounded) grew) zero = (done, gives, grew, leaves, bounded)
 ends_left seen old now before after _ _ (ends_cut status text left may rose front) zero = absurd (omega (arith, zero))
 
 -- A kernel is left by a run alone, and is over.
-over_at : (unit : Whole) (nexts : List (List (List ℕ))) (sizes : Sizes) (until : ℕ) (p : Progress) → HasRun unit nexts sizes until p → stage_of p ≡ Over
-over_at unit nexts sizes until p ran = by (p.dates == p.plan.until + 1) refl
+over_at : (unit : Whole) (nexts : List (List (List ℕ))) (sizes : Sizes) (until : ℕ) (inputs : List (List ℤ)) (script : Said) (p : Progress) → HasRun unit nexts sizes until inputs script p → stage_of p ≡ Over
+over_at unit nexts sizes until inputs script p ran = by (p.dates == p.plan.until + 1) refl
   where
     by : (t : Bool) → (p.dates == p.plan.until + 1) ≡ t → stage_of p ≡ Over
     by true e = rw e refl
     by false e = let dates = ran.dates in let last = ran.its_until in grind (arith, nat_tests)
 
 over_of : (done : Service) (left : Option Progress) → Leaves done left → IfSome left (λ kernel. stage_of kernel ≡ Over)
-over_of (Ran unit nexts sizes until) left (p, is, ran) = subst (λ l. IfSome l (λ kernel. stage_of kernel ≡ Over)) (sym is) (over_at unit nexts sizes until p ran)
+over_of (Ran unit nexts sizes until inputs script) left (p, is, ran) = subst (λ l. IfSome l (λ kernel. stage_of kernel ≡ Over)) (sym is) (over_at unit nexts sizes until inputs script p ran)
+over_of (Tried unit nexts sizes until) left (p, is, ran) = subst (λ l. IfSome l (λ kernel. stage_of kernel ≡ Over)) (sym is) (over_at unit nexts sizes until (no_inputs unit) no_script p ran)
 over_of (Checked unit sizes until) left is = subst (λ l. IfSome l (λ kernel. stage_of kernel ≡ Over)) (sym is) tt
 over_of (Drawn unit graphs costs) left is = subst (λ l. IfSome l (λ kernel. stage_of kernel ≡ Over)) (sym is) tt
+over_of (Made text) left is = subst (λ l. IfSome l (λ kernel. stage_of kernel ≡ Over)) (sym is) tt
 
 pub ends_over : (seen : Seen) (old now : Option (List ℕ)) (before after answer : ℕ) (left : Option Progress) → Ends seen old now before after answer left → IfSome left (λ kernel. stage_of kernel ≡ Over)
 ends_over seen old now before after _ _ (ends_memory command asks grew) = tt
 ends_over seen old now before after _ _ (ends_said _ _ _ (may_refuse refusal stops) grew) = tt
 ends_over seen old now before after _ _ (ends_said _ _ _ (may_miss file unread) grew) = tt
-ends_over seen old now before after _ _ (ends_said _ _ _ (may_serve done other gives leaves) grew) = over_of done other leaves
+ends_over seen old now before after _ _ (ends_said _ _ _ (may_serve done other gives leaves bounded) grew) = over_of done other leaves
 ends_over seen old now before after _ _ (ends_cut status text left may rose front) = tt
 
 pub ends_none_left : (seen : Seen) (old now : Option (List ℕ)) (before after answer : ℕ) (left : Option Progress) → Ends seen old now before after answer left → answer ≢ 0 → left ≡ None
 ends_none_left seen old now before after _ _ (ends_memory command asks grew) some = refl
 ends_none_left seen old now before after _ _ (ends_said _ _ _ (may_refuse refusal stops) grew) some = refl
 ends_none_left seen old now before after _ _ (ends_said _ _ _ (may_miss file unread) grew) some = refl
-ends_none_left seen old now before after _ _ (ends_said _ _ _ (may_serve done other gives leaves) grew) some = absurd (some refl)
+ends_none_left seen old now before after _ _ (ends_said _ _ _ (may_serve done other gives leaves bounded) grew) some = absurd (some refl)
 ends_none_left seen old now before after _ _ (ends_cut status text left may rose front) some = refl

@@ -1,27 +1,34 @@
 -- The defined answer: the status and the text that belong to the words and to the files that are told.
-use Rattle.std.specs.Prelude.{ℕ, List, Option}
+use Rattle.std.specs.Prelude.{ℕ, List, Option, None, Some, ℤ}
 use Rattle.psy_base.specs.declared.sizes.Sizes.{Sizes}
 use Rattle.psy_door.specs.Files.{Files}
 use Rattle.psy_tree.specs.declared.unit.Unit.{Unit as Whole}
 use Rattle.psy_meaning.specs.Flow.{AreAllNexts}
 use Rattle.psy_graph.specs.declared.graph.Graph.{Graph}
+use Rattle.psy_kernel.specs.declared.script.Script.{Script}
+use Rattle.psy_make.specs.Text.{made_text}
 use Rattle.psy_run.specs.declared.refusal.File.TheVariants as file
 use Rattle.psy_run.specs.declared.refusal.Refusal.{Refusal}
-use Rattle.psy_run.specs.Asked.{Command, Run, Check, Graph as Draw}
+use Rattle.psy_run.specs.Asked.{Command, Run, Check, Graph as Draw, Make, Trial}
 use Rattle.psy_run.specs.Courses.{Course, step, pure, ◌>>=◌}
 use Rattle.psy_run.specs.Refusals.{status_of, line_of}
-use Rattle.psy_run.specs.Services.{Service, Ran, Checked, Drawn, text_of}
-use Rattle.psy_run.specs.Steps.{asking, reading, lexing, parsing, resolving, graphing, sizing, costing, windowing, demanding}
+use Rattle.psy_run.specs.Services.{Service, Ran, Checked, Drawn, Made, Tried, no_inputs, no_script, text_of}
+use Rattle.psy_run.specs.Steps.{asking, reading, lexing, parsing, resolving, graphing, sizing, costing, windowing, demanding, stating, directing, pacing}
 
 -- ---- the commands
+
+-- The program of a text
+abbrev pub translating : List ℕ → Course Whole
+translating bytes = do
+  tokens ← lexing bytes
+  raw ← parsing tokens
+  resolving raw
 
 -- The program in a file
 abbrev pub compiling : Option Files → List ℕ → Course Whole
 compiling files name = do
   bytes ← reading files file.Program name
-  tokens ← lexing bytes
-  raw ← parsing tokens
-  resolving raw
+  translating bytes
 
 -- By agent, the points that may follow each of its points: they are there for each program.
 abbrev pub following : Whole → Course (List (List (List ℕ)))
@@ -43,12 +50,29 @@ supplying unit until = do
   _ ← demanding unit graphs until
   pure (record { graphs = graphs; nexts = nexts; sizes = sizes })
 
--- `run PROG UNTIL`
-abbrev pub running : Option Files → List ℕ → ℕ → Course Service
-running files name until = do
+-- By variable, the lists that the inputs file states; without a file there is none.
+abbrev pub listing : Option Files → Whole → Option (List ℕ) → Course (List (List ℤ))
+listing files unit None = pure (no_inputs unit)
+listing files unit (Some name) = do
+  bytes ← reading files file.Inputs name
+  stating unit bytes
+
+-- The script that the script file states; without a file there are no stalls and no orders.
+abbrev pub scripting : Option Files → Whole → Option (List ℕ) → Course Script
+scripting files unit None = pure no_script
+scripting files unit (Some name) = do
+  bytes ← reading files file.Script name
+  directing unit bytes
+
+-- `run PROG UNTIL [INPUTS [SCRIPT]]`
+abbrev pub running : Option Files → List ℕ → ℕ → Option (List ℕ) → Option (List ℕ) → Course Service
+running files name until inputs script = do
   unit ← compiling files name
   supply ← supplying unit until
-  pure (Ran unit supply.nexts supply.sizes until)
+  lists ← listing files unit inputs
+  said ← scripting files unit script
+  _ ← pacing unit until
+  pure (Ran unit supply.nexts supply.sizes until lists said)
 
 -- `check PROG UNTIL`
 abbrev pub checking : Option Files → List ℕ → ℕ → Course Service
@@ -65,11 +89,25 @@ drawing files name = do
   costs ← costing unit
   pure (Drawn unit graphs costs)
 
+-- `make SEED`
+abbrev pub making : ℕ → Course Service
+making seed = pure (Made (made_text seed))
+
+-- `trial SEED UNTIL`
+abbrev pub trying : ℕ → ℕ → Course Service
+trying seed until = do
+  unit ← translating (made_text seed)
+  supply ← supplying unit until
+  _ ← pacing unit until
+  pure (Tried unit supply.nexts supply.sizes until)
+
 -- A command
 abbrev pub serving : Option Files → Command → Course Service
-serving files (Run program until) = running files program until
+serving files (Run program until inputs script) = running files program until inputs script
 serving files (Check program until) = checking files program until
 serving files (Draw program) = drawing files program
+serving files (Make seed) = making seed
+serving files (Trial seed until) = trying seed until
 
 -- The words: what they ask for, then that
 abbrev pub answering : List (List ℕ) → Option Files → Course Service

@@ -1,30 +1,37 @@
 -- What the words of the command line ask for.
-use Rattle.std.specs.Prelude.{◌≡◌, ℕ, ◌≤◌, List, [], ◌∷◌, length, codes}
-use Rattle.std.specs.Char.{is_ascii_digit}
-use Rattle.psy_base.specs.declared.limits.TheConstants.{WORD_DIGITS, UNTIL}
-use Rattle.psy_tree.specs.Lexemes.{Each, decimal_value}
+use Rattle.std.specs.Prelude.{◌≡◌, ℕ, ◌^◌, ◌<◌, ◌≤◌, List, [], ◌∷◌, Option, None, Some, codes, option_copied}
+use Rattle.psy_base.specs.declared.limits.TheConstants.{UNTIL}
+use Rattle.psy_script.specs.Numbers.{number_of}
 use Rattle.psy_run.specs.declared.asked.Command.{Command as Read}
 use Rattle.psy_run.specs.declared.asked.Command.TheVariants as read
 
--- the word is a date up to which a program may run: 1 to 12 digits, with a value of at most 100,000
+-- the word is a date up to which a program may run: a number of 1 to 12 digits, at most 100,000
 pub record IsDate (word : List ℕ) (date : ℕ) : Type 0 where
-  pub some : 1 ≤ length word
-  pub few : length word ≤ WORD_DIGITS
-  pub digits : Each is_ascii_digit word
-  pub value : date ≡ decimal_value word
+  pub value : number_of word ≡ Some date
   pub most : date ≤ UNTIL
+
+-- the word is a number from which a program may be made: one of 1 to 12 digits and of 32 bits
+pub record IsSeed (word : List ℕ) (seed : ℕ) : Type 0 where
+  pub value : number_of word ≡ Some seed
+  pub most : seed < 2 ^ 32
 
 -- a command, with the names of its files and its numbers
 pub data Command : Type 0 where
-  Run : (program : List ℕ) (until : ℕ) → Command
+  Run : (program : List ℕ) (until : ℕ) (inputs script : Option (List ℕ)) → Command
   Check : (program : List ℕ) (until : ℕ) → Command
   Graph : (program : List ℕ) → Command
+  Make : (seed : ℕ) → Command
+  Trial : (seed until : ℕ) → Command
 
--- the words ask for a command: `run PROG UNTIL`, `check PROG UNTIL` or `graph PROG`
+-- the words ask for a command: `run PROG UNTIL [INPUTS [SCRIPT]]`, `check PROG UNTIL`, `graph PROG`, `make SEED` or `trial SEED UNTIL`
 pub data Asks (words : List (List ℕ)) : Command → Type 0 where
-  asks_run : (program date : List ℕ) (until : ℕ) → words ≡ codes "run" ∷ program ∷ date ∷ [] → IsDate date until → Asks words (Run program until)
+  asks_run : (program date : List ℕ) (until : ℕ) → words ≡ codes "run" ∷ program ∷ date ∷ [] → IsDate date until → Asks words (Run program until None None)
+  asks_run_with_inputs : (program date inputs : List ℕ) (until : ℕ) → words ≡ codes "run" ∷ program ∷ date ∷ inputs ∷ [] → IsDate date until → Asks words (Run program until (Some inputs) None)
+  asks_run_with_script : (program date inputs script : List ℕ) (until : ℕ) → words ≡ codes "run" ∷ program ∷ date ∷ inputs ∷ script ∷ [] → IsDate date until → Asks words (Run program until (Some inputs) (Some script))
   asks_check : (program date : List ℕ) (until : ℕ) → words ≡ codes "check" ∷ program ∷ date ∷ [] → IsDate date until → Asks words (Check program until)
   asks_graph : (program : List ℕ) → words ≡ codes "graph" ∷ program ∷ [] → Asks words (Graph program)
+  asks_make : (number : List ℕ) (seed : ℕ) → words ≡ codes "make" ∷ number ∷ [] → IsSeed number seed → Asks words (Make seed)
+  asks_trial : (number date : List ℕ) (seed until : ℕ) → words ≡ codes "trial" ∷ number ∷ date ∷ [] → IsSeed number seed → IsDate date until → Asks words (Trial seed until)
 
 -- the words are of no listed form
 abbrev pub AskNothing : List (List ℕ) → Type 0
@@ -32,6 +39,8 @@ AskNothing words = (command : Command) → Asks words command → ⊥
 
 -- The command that was read from words
 abbrev pub asked_by : Read → Command
-asked_by (read.Run program until) = Run program.now until
+asked_by (read.Run program until inputs script) = Run program.now until (option_copied inputs) (option_copied script)
 asked_by (read.Check program until) = Check program.now until
 asked_by (read.Graph program) = Graph program.now
+asked_by (read.Make seed) = Make seed
+asked_by (read.Trial seed until) = Trial seed until

@@ -1,5 +1,6 @@
 pub mod Answer
 pub mod Asked
+pub mod Bounds
 pub mod Courses
 pub mod Outcome
 pub mod Refusals

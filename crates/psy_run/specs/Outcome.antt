@@ -1,11 +1,13 @@
 -- How a call of the top ends. The counts of faults are those of the shelf and the sink before and after it.
-use Rattle.std.specs.Prelude.{◌≡◌, ◌⊎◌, ℕ, ◌≤◌, List, [], length, Option, None}
+use Rattle.std.specs.Prelude.{◌≡◌, ◌⊎◌, ℕ, ◌≤◌, List, [], length, Option, None, ⊤}
 use Rattle.std.specs.List.{All}
 use Rattle.psy_door.specs.Faults.{Rose}
 use Rattle.psy_door.specs.Files.{Files}
 use Rattle.psy_door.specs.Growth.{Grew, GrewByFront}
+use Rattle.psy_history.specs.Compiled.{AreInputs}
 use Rattle.psy_dates.specs.Plans.{IsPlan}
 use Rattle.psy_kernel.specs.Progress.{Progress, booted}
+use Rattle.psy_kernel.specs.Scripts.{IsScript}
 use Rattle.psy_log.specs.Forms.{read_line}
 use Rattle.psy_run.specs.declared.refusal.File.{File}
 use Rattle.psy_run.specs.declared.refusal.Refusal.{Refusal}
@@ -17,6 +19,7 @@ use Rattle.psy_run.specs.declared.served.Served.{Served}
 use Rattle.psy_run.specs.declared.served.Served.TheVariants as served
 use Rattle.psy_run.specs.Answer.{answering}
 use Rattle.psy_run.specs.Asked.{Command, Asks}
+use Rattle.psy_run.specs.Bounds.{IsBounded}
 use Rattle.psy_run.specs.Courses.{Course}
 use Rattle.psy_run.specs.Refusals.{status_of, line_of, file_name}
 use Rattle.psy_run.specs.Services.{Service, Leaves, no_inputs, no_script, text_of}
@@ -50,7 +53,7 @@ pub record IsUnread (seen : Seen) (file : File) : Type 0 where
 pub data MayAnswer (seen : Seen) : ℕ → List ℕ → Option Progress → Type 0 where
   may_refuse : (refusal : Refusal) → (coming seen).stops refusal → MayAnswer seen (status_of refusal) (line_of refusal) None
   may_miss : (file : File) → IsUnread seen file → MayAnswer seen 3 (read_line (file_name file)) None
-  may_serve : (done : Service) (left : Option Progress) → (coming seen).gives done → Leaves done left → MayAnswer seen 0 (text_of done) left
+  may_serve : (done : Service) (left : Option Progress) → (coming seen).gives done → Leaves done left → IsBounded done → MayAnswer seen 0 (text_of done) left
 
 -- How a call ends, by what the sink held and counted before and after it: memory ran out for a command, or the text was
 -- written, or a write of it failed.
@@ -63,8 +66,10 @@ pub data Ends (seen : Seen) (old now : Option (List ℕ)) (before after : ℕ) :
 abbrev pub Says : Option (List ℕ) → Option (List ℕ) → ℕ → ℕ → ℕ → ℕ → List ℕ → Type 0
 Says old now before after answer status text = ((answer ≡ status) × Grew old now text) ⊎ ((answer ≡ 4) × Rose before after × GrewByFront old now text)
 
--- What is served can be: a kernel was just booted, without inputs and script, and the names of a unit are short.
+-- What is served can be: a kernel was just booted, with inputs and a script of its program, or without; and the names of a unit are short.
 abbrev pub CanServe : Served → Type 0
-CanServe (served.Ran kernel) = (kernel ≡ booted kernel.plan (no_inputs kernel.plan.unit) no_script) × IsPlan kernel.plan
+CanServe (served.Ran kernel) = (kernel ≡ booted kernel.plan kernel.inputs kernel.script) × IsPlan kernel.plan × AreInputs kernel.plan.unit kernel.inputs × IsScript kernel.plan.unit kernel.script
 CanServe (served.Checked unit sizes until) = IsBare unit
 CanServe (served.Drawn unit graphs costs) = IsBare unit × All IsSmall graphs
+CanServe (served.Made text) = ⊤
+CanServe (served.Tried kernel) = (kernel ≡ booted kernel.plan (no_inputs kernel.plan.unit) no_script) × IsPlan kernel.plan

@@ -5,11 +5,16 @@ use Rattle.psy_tree.specs.declared.rules.Count.{Count}
 use Rattle.psy_tree.specs.declared.rules.Count.TheVariants.{Clocks, Agents, Variables, Streams, Functions, Names, Points}
 use Rattle.psy_tree.specs.Faults.{lex_number}
 use Rattle.psy_tree.specs.Rules.{rule_number}
+use Rattle.psy_script.specs.declared.fault.TextFault.{TextFault}
+use Rattle.psy_script.specs.declared.fault.TextFault.TheVariants as text
+use Rattle.psy_script.specs.Faults.{line_number}
+use Rattle.psy_run.specs.declared.refusal.Stop.{Stop}
+use Rattle.psy_run.specs.declared.refusal.Stop.TheVariants as stop
 use Rattle.psy_log.specs.Forms.{words_line, limit_line, refused_line, infeasible_line}
 use Rattle.psy_run.specs.declared.refusal.File.{File}
-use Rattle.psy_run.specs.declared.refusal.File.TheVariants.{Program}
+use Rattle.psy_run.specs.declared.refusal.File.TheVariants.{Program, Inputs, Script}
 use Rattle.psy_run.specs.declared.refusal.Refusal.{Refusal}
-use Rattle.psy_run.specs.declared.refusal.Refusal.TheVariants.{Words, TooLong, Lexical, Syntax, Deep, Rule, Many, Nodes, Edges, Ring, Queue, Cells, Infeasible}
+use Rattle.psy_run.specs.declared.refusal.Refusal.TheVariants.{Words, TooLong, Lexical, Syntax, Deep, Rule, Many, Nodes, Edges, Ring, Queue, Cells, Infeasible, Line, Lines, Cycles}
 
 -- the status of each refusal
 abbrev pub status_of : Refusal → ℕ
@@ -26,10 +31,15 @@ status_of Ring = 7
 status_of Queue = 7
 status_of Cells = 7
 status_of (Infeasible length demand supply) = 5
+status_of (Line file kind line) = 6
+status_of Lines = 7
+status_of Cycles = 7
 
 -- what a file is called
 abbrev pub file_name : File → List ℕ
 file_name Program = codes "program"
+file_name Inputs = codes "inputs"
+file_name Script = codes "script"
 
 -- what a count is called
 abbrev pub count_name : Count → List ℕ
@@ -66,3 +76,12 @@ line_of Ring = limit_line (codes "ring") limit.RING
 line_of Queue = limit_line (codes "queue") limit.QUEUE
 line_of Cells = limit_line (codes "cells") limit.WINDOW_CELLS
 line_of (Infeasible length demand supply) = infeasible_line length demand supply None
+line_of (Line file kind line) = refused_line (file_name file) (line_number kind) (Some line)
+line_of Lines = limit_line (codes "lines") limit.LINES
+line_of Cycles = limit_line (codes "run") limit.RUN
+
+-- why a command stops at the text of a file
+abbrev pub stop_by : File → TextFault → Stop
+stop_by file (text.Line kind line) = stop.Refused (Line file kind line)
+stop_by file text.Lines = stop.Refused Lines
+stop_by file text.Memory = stop.Memory

@@ -9,19 +9,22 @@ use Rattle.psy_dates.specs.Plans.{IsPlan}
 use Rattle.psy_kernel.specs.declared.script.Script.{Script}
 use Rattle.psy_kernel.specs.Progress.{Progress, lines_told}
 use Rattle.psy_kernel.specs.Scripts.{order_of, stalls_of}
-use Rattle.psy_kernel.specs.Texts.{run_text}
+use Rattle.psy_kernel.specs.Texts.{run_text, summary_of}
+use Rattle.psy_kernel.specs.Texts.{text_of as lines_text}
 use Rattle.psy_run.specs.declared.served.Served.{Served}
 use Rattle.psy_run.specs.declared.served.Served.TheVariants as served
 use Rattle.psy_run.specs.Texts.{check_text, graph_text}
 
--- What a command does: it runs a program, whose points may be followed by these and whose buffers have these sizes, up to a date; it checks
--- one; or it draws its graphs.
+-- What a command does: it runs a program, whose points may be followed by these and whose buffers have these sizes, up to a date, with
+-- inputs and a script; it checks one; it draws its graphs; it makes the text of one; or it runs one that was made.
 pub data Service : Type 0 where
-  Ran : (unit : Whole) (nexts : List (List (List ℕ))) (sizes : Sizes) (until : ℕ) → Service
+  Ran : (unit : Whole) (nexts : List (List (List ℕ))) (sizes : Sizes) (until : ℕ) (inputs : List (List ℤ)) (script : Script) → Service
   Checked : (unit : Whole) (sizes : Sizes) (until : ℕ) → Service
   Drawn : (unit : Whole) (graphs : List Graph) (costs : List (List ℕ)) → Service
+  Made : (text : List ℕ) → Service
+  Tried : (unit : Whole) (nexts : List (List (List ℕ))) (sizes : Sizes) (until : ℕ) → Service
 
--- ---- a run without inputs and script
+-- ---- the meaning of a run
 
 -- No input has a list.
 abbrev pub no_inputs : Whole → List (List ℤ)
@@ -31,42 +34,47 @@ no_inputs unit = map (λ v. []) unit.variables
 abbrev pub no_script : Script
 no_script = record { stalls = []; orders = [] }
 
--- The dated meaning of a program's statements, without inputs and script
-abbrev pub meaning_of : Whole → List (List (List ℕ)) → System
-meaning_of unit nexts = stated unit nexts (stalls_of no_script) (no_inputs unit)
+-- The dated meaning of a program's statements, with these inputs and this script. Of the script it knows the stalls, by which actions overrun.
+abbrev pub meaning_of : Whole → List (List (List ℕ)) → List (List ℤ) → Script → System
+meaning_of unit nexts inputs script = stated unit nexts (stalls_of script) inputs
 
 -- ---- texts
 
 -- The text of what is done. That of a run is the one of the dated meaning, which knows no code and no schedule but for the summary.
 abbrev pub text_of : Service → List ℕ
-text_of (Ran unit nexts sizes until) = run_text (meaning_of unit nexts) (order_of unit no_script) sizes until
+text_of (Ran unit nexts sizes until inputs script) = run_text (meaning_of unit nexts inputs script) (order_of unit script) sizes until
 text_of (Checked unit sizes until) = check_text unit sizes until
 text_of (Drawn unit graphs costs) = graph_text unit.agents graphs costs
+text_of (Made text) = text
+text_of (Tried unit nexts sizes until) = lines_text (summary_of (meaning_of unit nexts (no_inputs unit) no_script) (order_of unit no_script) sizes until)
 
 -- ---- what is left
 
 -- A kernel that ran the program to its last date: it is over, and gave all its lines.
-pub record HasRun (unit : Whole) (nexts : List (List (List ℕ))) (sizes : Sizes) (until : ℕ) (p : Progress) : Type 0 where
+pub record HasRun (unit : Whole) (nexts : List (List (List ℕ))) (sizes : Sizes) (until : ℕ) (inputs : List (List ℤ)) (script : Script) (p : Progress) : Type 0 where
   pub plan : IsPlan p.plan
   pub its_unit : p.plan.unit ≡ unit
   pub its_nexts : p.plan.nexts ≡ nexts
   pub its_sizes : p.plan.sizes ≡ sizes
   pub its_until : p.plan.until ≡ until
-  pub inputs : p.inputs ≡ no_inputs unit
-  pub script : p.script ≡ no_script
+  pub its_inputs : p.inputs ≡ inputs
+  pub its_script : p.script ≡ script
   pub dates : p.dates ≡ until + 1
   pub cycles : p.cycles ≡ until * unit.quantum
   pub given : p.given ≡ length (lines_told p)
 
 -- The kernel that is left: that of a run, and none of another command
 abbrev pub Leaves : Service → Option Progress → Type 0
-Leaves (Ran unit nexts sizes until) left = (p : Progress) × (left ≡ Some p) × HasRun unit nexts sizes until p
+Leaves (Ran unit nexts sizes until inputs script) left = (p : Progress) × (left ≡ Some p) × HasRun unit nexts sizes until inputs script p
+Leaves (Tried unit nexts sizes until) left = (p : Progress) × (left ≡ Some p) × HasRun unit nexts sizes until (no_inputs unit) no_script p
 Leaves service left = left ≡ None
 
 -- ---- what is served
 
 -- What was made ready for it: a kernel that was just booted, or what is written
 abbrev pub service_of : Served → Service
-service_of (served.Ran kernel) = Ran kernel.plan.unit kernel.plan.nexts kernel.plan.sizes kernel.plan.until
+service_of (served.Ran kernel) = Ran kernel.plan.unit kernel.plan.nexts kernel.plan.sizes kernel.plan.until kernel.inputs kernel.script
 service_of (served.Checked unit sizes until) = Checked unit sizes until
 service_of (served.Drawn unit graphs costs) = Drawn unit graphs costs
+service_of (served.Made text) = Made text.items
+service_of (served.Tried kernel) = Tried kernel.plan.unit kernel.plan.nexts kernel.plan.sizes kernel.plan.until

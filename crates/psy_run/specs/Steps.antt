@@ -1,9 +1,9 @@
 -- The steps that judge a command, each with its refusal.
-use Rattle.std.specs.Prelude.{◌≡◌, ℕ, ◌+◌, ◌*◌, ◌<◌, ◌≤◌, List, map, length, Some, Option, slice_get}
+use Rattle.std.specs.Prelude.{◌≡◌, ℕ, ◌+◌, ◌*◌, ◌<◌, ◌≤◌, List, map, length, Some, Option, slice_get, ℤ}
 use Rattle.std.specs.List.{All, Any}
 use Rattle.psy_base.specs.declared.edge.Edge.{Edge}
 use Rattle.psy_base.specs.declared.sizes.Sizes.{Sizes}
-use Rattle.psy_base.specs.declared.limits.TheConstants.{COST, FILE_BYTES, WINDOW_CELLS}
+use Rattle.psy_base.specs.declared.limits.TheConstants.{COST, FILE_BYTES, RUN, WINDOW_CELLS}
 use Rattle.psy_door.specs.Files.{Files, WhereTold, bytes_under}
 use Rattle.psy_tree.specs.declared.raw.Raw.{Raw}
 use Rattle.psy_tree.specs.declared.token.Token.{Token}
@@ -23,9 +23,14 @@ use Rattle.psy_graph.specs.declared.graph.Graph.{Graph}
 use Rattle.psy_graph.specs.Graphs.{AreGraphs, IsCause}
 use Rattle.psy_sizes.specs.declared.fault.SizeFault.TheVariants as size
 use Rattle.psy_sizes.specs.Faults.{CanCount, IsFaultBy}
+use Rattle.psy_kernel.specs.declared.script.Script.{Script as Said}
+use Rattle.psy_script.specs.Faults.{HasManyLines, IsFirst}
+use Rattle.psy_script.specs.Inputs.{AreListsOf, inputs_judge}
+use Rattle.psy_script.specs.Script.{IsScriptOf, script_judge}
 use Rattle.psy_run.specs.declared.refusal.File.{File}
+use Rattle.psy_run.specs.declared.refusal.File.TheVariants.{Inputs, Script}
 use Rattle.psy_run.specs.declared.refusal.Refusal.{Refusal}
-use Rattle.psy_run.specs.declared.refusal.Refusal.TheVariants.{Words, TooLong, Lexical, Syntax, Deep, Rule, Many, Nodes, Edges, Ring, Queue, Cells, Infeasible}
+use Rattle.psy_run.specs.declared.refusal.Refusal.TheVariants.{Words, TooLong, Lexical, Syntax, Deep, Rule, Many, Nodes, Edges, Ring, Queue, Cells, Infeasible, Line, Lines, Cycles}
 use Rattle.psy_run.specs.Asked.{Command, Asks, AskNothing}
 use Rattle.psy_run.specs.Courses.{Course, step, unless}
 
@@ -130,3 +135,27 @@ IsOverloaded unit graphs until _ = ⊥
 -- The processor demand criterion up to the last date
 abbrev pub demanding : Whole → List Graph → ℕ → Course (Unit {0})
 demanding unit graphs until = step (λ done. IsFeasible (edges_of graphs) unit.quantum until) (IsOverloaded unit graphs until)
+
+-- the first line of an inputs file that is at fault, where there are no more than 10,000, or else that there are more
+abbrev pub IsUnlisted : Whole → List ℕ → Refusal → Type 0
+IsUnlisted unit bytes (Line file kind line) = (file ≡ Inputs) × IsFirst (inputs_judge unit) bytes kind line
+IsUnlisted unit bytes Lines = HasManyLines bytes
+IsUnlisted unit bytes _ = ⊥
+
+-- By variable, the list of values that the text of an inputs file states
+abbrev pub stating : Whole → List ℕ → Course (List (List ℤ))
+stating unit bytes = step (AreListsOf unit bytes) (IsUnlisted unit bytes)
+
+-- the same of a script file
+abbrev pub IsUnscripted : Whole → List ℕ → Refusal → Type 0
+IsUnscripted unit bytes (Line file kind line) = (file ≡ Script) × IsFirst (script_judge unit) bytes kind line
+IsUnscripted unit bytes Lines = HasManyLines bytes
+IsUnscripted unit bytes _ = ⊥
+
+-- The script that the text of a script file states
+abbrev pub directing : Whole → List ℕ → Course Said
+directing unit bytes = step (IsScriptOf unit bytes) (IsUnscripted unit bytes)
+
+-- A run has at most 100,000,000 cycles.
+abbrev pub pacing : Whole → ℕ → Course (Unit {0})
+pacing unit until = unless (until * unit.quantum ≤ RUN) (RUN < until * unit.quantum) Cycles

@@ -1,56 +1,138 @@
 //! The words of the command line.
 ghost use Rattle.std.specs.Prelude.{ℕ, [], ◌∷◌, map, MatchOption, string_bytes};
-ghost use Rattle.psy_run.specs.Asked.{Asks, IsDate, AskNothing, asked_by};
+ghost use Rattle.psy_run.specs.Asked.{Asks, IsDate, IsSeed, AskNothing, asked_by};
 
 use psy_base::limits;
-use psy_token::decimal_value;
+use psy_script::number;
 
-/// What the words ask for, with the name of the program's file and the last date.
+/// What the words ask for, with the names of the files, the last date, and the number that a program is made from.
 #[derive(Clone, Copy)]
 pub enum Command<'a> {
-    Run { program: &'a str, until: u32 },
-    Check { program: &'a str, until: u32 },
-    Graph { program: &'a str },
+    Run {
+        program: &'a str,
+        until: u32,
+        inputs: Option<&'a str>,
+        script: Option<&'a str>,
+    },
+    Check {
+        program: &'a str,
+        until: u32,
+    },
+    Graph {
+        program: &'a str,
+    },
+    Make {
+        seed: u32,
+    },
+    Trial {
+        seed: u32,
+        until: u32,
+    },
 }
 
 // The date that a word is.
 fn date(word: &[u8]) -> Option<u32>
     ensures { MatchOption result ((date : ℕ) → IsDate word.now date → ⊥) (λ date. IsDate word.now date) }
 {
-    if word.is_empty() || word.len() > limits::WORD_DIGITS {
-        return None;
-    }
-    if !word.iter().all(|b| b.is_ascii_digit()) {
-        return None;
-    }
-    let date = decimal_value(word)?;
-    if date <= limits::UNTIL {
-        Some(date)
+    let date = number(word)?;
+    if date <= u64::from(limits::UNTIL) {
+        Some(date as u32)
     } else {
         None
     }
 }
 
-// `graph PROG`
-fn of_two<'a>(command: &'a str, program: &'a str) -> Option<Command<'a>>
-    ensures { MatchOption result (AskNothing (command.now ∷ program.now ∷ [])) (λ c. Asks (command.now ∷ program.now ∷ []) (asked_by c)) }
+// The number that a word is, to make a program from.
+fn seed(word: &[u8]) -> Option<u32>
+    ensures { MatchOption result ((seed : ℕ) → IsSeed word.now seed → ⊥) (λ seed. IsSeed word.now seed) }
+{
+    let seed = number(word)?;
+    if seed <= u64::from(u32::MAX) {
+        Some(seed as u32)
+    } else {
+        None
+    }
+}
+
+// `graph PROG` or `make SEED`
+fn of_two<'a>(command: &'a str, word: &'a str) -> Option<Command<'a>>
+    ensures { MatchOption result (AskNothing (command.now ∷ word.now ∷ [])) (λ c. Asks (command.now ∷ word.now ∷ []) (asked_by c)) }
 {
     if command == "graph" {
-        return Some(Command::Graph { program });
+        return Some(Command::Graph { program: word });
+    }
+    if command == "make" {
+        let seed = seed(word.as_bytes())?;
+        return Some(Command::Make { seed });
     }
     None
 }
 
-// `run PROG UNTIL` or `check PROG UNTIL`
-fn of_three<'a>(command: &'a str, program: &'a str, until: &'a str) -> Option<Command<'a>>
-    ensures { MatchOption result (AskNothing (command.now ∷ program.now ∷ until.now ∷ [])) (λ c. Asks (command.now ∷ program.now ∷ until.now ∷ []) (asked_by c)) }
+// `run PROG UNTIL`, `check PROG UNTIL` or `trial SEED UNTIL`
+fn of_three<'a>(command: &'a str, word: &'a str, until: &'a str) -> Option<Command<'a>>
+    ensures { MatchOption result (AskNothing (command.now ∷ word.now ∷ until.now ∷ [])) (λ c. Asks (command.now ∷ word.now ∷ until.now ∷ []) (asked_by c)) }
 {
     let until = date(until.as_bytes())?;
     if command == "run" {
-        return Some(Command::Run { program, until });
+        return Some(Command::Run {
+            program: word,
+            until,
+            inputs: None,
+            script: None,
+        });
     }
     if command == "check" {
-        return Some(Command::Check { program, until });
+        return Some(Command::Check {
+            program: word,
+            until,
+        });
+    }
+    if command == "trial" {
+        let seed = seed(word.as_bytes())?;
+        return Some(Command::Trial { seed, until });
+    }
+    None
+}
+
+// `run PROG UNTIL INPUTS`
+fn of_four<'a>(
+    command: &'a str,
+    program: &'a str,
+    until: &'a str,
+    inputs: &'a str,
+) -> Option<Command<'a>>
+    ensures { MatchOption result (AskNothing (command.now ∷ program.now ∷ until.now ∷ inputs.now ∷ [])) (λ c. Asks (command.now ∷ program.now ∷ until.now ∷ inputs.now ∷ []) (asked_by c)) }
+{
+    let until = date(until.as_bytes())?;
+    if command == "run" {
+        return Some(Command::Run {
+            program,
+            until,
+            inputs: Some(inputs),
+            script: None,
+        });
+    }
+    None
+}
+
+// `run PROG UNTIL INPUTS SCRIPT`
+fn of_five<'a>(
+    command: &'a str,
+    program: &'a str,
+    until: &'a str,
+    inputs: &'a str,
+    script: &'a str,
+) -> Option<Command<'a>>
+    ensures { MatchOption result (AskNothing (command.now ∷ program.now ∷ until.now ∷ inputs.now ∷ script.now ∷ [])) (λ c. Asks (command.now ∷ program.now ∷ until.now ∷ inputs.now ∷ script.now ∷ []) (asked_by c)) }
+{
+    let until = date(until.as_bytes())?;
+    if command == "run" {
+        return Some(Command::Run {
+            program,
+            until,
+            inputs: Some(inputs),
+            script: Some(script),
+        });
     }
     None
 }
@@ -60,8 +142,21 @@ pub fn read_words(words: &[String]) -> Option<Command<'_>>
     ensures { MatchOption result (AskNothing (map string_bytes words.now)) (λ c. Asks (map string_bytes words.now) (asked_by c)) }
 {
     match words {
-        [command, program] => of_two(command.as_str(), program.as_str()),
-        [command, program, until] => of_three(command.as_str(), program.as_str(), until.as_str()),
+        [command, word] => of_two(command.as_str(), word.as_str()),
+        [command, word, until] => of_three(command.as_str(), word.as_str(), until.as_str()),
+        [command, program, until, inputs] => of_four(
+            command.as_str(),
+            program.as_str(),
+            until.as_str(),
+            inputs.as_str(),
+        ),
+        [command, program, until, inputs, script] => of_five(
+            command.as_str(),
+            program.as_str(),
+            until.as_str(),
+            inputs.as_str(),
+            script.as_str(),
+        ),
         _ => None,
     }
 }

@@ -1,32 +1,47 @@
 //! The commands: each is its list of steps.
-ghost use Rattle.std.specs.Prelude.{◌≡◌, ◌≤◌, List, map, string_bytes, IfOk, IfErr};
+ghost use Rattle.std.specs.Prelude.{◌≡◌, ◌≤◌, ℕ, List, map, string_bytes, IfOk, IfErr, option_copied};
 ghost use Rattle.psy_dates.specs.Plans.{IsPlan};
+ghost use Rattle.psy_history.specs.Compiled.{AreInputs};
+ghost use Rattle.psy_kernel.specs.Scripts.{IsScript};
 ghost use Rattle.psy_graph.specs.declared.graph.Graph.{Graph};
 ghost use Rattle.psy_kernel.specs.Progress.{booted};
 ghost use Rattle.psy_meaning.specs.Units.{IsOfText};
-ghost use Rattle.psy_run.specs.Answer.{supplying, running, checking, drawing, answering};
+ghost use Rattle.psy_run.specs.Answer.{supplying, running, checking, drawing, making, trying, answering};
 ghost use Rattle.psy_run.specs.Asked.{Command as Asked, Asks};
 ghost use Rattle.psy_run.specs.Outcome.{CanServe, Halts};
-ghost use Rattle.psy_run.specs.Services.{no_inputs, no_script, service_of};
+ghost use Rattle.psy_run.specs.Services.{service_of};
 
 use crate::asked::{Command, read_words};
 use crate::costs::all_costs;
-use crate::plan::{inputs_of, plan_of, script_of};
+use crate::plan::plan_of;
 use crate::refusal::{Refusal, Stop};
 use crate::served::Served;
-use crate::steps::compile;
+use crate::steps::{compile, translate};
 use crate::supply::{Supplied, graphs, supply};
+use crate::told::{inputs_of, no_lists, nothing_said, pace, script_of};
 use psy_base::Memory;
+use psy_dates::Inputs;
 use psy_door::Shelf;
-use psy_kernel::Kernel;
+use psy_kernel::{Kernel, Script};
+use psy_make::laws::short;
+use psy_make::make;
 use psy_tree::Unit;
 use std::alloc::Global;
 
-// A kernel of a program that can be run up to a date, without inputs and script.
-fn boot(alloc: Global, unit: Unit, supply: Supplied, until: u32) -> Result<Kernel, Memory>
+// A kernel of a program that can be run up to a date, with these inputs and this script of it.
+fn boot(
+    alloc: Global,
+    unit: Unit,
+    supply: Supplied,
+    until: u32,
+    inputs: Inputs,
+    script: Script,
+) -> Result<Kernel, Memory>
     requires text { IsOfText unit }
     requires supplied { (graphs : List Graph) × (supplying unit until).gives (record { graphs = graphs; nexts = supply.nexts; sizes = supply.sizes }) }
-    ensures booted { IfOk result (λ kernel. kernel ≡ booted kernel.plan (no_inputs kernel.plan.unit) no_script) }
+    requires inputs { AreInputs unit inputs.lists }
+    requires script { IsScript unit script }
+    ensures booted { IfOk result (λ kernel. kernel ≡ booted kernel.plan inputs.lists script) }
     ensures plan { IfOk result (λ kernel. IsPlan kernel.plan) }
     ensures its_unit { IfOk result (λ kernel. kernel.plan.unit ≡ unit) }
     ensures its_nexts { IfOk result (λ kernel. kernel.plan.nexts ≡ supply.nexts) }
@@ -34,20 +49,29 @@ fn boot(alloc: Global, unit: Unit, supply: Supplied, until: u32) -> Result<Kerne
     ensures its_until { IfOk result (λ kernel. kernel.plan.until ≡ until) }
 {
     let plan = plan_of(alloc, unit, supply, until)?;
-    let inputs = inputs_of(alloc, &plan.unit)?;
-    Kernel::boot(alloc, plan, inputs, script_of(alloc))
+    Kernel::boot(alloc, plan, inputs, script)
 }
 
-// `run PROG UNTIL`
-fn run<F: Shelf>(alloc: Global, shelf: &mut F, name: &str, until: u32) -> Result<Served, Stop>
-    ensures ok { IfOk result (λ served. (running (F.files shelf.old) name.now until).gives (service_of served)) }
-    ensures err { IfErr result (Halts (running (F.files shelf.old) name.now until) (F.failed_name shelf.new) (F.faults shelf.old) (F.faults shelf.new)) }
+// `run PROG UNTIL [INPUTS [SCRIPT]]`
+fn run<F: Shelf>(
+    alloc: Global,
+    shelf: &mut F,
+    name: &str,
+    until: u32,
+    inputs: Option<&str>,
+    script: Option<&str>,
+) -> Result<Served, Stop>
+    ensures ok { IfOk result (λ served. (running (F.files shelf.old) name.now until (option_copied inputs.entry) (option_copied script.entry)).gives (service_of served)) }
+    ensures err { IfErr result (Halts (running (F.files shelf.old) name.now until (option_copied inputs.entry) (option_copied script.entry)) (F.failed_name shelf.new) (F.faults shelf.old) (F.faults shelf.new)) }
     ensures can { IfOk result CanServe }
     ensures shelf { (F.faults shelf.old ≤ F.faults shelf.new) × (F.files shelf.new ≡ F.files shelf.old) }
 {
     let unit = compile(alloc, shelf, name)?;
     let supply = supply(alloc, &unit, until)?;
-    match boot(alloc, unit, supply, until) {
+    let inputs = inputs_of(alloc, shelf, &unit, inputs)?;
+    let script = script_of(alloc, shelf, &unit, script)?;
+    pace(&unit, until)?;
+    match boot(alloc, unit, supply, until, inputs, script) {
         Ok(kernel) => Ok(Served::Ran(kernel)),
         Err(_) => Err(Stop::Memory),
     }
@@ -86,6 +110,33 @@ fn draw<F: Shelf>(alloc: Global, shelf: &mut F, name: &str) -> Result<Served, St
     })
 }
 
+// `make SEED`
+fn write_made(alloc: Global, seed: u32) -> Result<Served, Stop>
+    ensures ok { IfOk result (λ served. (making seed).gives (service_of served)) }
+    ensures err { (failed : List ℕ) (before after : ℕ) → IfErr result (Halts (making seed) failed before after) }
+    ensures can { IfOk result CanServe }
+{
+    Ok(Served::Made(make(alloc, seed)?))
+}
+
+// `trial SEED UNTIL`
+fn try_made(alloc: Global, seed: u32, until: u32) -> Result<Served, Stop>
+    ensures ok { IfOk result (λ served. (trying seed until).gives (service_of served)) }
+    ensures err { (failed : List ℕ) (before after : ℕ) → IfErr result (Halts (trying seed until) failed before after) }
+    ensures can { IfOk result CanServe }
+{
+    short();
+    let text = make(alloc, seed)?;
+    let unit = translate(alloc, &text)?;
+    let supply = supply(alloc, &unit, until)?;
+    pace(&unit, until)?;
+    let inputs = no_lists(alloc, &unit)?;
+    match boot(alloc, unit, supply, until, inputs, nothing_said(alloc)) {
+        Ok(kernel) => Ok(Served::Tried(kernel)),
+        Err(_) => Err(Stop::Memory),
+    }
+}
+
 /// What the words come to, before anything is written.
 pub fn judge<F: Shelf>(alloc: Global, words: &[String], shelf: &mut F) -> Result<Served, Stop>
     ensures ok { IfOk result (λ served. (answering (map string_bytes words.now) (F.files shelf.old)).gives (service_of served)) }
@@ -96,8 +147,17 @@ pub fn judge<F: Shelf>(alloc: Global, words: &[String], shelf: &mut F) -> Result
 {
     match read_words(words) {
         None => Err(Stop::Refused(Refusal::Words)),
-        Some(Command::Run { program, until }) => run(alloc, shelf, program, until),
+        Some(
+            Command::Run {
+                program,
+                until,
+                inputs,
+                script,
+            },
+        ) => run(alloc, shelf, program, until, inputs, script),
         Some(Command::Check { program, until }) => check(alloc, shelf, program, until),
         Some(Command::Graph { program }) => draw(alloc, shelf, program),
+        Some(Command::Make { seed }) => write_made(alloc, seed),
+        Some(Command::Trial { seed, until }) => try_made(alloc, seed, until),
     }
 }

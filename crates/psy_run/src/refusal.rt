@@ -8,12 +8,15 @@ ghost use Rattle.psy_run.specs.declared.refusal.Stop.TheVariants.{Memory as no_m
 
 use psy_base::{Memory, limits};
 use psy_log::{Line, Note};
+use psy_script::LineKind;
 use psy_tree::{Count, LexKind, RuleKind};
 
 /// What a file is read for.
 #[derive(Clone, Copy, Debug, PartialEq, Eq)]
 pub enum File {
     Program,
+    Inputs,
+    Script,
 }
 
 impl File {
@@ -24,6 +27,8 @@ impl File {
     {
         match self {
             File::Program => b"program",
+            File::Inputs => b"inputs",
+            File::Script => b"script",
         }
     }
 }
@@ -68,6 +73,16 @@ pub enum Refusal {
         demand: u64,
         supply: u64,
     },
+    /// The first line of the file that is at fault, counted from 1.
+    Line {
+        file: File,
+        kind: LineKind,
+        line: u32,
+    },
+    /// The inputs or the script have more than 10,000 lines.
+    Lines,
+    /// The run would have more than 100,000,000 cycles.
+    Cycles,
 }
 
 /// Why a command stopped before anything was written.
@@ -98,13 +113,16 @@ impl Refusal {
                 1,
             Refusal::Words => 2,
             Refusal::Infeasible { .. } => 5,
+            Refusal::Line { .. } => 6,
             Refusal::TooLong(_)
             | Refusal::Many(_)
             | Refusal::Nodes
             | Refusal::Edges
             | Refusal::Ring
             | Refusal::Queue
-            | Refusal::Cells => 7,
+            | Refusal::Cells
+            | Refusal::Lines
+            | Refusal::Cycles => 7,
         }
     }
 
@@ -130,6 +148,9 @@ impl Refusal {
                 demand,
                 supply,
             } => infeasible(length, demand, supply),
+            Refusal::Line { file, kind, line } => refused(file.name(), kind.number(), Some(line)),
+            Refusal::Lines => limit(b"lines", limits::LINES as u64),
+            Refusal::Cycles => limit(b"run", limits::RUN),
         }
     }
 }

@@ -3,7 +3,7 @@ ghost use Rattle.std.specs.Prelude.{◌≡◌, ◌+◌, ◌-◌, ◌*◌, ◌≤
 ghost use Rattle.psy_door.specs.Faults.{Rose};
 ghost use Rattle.psy_kernel.specs.declared.stage.Stage.TheVariants.{Over};
 ghost use Rattle.psy_kernel.specs.Progress.{booted, lines_told, order, stage_of, summary_told, system};
-ghost use Rattle.psy_kernel.specs.Texts.{log_of, run_text, text_of};
+ghost use Rattle.psy_kernel.specs.Texts.{log_of, run_text, summary_of, text_of};
 ghost use Rattle.psy_log.specs.Writing.{Written};
 ghost use Rattle.psy_run.specs.Runs.{all_given, ended};
 
@@ -52,6 +52,32 @@ fn run_dates<S: Sink>(kernel: &mut Kernel, out: &mut S) -> Result<(), WriteFault
     }
 }
 
+// Takes the lines of the date done last, none of which was given so far, and writes none.
+fn pass_date(kernel: &mut Kernel)
+    requires { kernel.old.given ≡ 0 }
+    ensures { kernel.new ≡ all_given kernel.old }
+{
+    let mut line = Line::new();
+    'lines: while kernel.next_line(&mut line) {}
+}
+
+// Does all dates and cycles of a kernel that was just booted, and writes none of their lines.
+fn pass_dates(kernel: &mut Kernel)
+    requires { kernel.old ≡ booted kernel.old.plan kernel.old.inputs kernel.old.script }
+    ensures { kernel.new ≡ ended kernel.old }
+{
+    'stages: loop {
+        match kernel.stage() {
+            Stage::Over => return,
+            Stage::CycleDue(_) => kernel.cycle(),
+            Stage::DateDue(_) => {
+                kernel.date();
+                pass_date(kernel);
+            }
+        }
+    }
+}
+
 // Writes the summary of a kernel that is over.
 fn write_summary<S: Sink>(kernel: &Kernel, out: &mut S) -> Result<(), WriteFault>
     requires over { stage_of kernel.now ≡ Over }
@@ -83,5 +109,17 @@ pub fn run_loop<S: Sink>(kernel: &mut Kernel, out: &mut S) -> Result<(), WriteFa
     if let Err(fault) = run_dates(kernel, out) {
         return Err(fault);
     }
+    write_summary(kernel, out)
+}
+
+/// Runs a kernel that was just booted to its last date, and writes the summary alone. It takes no memory.
+pub fn trial_loop<S: Sink>(kernel: &mut Kernel, out: &mut S) -> Result<(), WriteFault>
+    requires booted { kernel.old ≡ booted kernel.old.plan kernel.old.inputs kernel.old.script }
+    ensures counted { S.faults out.old ≤ S.faults out.new }
+    ensures failed { OnErr result (Rose (S.faults out.old) (S.faults out.new)) }
+    ensures over { OnOk result (kernel.new ≡ ended kernel.old) }
+    ensures written { Written (S.held out.old) (S.held out.new) result (text_of (summary_of (system kernel.old) (order kernel.old) kernel.old.plan.sizes kernel.old.plan.until)) }
+{
+    pass_dates(kernel);
     write_summary(kernel, out)
 }

@@ -21,4 +21,8 @@ pub enum Served {
         graphs: Items<Graph>,
         costs: Items<Items<u64>>,
     },
+    /// Writes the text of a program that was made.
+    Made(Vec<u8>),
+    /// Runs a program that was made, and writes the summary alone: its kernel, just booted.
+    Tried(Kernel),
 }

@@ -2,7 +2,7 @@
 ghost use Rattle.std.specs.Prelude.{ℕ, ◌≡◌, ◌≤◌, List, length, IfOk, IfErr};
 ghost use Rattle.psy_base.specs.declared.limits.TheConstants.{FILE_BYTES};
 ghost use Rattle.psy_meaning.specs.Units.{IsOfText};
-ghost use Rattle.psy_run.specs.Answer.{compiling};
+ghost use Rattle.psy_run.specs.Answer.{compiling, translating};
 ghost use Rattle.psy_run.specs.Outcome.{Halts};
 ghost use Rattle.psy_run.specs.Steps.{reading, lexing, parsing, resolving};
 
@@ -16,8 +16,8 @@ use psy_token::LexFault;
 use psy_tree::{Raw, Token, Unit};
 use std::alloc::Global;
 
-// The bytes of a file.
-fn read<F: Shelf>(alloc: Global, shelf: &mut F, file: File, name: &str) -> Result<Vec<u8>, Stop>
+/// The bytes of a file.
+pub fn read<F: Shelf>(alloc: Global, shelf: &mut F, file: File, name: &str) -> Result<Vec<u8>, Stop>
     ensures ok { IfOk result (λ bytes. (reading (F.files shelf.old) file name.now).gives bytes.items) }
     ensures err { IfErr result (Halts (reading (F.files shelf.old) file name.now) (F.failed_name shelf.new) (F.faults shelf.old) (F.faults shelf.new)) }
     ensures shelf { (F.faults shelf.old ≤ F.faults shelf.new) × (F.files shelf.new ≡ F.files shelf.old) }
@@ -73,6 +73,19 @@ fn resolve(alloc: Global, raw: &Raw) -> Result<Unit, Stop>
     }
 }
 
+/// The program of a text of at most 262,144 bytes.
+pub fn translate(alloc: Global, bytes: &Vec<u8>) -> Result<Unit, Stop>
+    requires { length bytes.now.items ≤ FILE_BYTES }
+    ensures ok { IfOk result (λ unit. (translating bytes.now.items).gives unit) }
+    ensures text { IfOk result IsOfText }
+    ensures err { (failed : List ℕ) (before after : ℕ) → IfErr result (Halts (translating bytes.now.items) failed before after) }
+{
+    of_text();
+    let tokens = lex(alloc, bytes)?;
+    let raw = parse(alloc, &tokens)?;
+    resolve(alloc, &raw)
+}
+
 /// The program in the file with this name.
 pub fn compile<F: Shelf>(alloc: Global, shelf: &mut F, name: &str) -> Result<Unit, Stop>
     ensures ok { IfOk result (λ unit. (compiling (F.files shelf.old) name.now).gives unit) }
@@ -80,9 +93,6 @@ pub fn compile<F: Shelf>(alloc: Global, shelf: &mut F, name: &str) -> Result<Uni
     ensures err { IfErr result (Halts (compiling (F.files shelf.old) name.now) (F.failed_name shelf.new) (F.faults shelf.old) (F.faults shelf.new)) }
     ensures shelf { (F.faults shelf.old ≤ F.faults shelf.new) × (F.files shelf.new ≡ F.files shelf.old) }
 {
-    of_text();
     let bytes = read(alloc, shelf, File::Program, name)?;
-    let tokens = lex(alloc, &bytes)?;
-    let raw = parse(alloc, &tokens)?;
-    resolve(alloc, &raw)
+    translate(alloc, &bytes)
 }

@@ -11,14 +11,15 @@ ghost use Rattle.psy_run.specs.declared.refusal.File.{File as Role};
 ghost use Rattle.psy_run.specs.declared.refusal.Refusal.{Refusal as Cause};
 ghost use Rattle.psy_run.specs.Answer.{Answers, answering};
 ghost use Rattle.psy_run.specs.Asked.{AskNothing};
+ghost use Rattle.psy_run.specs.Bounds.{IsBounded};
 ghost use Rattle.psy_run.specs.Outcome.{CanServe, Ends, IsUnread, MayAnswer, Says};
 ghost use Rattle.psy_run.specs.Refusals.{status_of, line_of, file_name};
 ghost use Rattle.psy_run.specs.Services.{Leaves, Service, service_of, text_of};
 
 use crate::commands::judge;
-use crate::laws::one_answer;
+use crate::laws::{bounds, one_answer};
 use crate::refusal::{Stop, unread_line};
-use crate::run::run_loop;
+use crate::run::{run_loop, trial_loop};
 use crate::served::Served;
 use crate::texts::{write_check, write_graph};
 use psy_door::{Shelf, Sink};
@@ -73,6 +74,27 @@ fn run<S: Sink>(
     Ok(())
 }
 
+// The same of a kernel of a program that was made: of its lines it writes the summary alone.
+fn try_run<S: Sink>(
+    mut kernel: Kernel,
+    out: &mut S,
+    left: &mut Option<Kernel>,
+) -> Result<(), WriteFault>
+    requires can { CanServe (Served.Tried kernel) }
+    requires empty { left.old ≡ None }
+    ensures counted { S.faults out.old ≤ S.faults out.new }
+    ensures failed { OnErr result (Rose (S.faults out.old) (S.faults out.new)) }
+    ensures written { Written (S.held out.old) (S.held out.new) result (text_of (service_of (Served.Tried kernel))) }
+    ensures over { MatchResult result (λ done. Leaves (service_of (Served.Tried kernel)) left.new) (λ fault. left.new ≡ None) }
+{
+    alike();
+    if let Err(fault) = trial_loop(&mut kernel, out) {
+        return Err(fault);
+    }
+    *left = Some(kernel);
+    Ok(())
+}
+
 // Does what is served, and writes its text.
 fn serve<S: Sink>(served: Served, out: &mut S, left: &mut Option<Kernel>) -> Result<(), WriteFault>
     requires can { CanServe served }
@@ -81,7 +103,9 @@ fn serve<S: Sink>(served: Served, out: &mut S, left: &mut Option<Kernel>) -> Res
     ensures failed { OnErr result (Rose (S.faults out.old) (S.faults out.new)) }
     ensures written { Written (S.held out.old) (S.held out.new) result (text_of (service_of served)) }
     ensures over { MatchResult result (λ done. Leaves (service_of served) left.new) (λ fault. left.new ≡ None) }
+    ensures bounded { IsBounded (service_of served) }
 {
+    bounds();
     match served {
         Served::Ran(kernel) => run(kernel, out, left),
         Served::Checked { unit, sizes, until } => write_check(&unit, &sizes, until, out),
@@ -90,6 +114,8 @@ fn serve<S: Sink>(served: Served, out: &mut S, left: &mut Option<Kernel>) -> Res
             graphs,
             costs,
         } => { write_graph(&unit, graphs.as_slice(), costs.as_slice(), out) }
+        Served::Made(text) => write_all_of(out, text.as_slice()),
+        Served::Tried(kernel) => try_run(kernel, out, left),
     }
 }
 
@@ -153,9 +179,10 @@ pub fn psyc<F: Shelf, S: Sink>(
         × GrewByFront (S.held out.old) (S.held out.new) text }
     ensures memory { result ≡ 8 → Grew (S.held out.old) (S.held out.new) [] }
 
-    // What is left did what the text tells, is over, and is there after a run alone.
+    // What is left did what the text tells, is over, and is there after a run alone. A run keeps its bounds: no action that was due
+    // finished behind its deadline, no ring was reached for beyond its size, no queue held more than its places.
     ensures left { result ≡ 0 → (done : Service) × (answering (map string_bytes words.now) (F.files shelf.old)).gives done
-        × Grew (S.held out.old) (S.held out.new) (text_of done) × Leaves done left.new }
+        × Grew (S.held out.old) (S.held out.new) (text_of done) × Leaves done left.new × IsBounded done }
     ensures over { IfSome left.new (λ kernel. stage_of kernel ≡ Over) }
     ensures none_left { result ≢ 0 → left.new ≡ None }
     ensures shelf { (F.faults shelf.old ≤ F.faults shelf.new) × (F.files shelf.new ≡ F.files shelf.old) }

@@ -1,16 +1,24 @@
-use Rattle.std.proofs.Common.{[], ◌∷◌, codes, subst}
-use Rattle.psy_run.specs.Asked.{IsDate, asks_run, asks_check}
-use Rattle.psy_run.proofs.AskedLemmas.{same_text}
+use Rattle.std.proofs.Common.{[], ◌∷◌, ap, codes}
+use Rattle.psy_run.specs.Asked.{asks_run, asks_check, asks_trial}
+use Rattle.psy_run.proofs.AskedLemmas.{same_text, untried}
 use Rattle.psy_run.proofs.asked.of_three.Goals as goal
 
 pub returns-then-eq : goal.returns-then-eq
 returns-then-eq c =
     let command = same_text c.args.command.now (codes "run") c.if-eq.ensures in
-    asks_run c.args.program.now c.args.until.now c.in_ok-until.until (λ i. command i ∷ c.args.program.now ∷ c.args.until.now ∷ [])
-    (subst (λ word. IsDate word c.in_ok-until.until) c.as_bytes.ensures.value c.in_ok-until.ensures)
+    asks_run c.args.word.now c.args.until.now c.in_ok-until.until (ap (λ w. w ∷ c.args.word.now ∷ c.args.until.now ∷ []) command) (rw c.as_bytes.ensures.value at c.in_ok-until.ensures)
 
 pub returns-then-eq-2 : goal.returns-then-eq-2
 returns-then-eq-2 c =
     let command = same_text c.args.command.now (codes "check") c.if-eq-2.ensures in
-    asks_check c.args.program.now c.args.until.now c.in_ok-until.until (λ i. command i ∷ c.args.program.now ∷ c.args.until.now ∷ [])
-    (subst (λ word. IsDate word c.in_ok-until.until) c.as_bytes.ensures.value c.in_ok-until.ensures)
+    asks_check c.args.word.now c.args.until.now c.in_ok-until.until (ap (λ w. w ∷ c.args.word.now ∷ c.args.until.now ∷ []) command) (rw c.as_bytes.ensures.value at c.in_ok-until.ensures)
+
+pub returns-then-eq-3 : goal.returns-then-eq-3
+returns-then-eq-3 c =
+    let command = same_text c.args.command.now (codes "trial") c.if-eq-3.ensures in
+    asks_trial c.args.word.now c.args.until.now c.in_ok-seed.seed c.in_ok-until.until (ap (λ w. w ∷ c.args.word.now ∷ c.args.until.now ∷ []) command)
+    (rw c.as_bytes-then-eq-3.ensures.value at c.in_ok-seed.ensures) (rw c.as_bytes.ensures.value at c.in_ok-until.ensures)
+
+pub returns-in_err-seed : goal.returns-in_err-seed
+returns-in_err-seed c =
+    rw c.from_residual-in_err-seed.ensures (untried c.args.command.now c.args.word.now c.args.until.now c.if-eq-3.ensures (rw c.as_bytes-then-eq-3.ensures.value at c.in_err-seed.ensures))

@@ -1,7 +1,7 @@
 use Rattle.std.proofs.Common.{refl, subst}
-use Rattle.std.specs.Prelude.{map, string_bytes}
+use Rattle.std.specs.Prelude.{map, string_bytes, option_copied}
 use Rattle.psy_run.specs.declared.refusal.Refusal.TheVariants.{Words}
-use Rattle.psy_run.specs.Asked.{Asks, asked_by, Run, Check, Graph}
+use Rattle.psy_run.specs.Asked.{Asks, asked_by, Run, Check, Graph, Make, Trial}
 use Rattle.psy_run.specs.Outcome.{halts_refused}
 use Rattle.psy_run.specs.Services.{service_of}
 use Rattle.psy_run.specs.Steps.{asking}
@@ -12,10 +12,10 @@ pub returns-in-None-clause-err : goal.returns-in-None-clause-err
 returns-in-None-clause-err g c = halts_first (asking _) _ _ _ _ _ (halts_refused Words (refl, c.in-None.ensures))
 
 pub returns-in-Some-Run-clause-ok : goal.returns-in-Some-Run-clause-ok
-returns-in-Some-Run-clause-ok g c = gives_last (asking _) _ (Run c.in-Some-Run.program.now c.in-Some-Run.until) service_of _ (subst (λ read. Asks (map string_bytes c.args.words.now) (asked_by read)) c.in-Some-Run.field-0-is c.in-Some-Run.ensures) c.run.ensures.ok
+returns-in-Some-Run-clause-ok g c = gives_last (asking _) _ (Run c.in-Some-Run.program.now c.in-Some-Run.until (option_copied c.in-Some-Run.inputs) (option_copied c.in-Some-Run.script)) service_of _ (subst (λ read. Asks (map string_bytes c.args.words.now) (asked_by read)) c.in-Some-Run.field-0-is c.in-Some-Run.ensures) c.run.ensures.ok
 
 pub returns-in-Some-Run-clause-err : goal.returns-in-Some-Run-clause-err
-returns-in-Some-Run-clause-err g c = halts_last (asking _) _ _ _ _ (Run c.in-Some-Run.program.now c.in-Some-Run.until) _ (subst (λ read. Asks (map string_bytes c.args.words.now) (asked_by read)) c.in-Some-Run.field-0-is c.in-Some-Run.ensures) c.run.ensures.err
+returns-in-Some-Run-clause-err g c = halts_last (asking _) _ _ _ _ (Run c.in-Some-Run.program.now c.in-Some-Run.until (option_copied c.in-Some-Run.inputs) (option_copied c.in-Some-Run.script)) _ (subst (λ read. Asks (map string_bytes c.args.words.now) (asked_by read)) c.in-Some-Run.field-0-is c.in-Some-Run.ensures) c.run.ensures.err
 
 pub returns-in-Some-Check-clause-ok : goal.returns-in-Some-Check-clause-ok
 returns-in-Some-Check-clause-ok g c = gives_last (asking _) _ (Check c.in-Some-Check.program.now c.in-Some-Check.until) service_of _ (subst (λ read. Asks (map string_bytes c.args.words.now) (asked_by read)) c.in-Some-Check.field-0-is c.in-Some-Check.ensures) c.check.ensures.ok
@@ -28,3 +28,15 @@ returns-in-Some-Graph-clause-ok g c = gives_last (asking _) _ (Graph c.in-Some-G
 
 pub returns-in-Some-Graph-clause-err : goal.returns-in-Some-Graph-clause-err
 returns-in-Some-Graph-clause-err g c = halts_last (asking _) _ _ _ _ (Graph c.in-Some-Graph.program.now) _ (subst (λ read. Asks (map string_bytes c.args.words.now) (asked_by read)) c.in-Some-Graph.field-0-is c.in-Some-Graph.ensures) c.draw.ensures.err
+
+pub returns-in-Some-Make-clause-ok : goal.returns-in-Some-Make-clause-ok
+returns-in-Some-Make-clause-ok g c = gives_last (asking _) _ (Make c.in-Some-Make.seed) service_of _ (subst (λ read. Asks (map string_bytes c.args.words.now) (asked_by read)) c.in-Some-Make.field-0-is c.in-Some-Make.ensures) c.write_made.ensures.ok
+
+pub returns-in-Some-Make-clause-err : goal.returns-in-Some-Make-clause-err
+returns-in-Some-Make-clause-err g c = halts_last (asking _) _ _ _ _ (Make c.in-Some-Make.seed) _ (subst (λ read. Asks (map string_bytes c.args.words.now) (asked_by read)) c.in-Some-Make.field-0-is c.in-Some-Make.ensures) (c.write_made.ensures.err _ _ _)
+
+pub returns-in-Some-Trial-clause-ok : goal.returns-in-Some-Trial-clause-ok
+returns-in-Some-Trial-clause-ok g c = gives_last (asking _) _ (Trial c.in-Some-Trial.seed c.in-Some-Trial.until) service_of _ (subst (λ read. Asks (map string_bytes c.args.words.now) (asked_by read)) c.in-Some-Trial.field-0-is c.in-Some-Trial.ensures) c.try_made.ensures.ok
+
+pub returns-in-Some-Trial-clause-err : goal.returns-in-Some-Trial-clause-err
+returns-in-Some-Trial-clause-err g c = halts_last (asking _) _ _ _ _ (Trial c.in-Some-Trial.seed c.in-Some-Trial.until) _ (subst (λ read. Asks (map string_bytes c.args.words.now) (asked_by read)) c.in-Some-Trial.field-0-is c.in-Some-Trial.ensures) (c.try_made.ensures.err _ _ _)

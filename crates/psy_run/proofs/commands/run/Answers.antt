@@ -1,8 +1,8 @@
-use Rattle.std.proofs.Common.{◌≡◌}
-use Rattle.psy_run.specs.Answer.{compiling, supplying}
+use Rattle.std.specs.Prelude.{option_copied}
+use Rattle.psy_run.specs.Answer.{compiling, supplying, listing, scripting}
 use Rattle.psy_run.specs.Outcome.{halts_memory}
-use Rattle.psy_run.specs.Services.{Ran}
-use Rattle.psy_run.proofs.Courses.{gives_then, halts_exit, halts_first, halts_later}
+use Rattle.psy_run.proofs.Courses.{halts_exit, halts_first, halts_later}
+use Rattle.psy_run.proofs.ToldLemmas.{halts_behind, gives_behind, run_unlisted, run_unscripted, run_unpaced, run_gives, can_run, ran_is}
 use Rattle.psy_run.proofs.commands.run.Goals as goal
 
 pub returns-in_err-unit-clause-err : goal.returns-in_err-unit-clause-err
@@ -12,15 +12,57 @@ pub returns-in_err-supply-clause-err : goal.returns-in_err-supply-clause-err
 returns-in_err-supply-clause-err g c = halts_exit _ _ _ _ _ _ c.from_residual-in_err-supply.ensures.1
     (halts_later (compiling _ _) _ _ _ _ _ _ c.in_ok-unit.ensures.ok (halts_first (supplying _ _) _ _ _ _ _ (c.in_err-supply.ensures.err _ _ _)))
 
-pub returns-in-Ok-clause-ok : goal.returns-in-Ok-clause-ok
-returns-in-Ok-clause-ok g c =
+pub returns-in_err-inputs-clause-err : goal.returns-in_err-inputs-clause-err
+returns-in_err-inputs-clause-err g c =
+    let unit = c.in_ok-unit.unit in
     let supply = c.in_ok-supply.supply in
     let (graphs, gives) = c.in_ok-supply.ensures.ok in
-    let plan = c.in-Ok.kernel.plan in
+    let inputs = option_copied c.args.inputs in
+    halts_exit _ _ _ _ _ _ c.from_residual-in_err-inputs.ensures.1
+    (run_unlisted _ c.args.name.now c.args.until inputs (option_copied c.args.script) unit (record { graphs = graphs; nexts = supply.nexts; sizes = supply.sizes }) c.in_ok-unit.ensures.ok gives _ _ _ _
+    (halts_behind (λ files. listing files unit inputs) c.in_ok-unit.ensures.shelf c.in_err-inputs.ensures.err))
+
+pub returns-in_err-script-clause-err : goal.returns-in_err-script-clause-err
+returns-in_err-script-clause-err g c =
+    let unit = c.in_ok-unit.unit in
+    let supply = c.in_ok-supply.supply in
+    let (graphs, gives) = c.in_ok-supply.ensures.ok in
+    let inputs = option_copied c.args.inputs in
+    let script = option_copied c.args.script in
+    let listed = gives_behind (λ files. listing files unit inputs) c.in_ok-unit.ensures.shelf c.in_ok-inputs.ensures.ok in
+    halts_exit _ _ _ _ _ _ c.from_residual-in_err-script.ensures.1
+    (run_unscripted _ c.args.name.now c.args.until inputs script unit (record { graphs = graphs; nexts = supply.nexts; sizes = supply.sizes }) c.in_ok-unit.ensures.ok gives _ listed _ _ _ _
+    (halts_behind (λ files. scripting files unit script) c.in_ok-unit.ensures.shelf (halts_behind (λ files. scripting files unit script) c.in_ok-inputs.ensures.shelf c.in_err-script.ensures.err)))
+
+pub returns-in_err-pace-clause-err : goal.returns-in_err-pace-clause-err
+returns-in_err-pace-clause-err g c =
+    let unit = c.in_ok-unit.unit in
+    let supply = c.in_ok-supply.supply in
+    let (graphs, gives) = c.in_ok-supply.ensures.ok in
+    let inputs = option_copied c.args.inputs in
+    let script = option_copied c.args.script in
+    let listed = gives_behind (λ files. listing files unit inputs) c.in_ok-unit.ensures.shelf c.in_ok-inputs.ensures.ok in
+    let scripted = gives_behind (λ files. scripting files unit script) c.in_ok-unit.ensures.shelf (gives_behind (λ files. scripting files unit script) c.in_ok-inputs.ensures.shelf c.in_ok-script.ensures.ok) in
+    halts_exit _ _ _ _ _ _ c.from_residual-in_err-pace.ensures.1
+    (run_unpaced _ c.args.name.now c.args.until inputs script unit (record { graphs = graphs; nexts = supply.nexts; sizes = supply.sizes }) c.in_ok-unit.ensures.ok gives _ listed _ scripted _ _ _ _ (c.in_err-pace.ensures.err _ _ _))
+
+pub returns-in-Ok-clause-ok : goal.returns-in-Ok-clause-ok
+returns-in-Ok-clause-ok g c =
+    let unit = c.in_ok-unit.unit in
+    let supply = c.in_ok-supply.supply in
+    let (graphs, gives) = c.in_ok-supply.ensures.ok in
+    let inputs = option_copied c.args.inputs in
+    let script = option_copied c.args.script in
+    let listed = gives_behind (λ files. listing files unit inputs) c.in_ok-unit.ensures.shelf c.in_ok-inputs.ensures.ok in
+    let scripted = gives_behind (λ files. scripting files unit script) c.in_ok-unit.ensures.shelf (gives_behind (λ files. scripting files unit script) c.in_ok-inputs.ensures.shelf c.in_ok-script.ensures.ok) in
     let its = c.in-Ok.ensures in
-    let same : Ran plan.unit plan.nexts plan.sizes plan.until ≡ Ran c.in_ok-unit.unit supply.nexts supply.sizes c.args.until = λ i. Ran (its.its_unit i) (its.its_nexts i) (its.its_sizes i) (its.its_until i) in
-    gives_then (compiling _ _) _ _ _ c.in_ok-unit.ensures.ok
-    (gives_then (supplying _ _) _ (record { graphs = graphs; nexts = supply.nexts; sizes = supply.sizes }) _ gives same)
+    run_gives _ c.args.name.now c.args.until inputs script unit (record { graphs = graphs; nexts = supply.nexts; sizes = supply.sizes }) c.in_ok-unit.ensures.ok gives _ listed _ scripted _
+    c.in_ok-pace.ensures.ok (ran_is _ _ _ _ _ _ _ its.booted its.its_unit its.its_nexts its.its_sizes its.its_until)
+
+pub returns-in-Ok-clause-can : goal.returns-in-Ok-clause-can
+returns-in-Ok-clause-can g c =
+    let its = c.in-Ok.ensures in
+    can_run c.in-Ok.kernel c.in_ok-unit.unit c.in_ok-inputs.inputs.lists c.in_ok-script.script its.booted its.plan its.its_unit c.in_ok-inputs.ensures.inputs c.in_ok-script.ensures.script
 
 pub returns-in-Err-clause-err : goal.returns-in-Err-clause-err
 returns-in-Err-clause-err g c = halts_memory

@@ -16,6 +16,7 @@ returns c words files = Answers-unique (record {
   unit_or_count = c.one_verdict.ensures.stands_or_count;
   rule_or_none = c.one_verdict.ensures.fault_or_none;
   of_text = c.of_text.ensures.unit;
+  short = c.short.ensures;
   graphs = c.one_graph.ensures.same;
   graphs_or_cause = c.one_graph.ensures.apart;
   cause = c.one_graph.ensures.cause;

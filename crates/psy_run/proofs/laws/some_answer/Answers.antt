@@ -8,6 +8,7 @@ returns c words files = Answers-some (record {
   tree_or_none = c.one_tree.ensures.some;
   verdict = c.one_verdict.ensures.some;
   of_text = c.of_text.ensures.unit;
+  short = c.short.ensures;
   graphs_or_cause = c.one_graph.ensures.some;
   edges = c.one_graph.ensures.edges;
   cost = c.costs.ensures.some;

@@ -11,7 +11,7 @@ returns-in-Err-clause-ends g c =
     (ends_stopped _ _ _ _ _ _ c.in-Err.stop c.in-Err.ensures.err c.in-Err.ensures.asked c.refuse.ensures.refused c.refuse.ensures.unread c.refuse.ensures.memory)
 
 pub returns-in-Ok-serve-clause-ends : goal.returns-in-Ok-serve-clause-ends
-returns-in-Ok-serve-clause-ends g c = ends_served _ _ _ _ _ _ (service_of c.in-Ok.served) c.in-Ok.ensures.ok c.in-Ok-serve.ensures.written c.in-Ok-serve.ensures.over
+returns-in-Ok-serve-clause-ends g c = ends_served _ _ _ _ _ _ (service_of c.in-Ok.served) c.in-Ok.ensures.ok c.in-Ok-serve.ensures.written c.in-Ok-serve.ensures.over c.in-Ok-serve.ensures.bounded
 
 pub returns-in-Err-serve-clause-ends : goal.returns-in-Err-serve-clause-ends
-returns-in-Err-serve-clause-ends g c = ends_unwritten _ _ _ _ _ _ (service_of c.in-Ok.served) c.in-Ok.ensures.ok (some_left c.in-Ok.served c.in-Ok.ensures.can) c.in-Err-serve.ensures.failed c.in-Err-serve.ensures.written c.in-Err-serve.ensures.over
+returns-in-Err-serve-clause-ends g c = ends_unwritten _ _ _ _ _ _ (service_of c.in-Ok.served) c.in-Ok.ensures.ok (some_left c.in-Ok.served c.in-Ok.ensures.can) c.in-Err-serve.ensures.bounded c.in-Err-serve.ensures.failed c.in-Err-serve.ensures.written c.in-Err-serve.ensures.over

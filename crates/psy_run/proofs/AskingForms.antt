@@ -1,0 +1,83 @@
+-- The words ask for one command at most, and for one or none.
+use Rattle.std.proofs.Common.{◌≡◌, ◌∙◌, sym, subst, ap, refl, ℕ, List, [], ◌∷◌, ◌⊎◌, inl, inr, Option, Some, None, Bool, true, false, if◌then◌else◌, bytes_eq, codes}
+use Rattle.std.proofs.lemmas.Option.{none-some, same_Some, option_and_then_some}
+use Rattle.psy_run.specs.declared.refusal.Refusal.TheVariants.{Words}
+use Rattle.psy_run.specs.Asked.{Command, Asks, asks_run, asks_run_with_inputs, asks_run_with_script, asks_check, asks_graph, asks_make, asks_trial}
+use Rattle.psy_run.specs.Steps.{asking}
+use Rattle.psy_run.proofs.AskedLemmas.{same_text, date_of, from_date, seed_of, from_seed, command_of, to_command}
+use Rattle.psy_run.proofs.Courses.{IsOne, IsSome}
+
+-- What comes where the first word is this one, or what comes where it is another
+chosen : (word name : List ℕ) (this other : Option Command) (command : Command) → (if bytes_eq word name then this else other) ≡ Some command → ((word ≡ name) × (this ≡ Some command)) ⊎ (other ≡ Some command)
+chosen word name this other command is = by (bytes_eq word name) refl is
+  where
+    by : (t : Bool) → t ≡ bytes_eq word name → (if t then this else other) ≡ Some command → ((word ≡ name) × (this ≡ Some command)) ⊎ (other ≡ Some command)
+    by true same is = inl (same_text word name same, is)
+    by false different is = inr is
+
+of_two : (first word : List ℕ) (command : Command) → command_of (first ∷ word ∷ []) ≡ Some command → Asks (first ∷ word ∷ []) command
+unfolding command_of
+of_two first word command is = elim (chosen first (codes "graph") _ _ command is) [
+  | inl graph ↦ subst (Asks (first ∷ word ∷ [])) (same_Some _ command graph.1) (asks_graph word (ap (λ w. w ∷ word ∷ []) graph.0))
+  | inr other ↦ elim (chosen first (codes "make") _ _ command other) [
+    | inl make ↦ option_and_then_some _ (seed_of word) command make.1
+        (λ seed found same. subst (Asks (first ∷ word ∷ [])) (same_Some _ command same) (asks_make word seed (ap (λ w. w ∷ word ∷ []) make.0) (from_seed word seed found)))
+    | inr none ↦ absurd (none-some command none)
+  ]
+]
+
+of_three : (first word date : List ℕ) (command : Command) → command_of (first ∷ word ∷ date ∷ []) ≡ Some command → Asks (first ∷ word ∷ date ∷ []) command
+unfolding command_of
+of_three first word date command is = option_and_then_some _ (date_of date) command is (λ until found that. elim (chosen first (codes "run") _ _ command that) [
+  | inl run ↦ subst (Asks (first ∷ word ∷ date ∷ [])) (same_Some _ command run.1) (asks_run word date until (ap (λ w. w ∷ word ∷ date ∷ []) run.0) (from_date date until found))
+  | inr other ↦ elim (chosen first (codes "check") _ _ command other) [
+    | inl check ↦ subst (Asks (first ∷ word ∷ date ∷ [])) (same_Some _ command check.1) (asks_check word date until (ap (λ w. w ∷ word ∷ date ∷ []) check.0) (from_date date until found))
+    | inr neither ↦ elim (chosen first (codes "trial") _ _ command neither) [
+      | inl trial ↦ option_and_then_some _ (seed_of word) command trial.1
+          (λ seed drawn same. subst (Asks (first ∷ word ∷ date ∷ [])) (same_Some _ command same) (asks_trial word date seed until (ap (λ w. w ∷ word ∷ date ∷ []) trial.0) (from_seed word seed drawn) (from_date date until found)))
+      | inr none ↦ absurd (none-some command none)
+    ]
+  ]
+])
+
+of_four : (first program date inputs : List ℕ) (command : Command) → command_of (first ∷ program ∷ date ∷ inputs ∷ []) ≡ Some command → Asks (first ∷ program ∷ date ∷ inputs ∷ []) command
+unfolding command_of
+of_four first program date inputs command is = option_and_then_some _ (date_of date) command is (λ until found that. elim (chosen first (codes "run") _ _ command that) [
+  | inl run ↦ subst (Asks (first ∷ program ∷ date ∷ inputs ∷ [])) (same_Some _ command run.1)
+      (asks_run_with_inputs program date inputs until (ap (λ w. w ∷ program ∷ date ∷ inputs ∷ []) run.0) (from_date date until found))
+  | inr none ↦ absurd (none-some command none)
+])
+
+of_five : (first program date inputs script : List ℕ) (command : Command) → command_of (first ∷ program ∷ date ∷ inputs ∷ script ∷ []) ≡ Some command → Asks (first ∷ program ∷ date ∷ inputs ∷ script ∷ []) command
+unfolding command_of
+of_five first program date inputs script command is = option_and_then_some _ (date_of date) command is (λ until found that. elim (chosen first (codes "run") _ _ command that) [
+  | inl run ↦ subst (Asks (first ∷ program ∷ date ∷ inputs ∷ script ∷ [])) (same_Some _ command run.1)
+      (asks_run_with_script program date inputs script until (ap (λ w. w ∷ program ∷ date ∷ inputs ∷ script ∷ []) run.0) (from_date date until found))
+  | inr none ↦ absurd (none-some command none)
+])
+
+from_command : (words : List (List ℕ)) (command : Command) → command_of words ≡ Some command → Asks words command
+unfolding command_of
+from_command [] command is = absurd (none-some command is)
+from_command (a ∷ []) command is = absurd (none-some command is)
+from_command (a ∷ b ∷ []) command is = of_two a b command is
+from_command (a ∷ b ∷ c ∷ []) command is = of_three a b c command is
+from_command (a ∷ b ∷ c ∷ d ∷ []) command is = of_four a b c d command is
+from_command (a ∷ b ∷ c ∷ d ∷ e ∷ []) command is = of_five a b c d e command is
+from_command (a ∷ b ∷ c ∷ d ∷ e ∷ f ∷ words) command is = absurd (none-some command is)
+
+-- ---- the step
+
+pub one_asking : (words : List (List ℕ)) → IsOne (asking words)
+one_asking words = record {
+  gift = λ x y p q. same_Some x y (sym (to_command words x p) ∙ to_command words y q);
+  stop = λ r s p q. p.0 ∙ sym q.0;
+  apart = λ x r p q. q.1 x p;
+}
+
+pub some_asking : (words : List (List ℕ)) → IsSome (asking words)
+some_asking words = by (command_of words) refl
+  where
+    by : (found : Option Command) → command_of words ≡ found → IsSome (asking words)
+    by (Some command) is = inl (command, from_command words command is)
+    by None is = inr (Words, (refl, λ command asks. none-some command (sym is ∙ to_command words command asks)))

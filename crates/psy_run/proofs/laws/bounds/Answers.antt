@@ -1,0 +1,21 @@
+use Rattle.std.proofs.Common.{◌+◌, ◌*◌, arith}
+use Rattle.psy_history.specs.Compiled.{coded}
+use Rattle.psy_kernel.specs.Scripts.{order_of, stalls_of}
+use Rattle.psy_run.proofs.KeptBounds.{keeps_bounds}
+use Rattle.psy_run.proofs.laws.bounds.Goals as goal
+
+pub returns : goal.returns
+returns c plan inputs script is are its =
+    let ties = order_of plan.unit script in
+    let stalls = stalls_of script in
+    let cycles = plan.until * plan.unit.quantum in
+    keeps_bounds plan inputs script is its (record {
+      lawful = c.regular.ensures.lawful plan.unit plan.code plan.nexts stalls inputs is.compiled are;
+      actions = c.alike.ensures.actions plan.unit plan.code plan.nexts stalls inputs is.compiled are;
+      schedule = c.alike.ensures.schedule plan.unit plan.code plan.nexts stalls inputs is.compiled are ties cycles;
+      reaches = c.alike.ensures.reaches plan.unit plan.code plan.nexts stalls inputs is.compiled are ties (plan.until + 1) cycles;
+      held = c.alike.ensures.held plan.unit plan.code plan.nexts stalls inputs is.compiled are plan.until;
+      finishes = λ agent r supplied. c.on_time.ensures.finishes (coded plan.unit plan.code plan.nexts stalls inputs) ties plan.until cycles agent r supplied (omega arith);
+      reached = λ variable size n supplied. c.ring_sizes.ensures.reached plan.unit plan.code plan.nexts stalls inputs is.compiled are ties plan.until cycles variable size n supplied (omega arith);
+      most = c.queue_sizes.ensures.most plan.unit plan.code plan.nexts stalls inputs is.compiled are plan.until;
+    })

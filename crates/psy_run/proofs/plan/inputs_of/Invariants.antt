@@ -1,5 +1,0 @@
-use Rattle.std.proofs.Common.{◌≡◌, [], map, take}
-use Rattle.psy_run.proofs.plan.inputs_of.Given as goal
-
-abbrev pub invariant-variables : goal.invariant-variables
-invariant-variables l = record { lists : l.lists ≡ map (λ v. []) (take l.index l.unit.variables) }

@@ -1,0 +1,25 @@
+use Rattle.std.proofs.Common.{sym, subst}
+use Rattle.psy_dates.specs.declared.plan.Inputs.{Inputs as Lists}
+use Rattle.psy_history.specs.Compiled.{AreInputs}
+use Rattle.psy_run.specs.declared.refusal.File.TheVariants.{Inputs}
+use Rattle.psy_run.specs.declared.refusal.Stop.TheVariants.{Memory}
+use Rattle.psy_run.specs.Outcome.{halts_memory}
+use Rattle.psy_run.specs.Steps.{reading}
+use Rattle.psy_run.proofs.Courses.{halts_exit, halts_first, halts_last, gives_last}
+use Rattle.psy_run.proofs.PlanLemmas.{are_no_inputs}
+use Rattle.psy_run.proofs.told.inputs_of.Goals as goal
+
+pub returns-in_err-no_lists-clause-err : goal.returns-in_err-no_lists-clause-err
+returns-in_err-no_lists-clause-err g c = halts_exit _ _ _ _ Memory _ c.from_residual.ensures.1 halts_memory
+
+pub returns-in_default-clause-inputs : goal.returns-in_default-clause-inputs
+returns-in_default-clause-inputs g c = subst (AreInputs c.args.unit.now) (sym c.in_ok-no_lists.ensures) (are_no_inputs c.args.unit.now)
+
+pub returns-in_err-bytes-clause-err : goal.returns-in_err-bytes-clause-err
+returns-in_err-bytes-clause-err g c = rw c.in-Some.is (halts_exit _ _ _ _ _ _ c.from_residual-in_err-bytes.ensures.1 (halts_first (reading _ Inputs _) _ _ _ _ _ c.in_err-bytes.ensures.err))
+
+pub returns-clause-ok : goal.returns-clause-ok
+returns-clause-ok g c = rw c.in-Some.is (gives_last (reading _ Inputs _) _ _ (λ (inputs : Lists). inputs.lists) _ c.in_ok-bytes.ensures.ok c.state.ensures.ok)
+
+pub returns-clause-err : goal.returns-clause-err
+returns-clause-err g c = rw c.in-Some.is (halts_last (reading _ Inputs _) _ _ _ _ _ _ c.in_ok-bytes.ensures.ok (c.state.ensures.err _ _ _))

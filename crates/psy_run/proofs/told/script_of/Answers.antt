@@ -1,0 +1,13 @@
+use Rattle.psy_run.specs.declared.refusal.File.TheVariants.{Script}
+use Rattle.psy_run.specs.Steps.{reading}
+use Rattle.psy_run.proofs.Courses.{halts_exit, halts_first, halts_last, gives_last}
+use Rattle.psy_run.proofs.told.script_of.Goals as goal
+
+pub returns-in_err-bytes-clause-err : goal.returns-in_err-bytes-clause-err
+returns-in_err-bytes-clause-err g c = rw c.in-Some.is (halts_exit _ _ _ _ _ _ c.from_residual.ensures.1 (halts_first (reading _ Script _) _ _ _ _ _ c.in_err-bytes.ensures.err))
+
+pub returns-clause-ok : goal.returns-clause-ok
+returns-clause-ok g c = rw c.in-Some.is (gives_last (reading _ Script _) _ _ (λ script. script) _ c.in_ok-bytes.ensures.ok c.direct.ensures.ok)
+
+pub returns-clause-err : goal.returns-clause-err
+returns-clause-err g c = rw c.in-Some.is (halts_last (reading _ Script _) _ _ _ _ _ _ c.in_ok-bytes.ensures.ok (c.direct.ensures.err _ _ _))

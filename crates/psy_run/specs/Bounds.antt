@@ -1,0 +1,28 @@
+-- What each run keeps, and its summary shows.
+use Rattle.std.specs.Prelude.{◌≡◌, ℕ, ◌+◌, ◌*◌, ◌<◌, ◌≤◌, List, length, Some, get_or, ⊤, ℤ}
+use Rattle.std.specs.List.{Contains}
+use Rattle.psy_base.specs.declared.sizes.Sizes.{Sizes}
+use Rattle.psy_tree.specs.declared.unit.Unit.{Unit as Whole}
+use Rattle.psy_meaning.specs.Actions.{Action, System}
+use Rattle.psy_meaning.specs.History.{history}
+use Rattle.psy_meaning.specs.Schedule.{finish}
+use Rattle.psy_meaning.specs.Summary.{most_held, reach}
+use Rattle.psy_history.specs.Scheduled.{turns_of}
+use Rattle.psy_kernel.specs.declared.script.Script.{Script}
+use Rattle.psy_kernel.specs.Scripts.{order_of}
+use Rattle.psy_run.specs.Services.{Service, Ran, Tried, meaning_of, no_inputs, no_script}
+
+-- A run up to a date keeps its bounds.
+pub record KeepsBounds (s : System) (order : ℕ → List ℕ) (sizes : Sizes) (until : ℕ) : Type 0 where
+  -- each action that is due by then is finished, or stopped, by its deadline: its slack is a true difference
+  pub in_time : (agent : ℕ) (r : Action) → Contains (history s (until + 1) agent) r → r.deadline ≤ until → finish r.agent r.number (turns_of s order (until * s.unit.quantum)) ≤ r.deadline * s.unit.quantum
+  -- no ring was reached for beyond its size
+  pub rings : (variable n : ℕ) → variable < length s.unit.variables → reach s (turns_of s order (until * s.unit.quantum)) (history s (until + 1)) variable ≡ Some n → n < get_or sizes.rings variable 0
+  -- and no queue held more than its size
+  pub queues : (stream : ℕ) → stream < length s.unit.streams → most_held s until stream ≤ get_or sizes.queues stream 0
+
+-- What runs keeps its bounds.
+abbrev pub IsBounded : Service → Type 0
+IsBounded (Ran unit nexts sizes until inputs script) = KeepsBounds (meaning_of unit nexts inputs script) (order_of unit script) sizes until
+IsBounded (Tried unit nexts sizes until) = KeepsBounds (meaning_of unit nexts (no_inputs unit) no_script) (order_of unit no_script) sizes until
+IsBounded service = ⊤

@@ -1,0 +1,16 @@
+mod AgentOrders
+mod DigitValues
+mod FirstFaults
+mod InputFaults
+mod InputNumbers
+mod LinesCut
+mod Listed
+mod ListsKept
+mod NamePlaces
+mod Placing
+mod Positions
+mod PutEntries
+mod ScriptFaults
+mod SoundScripts
+mod Stated
+mod WordsCut

@@ -1,0 +1,169 @@
+-- What the lines so far say, with one more.
+use Rattle.std.proofs.Common.{◌≡◌, ◌∙◌, refl, sym, ap, ap₂, subst, ℕ, suc, ◌+◌, ◌<◌, Bool, true, false, cond, not, ◌&&◌, ◌||◌, List, [], ◌∷◌, ◌++◌, length, map, get_or, Option, Some, None, eqb, ltb, lt-ltb, le-ltb, ltb-true, ltb-false, eqb-true, eq-eqb, arith}
+use Rattle.std.specs.Str.{bytes_eq}
+use Rattle.std.specs.Option.{option_map}
+use Rattle.std.specs.List.{flat_map, list_all, list_any, position, position_or_len}
+use Rattle.std.specs.Cmp.{both_ways}
+use Rattle.std.proofs.lemmas.Bool.{and_parts}
+use Rattle.std.proofs.lemmas.Grind.{flat_map-append}
+use Rattle.std.proofs.lemmas.List.{length-map}
+use Rattle.std.proofs.lemmas.List.Folds.{list_any-append}
+use Rattle.std.proofs.lemmas.List.Quantifiers.{position-Some}
+use Rattle.std.proofs.lemmas.Slice.Eq.{bytes_eq-Decides}
+use Rattle.psy_tree.specs.declared.unit.AgentDecl.{AgentDecl}
+use Rattle.psy_tree.specs.declared.unit.Unit.{Unit as Whole}
+use Rattle.psy_kernel.specs.declared.script.Order.{Order}
+use Rattle.psy_kernel.specs.declared.script.Script.{Script}
+use Rattle.psy_script.specs.declared.entry.Entry.{Entry}
+use Rattle.psy_script.specs.declared.entry.Entry.TheVariants as entry
+use Rattle.psy_script.specs.Entries.{clashes, entry_in, is_beside, place_in, repeats, with_entry}
+use Rattle.psy_script.specs.Numbers.{all_some}
+use Rattle.psy_script.specs.Rising.{rising}
+use Rattle.psy_script.specs.Script.{Statement, Stalls, Orders, agent_number, has_twice, is_agent, is_order_at, is_stall_at, names_agents, order_before, order_said, stall_before, stall_said, stands_again}
+use Rattle.psy_script.proofs.Placing.{any_rising, or_none, rising-append}
+
+-- ---- names and numbers
+
+-- The names of the agents
+abbrev pub agent_names : Whole → List (List ℕ)
+agent_names unit = map (λ (a : AgentDecl). a.name) unit.agents
+
+-- One more on both sides
+less_suc : (r : Bool) (a n : ℕ) → ltb a n ≡ r → ltb (1 + a) (suc n) ≡ r
+less_suc true a n e = lt-ltb (1 + a) (suc n) (omega (arith, ltb-true a n e))
+less_suc false a n e = le-ltb (1 + a) (suc n) (omega (arith, ltb-false a n e))
+
+-- The first place, by whether the first item passes
+place_step : (b : Bool) (p n : ℕ) (rest : Bool) → ltb p n ≡ rest → ltb (cond (not b) (1 + p) 0) (suc n) ≡ (b || rest)
+place_step true p n rest e = lt-ltb 0 (suc n) (omega arith)
+place_step false p n rest e = less_suc rest p n e
+
+-- There is a place where one of them passes.
+place_below : {X : Type 0} (test : X → Bool) (xs : List X) → ltb (position_or_len test xs) (length xs) ≡ list_any test xs
+place_below test [] = refl
+place_below test (x ∷ xs) = place_step (test x) (position_or_len test xs) (length xs) (list_any test xs) (place_below test xs)
+
+-- A test of what items are made into
+any_map : {X Y : Type 0} (test : Y → Bool) (f : X → Y) (xs : List X) → list_any test (map f xs) ≡ list_any (λ x. test (f x)) xs
+any_map test f [] = refl
+any_map test f (x ∷ xs) = ap (λ b. test (f x) || b) (any_map test f xs)
+
+-- Tests that agree find the same.
+any_same : {X : Type 0} (p q : X → Bool) → ((x : X) → p x ≡ q x) → (xs : List X) → list_any p xs ≡ list_any q xs
+any_same p q same [] = refl
+any_same p q same (x ∷ xs) = ap₂ (λ a b. a || b) (same x) (any_same p q same xs)
+
+-- A test of what items are made into, many of each
+any_flat : {X Y : Type 0} (test : Y → Bool) (f : X → List Y) (xs : List X) → list_any test (flat_map f xs) ≡ list_any (λ x. list_any test (f x)) xs
+any_flat test f [] = refl
+any_flat test f (x ∷ xs) = list_any-append test (f x) (flat_map f xs) ∙ ap (λ b. list_any test (f x) || b) (any_flat test f xs)
+
+-- A name has a place where it is an agent's.
+pub place_is : (unit : Whole) (name : List ℕ) → place_in (agent_names unit) name ≡ cond (is_agent unit name) (Some (agent_number unit name)) None
+place_is unit name = ap (λ b. cond b (Some (agent_number unit name)) None) (place_below (bytes_eq name) (agent_names unit) ∙ any_map (bytes_eq name) (λ (a : AgentDecl). a.name) unit.agents)
+
+-- The number of an agent is one of theirs.
+pub number_below : (unit : Whole) (name : List ℕ) → is_agent unit name ≡ true → agent_number unit name < length unit.agents
+number_below unit name is = subst (λ n. agent_number unit name < n) (length-map unit.agents (λ (a : AgentDecl). a.name))
+    (ltb-true (agent_number unit name) (length (agent_names unit)) (place_below (bytes_eq name) (agent_names unit) ∙ any_map (bytes_eq name) (λ (a : AgentDecl). a.name) unit.agents ∙ is))
+
+-- The name stands at the place that is found.
+stands_there : (names : List (List ℕ)) (name : List ℕ) (place : ℕ) → position_or_len (bytes_eq name) names ≡ place → place < length names → name ≡ get_or names place []
+stands_there names name place is below =
+    let found : position (bytes_eq name) names ≡ Some place = subst (λ p. cond (ltb p (length names)) (Some p) None ≡ Some place) (sym is) (ap (λ b. cond b (Some place) None) (lt-ltb place (length names) below)) in
+    (bytes_eq-Decides name (get_or names place [])).0 (position-Some (bytes_eq name) names place [] found).1
+
+-- Two names have one number where they are one; the first is an agent's.
+pub same_number : (unit : Whole) (name other : List ℕ) → is_agent unit name ≡ true → eqb (agent_number unit name) (agent_number unit other) ≡ bytes_eq name other
+same_number unit name other is =
+    let names = agent_names unit in
+    let number = agent_number unit name in
+    let below : number < length names = subst (λ n. number < n) (sym (length-map unit.agents (λ (a : AgentDecl). a.name))) (number_below unit name is) in
+    both_ways (eqb number (agent_number unit other)) (bytes_eq name other)
+    (λ e. (bytes_eq-Decides name other).1 (stands_there names name number refl below ∙ sym (stands_there names other number (sym (eqb-true number (agent_number unit other) e)) below)))
+    (λ e. eq-eqb number (agent_number unit other) (ap (agent_number unit) ((bytes_eq-Decides name other).0 e)))
+
+-- What is made of a choice
+option_cond : {X Y : Type 0} (f : X → Y) (b : Bool) (x : X) → option_map f (cond b (Some x) None) ≡ cond b (Some (f x)) None
+option_cond f true x = refl
+option_cond f false x = refl
+
+-- One more that may be there
+all_some_step : (b r : Bool) (n : ℕ) (ns : List ℕ) (o : Option ℕ) (rest : List (Option ℕ)) → o ≡ cond b (Some n) None → all_some rest ≡ cond r (Some ns) None → all_some (o ∷ rest) ≡ cond (b && r) (Some (n ∷ ns)) None
+all_some_step true r n ns o rest e es = ap (λ p. all_some (p ∷ rest)) e ∙ ap (option_map (λ xs. n ∷ xs)) es ∙ option_cond (λ xs. n ∷ xs) r ns
+all_some_step false r n ns o rest e es = ap (λ p. all_some (p ∷ rest)) e
+
+-- Names have places where each is an agent's.
+places_are : (unit : Whole) (names : List (List ℕ)) → all_some (map (place_in (agent_names unit)) names) ≡ cond (list_all (is_agent unit) names) (Some (map (agent_number unit) names)) None
+places_are unit [] = refl
+places_are unit (name ∷ names) =
+    all_some_step (is_agent unit name) (list_all (is_agent unit) names) (agent_number unit name) (map (agent_number unit) names) (place_in (agent_names unit) name) (map (place_in (agent_names unit)) names) (place_is unit name) (places_are unit names)
+
+-- ---- statements
+
+-- What is said, with agents by their numbers
+abbrev pub numbered : Whole → Statement → Entry
+numbered unit (Stalls agent action instr cycles) = entry.Stall (record { agent = agent_number unit agent; action = action; instr = instr; cycles = cycles })
+numbered unit (Orders cycle agents) = entry.Order (record { cycle = cycle; agents = map (agent_number unit) agents })
+
+-- It is found where each name is an agent's.
+pub entry_is : (unit : Whole) (st : Statement) → entry_in (agent_names unit) st ≡ cond (names_agents unit st) (Some (numbered unit st)) None
+entry_is unit (Stalls agent action instr cycles) =
+    let stall = λ (n : ℕ). entry.Stall (record { agent = n; action = action; instr = instr; cycles = cycles }) in
+    ap (option_map stall) (place_is unit agent) ∙ option_cond stall (is_agent unit agent) (agent_number unit agent)
+entry_is unit (Orders cycle agents) =
+    let order = λ (ns : List ℕ). entry.Order (record { cycle = cycle; agents = ns }) in
+    ap (option_map order) (places_are unit agents) ∙ option_cond order (list_all (is_agent unit) agents) (map (agent_number unit) agents)
+
+-- The script of what was said
+abbrev pub script_said : Whole → List Statement → Script
+script_said unit said = record {
+  stalls = rising stall_before (flat_map (stall_said unit) said);
+  orders = rising order_before (flat_map (order_said unit) said);
+}
+
+-- One more statement is one more entry.
+pub said_more : (unit : Whole) (said : List Statement) (st : Statement) → with_entry (script_said unit said) (numbered unit st) ≡ script_said unit (said ++ st ∷ [])
+said_more unit said (Stalls agent action instr cycles) =
+    let st = Stalls agent action instr cycles in
+    λ i. record {
+      stalls = (sym (ap (rising stall_before) (flat_map-append (stall_said unit) said (st ∷ [])) ∙ rising-append stall_before (flat_map (stall_said unit) said) (flat_map (stall_said unit) (st ∷ [])))) i;
+      orders = (sym (ap (rising order_before) (flat_map-append (order_said unit) said (st ∷ [])) ∙ rising-append order_before (flat_map (order_said unit) said) [])) i;
+    }
+said_more unit said (Orders cycle agents) =
+    let st = Orders cycle agents in
+    λ i. record {
+      stalls = (sym (ap (rising stall_before) (flat_map-append (stall_said unit) said (st ∷ [])) ∙ rising-append stall_before (flat_map (stall_said unit) said) [])) i;
+      orders = (sym (ap (rising order_before) (flat_map-append (order_said unit) said (st ∷ [])) ∙ rising-append order_before (flat_map (order_said unit) said) (flat_map (order_said unit) (st ∷ [])))) i;
+    }
+
+-- By number and by name the same stalls stand before an instruction,
+stall_at_number : (unit : Whole) (agent : List ℕ) (action instr cycles : ℕ) → is_agent unit agent ≡ true → (st : Statement)
+    → list_any (is_beside (record { agent = agent_number unit agent; action = action; instr = instr; cycles = cycles })) (stall_said unit st) ≡ is_stall_at agent action instr st
+stall_at_number unit agent action instr cycles is (Stalls a n i c) = or_none (eqb (agent_number unit agent) (agent_number unit a) && (eqb action n && eqb instr i)) ∙ ap (λ b. b && (eqb action n && eqb instr i)) (same_number unit agent a is)
+stall_at_number unit agent action instr cycles is (Orders c agents) = refl
+
+-- and the same orders begin at a cycle.
+order_at_cycle : (unit : Whole) (cycle : ℕ) (st : Statement) → list_any (λ (o : Order). eqb cycle o.cycle) (order_said unit st) ≡ is_order_at cycle st
+order_at_cycle unit cycle (Stalls a n i c) = refl
+order_at_cycle unit cycle (Orders c agents) = or_none (eqb cycle c)
+
+-- A number repeats where a name stands twice; the names are agents'.
+pub repeats_are : (unit : Whole) (names : List (List ℕ)) → list_all (is_agent unit) names ≡ true → repeats (map (agent_number unit) names) ≡ has_twice names
+repeats_are unit [] are = refl
+repeats_are unit (name ∷ names) are =
+    ap₂ (λ a b. a || b)
+    (any_map (λ m. eqb (agent_number unit name) m) (agent_number unit) names ∙ any_same (λ other. eqb (agent_number unit name) (agent_number unit other)) (bytes_eq name) (λ other. same_number unit name other (and_parts (is_agent unit name) (list_all (is_agent unit) names) are).0) names)
+    (repeats_are unit names (and_parts (is_agent unit name) (list_all (is_agent unit) names) are).1)
+
+-- An entry clashes where its statement stands again.
+pub clashes_are : (unit : Whole) (said : List Statement) (st : Statement) → names_agents unit st ≡ true → clashes (script_said unit said) (numbered unit st) ≡ stands_again said st
+clashes_are unit said (Stalls agent action instr cycles) are =
+    let test = is_beside (record { agent = agent_number unit agent; action = action; instr = instr; cycles = cycles }) in
+    any_rising test stall_before (flat_map (stall_said unit) said) ∙ any_flat test (stall_said unit) said
+    ∙ any_same (λ st. list_any test (stall_said unit st)) (is_stall_at agent action instr) (stall_at_number unit agent action instr cycles are) said
+clashes_are unit said (Orders cycle agents) are =
+    let test = λ (o : Order). eqb cycle o.cycle in
+    ap₂ (λ a b. a || b)
+    (any_rising test order_before (flat_map (order_said unit) said) ∙ any_flat test (order_said unit) said ∙ any_same (λ st. list_any test (order_said unit st)) (is_order_at cycle) (order_at_cycle unit cycle) said)
+    (repeats_are unit agents are)

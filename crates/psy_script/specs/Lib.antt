@@ -1,0 +1,7 @@
+pub mod Entries
+pub mod Faults
+pub mod Inputs
+pub mod Lines
+pub mod Numbers
+pub mod Rising
+pub mod Script

@@ -1,0 +1,77 @@
+//! A stall or an order, with agents by their numbers.
+ghost use Rattle.std.specs.Prelude.{◌≡◌, map, IfOk};
+ghost use Rattle.psy_script.specs.Entries.{entry_in, place_in, repeats, said};
+ghost use Rattle.psy_script.specs.Lines.{words_of};
+ghost use Rattle.psy_script.specs.Numbers.{all_some};
+
+use crate::names::Names;
+use crate::statement::Statement;
+use crate::words::cut_word;
+use psy_base::{Items, Memory};
+use psy_budget::Stall;
+use psy_kernel::Order;
+use std::alloc::Global;
+
+/// A stall or an order of agents of the program.
+#[derive(Drop)]
+pub enum Entry {
+    Stall(Stall),
+    Order(Order),
+}
+
+/// What a line says of the agents whose names are these. None exactly where it names no agent.
+pub fn entry_of(
+    alloc: Global,
+    agents: &Names,
+    statement: &Statement<'_>,
+) -> Result<Option<Entry>, Memory>
+    ensures { IfOk result (λ found. found ≡ entry_in agents.now (said statement.now)) }
+{
+    match *statement {
+        Statement::Stall {
+            agent,
+            action,
+            instr,
+            cycles,
+        } => Ok(
+            agents.place(alloc, agent)?.map(|agent| {
+                Entry::Stall(Stall {
+                    agent,
+                    action,
+                    instr,
+                    cycles,
+                })
+            }),
+        ),
+        Statement::Order { cycle, names } => {
+            let agents = places(alloc, agents, names)?;
+            Ok(agents.map(|agents| Entry::Order(Order { cycle, agents })))
+        }
+    }
+}
+
+// The numbers of the agents that a line names.
+fn places(alloc: Global, agents: &Names, names: &[u8]) -> Result<Option<Items<u32>>, Memory>
+    ensures { IfOk result (λ found. found ≡ all_some (map (place_in agents.now) (words_of names.now))) }
+{
+    let mut places = Items::new(alloc);
+    let mut rest = names;
+    while let Some(cut) = cut_word(rest) {
+        let Some(place) = agents.place(alloc, cut.front)? else {
+            return Ok(None);
+        };
+        places.push(place)?;
+        rest = cut.rest;
+    }
+    Ok(Some(places))
+}
+
+/// A number stands there twice.
+pub fn repeats(numbers: &[u32]) -> bool
+    ensures { result ≡ repeats numbers.now }
+{
+    match numbers {
+        [] => false,
+        [first, rest @ ..] => rest.contains(first) || repeats(rest),
+    }
+}
