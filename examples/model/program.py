@@ -1,0 +1,326 @@
+"""Reads a lawful program, its inputs and its script. What the rules forbid isn't judged here."""
+import re
+from dataclasses import dataclass, field
+
+COMMENT = re.compile(r"/\*.*?\*/|//[^\n]*", re.S)
+TOKEN = re.compile(r"[A-Za-z_]\w*|\d+|<<|>>|<=|>=|==|!=|&&|\|\||[;{}()\[\],=+\-*/%<>&^|~!]")
+
+# binary operators, loosest first
+LEVELS = [["||"], ["&&"], ["|"], ["^"], ["&"], ["==", "!="], ["<", "<=", ">", ">="], ["<<", ">>"], ["+", "-"], ["*", "/", "%"]]
+
+
+@dataclass(frozen=True)
+class Clock:
+    first: int
+    period: int
+
+    def count(self, time):
+        """How many dates stand up to a time."""
+        return 0 if time < self.first else (time - self.first) // self.period + 1
+
+    def date(self, number):
+        return self.first + number * self.period
+
+    def after(self, time, k):
+        """The k-th date behind a time."""
+        return self.date(self.count(time) + k - 1)
+
+    def from_date(self, time, k):
+        """The k-th date from a time on, counted from 0."""
+        return self.date(self.count(time - 1) + k)
+
+    def has(self, time):
+        return self.from_date(time, 0) == time
+
+
+@dataclass
+class Variable:
+    owner: str  # None of an input
+    clock: Clock
+    first: int
+    depth: int
+
+
+@dataclass
+class Stream:
+    receiver: str
+    keep: int
+    clock: Clock
+
+
+@dataclass
+class Function:
+    parameters: list
+    locals: dict
+    body: list
+
+
+@dataclass
+class Point:
+    count: int
+    clock: Clock
+    budget: int
+
+
+@dataclass
+class Agent:
+    clock: Clock
+    variables: dict
+    points: list
+    body: list = field(default_factory=list)
+
+
+@dataclass
+class Program:
+    quantum: int = 0
+    clocks: dict = field(default_factory=dict)
+    variables: dict = field(default_factory=dict)
+    streams: dict = field(default_factory=dict)
+    functions: dict = field(default_factory=dict)
+    agents: dict = field(default_factory=dict)
+
+
+class Parser:
+    """Recursive descent. Statements and expressions are tuples: the kind, and its parts."""
+
+    def __init__(self, text):
+        self.tokens = TOKEN.findall(COMMENT.sub(" ", text))
+        self.at = 0
+        self.program = Program()
+        self.agent = None  # the one whose body is read
+        self.budget = 0
+
+    def peek(self):
+        return self.tokens[self.at] if self.at < len(self.tokens) else None
+
+    def next(self):
+        self.at += 1
+        return self.tokens[self.at - 1]
+
+    def expect(self, token):
+        found = self.next()
+        if found != token:
+            raise ValueError(f"token {self.at - 1}: {found} in place of {token}")
+
+    def accept(self, token):
+        if self.peek() == token:
+            self.at += 1
+            return True
+        return False
+
+    def number(self):
+        return int(self.next())
+
+    def first_value(self):
+        return -self.number() if self.accept("-") else self.number()
+
+    def behind(self, word, read):
+        self.expect(word)
+        return read()
+
+    def clock(self):
+        return self.program.clocks[self.next()]
+
+    def read(self):
+        self.expect("tick")
+        self.program.quantum = self.number()
+        self.program.clocks["tick"] = Clock(0, 1)
+        self.expect(";")
+        # Agents come last: their heads name clocks, which may stand below.
+        items = []
+        while self.peek():
+            items.append(self.item())
+        for item in sorted(items, key=lambda read: read[0]):
+            item[1]()
+        return self.program
+
+    def item(self):
+        """The item's turn, and what reads it; meanwhile it is passed over."""
+        start, kind, depth = self.at, self.next(), 0
+        while True:
+            token = self.next()
+            depth += (token == "{") - (token == "}")
+            if depth == 0 and token in (";", "}"):
+                break
+        turn = {"clock": 0, "temporal": 1, "input": 1, "stream": 1, "int": 1, "agent": 2}[kind]
+        return turn, lambda: self.read_item(start)
+
+    def read_item(self, start):
+        self.at = start
+        getattr(self, "read_" + self.next())()
+
+    def read_clock(self):
+        name = self.next()
+        self.expect("=")
+        factor = self.number()
+        self.expect("*")
+        parent = self.clock()
+        shift = self.number() if self.accept("+") else 0
+        self.program.clocks[name] = Clock(parent.first + shift * parent.period, factor * parent.period)
+
+    def read_temporal(self):
+        name = self.next()
+        owner = self.behind("of", self.next)
+        self.variable(name, owner)
+
+    def read_input(self):
+        self.variable(self.next(), None)
+
+    def variable(self, name, owner):
+        clock = self.behind("on", self.clock)
+        first = self.behind("=", self.first_value)
+        self.program.variables[name] = Variable(owner, clock, first, self.behind("depth", self.number))
+
+    def read_stream(self):
+        name = self.next()
+        receiver = self.behind("to", self.next)
+        keep = self.behind("keep", self.number)
+        self.program.streams[name] = Stream(receiver, keep, self.behind("on", self.clock))
+
+    def read_int(self):
+        name, parameters = self.next(), []
+        self.expect("(")
+        while not self.accept(")"):
+            self.accept(",")
+            self.expect("int")
+            parameters.append(self.next())
+        self.expect("{")
+        scalars = self.declarations()
+        self.program.functions[name] = Function(parameters, scalars, self.statements())
+
+    def read_agent(self):
+        name = self.next()
+        clock = self.behind("on", self.clock)
+        self.budget = self.behind("budget", self.number)
+        self.expect("{")
+        self.agent = Agent(clock, self.declarations(), [Point(0, clock, self.budget)])
+        self.expect("body")
+        self.agent.body = self.block()
+        self.program.agents[name] = self.agent
+
+    def declarations(self):
+        """Variables with their first values; an array has a list."""
+        declared = {}
+        while self.accept("int"):
+            name = self.next()
+            if self.accept("["):
+                declared[name] = [0] * self.number()
+                self.expect("]")
+            else:
+                declared[name] = self.behind("=", self.first_value)
+            self.expect(";")
+        return declared
+
+    def block(self):
+        self.expect("{")
+        return self.statements()
+
+    def statements(self):
+        read = []
+        while not self.accept("}"):
+            read.append(self.statement())
+        return read
+
+    def in_brackets(self):
+        self.expect("(")
+        read = self.expression()
+        self.expect(")")
+        return read
+
+    def statement(self):
+        word = self.next()
+        if word == "if":
+            test, branch = self.in_brackets(), self.block()
+            return ("if", test, branch, self.block() if self.accept("else") else None)
+        if word == "while":
+            test = self.in_brackets()
+            most = self.number() if self.accept("max") else None
+            return ("while", test, most, self.block())
+        read = self.simple(word)
+        self.expect(";")
+        return read
+
+    def simple(self, word):
+        if word == "send":
+            value = self.expression()
+            stream = self.behind("to", self.next)
+            delay = self.behind("after", self.number)
+            return ("send", value, stream, delay, self.behind("on", self.clock))
+        if word == "advance":
+            count = self.number()
+            clock = self.behind("on", self.clock)
+            budget = self.number() if self.accept("budget") else self.budget
+            self.agent.points.append(Point(count, clock, budget))
+            return ("advance", len(self.agent.points) - 1)
+        if word == "return":
+            return ("return", self.expression())
+        index = None
+        if self.accept("["):
+            index = self.expression()
+            self.expect("]")
+        return ("set", word, index, self.behind("=", self.expression))
+
+    def expression(self, level=0):
+        if level == len(LEVELS):
+            return self.unary()
+        read = self.expression(level + 1)
+        while self.peek() in LEVELS[level]:
+            read = ("binary", self.next(), read, self.expression(level + 1))
+        return read
+
+    def unary(self):
+        if self.peek() in ("-", "~", "!"):
+            return ("unary", self.next(), self.unary())
+        token = self.next()
+        if token == "(":
+            read = self.expression()
+            self.expect(")")
+            return read
+        if token.isdigit():
+            return ("number", int(token))
+        if token == "past":
+            self.expect("(")
+            name = self.next()
+            back = self.behind(",", self.number)
+            self.expect(")")
+            return ("past", name, back)
+        if token in ("ready", "take"):
+            self.expect("(")
+            name = self.next()
+            self.expect(")")
+            return (token, name)
+        if self.accept("["):
+            index = self.expression()
+            self.expect("]")
+            return ("cell", token, index)
+        if self.accept("("):
+            return ("call", token, self.arguments())
+        return ("name", token)
+
+    def arguments(self):
+        read = []
+        while not self.accept(")"):
+            self.accept(",")
+            read.append(self.expression())
+        return read
+
+
+def spoken(path):
+    """The words of each line that says something."""
+    with open(path) as file:
+        return [line.split() for line in file if line.split() and not line.startswith("#")]
+
+
+def read_inputs(path):
+    return {words[0]: [int(word) for word in words[1:]] for words in spoken(path)}
+
+
+def read_script(path):
+    """The stalls, by agent, action and instruction; and the orders, rising by cycle."""
+    stalls, orders = {}, []
+    for words in spoken(path):
+        if words[0] == "stall":
+            stalls[words[1], int(words[2]), int(words[3])] = int(words[4])
+        else:
+            orders.append((int(words[1]), words[2:]))
+    return stalls, sorted(orders)
