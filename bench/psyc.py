@@ -1,4 +1,4 @@
-"""The program that the scripts of this folder time."""
+"""The programs that the scripts of this folder time."""
 import os
 import subprocess
 import sys
@@ -6,20 +6,29 @@ import time
 
 HERE = os.path.dirname(os.path.abspath(__file__))
 TOP = os.path.dirname(HERE)
-CRATE = os.path.join(TOP, "crates", "psyc")
-PROVED = os.path.join(CRATE, "out", "psyc")
+
+
+def made(name, words):
+    """The path of a program: the script's first word, or else the proved program, made where needed."""
+    if len(sys.argv) > 1:
+        return os.path.abspath(sys.argv[1])
+    crate = os.path.join(TOP, "crates", name)
+    path = os.path.join(crate, "out", name)
+    # This proves and links it, or only runs it where nothing changed; what it says goes to standard error.
+    done = subprocess.run(["rt", "run", "--"] + words, cwd=crate, stdout=subprocess.DEVNULL)
+    if done.returncode != 0 or not os.path.exists(path):
+        sys.exit(f"{name} isn't proved here: see `rt check` in crates/{name}")
+    return path
 
 
 def program():
-    """The program's path: the script's first word, or else the proved program, made where needed."""
-    if len(sys.argv) > 1:
-        return os.path.abspath(sys.argv[1])
-    counter = os.path.join(TOP, "examples", "counter.psy")
-    # This proves and links it, or only runs it where nothing changed; what it says goes to standard error.
-    made = subprocess.run(["rt", "run", "--", "run", counter, "20"], cwd=CRATE, stdout=subprocess.DEVNULL)
-    if made.returncode != 0 or not os.path.exists(PROVED):
-        sys.exit("psyc isn't proved here: see `rt check` in crates/psyc")
-    return PROVED
+    """The path of psyc."""
+    return made("psyc", ["run", os.path.join(TOP, "examples", "counter.psy"), "20"])
+
+
+def companion():
+    """The path of psyview."""
+    return made("psyview", ["timeline", os.path.join(TOP, "examples", "counter.expected")])
 
 
 def measured(words, status, times=5):

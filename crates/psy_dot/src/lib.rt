@@ -1,0 +1,9 @@
+//! Draws action graphs as a text in the language DOT of Graphviz.
+#![tactic(auto)]
+
+mod piece;
+#[cfg(test)]
+mod tests;
+mod text;
+
+pub use text::dot;

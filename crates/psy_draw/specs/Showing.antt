@@ -1,0 +1,48 @@
+-- What a picture shows of a summary.
+use Rattle.std.specs.Prelude.{◌≡◌, ℕ, List, [], ◌∷◌, ◌++◌, All, Some, codes, decimal}
+use Rattle.std.specs.List.{flat_map}
+use Rattle.psy_log.specs.declared.note.Note.{Note}
+use Rattle.psy_log.specs.declared.note.Note.TheVariants as note
+use Rattle.psy_log.specs.Forms.{number_or_dash}
+use Rattle.psy_draw.specs.declared.row.Row.{Row}
+use Rattle.psy_draw.specs.Spelling.{escaped}
+
+-- These bytes stand in a text.
+abbrev pub HasPart : List ℕ → List ℕ → Type 0
+HasPart text part = (before after : List ℕ) × (text ≡ before ++ (part ++ after))
+
+-- A text goes on behind another.
+abbrev pub Grows : List ℕ → List ℕ → Type 0
+Grows old new = (more : List ℕ) × (new ≡ old ++ more)
+
+-- a row at a height, with the right ends of its numbers
+abbrev pub row_text : ℕ → ℕ → ℕ → Row → List ℕ
+row_text y first second row =
+    codes "<text y=\"" ++ (decimal y ++ (codes "\">" ++ (flat_map escaped row.name.now
+    ++ (codes "<tspan class=\"number\" x=\"" ++ (decimal first ++ (codes "\">" ++ (decimal row.first
+    ++ (codes "</tspan><tspan class=\"number\" x=\"" ++ (decimal second ++ (codes "\">" ++ (number_or_dash row.second ++ codes "</tspan></text>\n")))))))))))
+
+-- The row stands somewhere in a text.
+abbrev pub ShowsRow : List ℕ → Row → Type 0
+ShowsRow text row = (y first second : ℕ) × HasPart text (row_text y first second row)
+
+-- the row of an agent in the summary: its actions, and the least slack among them
+abbrev pub agent_rows : Note → List Row
+agent_rows (note.AgentEnd agent count slack) = record { name = agent; first = count; second = slack } ∷ []
+agent_rows _ = []
+
+-- the row of a variable: its places, and how far a look went back
+abbrev pub variable_rows : Note → List Row
+variable_rows (note.VariableEnd variable size reach) = record { name = variable; first = size; second = reach } ∷ []
+variable_rows _ = []
+
+-- the row of a stream: its places, and the most messages that it held
+abbrev pub stream_rows : Note → List Row
+stream_rows (note.StreamEnd stream size held) = record { name = stream; first = size; second = Some held } ∷ []
+stream_rows _ = []
+
+-- A text shows each row of the summary among these notes.
+pub record ShowsSummary (text : List ℕ) (notes : List Note) : Type 0 where
+  pub agents : All (ShowsRow text) (flat_map agent_rows notes)
+  pub variables : All (ShowsRow text) (flat_map variable_rows notes)
+  pub streams : All (ShowsRow text) (flat_map stream_rows notes)

@@ -1,0 +1,46 @@
+ghost use Rattle.std.specs.Prelude.{◌≡◌};
+
+use psy_base::Memory;
+use std::alloc::{AllocError, AllocFailed};
+use thiserror::Error;
+
+/// Why no picture is drawn.
+#[derive(Clone, Copy, Debug, PartialEq, Eq, Error)]
+pub enum DrawFault {
+    /// The name in the note of this number, counted from 1, is in no line of the summary.
+    #[error("the name in line {number} isn't in the summary")]
+    Unlisted { number: usize },
+    /// Want of memory.
+    #[error("out of memory")]
+    Memory,
+}
+
+impl From<Memory> for DrawFault {
+    ghost use Rattle.psy_draw.specs.declared.fault.DrawFault.TheVariants.{Memory};
+
+    ghost from_gives = { λ _ fault. fault ≡ Memory };
+
+    fn from(_memory: Memory) -> DrawFault {
+        DrawFault::Memory
+    }
+}
+
+impl From<AllocError> for DrawFault {
+    ghost use Rattle.psy_draw.specs.declared.fault.DrawFault.TheVariants.{Memory};
+
+    ghost from_gives = { λ _ fault. fault ≡ Memory };
+
+    fn from(_error: AllocError) -> DrawFault {
+        DrawFault::Memory
+    }
+}
+
+impl<T: Drop> From<AllocFailed<T>> for DrawFault {
+    ghost use Rattle.psy_draw.specs.declared.fault.DrawFault.TheVariants.{Memory};
+
+    ghost from_gives = { λ _ fault. fault ≡ Memory };
+
+    fn from(_failed: AllocFailed<T>) -> DrawFault {
+        DrawFault::Memory
+    }
+}

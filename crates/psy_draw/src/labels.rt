@@ -1,0 +1,129 @@
+//! The values beside a line.
+
+ghost use Rattle.std.specs.Prelude.{◌≡◌, ◌≤◌, ◌+◌, ◌++◌, ◌&&◌, ◌↔◌, decimal, length, min, IsTrue, OnOk};
+ghost use Rattle.std.specs.Fmt.{signed_decimal};
+ghost use Rattle.psy_draw.specs.Columns.{none_greater, none_less, up_to};
+ghost use Rattle.psy_draw.specs.Labels.{label_text};
+
+use crate::column::Column;
+use crate::layout::{LABEL_SIZE, RIGHT_MARGIN, width_of};
+use crate::page::Page;
+use crate::piece::Piece;
+use crate::scale::PLOT_WIDTH;
+use itoa::Buffer;
+use psy_base::Memory;
+
+/// What stays free between two labels.
+pub const LABEL_GAP: u32 = 4;
+
+/// A label's place: from its left end up to its right end.
+#[derive(Clone, Copy, Debug)]
+pub struct Extent {
+    pub from: u32,
+    pub to: u32,
+}
+
+impl Extent {
+    /// The place of a label of so many letters.
+    pub fn new(from: u32, letters: usize) -> Extent {
+        Extent {
+            from,
+            to: from.saturating_add(width_of(letters, LABEL_SIZE)),
+        }
+    }
+
+    /// The place of a label of so many letters in whose middle x stands, where that isn't before the plot.
+    pub fn around(x: u32, letters: usize) -> Extent {
+        Extent::new(x.saturating_sub(width_of(letters, LABEL_SIZE) / 2), letters)
+    }
+
+    /// There is room: the labels before it end before it, and it ends within the picture.
+    pub fn fits(&self, free: u32) -> bool
+        ensures { IsTrue result ↔ (free ≤ self.now.from) × (self.now.to ≤ 1000) }
+    {
+        free <= self.from && self.to <= PLOT_WIDTH + RIGHT_MARGIN
+    }
+
+    /// From here on the next label has room.
+    pub fn free(&self) -> u32
+        ensures { result ≡ min (self.now.to + LABEL_GAP) u32.MAX }
+    {
+        self.to.saturating_add(LABEL_GAP)
+    }
+}
+
+/// How many letters a value has.
+pub fn letters_of(value: i32) -> usize
+    ensures { result ≡ length (signed_decimal value) }
+{
+    Buffer::new().format(value).len()
+}
+
+/// How many letters a number has.
+pub fn digits_of(number: u64) -> usize
+    ensures { result ≡ length (decimal number) }
+{
+    Buffer::new().format(number).len()
+}
+
+/// On which side of the line a label stands.
+#[derive(Clone, Copy, Debug, PartialEq, Eq)]
+pub enum Side {
+    Over,
+    Under,
+}
+
+/// The side of a value's label: over the line where the columns up to the label's end have no greater value, else under it
+/// where they have no smaller one; none where the line would go through the label.
+pub fn side_of(value: i32, columns: &[Column], to: u32) -> Option<Side>
+    ensures over { result ≡ Some Side.Over → IsTrue (none_greater value (up_to to columns.now)) }
+    ensures under { result ≡ Some Side.Under → IsTrue (none_less value (up_to to columns.now)) }
+{
+    if has_none_greater(value, columns, to) {
+        Some(Side::Over)
+    } else if has_none_less(value, columns, to) {
+        Some(Side::Under)
+    } else {
+        None
+    }
+}
+
+/// All columns up to a place have this value alone.
+pub fn holds(value: i32, columns: &[Column], to: u32) -> bool
+    ensures { result ≡ (none_greater value (up_to to columns.now) && none_less value (up_to to columns.now)) }
+{
+    has_none_greater(value, columns, to) && has_none_less(value, columns, to)
+}
+
+fn has_none_greater(value: i32, columns: &[Column], to: u32) -> bool
+    ensures { result ≡ none_greater value (up_to to columns.now) }
+{
+    columns
+        .iter()
+        .take_while(|column| column.x <= to)
+        .all(|column| column.greatest <= value)
+}
+
+fn has_none_less(value: i32, columns: &[Column], to: u32) -> bool
+    ensures { result ≡ none_less value (up_to to columns.now) }
+{
+    columns
+        .iter()
+        .take_while(|column| column.x <= to)
+        .all(|column| value <= column.least)
+}
+
+/// Adds the label of a value.
+pub fn put_label(page: &mut Page, x: u32, y: u32, value: i32) -> Result<(), Memory>
+    ensures { OnOk result (page.new ≡ page.old ++ label_text x y value) }
+{
+    page.put(&[
+        Piece::Raw(b"<text x=\""),
+        Piece::Number(x),
+        Piece::Raw(b"\" y=\""),
+        Piece::Number(y),
+        Piece::Raw(b"\">"),
+        Piece::Value(value),
+        Piece::Raw(b"</text>\n"),
+    ])
+}

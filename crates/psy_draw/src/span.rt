@@ -1,0 +1,35 @@
+//! The least and the greatest value of a lane.
+
+ghost use Rattle.std.specs.Prelude.{◌≡◌};
+ghost use Rattle.psy_draw.specs.Places.{depth_of};
+
+use crate::labels::letters_of;
+
+/// The least and the greatest value of a lane.
+#[derive(Clone, Copy, Debug)]
+pub struct Span {
+    pub least: i32,
+    pub greatest: i32,
+}
+
+impl Span {
+    /// The letters of the least or the greatest value, whichever has more; 0 where they are one.
+    pub fn letters(&self) -> usize {
+        if self.least == self.greatest {
+            return 0;
+        }
+        letters_of(self.least).max(letters_of(self.greatest))
+    }
+
+    /// How far below the greatest value's place a value stands, of so many pixels: in the middle where there is but one value.
+    pub fn depth(&self, value: i32, height: u32) -> u32
+        ensures { result ≡ depth_of self.now.least self.now.greatest value height }
+    {
+        let whole = u64::from(self.greatest.abs_diff(self.least));
+        if whole == 0 {
+            return height / 2;
+        }
+        let part = u64::from(self.greatest.abs_diff(value));
+        (part * u64::from(height) / whole).min(u64::from(height)) as u32
+    }
+}

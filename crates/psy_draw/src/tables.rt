@@ -1,0 +1,88 @@
+//! The tables of the summary.
+
+ghost use Rattle.std.specs.Prelude.{◌≡◌, ◌++◌, IfOk, OnOk};
+ghost use Rattle.std.specs.List.{flat_map};
+ghost use Rattle.psy_draw.specs.Showing.{agent_rows, stream_rows, variable_rows};
+
+use crate::row::Row;
+use crate::table::Table;
+use psy_base::Memory;
+use psy_log::Note;
+use std::alloc::Global;
+
+/// The tables of agents, variables and streams.
+#[derive(Drop)]
+pub struct Tables<'a> {
+    pub agents: Table<'a>,
+    pub variables: Table<'a>,
+    pub streams: Table<'a>,
+}
+
+impl<'a> Tables<'a> {
+    /// The tables of the summary among these notes.
+    pub fn of(alloc: Global, notes: &[Note<'a>]) -> Result<Tables<'a>, Memory>
+        ensures agents { IfOk result (λ tables. tables.agents.rows.items ≡ flat_map agent_rows notes.now) }
+        ensures variables { IfOk result (λ tables. tables.variables.rows.items ≡ flat_map variable_rows notes.now) }
+        ensures streams { IfOk result (λ tables. tables.streams.rows.items ≡ flat_map stream_rows notes.now) }
+    {
+        let mut tables = Tables {
+            agents: Table::new(alloc, [b"agent", b"actions", b"least slack"]),
+            variables: Table::new(alloc, [b"variable", b"size", b"reach"]),
+            streams: Table::new(alloc, [b"stream", b"size", b"most held"]),
+        };
+        for note in notes {
+            tables.add(*note)?;
+        }
+        Ok(tables)
+    }
+
+    fn add(&mut self, note: Note<'a>) -> Result<(), Memory>
+        ensures agents { OnOk result (self.new.agents.rows.items ≡ self.old.agents.rows.items ++ agent_rows note.entry) }
+        ensures variables { OnOk result (self.new.variables.rows.items ≡ self.old.variables.rows.items ++ variable_rows note.entry) }
+        ensures streams { OnOk result (self.new.streams.rows.items ≡ self.old.streams.rows.items ++ stream_rows note.entry) }
+    {
+        match note {
+            Note::AgentEnd {
+                agent,
+                count,
+                slack,
+            } => self.agents.add(Row {
+                name: agent,
+                first: count,
+                second: slack,
+            }),
+            Note::VariableEnd {
+                variable,
+                size,
+                reach,
+            } => self.variables.add(Row {
+                name: variable,
+                first: u64::from(size),
+                second: wide(reach),
+            }),
+            Note::StreamEnd { stream, size, held } => self.streams.add(Row {
+                name: stream,
+                first: u64::from(size),
+                second: Some(u64::from(held)),
+            }),
+            _ => Ok(()),
+        }
+    }
+
+    /// The height of the highest.
+    pub fn height(&self) -> u32 {
+        self.agents
+            .height()
+            .max(self.variables.height())
+            .max(self.streams.height())
+    }
+}
+
+fn wide(number: Option<u32>) -> Option<u64>
+    ensures { result ≡ number }
+{
+    match number {
+        Some(number) => Some(u64::from(number)),
+        None => None,
+    }
+}

@@ -1,0 +1,9 @@
+use Rattle.std.specs.Char.{is_ascii_digit}
+use Rattle.psy_front.proofs.Runs.{Each-longest, Cuts-longest}
+use Rattle.psy_front.proofs.run.cut_digits.Goals as goal
+
+pub returns-clause-each : goal.returns-clause-each
+returns-clause-each c = Each-longest is_ascii_digit c.args.text.now c.split_at.result.0.now c.digits_len.result c.digits_len.ensures.value c.split_at.ensures.front
+
+pub returns-clause-cuts : goal.returns-clause-cuts
+returns-clause-cuts c = Cuts-longest is_ascii_digit c.args.text.now c.split_at.result.0.now c.split_at.result.1.now c.digits_len.result c.digits_len.ensures.value c.split_at.ensures.front c.split_at.ensures.back

@@ -1,0 +1,6 @@
+pub mod Lines
+pub mod Fields
+pub mod Ends
+pub mod Nexts
+pub mod Total
+pub mod Walks

@@ -1,0 +1,4 @@
+pub mod Notes
+pub mod Reading
+pub mod Stands
+pub mod Texts

@@ -1,0 +1,7 @@
+pub mod Answer
+pub mod Asked
+pub mod Maps
+pub mod Outcome
+pub mod Reading
+pub mod Refusals
+pub mod Views

@@ -1,0 +1,18 @@
+//! `psyview`: explains what psyc refused, and draws runs and graphs that psyc wrote.
+#![tactic(auto)]
+
+mod asked;
+mod file_texts;
+mod refusals;
+#[cfg(test)]
+mod tests;
+mod texts;
+mod texts_map;
+mod top;
+mod view;
+
+pub use asked::{Asked, TEXT_BYTES};
+pub use file_texts::FileTexts;
+pub use texts::Texts;
+pub use texts_map::TextsMap;
+pub use top::psyview;

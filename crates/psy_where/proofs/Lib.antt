@@ -1,0 +1,4 @@
+mod LinesBack
+mod LinesWalked
+mod RefusalLines
+mod TokenStarts

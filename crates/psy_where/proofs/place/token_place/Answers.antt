@@ -1,0 +1,34 @@
+use Rattle.std.proofs.Common.{◌≡◌, ℕ, List, length, Result, Err, refl, sym, ap, subst, ◌∙◌}
+use Rattle.std.proofs.lemmas.Result.{err_from_is_err_and}
+use Rattle.psy_tree.specs.declared.token.Token.{Token}
+use Rattle.psy_token.specs.declared.fault.LexFault.{LexFault}
+use Rattle.psy_token.specs.declared.fault.LexFault.TheVariants as lexing
+use Rattle.psy_where.specs.declared.fault.WhereFault.{WhereFault}
+use Rattle.psy_where.specs.declared.fault.WhereFault.TheVariants as faults
+use Rattle.psy_where.specs.Lexing.{fault_of}
+use Rattle.psy_where.specs.Places.{IsStart}
+use Rattle.psy_where.proofs.TokenStarts.{IsStart-within, IsStart-end}
+use Rattle.psy_where.proofs.place.token_place.Goals as goal
+
+-- Want of memory is no want of a place.
+not_beyond : (answer : Result ℕ WhereFault) (made : WhereFault) (fault : LexFault) → answer ≡ Err made → made ≡ fault_of fault → fault ≡ lexing.Memory → answer ≡ Err faults.Beyond → ⊥
+not_beyond answer made fault is from memory beyond =
+    let same : made ≡ faults.Memory = from ∙ ap fault_of memory in
+    cc
+
+pub returns-in_err-tokens-clause-beyond : goal.returns-in_err-tokens-clause-beyond
+returns-in_err-tokens-clause-beyond c beyond place (tokens, are, start) =
+    let p = err_from_is_err_and c.from_residual.result c.from_residual.ensures.1 in
+    not_beyond c.from_residual.result p.0 c.in_err-tokens.field-0.0 p.1 p.2 (c.in_err-tokens.ensures.all_tokens tokens are) beyond
+
+pub returns-in-Some-clause-within : goal.returns-in-Some-clause-within
+returns-in-Some-clause-within c =
+    let text = c.args.text.now in
+    let start = subst (λ (ts : List Token). IsStart ts (length text) c.args.number c.in-Some.place) c.as_slice.ensures c.in-Some.ensures.some in
+    IsStart-within text c.in_ok-tokens.tokens c.args.number c.in-Some.place c.in_ok-tokens.ensures.tokens start
+
+pub returns-clause-beyond : goal.returns-clause-beyond
+returns-clause-beyond c beyond place (tokens, are, start) =
+    let same = c.as_slice.ensures ∙ c.in_ok-tokens.ensures.all_tokens tokens are in
+    let start_here = subst (λ (ts : List Token). IsStart ts (length c.args.text.now) c.args.number place) (sym same) start in
+    IsStart-end c.as_slice.result.now (length c.args.text.now) c.args.number place start_here (c.in-None.ensures.none refl)

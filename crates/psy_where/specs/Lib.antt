@@ -1,0 +1,4 @@
+pub mod Explained
+pub mod Lexing
+pub mod Places
+pub mod Refusals

@@ -1,0 +1,74 @@
+-- The refusals that tell a place in a text, as psyc writes them, and what each means.
+use Rattle.std.specs.Prelude.{◌≡◌, ◌==◌, ℕ, ◌^◌, ◌<◌, if◌then◌else◌, List, ◌++◌, codes, length, Option, None, Some}
+use Rattle.psy_log.specs.Forms.{refused_line}
+use Rattle.psy_where.specs.declared.recall.What.{What}
+use Rattle.psy_where.specs.declared.recall.What.TheVariants.{Lex, Parse, Rule, Inputs, Script}
+use Rattle.psy_where.specs.declared.recall.Refusal.{Refusal}
+use Rattle.psy_where.specs.Places.{IsTokenPlace, IsLinePlace}
+
+-- the word for what is refused
+abbrev pub word_of : What → List ℕ
+word_of Lex = codes "lex"
+word_of Parse = codes "parse"
+word_of Rule = codes "rule"
+word_of Inputs = codes "inputs"
+word_of Script = codes "script"
+
+-- what a refusal of each number means
+abbrev pub sentence_of : What → ℕ → Option (List ℕ)
+sentence_of Lex number =
+    if number == 1 then Some (codes "no token begins with this byte, or it may not follow the number before it")
+    else if number == 2 then Some (codes "this word has more than 32 bytes")
+    else if number == 3 then Some (codes "this number is above 2147483647")
+    else if number == 4 then Some (codes "this comment has no end")
+    else None
+sentence_of Parse number =
+    if number == 1 then Some (codes "this is no program: something is missing, as a `;` or a bracket, or stands where it can't, as a reserved word in place of a name")
+    else if number == 2 then Some (codes "64 brackets are open here, or 256 operators stand since the last `;`, `{` or `}`")
+    else None
+sentence_of Rule number =
+    if number == 1 then Some (codes "this name is declared already")
+    else if number == 2 then Some (codes "nothing of this name is declared, or only further below")
+    else if number == 3 then Some (codes "this may not stand here: the name is of another kind, as an input outside `past`, the arguments are another number, or the statement belongs elsewhere")
+    else if number == 4 then Some (codes "this variable is another agent's: only `past` looks at it")
+    else if number == 5 then Some (codes "this agent doesn't receive that stream")
+    else if number == 6 then Some (codes "`past` reaches back beyond the depth of the variable")
+    else if number == 7 then Some (codes "this loop has no `max` and no `advance`, so it might never end")
+    else if number == 8 then Some (codes "this loop has both `max` and an `advance`, or no `max` and a way round without an `advance`")
+    else if number == 9 then Some (codes "a path through this body meets no `advance`")
+    else if number == 10 then Some (codes "this function isn't declared above the one that calls it")
+    else if number == 11 then Some (codes "the shift of this clock isn't below its factor, or its period is above 10000 ticks")
+    else if number == 12 then Some (codes "this number is out of its range")
+    else None
+sentence_of Inputs number =
+    if number == 1 then Some (codes "this line isn't the name of an input and its values")
+    else if number == 2 then Some (codes "the program has no input of this name")
+    else if number == 3 then Some (codes "this input has its values from an earlier line")
+    else if number == 4 then Some (codes "a value isn't one of 32 bits")
+    else None
+sentence_of Script number =
+    if number == 1 then Some (codes "this line is no stall and no order")
+    else if number == 2 then Some (codes "the program has no agent of this name")
+    else if number == 3 then Some (codes "an earlier line says this already, or an agent is named twice")
+    else if number == 4 then Some (codes "a number is out of its range")
+    else None
+
+-- a place is told, but for a text that is no program
+abbrev pub TellsPlace : What → ℕ → Option ℕ → Type 0
+TellsPlace what number (Some at) = at < 2 ^ 32
+TellsPlace Parse number None = number ≡ 1
+TellsPlace what number None = ⊥
+
+-- the line is this refusal, and it is one that psyc writes
+pub record Says (line : List ℕ) (refusal : Refusal) (sentence : List ℕ) : Type 0 where
+  pub written : line ++ codes "\n" ≡ refused_line (word_of refusal.what) refusal.number refusal.at
+  pub means : sentence_of refusal.what refusal.number ≡ Some sentence
+  pub placed : TellsPlace refusal.what refusal.number refusal.at
+
+-- The place in the text of which a refusal of this kind tells the number: a byte, a token, or a line.
+abbrev pub IsPlaceOf : What → List ℕ → ℕ → ℕ → Type 0
+IsPlaceOf Lex text number place = (place ≡ number) × (number < length text)
+IsPlaceOf Parse text number place = IsTokenPlace text number place
+IsPlaceOf Rule text number place = IsTokenPlace text number place
+IsPlaceOf Inputs text number place = IsLinePlace text number place
+IsPlaceOf Script text number place = IsLinePlace text number place

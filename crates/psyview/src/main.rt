@@ -1,0 +1,32 @@
+//! `psyview`: the top call over the files of the system and standard output.
+#![tactic(auto)]
+
+use psy_door::StdSink;
+use psy_view::{FileTexts, psyview};
+use std::process::ExitCode;
+use std::rt::Env;
+use std::{env, io};
+
+// The words after the program's name.
+fn words(rt: &(impl Env + AllocGlobal)) -> io::Result<Vec<String>> {
+    let mut words = Vec::new(rt.alloc());
+    for word in env::args(rt)?.skip(1) {
+        if words.push(word).is_err() {
+            return Err(io::Error::from(io::ErrorKind::OutOfMemory));
+        }
+    }
+    Ok(words)
+}
+
+fn main(rt: HostRuntime) -> ExitCode {
+    let words = match words(&rt) {
+        Ok(words) => words,
+        Err(error) if error.kind() == io::ErrorKind::OutOfMemory => return ExitCode::from(8),
+        // Words that can't be read, as those that aren't text, are no words.
+        Err(_) => Vec::new(rt.alloc()),
+    };
+    let mut texts = FileTexts::new(&rt);
+    let mut out = StdSink::new(rt.stdout());
+    let status = psyview(rt.alloc(), words.as_slice(), &mut texts, &mut out);
+    ExitCode::from(status)
+}
