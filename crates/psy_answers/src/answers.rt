@@ -1,3 +1,4 @@
+//! What the top call answers: programs with the lines that they write, failing devices, limits of a file.
 use psy_base::Text;
 use psy_base::limits::FILE_BYTES;
 use psy_door::{CleanShelf, CleanSink, ShelfMap, Sink, SinkVec};

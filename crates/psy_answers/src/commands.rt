@@ -1,3 +1,4 @@
+//! What `check` and `graph` answer.
 use crate::answers::{Devices, SOUND, compare};
 use std::test::Fail;
 

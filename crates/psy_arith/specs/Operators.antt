@@ -1,6 +1,7 @@
 -- The values of the operators, in numbers, on signed numbers of any width (ISO C 6.5; sums and products
 -- wrap around).
-use Rattle.std.specs.Prelude.{◌≡◌, ℕ, zero, ◌*◌, ◌%◌, ◌^◌, Bool, true, false, not, ◌&&◌, ◌||◌, if◌then◌else◌, Option, Some, None, ℤ, pos, neg_ℤ, ◌+ℤ◌, ◌-ℤ◌, ◌*ℤ◌, int_lt, int_le, int_rem, FitsSigned}
+use Rattle.std.specs.Prelude.{◌≡◌, ℕ, zero, ◌*◌, ◌%◌, ◌^◌, Bool, true, false, not, ◌&&◌, ◌||◌, if◌then◌else◌, Option, Some, None, ℤ, pos, neg_ℤ, ◌+ℤ◌}
+use Rattle.std.specs.Prelude.{◌-ℤ◌, ◌*ℤ◌, int_lt, int_le, int_rem, FitsSigned}
 use Rattle.std.specs.Int.{Width, cast_unsigned, int_wrap, int_wrapping_div, int_shl, int_shr, int_bit_and, int_bit_or, int_bit_xor, int_bit_not}
 use mir.Val.{bits}
 use Rattle.psy_arith.specs.declared.operators.Op1.{Op1}

@@ -1,3 +1,4 @@
+//! The operators of expressions, and their values on 32 bits.
 ghost use Rattle.std.specs.Prelude.{◌≡◌, Some, None, MatchResult};
 ghost use Rattle.std.specs.Int.{w32};
 ghost use Rattle.psy_arith.specs.Operators.{value1, value2};

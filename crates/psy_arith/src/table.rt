@@ -1,3 +1,4 @@
+//! A table whose rows are found by their byte.
 ghost use Rattle.std.specs.Prelude.{◌≡◌, ◌≤◌, true, false, MatchOption};
 ghost use Rattle.psy_arith.specs.Tables.{bytes_rise, row_of};
 

@@ -1,3 +1,5 @@
+//! An edge of an agent's action graph.
+
 /// An edge of an agent's action graph: an action of the node `from` that the node `to` follows. Lengths and dues are in ticks.
 #[derive(Clone, Copy, Debug, PartialEq, Eq)]
 pub struct Edge {

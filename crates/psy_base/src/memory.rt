@@ -1,3 +1,4 @@
+//! Want of memory, as an error.
 use std::alloc::{AllocError, AllocFailed};
 use thiserror::Error;
 

@@ -1,3 +1,5 @@
+//! A message of a stream.
+
 /// A message of a stream. Messages are ordered by their first four numbers.
 #[derive(Clone, Copy, Debug, PartialEq, Eq)]
 pub struct Message {

@@ -1,3 +1,4 @@
+//! How many places each buffer of a program has.
 use crate::Items;
 
 /// How many places each buffer has: the ring of each variable, the queue of each stream, the outbox of each agent.

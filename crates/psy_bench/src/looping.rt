@@ -1,3 +1,4 @@
+//! The code that the benchmark runs: a loop of arithmetic.
 ghost use Rattle.std.specs.Prelude.{◌≡◌, ◌≢◌, IfOk};
 ghost use Rattle.psy_arith.specs.declared.operators.Op2.TheVariants.{AndAnd, OrOr};
 ghost use Rattle.psy_code.specs.declared.instr.Instr.TheVariants as instr;

@@ -1,3 +1,4 @@
+//! A view that never changes.
 ghost use Rattle.std.specs.Prelude.{◌≡◌, refl};
 
 use psy_code::{Look, Sent};

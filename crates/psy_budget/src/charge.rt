@@ -1,3 +1,4 @@
+//! What an agent's actions are charged: a cycle for each instruction, and the stalls of a script.
 ghost use Rattle.std.specs.Prelude.{◌≡◌, ◌+◌, ◌==◌};
 ghost use Rattle.psy_budget.specs.Charges.{StallsRise, stalled, tick_of, after_tick, after_start};
 ghost use Rattle.psy_budget.specs.Standing.{AreSplit};

@@ -7,7 +7,9 @@ ghost use Rattle.psy_budget.specs.Charges.{Charged, Pays, action_of, after_start
 /// The cycles of an action that has begun, counted from 0: below the budget each pays the instruction whose
 /// cycle it is, and goes to a stall where it is no instruction's; from the budget on there is none.
 pub fn units()
-    ensures paid { (c : Charged) (budget cycle instr : ℕ) → cycle < budget → Pays (ticked (after_start c budget) cycle) instr ↔ (cycle ≡ cycle_of c.stalls (action_of (after_start c budget)) instr) }
-    ensures stalled { (c : Charged) (budget cycle : ℕ) → cycle < budget → (tick_of (ticked (after_start c budget) cycle) ≡ tick.Stalled) ↔ ((instr : ℕ) → cycle ≢ cycle_of c.stalls (action_of (after_start c budget)) instr) }
+    ensures paid { (c : Charged) (budget cycle instr : ℕ) → cycle < budget
+        → Pays (ticked (after_start c budget) cycle) instr ↔ (cycle ≡ cycle_of c.stalls (action_of (after_start c budget)) instr) }
+    ensures stalled { (c : Charged) (budget cycle : ℕ) → cycle < budget
+        → (tick_of (ticked (after_start c budget) cycle) ≡ tick.Stalled) ↔ ((instr : ℕ) → cycle ≢ cycle_of c.stalls (action_of (after_start c budget)) instr) }
     ensures spent { (c : Charged) (budget cycle : ℕ) → (tick_of (ticked (after_start c budget) cycle) ≡ tick.Spent) ↔ (budget ≤ cycle) }
 {}

@@ -1,3 +1,4 @@
+//! Stalls and budgets, cycle by cycle.
 use super::*;
 use psy_base::Items;
 use std::test::Fail;

@@ -1,3 +1,4 @@
+-- How many dates of a clock stand up to a time, and the date of each number.
 use Rattle.std.proofs.Common.{◌≡◌, ℕ, ◌+◌, ◌-◌, ◌*◌, ◌/◌, ◌<◌, ◌≤◌, ◌↔◌, Bool, true, false, cond, map, min, ltb, leb, refl, sym, ap, add-one, zero, suc, ◌∙◌, subst, inl, inr, arith}
 use Rattle.std.specs.List.{count_by, range_with_len}
 use Rattle.std.proofs.lemmas.List.Sums.{sum_by-cons, count_by-le-length}

@@ -1,3 +1,4 @@
+//! Clocks: an unending row of dates, each a period behind the one before it.
 ghost use Rattle.std.specs.Prelude.{◌≡◌, ℕ, ◌+◌, ◌-◌, ◌*◌, ◌^◌, ◌<◌, ◌≤◌, ◌↔◌, IfOk};
 ghost use Rattle.std.specs.Result.{IsErrOf};
 ghost use Rattle.psy_clock.specs.Dates.{IsClock, IsDate, IsAfter, IsFrom, date, count, count_below, after_date, from_date, derived};

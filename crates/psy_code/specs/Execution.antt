@@ -1,5 +1,6 @@
 -- What code does: the state of an agent's machine after each instruction.
-use Rattle.std.specs.Prelude.{ℕ, zero, suc, ◌+◌, ◌%◌, ◌^◌, Bool, not, ◌&&◌, nat_lt, nat_le, ◌==◌, if◌then◌else◌, List, [], ◌∷◌, ◌++◌, map, reverse, take, drop, replicate, length, Option, Some, None, slice_get, slice_index_or, slice_set, ℤ, pos, negsuc}
+use Rattle.std.specs.Prelude.{ℕ, zero, suc, ◌+◌, ◌%◌, ◌^◌, Bool, not, ◌&&◌, nat_lt, nat_le, ◌==◌, if◌then◌else◌, List, [], ◌∷◌, ◌++◌, map, reverse}
+use Rattle.std.specs.Prelude.{take, drop, replicate, length, Option, Some, None, slice_get, slice_index_or, slice_set, ℤ, pos, negsuc}
 use Rattle.std.specs.Int.{w32}
 use Rattle.psy_arith.specs.declared.operators.Op1.{Op1}
 use Rattle.psy_arith.specs.declared.operators.Op2.{Op2}
@@ -158,7 +159,8 @@ store_cell base cells m = with_two m.operands (λ index v rest. or_trap trap.Ind
 
 -- The value on top into the working copy of a variable
 abbrev pub store_copy : ℕ → Machine → Next
-store_copy variable m = with_top m.operands (λ v rest. need (copy_of variable m.copies) (λ old. onward rest (record m { copies = with_copy variable v m.copies })))
+store_copy variable m = with_top m.operands (λ v rest. need (copy_of variable m.copies)
+    (λ old. onward rest (record m { copies = with_copy variable v m.copies })))
 
 -- The first of a stream's messages
 abbrev pub take_first : List ℤ → Machine → Next

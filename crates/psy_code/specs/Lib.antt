@@ -1,3 +1,4 @@
+-- The definitions of this crate, by subject.
 pub mod Execution
 pub mod Lasting
 pub mod Rows

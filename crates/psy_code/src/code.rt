@@ -1,3 +1,4 @@
+//! The code of a program, and what an agent's machine is made from.
 use crate::instr::Instr;
 use psy_base::Items;
 

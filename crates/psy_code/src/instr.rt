@@ -1,3 +1,4 @@
+//! The instructions of the machine.
 ghost use Rattle.std.specs.Prelude.{◌≡◌, ◌≢◌, ◌⊎◌, MatchOption};
 ghost use Rattle.psy_arith.specs.declared.operators.Op2.TheVariants.{AndAnd, OrOr};
 ghost use Rattle.psy_code.specs.Rows.{byte_of, byte_of_operator};

@@ -20,12 +20,14 @@ pub fn rows()
 /// An instruction that goes on pops and pushes as many operands as its row says, but for calls and for
 /// tests with a jump.
 pub fn heights()
-    ensures { (code : Code) (agent : AgentCode) (view : View) (i : Instr) (m n : Machine) (r : Row) → is_plain i ≡ true → row_of (byte_of i) rows ≡ Some r → does code agent view i m ≡ Went n → length n.operands + r.pops ≡ length m.operands + r.pushes }
+    ensures { (code : Code) (agent : AgentCode) (view : View) (i : Instr) (m n : Machine) (r : Row) → is_plain i ≡ true
+        → row_of (byte_of i) rows ≡ Some r → does code agent view i m ≡ Went n → length n.operands + r.pops ≡ length m.operands + r.pushes }
 {}
 
 /// What a run promises where it ends or traps: it lasted as many instructions as were counted and no fewer, at each of
 /// which it was running, not stuck, and asked only what its view served. A machine that ended stands at the point.
 pub fn lasting()
     ensures lasted { (code : Code) (agent : AgentCode) (s t : RunState) (n : ℕ) → IsOver (run_code code agent s n) t → Lasted code agent s n t }
-    ensures ended { (code : Code) (agent : AgentCode) (s t : RunState) (n point : ℕ) → run_code code agent s n ≡ RanTo point t → StandsAt agent point s.machine t.machine }
+    ensures ended { (code : Code) (agent : AgentCode) (s t : RunState) (n point : ℕ) → run_code code agent s n ≡ RanTo point t
+        → StandsAt agent point s.machine t.machine }
 {}

@@ -1,3 +1,4 @@
+//! What an action sees, and what it sends.
 ghost use Rattle.std.specs.Prelude.{◌≡◌, Some};
 ghost use Rattle.psy_code.specs.Views.{Window, Permits, Past, Ready, Take, Send, answered, past_of, count_in, next_in};
 

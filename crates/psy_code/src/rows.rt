@@ -1,3 +1,4 @@
+//! The table of the instructions: how many operands each pops and pushes.
 ghost use Rattle.std.specs.Prelude.{◌≡◌};
 ghost use Rattle.psy_code.specs.Rows.{rows};
 

@@ -1,3 +1,4 @@
+//! Bytes and rows of instructions.
 use crate::{Binary, Instr, instructions};
 use psy_arith::{Op1, Op2, Row};
 

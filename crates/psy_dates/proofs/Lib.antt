@@ -1,3 +1,4 @@
+-- The lemmas of this crate, by subject.
 pub mod Committed
 pub mod Dates
 pub mod Endings

@@ -1,3 +1,4 @@
+-- The definitions of this crate, by subject.
 pub mod BoxStanding
 pub mod Messages
 pub mod Moves

@@ -1,5 +1,6 @@
 -- What a date does to the queues of streams: what was taken and what has expired goes, and messages enter.
-use Rattle.std.specs.Prelude.{◌≡◌, ℕ, ◌+◌, ◌≤◌, ◌==◌, Bool, true, false, nat_le, nat_lt, if◌then◌else◌, List, [], drop, filter, length, get_or, Some, None, slice_get}
+use Rattle.std.specs.Prelude.{◌≡◌, ℕ, ◌+◌, ◌≤◌, ◌==◌, Bool, true, false, nat_le, nat_lt, if◌then◌else◌, List, [], drop, filter, length, get_or, Some}
+use Rattle.std.specs.Prelude.{None, slice_get}
 use Rattle.std.specs.List.{flat_map, range_with_len}
 use Rattle.psy_base.specs.declared.message.Message.{Message}
 use Rattle.psy_code.specs.declared.look.Sent.{Sent}
@@ -64,4 +65,5 @@ HaveRoom more queues = (stream : ℕ) (queue : Queued) → slice_get queues stre
 
 -- In the queue of each stream these messages have entered.
 abbrev pub HaveEntered : (ℕ → List Message) → List Queued → List Queued → Type 0
-HaveEntered more before after = (stream : ℕ) (queue : Queued) → slice_get before stream ≡ Some queue → slice_get after stream ≡ Some (with_entered (more stream) queue)
+HaveEntered more before after = (stream : ℕ) (queue : Queued) → slice_get before stream ≡ Some queue
+    → slice_get after stream ≡ Some (with_entered (more stream) queue)

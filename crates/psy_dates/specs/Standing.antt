@@ -109,17 +109,21 @@ pub record SharedStands (s : System) (turns : List (Option Turn)) (dates : ℕ) 
   pub seated : length shared.seats.items ≡ length s.unit.agents
   pub seats : (agent : ℕ) (seat : Seat) → slice_get shared.seats.items agent ≡ Some seat → SeatStands (dates - 1) turns (history s dates agent) seat
   pub valued : length shared.committed.items ≡ length s.unit.variables
-  pub committed : (variable : ℕ) (value : ℤ) → slice_get shared.committed.items variable ≡ Some value → value ≡ committed_at s (history s dates) variable (dates - 1)
+  pub committed : (variable : ℕ) (value : ℤ) → slice_get shared.committed.items variable ≡ Some value
+      → value ≡ committed_at s (history s dates) variable (dates - 1)
   pub kept : length shared.ended.items ≡ length s.unit.variables
-  pub ended : (variable owner : ℕ) (value : ℤ) → slice_get shared.ended.items variable ≡ Some value → (variable_of s variable).owner ≡ Some owner → KeepsCopy (dates - 1) turns variable (history s dates owner) value
+  pub ended : (variable owner : ℕ) (value : ℤ) → slice_get shared.ended.items variable ≡ Some value → (variable_of s variable).owner ≡ Some owner
+      → KeepsCopy (dates - 1) turns variable (history s dates owner) value
   pub ringed : length shared.rings.items ≡ length s.unit.variables
   pub rings : (variable : ℕ) (ring : List ℤ) → slice_get shared.rings.items variable ≡ Some ring → RingStands s dates variable ring
   pub queued : length shared.queues.items ≡ length s.unit.streams
   pub queues : (stream : ℕ) (queue : Queued) → slice_get shared.queues.items stream ≡ Some queue → QueueStands s dates stream queue
   pub boxed : length shared.outboxes.items ≡ length s.unit.agents
-  pub outboxes : (agent : ℕ) (outbox : Outboxed) → slice_get shared.outboxes.items agent ≡ Some outbox → OutboxStands s (dates - 1) turns agent (history s dates agent) outbox
+  pub outboxes : (agent : ℕ) (outbox : Outboxed) → slice_get shared.outboxes.items agent ≡ Some outbox
+      → OutboxStands s (dates - 1) turns agent (history s dates agent) outbox
   pub taking : length shared.taken.items ≡ length s.unit.streams
-  pub taken : (stream n : ℕ) → slice_get shared.taken.items stream ≡ Some n → KeepsTakes (dates - 1) turns stream (history s dates (stream_of s stream).receiver) n
+  pub taken : (stream n : ℕ) → slice_get shared.taken.items stream ≡ Some n
+      → KeepsTakes (dates - 1) turns stream (history s dates (stream_of s stream).receiver) n
 
 -- No seat whose deadline is this date or was before is acting.
 abbrev pub NoneActs : ℕ → List Seat → Type 0

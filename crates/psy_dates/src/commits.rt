@@ -47,7 +47,8 @@ pub fn commit_all(
     requires kept { length ended.now ≡ length variables.now }
     requires valued { length committed.old ≡ length variables.now }
     ensures { (variable : ℕ) → variable < length variables.now
-        → get_or committed.new variable (pos 0) ≡ (if commits_at date seats.now (owner_of variables.now variable) then get_or ended.now variable (pos 0) else get_or committed.old variable (pos 0)) }
+        → get_or committed.new variable (pos 0) ≡ (if commits_at date seats.now (owner_of variables.now variable) then get_or ended.now variable (pos 0)
+        else get_or committed.old variable (pos 0)) }
 {
     'variables: for variable in 0..variables.len() {
         if commits(date, seats, variables[variable].owner) {

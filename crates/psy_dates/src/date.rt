@@ -1,3 +1,4 @@
+//! What a date does: actions that end commit, messages go and enter, variables publish, actions start.
 ghost use Rattle.std.specs.Prelude.{◌≡◌, ℕ, ◌+◌, ◌*◌, ◌≤◌, List, [], Some, slice_get};
 ghost use Rattle.psy_budget.specs.declared.charge.Stall.{Stall};
 ghost use Rattle.psy_history.specs.Compiled.{AreInputs};
@@ -30,18 +31,23 @@ pub fn at_date(shared: &mut Shared, plan: &Plan, date: u64)
     requires due { NoneActs date shared.old.seats.items }
     // it stands for the history of the dates before, with all their cycles done, for some script
     requires stands { (stalls : ℕ → List Stall) × (order : ℕ → List ℕ)
-        × SharedStands (system_of plan.now shared.old.inputs.lists stalls) (turns_of (system_of plan.now shared.old.inputs.lists stalls) order (date * plan.now.unit.quantum)) date shared.old }
+        × SharedStands (system_of plan.now shared.old.inputs.lists stalls)
+        (turns_of (system_of plan.now shared.old.inputs.lists stalls) order (date * plan.now.unit.quantum)) date shared.old }
     // for each script for which it does, it stands for the history up to this date
     ensures stands { (stalls : ℕ → List Stall) (order : ℕ → List ℕ)
-        → SharedStands (system_of plan.now shared.old.inputs.lists stalls) (turns_of (system_of plan.now shared.old.inputs.lists stalls) order (date * plan.now.unit.quantum)) date shared.old
-        → SharedStands (system_of plan.now shared.old.inputs.lists stalls) (turns_of (system_of plan.now shared.old.inputs.lists stalls) order (date * plan.now.unit.quantum)) (date + 1) shared.new }
+        → SharedStands (system_of plan.now shared.old.inputs.lists stalls)
+        (turns_of (system_of plan.now shared.old.inputs.lists stalls) order (date * plan.now.unit.quantum)) date shared.old
+        → SharedStands (system_of plan.now shared.old.inputs.lists stalls)
+        (turns_of (system_of plan.now shared.old.inputs.lists stalls) order (date * plan.now.unit.quantum)) (date + 1) shared.new }
     // an action that starts there has sent and taken nothing, and what one that goes on has sent and taken stays
     ensures begun { (agent : ℕ) → Begins date shared.new.seats.items agent
         → ((outbox : Outboxed) → slice_get shared.new.outboxes.items agent ≡ Some outbox → outbox.sends ≡ [])
-        × ((stream : ℕ) (decl : StreamDecl) → slice_get plan.now.unit.streams stream ≡ Some decl → decl.receiver ≡ agent → slice_get shared.new.taken.items stream ≡ Some 0) }
+        × ((stream : ℕ) (decl : StreamDecl) → slice_get plan.now.unit.streams stream ≡ Some decl → decl.receiver ≡ agent
+        → slice_get shared.new.taken.items stream ≡ Some 0) }
     ensures going { (agent : ℕ) → GoesOn date shared.new.seats.items agent
         → (slice_get shared.new.outboxes.items agent ≡ slice_get shared.old.outboxes.items agent)
-        × ((stream : ℕ) (decl : StreamDecl) → slice_get plan.now.unit.streams stream ≡ Some decl → decl.receiver ≡ agent → slice_get shared.new.taken.items stream ≡ slice_get shared.old.taken.items stream) }
+        × ((stream : ℕ) (decl : StreamDecl) → slice_get plan.now.unit.streams stream ≡ Some decl → decl.receiver ≡ agent
+        → slice_get shared.new.taken.items stream ≡ slice_get shared.old.taken.items stream) }
     ensures inputs { shared.new.inputs ≡ shared.old.inputs }
 {
     given();

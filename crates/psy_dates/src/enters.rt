@@ -63,7 +63,8 @@ fn enter_where(plan: &Plan, ends: bool, agent: u32, end: u64, sends: &[Sent], qu
     requires few { length sends.now < 2 ^ 32 }
     requires queued { length queues.old ≡ length plan.now.unit.streams }
     requires room { HaveRoom (λ stream. if ends then messages_from (system_of plan.now [] (λ agent. [])) stream agent end 0 sends.now else []) queues.old }
-    ensures { HaveEntered (λ stream. if ends then messages_from (system_of plan.now [] (λ agent. [])) stream agent end 0 sends.now else []) queues.old queues.new }
+    ensures { HaveEntered (λ stream. if ends then messages_from (system_of plan.now [] (λ agent. [])) stream agent end 0 sends.now
+        else []) queues.old queues.new }
 {
     if ends {
         enter_sends(plan, agent, end, sends, queues);

@@ -76,7 +76,8 @@ pub fn move_all(plan: &Plan, date: u64, seats: &mut [Seat])
     requires nexts { length plan.now.nexts ≡ length plan.now.unit.agents }
     requires early { date ≤ 2 ^ 40 }
     requires numbered { All IsNumbered seats.old }
-    ensures { (agent : ℕ) (seat : Place) → slice_get seats.old agent ≡ Some seat → slice_get seats.new agent ≡ Some (seat_then (timing_in plan.now agent) date seat) }
+    ensures { (agent : ℕ) (seat : Place) → slice_get seats.old agent ≡ Some seat
+        → slice_get seats.new agent ≡ Some (seat_then (timing_in plan.now agent) date seat) }
 {
     'agents: for agent in 0..seats.len() {
         seats[agent] = moved(plan, agent, date, seats[agent]);

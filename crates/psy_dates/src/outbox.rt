@@ -1,3 +1,4 @@
+//! What an agent's action sends, until it ends.
 ghost use Rattle.std.specs.Prelude.{◌≡◌, ◌^◌, ◌<◌, [], ◌∷◌, ◌++◌, IfOk, length};
 
 use psy_base::Memory;

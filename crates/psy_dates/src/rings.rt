@@ -72,7 +72,8 @@ pub fn publish_all(plan: &Plan, inputs: &Inputs, committed: &[i32], date: u64, r
     requires listed { length inputs.now.lists ≡ length plan.now.unit.variables }
     requires valued { length committed.now ≡ length plan.now.unit.variables }
     requires early { date ≤ 2 ^ 40 }
-    ensures { (variable : ℕ) (ring : List ℤ) → slice_get rings.old variable ≡ Some ring → slice_get rings.new variable ≡ Some (ring_then (system_of plan.now inputs.now.lists (λ agent. [])) committed.now date variable ring) }
+    ensures { (variable : ℕ) (ring : List ℤ) → slice_get rings.old variable ≡ Some ring
+        → slice_get rings.new variable ≡ Some (ring_then (system_of plan.now inputs.now.lists (λ agent. [])) committed.now date variable ring) }
 {
     'rings: for variable in 0..rings.len() {
         publish(

@@ -1,3 +1,4 @@
+//! Where an agent is: in the action that it started last.
 use psy_arith::Trap;
 
 /// What an agent is at.

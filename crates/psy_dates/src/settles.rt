@@ -62,7 +62,8 @@ pub fn settle_all(plan: &Plan, date: u64, seats: &[Seat], taken: &[u32], queues:
     requires held { (stream : ℕ) (queue : Queued) → slice_get queues.old stream ≡ Some queue
         → ends_at date (slice_get seats.now (stream_at plan.now.unit stream).receiver) ≡ true → get_or taken.now stream 0 ≤ length queue.messages }
     ensures { (stream : ℕ) (queue : Queued) → slice_get queues.old stream ≡ Some queue
-        → slice_get queues.new stream ≡ Some (settled_then date (first_date (timing_in plan.now (stream_at plan.now.unit stream).receiver)) (get_or seats.now (stream_at plan.now.unit stream).receiver nowhere) (get_or taken.now stream 0) queue) }
+        → slice_get queues.new stream ≡ Some (settled_then date (first_date (timing_in plan.now (stream_at plan.now.unit stream).receiver))
+        (get_or seats.now (stream_at plan.now.unit stream).receiver nowhere) (get_or taken.now stream 0) queue) }
 {
     'streams: for stream in 0..queues.len() {
         let receiver = plan.unit.streams.as_slice()[stream].receiver as usize;

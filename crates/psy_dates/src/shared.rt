@@ -1,3 +1,4 @@
+//! What all agents share: seats, committed values, rings, queues and outboxes.
 ghost use Rattle.std.specs.Prelude.{◌≡◌, ℕ, ◌<◌, ◌≤◌, List, [], IfOk, Some, get_or, length, map, pos, replicate, slice_get};
 ghost use Rattle.std.specs.List.{All};
 ghost use Rattle.psy_base.specs.declared.limits.TheConstants.{QUEUE, RING};

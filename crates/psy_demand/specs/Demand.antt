@@ -17,4 +17,5 @@ DemandFits lists quantum top = (length : ℕ) → 1 ≤ length → length ≤ to
 abbrev pub IsVerdict : List (List ℕ) → ℕ → ℕ → Verdict → Type 0
 IsVerdict lists quantum top Yes = DemandFits lists quantum top
 IsVerdict lists quantum top (No length passed) =
-    (1 ≤ length) × (length ≤ top) × (passed ≡ demand lists length) × (quantum * length < passed) × ((less : ℕ) → 1 ≤ less → less < length → demand lists less ≤ quantum * less)
+    (1 ≤ length) × (length ≤ top) × (passed ≡ demand lists length) × (quantum * length < passed)
+    × ((less : ℕ) → 1 ≤ less → less < length → demand lists less ≤ quantum * less)

@@ -1,3 +1,4 @@
+//! The processor demand criterion over lists of weights (Baruah, Rosier, Howell 1990).
 ghost use Rattle.std.specs.Prelude.{◌≡◌, ◌+◌, ◌*◌, ◌^◌, ◌<◌, ◌≤◌, All, length, slice_index};
 ghost use Rattle.psy_base.specs.declared.limits.TheConstants.{AGENTS};
 ghost use Rattle.psy_demand.specs.Demand.{IsVerdict, demand};

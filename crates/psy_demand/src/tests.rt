@@ -1,3 +1,4 @@
+//! Demands worked out by hand.
 use super::*;
 use psy_base::Items;
 use std::test::Fail;

@@ -1,3 +1,4 @@
+-- The definitions of this crate, by subject.
 pub mod Faults
 pub mod Files
 pub mod Growth

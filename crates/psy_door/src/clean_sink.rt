@@ -1,3 +1,4 @@
+//! A sink in memory whose calls never fail.
 ghost use Rattle.std.specs.Prelude.{◌≡◌, true, [], length, IfOk};
 ghost use Rattle.psy_door.specs.States.{written, told};
 

@@ -1,3 +1,4 @@
+//! Which calls of a form in memory fail.
 ghost use Rattle.std.specs.Prelude.{◌↔◌, IsTrue, Contains};
 
 /// Whether a call's number is listed.

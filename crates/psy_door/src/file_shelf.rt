@@ -1,3 +1,4 @@
+//! The files of the system.
 ghost use Rattle.std.specs.Prelude.{◌≡◌, ◌≢◌, ◌+◌, ◌<◌, ◌≤◌, None, [], ⊤, vec_len, IfOk, OnOk};
 ghost use Rattle.psy_base.specs.declared.limits.TheConstants.{FILE_BYTES};
 ghost use Rattle.psy_door.specs.Faults.{Rose};

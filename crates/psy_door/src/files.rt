@@ -1,3 +1,4 @@
+//! Files in memory, by their names.
 ghost use Rattle.std.specs.Prelude.{◌≡◌, ◌≢◌, ◌<◌, ◌≤◌, map, find, bytes_eq, length, vec_len, IfOk};
 ghost use Rattle.std.specs.Option.{option_copied};
 ghost use Rattle.psy_base.specs.declared.limits.TheConstants.{FILE_BYTES};

@@ -1,3 +1,4 @@
+//! Files in memory, some of whose calls fail.
 ghost use Rattle.std.specs.Prelude.{◌≡◌, ◌≢◌, ◌+◌, ◌<◌, ◌≤◌, Some, [], map, length, vec_len, IfOk, IsErr};
 ghost use Rattle.psy_base.specs.declared.limits.TheConstants.{FILE_BYTES};
 ghost use Rattle.psy_door.specs.Files.{files_of, bytes_under};

@@ -1,3 +1,4 @@
+//! Where text is written to.
 ghost use Rattle.std.specs.Prelude.{ℕ, ◌<◌, ◌≤◌, List, [], Option, length, take, IfOk, OnErr};
 ghost use Rattle.psy_door.specs.Faults.{Rose};
 ghost use Rattle.psy_door.specs.Growth.{Grew};

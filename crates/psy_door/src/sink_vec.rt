@@ -1,3 +1,4 @@
+//! A sink in memory with a fixed room, some of whose calls fail.
 ghost use Rattle.std.specs.Prelude.{◌≡◌, ◌+◌, ◌<◌, ◌≤◌, Some, [], ◌++◌, length, take, IfOk, OnErr, IsErr, ◌↔◌};
 ghost use Rattle.psy_door.specs.States.{SinkState, WriteFails, fitting, counted_up};
 

@@ -1,3 +1,4 @@
+//! Standard output, or another writer of the system.
 ghost use Rattle.std.specs.Prelude.{◌≡◌, ◌<◌, ◌≤◌, None, length, IfOk, IfSome, OnOk, OnErr};
 ghost use Rattle.psy_door.specs.States.{counted_up};
 

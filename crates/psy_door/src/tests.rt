@@ -1,3 +1,4 @@
+//! The forms in memory, and what they do when calls fail.
 use crate::{CleanShelf, CleanSink, Failed, FetchFault, Shelf, ShelfMap, Sink, SinkVec};
 use psy_base::Text;
 use std::alloc::{AllocError, Global};

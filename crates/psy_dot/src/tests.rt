@@ -1,3 +1,4 @@
+//! Graphs drawn for small notes.
 use crate::dot;
 use psy_log::Note;
 use std::alloc::Global;

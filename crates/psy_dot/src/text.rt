@@ -7,7 +7,8 @@ use crate::piece::{add_labelled, add_number};
 use psy_log::Note;
 use std::alloc::{AllocError, Global};
 
-/// The graphs that the notes tell, in the language DOT: a cluster for each agent, a box for each node, an arrow for each edge. The only error is want of memory.
+/// The graphs that the notes tell, in the language DOT: a cluster for each agent, a box for each node, an arrow for each edge.
+/// The only error is want of memory.
 pub fn dot(alloc: Global, notes: &[Note]) -> Result<Vec<u8>, AllocError>
     ensures { IfOk result (λ text. text.items ≡ dot_of notes.now) }
 {
@@ -30,7 +31,8 @@ fn add_note<'a>(
     agent: Option<&'a [u8]>,
     note: Note<'a>,
 ) -> Result<Option<&'a [u8]>, AllocError>
-    ensures { IfOk result (λ next. (notes : List Note) → out.new.items ++ clusters (option_map (λ a. a.now) next) notes ≡ out.old.items ++ clusters (option_map (λ a. a.now) agent.entry) (note.entry ∷ notes)) }
+    ensures { IfOk result (λ next. (notes : List Note) → out.new.items ++ clusters (option_map (λ a. a.now) next) notes
+        ≡ out.old.items ++ clusters (option_map (λ a. a.now) agent.entry) (note.entry ∷ notes)) }
 {
     match note {
         Note::AgentGraph { agent: next, .. } => {
@@ -86,7 +88,8 @@ fn add_node(
     point: u32,
     phase: u64,
 ) -> Result<(), AllocError>
-    ensures { OnOk result (out.new.items ≡ out.old.items ++ codes "    " ++ node_name (option_map (λ a. a.now) agent.entry) number ++ codes " [label=\"" ++ decimal number ++ codes ": point " ++ decimal point ++ codes " at " ++ decimal phase) }
+    ensures { OnOk result (out.new.items ≡ out.old.items ++ codes "    " ++ node_name (option_map (λ a. a.now) agent.entry) number ++ codes " [label=\""
+        ++ decimal number ++ codes ": point " ++ decimal point ++ codes " at " ++ decimal phase) }
 {
     out.extend_from_slice(b"    ")?;
     add_name(out, agent, number)?;
@@ -97,7 +100,8 @@ fn add_node(
 
 // The rest of a node.
 fn add_costs(out: &mut Vec<u8>, worst: u64, budget: u32, due: u64) -> Result<(), AllocError>
-    ensures { OnOk result (out.new.items ≡ out.old.items ++ codes "\\nworst " ++ decimal worst ++ codes " of " ++ decimal budget ++ codes "\\ndue in " ++ decimal due ++ codes "\"];\n") }
+    ensures { OnOk result (out.new.items ≡ out.old.items ++ codes "\\nworst " ++ decimal worst ++ codes " of " ++ decimal budget ++ codes "\\ndue in "
+        ++ decimal due ++ codes "\"];\n") }
 {
     add_labelled(out, b"\\nworst ", worst)?;
     add_labelled(out, b" of ", u64::from(budget))?;

@@ -1,3 +1,4 @@
+-- The definitions of this crate, by subject.
 pub mod Columns
 pub mod Labels
 pub mod Listing

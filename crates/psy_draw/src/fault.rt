@@ -1,3 +1,4 @@
+//! Why no picture is drawn.
 ghost use Rattle.std.specs.Prelude.{◌≡◌};
 
 use psy_base::Memory;

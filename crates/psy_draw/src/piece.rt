@@ -1,3 +1,5 @@
+//! A piece of a picture's text.
+
 /// A piece of a picture's text.
 #[derive(Clone, Copy, Debug)]
 pub enum Piece<'a> {

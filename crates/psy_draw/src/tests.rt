@@ -1,3 +1,4 @@
+//! Pictures of small runs.
 use crate::{DrawFault, timeline};
 use psy_arith::Trap;
 use psy_log::Note;

@@ -1,3 +1,4 @@
+-- The definitions of this crate, by subject.
 pub mod Agents
 pub mod Behind
 pub mod Counted

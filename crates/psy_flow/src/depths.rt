@@ -1,3 +1,4 @@
+//! How much an agent's machine holds at most, and how such depths add up.
 ghost use Rattle.std.specs.Prelude.{◌≡◌};
 ghost use Rattle.psy_meaning.specs.Depths as depths;
 ghost use Rattle.psy_flow.specs.Counted.{held, capped_depth};

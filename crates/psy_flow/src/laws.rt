@@ -19,31 +19,38 @@ pub fn known()
 
 /// The points that may follow each point of an agent of a text can be listed, and none of them is the head of its body.
 pub fn nexts()
-    ensures some { (unit : Whole) (number : ℕ) (agent : AgentDecl) → IsAgentOf unit number agent → (nexts : List (List ℕ)) × AreNexts unit.functions agent nexts }
-    ensures within { (unit : Whole) (number : ℕ) (agent : AgentDecl) → IsAgentOf unit number agent → (point to : ℕ) → IsNext unit.functions agent point to → (1 ≤ to) × (to < length agent.points) }
+    ensures some { (unit : Whole) (number : ℕ) (agent : AgentDecl) → IsAgentOf unit number agent → (nexts : List (List ℕ))
+        × AreNexts unit.functions agent nexts }
+    ensures within { (unit : Whole) (number : ℕ) (agent : AgentDecl) → IsAgentOf unit number agent → (point to : ℕ)
+        → IsNext unit.functions agent point to → (1 ≤ to) × (to < length agent.points) }
 {
     known();
 }
 
 /// From each point of an agent of a text an action has a greatest cost, cut at 1,000,000,000, and just one.
 pub fn costs()
-    ensures some { (unit : Whole) (number : ℕ) (agent : AgentDecl) (point : ℕ) → IsAgentOf unit number agent → point < length agent.points → (cost : ℕ) × IsCut (HasCost unit.functions agent point) COST cost }
-    ensures one { (unit : Whole) (number : ℕ) (agent : AgentDecl) (point cost other : ℕ) → IsAgentOf unit number agent → IsCut (HasCost unit.functions agent point) COST cost → IsCut (HasCost unit.functions agent point) COST other → cost ≡ other }
+    ensures some { (unit : Whole) (number : ℕ) (agent : AgentDecl) (point : ℕ) → IsAgentOf unit number agent → point < length agent.points → (cost : ℕ)
+        × IsCut (HasCost unit.functions agent point) COST cost }
+    ensures one { (unit : Whole) (number : ℕ) (agent : AgentDecl) (point cost other : ℕ) → IsAgentOf unit number agent
+        → IsCut (HasCost unit.functions agent point) COST cost → IsCut (HasCost unit.functions agent point) COST other → cost ≡ other }
 {
     known();
 }
 
 /// Whether an action from a point of an agent of a text may look at a variable can be told.
 pub fn looking()
-    ensures { (unit : Whole) (number : ℕ) (agent : AgentDecl) (point variable : ℕ) → IsAgentOf unit number agent → MayLook unit.functions agent point variable ⊎ (MayLook unit.functions agent point variable → ⊥) }
+    ensures { (unit : Whole) (number : ℕ) (agent : AgentDecl) (point variable : ℕ) → IsAgentOf unit number agent
+        → MayLook unit.functions agent point variable ⊎ (MayLook unit.functions agent point variable → ⊥) }
 {
     known();
 }
 
 /// Between two points of an agent of a text there is a greatest number of sends to a stream, cut at 65,537, and just one.
 pub fn sends()
-    ensures some { (unit : Whole) (number : ℕ) (agent : AgentDecl) (from to stream : ℕ) → IsAgentOf unit number agent → (n : ℕ) × IsMostSends unit.functions agent from to stream n }
-    ensures one { (unit : Whole) (number : ℕ) (agent : AgentDecl) (from to stream n m : ℕ) → IsAgentOf unit number agent → IsMostSends unit.functions agent from to stream n → IsMostSends unit.functions agent from to stream m → n ≡ m }
+    ensures some { (unit : Whole) (number : ℕ) (agent : AgentDecl) (from to stream : ℕ) → IsAgentOf unit number agent → (n : ℕ)
+        × IsMostSends unit.functions agent from to stream n }
+    ensures one { (unit : Whole) (number : ℕ) (agent : AgentDecl) (from to stream n m : ℕ) → IsAgentOf unit number agent
+        → IsMostSends unit.functions agent from to stream n → IsMostSends unit.functions agent from to stream m → n ≡ m }
 {
     known();
 }

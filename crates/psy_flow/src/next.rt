@@ -46,7 +46,8 @@ pub fn next_points(alloc: Global, agent: &AgentDecl, point: u32) -> Result<Items
     ensures rising { IfOk result Rises }
     ensures some { IfOk result (λ points. 0 < length points) }
     ensures within { IfOk result (λ points. All (λ p. (1 ≤ p) × (p < length agent.now.points)) points) }
-    ensures next { IfOk result (λ points. (unit : Whole) (number : ℕ) → IsAgentOf unit number agent.now → (to : ℕ) → (Contains points to ↔ IsNext unit.functions agent.now point to)) }
+    ensures next { IfOk result (λ points. (unit : Whole) (number : ℕ) → IsAgentOf unit number agent.now → (to : ℕ)
+        → (Contains points to ↔ IsNext unit.functions agent.now point to)) }
 {
     known();
     let mut marks = no_marks(alloc, agent.points.len())?;

@@ -1,3 +1,4 @@
+//! How deep the operands, cells and counters of an agent's machine grow.
 ghost use Rattle.std.specs.Prelude.{◌≡◌, ◌<◌, ◌≤◌, ◌+◌, ◌*◌, length, slice_get, Some};
 ghost use Rattle.psy_base.specs.declared.limits.TheConstants.{FUNCTIONS, NAMES};
 ghost use Rattle.psy_tree.specs.declared.unit.AgentDecl.{AgentDecl};

@@ -2,7 +2,8 @@
 
 ghost use Rattle.std.specs.Prelude.{◌≡◌, min, map, if◌then◌else◌};
 ghost use Rattle.psy_tree.specs.Paths.{total};
-ghost use Rattle.psy_flow.specs.Tops.{limit_of, called, capped_tops, expr_most, binary_most, turning as turns, reaching, nowhere, meets, stmt_tops, stmts_tops, tops_through};
+ghost use Rattle.psy_flow.specs.Tops.{limit_of, called, capped_tops, expr_most, binary_most, turning as turns, reaching, nowhere, meets, stmt_tops};
+ghost use Rattle.psy_flow.specs.Tops.{stmts_tops, tops_through};
 ghost use Rattle.psy_flow.specs.Tops as tops;
 
 use crate::gauge::Gauge;

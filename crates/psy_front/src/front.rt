@@ -35,7 +35,8 @@ fn is_name(word: &[u8]) -> bool
     }
 }
 
-/// The number at the front of a text, as its decimal digits, and what follows it. None exactly where none of 64 bits comes first, up to a byte that is no digit.
+/// The number at the front of a text, as its decimal digits, and what follows it. None exactly where none of 64 bits comes first,
+/// up to a byte that is no digit.
 pub fn number(text: &[u8]) -> Option<(u64, &[u8])>
     ensures some { IfSome result (λ r. Cuts is_ascii_digit text.now (decimal r.0) r.1.now) }
     ensures none { result ≡ None → (number : ℕ) (rest : List ℕ) → number < 2 ^ 64 → Cuts is_ascii_digit text.now (decimal number) rest → ⊥ }

@@ -1,3 +1,4 @@
+//! Fronts of small texts.
 use crate::{name, number, short, value};
 
 const NAME: &[u8] = b"abcdefghijklmnopqrstuvwxyz_01234";

@@ -114,14 +114,16 @@ if_code layout test branch None counter p =
 if_code layout test branch (Some other) counter p =
     let first = p + expr_size test + 1 in
     let second = first + block_size branch + 1 in
-    expr_code layout test p ++ (instr.JumpZero second ∷ (block_code branch counter first ++ (instr.Jump (second + block_size other) ∷ block_code other (counter + block_loops branch) second)))
+    expr_code layout test p ++ (instr.JumpZero second ∷ (block_code branch counter first
+    ++ (instr.Jump (second + block_size other) ∷ block_code other (counter + block_loops branch) second)))
 
 -- The counter at 0; the test, counted where it holds, a jump behind the loop, the body, and a jump back to the test
 abbrev pub bounded_code : Layout → Expr → ℕ → List Part → Coded
 bounded_code layout test most body counter p =
     let again = p + 1 in
     let first = again + expr_size test + 2 in
-    instr.Zero counter ∷ (expr_code layout test again ++ (instr.Guard counter most ∷ (instr.JumpZero (first + block_size body + 1) ∷ (block_code body (counter + 1) first ++ instr.Jump again ∷ []))))
+    instr.Zero counter ∷ (expr_code layout test again ++ (instr.Guard counter most
+    ∷ (instr.JumpZero (first + block_size body + 1) ∷ (block_code body (counter + 1) first ++ instr.Jump again ∷ []))))
 
 -- The test, a jump behind the loop, the body, and a jump back to the test
 abbrev pub timed_code : Layout → Expr → List Part → Coded
@@ -173,7 +175,8 @@ placed_size placed = total (map (λ s. stmt_size s.0) placed)
 abbrev pub places_step : Stmt-F Placed → Places
 places_step (Stmt-F.Advance point) p = (p + 1) ∷ []
 places_step (Stmt-F.If test branch None) p = places_in branch (p + expr_size test + 1)
-places_step (Stmt-F.If test branch (Some other)) p = let first = p + expr_size test + 1 in places_in branch first ++ places_in other (first + placed_size branch + 1)
+places_step (Stmt-F.If test branch (Some other)) p = let first = p + expr_size test + 1 in places_in branch first
+    ++ places_in other (first + placed_size branch + 1)
 places_step (Stmt-F.Bounded test most body) p = places_in body (p + 1 + expr_size test + 2)
 places_step (Stmt-F.Timed test body) p = places_in body (p + expr_size test + 1)
 places_step _ p = []

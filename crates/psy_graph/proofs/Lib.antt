@@ -1,3 +1,4 @@
+-- The lemmas of this crate, by subject.
 pub mod Causes
 pub mod Cycles
 pub mod EdgesKept

@@ -44,7 +44,8 @@ pub record IsTimed (timing : Timing) : Type 0 where
 
 -- How the actions of an agent of a unit begin and end, by its number
 abbrev pub IsTimingOf : Whole → ℕ → Timing → Type 0
-IsTimingOf unit number timing = (agent : AgentDecl) × (nexts : List (List ℕ)) × (slice_get unit.agents number ≡ Some agent) × AreNexts unit.functions agent nexts × (timing ≡ timing_of unit agent nexts)
+IsTimingOf unit number timing = (agent : AgentDecl) × (nexts : List (List ℕ)) × (slice_get unit.agents number ≡ Some agent)
+    × AreNexts unit.functions agent nexts × (timing ≡ timing_of unit agent nexts)
 
 -- The agent of this number has this graph, which keeps the limits.
 abbrev pub HasGraph : Whole → ℕ → Graph → Type 0

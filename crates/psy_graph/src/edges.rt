@@ -123,7 +123,8 @@ pub fn draw(
     requires near { AreNear places.now }
     ensures graph { IfOk result (λ graph. graph ≡ drawn (timing_by times.now) places.now) }
     ensures few { IfOk result (λ graph. length graph.edges ≤ EDGES) }
-    ensures cause { IfErr result (λ fault. (fault ≡ no_memory) ⊎ ((fault ≡ many_edges agent) × (EDGES < length (first_edges (timing_by times.now) places.now (length places.now))))) }
+    ensures cause { IfErr result (λ fault. (fault ≡ no_memory)
+        ⊎ ((fault ≡ many_edges agent) × (EDGES < length (first_edges (timing_by times.now) places.now (length places.now))))) }
 {
     let mut graph = Graph {
         nodes: Items::new(alloc),

@@ -56,7 +56,8 @@ impl Found {
         requires rise { AllPairs Before self.old.places.items }
         ensures added { OnOk result (IsAdded place self.old.work.items self.old.places.items self.new.work.items self.new.places.items) }
         ensures few { length self.old.places.items ≤ NODES → OnOk result (length self.new.places.items ≤ NODES) }
-        ensures full { IfErr result (λ fault. (fault ≡ no_memory) ⊎ ((fault ≡ many_nodes agent) × (NODES ≤ length self.old.places.items) × (at : ℕ) × IsRoom self.old.places.items place at)) }
+        ensures full { IfErr result (λ fault. (fault ≡ no_memory)
+            ⊎ ((fault ≡ many_nodes agent) × (NODES ≤ length self.old.places.items) × (at : ℕ) × IsRoom self.old.places.items place at)) }
     {
         let at = seek(self.places.as_slice(), place);
         if stands_at(self.places.as_slice(), at, place) {
@@ -88,7 +89,8 @@ impl Found {
         ensures few { OnOk result (length self.new.places.items ≤ NODES) }
         ensures front { OnOk result (IsFront self.old.work.items self.new.work.items) }
         ensures grown { OnOk result ((place : Where) → Contains self.old.places.items place → Contains self.new.places.items place) }
-        ensures reached { OnOk result ((d : Where) → Contains self.new.places.items (follower (timing_by times.now) (slice_index_or self.old.work.items at d) to)) }
+        ensures reached { OnOk result ((d : Where) → Contains self.new.places.items
+            (follower (timing_by times.now) (slice_index_or self.old.work.items at d) to)) }
         ensures cause { IfErr result (λ fault. (fault ≡ no_memory) ⊎ ((fault ≡ many_nodes agent) × PassesNodes (timing_by times.now))) }
     {
         distances();

@@ -1,3 +1,4 @@
+//! Why no graphs are given.
 ghost use Rattle.std.specs.Prelude.{◌≡◌};
 ghost use Rattle.psy_graph.specs.declared.fault.GraphFault.TheVariants.{Memory as no_memory};
 

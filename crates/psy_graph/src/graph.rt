@@ -1,3 +1,4 @@
+//! The action graph of an agent: its nodes and its edges.
 use psy_base::{Edge, Items};
 
 /// The actions of an agent that start at a point in one phase of the agent's cycle. Dates are in ticks.

@@ -21,11 +21,13 @@ use psy_flow::laws::{known, nexts};
 pub fn one_graph()
     ensures same { (unit : Whole) (graphs others : List Graph) → IsOfText unit → AreGraphs unit graphs → AreGraphs unit others → graphs ≡ others }
     ensures timing { (unit : Whole) (number : ℕ) (timing other : Timing) → IsTimingOf unit number timing → IsTimingOf unit number other → timing ≡ other }
-    ensures graph { (timing : Timing) (spots others : List Spot) (edges more : List Edge) → IsGraph timing spots edges → IsGraph timing others more → (spots ≡ others) × (edges ≡ more) }
+    ensures graph { (timing : Timing) (spots others : List Spot) (edges more : List Edge) → IsGraph timing spots edges → IsGraph timing others more
+        → (spots ≡ others) × (edges ≡ more) }
     ensures apart { (unit : Whole) (graphs : List Graph) (fault : GraphFault) → IsOfText unit → AreGraphs unit graphs → IsCause unit fault → ⊥ }
     ensures cause { (unit : Whole) (fault other : GraphFault) → IsOfText unit → IsCause unit fault → IsCause unit other → fault ≡ other }
     // Edges lead from node to node, an action is due behind its start and by its end, and its budget keeps the limit.
-    ensures edges { (unit : Whole) (graphs : List Graph) → IsOfText unit → AreGraphs unit graphs → All (λ graph. All (IsEdge (length graph.nodes)) graph.edges) graphs }
+    ensures edges { (unit : Whole) (graphs : List Graph) → IsOfText unit → AreGraphs unit graphs
+        → All (λ graph. All (IsEdge (length graph.nodes)) graph.edges) graphs }
     ensures some { (unit : Whole) → IsOfText unit → ((graphs : List Graph) × AreGraphs unit graphs) ⊎ ((fault : GraphFault) × IsCause unit fault) }
 {
     known();

@@ -1,3 +1,4 @@
+//! Where actions start: a point and a phase.
 ghost use Rattle.std.specs.Prelude.{◌<◌, ◌≡◌, length, slice_get, Some};
 ghost use Rattle.std.specs.Bool.{Decides};
 ghost use Rattle.std.specs.List.{AllPairs};

@@ -1,3 +1,4 @@
+//! What tells when an agent's actions begin and end.
 ghost use Rattle.std.specs.Prelude.{◌≡◌, ◌+◌, ◌^◌, ◌<◌, ◌≤◌, map, length, IfOk};
 ghost use Rattle.psy_meaning.specs.Timing.{point_at, clock_at, following, budget_at, first_date, end_date};
 ghost use Rattle.psy_graph.specs.Graphs.{IsTimed};

@@ -1,3 +1,4 @@
+-- The lemmas of this crate, by subject.
 mod ActionSends
 mod ActsAlike
 mod Bounds

@@ -22,7 +22,8 @@ pub record IsCompiled (unit : Whole) (code : Code) (nexts : List (List (List ℕ
 pub record AreInputs (unit : Whole) (inputs : List (List ℤ)) : Type 0 where
   pub count : length inputs ≡ length unit.variables
   pub values : All AllFit inputs
-  pub owned : (variable owner : ℕ) (list : List ℤ) → slice_get (map (λ v. v.owner) unit.variables) variable ≡ Some (Some owner) → slice_get inputs variable ≡ Some list → list ≡ []
+  pub owned : (variable owner : ℕ) (list : List ℤ) → slice_get (map (λ v. v.owner) unit.variables) variable ≡ Some (Some owner)
+      → slice_get inputs variable ≡ Some list → list ≡ []
 
 -- The code of a program from date 0 on
 abbrev pub coded : Whole → Code → List (List (List ℕ)) → (ℕ → List Stall) → List (List ℤ) → System

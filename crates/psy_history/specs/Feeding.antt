@@ -59,8 +59,10 @@ pasts_in stmts = all_pasts (map stmt_pasts stmts)
 -- An agent feeds another directly: the other's text holds a `past` of a variable of the first, or the first one's text holds a
 -- `send` to a stream of which the other is the receiver.
 pub data Feeds (unit : Whole) (from to : ℕ) : Type 0 where
-  by_variable : (variable : ℕ) (v : VarDecl) → slice_get unit.variables variable ≡ Some v → v.owner ≡ Some from → Contains (pasts_in (agent_at unit to).stmts) variable → Feeds unit from to
-  by_stream : (sending : Sending) (s : StreamDecl) → Contains (sendings_in (agent_at unit from).stmts) sending → slice_get unit.streams sending.stream ≡ Some s → s.receiver ≡ to → Feeds unit from to
+  by_variable : (variable : ℕ) (v : VarDecl) → slice_get unit.variables variable ≡ Some v → v.owner ≡ Some from
+      → Contains (pasts_in (agent_at unit to).stmts) variable → Feeds unit from to
+  by_stream : (sending : Sending) (s : StreamDecl) → Contains (sendings_in (agent_at unit from).stmts) sending
+      → slice_get unit.streams sending.stream ≡ Some s → s.receiver ≡ to → Feeds unit from to
 
 -- An agent reaches another: it is that one, or a chain of direct feedings leads to it.
 pub data Reaches (unit : Whole) (to : ℕ) : ℕ → Type 0 where

@@ -1,3 +1,4 @@
+-- The definitions of this crate, by subject.
 pub mod Compiled
 pub mod Feeding
 pub mod Queues

@@ -28,7 +28,8 @@ pub record IsRegular (s : System) (agent : ℕ) (r : Action) : Type 0 where
   -- it costs something, and may
   pub granted : 1 ≤ r.budget
   pub charged : 1 ≤ r.charge
-  pub ends : (point end : ℕ) → r.verdict ≡ Done point end → Contains (following (timing s agent) r.point) point × (end ≡ end_date (timing s agent) r.start point) × (r.deadline ≤ end)
+  pub ends : (point end : ℕ) → r.verdict ≡ Done point end → Contains (following (timing s agent) r.point) point
+      × (end ≡ end_date (timing s agent) r.start point) × (r.deadline ≤ end)
 
 -- The action was started at one of the first dates, behind these actions of the agent, where the next one was to start.
 pub record WasStarted (s : System) (dates agent : ℕ) (before : List Action) (r : Action) : Type 0 where
@@ -52,7 +53,8 @@ pub record AreRegular (s : System) (dates agent : ℕ) (actions : List Action) :
 
 -- A system whose actions are regular: where it begins, and at each date.
 pub record IsLawful (s : System) : Type 0 where
-  pub opening : (agent : ℕ) (n : Next) → s.opening.starts agent ≡ Some n → (agent < length s.unit.agents) × MayStart (timing s agent) n.point n.start × (n.number ≡ 0)
+  pub opening : (agent : ℕ) (n : Next) → s.opening.starts agent ≡ Some n → (agent < length s.unit.agents) × MayStart (timing s agent) n.point n.start
+      × (n.number ≡ 0)
   pub actions : (dates agent : ℕ) → AreRegular s dates agent (history s dates agent)
 
 -- ---- the code of an action
@@ -73,7 +75,8 @@ AnswerAlike view other (Some (Send sent)) = ⊤
 -- its depth; messages of streams that the agent receives; and sends to a stream and by a clock that there are.
 abbrev pub MayAsk : Whole → ℕ → ℕ → Option Call → Type 0
 MayAsk unit agent point None = ⊤
-MayAsk unit agent point (Some (Past variable back)) = (decl : VarDecl) × (slice_get unit.variables variable ≡ Some decl) × (back < decl.depth) × MayLook unit.functions (agent_at unit agent) point variable
+MayAsk unit agent point (Some (Past variable back)) = (decl : VarDecl) × (slice_get unit.variables variable ≡ Some decl) × (back < decl.depth)
+    × MayLook unit.functions (agent_at unit agent) point variable
 MayAsk unit agent point (Some (Ready stream)) = Receives unit agent stream
 MayAsk unit agent point (Some (Take stream)) = Receives unit agent stream
 MayAsk unit agent point (Some (Send sent)) = IsSentOf unit sent
@@ -86,7 +89,8 @@ pub record Goes (s : System) (code : Code) (its : AgentCode) (r : Action) (n : �
   pub next : run_code code its (begun_by its r) (suc n) ≡ run_one code its state
   pub counted : state.deeds.steps ≡ n
   pub able : next_machine code its state.view state.machine ≢ Stuck
-  pub same : (view : View) → AnswerAlike view state.view (call_of code state.machine) → next_machine code its view state.machine ≡ next_machine code its state.view state.machine
+  pub same : (view : View) → AnswerAlike view state.view (call_of code state.machine)
+      → next_machine code its view state.machine ≡ next_machine code its state.view state.machine
   pub served : ServesAll state.view (call_of code state.machine)
   pub asks : MayAsk s.unit r.agent r.point (call_of code state.machine)
   pub pasts : state.view.pasts ≡ r.view.pasts
@@ -103,4 +107,5 @@ pub record Runs (s : System) (code : Code) (r : Action) : Type 0 where
   pub some : 1 ≤ steps
   pub on_the_way : (n : ℕ) → n < steps → Goes s code its r n
   pub stands : (point : ℕ) → run_code code its (begun_by its r) steps ≡ RanTo point last → last.machine ≡ machine_at its point (carried_by last.machine)
-  pub copies : (variable : ℕ) (v : VarDecl) → slice_get s.unit.variables variable ≡ Some v → v.owner ≡ Some r.agent → IsSome (copy_of variable last.machine.copies)
+  pub copies : (variable : ℕ) (v : VarDecl) → slice_get s.unit.variables variable ≡ Some v → v.owner ≡ Some r.agent
+      → IsSome (copy_of variable last.machine.copies)

@@ -1,6 +1,7 @@
 //! Laws of the dated history, each the contract of a function that does nothing.
 
-ghost use Rattle.std.specs.Prelude.{◌≡◌, ℕ, ◌+◌, ◌*◌, ◌/◌, ◌==◌, ◌<◌, ◌≤◌, if◌then◌else◌, List, [], ◌∷◌, Option, None, Some, ℤ, drop, filter, length, map, nat_le, slice_get, take};
+ghost use Rattle.std.specs.Prelude.{◌≡◌, ℕ, ◌+◌, ◌*◌, ◌/◌, ◌==◌, ◌<◌, ◌≤◌, if◌then◌else◌, List, [], ◌∷◌, Option, None, Some, ℤ, drop, filter, length};
+ghost use Rattle.std.specs.Prelude.{map, nat_le, slice_get, take};
 ghost use Rattle.std.specs.List.{All, Contains, count_by};
 ghost use Rattle.psy_base.specs.declared.limits.TheConstants.{QUEUE};
 ghost use Rattle.psy_base.specs.declared.message.Message.{Message};
@@ -39,8 +40,10 @@ use psy_meaning::laws::{follows, keeps, sendings, sound, traps, ways};
 
 /// The history of a program's code is regular, and the code of its actions runs to an end.
 pub fn regular()
-    ensures lawful { (unit : Whole) (code : Code) (nexts : List (List (List ℕ))) (stalls : ℕ → List Stall) (inputs : List (List ℤ)) → IsCompiled unit code nexts → AreInputs unit inputs → IsLawful (coded unit code nexts stalls inputs) }
-    ensures runs { (unit : Whole) (code : Code) (nexts : List (List (List ℕ))) (stalls : ℕ → List Stall) (inputs : List (List ℤ)) → IsCompiled unit code nexts → AreInputs unit inputs
+    ensures lawful { (unit : Whole) (code : Code) (nexts : List (List (List ℕ))) (stalls : ℕ → List Stall) (inputs : List (List ℤ))
+        → IsCompiled unit code nexts → AreInputs unit inputs → IsLawful (coded unit code nexts stalls inputs) }
+    ensures runs { (unit : Whole) (code : Code) (nexts : List (List (List ℕ))) (stalls : ℕ → List Stall) (inputs : List (List ℤ))
+        → IsCompiled unit code nexts → AreInputs unit inputs
         → (dates agent : ℕ) → All (Runs (coded unit code nexts stalls inputs) code) (history (coded unit code nexts stalls inputs) dates agent) }
 {
     sound();
@@ -55,22 +58,35 @@ pub fn regular()
 /// Code that acts as a program's statements has their history, but for what actions do beyond their budgets; so it has the same
 /// lines, the same schedule and the same summary.
 pub fn alike()
-    ensures actions { (unit : Whole) (code : Code) (nexts : List (List (List ℕ))) (stalls : ℕ → List Stall) (inputs : List (List ℤ)) → IsCompiled unit code nexts → AreInputs unit inputs
+    ensures actions { (unit : Whole) (code : Code) (nexts : List (List (List ℕ))) (stalls : ℕ → List Stall) (inputs : List (List ℤ))
+        → IsCompiled unit code nexts → AreInputs unit inputs
         → (dates agent : ℕ) → AreLike (history (coded unit code nexts stalls inputs) dates agent) (history (stated unit nexts stalls inputs) dates agent) }
-    ensures lines { (unit : Whole) (code : Code) (nexts : List (List (List ℕ))) (stalls : ℕ → List Stall) (inputs : List (List ℤ)) → IsCompiled unit code nexts → AreInputs unit inputs
+    ensures lines { (unit : Whole) (code : Code) (nexts : List (List (List ℕ))) (stalls : ℕ → List Stall) (inputs : List (List ℤ))
+        → IsCompiled unit code nexts → AreInputs unit inputs
         → (date : ℕ) → events (coded unit code nexts stalls inputs) date ≡ events (stated unit nexts stalls inputs) date }
-    ensures schedule { (unit : Whole) (code : Code) (nexts : List (List (List ℕ))) (stalls : ℕ → List Stall) (inputs : List (List ℤ)) → IsCompiled unit code nexts → AreInputs unit inputs
-        → (order : ℕ → List ℕ) (cycles : ℕ) → turns_of (coded unit code nexts stalls inputs) order cycles ≡ turns_of (stated unit nexts stalls inputs) order cycles }
-    ensures counts { (unit : Whole) (code : Code) (nexts : List (List (List ℕ))) (stalls : ℕ → List Stall) (inputs : List (List ℤ)) → IsCompiled unit code nexts → AreInputs unit inputs
-        → (dates until agent : ℕ) → length (due_by until (history (coded unit code nexts stalls inputs) dates agent)) ≡ length (due_by until (history (stated unit nexts stalls inputs) dates agent)) }
-    ensures slacks { (unit : Whole) (code : Code) (nexts : List (List (List ℕ))) (stalls : ℕ → List Stall) (inputs : List (List ℤ)) → IsCompiled unit code nexts → AreInputs unit inputs
-        → (order : ℕ → List ℕ) (dates cycles until agent : ℕ) → slack unit.quantum (turns_of (coded unit code nexts stalls inputs) order cycles) (due_by until (history (coded unit code nexts stalls inputs) dates agent))
+    ensures schedule { (unit : Whole) (code : Code) (nexts : List (List (List ℕ))) (stalls : ℕ → List Stall) (inputs : List (List ℤ))
+        → IsCompiled unit code nexts → AreInputs unit inputs
+        → (order : ℕ → List ℕ) (cycles : ℕ) → turns_of (coded unit code nexts stalls inputs) order cycles
+        ≡ turns_of (stated unit nexts stalls inputs) order cycles }
+    ensures counts { (unit : Whole) (code : Code) (nexts : List (List (List ℕ))) (stalls : ℕ → List Stall) (inputs : List (List ℤ))
+        → IsCompiled unit code nexts → AreInputs unit inputs
+        → (dates until agent : ℕ) → length (due_by until (history (coded unit code nexts stalls inputs) dates agent))
+        ≡ length (due_by until (history (stated unit nexts stalls inputs) dates agent)) }
+    ensures slacks { (unit : Whole) (code : Code) (nexts : List (List (List ℕ))) (stalls : ℕ → List Stall) (inputs : List (List ℤ))
+        → IsCompiled unit code nexts → AreInputs unit inputs
+        → (order : ℕ → List ℕ) (dates cycles until agent : ℕ)
+        → slack unit.quantum (turns_of (coded unit code nexts stalls inputs) order cycles)
+        (due_by until (history (coded unit code nexts stalls inputs) dates agent))
         ≡ slack unit.quantum (turns_of (stated unit nexts stalls inputs) order cycles) (due_by until (history (stated unit nexts stalls inputs) dates agent)) }
-    ensures held { (unit : Whole) (code : Code) (nexts : List (List (List ℕ))) (stalls : ℕ → List Stall) (inputs : List (List ℤ)) → IsCompiled unit code nexts → AreInputs unit inputs
+    ensures held { (unit : Whole) (code : Code) (nexts : List (List (List ℕ))) (stalls : ℕ → List Stall) (inputs : List (List ℤ))
+        → IsCompiled unit code nexts → AreInputs unit inputs
         → (until stream : ℕ) → most_held (coded unit code nexts stalls inputs) until stream ≡ most_held (stated unit nexts stalls inputs) until stream }
-    ensures reaches { (unit : Whole) (code : Code) (nexts : List (List (List ℕ))) (stalls : ℕ → List Stall) (inputs : List (List ℤ)) → IsCompiled unit code nexts → AreInputs unit inputs
-        → (order : ℕ → List ℕ) (dates cycles variable : ℕ) → reach (coded unit code nexts stalls inputs) (turns_of (coded unit code nexts stalls inputs) order cycles) (history (coded unit code nexts stalls inputs) dates) variable
-        ≡ reach (stated unit nexts stalls inputs) (turns_of (stated unit nexts stalls inputs) order cycles) (history (stated unit nexts stalls inputs) dates) variable }
+    ensures reaches { (unit : Whole) (code : Code) (nexts : List (List (List ℕ))) (stalls : ℕ → List Stall) (inputs : List (List ℤ))
+        → IsCompiled unit code nexts → AreInputs unit inputs
+        → (order : ℕ → List ℕ) (dates cycles variable : ℕ) → reach (coded unit code nexts stalls inputs)
+        (turns_of (coded unit code nexts stalls inputs) order cycles) (history (coded unit code nexts stalls inputs) dates) variable
+        ≡ reach (stated unit nexts stalls inputs) (turns_of (stated unit nexts stalls inputs) order cycles)
+        (history (stated unit nexts stalls inputs) dates) variable }
 {
     sound();
     keeps();
@@ -79,24 +95,32 @@ pub fn alike()
 
 /// What each action of a lawful system is given: no cycle before it starts, and no more than its work.
 pub fn given()
-    ensures within { (s : System) (order : ℕ → List ℕ) (dates cycles agent : ℕ) (r : Action) → IsLawful s → 1 ≤ s.unit.quantum → Contains (history s dates agent) r → units r.agent r.number (turns_of s order cycles) ≤ work r }
-    ensures unstarted { (s : System) (order : ℕ → List ℕ) (date cycles agent number : ℕ) → IsLawful s → 1 ≤ s.unit.quantum → cycles ≤ date * s.unit.quantum → length (history s date agent) ≤ number → units agent number (turns_of s order cycles) ≡ 0 }
+    ensures within { (s : System) (order : ℕ → List ℕ) (dates cycles agent : ℕ) (r : Action) → IsLawful s → 1 ≤ s.unit.quantum
+        → Contains (history s dates agent) r → units r.agent r.number (turns_of s order cycles) ≤ work r }
+    ensures unstarted { (s : System) (order : ℕ → List ℕ) (date cycles agent number : ℕ) → IsLawful s → 1 ≤ s.unit.quantum
+        → cycles ≤ date * s.unit.quantum → length (history s date agent) ≤ number → units agent number (turns_of s order cycles) ≡ 0 }
 {}
 
 /// Where the processor can supply the demand up to a date, each action that is due by then is finished, or stopped, by its deadline
 /// (Baruah, Rosier, Howell 1990): the cycle behind its last one is no later. So of an agent's actions the last alone is pending.
 pub fn on_time()
-    ensures due { (s : System) (order : ℕ → List ℕ) (until date agent : ℕ) (r : Action) → IsSupplied s order until → date ≤ until → Contains (history s date agent) r → r.deadline ≤ date → IsFinished s order (date * s.unit.quantum) r }
-    ensures finishes { (s : System) (order : ℕ → List ℕ) (until cycles agent : ℕ) (r : Action) → IsSupplied s order until → until * s.unit.quantum ≤ cycles → Contains (history s until agent) r → r.deadline ≤ until → finish r.agent r.number (turns_of s order cycles) ≤ r.deadline * s.unit.quantum }
-    ensures earlier { (s : System) (order : ℕ → List ℕ) (until date cycles agent : ℕ) (r : Action) (before : List Action) → IsSupplied s order until → date ≤ until → date * s.unit.quantum ≤ cycles → history s (date + 1) agent ≡ r ∷ before → All (IsFinished s order cycles) before }
+    ensures due { (s : System) (order : ℕ → List ℕ) (until date agent : ℕ) (r : Action) → IsSupplied s order until → date ≤ until
+        → Contains (history s date agent) r → r.deadline ≤ date → IsFinished s order (date * s.unit.quantum) r }
+    ensures finishes { (s : System) (order : ℕ → List ℕ) (until cycles agent : ℕ) (r : Action) → IsSupplied s order until
+        → until * s.unit.quantum ≤ cycles → Contains (history s until agent) r → r.deadline ≤ until
+        → finish r.agent r.number (turns_of s order cycles) ≤ r.deadline * s.unit.quantum }
+    ensures earlier { (s : System) (order : ℕ → List ℕ) (until date cycles agent : ℕ) (r : Action) (before : List Action) → IsSupplied s order until
+        → date ≤ until → date * s.unit.quantum ≤ cycles → history s (date + 1) agent ≡ r ∷ before → All (IsFinished s order cycles) before }
 {}
 
 /// What a ring holds, date by date: at a date of the variable the value that it publishes goes to the front, and the oldest goes out. An
 /// action that looks at a later date finds what it saw at its start as many places further back as dates have passed.
 pub fn rings()
     ensures next { (s : System) (date variable size : ℕ) → IsLawful s → IsClock (publishing s variable)
-        → ring_of s (date + 1) variable size ≡ (if is_date (publishing s variable) date then take size (published s (history s (date + 1)) variable date ∷ ring_of s date variable size) else ring_of s date variable size) }
-    ensures look { (s : System) (date agent variable back size : ℕ) (decl : VarDecl) (r : Action) → IsLawful s → IsClock (publishing s variable) → Contains (history s (date + 1) agent) r
+        → ring_of s (date + 1) variable size ≡ (if is_date (publishing s variable) date then take size
+        (published s (history s (date + 1)) variable date ∷ ring_of s date variable size) else ring_of s date variable size) }
+    ensures look { (s : System) (date agent variable back size : ℕ) (decl : VarDecl) (r : Action) → IsLawful s → IsClock (publishing s variable)
+        → Contains (history s (date + 1) agent) r
         → slice_get s.unit.variables variable ≡ Some decl → back < decl.depth → age_at s variable back r.start date < size
         → slice_get (ring_of s (date + 1) variable size) (age_at s variable back r.start date) ≡ past_of r.view variable back }
 {
@@ -111,12 +135,15 @@ pub fn reaches()
     ensures stalled { (s : System) (turns : List (Option Turn)) (dates agent variable : ℕ) (r : Action) → IsLawful s → Contains (history s dates agent) r
         → ((instr : ℕ) → units r.agent r.number turns ≡ cycle_of (s.stalls r.agent) r.number instr → ⊥)
         → reach s (turn_of (Some r) ∷ turns) (history s dates) variable ≡ reach s turns (history s dates) variable }
-    ensures paid { (unit : Whole) (code : Code) (nexts : List (List (List ℕ))) (stalls : ℕ → List Stall) (inputs : List (List ℤ)) → IsCompiled unit code nexts → AreInputs unit inputs
-        → (turns : List (Option Turn)) (dates agent variable instr : ℕ) (r : Action) (state : RunState) → Contains (history (coded unit code nexts stalls inputs) dates agent) r
+    ensures paid { (unit : Whole) (code : Code) (nexts : List (List (List ℕ))) (stalls : ℕ → List Stall) (inputs : List (List ℤ))
+        → IsCompiled unit code nexts → AreInputs unit inputs
+        → (turns : List (Option Turn)) (dates agent variable instr : ℕ) (r : Action) (state : RunState)
+        → Contains (history (coded unit code nexts stalls inputs) dates agent) r
         → run_code code (agent_code_at code r.agent) (begun_by (agent_code_at code r.agent) r) instr ≡ Running state
         → units r.agent r.number turns ≡ cycle_of (stalls r.agent) r.number instr → instr < r.budget
         → reach (coded unit code nexts stalls inputs) (turn_of (Some r) ∷ turns) (history (coded unit code nexts stalls inputs) dates) variable
-        ≡ reach_with (coded unit code nexts stalls inputs) variable r.start (length turns / unit.quantum) (call_of code state.machine) (reach (coded unit code nexts stalls inputs) turns (history (coded unit code nexts stalls inputs) dates) variable) }
+        ≡ reach_with (coded unit code nexts stalls inputs) variable r.start (length turns / unit.quantum) (call_of code state.machine)
+        (reach (coded unit code nexts stalls inputs) turns (history (coded unit code nexts stalls inputs) dates) variable) }
     ensures date { (s : System) (order : ℕ → List ℕ) (date cycles variable : ℕ) → IsLawful s → 1 ≤ s.unit.quantum → cycles ≤ date * s.unit.quantum
         → reach s (turns_of s order cycles) (history s (date + 1)) variable ≡ reach s (turns_of s order cycles) (history s date) variable }
 {
@@ -126,12 +153,17 @@ pub fn reaches()
 /// Where the processor can supply the demand up to a date, no ring is reached for beyond its size: neither by a look at a date before the
 /// deadline of its action, nor in all cycles up to that date.
 pub fn ring_sizes()
-    ensures look { (s : System) (order : ℕ → List ℕ) (until dates agent variable back size date : ℕ) (decl : VarDecl) (r : Action) → IsSupplied s order until → Contains (history s dates agent) r
-        → slice_get s.unit.variables variable ≡ Some decl → MayLook s.unit.functions (agent_at s.unit agent) r.point variable → back < decl.depth → IsRingSize s.unit s.nexts variable size
+    ensures look { (s : System) (order : ℕ → List ℕ) (until dates agent variable back size date : ℕ) (decl : VarDecl) (r : Action)
+        → IsSupplied s order until → Contains (history s dates agent) r
+        → slice_get s.unit.variables variable ≡ Some decl → MayLook s.unit.functions (agent_at s.unit agent) r.point variable → back < decl.depth
+        → IsRingSize s.unit s.nexts variable size
         → r.start ≤ date → date < r.deadline → age_at s variable back r.start date < size }
-    ensures reached { (unit : Whole) (code : Code) (nexts : List (List (List ℕ))) (stalls : ℕ → List Stall) (inputs : List (List ℤ)) → IsCompiled unit code nexts → AreInputs unit inputs
-        → (order : ℕ → List ℕ) (until cycles variable size n : ℕ) → IsSupplied (coded unit code nexts stalls inputs) order until → cycles ≤ until * unit.quantum → IsRingSize unit nexts variable size
-        → reach (coded unit code nexts stalls inputs) (turns_of (coded unit code nexts stalls inputs) order cycles) (history (coded unit code nexts stalls inputs) (until + 1)) variable ≡ Some n → n < size }
+    ensures reached { (unit : Whole) (code : Code) (nexts : List (List (List ℕ))) (stalls : ℕ → List Stall) (inputs : List (List ℤ))
+        → IsCompiled unit code nexts → AreInputs unit inputs
+        → (order : ℕ → List ℕ) (until cycles variable size n : ℕ) → IsSupplied (coded unit code nexts stalls inputs) order until
+        → cycles ≤ until * unit.quantum → IsRingSize unit nexts variable size
+        → reach (coded unit code nexts stalls inputs) (turns_of (coded unit code nexts stalls inputs) order cycles)
+        (history (coded unit code nexts stalls inputs) (until + 1)) variable ≡ Some n → n < size }
 {
     regular();
 }
@@ -140,21 +172,29 @@ pub fn ring_sizes()
 /// or is silent; then the messages of the actions that end there enter. The receiver's action finds at each date before its deadline, and
 /// before its end, the messages that it saw at its start in front of all others. A message that becomes visible is held.
 pub fn queues()
-    ensures next { (unit : Whole) (code : Code) (nexts : List (List (List ℕ))) (stalls : ℕ → List Stall) (inputs : List (List ℤ)) → IsCompiled unit code nexts → AreInputs unit inputs
+    ensures next { (unit : Whole) (code : Code) (nexts : List (List (List ℕ))) (stalls : ℕ → List Stall) (inputs : List (List ℤ))
+        → IsCompiled unit code nexts → AreInputs unit inputs
         → (date stream : ℕ) → stream < length unit.streams
-        → queue_of (coded unit code nexts stalls inputs) (date + 1) stream ≡ entered (entering (coded unit code nexts stalls inputs) date stream) (settled (coded unit code nexts stalls inputs) date stream (queue_of (coded unit code nexts stalls inputs) date stream)) }
-    ensures look { (unit : Whole) (code : Code) (nexts : List (List (List ℕ))) (stalls : ℕ → List Stall) (inputs : List (List ℤ)) → IsCompiled unit code nexts → AreInputs unit inputs
+        → queue_of (coded unit code nexts stalls inputs) (date + 1) stream
+        ≡ entered (entering (coded unit code nexts stalls inputs) date stream)
+        (settled (coded unit code nexts stalls inputs) date stream (queue_of (coded unit code nexts stalls inputs) date stream)) }
+    ensures look { (unit : Whole) (code : Code) (nexts : List (List (List ℕ))) (stalls : ℕ → List Stall) (inputs : List (List ℤ))
+        → IsCompiled unit code nexts → AreInputs unit inputs
         → (date stream agent : ℕ) (decl : StreamDecl) (r : Action) (before : List Action) → slice_get unit.streams stream ≡ Some decl → decl.receiver ≡ agent
         → history (coded unit code nexts stalls inputs) (date + 1) agent ≡ r ∷ before → date < r.deadline
         → (filter (λ (m : Message). nat_le m.visible r.start) (queue_of (coded unit code nexts stalls inputs) (date + 1) stream) ≡ r.seen stream)
         × (take (length (r.seen stream)) (queue_of (coded unit code nexts stalls inputs) (date + 1) stream) ≡ r.seen stream) }
-    ensures ended { (unit : Whole) (code : Code) (nexts : List (List (List ℕ))) (stalls : ℕ → List Stall) (inputs : List (List ℤ)) → IsCompiled unit code nexts → AreInputs unit inputs
-        → (date stream agent point end : ℕ) (decl : StreamDecl) (r : Action) (before : List Action) → slice_get unit.streams stream ≡ Some decl → decl.receiver ≡ agent
+    ensures ended { (unit : Whole) (code : Code) (nexts : List (List (List ℕ))) (stalls : ℕ → List Stall) (inputs : List (List ℤ))
+        → IsCompiled unit code nexts → AreInputs unit inputs
+        → (date stream agent point end : ℕ) (decl : StreamDecl) (r : Action) (before : List Action) → slice_get unit.streams stream ≡ Some decl
+        → decl.receiver ≡ agent
         → history (coded unit code nexts stalls inputs) (date + 1) agent ≡ r ∷ before → r.verdict ≡ Done point end → date < end
         → take (length (r.seen stream)) (queue_of (coded unit code nexts stalls inputs) (date + 1) stream) ≡ r.seen stream }
-    ensures shows { (unit : Whole) (code : Code) (nexts : List (List (List ℕ))) (stalls : ℕ → List Stall) (inputs : List (List ℤ)) → IsCompiled unit code nexts → AreInputs unit inputs
+    ensures shows { (unit : Whole) (code : Code) (nexts : List (List (List ℕ))) (stalls : ℕ → List Stall) (inputs : List (List ℤ))
+        → IsCompiled unit code nexts → AreInputs unit inputs
         → (date stream : ℕ) → stream < length unit.streams
-        → filter (λ (m : Message). m.visible == date) (messages (coded unit code nexts stalls inputs) (history (coded unit code nexts stalls inputs) (date + 1)) stream)
+        → filter (λ (m : Message). m.visible == date) (messages (coded unit code nexts stalls inputs)
+        (history (coded unit code nexts stalls inputs) (date + 1)) stream)
         ≡ filter (λ (m : Message). m.visible == date) (queue_of (coded unit code nexts stalls inputs) (date + 1) stream) }
 {
     distances();
@@ -163,10 +203,12 @@ pub fn queues()
 
 /// No stream ever holds more messages than its queue has places, where that is no more than a queue may have.
 pub fn queue_sizes()
-    ensures held { (unit : Whole) (code : Code) (nexts : List (List (List ℕ))) (stalls : ℕ → List Stall) (inputs : List (List ℤ)) → IsCompiled unit code nexts → AreInputs unit inputs
+    ensures held { (unit : Whole) (code : Code) (nexts : List (List (List ℕ))) (stalls : ℕ → List Stall) (inputs : List (List ℤ))
+        → IsCompiled unit code nexts → AreInputs unit inputs
         → (date stream size : ℕ) → stream < length unit.streams → IsQueueSize unit nexts stream size → size ≤ QUEUE
         → length (queue_of (coded unit code nexts stalls inputs) date stream) ≤ size }
-    ensures most { (unit : Whole) (code : Code) (nexts : List (List (List ℕ))) (stalls : ℕ → List Stall) (inputs : List (List ℤ)) → IsCompiled unit code nexts → AreInputs unit inputs
+    ensures most { (unit : Whole) (code : Code) (nexts : List (List (List ℕ))) (stalls : ℕ → List Stall) (inputs : List (List ℤ))
+        → IsCompiled unit code nexts → AreInputs unit inputs
         → (until stream size : ℕ) → stream < length unit.streams → IsQueueSize unit nexts stream size → size ≤ QUEUE
         → most_held (coded unit code nexts stalls inputs) until stream ≤ size }
 {
@@ -182,13 +224,15 @@ pub fn queue_sizes()
 /// What an action has done on the way: it never sends more than its agent's outbox holds, where no queue has more places than it may; and it
 /// has taken the first of the messages that it saw.
 pub fn deeds()
-    ensures sends { (unit : Whole) (code : Code) (nexts : List (List (List ℕ))) (stalls : ℕ → List Stall) (inputs : List (List ℤ)) → IsCompiled unit code nexts → AreInputs unit inputs
+    ensures sends { (unit : Whole) (code : Code) (nexts : List (List (List ℕ))) (stalls : ℕ → List Stall) (inputs : List (List ℤ))
+        → IsCompiled unit code nexts → AreInputs unit inputs
         → (queues : List ℕ) → AreQueues unit nexts queues → All (λ size. size ≤ QUEUE) queues
         → (dates agent size instr : ℕ) (r : Action) (state : RunState) (sent : Sent) → IsGreatest (HasSendsTo unit (agent_at unit agent)) size
         → Contains (history (coded unit code nexts stalls inputs) dates agent) r
         → run_code code (agent_code_at code agent) (begun_by (agent_code_at code agent) r) instr ≡ Running state
         → call_of code state.machine ≡ Some (Send sent) → length state.deeds.sends < size }
-    ensures takes { (unit : Whole) (code : Code) (nexts : List (List (List ℕ))) (stalls : ℕ → List Stall) (inputs : List (List ℤ)) → IsCompiled unit code nexts → AreInputs unit inputs
+    ensures takes { (unit : Whole) (code : Code) (nexts : List (List (List ℕ))) (stalls : ℕ → List Stall) (inputs : List (List ℤ))
+        → IsCompiled unit code nexts → AreInputs unit inputs
         → (dates agent stream instr : ℕ) (decl : StreamDecl) (r : Action) (state : RunState) → slice_get unit.streams stream ≡ Some decl → decl.receiver ≡ agent
         → Contains (history (coded unit code nexts stalls inputs) dates agent) r
         → run_code code (agent_code_at code agent) (begun_by (agent_code_at code agent) r) instr ≡ Running state
@@ -207,16 +251,23 @@ pub fn deeds()
 /// with the same number both overran or both didn't, the other's actions are the same but for their charges; and so are its stops and
 /// what its variables publish. An agent that doesn't reach it changes nothing of it, whatever it does.
 pub fn isolation()
-    ensures actions { (unit : Whole) (nexts : List (List (List ℕ))) (stalls others : ℕ → List Stall) (inputs : List (List ℤ)) (dates to : ℕ) → IsOfText unit → AreInputs unit inputs
-        → ((from : ℕ) → Reaches unit to from → OverranAlike (history (stated unit nexts stalls inputs) dates from) (history (stated unit nexts others inputs) dates from))
+    ensures actions { (unit : Whole) (nexts : List (List (List ℕ))) (stalls others : ℕ → List Stall) (inputs : List (List ℤ)) (dates to : ℕ)
+        → IsOfText unit → AreInputs unit inputs
+        → ((from : ℕ) → Reaches unit to from → OverranAlike (history (stated unit nexts stalls inputs) dates from)
+        (history (stated unit nexts others inputs) dates from))
         → AreSame (history (stated unit nexts stalls inputs) dates to) (history (stated unit nexts others inputs) dates to) }
-    ensures stops { (unit : Whole) (nexts : List (List (List ℕ))) (stalls others : ℕ → List Stall) (inputs : List (List ℤ)) (dates to date : ℕ) → IsOfText unit → AreInputs unit inputs
-        → ((from : ℕ) → Reaches unit to from → OverranAlike (history (stated unit nexts stalls inputs) dates from) (history (stated unit nexts others inputs) dates from))
+    ensures stops { (unit : Whole) (nexts : List (List (List ℕ))) (stalls others : ℕ → List Stall) (inputs : List (List ℤ)) (dates to date : ℕ)
+        → IsOfText unit → AreInputs unit inputs
+        → ((from : ℕ) → Reaches unit to from → OverranAlike (history (stated unit nexts stalls inputs) dates from)
+        (history (stated unit nexts others inputs) dates from))
         → stops_of date (history (stated unit nexts stalls inputs) dates to) ≡ stops_of date (history (stated unit nexts others inputs) dates to) }
-    ensures values { (unit : Whole) (nexts : List (List (List ℕ))) (stalls others : ℕ → List Stall) (inputs : List (List ℤ)) (dates to date variable : ℕ) (v : VarDecl) → IsOfText unit → AreInputs unit inputs
-        → ((from : ℕ) → Reaches unit to from → OverranAlike (history (stated unit nexts stalls inputs) dates from) (history (stated unit nexts others inputs) dates from))
+    ensures values { (unit : Whole) (nexts : List (List (List ℕ))) (stalls others : ℕ → List Stall) (inputs : List (List ℤ))
+        (dates to date variable : ℕ) (v : VarDecl) → IsOfText unit → AreInputs unit inputs
+        → ((from : ℕ) → Reaches unit to from → OverranAlike (history (stated unit nexts stalls inputs) dates from)
+        (history (stated unit nexts others inputs) dates from))
         → slice_get unit.variables variable ≡ Some v → v.owner ≡ Some to
-        → publications (stated unit nexts stalls inputs) (history (stated unit nexts stalls inputs) dates) date variable ≡ publications (stated unit nexts others inputs) (history (stated unit nexts others inputs) dates) date variable }
+        → publications (stated unit nexts stalls inputs) (history (stated unit nexts stalls inputs) dates) date variable
+        ≡ publications (stated unit nexts others inputs) (history (stated unit nexts others inputs) dates) date variable }
 {
     sound();
     keeps();

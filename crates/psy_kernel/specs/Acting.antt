@@ -59,12 +59,14 @@ pub record SeesAs (s : System) (r : Action) (sight : Sight) (taken : List ℕ) :
   pub streams : sight.streams ≡ s.unit.streams
   pub queued : length sight.queues ≡ length s.unit.streams
   pub counted : length taken ≡ length s.unit.streams
-  pub seen : (stream : ℕ) (queue : Queued) → Receives s.unit r.agent stream → slice_get sight.queues stream ≡ Some queue → seen_by queue.messages sight.start ≡ length (r.seen stream)
+  pub seen : (stream : ℕ) (queue : Queued) → Receives s.unit r.agent stream → slice_get sight.queues stream ≡ Some queue
+      → seen_by queue.messages sight.start ≡ length (r.seen stream)
 
 -- These are the sends and the counts of what was taken, by stream, of an action that did this.
 pub record AreDone (s : System) (r : Action) (deeds : Deeds) (sends : List Sent) (taken : List ℕ) : Type 0 where
   pub sent : sends ≡ deeds.sends
-  pub took : (stream n : ℕ) → slice_get taken stream ≡ Some n → (stream_of s stream).receiver ≡ r.agent → n ≡ length (take (count_by (λ t. t == stream) deeds.takes) (r.seen stream))
+  pub took : (stream n : ℕ) → slice_get taken stream ≡ Some n → (stream_of s stream).receiver ≡ r.agent
+      → n ≡ length (take (count_by (λ t. t == stream) deeds.takes) (r.seen stream))
 
 -- The variable and the `back` that an instruction looks at, where it does
 abbrev pub look_of : Option Call → Option (ℕ × ℕ)
@@ -73,7 +75,8 @@ look_of call = None
 
 -- The look of a cycle of an action, by what the cycle goes to: that of the instruction that it pays.
 abbrev pub LooksBy : Code → Action → ℕ → Option (ℕ × ℕ) → Tick → Type 0
-LooksBy code r instr look tick.Paid = (state : RunState) × (run_code code (agent_code_at code r.agent) (begun_by (agent_code_at code r.agent) r) instr ≡ Running state) × (look ≡ look_of (call_of code state.machine))
+LooksBy code r instr look tick.Paid = (state : RunState) × (run_code code (agent_code_at code r.agent) (begun_by (agent_code_at code r.agent) r) instr
+    ≡ Running state) × (look ≡ look_of (call_of code state.machine))
 LooksBy code r instr look tick = look ≡ None
 
 -- The look of the cycle of an action that had so many
@@ -82,12 +85,14 @@ IsLookIn s code r had look = LooksBy code r (charge_after s r had).paid look (ti
 
 -- The machine has copies of what the agent owns.
 abbrev pub HasOwned : System → Action → AgentMachine → Type 0
-HasOwned s r machine = (variable : ℕ) (v : VarDecl) → slice_get s.unit.variables variable ≡ Some v → v.owner ≡ Some r.agent → IsSome (copy_of variable machine.machine.copies)
+HasOwned s r machine = (variable : ℕ) (v : VarDecl) → slice_get s.unit.variables variable ≡ Some v → v.owner ≡ Some r.agent
+    → IsSome (copy_of variable machine.machine.copies)
 
 -- An action goes on behind a cycle, or it reached a point, trapped or spent its budget with that cycle.
 abbrev pub IsGone : System → Code → Action → ℕ → AgentMachine → Gone → Type 0
 IsGone s code r had machine gone.Going = (suc had < work r) × IsRunning code r (charge_after s r (suc had)).paid machine
-IsGone s code r had machine (gone.Ended point) = (suc had ≡ work r) × (end : ℕ) × (r.verdict ≡ Done point end) × (machine.machine ≡ machine_at (agent_code_at code r.agent) point r.after) × HasOwned s r machine
+IsGone s code r had machine (gone.Ended point) = (suc had ≡ work r) × (end : ℕ) × (r.verdict ≡ Done point end)
+    × (machine.machine ≡ machine_at (agent_code_at code r.agent) point r.after) × HasOwned s r machine
 IsGone s code r had machine (gone.Trapped kind) = (suc had ≡ work r) × (r.verdict ≡ Trapped kind)
 IsGone s code r had machine gone.Spent = (suc had ≡ work r) × (r.verdict ≡ Overran)
 

@@ -1,5 +1,6 @@
 -- What a cycle does to the agent whose action gets it.
-use Rattle.std.specs.Prelude.{◌≡◌, ℕ, ◌+◌, ◌-◌, ◌*◌, ◌^◌, ◌==◌, ◌<◌, ◌≤◌, Bool, true, false, nat_le, if◌then◌else◌, List, [], ◌∷◌, length, Option, Some, None, slice_get, get_or, ⊤, ℤ}
+use Rattle.std.specs.Prelude.{◌≡◌, ℕ, ◌+◌, ◌-◌, ◌*◌, ◌^◌, ◌==◌, ◌<◌, ◌≤◌, Bool, true, false, nat_le, if◌then◌else◌, List, [], ◌∷◌, length, Option}
+use Rattle.std.specs.Prelude.{Some, None, slice_get, get_or, ⊤, ℤ}
 use Rattle.std.specs.List.{All}
 use Rattle.psy_base.specs.declared.limits.TheConstants.{ADVANCE, QUANTUM}
 use Rattle.psy_clock.specs.Dates.{IsClock}
@@ -57,10 +58,12 @@ pub record MayEnd (timing : Timing) (start point : ℕ) : Type 0 where
   pub early : start ≤ 2 ^ 40
 
 -- What an agent has, with its seat and the copies that are kept of what it owns
-pub record OneStands (s : System) (code : Code) (turns : List (Option Turn)) (until date agent : ℕ) (actions : List Action) (charge : Charged) (machine : AgentMachine) (waits : Option ℕ) (figure : Figure) (seat : Seat) (ended : List ℤ) : Type 0 where
+pub record OneStands (s : System) (code : Code) (turns : List (Option Turn)) (until date agent : ℕ) (actions : List Action) (charge : Charged)
+    (machine : AgentMachine) (waits : Option ℕ) (figure : Figure) (seat : Seat) (ended : List ℤ) : Type 0 where
   pub stands : AgentStands s code turns until agent actions charge machine waits figure
   pub seated : SeatStands date turns actions seat
-  pub kept : (variable : ℕ) (value : ℤ) → slice_get ended variable ≡ Some value → (variable_of s variable).owner ≡ Some agent → KeepsCopy date turns variable actions value
+  pub kept : (variable : ℕ) (value : ℤ) → slice_get ended variable ≡ Some value → (variable_of s variable).owner ≡ Some agent
+      → KeepsCopy date turns variable actions value
 
 -- The next cycle goes to the last of an agent's actions, which is pending and due after this date.
 pub record GetsCycle (s : System) (code : Code) (turns : List (Option Turn)) (until date cycle agent : ℕ) (r : Action) (before : List Action) : Type 0 where
@@ -79,7 +82,8 @@ pub record GetsCycle (s : System) (code : Code) (turns : List (Option Turn)) (un
   pub ends : (point end : ℕ) → r.verdict ≡ Done point end → (end ≡ end_date (timing s agent) r.start point) × MayEnd (timing s agent) r.start point
 
 -- What the outbox of an agent has, and what was taken of the streams that it receives
-pub record BoxStands (s : System) (code : Code) (turns : List (Option Turn)) (date agent : ℕ) (actions : List Action) (sends : List Sent) (taken : List ℕ) : Type 0 where
+pub record BoxStands (s : System) (code : Code) (turns : List (Option Turn)) (date agent : ℕ) (actions : List Action) (sends : List Sent)
+    (taken : List ℕ) : Type 0 where
   pub doing : DeedsStand s code turns actions sends taken
   pub sent : KeepsSends date turns actions sends
   pub took : (stream n : ℕ) → slice_get taken stream ≡ Some n → (stream_of s stream).receiver ≡ agent → KeepsTakes date turns stream actions n
@@ -92,7 +96,9 @@ pub record ActsIn (s : System) (code : Code) (r : Action) (had : ℕ) (sight : S
 
 -- The same in the run of a plan with these inputs and stalls, what the agent has before the cycle, what its action sees then, and what it
 -- has done
-pub record IsGiven (plan : Plan) (inputs : List (List ℤ)) (stalls : ℕ → List Stall) (turns : List (Option Turn)) (date cycle agent : ℕ) (r : Action) (before : List Action) (charge : Charged) (machine : AgentMachine) (waits : Option ℕ) (figure : Figure) (seat : Seat) (ended : List ℤ) (sight : Sight) (taken : List ℕ) (outbox : Outboxed) : Type 0 where
+pub record IsGiven (plan : Plan) (inputs : List (List ℤ)) (stalls : ℕ → List Stall) (turns : List (Option Turn)) (date cycle agent : ℕ) (r : Action)
+    (before : List Action) (charge : Charged) (machine : AgentMachine) (waits : Option ℕ) (figure : Figure) (seat : Seat) (ended : List ℤ)
+    (sight : Sight) (taken : List ℕ) (outbox : Outboxed) : Type 0 where
   pub gets : GetsCycle (system_of plan inputs stalls) plan.code turns plan.until date cycle agent r before
   pub has : OneStands (system_of plan inputs stalls) plan.code turns plan.until date agent (r ∷ before) charge machine waits figure seat ended
   pub acts : ActsIn (system_of plan inputs stalls) plan.code r (units r.agent r.number turns) sight taken outbox
@@ -109,21 +115,26 @@ IsNear s start date (Some (variable, back)) = (variable < length s.unit.variable
 
 -- By variable, the rings stand for the history of the first so many dates.
 abbrev pub AreRingsOf : System → ℕ → List (List ℤ) → Type 0
-AreRingsOf s dates rings = (length rings ≡ length s.unit.variables) × ((variable : ℕ) (ring : List ℤ) → slice_get rings variable ≡ Some ring → RingStands s dates variable ring)
+AreRingsOf s dates rings = (length rings ≡ length s.unit.variables)
+    × ((variable : ℕ) (ring : List ℤ) → slice_get rings variable ≡ Some ring → RingStands s dates variable ring)
 
 -- By stream, the queues stand for the history of the first so many dates.
 abbrev pub AreQueuesOf : System → ℕ → List Queued → Type 0
-AreQueuesOf s dates queues = (length queues ≡ length s.unit.streams) × ((stream : ℕ) (queue : Queued) → slice_get queues stream ≡ Some queue → QueueStands s dates stream queue)
+AreQueuesOf s dates queues = (length queues ≡ length s.unit.streams)
+    × ((stream : ℕ) (queue : Queued) → slice_get queues stream ≡ Some queue → QueueStands s dates stream queue)
 
 -- What the action that gets the next cycle sees by the rings and the queues, once it has sent and taken so much, and how far back it looks
 -- with that cycle, behind the last of so many dates
 pub record LooksBack (s : System) (code : Code) (turns : List (Option Turn)) (date : ℕ) (r : Action) : Type 0 where
-  pub acts : (rings : List (List ℤ)) (queues : List Queued) (taken : List ℕ) (outbox : Outboxed) → AreRingsOf s (date + 1) rings → AreQueuesOf s (date + 1) queues
-      → length taken ≡ length s.unit.streams → IsGreatest (HasSendsTo s.unit (agent_at s.unit r.agent)) outbox.size → HasDone s code r (charge_after s r (units r.agent r.number turns)).paid outbox.sends taken
+  pub acts : (rings : List (List ℤ)) (queues : List Queued) (taken : List ℕ) (outbox : Outboxed) → AreRingsOf s (date + 1) rings
+      → AreQueuesOf s (date + 1) queues
+      → length taken ≡ length s.unit.streams → IsGreatest (HasSendsTo s.unit (agent_at s.unit r.agent)) outbox.size
+      → HasDone s code r (charge_after s r (units r.agent r.number turns)).paid outbox.sends taken
       → ActsIn s code r (units r.agent r.number turns) (sight_in s.unit rings queues r.agent r.start date) taken outbox
   pub near : (look : Option (ℕ × ℕ)) → IsLookIn s code r (units r.agent r.number turns) look → IsNear s r.start date look
   pub reached : (variable : ℕ) (look : Option (ℕ × ℕ)) → IsLookIn s code r (units r.agent r.number turns) look
-      → reach s (turn_of (Some r) ∷ turns) (history s (date + 1)) variable ≡ reach_by s variable r.start date look (reach s turns (history s (date + 1)) variable)
+      → reach s (turn_of (Some r) ∷ turns) (history s (date + 1)) variable
+      ≡ reach_by s variable r.start date look (reach s turns (history s (date + 1)) variable)
 
 -- The actions before an agent's last one are finished or stopped.
 abbrev pub AreOver : List (Option Turn) → List Action → Type 0

@@ -17,6 +17,7 @@ pub record KeepsRest (before after : Eyes) : Type 0 where
   pub scene : after.scene.now ≡ before.scene.now
   pub size : after.outbox.now.size ≡ before.outbox.now.size
   pub count : length after.taken.now.items ≡ length before.taken.now.items
-  pub others : (stream : ℕ) → (is_mine before.scene.now stream ≡ Some true → ⊥) → slice_get after.taken.now.items stream ≡ slice_get before.taken.now.items stream
+  pub others : (stream : ℕ) → (is_mine before.scene.now stream ≡ Some true → ⊥)
+      → slice_get after.taken.now.items stream ≡ slice_get before.taken.now.items stream
   pub within : (stream n : ℕ) (queue : Queued) → slice_get before.scene.now.queues stream ≡ Some queue → slice_get after.taken.now.items stream ≡ Some n
       → (slice_get before.taken.now.items stream ≡ Some n) ⊎ (n ≤ seen_by queue.messages before.scene.now.start)

@@ -27,7 +27,8 @@ values_of rings clocks start date v variable = take v.depth (drop (dates_between
 -- The same of all variables, and by stream these messages
 abbrev pub view_in : List (List ℤ) → List VarDecl → List Clock → ℕ → ℕ → List (Option (List ℤ)) → View
 view_in rings variables clocks start date messages = record {
-  pasts = map (λ variable. values_of rings clocks start date (get_or variables variable (record { name = []; owner = None; clock = 0; init = pos 0; depth = 0 })) variable) (range_with_len 0 (length variables));
+  pasts = map (λ variable. values_of rings clocks start date
+      (get_or variables variable (record { name = []; owner = None; clock = 0; init = pos 0; depth = 0 })) variable) (range_with_len 0 (length variables));
   messages = messages;
 }
 

@@ -1,5 +1,6 @@
 -- When a kernel stands for the dated history and the schedule.
-use Rattle.std.specs.Prelude.{◌≡◌, ℕ, zero, suc, ◌+◌, ◌-◌, ◌*◌, ◌==◌, ◌<◌, ◌≤◌, Bool, true, false, nat_lt, not, if◌then◌else◌, List, [], ◌∷◌, ◌++◌, filter, length, take, Option, Some, None, slice_get, ⊤}
+use Rattle.std.specs.Prelude.{◌≡◌, ℕ, zero, suc, ◌+◌, ◌-◌, ◌*◌, ◌==◌, ◌<◌, ◌≤◌, Bool, true, false, nat_lt, not, if◌then◌else◌, List, [], ◌∷◌, ◌++◌}
+use Rattle.std.specs.Prelude.{filter, length, take, Option, Some, None, slice_get, ⊤}
 use Rattle.std.specs.List.{count_by, flat_map, range_with_len}
 use Rattle.psy_budget.specs.Charges.{Charged, ticked}
 use Rattle.psy_code.specs.declared.code.Code.{Code}
@@ -49,7 +50,8 @@ ChargeStands s turns agent (r ∷ before) charge = charge ≡ charge_after s r (
 
 -- The machine of an action that is pending is where its code is after the instructions that its cycles paid.
 abbrev pub IsRunning : Code → Action → ℕ → AgentMachine → Type 0
-IsRunning code r paid machine = (state : RunState) × (run_code code (agent_code_at code r.agent) (begun_by (agent_code_at code r.agent) r) paid ≡ Running state) × (state.machine ≡ machine.machine)
+IsRunning code r paid machine = (state : RunState) × (run_code code (agent_code_at code r.agent) (begun_by (agent_code_at code r.agent) r) paid
+    ≡ Running state) × (state.machine ≡ machine.machine)
 
 -- The machine behind an action that reached a point stands there, and carries what the agent does.
 abbrev pub IsAtEnd : Code → Action → Verdict → AgentMachine → Type 0
@@ -71,12 +73,14 @@ pub record HasDone (s : System) (code : Code) (r : Action) (paid : ℕ) (sends :
   pub state : RunState
   pub running : run_code code (agent_code_at code r.agent) (begun_by (agent_code_at code r.agent) r) paid ≡ Running state
   pub sent : sends ≡ state.deeds.sends
-  pub took : (stream n : ℕ) → slice_get taken stream ≡ Some n → (stream_of s stream).receiver ≡ r.agent → n ≡ length (take (count_by (λ t. t == stream) state.deeds.takes) (r.seen stream))
+  pub took : (stream n : ℕ) → slice_get taken stream ≡ Some n → (stream_of s stream).receiver ≡ r.agent
+      → n ≡ length (take (count_by (λ t. t == stream) state.deeds.takes) (r.seen stream))
 
 -- The outbox of an agent with these actions, and what it took of each stream, where its last action is pending
 abbrev pub DeedsStand : System → Code → List (Option Turn) → List Action → List Sent → List ℕ → Type 0
 DeedsStand s code turns [] sends taken = ⊤
-DeedsStand s code turns (r ∷ before) sends taken = is_pending turns r ≡ true → HasDone s code r (charge_after s r (units r.agent r.number turns)).paid sends taken
+DeedsStand s code turns (r ∷ before) sends taken = is_pending turns r ≡ true
+    → HasDone s code r (charge_after s r (units r.agent r.number turns)).paid sends taken
 
 -- The deadline of an agent's last action, where it is pending
 abbrev pub deadline_of : List (Option Turn) → List Action → Option ℕ
@@ -88,7 +92,8 @@ abbrev pub settled : List (Option Turn) → ℕ → List Action → List Action
 settled turns until actions = filter (λ r. not (is_pending turns r)) (due_by until actions)
 
 -- What an agent has, where its actions are these
-pub record AgentStands (s : System) (code : Code) (turns : List (Option Turn)) (until agent : ℕ) (actions : List Action) (charge : Charged) (machine : AgentMachine) (waits : Option ℕ) (figure : Figure) : Type 0 where
+pub record AgentStands (s : System) (code : Code) (turns : List (Option Turn)) (until agent : ℕ) (actions : List Action) (charge : Charged)
+    (machine : AgentMachine) (waits : Option ℕ) (figure : Figure) : Type 0 where
   pub charged : ChargeStands s turns agent actions charge
   pub is_agent : machine.agent ≡ agent
   pub of_code : IsOf code machine
@@ -158,16 +163,20 @@ pub record KernelStands (k : Inside) : Type 0 where
   pub charges : length k.charges.items ≡ length k.plan.unit.agents
   pub reaching : length k.reaches.items ≡ length k.plan.unit.variables
   pub reached : (variable : ℕ) (n : Option ℕ) → slice_get k.reaches.items variable ≡ Some n
-      → n ≡ reach (system (progress_of k)) (turns_of (system (progress_of k)) (order (progress_of k)) k.cycles) (history (system (progress_of k)) (dates_done k.shared.date)) variable
+      → n ≡ reach (system (progress_of k)) (turns_of (system (progress_of k)) (order (progress_of k)) k.cycles)
+      (history (system (progress_of k)) (dates_done k.shared.date)) variable
   pub holding : length k.helds.items ≡ length k.plan.unit.streams
   pub held : (stream n : ℕ) → slice_get k.helds.items stream ≡ Some n → n ≡ most_held_in (system (progress_of k)) (dates_done k.shared.date) stream
   pub doing : (agent : ℕ) (outbox : Outboxed) → slice_get k.shared.outboxes.items agent ≡ Some outbox
-      → DeedsStand (system (progress_of k)) k.plan.code (turns_of (system (progress_of k)) (order (progress_of k)) k.cycles) (history (system (progress_of k)) (dates_done k.shared.date) agent) outbox.sends k.shared.taken.items
+      → DeedsStand (system (progress_of k)) k.plan.code (turns_of (system (progress_of k)) (order (progress_of k)) k.cycles)
+      (history (system (progress_of k)) (dates_done k.shared.date) agent) outbox.sends k.shared.taken.items
   pub waiting : length k.ready ≡ length k.plan.unit.agents
   pub figured : length k.figures.items ≡ length k.plan.unit.agents
   pub agents : (agent : ℕ) (machine : AgentMachine) (charge : Charged) (waits : Option ℕ) (figure : Figure)
-      → slice_get k.machines.items agent ≡ Some machine → slice_get k.charges.items agent ≡ Some charge → slice_get k.ready agent ≡ Some waits → slice_get k.figures.items agent ≡ Some figure
-      → AgentStands (system (progress_of k)) k.plan.code (turns_of (system (progress_of k)) (order (progress_of k)) k.cycles) k.plan.until agent (history (system (progress_of k)) (dates_done k.shared.date) agent) charge machine waits figure
+      → slice_get k.machines.items agent ≡ Some machine → slice_get k.charges.items agent ≡ Some charge → slice_get k.ready agent ≡ Some waits
+      → slice_get k.figures.items agent ≡ Some figure
+      → AgentStands (system (progress_of k)) k.plan.code (turns_of (system (progress_of k)) (order (progress_of k)) k.cycles) k.plan.until agent
+      (history (system (progress_of k)) (dates_done k.shared.date) agent) charge machine waits figure
   pub all : k.declared.items ≡ range_with_len 0 (length k.plan.unit.agents)
   pub orders : AreInForce k.script.orders k.passed k.cycles
   pub choice : k.stale ≡ false → IsChosen k.ready (order (progress_of k) k.cycles) k.chosen

@@ -1,5 +1,6 @@
 -- What starts at a date, and what a kernel begins with.
-use Rattle.std.specs.Prelude.{◌≡◌, ℕ, ◌<◌, ◌≤◌, ◌==◌, ◌&&◌, Bool, true, false, if◌then◌else◌, List, [], length, Option, Some, None, slice_get, slice_index_or, max}
+use Rattle.std.specs.Prelude.{◌≡◌, ℕ, ◌<◌, ◌≤◌, ◌==◌, ◌&&◌, Bool, true, false, if◌then◌else◌, List, [], length, Option, Some, None, slice_get}
+use Rattle.std.specs.Prelude.{slice_index_or, max}
 use Rattle.psy_budget.specs.Charges.{Charged, after_start}
 use Rattle.psy_code.specs.declared.code.Code.{Code}
 use Rattle.psy_dates.specs.declared.seat.Phase.{Phase}
@@ -39,7 +40,8 @@ budget_in points point = (slice_index_or points point (record { count = 1; clock
 
 -- The seat of an agent: one that waits where there is none
 abbrev pub seat_at : List Seat → ℕ → Seat
-seat_at seats agent = slice_index_or seats agent (record { phase = phase.Waiting; number = 0; point = 0; start = 0; deadline = 0; end = 0; reached = 0; trap = None })
+seat_at seats agent = slice_index_or seats agent
+    (record { phase = phase.Waiting; number = 0; point = 0; start = 0; deadline = 0; end = 0; reached = 0; trap = None })
 
 -- The points of an agent: none where there is none
 abbrev pub points_at : List AgentDecl → ℕ → List Point
@@ -47,7 +49,8 @@ points_at agents agent = (slice_index_or agents agent (record { name = []; clock
 
 -- The charge of an agent, once the action of its seat has started where it starts at the date
 abbrev pub charge_at : ℕ → List Seat → List AgentDecl → ℕ → Charged → Charged
-charge_at date seats agents agent charge = if starts_at date (seat_at seats agent) then after_start charge (budget_in (points_at agents agent) (seat_at seats agent).point) else charge
+charge_at date seats agents agent charge = if starts_at date (seat_at seats agent) then after_start charge
+    (budget_in (points_at agents agent) (seat_at seats agent).point) else charge
 
 -- The deadline for which it waits then
 abbrev pub deadline_at : ℕ → List Seat → ℕ → Option ℕ → Option ℕ

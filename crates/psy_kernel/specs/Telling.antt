@@ -1,5 +1,6 @@
 -- What the seats, the variables and the figures of a run tell, line by line.
-use Rattle.std.specs.Prelude.{◌≡◌, ℕ, ◌+◌, ◌-◌, ◌≤◌, Bool, true, false, nat_lt, ◌==◌, ◌<◌, if◌then◌else◌, List, [], ◌∷◌, ◌++◌, map, filter, length, get_or, slice_get, Option, Some, None, IsSome, ℤ, pos}
+use Rattle.std.specs.Prelude.{◌≡◌, ℕ, ◌+◌, ◌-◌, ◌≤◌, Bool, true, false, nat_lt, ◌==◌, ◌<◌, if◌then◌else◌, List, [], ◌∷◌, ◌++◌, map, filter, length}
+use Rattle.std.specs.Prelude.{get_or, slice_get, Option, Some, None, IsSome, ℤ, pos}
 use Rattle.std.specs.List.{range_with_len}
 use Rattle.psy_arith.specs.declared.operators.Trap.{Trap}
 use Rattle.psy_base.specs.declared.message.Message.{Message}
@@ -50,12 +51,14 @@ IsToldBy s date events false old new = (events ≡ []) × (new ≡ old)
 
 -- A message that becomes visible at a date, behind so many others of its stream, is told by its value; or there are no more.
 abbrev pub TellsMessage : List Message → List ℕ → ℕ → ℕ → Bool → List ℕ → List ℕ → Type 0
-TellsMessage messages name date shown true old new = (m : Message) × (slice_get (filter (λ (n : Message). n.visible == date) messages) shown ≡ Some m) × (new ≡ message_line date name m.value)
+TellsMessage messages name date shown true old new = (m : Message) × (slice_get (filter (λ (n : Message). n.visible == date) messages) shown ≡ Some m)
+    × (new ≡ message_line date name m.value)
 TellsMessage messages name date shown false old new = (length (filter (λ (n : Message). n.visible == date) messages) ≤ shown) × (new ≡ old)
 
 -- The event that a stream shows at a date behind so many others is told by its line; or there are no more.
 abbrev pub IsShownBy : System → ℕ → ℕ → ℕ → Bool → List ℕ → List ℕ → Type 0
-IsShownBy s date stream shown true old new = (event : Event) × (slice_get (shows s (history s (date + 1)) date stream) shown ≡ Some event) × (new ≡ event_line s date event)
+IsShownBy s date stream shown true old new = (event : Event) × (slice_get (shows s (history s (date + 1)) date stream) shown ≡ Some event)
+    × (new ≡ event_line s date event)
 IsShownBy s date stream shown false old new = (length (shows s (history s (date + 1)) date stream) ≤ shown) × (new ≡ old)
 
 -- How many places there are before those of the streams: one for each agent and one for each variable

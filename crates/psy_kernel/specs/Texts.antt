@@ -30,7 +30,8 @@ agent_end s turns until agent =
 
 -- A variable's line: the size of its ring, and how far back it was reached for
 abbrev pub variable_end : System → List (Option Turn) → Sizes → ℕ → ℕ → List ℕ
-variable_end s turns sizes until variable = variable_line (variable_of s variable).name (get_or sizes.rings variable 0) (reach s turns (history s (until + 1)) variable)
+variable_end s turns sizes until variable = variable_line (variable_of s variable).name (get_or sizes.rings variable 0)
+    (reach s turns (history s (until + 1)) variable)
 
 -- A stream's line: the size of its queue, and the most messages that it held
 abbrev pub stream_end : System → Sizes → ℕ → ℕ → List ℕ

@@ -85,7 +85,16 @@ impl<'a> Scene<'a> {
         date: u64,
     ) -> Scene<'a>
         requires { CanSee rings.now clocks.now start date }
-        ensures { result ≡ record { rings = rings.now; variables = variables.now; clocks = clocks.now; queues = queues.now; streams = streams.now; agent = agent; start = start; date = date } }
+        ensures { result ≡ record {
+          rings = rings.now;
+          variables = variables.now;
+          clocks = clocks.now;
+          queues = queues.now;
+          streams = streams.now;
+          agent = agent;
+          start = start;
+          date = date;
+        } }
     {
         Scene {
             rings,

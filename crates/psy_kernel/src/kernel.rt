@@ -1,3 +1,5 @@
+//! The kernel: the state of a run between two of its steps.
+
 mod advance;
 mod boot;
 mod cycle;

@@ -1,3 +1,5 @@
+//! What is due next in a run.
+
 /// What is due next.
 #[derive(Clone, Copy, Debug, PartialEq, Eq)]
 pub enum Stage {

@@ -1,3 +1,4 @@
+//! What a line says.
 use psy_arith::Trap;
 
 /// What a line says. Names are borrowed, so a note takes no memory to make. Dates are counted in ticks from 0.

@@ -1,3 +1,4 @@
+//! How a line is made to say a note.
 ghost use Rattle.std.specs.Prelude.{◌≡◌, ◌≤◌, length};
 ghost use Rattle.psy_base.specs.declared.limits.TheConstants.{WORD_BYTES};
 ghost use Rattle.psy_log.specs.Forms.{line_of, name_of};

@@ -1,3 +1,4 @@
+//! The text of each line.
 ghost use Rattle.std.specs.Prelude.{◌≤◌, length};
 ghost use Rattle.psy_base.specs.declared.limits.TheConstants.{WORD_BYTES};
 ghost use Rattle.psy_log.specs.Forms.{name_of};

@@ -1,3 +1,4 @@
+-- The lemmas of this crate, by subject.
 pub mod Entries
 pub mod Laid
 pub mod Reversed

@@ -3,7 +3,8 @@ use Rattle.std.specs.Prelude.{◌≡◌, ℕ, ◌+◌, ◌<◌, ◌≤◌, ◌^�
 use Rattle.psy_arith.specs.Operators.{truth, is_zero}
 use Rattle.psy_base.specs.declared.limits.TheConstants.{OPEN_CALLS}
 use Rattle.psy_code.specs.declared.code.AgentCode.{AgentCode}
-use Rattle.psy_code.specs.Execution.{Machine, Next, Went, Ended, Trapped, Stuck, need, with_top, onward, push, jump, store, copy_of, back_from, begun_at, cells_in_calls}
+use Rattle.psy_code.specs.Execution.{Machine, Next, Went, Ended, Trapped, Stuck, need, with_top, onward, push, jump, store, copy_of, back_from}
+use Rattle.psy_code.specs.Execution.{begun_at, cells_in_calls}
 use Rattle.psy_machine.specs.declared.machine.Step.{Step}
 use Rattle.psy_machine.specs.Stepping.{AgentMachine, Answers, machine_after}
 

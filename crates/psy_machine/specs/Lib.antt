@@ -1,3 +1,4 @@
+-- The definitions of this crate, by subject.
 pub mod Acting
 pub mod Copying
 pub mod Layout

@@ -1,3 +1,4 @@
+//! The working copies of an agent's variables.
 ghost use Rattle.std.specs.Prelude.{◌≡◌, ◌≢◌, ℕ, ◌+◌, ◌<◌, ◌^◌, Some, map, slice_get, IsSome, IfOk, OnOk};
 ghost use Rattle.psy_code.specs.Execution.{copy_of, with_copy, copy_from};
 ghost use Rattle.psy_machine.specs.Copying.{entry_from, IsIndex};

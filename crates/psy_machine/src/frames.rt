@@ -1,3 +1,4 @@
+//! The frames of an agent and of its open calls: cells and counters.
 ghost use Rattle.std.specs.Prelude.{◌≡◌, ◌+◌, ◌<◌, ◌≤◌, [], ◌∷◌, ◌++◌, length, replicate, slice_get, slice_set, Some, IfOk};
 ghost use Rattle.psy_base.specs.declared.limits.TheConstants.{OPEN_CALLS};
 ghost use Rattle.psy_code.specs.Execution.{OpenCall, cells_in_calls, cleared};

@@ -1,3 +1,4 @@
+//! The machine of an agent.
 ghost use Rattle.std.specs.Prelude.{◌≡◌, ◌≢◌, ◌<◌, length, slice_index_or, Some, IsSome, IfOk};
 ghost use Rattle.psy_code.specs.Execution.{Stuck, copy_of, call_of, call_by, does};
 ghost use Rattle.psy_code.specs.Views.{PermitsAll};

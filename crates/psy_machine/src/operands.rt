@@ -1,3 +1,4 @@
+//! The operands of a machine.
 ghost use Rattle.std.specs.Prelude.{◌≡◌, ◌+◌, ◌<◌, ◌≤◌, [], ◌∷◌, length, take, drop, reverse, IfOk};
 
 use std::alloc::{AllocError, Global};

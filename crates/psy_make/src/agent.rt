@@ -1,3 +1,4 @@
+//! The numbers of an agent of a made program.
 ghost use Rattle.std.specs.Prelude.{◌≡◌, ◌<◌, ◌+◌, ◌*◌, ℕ, IfOk};
 ghost use Rattle.psy_make.specs.Generator.{drawn, count_of, agent_of, agents_of};
 

@@ -1,3 +1,4 @@
+//! A generator of numbers, each from the one before it.
 ghost use Rattle.std.specs.Prelude.{◌≡◌, ◌<◌, ◌/◌, ◌%◌, ◌^◌};
 ghost use Rattle.psy_make.specs.Generator.{next};
 

@@ -1,3 +1,4 @@
+//! The lines of a made program's text.
 ghost use Rattle.std.specs.Prelude.{◌≡◌, ◌++◌, codes, decimal, OnOk};
 ghost use Rattle.psy_make.specs.Text.{ended, temporal_line, agent_line, opening, taking, sending, closing};
 

@@ -1,3 +1,4 @@
+//! Made texts, by the lines of some seeds.
 use crate::generator::Generator;
 use crate::make;
 use std::alloc::AllocGlobal;

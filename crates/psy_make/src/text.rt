@@ -1,3 +1,4 @@
+//! The text of a program that is made from a number.
 ghost use Rattle.std.specs.Prelude.{◌≡◌, ◌++◌, map, flat_map, IfOk, OnOk};
 ghost use Rattle.psy_make.specs.Text.{ended, temporal_line, agent_line, made_text};
 

@@ -1,3 +1,4 @@
+-- The lemmas of this crate, by subject.
 mod AgentNames
 mod Bare
 pub mod CalleeRuns

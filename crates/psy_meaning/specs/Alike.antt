@@ -1,5 +1,6 @@
 -- When code acts as the statements of a unit do.
-use Rattle.std.specs.Prelude.{◌≡◌, ℕ, ◌+◌, ◌<◌, ◌==◌, if◌then◌else◌, List, [], ◌∷◌, ◌++◌, map, length, replicate, Option, Some, None, Bool, true, false, slice_get, ℤ, FitsSigned, ⊤}
+use Rattle.std.specs.Prelude.{◌≡◌, ℕ, ◌+◌, ◌<◌, ◌==◌, if◌then◌else◌, List, [], ◌∷◌, ◌++◌, map, length, replicate, Option, Some, None, Bool, true}
+use Rattle.std.specs.Prelude.{false, slice_get, ℤ, FitsSigned, ⊤}
 use Rattle.std.specs.Int.{w32}
 use Rattle.std.specs.List.{All, flat_map}
 use Rattle.psy_tree.specs.declared.unit.Unit.{Unit as Whole}
@@ -99,9 +100,13 @@ pub record AgentAlike (unit : Whole) (code : Code) (number : ℕ) (agent : Agent
   pub cells : its.cells ≡ flat_map (λ cells. cells) (first_slots agent)
   pub copies : map copy_from its.copies ≡ first_copies unit number
   -- From each point, with each store and view, and whatever the counters hold
-  pub acts : (point : ℕ) (store : Store) (view : View) (counters : List ℕ) → point < length agent.points → IsStoreOf unit number agent store → IsViewOf unit number view → length counters ≡ its.counters → EndsAs (act unit.functions (rest agent.stmts point) (begun store view)) (run_code code its (started (standing its point (home_holding store counters) store.copies) view))
+  pub acts : (point : ℕ) (store : Store) (view : View) (counters : List ℕ) → point < length agent.points → IsStoreOf unit number agent store
+      → IsViewOf unit number view → length counters ≡ its.counters
+      → EndsAs (act unit.functions (rest agent.stmts point) (begun store view))
+      (run_code code its (started (standing its point (home_holding store counters) store.copies) view))
 
 -- The code acts as the statements of the unit.
 pub record ActsAlike (unit : Whole) (code : Code) : Type 0 where
   pub agents : length code.agents ≡ length unit.agents
-  pub each : (number : ℕ) (agent : AgentDecl) (its : AgentCode) → slice_get unit.agents number ≡ Some agent → slice_get code.agents number ≡ Some its → AgentAlike unit code number agent its
+  pub each : (number : ℕ) (agent : AgentDecl) (its : AgentCode) → slice_get unit.agents number ≡ Some agent → slice_get code.agents number ≡ Some its
+      → AgentAlike unit code number agent its

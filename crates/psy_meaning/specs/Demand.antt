@@ -7,7 +7,8 @@ use Rattle.psy_base.specs.Paths.{FitsDueLast, IsGreatestWeight}
 -- actions of which the last is due within the length
 abbrev pub IsDemand : List (List Edge) → ℕ → ℕ → Type 0
 IsDemand [] length demand = demand ≡ 0
-IsDemand (graph ∷ rest) length demand = (one others : ℕ) × IsGreatestWeight graph (FitsDueLast length) one × IsDemand rest length others × (demand ≡ one + others)
+IsDemand (graph ∷ rest) length demand = (one others : ℕ) × IsGreatestWeight graph (FitsDueLast length) one × IsDemand rest length others
+    × (demand ≡ one + others)
 
 -- Over this length the demand is at most what the processor supplies in so many cycles a tick.
 abbrev pub Suffices : List (List Edge) → ℕ → ℕ → Type 0

@@ -108,7 +108,10 @@ loops_in stmts = total (map loops stmts)
 -- A call of a function: an operand at least, and beside what its statements hold a frame of its parameters, locals and
 -- counters.
 abbrev pub call_depth : List Depth → FunctionDecl → Depth
-call_depth above f = let d = stmts_depth above f.stmts in record { operands = max 1 d.operands; cells = f.params + length f.locals + loops_in f.stmts + d.cells }
+call_depth above f = let d = stmts_depth above f.stmts in record {
+  operands = max 1 d.operands;
+  cells = f.params + length f.locals + loops_in f.stmts + d.cells;
+}
 
 -- The depths of the functions' calls, in order; each function calls those above it.
 abbrev pub call_depths_from : List Depth → List FunctionDecl → List Depth

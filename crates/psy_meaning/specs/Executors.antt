@@ -72,7 +72,8 @@ acted_by budget carried outcome = record { fate = Unfinished; carried = carried;
 abbrev pub by_statements : Whole → Executor
 by_statements unit = record {
   first = λ agent. carried_in (first_store unit agent (agent_at unit agent));
-  act = λ agent point carried view budget. acted_by budget carried (act unit.functions (rest (agent_at unit agent).stmts point) (begun (store_of (agent_at unit agent) carried) view));
+  act = λ agent point carried view budget. acted_by budget carried
+      (act unit.functions (rest (agent_at unit agent).stmts point) (begun (store_of (agent_at unit agent) carried) view));
 }
 
 -- ---- code
@@ -104,7 +105,8 @@ acted_as budget carried NoRun = record { fate = Unfinished; carried = carried; d
 abbrev pub by_code : Code → Executor
 by_code code = record {
   first = λ agent. record { cells = (agent_code_at code agent).cells; copies = map copy_from (agent_code_at code agent).copies };
-  act = λ agent point carried view budget. acted_as budget carried (run_code code (agent_code_at code agent) (started (machine_at (agent_code_at code agent) point carried) view) budget);
+  act = λ agent point carried view budget. acted_as budget carried
+      (run_code code (agent_code_at code agent) (started (machine_at (agent_code_at code agent) point carried) view) budget);
 }
 
 -- The working copy of a variable: 0 where there is none

@@ -27,7 +27,8 @@ HasSends functions agent from to stream sends = (met : Meter) × IsWayFrom funct
 
 -- A way from a point looks at a variable.
 abbrev pub MayLook : List FunctionDecl → AgentDecl → ℕ → ℕ → Type 0
-MayLook functions agent from variable = (to : ℕ) × (met : Meter) × IsWayFrom functions agent from to met × (look : Looked) × Contains met.looks look × (look.variable ≡ variable)
+MayLook functions agent from variable = (to : ℕ) × (met : Meter) × IsWayFrom functions agent from to met × (look : Looked) × Contains met.looks look
+    × (look.variable ≡ variable)
 
 -- One of these numbers is the greatest.
 pub record IsGreatest (Has : ℕ → Type 0) (n : ℕ) : Type 0 where
@@ -56,4 +57,5 @@ pub record AreNexts (functions : List FunctionDecl) (agent : AgentDecl) (nexts :
 -- By agent, the points that may follow each of its points
 pub record AreAllNexts (unit : Whole) (nexts : List (List (List ℕ))) : Type 0 where
   pub count : length nexts ≡ length unit.agents
-  pub each : (number : ℕ) (agent : AgentDecl) (list : List (List ℕ)) → slice_get unit.agents number ≡ Some agent → slice_get nexts number ≡ Some list → AreNexts unit.functions agent list
+  pub each : (number : ℕ) (agent : AgentDecl) (list : List (List ℕ)) → slice_get unit.agents number ≡ Some agent → slice_get nexts number ≡ Some list
+      → AreNexts unit.functions agent list

@@ -71,7 +71,8 @@ pub record IsGraph (timing : Timing) (spots : List Spot) (edges : List Edge) : T
 
 -- More spots are met than a graph may have nodes.
 abbrev pub PassesNodes : Timing → Type 0
-PassesNodes timing = (cycle : ℕ) × IsCycle timing cycle × (spots : List Spot) × AllPairs SpotBefore spots × All (IsMet timing cycle) spots × (NODES < length spots)
+PassesNodes timing = (cycle : ℕ) × IsCycle timing cycle × (spots : List Spot) × AllPairs SpotBefore spots × All (IsMet timing cycle) spots
+    × (NODES < length spots)
 
 -- The graph has no more nodes than it may, but more edges.
 abbrev pub PassesEdges : Timing → Type 0

@@ -1,3 +1,4 @@
+-- The definitions of this crate, by subject.
 pub mod Actions
 pub mod Alike
 pub mod BufferSizes

@@ -74,7 +74,8 @@ lasting_of unit stream = (stream_at unit stream).keep * period_of unit (stream_a
 
 -- An agent begins after so many ticks, or an action of it may last that long.
 abbrev pub MayLast : Timing → ℕ → Type 0
-MayLast timing ticks = (ticks ≡ first_date timing) ⊎ ((point start to : ℕ) × MayStart timing point start × Contains (following timing point) to × (start + ticks ≡ end_date timing start to))
+MayLast timing ticks = (ticks ≡ first_date timing) ⊎ ((point start to : ℕ) × MayStart timing point start × Contains (following timing point) to
+    × (start + ticks ≡ end_date timing start to))
 
 -- The dates for which a message of a stream may be held: from the end of its sender's action until it is visible, until it expires, and
 -- until its receiver starts again.
@@ -88,7 +89,8 @@ IsWindow unit nexts stream window =
 -- An edge of a graph whose weight is the most sends to a stream on a way from its point to the next
 pub record IsSendEdge (functions : List FunctionDecl) (agent : AgentDecl) (stream : ℕ) (spots : List Spot) (e sent : Edge) : Type 0 where
   pub same : sent ≡ record e { weight = sent.weight }
-  pub most : (from to : Spot) → slice_get spots e.from ≡ Some from → slice_get spots e.to ≡ Some to → IsMostSends functions agent from.point to.point stream sent.weight
+  pub most : (from to : Spot) → slice_get spots e.from ≡ Some from → slice_get spots e.to ≡ Some to
+      → IsMostSends functions agent from.point to.point stream sent.weight
 
 -- All edges of a graph, weighted by their sends
 pub record AreSendEdges (functions : List FunctionDecl) (agent : AgentDecl) (stream : ℕ) (spots : List Spot) (edges sent : List Edge) : Type 0 where
@@ -114,7 +116,8 @@ IsSpreadBelow unit nexts stream window (suc agent) n =
 -- The size of a stream's queue, by the sends to it in the text: nothing where nobody sends.
 abbrev pub IsSizeFor : Whole → List (List (List ℕ)) → ℕ → ℕ → List Sending → Type 0
 IsSizeFor unit nexts stream size [] = size ≡ 0
-IsSizeFor unit nexts stream size (sending ∷ more) = (window : ℕ) × IsWindow unit nexts stream window × IsSpreadBelow unit nexts stream window (length unit.agents) size
+IsSizeFor unit nexts stream size (sending ∷ more) = (window : ℕ) × IsWindow unit nexts stream window
+    × IsSpreadBelow unit nexts stream window (length unit.agents) size
 
 -- The size of a stream's queue
 abbrev pub IsQueueSize : Whole → List (List (List ℕ)) → ℕ → ℕ → Type 0
@@ -167,7 +170,8 @@ AreSendsBelow functions agent from to (suc stream) n =
 
 -- So many messages may be sent, at most, from some point of an agent to a next one.
 abbrev pub HasSendsTo : Whole → AgentDecl → ℕ → Type 0
-HasSendsTo unit agent n = (from to : ℕ) × (from < length agent.points) × IsNext unit.functions agent from to × AreSendsBelow unit.functions agent from to (length unit.streams) n
+HasSendsTo unit agent n = (from to : ℕ) × (from < length agent.points) × IsNext unit.functions agent from to
+    × AreSendsBelow unit.functions agent from to (length unit.streams) n
 
 -- By agent, the sizes of the outboxes: the most messages of one action
 pub record AreOutboxes (unit : Whole) (sizes : List ℕ) : Type 0 where

@@ -1,5 +1,6 @@
 -- What expressions and statements may name where they stand.
-use Rattle.std.specs.Prelude.{◌≡◌, ℕ, ◌<◌, ◌≤◌, Bool, true, false, ◌==◌, List, [], ◌∷◌, ◌++◌, ◌+◌, map, replicate, length, Option, Some, None, slice_get, FitsSigned, ⊤}
+use Rattle.std.specs.Prelude.{◌≡◌, ℕ, ◌<◌, ◌≤◌, Bool, true, false, ◌==◌, List, [], ◌∷◌, ◌++◌, ◌+◌, map, replicate, length, Option, Some, None}
+use Rattle.std.specs.Prelude.{slice_get, FitsSigned, ⊤}
 use Rattle.std.specs.Int.{w32}
 use Rattle.std.specs.List.{All, range_with_len}
 use Rattle.psy_base.specs.declared.limits.TheConstants.{AFTER, FUNCTIONS, TURNS}
@@ -97,7 +98,8 @@ sound_stmt_step scope X tree sound (Stmt-F.Set slot value) = HasSlot scope slot 
 sound_stmt_step scope X tree sound (Stmt-F.SetCopy variable value) = HasCopy scope variable × IsSoundExpr scope value
 sound_stmt_step scope X tree sound (Stmt-F.SetCell slot index value) = HasSlot scope slot × IsSoundExpr scope index × IsSoundExpr scope value
 sound_stmt_step scope X tree sound (Stmt-F.If test branch other) = IsSoundExpr scope test × Each sound branch × EachOr sound other
-sound_stmt_step scope X tree sound (Stmt-F.Bounded test most body) = IsSoundExpr scope test × (most ≤ TURNS) × Each sound body × (holds_advance (map tree body) ≡ false)
+sound_stmt_step scope X tree sound (Stmt-F.Bounded test most body) = IsSoundExpr scope test × (most ≤ TURNS) × Each sound body
+    × (holds_advance (map tree body) ≡ false)
 sound_stmt_step scope X tree sound (Stmt-F.Timed test body) = IsSoundExpr scope test × (quiet_list (map tree body) ≡ false) × Each sound body
 sound_stmt_step scope X tree sound (Stmt-F.Send value stream after clock) = CanSend scope stream after clock × IsSoundExpr scope value
 sound_stmt_step scope X tree sound (Stmt-F.Advance point) = point < scope.points
@@ -114,7 +116,17 @@ AreSound scope stmts = Each (IsSoundStmt scope) stmts
 -- What can be named in a function: its own slots, and the functions above it
 abbrev pub function_scope : List FunctionDecl → List ℕ → List Bool → FunctionDecl → Scope
 function_scope above depths streams f =
-    record { layout = replicate (f.params + length f.locals) 1; copies = []; depths = depths; streams = streams; clocks = 0; functions = above; points = 0; sends = false; returns = true }
+    record {
+      layout = replicate (f.params + length f.locals) 1;
+      copies = [];
+      depths = depths;
+      streams = streams;
+      clocks = 0;
+      functions = above;
+      points = 0;
+      sends = false;
+      returns = true;
+    }
 
 -- ---- units
 

@@ -7,7 +7,8 @@ use Rattle.psy_code.specs.Execution.{index_in}
 use Rattle.psy_tree.specs.declared.unit.FunctionDecl.{FunctionDecl}
 use Rattle.psy_tree.specs.declared.unit.Stmt.{Stmt, fold-Stmt}
 use Rattle.psy_tree.specs.declared.unit.Stmt.TheOpen.{Stmt-F}
-use Rattle.psy_meaning.specs.States.{Store, State, Final, Ended, Trapped, Got, Value, Stops, Outcome, Falls, Returns, Halts, Eval, Act, Callee, with_value, then_do, cost_1, asking, trapping, or_halt, cells_at, with_slot, with_copy_at}
+use Rattle.psy_meaning.specs.States.{Store, State, Final, Ended, Trapped, Got, Value, Stops, Outcome, Falls, Returns, Halts, Eval, Act, Callee}
+use Rattle.psy_meaning.specs.States.{with_value, then_do, cost_1, asking, trapping, or_halt, cells_at, with_slot, with_copy_at}
 use Rattle.psy_meaning.specs.Expressions.{eval}
 
 -- A value into the cell of an array that an index names
@@ -35,13 +36,15 @@ branches test branch (Some other) s = choose test (λ t. then_do (branch t) hop)
 -- At most so many turns more of a bounded loop: it traps where its test holds after the last.
 abbrev pub turns : ℕ → Eval → Act → Act
 turns zero test body s = with_value (test s) (λ v t. if is_zero v then Falls (cost_1 (cost_1 t)) else Halts (trapping trap.Loop t))
-turns (suc more) test body s = with_value (test s) (λ v t. if is_zero v then Falls (cost_1 (cost_1 t)) else then_do (body (cost_1 (cost_1 t))) (λ u. turns more test body (cost_1 u)))
+turns (suc more) test body s = with_value (test s) (λ v t. if is_zero v then Falls (cost_1 (cost_1 t))
+    else then_do (body (cost_1 (cost_1 t))) (λ u. turns more test body (cost_1 u)))
 
 -- What a statement does, once each of its parts is known to do something.
 abbrev pub stmt_step : (ℕ → Callee) → Stmt-F Act → Act
 stmt_step callees (Stmt-F.Set slot value) s = with_value (eval callees value s) (λ v t. Falls (with_slot slot 0 v (cost_1 t)))
 stmt_step callees (Stmt-F.SetCopy variable value) s = with_value (eval callees value s) (λ v t. Falls (with_copy_at variable v (cost_1 t)))
-stmt_step callees (Stmt-F.SetCell slot index value) s = with_value (eval callees index s) (λ i t. with_value (eval callees value t) (λ v u. set_element slot i v u))
+stmt_step callees (Stmt-F.SetCell slot index value) s = with_value (eval callees index s)
+    (λ i t. with_value (eval callees value t) (λ v u. set_element slot i v u))
 stmt_step callees (Stmt-F.If test branch other) s = branches (eval callees test) (all_of branch) other s
 stmt_step callees (Stmt-F.Bounded test most body) s = turns most (eval callees test) (all_of body) (cost_1 s)
 stmt_step callees (Stmt-F.Timed test body) s = choose (eval callees test) (all_of body) Falls s

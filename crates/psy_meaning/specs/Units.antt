@@ -1,7 +1,8 @@
 -- What is asked of a unit by those who read it.
 use Rattle.std.specs.Prelude.{◌≡◌, ℕ, ◌+◌, ◌<◌, ◌≤◌, List, [], ◌∷◌, ◌++◌, map, length, Option, Some, None, slice_get, ⊤}
 use Rattle.std.specs.List.{All}
-use Rattle.psy_base.specs.declared.limits.TheConstants.{ADVANCE, AGENTS, BUDGET, CELLS, CLOCKS, DEPTH, FUNCTIONS, KEEP, NAMES, POINTS, QUANTUM, STREAMS, UNIT_SIZE, VARIABLES, WORD_BYTES}
+use Rattle.psy_base.specs.declared.limits.TheConstants.{ADVANCE, AGENTS, BUDGET, CELLS, CLOCKS, DEPTH, FUNCTIONS, KEEP, NAMES, POINTS, QUANTUM}
+use Rattle.psy_base.specs.declared.limits.TheConstants.{STREAMS, UNIT_SIZE, VARIABLES, WORD_BYTES}
 use Rattle.psy_clock.specs.Dates.{IsClock}
 use Rattle.psy_tree.specs.declared.raw.Raw.{Raw}
 use Rattle.psy_tree.specs.declared.unit.Unit.{Unit as Whole}
@@ -76,7 +77,8 @@ pub record IsBareAgent (unit : Whole) (a : AgentDecl) : Type 0 where
 -- The names of all declarations
 abbrev pub global_names : Whole → List (List ℕ)
 global_names unit =
-    unit.clock_names ++ (map (λ v. v.name) unit.variables ++ (map (λ s. s.name) unit.streams ++ (map (λ f. f.name) unit.functions ++ map (λ a. a.name) unit.agents)))
+    unit.clock_names ++ (map (λ v. v.name) unit.variables ++
+    (map (λ s. s.name) unit.streams ++ (map (λ f. f.name) unit.functions ++ map (λ a. a.name) unit.agents)))
 
 -- No two names at different places are the same.
 abbrev pub AllDiffer : List (List ℕ) → Type 0

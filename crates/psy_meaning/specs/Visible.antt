@@ -1,6 +1,7 @@
 -- What an action sees: the values published and the messages visible at its start date, and nothing later (OASIS: data visible at
 -- the start date only).
-use Rattle.std.specs.Prelude.{ℕ, zero, suc, ◌+◌, ◌-◌, ◌==◌, Bool, true, not, ◌&&◌, nat_le, nat_lt, if◌then◌else◌, List, [], ◌∷◌, ◌++◌, map, filter, get_or, take, length, Option, Some, None, ℤ}
+use Rattle.std.specs.Prelude.{ℕ, zero, suc, ◌+◌, ◌-◌, ◌==◌, Bool, true, not, ◌&&◌, nat_le, nat_lt, if◌then◌else◌, List, [], ◌∷◌, ◌++◌, map, filter}
+use Rattle.std.specs.Prelude.{get_or, take, length, Option, Some, None, ℤ}
 use Rattle.std.specs.List.{count_by, flat_map, list_all, list_any, range_with_len}
 use Rattle.psy_base.specs.declared.message.Message.{Message}
 use Rattle.psy_clock.specs.Dates.{after_date, count, date, from_date}
@@ -80,7 +81,8 @@ messages_by s stream agent sends verdict = []
 -- The messages to a stream of all actions of a history
 abbrev pub sent_to : System → History → ℕ → List Message
 sent_to s h stream =
-    s.opening.messages stream ++ flat_map (λ agent. flat_map (λ (r : Action). messages_by s stream r.agent r.deeds.sends r.verdict) (h agent)) (range_with_len 0 (length s.unit.agents))
+    s.opening.messages stream ++ flat_map (λ agent. flat_map (λ (r : Action). messages_by s stream r.agent r.deeds.sends r.verdict) (h agent))
+    (range_with_len 0 (length s.unit.agents))
 
 -- Messages in their order: by visibility, then entry, then sender, then number
 abbrev pub in_order : List Message → List Message

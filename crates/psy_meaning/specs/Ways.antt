@@ -151,7 +151,8 @@ courses_through course (x ∷ rest) = and_on (course x) (courses_through course 
 -- At most so many turns of a bounded loop, each behind its test
 abbrev pub turning : ℕ → Way → Course → Course
 turning zero test body = falling (both test (both one one))
-turning (suc more) test body = or_else (falling (both test (both one one))) (behind (both test (both one one)) (and_on body (behind one (turning more test body))))
+turning (suc more) test body = or_else (falling (both test (both one one)))
+    (behind (both test (both one one)) (and_on body (behind one (turning more test body))))
 
 -- The ways of an `if` behind its test: a jump follows a first branch that has a second.
 abbrev pub branching : {X : Type 0} → (X → Course) → Course → Option (List X) → Course
@@ -163,10 +164,12 @@ abbrev pub course_step : (ℕ → Way) → (X : Type 0) → (X → Stmt) → (X 
 course_step callees X tree course (Stmt-F.Set slot value) = falling (both (expr_way callees value) one)
 course_step callees X tree course (Stmt-F.SetCopy variable value) = falling (both (expr_way callees value) one)
 course_step callees X tree course (Stmt-F.SetCell slot index value) = falling (both (expr_way callees index) (both (expr_way callees value) one))
-course_step callees X tree course (Stmt-F.If test branch other) = behind (both (expr_way callees test) one) (branching course (courses_through course branch) other)
+course_step callees X tree course (Stmt-F.If test branch other) = behind (both (expr_way callees test) one)
+    (branching course (courses_through course branch) other)
 course_step callees X tree course (Stmt-F.Bounded test most body) = behind one (turning most (expr_way callees test) (courses_through course body))
 course_step callees X tree course (Stmt-F.Timed test body) = behind (both (expr_way callees test) one) (or_else (courses_through course body) (falling here))
-course_step callees X tree course (Stmt-F.Send value stream after clock) = falling (both (expr_way callees value) (sending (record { stream = stream; after = after; clock = clock })))
+course_step callees X tree course (Stmt-F.Send value stream after clock) = falling
+    (both (expr_way callees value) (sending (record { stream = stream; after = after; clock = clock })))
 course_step callees X tree course (Stmt-F.Advance point) = reaching point one
 course_step callees X tree course (Stmt-F.Return value) = returning (both (expr_way callees value) one)
 

@@ -28,30 +28,36 @@ ghost use Rattle.psy_meaning.specs.Ways.{Meter, Sending, IsWay, IsFrontOf, met_b
 
 /// What an action does up to an `advance` is a way to it.
 pub fn ways()
-    ensures { (functions : List FunctionDecl) (pieces : List Piece) (point : ℕ) (s t : State) → NoneAdvances functions → s.deeds ≡ nothing_done → act functions pieces s ≡ Halts (Ended point t) → IsWay functions pieces point (met_by t.deeds) }
+    ensures { (functions : List FunctionDecl) (pieces : List Piece) (point : ℕ) (s t : State) → NoneAdvances functions → s.deeds ≡ nothing_done
+        → act functions pieces s ≡ Halts (Ended point t) → IsWay functions pieces point (met_by t.deeds) }
 {}
 
 /// What an action of a sound unit's agent did when it trapped is the front of a way to some point.
 pub fn traps()
-    ensures { (unit : Whole) (number : ℕ) (agent : AgentDecl) (point : ℕ) (s t : State) (kind : Trap) → IsSoundUnit unit → slice_get unit.agents number ≡ Some agent → s.deeds ≡ nothing_done → act unit.functions (rest agent.stmts point) s ≡ Halts (Trapped kind t)
+    ensures { (unit : Whole) (number : ℕ) (agent : AgentDecl) (point : ℕ) (s t : State) (kind : Trap) → IsSoundUnit unit
+        → slice_get unit.agents number ≡ Some agent → s.deeds ≡ nothing_done → act unit.functions (rest agent.stmts point) s ≡ Halts (Trapped kind t)
         → (end : ℕ) × (met : Meter) × IsWay unit.functions (rest agent.stmts point) end met × IsFrontOf (met_by t.deeds) met }
 {}
 
 /// Each send on a way of a sound unit's agent is one of the agent's text.
 pub fn sendings()
-    ensures { (unit : Whole) (number : ℕ) (agent : AgentDecl) (from to : ℕ) (met : Meter) (sending : Sending) → IsSoundUnit unit → slice_get unit.agents number ≡ Some agent → IsWay unit.functions (rest agent.stmts from) to met → Contains met.sends sending
+    ensures { (unit : Whole) (number : ℕ) (agent : AgentDecl) (from to : ℕ) (met : Meter) (sending : Sending) → IsSoundUnit unit
+        → slice_get unit.agents number ≡ Some agent → IsWay unit.functions (rest agent.stmts from) to met → Contains met.sends sending
         → Contains (sendings_in agent.stmts) sending }
 {}
 
 /// An action of a sound unit's agent ends at an `advance` or traps, from any of its points.
 pub fn ends()
-    ensures { (unit : Whole) (number : ℕ) (agent : AgentDecl) (point : ℕ) (s : State) → IsSoundUnit unit → slice_get unit.agents number ≡ Some agent → (final : Final) × (act unit.functions (rest agent.stmts point) s ≡ Halts final) }
+    ensures { (unit : Whole) (number : ℕ) (agent : AgentDecl) (point : ℕ) (s : State) → IsSoundUnit unit → slice_get unit.agents number ≡ Some agent
+        → (final : Final) × (act unit.functions (rest agent.stmts point) s ≡ Halts final) }
 {}
 
 /// What may follow a point of a sound unit's agent: there is some point, and each is that of an `advance`.
 pub fn follows()
-    ensures some { (unit : Whole) (number : ℕ) (agent : AgentDecl) (point : ℕ) → IsSoundUnit unit → slice_get unit.agents number ≡ Some agent → (to : ℕ) × IsNext unit.functions agent point to }
-    ensures inner { (unit : Whole) (number : ℕ) (agent : AgentDecl) (point to : ℕ) → IsSoundUnit unit → slice_get unit.agents number ≡ Some agent → IsNext unit.functions agent point to → IsAdvanceOf agent to }
+    ensures some { (unit : Whole) (number : ℕ) (agent : AgentDecl) (point : ℕ) → IsSoundUnit unit → slice_get unit.agents number ≡ Some agent → (to : ℕ)
+        × IsNext unit.functions agent point to }
+    ensures inner { (unit : Whole) (number : ℕ) (agent : AgentDecl) (point to : ℕ) → IsSoundUnit unit → slice_get unit.agents number ≡ Some agent
+        → IsNext unit.functions agent point to → IsAdvanceOf agent to }
 {
     sound();
     ends();
@@ -63,9 +69,11 @@ pub fn follows()
 /// `advance` or traps, with a store of the agent again, having looked, taken and sent within the ranges of the unit. An
 /// agent begins with a store of its own.
 pub fn keeps()
-    ensures action { (unit : Whole) (number : ℕ) (agent : AgentDecl) (point : ℕ) (store : Store) (view : View) → IsSoundUnit unit → slice_get unit.agents number ≡ Some agent → point < length agent.points → IsStoreOf unit number agent store → IsViewOf unit number view
+    ensures action { (unit : Whole) (number : ℕ) (agent : AgentDecl) (point : ℕ) (store : Store) (view : View) → IsSoundUnit unit
+        → slice_get unit.agents number ≡ Some agent → point < length agent.points → IsStoreOf unit number agent store → IsViewOf unit number view
         → (final : Final) × (act unit.functions (rest agent.stmts point) (begun store view) ≡ Halts final) × IsKept unit number agent final }
-    ensures first { (unit : Whole) (number : ℕ) (agent : AgentDecl) → IsSoundUnit unit → slice_get unit.agents number ≡ Some agent → IsStoreOf unit number agent (first_store unit number agent) }
+    ensures first { (unit : Whole) (number : ℕ) (agent : AgentDecl) → IsSoundUnit unit → slice_get unit.agents number ≡ Some agent
+        → IsStoreOf unit number agent (first_store unit number agent) }
 {}
 
 /// The statements of a unit that a program's tree stands for name what they can name, and no function of it holds an
@@ -77,6 +85,7 @@ pub fn sound()
 
 /// A unit that the tree of a text stands for is one of a text, with at most two instructions a token.
 pub fn of_text()
-    ensures unit { (bytes : List ℕ) (tokens : List Token) (raw : Raw) (unit : Whole) → length bytes ≤ FILE_BYTES → TokensOf bytes tokens → Spells raw tokens → Stands unit raw → IsOfText unit }
+    ensures unit { (bytes : List ℕ) (tokens : List Token) (raw : Raw) (unit : Whole) → length bytes ≤ FILE_BYTES → TokensOf bytes tokens
+        → Spells raw tokens → Stands unit raw → IsOfText unit }
     ensures size { (tokens : List Token) (raw : Raw) (unit : Whole) → Spells raw tokens → Stands unit raw → unit_size unit ≤ 2 * length tokens }
 {}

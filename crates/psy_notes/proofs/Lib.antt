@@ -1,3 +1,4 @@
+-- The lemmas of this crate, by subject.
 pub mod Lines
 pub mod Fields
 pub mod Ends

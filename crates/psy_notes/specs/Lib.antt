@@ -1,3 +1,4 @@
+-- The definitions of this crate, by subject.
 pub mod Notes
 pub mod Reading
 pub mod Stands

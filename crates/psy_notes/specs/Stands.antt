@@ -53,8 +53,10 @@ behind_streams streams _ = None
 -- all nodes, or the next agent behind all edges
 abbrev pub behind_graph : ℕ → ℕ → ℕ → ℕ → Note → Option Stand
 behind_graph agents nodes told edges (note.AgentGraph agent more_nodes more_edges) =
-    where_so ((told == nodes && edges == 0) && (nat_lt agents AGENTS && (nat_le more_nodes NODES && nat_le more_edges EDGES))) (stand.Graphs (agents + 1) more_nodes 0 more_edges)
-behind_graph agents nodes told edges (note.Node number point phase budget worst due) = where_so (number == told && nat_lt told nodes) (stand.Graphs agents nodes (told + 1) edges)
+    where_so ((told == nodes && edges == 0) && (nat_lt agents AGENTS && (nat_le more_nodes NODES && nat_le more_edges EDGES)))
+    (stand.Graphs (agents + 1) more_nodes 0 more_edges)
+behind_graph agents nodes told edges (note.Node number point phase budget worst due) = where_so (number == told && nat_lt told nodes)
+    (stand.Graphs agents nodes (told + 1) edges)
 behind_graph agents nodes told edges (note.EdgeOf from to len) =
     where_so ((told == nodes && nat_lt 0 edges) && (nat_lt from nodes && nat_lt to nodes)) (stand.Graphs agents nodes told (edges - 1))
 behind_graph agents nodes told edges _ = None

@@ -36,10 +36,14 @@ fn end(text: &[u8]) -> Option<(Note<'_>, &[u8])>
 // The note of a date whose line stands at the front.
 fn at_date(text: &[u8]) -> Option<(Note<'_>, &[u8])>
     ensures some { IfSome result (λ r. IsTold r.0 × IsDated r.0 × (text.now ≡ spell (fields_of r.0) r.1.now)) }
-    ensures overrun { result ≡ None → (date : ℕ) (agent more : List ℕ) → IsLong date → IsName agent → text.now ≢ spell (decimal date ∷ codes "stop" ∷ agent ∷ codes "overrun" ∷ []) more }
-    ensures trap { result ≡ None → (date : ℕ) (agent more : List ℕ) (kind : Trap) → IsLong date → IsName agent → text.now ≢ spell (decimal date ∷ codes "stop" ∷ agent ∷ codes "trap" ∷ trap_name kind ∷ []) more }
-    ensures value { result ≡ None → (date : ℕ) (variable more : List ℕ) (value : ℤ) → IsLong date → IsName variable → FitsSigned w32 value → text.now ≢ spell (decimal date ∷ variable ∷ signed_decimal value ∷ []) more }
-    ensures message { result ≡ None → (date : ℕ) (stream more : List ℕ) (value : ℤ) → IsLong date → IsName stream → FitsSigned w32 value → text.now ≢ spell (decimal date ∷ stream ∷ codes "msg" ∷ signed_decimal value ∷ []) more }
+    ensures overrun { result ≡ None → (date : ℕ) (agent more : List ℕ) → IsLong date → IsName agent
+        → text.now ≢ spell (decimal date ∷ codes "stop" ∷ agent ∷ codes "overrun" ∷ []) more }
+    ensures trap { result ≡ None → (date : ℕ) (agent more : List ℕ) (kind : Trap) → IsLong date → IsName agent
+        → text.now ≢ spell (decimal date ∷ codes "stop" ∷ agent ∷ codes "trap" ∷ trap_name kind ∷ []) more }
+    ensures value { result ≡ None → (date : ℕ) (variable more : List ℕ) (value : ℤ) → IsLong date → IsName variable → FitsSigned w32 value
+        → text.now ≢ spell (decimal date ∷ variable ∷ signed_decimal value ∷ []) more }
+    ensures message { result ≡ None → (date : ℕ) (stream more : List ℕ) (value : ℤ) → IsLong date → IsName stream → FitsSigned w32 value
+        → text.now ≢ spell (decimal date ∷ stream ∷ codes "msg" ∷ signed_decimal value ∷ []) more }
 {
     let (date, rest) = long(text, b' ')?;
     match stop(date, rest) {
@@ -52,7 +56,8 @@ fn at_date(text: &[u8]) -> Option<(Note<'_>, &[u8])>
 fn stop(date: u64, text: &[u8]) -> Option<(Note<'_>, &[u8])>
     ensures some { IfSome result (λ r. IsTold r.0 × IsDated r.0 × (decimal date ++ 32 ∷ text.now ≡ spell (fields_of r.0) r.1.now)) }
     ensures overrun { result ≡ None → (agent more : List ℕ) → IsName agent → text.now ≢ spell (codes "stop" ∷ agent ∷ codes "overrun" ∷ []) more }
-    ensures trap { result ≡ None → (agent more : List ℕ) (kind : Trap) → IsName agent → text.now ≢ spell (codes "stop" ∷ agent ∷ codes "trap" ∷ trap_name kind ∷ []) more }
+    ensures trap { result ≡ None → (agent more : List ℕ) (kind : Trap) → IsName agent
+        → text.now ≢ spell (codes "stop" ∷ agent ∷ codes "trap" ∷ trap_name kind ∷ []) more }
 {
     let (agent, rest) = name(behind(text, b"stop ")?)?;
     if let Some(rest) = behind(rest, b"overrun\n") {
@@ -82,8 +87,10 @@ fn trap(text: &[u8]) -> Option<(Trap, &[u8])>
 // `STREAM msg VALUE` or `VARIABLE VALUE`, behind a date
 fn named(date: u64, text: &[u8]) -> Option<(Note<'_>, &[u8])>
     ensures some { IfSome result (λ r. IsTold r.0 × IsDated r.0 × (decimal date ++ 32 ∷ text.now ≡ spell (fields_of r.0) r.1.now)) }
-    ensures value { result ≡ None → (variable more : List ℕ) (value : ℤ) → IsName variable → FitsSigned w32 value → text.now ≢ spell (variable ∷ signed_decimal value ∷ []) more }
-    ensures message { result ≡ None → (stream more : List ℕ) (value : ℤ) → IsName stream → FitsSigned w32 value → text.now ≢ spell (stream ∷ codes "msg" ∷ signed_decimal value ∷ []) more }
+    ensures value { result ≡ None → (variable more : List ℕ) (value : ℤ) → IsName variable → FitsSigned w32 value
+        → text.now ≢ spell (variable ∷ signed_decimal value ∷ []) more }
+    ensures message { result ≡ None → (stream more : List ℕ) (value : ℤ) → IsName stream → FitsSigned w32 value
+        → text.now ≢ spell (stream ∷ codes "msg" ∷ signed_decimal value ∷ []) more }
 {
     let (named, rest) = name(text)?;
     match behind(rest, b"msg ") {

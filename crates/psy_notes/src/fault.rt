@@ -1,3 +1,4 @@
+//! Why a text isn't read as notes.
 use std::alloc::{AllocError, AllocFailed};
 use thiserror::Error;
 

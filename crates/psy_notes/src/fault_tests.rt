@@ -1,3 +1,4 @@
+//! Texts out of form, and the lines where they are.
 use crate::{TextFault, read_graph, read_run};
 use psy_log::Note;
 

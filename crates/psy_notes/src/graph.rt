@@ -25,7 +25,8 @@ pub fn graph(text: &[u8]) -> Option<(Note<'_>, &[u8])>
 // `AGENT NODES EDGES`
 fn agent(text: &[u8]) -> Option<(Note<'_>, &[u8])>
     ensures some { IfSome result (λ r. IsTold r.0 × IsGraph r.0 × (codes "agent " ++ text.now ≡ spell (fields_of r.0) r.1.now)) }
-    ensures none { result ≡ None → (agent more : List ℕ) (nodes edges : ℕ) → IsName agent → IsShort nodes → IsShort edges → text.now ≢ spell (agent ∷ decimal nodes ∷ decimal edges ∷ []) more }
+    ensures none { result ≡ None → (agent more : List ℕ) (nodes edges : ℕ) → IsName agent → IsShort nodes → IsShort edges
+        → text.now ≢ spell (agent ∷ decimal nodes ∷ decimal edges ∷ []) more }
 {
     let (agent, rest) = name(text)?;
     let (nodes, rest) = short(rest, b' ')?;
@@ -43,7 +44,9 @@ fn agent(text: &[u8]) -> Option<(Note<'_>, &[u8])>
 // `NUMBER POINT PHASE BUDGET WORST DUE`
 fn node(text: &[u8]) -> Option<(Note<'_>, &[u8])>
     ensures some { IfSome result (λ r. IsTold r.0 × IsGraph r.0 × (codes "node " ++ text.now ≡ spell (fields_of r.0) r.1.now)) }
-    ensures none { result ≡ None → (more : List ℕ) (number point phase budget worst due : ℕ) → IsShort number → IsShort point → IsLong phase → IsShort budget → IsLong worst → IsLong due → text.now ≢ spell (decimal number ∷ decimal point ∷ decimal phase ∷ decimal budget ∷ decimal worst ∷ decimal due ∷ []) more }
+    ensures none { result ≡ None → (more : List ℕ) (number point phase budget worst due : ℕ) → IsShort number → IsShort point → IsLong phase
+        → IsShort budget → IsLong worst → IsLong due → text.now ≢ spell
+        (decimal number ∷ decimal point ∷ decimal phase ∷ decimal budget ∷ decimal worst ∷ decimal due ∷ []) more }
 {
     let (number, rest) = short(text, b' ')?;
     let (point, rest) = short(rest, b' ')?;
@@ -67,7 +70,8 @@ fn node(text: &[u8]) -> Option<(Note<'_>, &[u8])>
 // `FROM TO LEN`
 fn edge(text: &[u8]) -> Option<(Note<'_>, &[u8])>
     ensures some { IfSome result (λ r. IsTold r.0 × IsGraph r.0 × (codes "edge " ++ text.now ≡ spell (fields_of r.0) r.1.now)) }
-    ensures none { result ≡ None → (more : List ℕ) (from to len : ℕ) → IsShort from → IsShort to → IsLong len → text.now ≢ spell (decimal from ∷ decimal to ∷ decimal len ∷ []) more }
+    ensures none { result ≡ None → (more : List ℕ) (from to len : ℕ) → IsShort from → IsShort to → IsLong len
+        → text.now ≢ spell (decimal from ∷ decimal to ∷ decimal len ∷ []) more }
 {
     let (from, rest) = short(text, b' ')?;
     let (to, rest) = short(rest, b' ')?;

@@ -1,6 +1,7 @@
 //! Where a text stands behind some lines, and which line may follow.
 ghost use Rattle.std.specs.Prelude.{◌≡◌};
-ghost use Rattle.psy_notes.specs.Stands.{behind_dated, behind_agents, behind_variables, behind_streams, behind_graph, may_be_dated, next_variable, next_stream, next_stand, may_end};
+ghost use Rattle.psy_notes.specs.Stands.{behind_dated, behind_agents, behind_variables, behind_streams, behind_graph, may_be_dated, next_variable};
+ghost use Rattle.psy_notes.specs.Stands.{next_stream, next_stand, may_end};
 
 use psy_base::limits;
 use psy_log::Note;

@@ -26,7 +26,8 @@ pub fn summary(text: &[u8]) -> Option<(Note<'_>, &[u8])>
 // `AGENT COUNT SLACK`
 fn agent(text: &[u8]) -> Option<(Note<'_>, &[u8])>
     ensures some { IfSome result (λ r. IsTold r.0 × IsSummary r.0 × (codes "agent " ++ text.now ≡ spell (fields_of r.0) r.1.now)) }
-    ensures none { result ≡ None → (agent more : List ℕ) (count : ℕ) (slack : Option ℕ) → IsName agent → IsLong count → OrNone IsLong slack → text.now ≢ spell (agent ∷ decimal count ∷ number_or_dash slack ∷ []) more }
+    ensures none { result ≡ None → (agent more : List ℕ) (count : ℕ) (slack : Option ℕ) → IsName agent → IsLong count → OrNone IsLong slack
+        → text.now ≢ spell (agent ∷ decimal count ∷ number_or_dash slack ∷ []) more }
 {
     let (agent, rest) = name(text)?;
     let (count, rest) = long(rest, b' ')?;
@@ -44,7 +45,8 @@ fn agent(text: &[u8]) -> Option<(Note<'_>, &[u8])>
 // `VARIABLE SIZE REACH`
 fn variable(text: &[u8]) -> Option<(Note<'_>, &[u8])>
     ensures some { IfSome result (λ r. IsTold r.0 × IsSummary r.0 × (codes "variable " ++ text.now ≡ spell (fields_of r.0) r.1.now)) }
-    ensures none { result ≡ None → (variable more : List ℕ) (size : ℕ) (reach : Option ℕ) → IsName variable → IsShort size → OrNone IsShort reach → text.now ≢ spell (variable ∷ decimal size ∷ number_or_dash reach ∷ []) more }
+    ensures none { result ≡ None → (variable more : List ℕ) (size : ℕ) (reach : Option ℕ) → IsName variable → IsShort size → OrNone IsShort reach
+        → text.now ≢ spell (variable ∷ decimal size ∷ number_or_dash reach ∷ []) more }
 {
     let (variable, rest) = name(text)?;
     let (size, rest) = short(rest, b' ')?;
@@ -62,7 +64,8 @@ fn variable(text: &[u8]) -> Option<(Note<'_>, &[u8])>
 // `STREAM SIZE HELD`
 fn stream(text: &[u8]) -> Option<(Note<'_>, &[u8])>
     ensures some { IfSome result (λ r. IsTold r.0 × IsSummary r.0 × (codes "stream " ++ text.now ≡ spell (fields_of r.0) r.1.now)) }
-    ensures none { result ≡ None → (stream more : List ℕ) (size held : ℕ) → IsName stream → IsShort size → IsShort held → text.now ≢ spell (stream ∷ decimal size ∷ decimal held ∷ []) more }
+    ensures none { result ≡ None → (stream more : List ℕ) (size held : ℕ) → IsName stream → IsShort size → IsShort held
+        → text.now ≢ spell (stream ∷ decimal size ∷ decimal held ∷ []) more }
 {
     let (stream, rest) = name(text)?;
     let (size, rest) = short(rest, b' ')?;

@@ -1,3 +1,4 @@
+//! Texts in form, and their notes.
 use crate::{read_graph, read_run};
 use psy_arith::Trap;
 use psy_log::Note;
@@ -72,7 +73,8 @@ fn same_graph(note: &Note, want: &Note) -> bool {
             worst,
             due,
         } =>
-            matches!(*want, Note::Node { number: n, point: p, phase: f, budget: b, worst: w, due: d } if number == n && point == p && phase == f && budget == b && worst == w && due == d),
+            matches!(*want, Note::Node { number: n, point: p, phase: f, budget: b, worst: w, due: d } if number == n && point == p && phase == f
+                && budget == b && worst == w && due == d),
         Note::EdgeOf { from, to, len } =>
             matches!(*want, Note::EdgeOf { from: f, to: t, len: l } if from == f && to == t && len == l),
         _ => false,

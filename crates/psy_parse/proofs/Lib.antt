@@ -1,3 +1,4 @@
+-- The lemmas of this crate, by subject.
 pub mod Sound
 pub mod SoundExprs
 pub mod SoundStmts

@@ -1,5 +1,6 @@
 -- Reading from left to right. Where it can't go on, the number of the tokens that are left is the answer.
-use Rattle.std.specs.Prelude.{◌≡◌, ℕ, zero, suc, ◌-◌, List, [], ◌∷◌, ◌++◌, length, Option, Some, None, Result, Ok, Err, Bool, true, false, nat_le, if◌then◌else◌}
+use Rattle.std.specs.Prelude.{◌≡◌, ℕ, zero, suc, ◌-◌, List, [], ◌∷◌, ◌++◌, length, Option, Some, None, Result, Ok, Err, Bool, true, false, nat_le}
+use Rattle.std.specs.Prelude.{if◌then◌else◌}
 use denote.Enum.Bare.{sameb}
 use Rattle.psy_arith.specs.declared.operators.Op1.{Op1}
 use Rattle.psy_arith.specs.declared.operators.Op2.{Op2}
@@ -214,7 +215,8 @@ unfoldable pub if_at : Reads RawExpr → Reads (List RawStmt) → Reads RawStmt
 if_at expr block ts = do
   e ← test_at expr ts
   body ← block_in_braces_at block e.1
-  given (after_word words.Else body.1) (λ w. block_in_braces_at block w.1 >>= λ other. Ok (If e.0 body.0 (Some other.0), other.1)) (Ok (If e.0 body.0 None, body.1))
+  given (after_word words.Else body.1) (λ w. block_in_braces_at block w.1 >>= λ other. Ok (If e.0 body.0 (Some other.0), other.1))
+      (Ok (If e.0 body.0 None, body.1))
 
 -- `while (E) max N { STATEMENTS }` behind its first word, token n; `max N` may be missing
 unfoldable pub while_at : Reads RawExpr → Reads (List RawStmt) → ℕ → Reads RawStmt

@@ -1,3 +1,4 @@
+//! The tokens that are left to read.
 ghost use Rattle.std.specs.Prelude.{◌+◌, ◌≤◌, length};
 
 use psy_tree::Token;

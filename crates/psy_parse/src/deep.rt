@@ -1,3 +1,4 @@
+//! Where a text is nested too deep.
 ghost use Rattle.std.specs.Prelude.{◌≡◌, ℕ, ◌<◌, ◌≤◌, List, ◌∷◌, length, MatchOption};
 ghost use Rattle.psy_tree.specs.declared.token.Kind.{Kind as kind_of_token};
 ghost use Rattle.psy_tree.specs.Deep.{opens, closes, begins_anew, is_operator, bracket_depth, operators_since, Deep, Shallow};

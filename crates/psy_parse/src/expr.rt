@@ -1,3 +1,4 @@
+//! How expressions are read.
 ghost use Rattle.psy_parse.specs.Reading.{Gives, left, in_brackets_at, past_at, args_at, behind_name_at, primary_at, operand_at, expr_at, climb_at, others_at};
 
 use crate::cursor::Cursor;

@@ -1,3 +1,4 @@
+//! Why tokens have no tree.
 ghost use Rattle.std.specs.Prelude.{◌≡◌};
 ghost use Rattle.psy_parse.specs.declared.fault.Failure.TheVariants.{Memory as no_memory};
 

@@ -1,5 +1,8 @@
+//! How a program and its declarations are read.
 ghost use Rattle.std.specs.Prelude.{[]};
-ghost use Rattle.psy_parse.specs.Reading.{Gives, left, start_at, array_at, scalar_at, local_at, locals_at, param_at, further_at, params_at, parent_at, shift_at, clock_at, temporal_at, input_at, stream_at, function_at, agent_at, declaration_at, program_at, quantum_at, text_at};
+ghost use Rattle.psy_parse.specs.Reading.{Gives, left, start_at, array_at, scalar_at, local_at, locals_at, param_at, further_at, params_at};
+ghost use Rattle.psy_parse.specs.Reading.{parent_at, shift_at, clock_at, temporal_at, input_at, stream_at, function_at, agent_at, declaration_at};
+ghost use Rattle.psy_parse.specs.Reading.{program_at, quantum_at, text_at};
 
 use crate::cursor::Cursor;
 use crate::fault::Failure;

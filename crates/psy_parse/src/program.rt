@@ -1,3 +1,4 @@
+//! The tree of a program's tokens.
 ghost use Rattle.std.specs.Prelude.{◌≡◌, ℕ, ◌≤◌, ◌⊎◌, ◌↔◌, length, IfOk, Ok, Err};
 ghost use Rattle.psy_tree.specs.declared.raw.Raw.{Raw as tree};
 ghost use Rattle.psy_tree.specs.Grammar.{Spells};

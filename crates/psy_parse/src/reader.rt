@@ -1,5 +1,7 @@
+//! How single tokens are read.
 ghost use Rattle.std.specs.Prelude.{◌≡◌, [], ◌∷◌, length, MatchOption};
-ghost use Rattle.psy_parse.specs.Reading.{Gives, Finds, left, name_at, number_at, word_at, sign_at, after_word, after_sign, after_number, unary_at_front, binary_at_front, is_end, optional_at};
+ghost use Rattle.psy_parse.specs.Reading.{Gives, Finds, left, name_at, number_at, word_at, sign_at, after_word, after_sign, after_number};
+ghost use Rattle.psy_parse.specs.Reading.{unary_at_front, binary_at_front, is_end, optional_at};
 ghost use Rattle.psy_tree.specs.Grammar.{unary_of, binary_of};
 
 use crate::cursor::Cursor;

@@ -1,5 +1,7 @@
+//! How statements are read.
 ghost use Rattle.std.specs.Prelude.{[]};
-ghost use Rattle.psy_parse.specs.Reading.{Gives, left, expr_at, test_at, block_in_braces_at, if_at, while_at, send_at, advance_at, return_at, set_at, set_cell_at, stmt_at, block_at};
+ghost use Rattle.psy_parse.specs.Reading.{Gives, left, expr_at, test_at, block_in_braces_at, if_at, while_at, send_at, advance_at, return_at, set_at};
+ghost use Rattle.psy_parse.specs.Reading.{set_cell_at, stmt_at, block_at};
 
 use crate::cursor::Cursor;
 use crate::expr::{LEVELS, expr};

@@ -1,3 +1,4 @@
+//! Trees of small texts.
 use crate::{ParseFault, parse};
 use psy_base::limits::FILE_BYTES;
 use psy_base::{Memory, Text};

@@ -1,3 +1,4 @@
+//! The messages of a stream, in order.
 ghost use Rattle.std.specs.Prelude.{◌≡◌, ◌<◌, ◌≤◌, true, false, [], Some, IfOk, drop, filter, length, nat_le, nat_lt, slice_get, vec_capacity};
 ghost use Rattle.std.specs.List.Sorted.{IsPartitionPoint};
 ghost use Rattle.psy_base.specs.declared.limits.TheConstants.{QUEUE};

@@ -1,3 +1,4 @@
+//! Messages in order, taken and expired.
 use super::*;
 use std::test::Fail;
 

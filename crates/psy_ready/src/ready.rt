@@ -1,3 +1,4 @@
+//! The agents that wait for the processor.
 ghost use Rattle.std.specs.Prelude.{◌≡◌, ◌<◌, ℕ, Some, None, IfOk, MatchOption, length, replicate, slice_set};
 ghost use Rattle.psy_ready.specs.Choice.{IsPick, ListsEach, pending_deadline};
 ghost use Rattle.psy_ready.specs.Walk.{sooner};

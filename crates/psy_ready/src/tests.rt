@@ -1,3 +1,4 @@
+//! Who comes first.
 use super::*;
 use std::test::Fail;
 

@@ -1,3 +1,4 @@
+//! The last values that a variable published.
 ghost use Rattle.std.specs.Prelude.{◌≡◌, ◌<◌, ◌≤◌, ◌∷◌, ℤ, List, Some, IfOk, length, replicate, take, slice_get};
 ghost use Rattle.psy_base.specs.declared.limits.TheConstants.{RING};
 

@@ -1,3 +1,4 @@
+//! Values in and out of a ring.
 use super::*;
 use std::test::Fail;
 

@@ -1,3 +1,4 @@
+-- Faults noted one by one, and the judgement that they make.
 use Rattle.std.proofs.Common.{◌≡◌, ℕ, ◌+◌, ◌<◌, Bool, true, false, ◌&&◌, List, [], ◌∷◌, ◌++◌, map, take, length, get_or, Option, refl, sym, ap, ◌∙◌, arith, append-nil, append_assoc}
 use Rattle.std.proofs.lemmas.List.{take_more, map-append}
 use Rattle.psy_tree.specs.declared.raw.RawStmt.{RawStmt}

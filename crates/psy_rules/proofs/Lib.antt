@@ -1,3 +1,4 @@
+-- The lemmas of this crate, by subject.
 pub mod Tables
 pub mod SlotLists
 pub mod Judging

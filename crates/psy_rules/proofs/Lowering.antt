@@ -1,3 +1,4 @@
+-- Statements and expressions whose names are looked up stand for those with numbers.
 use Rattle.std.proofs.Common.{◌≡◌, ℕ, ◌+◌, ◌<◌, ◌≤◌, List, [], ◌∷◌, ◌++◌, map, take, drop, length, get_or, refl, sym, ap, ◌∙◌, arith}
 use Rattle.std.proofs.lemmas.List.{take_more, map-append, take-append-drop}
 use Rattle.psy_tree.specs.declared.raw.RawStmt.{RawStmt}

@@ -1,3 +1,4 @@
+-- The declarations of a program, judged one behind the other.
 use Rattle.std.proofs.Common.{◌≡◌, ℕ, ◌+◌, ◌<◌, ◌≤◌, false, List, [], ◌∷◌, ◌++◌, take, length, get_or, Option, None, sym, ap, ◌∙◌, arith, append_assoc, append-nil}
 use Rattle.std.proofs.lemmas.List.{take_more, take_all, length-take}
 use Rattle.psy_base.specs.declared.limits.TheConstants.{QUANTUM}

@@ -1,3 +1,4 @@
+-- A tree has one verdict.
 use Rattle.std.proofs.Common.{◌≡◌, ◌⊎◌, ◌∙◌, sym, ap, refl, ℕ, Option, Some, None, inl, inr, arith, ◌==◌, if◌then◌else◌}
 use Rattle.psy_tree.specs.declared.raw.Raw.{Raw}
 use Rattle.psy_tree.specs.declared.rules.Count.{Count}

@@ -4,7 +4,8 @@ use Rattle.psy_tree.specs.declared.rules.RuleKind.{RuleKind}
 use Rattle.psy_tree.specs.declared.rules.RuleKind.TheVariants as kind
 use Rattle.psy_tree.specs.Scope.{Site}
 use Rattle.psy_tree.specs.Places.{Place, NamesItem, NamesSlot, Derives, Uses, LooksBack, Acts, Returns, Loops, HasBody, Ranges, Sited}
-use Rattle.psy_tree.specs.Rules.{rule_number, is_twice, is_unknown, is_wrong_kind, is_not_owner, is_not_receiver, is_too_deep, is_no_max, is_mixed_loop, is_calls_down, is_bad_clock, is_bad_number}
+use Rattle.psy_tree.specs.Rules.{rule_number, is_twice, is_unknown, is_wrong_kind, is_not_owner, is_not_receiver, is_too_deep, is_no_max}
+use Rattle.psy_tree.specs.Rules.{is_mixed_loop, is_calls_down, is_bad_clock, is_bad_number}
 use Rattle.psy_rules.specs.declared.least.RuleAt.{RuleAt}
 
 -- No fault was noted, or one that comes after this.

@@ -1,6 +1,7 @@
 //! The faults of a program's declarations.
 
-ghost use Rattle.std.specs.Prelude.{◌≡◌, ◌+◌, ◌≤◌, ◌^◌, ◌||◌, ◌++◌, ◌∷◌, [], ℕ, Bool, false, List, Some, None, map, take, length, slice_get, IfOk, OnOk, is_some};
+ghost use Rattle.std.specs.Prelude.{◌≡◌, ◌+◌, ◌≤◌, ◌^◌, ◌||◌, ◌++◌, ◌∷◌, [], ℕ, Bool, false, List, Some, None, map, take, length, slice_get, IfOk};
+ghost use Rattle.std.specs.Prelude.{OnOk, is_some};
 ghost use Rattle.std.specs.List.{list_any};
 ghost use Rattle.std.specs.Str.{bytes_eq};
 ghost use Rattle.psy_tree.specs.Scope.{Site, slots_of, own_slots, own_item, item_entries, first_named, stands_globally};
@@ -134,7 +135,8 @@ fn judge_slots(scope: &Scope<'_>, names: &[&Name], least: &mut Least)
 /// A declaration up to this one has the name, or one of the first `k` inside it.
 fn is_slot_twice(scope: &Scope<'_>, k: usize, name: &Name) -> bool
     requires { IsScope scope.now }
-    ensures { result ≡ (finding.up_to scope.now.at (stands_globally scope.now.items.now name.now.text) || finding.slot_below k (first_named name.now.text scope.now.slots.now)) }
+    ensures { result ≡ (finding.up_to scope.now.at (stands_globally scope.now.items.now name.now.text)
+        || finding.slot_below k (first_named name.now.text scope.now.slots.now)) }
 {
     is_up_to(scope.global(&name.text), scope.at) || slot_below(scope.slots.first(&name.text), k)
 }
@@ -196,7 +198,8 @@ fn judge_body(scope: &Scope<'_>, item: &Item, least: &mut Least)
 
 /// Adds the names inside a declaration to those that stand inside one.
 fn add_inner(alloc: Global, inner: &mut Names, names: &[&Name]) -> Result<(), Memory>
-    ensures { OnOk result ((text : List ℕ) → is_some (first_named text inner.new) ≡ (is_some (first_named text inner.old) || list_any (λ n. bytes_eq text n.now.text) names.now)) }
+    ensures { OnOk result ((text : List ℕ) → is_some (first_named text inner.new)
+        ≡ (is_some (first_named text inner.old) || list_any (λ n. bytes_eq text n.now.text) names.now)) }
 {
     for name in names {
         inner.add(alloc, &name.text, Found::Slot(0))?;

@@ -1,3 +1,4 @@
+//! The least of the faults that were noted.
 ghost use Rattle.std.specs.Prelude.{◌≡◌};
 ghost use Rattle.psy_rules.specs.Judged.{is_before, noted};
 

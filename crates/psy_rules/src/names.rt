@@ -1,3 +1,4 @@
+//! What names stand for.
 ghost use Rattle.std.specs.Prelude.{◌≡◌, [], OnOk};
 ghost use Rattle.psy_tree.specs.Scope.{first_named};
 ghost use Rattle.psy_rules.specs.Tables.{added};

@@ -1,3 +1,4 @@
+//! The number of a declaration among those of its kind.
 ghost use Rattle.std.specs.Prelude.{◌≡◌, IfOk};
 ghost use Rattle.psy_rules.specs.Numbering.{before_and, AreFew, IsSmall, AreNumbers};
 

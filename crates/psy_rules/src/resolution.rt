@@ -1,3 +1,4 @@
+//! A tree judged: the unit that it stands for, or its least fault.
 ghost use Rattle.std.specs.Prelude.{◌≡◌, None, length, option_to_list, IfOk, IfErr};
 ghost use Rattle.std.specs.List.{flat_map};
 ghost use Rattle.psy_tree.specs.Scope.{item_entries};

@@ -1,3 +1,4 @@
+//! What names stand for at a place.
 ghost use Rattle.std.specs.Prelude.{◌≡◌, slice_get, option_map};
 ghost use Rattle.std.specs.Option.{option_copied};
 ghost use Rattle.psy_tree.specs.Scope.{stands_for, stands_globally, item_at, own_slots};

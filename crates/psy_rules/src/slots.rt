@@ -1,3 +1,4 @@
+//! The names that declarations, parameters and locals give, and the slots of locals.
 ghost use Rattle.std.specs.Prelude.{◌≡◌, ◌+◌, ℕ, ◌^◌, ◌-◌, [], ◌∷◌, ◌++◌, map, min, length, slice_get, option_map, IfOk};
 ghost use Rattle.std.specs.Option.{option_copied};
 ghost use Rattle.psy_tree.specs.Scope as spec;

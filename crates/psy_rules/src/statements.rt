@@ -53,7 +53,12 @@ fn advance_stmt(
     requires numbered { IsNumbered numbered.now }
     requires room { length points.old ≤ POINTS }
     ensures stmt { IfOk result (λ s. s ≡ Stmt.Advance (length points.old)) }
-    ensures points { OnOk result (points.new ≡ points.old ++ record { count = count.value; clock = stands.number_at is_clock (site numbered.now) clock.now; budget = stands.budget_of (site numbered.now) budget } ∷ []) }
+    ensures points { OnOk result (points.new ≡ points.old ++ record {
+      count = count.value;
+      clock = stands.number_at is_clock
+          (site numbered.now) clock.now;
+      budget = stands.budget_of (site numbered.now) budget;
+    } ∷ []) }
 {
     let number = points.len() as u32;
     points.push(Point {

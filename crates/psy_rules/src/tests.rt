@@ -1,3 +1,4 @@
+//! Units of small trees.
 use crate::laws::one_verdict;
 use crate::{RuleFault, resolve};
 use psy_base::{Items, Memory, Text};

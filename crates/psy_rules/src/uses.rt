@@ -151,14 +151,16 @@ fn is_wrong_kind(scope: &Scope<'_>, what: Asks, found: Option<Found>) -> bool
 
 fn is_not_owner(scope: &Scope<'_>, what: Asks, found: Option<Found>) -> bool
     requires { IsScope scope.now }
-    ensures { result ≡ (rules.in_agent (site_of scope.now) && not (rules.is_past what) && rules.owner_elsewhere (site_of scope.now) (item_at scope.now.items.now found)) }
+    ensures { result ≡ (rules.in_agent (site_of scope.now) && not (rules.is_past what)
+        && rules.owner_elsewhere (site_of scope.now) (item_at scope.now.items.now found)) }
 {
     scope.in_agent() && !is_past(what) && owner_elsewhere(scope, scope.item(found))
 }
 
 fn is_not_receiver(scope: &Scope<'_>, what: Asks, found: Option<Found>) -> bool
     requires { IsScope scope.now }
-    ensures { result ≡ (rules.in_agent (site_of scope.now) && rules.is_messages what && rules.receiver_elsewhere (site_of scope.now) (item_at scope.now.items.now found)) }
+    ensures { result ≡ (rules.in_agent (site_of scope.now) && rules.is_messages what
+        && rules.receiver_elsewhere (site_of scope.now) (item_at scope.now.items.now found)) }
 {
     scope.in_agent() && is_messages(what) && receiver_elsewhere(scope, scope.item(found))
 }

@@ -1,3 +1,4 @@
+-- The lemmas of this crate, by subject.
 pub mod AskedLemmas
 pub mod AskingForms
 pub mod Courses

@@ -26,12 +26,15 @@ pub data Command : Type 0 where
 -- the words ask for a command: `run PROG UNTIL [INPUTS [SCRIPT]]`, `check PROG UNTIL`, `graph PROG`, `make SEED` or `trial SEED UNTIL`
 pub data Asks (words : List (List ℕ)) : Command → Type 0 where
   asks_run : (program date : List ℕ) (until : ℕ) → words ≡ codes "run" ∷ program ∷ date ∷ [] → IsDate date until → Asks words (Run program until None None)
-  asks_run_with_inputs : (program date inputs : List ℕ) (until : ℕ) → words ≡ codes "run" ∷ program ∷ date ∷ inputs ∷ [] → IsDate date until → Asks words (Run program until (Some inputs) None)
-  asks_run_with_script : (program date inputs script : List ℕ) (until : ℕ) → words ≡ codes "run" ∷ program ∷ date ∷ inputs ∷ script ∷ [] → IsDate date until → Asks words (Run program until (Some inputs) (Some script))
+  asks_run_with_inputs : (program date inputs : List ℕ) (until : ℕ) → words ≡ codes "run" ∷ program ∷ date ∷ inputs ∷ [] → IsDate date until
+      → Asks words (Run program until (Some inputs) None)
+  asks_run_with_script : (program date inputs script : List ℕ) (until : ℕ) → words ≡ codes "run" ∷ program ∷ date ∷ inputs ∷ script ∷ []
+      → IsDate date until → Asks words (Run program until (Some inputs) (Some script))
   asks_check : (program date : List ℕ) (until : ℕ) → words ≡ codes "check" ∷ program ∷ date ∷ [] → IsDate date until → Asks words (Check program until)
   asks_graph : (program : List ℕ) → words ≡ codes "graph" ∷ program ∷ [] → Asks words (Graph program)
   asks_make : (number : List ℕ) (seed : ℕ) → words ≡ codes "make" ∷ number ∷ [] → IsSeed number seed → Asks words (Make seed)
-  asks_trial : (number date : List ℕ) (seed until : ℕ) → words ≡ codes "trial" ∷ number ∷ date ∷ [] → IsSeed number seed → IsDate date until → Asks words (Trial seed until)
+  asks_trial : (number date : List ℕ) (seed until : ℕ) → words ≡ codes "trial" ∷ number ∷ date ∷ [] → IsSeed number seed → IsDate date until
+      → Asks words (Trial seed until)
 
 -- the words are of no listed form
 abbrev pub AskNothing : List (List ℕ) → Type 0

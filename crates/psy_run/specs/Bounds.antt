@@ -15,9 +15,11 @@ use Rattle.psy_run.specs.Services.{Service, Ran, Tried, meaning_of, no_inputs, n
 -- A run up to a date keeps its bounds.
 pub record KeepsBounds (s : System) (order : ℕ → List ℕ) (sizes : Sizes) (until : ℕ) : Type 0 where
   -- each action that is due by then is finished, or stopped, by its deadline: its slack is a true difference
-  pub in_time : (agent : ℕ) (r : Action) → Contains (history s (until + 1) agent) r → r.deadline ≤ until → finish r.agent r.number (turns_of s order (until * s.unit.quantum)) ≤ r.deadline * s.unit.quantum
+  pub in_time : (agent : ℕ) (r : Action) → Contains (history s (until + 1) agent) r → r.deadline ≤ until
+      → finish r.agent r.number (turns_of s order (until * s.unit.quantum)) ≤ r.deadline * s.unit.quantum
   -- no ring was reached for beyond its size
-  pub rings : (variable n : ℕ) → variable < length s.unit.variables → reach s (turns_of s order (until * s.unit.quantum)) (history s (until + 1)) variable ≡ Some n → n < get_or sizes.rings variable 0
+  pub rings : (variable n : ℕ) → variable < length s.unit.variables
+      → reach s (turns_of s order (until * s.unit.quantum)) (history s (until + 1)) variable ≡ Some n → n < get_or sizes.rings variable 0
   -- and no queue held more than its size
   pub queues : (stream : ℕ) → stream < length s.unit.streams → most_held s until stream ≤ get_or sizes.queues stream 0
 

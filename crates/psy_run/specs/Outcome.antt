@@ -59,8 +59,10 @@ pub data MayAnswer (seen : Seen) : ℕ → List ℕ → Option Progress → Type
 -- written, or a write of it failed.
 pub data Ends (seen : Seen) (old now : Option (List ℕ)) (before after : ℕ) : ℕ → Option Progress → Type 0 where
   ends_memory : (command : Command) → Asks seen.words command → Grew old now [] → Ends seen old now before after 8 None
-  ends_said : (status : ℕ) (text : List ℕ) (left : Option Progress) → MayAnswer seen status text left → Grew old now text → Ends seen old now before after status left
-  ends_cut : (status : ℕ) (text : List ℕ) (left : Option Progress) → MayAnswer seen status text left → Rose before after → GrewByFront old now text → Ends seen old now before after 4 None
+  ends_said : (status : ℕ) (text : List ℕ) (left : Option Progress) → MayAnswer seen status text left → Grew old now text
+      → Ends seen old now before after status left
+  ends_cut : (status : ℕ) (text : List ℕ) (left : Option Progress) → MayAnswer seen status text left → Rose before after → GrewByFront old now text
+      → Ends seen old now before after 4 None
 
 -- The status is that one and the text was added, or a write failed: then it is 4, and a front was added.
 abbrev pub Says : Option (List ℕ) → Option (List ℕ) → ℕ → ℕ → ℕ → ℕ → List ℕ → Type 0
@@ -68,7 +70,8 @@ Says old now before after answer status text = ((answer ≡ status) × Grew old 
 
 -- What is served can be: a kernel was just booted, with inputs and a script of its program, or without; and the names of a unit are short.
 abbrev pub CanServe : Served → Type 0
-CanServe (served.Ran kernel) = (kernel ≡ booted kernel.plan kernel.inputs kernel.script) × IsPlan kernel.plan × AreInputs kernel.plan.unit kernel.inputs × IsScript kernel.plan.unit kernel.script
+CanServe (served.Ran kernel) = (kernel ≡ booted kernel.plan kernel.inputs kernel.script) × IsPlan kernel.plan × AreInputs kernel.plan.unit kernel.inputs
+    × IsScript kernel.plan.unit kernel.script
 CanServe (served.Checked unit sizes until) = IsBare unit
 CanServe (served.Drawn unit graphs costs) = IsBare unit × All IsSmall graphs
 CanServe (served.Made text) = ⊤

@@ -14,7 +14,8 @@ use Rattle.psy_log.specs.Forms.{words_line, limit_line, refused_line, infeasible
 use Rattle.psy_run.specs.declared.refusal.File.{File}
 use Rattle.psy_run.specs.declared.refusal.File.TheVariants.{Program, Inputs, Script}
 use Rattle.psy_run.specs.declared.refusal.Refusal.{Refusal}
-use Rattle.psy_run.specs.declared.refusal.Refusal.TheVariants.{Words, TooLong, Lexical, Syntax, Deep, Rule, Many, Nodes, Edges, Ring, Queue, Cells, Infeasible, Line, Lines, Cycles}
+use Rattle.psy_run.specs.declared.refusal.Refusal.TheVariants.{Words, TooLong, Lexical, Syntax, Deep, Rule, Many, Nodes, Edges, Ring, Queue, Cells}
+use Rattle.psy_run.specs.declared.refusal.Refusal.TheVariants.{Infeasible, Line, Lines, Cycles}
 
 -- the status of each refusal
 abbrev pub status_of : Refusal → ℕ

@@ -51,7 +51,8 @@ text_of (Tried unit nexts sizes until) = lines_text (summary_of (meaning_of unit
 -- ---- what is left
 
 -- A kernel that ran the program to its last date: it is over, and gave all its lines.
-pub record HasRun (unit : Whole) (nexts : List (List (List ℕ))) (sizes : Sizes) (until : ℕ) (inputs : List (List ℤ)) (script : Script) (p : Progress) : Type 0 where
+pub record HasRun (unit : Whole) (nexts : List (List (List ℕ))) (sizes : Sizes) (until : ℕ) (inputs : List (List ℤ)) (script : Script)
+    (p : Progress) : Type 0 where
   pub plan : IsPlan p.plan
   pub its_unit : p.plan.unit ≡ unit
   pub its_nexts : p.plan.nexts ≡ nexts

@@ -30,7 +30,8 @@ use Rattle.psy_script.specs.Script.{IsScriptOf, script_judge}
 use Rattle.psy_run.specs.declared.refusal.File.{File}
 use Rattle.psy_run.specs.declared.refusal.File.TheVariants.{Inputs, Script}
 use Rattle.psy_run.specs.declared.refusal.Refusal.{Refusal}
-use Rattle.psy_run.specs.declared.refusal.Refusal.TheVariants.{Words, TooLong, Lexical, Syntax, Deep, Rule, Many, Nodes, Edges, Ring, Queue, Cells, Infeasible, Line, Lines, Cycles}
+use Rattle.psy_run.specs.declared.refusal.Refusal.TheVariants.{Words, TooLong, Lexical, Syntax, Deep, Rule, Many, Nodes, Edges, Ring, Queue, Cells}
+use Rattle.psy_run.specs.declared.refusal.Refusal.TheVariants.{Infeasible, Line, Lines, Cycles}
 use Rattle.psy_run.specs.Asked.{Command, Asks, AskNothing}
 use Rattle.psy_run.specs.Courses.{Course, step, unless}
 
@@ -105,7 +106,8 @@ pub record AreCosts (unit : Whole) (agent : AgentDecl) (costs : List ℕ) : Type
 -- The greatest costs, by agent and point
 pub record AreAllCosts (unit : Whole) (costs : List (List ℕ)) : Type 0 where
   pub count : length costs ≡ length unit.agents
-  pub each : (number : ℕ) (agent : AgentDecl) (list : List ℕ) → slice_get unit.agents number ≡ Some agent → slice_get costs number ≡ Some list → AreCosts unit agent list
+  pub each : (number : ℕ) (agent : AgentDecl) (list : List ℕ) → slice_get unit.agents number ≡ Some agent → slice_get costs number ≡ Some list
+      → AreCosts unit agent list
 
 -- They are there for each program.
 abbrev pub costing : Whole → Course (List (List ℕ))
@@ -129,7 +131,8 @@ edges_of graphs = map (λ graph. graph.edges) graphs
 
 -- the least length over which the processor can't supply what the agents may demand
 abbrev pub IsOverloaded : Whole → List Graph → ℕ → Refusal → Type 0
-IsOverloaded unit graphs until (Infeasible length demand supply) = IsOverload (edges_of graphs) unit.quantum until length demand × (supply ≡ unit.quantum * length)
+IsOverloaded unit graphs until (Infeasible length demand supply) = IsOverload (edges_of graphs) unit.quantum until length demand
+    × (supply ≡ unit.quantum * length)
 IsOverloaded unit graphs until _ = ⊥
 
 -- The processor demand criterion up to the last date

@@ -34,7 +34,8 @@ check_text unit sizes until = rings_text unit.variables sizes.rings ++ (queues_t
 -- the lines of nodes, numbered from here on, with the greatest cost from the point of each
 abbrev pub nodes_text : List ℕ → ℕ → List Node → List ℕ
 nodes_text costs number [] = []
-nodes_text costs number (node ∷ rest) = node_line number node.point node.phase node.budget (get_or costs node.point 0) node.due ++ nodes_text costs (number + 1) rest
+nodes_text costs number (node ∷ rest) = node_line number node.point node.phase node.budget (get_or costs node.point 0) node.due
+    ++ nodes_text costs (number + 1) rest
 
 -- the line of an edge
 abbrev pub edge_text : Edge → List ℕ
@@ -42,7 +43,8 @@ edge_text edge = edge_line edge.from edge.to edge.len
 
 -- the lines of an agent: its graph's counts, its nodes and its edges
 abbrev pub agent_text : AgentDecl → Graph → List ℕ → List ℕ
-agent_text agent graph costs = agent_graph_line agent.name (length graph.nodes) (length graph.edges) ++ (nodes_text costs 0 graph.nodes ++ flat_map edge_text graph.edges)
+agent_text agent graph costs = agent_graph_line agent.name (length graph.nodes) (length graph.edges)
+    ++ (nodes_text costs 0 graph.nodes ++ flat_map edge_text graph.edges)
 
 -- the lines of all agents
 abbrev pub graph_text : List AgentDecl → List Graph → List (List ℕ) → List ℕ

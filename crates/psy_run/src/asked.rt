@@ -101,7 +101,8 @@ fn of_four<'a>(
     until: &'a str,
     inputs: &'a str,
 ) -> Option<Command<'a>>
-    ensures { MatchOption result (AskNothing (command.now ∷ program.now ∷ until.now ∷ inputs.now ∷ [])) (λ c. Asks (command.now ∷ program.now ∷ until.now ∷ inputs.now ∷ []) (asked_by c)) }
+    ensures { MatchOption result (AskNothing (command.now ∷ program.now ∷ until.now ∷ inputs.now ∷ []))
+        (λ c. Asks (command.now ∷ program.now ∷ until.now ∷ inputs.now ∷ []) (asked_by c)) }
 {
     let until = date(until.as_bytes())?;
     if command == "run" {
@@ -123,7 +124,8 @@ fn of_five<'a>(
     inputs: &'a str,
     script: &'a str,
 ) -> Option<Command<'a>>
-    ensures { MatchOption result (AskNothing (command.now ∷ program.now ∷ until.now ∷ inputs.now ∷ script.now ∷ [])) (λ c. Asks (command.now ∷ program.now ∷ until.now ∷ inputs.now ∷ script.now ∷ []) (asked_by c)) }
+    ensures { MatchOption result (AskNothing (command.now ∷ program.now ∷ until.now ∷ inputs.now ∷ script.now ∷ []))
+        (λ c. Asks (command.now ∷ program.now ∷ until.now ∷ inputs.now ∷ script.now ∷ []) (asked_by c)) }
 {
     let until = date(until.as_bytes())?;
     if command == "run" {

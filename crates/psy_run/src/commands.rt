@@ -61,8 +61,10 @@ fn run<F: Shelf>(
     inputs: Option<&str>,
     script: Option<&str>,
 ) -> Result<Served, Stop>
-    ensures ok { IfOk result (λ served. (running (F.files shelf.old) name.now until (option_copied inputs.entry) (option_copied script.entry)).gives (service_of served)) }
-    ensures err { IfErr result (Halts (running (F.files shelf.old) name.now until (option_copied inputs.entry) (option_copied script.entry)) (F.failed_name shelf.new) (F.faults shelf.old) (F.faults shelf.new)) }
+    ensures ok { IfOk result (λ served. (running (F.files shelf.old) name.now until (option_copied inputs.entry) (option_copied script.entry)).gives
+        (service_of served)) }
+    ensures err { IfErr result (Halts (running (F.files shelf.old) name.now until (option_copied inputs.entry) (option_copied script.entry))
+        (F.failed_name shelf.new) (F.faults shelf.old) (F.faults shelf.new)) }
     ensures can { IfOk result CanServe }
     ensures shelf { (F.faults shelf.old ≤ F.faults shelf.new) × (F.files shelf.new ≡ F.files shelf.old) }
 {
@@ -140,7 +142,8 @@ fn try_made(alloc: Global, seed: u32, until: u32) -> Result<Served, Stop>
 /// What the words come to, before anything is written.
 pub fn judge<F: Shelf>(alloc: Global, words: &[String], shelf: &mut F) -> Result<Served, Stop>
     ensures ok { IfOk result (λ served. (answering (map string_bytes words.now) (F.files shelf.old)).gives (service_of served)) }
-    ensures err { IfErr result (Halts (answering (map string_bytes words.now) (F.files shelf.old)) (F.failed_name shelf.new) (F.faults shelf.old) (F.faults shelf.new)) }
+    ensures err { IfErr result (Halts (answering (map string_bytes words.now) (F.files shelf.old)) (F.failed_name shelf.new) (F.faults shelf.old)
+        (F.faults shelf.new)) }
     ensures can { IfOk result CanServe }
     ensures asked { IfErr result (λ stop. stop ≡ Stop.Memory → (command : Asked) × Asks (map string_bytes words.now) command) }
     ensures shelf { (F.faults shelf.old ≤ F.faults shelf.new) × (F.files shelf.new ≡ F.files shelf.old) }

@@ -23,7 +23,8 @@ use psy_window::laws::greatest;
 
 /// Words have one answer at most, where files are told.
 pub fn one_answer()
-    ensures { (words : List (List ℕ)) (files : Files) (status other : ℕ) (text another : List ℕ) → Answers words (Some files) status text → Answers words (Some files) other another → (status ≡ other) × (text ≡ another) }
+    ensures { (words : List (List ℕ)) (files : Files) (status other : ℕ) (text another : List ℕ) → Answers words (Some files) status text
+        → Answers words (Some files) other another → (status ≡ other) × (text ≡ another) }
 {
     one_reading();
     one_tree();

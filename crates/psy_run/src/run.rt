@@ -104,7 +104,8 @@ pub fn run_loop<S: Sink>(kernel: &mut Kernel, out: &mut S) -> Result<(), WriteFa
     ensures counted { S.faults out.old ≤ S.faults out.new }
     ensures failed { OnErr result (Rose (S.faults out.old) (S.faults out.new)) }
     ensures over { OnOk result (kernel.new ≡ ended kernel.old) }
-    ensures written { Written (S.held out.old) (S.held out.new) result (run_text (system kernel.old) (order kernel.old) kernel.old.plan.sizes kernel.old.plan.until) }
+    ensures written { Written (S.held out.old) (S.held out.new) result
+        (run_text (system kernel.old) (order kernel.old) kernel.old.plan.sizes kernel.old.plan.until) }
 {
     if let Err(fault) = run_dates(kernel, out) {
         return Err(fault);
@@ -118,7 +119,8 @@ pub fn trial_loop<S: Sink>(kernel: &mut Kernel, out: &mut S) -> Result<(), Write
     ensures counted { S.faults out.old ≤ S.faults out.new }
     ensures failed { OnErr result (Rose (S.faults out.old) (S.faults out.new)) }
     ensures over { OnOk result (kernel.new ≡ ended kernel.old) }
-    ensures written { Written (S.held out.old) (S.held out.new) result (text_of (summary_of (system kernel.old) (order kernel.old) kernel.old.plan.sizes kernel.old.plan.until)) }
+    ensures written { Written (S.held out.old) (S.held out.new) result
+        (text_of (summary_of (system kernel.old) (order kernel.old) kernel.old.plan.sizes kernel.old.plan.until)) }
 {
     pass_dates(kernel);
     write_summary(kernel, out)

@@ -50,7 +50,8 @@ fn sizes(alloc: Global, unit: &Unit, graphs: &Items<Graph>) -> Result<Sizes, Sto
     requires text { IsOfText unit.now }
     requires graphs { AreGraphs unit.now graphs.now }
     ensures ok { IfOk result (λ sizes. (nexts : List (List (List ℕ))) → AreAllNexts unit.now nexts → (sizing unit.now nexts).gives sizes) }
-    ensures err { (nexts : List (List (List ℕ))) (failed : List ℕ) (before after : ℕ) → AreAllNexts unit.now nexts → IfErr result (Halts (sizing unit.now nexts) failed before after) }
+    ensures err { (nexts : List (List (List ℕ))) (failed : List ℕ) (before after : ℕ) → AreAllNexts unit.now nexts
+        → IfErr result (Halts (sizing unit.now nexts) failed before after) }
 {
     match psy_sizes::sizes(alloc, unit, graphs.as_slice()) {
         Ok(sizes) => Ok(sizes),
@@ -97,7 +98,8 @@ fn demand(unit: &Unit, lists: &Items<Items<u64>>, until: u32) -> Result<(), Stop
     requires long { All (λ list. length list ≡ until + 1) lists.now }
     requires small { All (All (λ weight. weight < 2 ^ 50)) lists.now }
     ensures ok { (graphs : List Drawn) → AreAllWeights until graphs lists.now → IfOk result (λ done. (demanding unit.now graphs until).gives done) }
-    ensures err { (graphs : List Drawn) (failed : List ℕ) (before after : ℕ) → AreAllWeights until graphs lists.now → IfErr result (Halts (demanding unit.now graphs until) failed before after) }
+    ensures err { (graphs : List Drawn) (failed : List ℕ) (before after : ℕ) → AreAllWeights until graphs lists.now
+        → IfErr result (Halts (demanding unit.now graphs until) failed before after) }
 {
     match feasible(lists.as_slice(), unit.quantum, until) {
         Verdict::Yes => Ok(()),
@@ -116,7 +118,8 @@ fn demand(unit: &Unit, lists: &Items<Items<u64>>, until: u32) -> Result<(), Stop
 /// supplied.
 pub fn supply(alloc: Global, unit: &Unit, until: u32) -> Result<Supplied, Stop>
     requires text { IsOfText unit.now }
-    ensures ok { IfOk result (λ supply. (graphs : List Drawn) × (supplying unit.now until).gives (record { graphs = graphs; nexts = supply.nexts; sizes = supply.sizes })) }
+    ensures ok { IfOk result (λ supply. (graphs : List Drawn)
+        × (supplying unit.now until).gives (record { graphs = graphs; nexts = supply.nexts; sizes = supply.sizes })) }
     ensures err { (failed : List ℕ) (before after : ℕ) → IfErr result (Halts (supplying unit.now until) failed before after) }
 {
     let graphs = graphs(alloc, unit)?;

@@ -113,7 +113,8 @@ fn write_node<S: Sink>(
 ) -> Result<(), WriteFault>
     ensures counted { S.faults out.old ≤ S.faults out.new }
     ensures failed { OnErr result (Rose (S.faults out.old) (S.faults out.new)) }
-    ensures written { Written (S.held out.old) (S.held out.new) result (node_line number node.now.point node.now.phase node.now.budget (get_or costs.now node.now.point 0) node.now.due) }
+    ensures written { Written (S.held out.old) (S.held out.new) result
+        (node_line number node.now.point node.now.phase node.now.budget (get_or costs.now node.now.point 0) node.now.due) }
 {
     let worst = match costs.get(node.point as usize) {
         Some(worst) => *worst,

@@ -88,7 +88,8 @@ pub fn inputs_of<F: Shelf>(
     requires text { IsOfText unit.now }
     ensures ok { IfOk result (λ inputs. (listing (F.files shelf.old) unit.now (option_copied name.entry)).gives inputs.lists) }
     ensures inputs { IfOk result (λ inputs. AreInputs unit.now inputs.lists) }
-    ensures err { IfErr result (Halts (listing (F.files shelf.old) unit.now (option_copied name.entry)) (F.failed_name shelf.new) (F.faults shelf.old) (F.faults shelf.new)) }
+    ensures err { IfErr result (Halts (listing (F.files shelf.old) unit.now (option_copied name.entry)) (F.failed_name shelf.new) (F.faults shelf.old)
+        (F.faults shelf.new)) }
     ensures shelf { (F.faults shelf.old ≤ F.faults shelf.new) × (F.files shelf.new ≡ F.files shelf.old) }
 {
     let Some(name) = name else {
@@ -108,7 +109,8 @@ pub fn script_of<F: Shelf>(
     requires text { IsOfText unit.now }
     ensures ok { IfOk result (λ script. (scripting (F.files shelf.old) unit.now (option_copied name.entry)).gives script) }
     ensures script { IfOk result (IsScript unit.now) }
-    ensures err { IfErr result (Halts (scripting (F.files shelf.old) unit.now (option_copied name.entry)) (F.failed_name shelf.new) (F.faults shelf.old) (F.faults shelf.new)) }
+    ensures err { IfErr result (Halts (scripting (F.files shelf.old) unit.now (option_copied name.entry)) (F.failed_name shelf.new) (F.faults shelf.old)
+        (F.faults shelf.new)) }
     ensures shelf { (F.faults shelf.old ≤ F.faults shelf.new) × (F.files shelf.new ≡ F.files shelf.old) }
 {
     let Some(name) = name else {

@@ -42,8 +42,10 @@ fn say<S: Sink>(line: &Line, status: u8, out: &mut S) -> u8
 // Answers where a command stopped.
 fn refuse<S: Sink>(stop: Stop, out: &mut S) -> u8
     ensures counted { S.faults out.old ≤ S.faults out.new }
-    ensures refused { (refusal : Cause) → stop ≡ Stop.Refused refusal → Says (S.held out.old) (S.held out.new) (S.faults out.old) (S.faults out.new) result (status_of refusal) (line_of refusal) }
-    ensures unread { (file : Role) → stop ≡ Stop.Unread file → Says (S.held out.old) (S.held out.new) (S.faults out.old) (S.faults out.new) result 3 (read_line (file_name file)) }
+    ensures refused { (refusal : Cause) → stop ≡ Stop.Refused refusal
+        → Says (S.held out.old) (S.held out.new) (S.faults out.old) (S.faults out.new) result (status_of refusal) (line_of refusal) }
+    ensures unread { (file : Role) → stop ≡ Stop.Unread file
+        → Says (S.held out.old) (S.held out.new) (S.faults out.old) (S.faults out.new) result 3 (read_line (file_name file)) }
     ensures memory { stop ≡ Stop.Memory → (result ≡ 8) × Grew (S.held out.old) (S.held out.new) [] }
 {
     match stop {
@@ -128,7 +130,13 @@ fn answer<F: Shelf, S: Sink>(
     left: &mut Option<Kernel>,
 ) -> u8
     requires empty { left.old ≡ None }
-    ensures ends { Ends (record { words = map string_bytes words.now; files = F.files shelf.old; failed = F.failed_name shelf.new; before = F.faults shelf.old; after = F.faults shelf.new })
+    ensures ends { Ends (record {
+      words = map string_bytes words.now;
+      files = F.files shelf.old;
+      failed = F.failed_name shelf.new;
+      before = F.faults shelf.old;
+      after = F.faults shelf.new;
+    })
         (S.held out.old) (S.held out.new) (S.faults out.old) (S.faults out.new) result left.new }
     ensures shelf { (F.faults shelf.old ≤ F.faults shelf.new) × (F.files shelf.new ≡ F.files shelf.old) }
     ensures sink { S.faults out.old ≤ S.faults out.new }
@@ -163,7 +171,8 @@ pub fn psyc<F: Shelf, S: Sink>(
 
     // Where no call failed, the whole text of a defined answer was written, unless memory ran out.
     ensures done { (Rose (F.faults shelf.old) (F.faults shelf.new) → ⊥) → (Rose (S.faults out.old) (S.faults out.new) → ⊥)
-        → ((text : List ℕ) × Answers (map string_bytes words.now) (F.files shelf.old) result text × Grew (S.held out.old) (S.held out.new) text) ⊎ (result ≡ 8) }
+        → ((text : List ℕ) × Answers (map string_bytes words.now) (F.files shelf.old) result text × Grew (S.held out.old) (S.held out.new) text)
+        ⊎ (result ≡ 8) }
 
     // Words of no listed form are refused whatever the shelf does.
     ensures words { AskNothing (map string_bytes words.now) → (result ≡ 2) ⊎ (result ≡ 4) }
@@ -171,11 +180,23 @@ pub fn psyc<F: Shelf, S: Sink>(
 
     // A file that the words name couldn't be read, and no step before that read refuses.
     ensures read { result ≡ 3 → (file : Role)
-        × IsUnread (record { words = map string_bytes words.now; files = F.files shelf.old; failed = F.failed_name shelf.new; before = F.faults shelf.old; after = F.faults shelf.new }) file
+        × IsUnread (record {
+          words = map string_bytes words.now;
+          files = F.files shelf.old;
+          failed = F.failed_name shelf.new;
+          before = F.faults shelf.old;
+          after = F.faults shelf.new;
+        }) file
         × Grew (S.held out.old) (S.held out.new) (read_line (file_name file)) }
     ensures write { result ≡ 4 → Rose (S.faults out.old) (S.faults out.new) }
     ensures cut_short { result ≡ 4 → (status : ℕ) × (text : List ℕ) × (kernel : Option Progress)
-        × MayAnswer (record { words = map string_bytes words.now; files = F.files shelf.old; failed = F.failed_name shelf.new; before = F.faults shelf.old; after = F.faults shelf.new }) status text kernel
+        × MayAnswer (record {
+          words = map string_bytes words.now;
+          files = F.files shelf.old;
+          failed = F.failed_name shelf.new;
+          before = F.faults shelf.old;
+          after = F.faults shelf.new;
+        }) status text kernel
         × GrewByFront (S.held out.old) (S.held out.new) text }
     ensures memory { result ≡ 8 → Grew (S.held out.old) (S.held out.new) [] }
 

@@ -25,7 +25,8 @@ place_in agents name = position (bytes_eq name) agents
 
 -- What is said, with agents by their numbers, where each name is an agent's
 abbrev pub entry_in : List (List ℕ) → Statement → Option Entry
-entry_in agents (Stalls agent action instr cycles) = option_map (λ n. entry.Stall (record { agent = n; action = action; instr = instr; cycles = cycles })) (place_in agents agent)
+entry_in agents (Stalls agent action instr cycles) = option_map
+    (λ n. entry.Stall (record { agent = n; action = action; instr = instr; cycles = cycles })) (place_in agents agent)
 entry_in agents (Orders cycle names) = option_map (λ ns. entry.Order (record { cycle = cycle; agents = ns })) (all_some (map (place_in agents) names))
 
 -- Two stalls stand before the same instruction.

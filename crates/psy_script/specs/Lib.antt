@@ -1,3 +1,4 @@
+-- The definitions of this crate, by subject.
 pub mod Entries
 pub mod Faults
 pub mod Inputs

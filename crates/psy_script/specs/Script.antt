@@ -1,5 +1,6 @@
 -- The script that a text states: stalls and orders.
-use Rattle.std.specs.Prelude.{◌≡◌, ℕ, Bool, true, false, not, ◌==◌, ◌&&◌, ◌||◌, nat_le, nat_lt, if◌then◌else◌, List, [], ◌∷◌, map, length, Option, Some, None, option_map, option_to_list, bytes_eq, codes}
+use Rattle.std.specs.Prelude.{◌≡◌, ℕ, Bool, true, false, not, ◌==◌, ◌&&◌, ◌||◌, nat_le, nat_lt, if◌then◌else◌, List, [], ◌∷◌, map, length, Option}
+use Rattle.std.specs.Prelude.{Some, None, option_map, option_to_list, bytes_eq, codes}
 use Rattle.std.specs.List.{flat_map, list_all, list_any, position_or_len}
 use Rattle.psy_base.specs.declared.limits.TheConstants.{RUN, STALL}
 use Rattle.psy_budget.specs.declared.charge.Stall.{Stall}
@@ -99,7 +100,8 @@ statement_fault unit before (Some said) =
 
 -- What is wrong with a line of a script that stands behind these, if anything is
 abbrev pub script_judge : Whole → Judge
-script_judge unit before line = if is_skipped line then None else statement_fault unit (statements unit before) (statement_in (length unit.agents) (words_of line))
+script_judge unit before line = if is_skipped line then None
+    else statement_fault unit (statements unit before) (statement_in (length unit.agents) (words_of line))
 
 -- ---- stalls and orders
 

@@ -1,3 +1,4 @@
+//! What is wrong with a line of inputs or of a script.
 ghost use Rattle.std.specs.Prelude.{◌≡◌};
 ghost use Rattle.psy_script.specs.Faults.{line_number};
 

@@ -1,5 +1,6 @@
 //! The inputs file.
-ghost use Rattle.std.specs.Prelude.{◌≡◌, ◌≢◌, ◌&&◌, ◌++◌, ℕ, List, [], ◌∷◌, map, if◌then◌else◌, MatchBool, Some, None, IfOk, Ok, Err, is_none, bytes_eq, slice_get};
+ghost use Rattle.std.specs.Prelude.{◌≡◌, ◌≢◌, ◌&&◌, ◌++◌, ℕ, List, [], ◌∷◌, map, if◌then◌else◌, MatchBool, Some, None, IfOk, Ok, Err, is_none};
+ghost use Rattle.std.specs.Prelude.{bytes_eq, slice_get};
 ghost use Rattle.std.specs.List.{list_all, position};
 ghost use Rattle.psy_history.specs.Compiled.{AreInputs};
 ghost use Rattle.psy_meaning.specs.Units.{IsBare};
@@ -70,7 +71,8 @@ fn add_line(
     requires bare { IsBare unit.now }
     requires names { names.now ≡ map (λ v. v.name) unit.now.variables }
     ensures fault { IfOk result (λ fault. (before : List (List ℕ)) → lists.old ≡ lists_in unit.now before → fault ≡ inputs_judge unit.now before line.now) }
-    ensures added { result ≡ Ok None → (before : List (List ℕ)) → lists.old ≡ lists_in unit.now before → lists.new ≡ lists_in unit.now (before ++ line.now ∷ []) }
+    ensures added { result ≡ Ok None → (before : List (List ℕ)) → lists.old ≡ lists_in unit.now before
+        → lists.new ≡ lists_in unit.now (before ++ line.now ∷ []) }
 {
     if is_skipped(line) {
         return Ok(None);
@@ -91,8 +93,10 @@ fn add(
 ) -> Result<Option<LineKind>, Memory>
     requires bare { IsBare unit.now }
     requires names { names.now ≡ map (λ v. v.name) unit.now.variables }
-    ensures fault { IfOk result (λ fault. (before : List (List ℕ)) → lists.old ≡ lists_in unit.now before → fault ≡ listing_fault unit.now (listings before) (Some said.now)) }
-    ensures added { result ≡ Ok None → (before : List (List ℕ)) (line : List ℕ) → lists.old ≡ lists_in unit.now before → listing_of line ≡ Some said.now → lists.new ≡ lists_in unit.now (before ++ line ∷ []) }
+    ensures fault { IfOk result (λ fault. (before : List (List ℕ)) → lists.old ≡ lists_in unit.now before
+        → fault ≡ listing_fault unit.now (listings before) (Some said.now)) }
+    ensures added { result ≡ Ok None → (before : List (List ℕ)) (line : List ℕ) → lists.old ≡ lists_in unit.now before → listing_of line ≡ Some said.now
+        → lists.new ≡ lists_in unit.now (before ++ line ∷ []) }
 {
     let Some(input) = input(alloc, unit, names, said.name)? else {
         return Ok(Some(LineKind::NoSuchName));

@@ -1,3 +1,4 @@
+//! Inputs of a small program.
 ghost use Rattle.std.specs.Prelude.{◌≡◌, [], ◌∷◌, Some, None, IfOk, codes, pos};
 ghost use Rattle.psy_meaning.specs.Units.{IsBare};
 
@@ -24,7 +25,15 @@ fn variable(alloc: Global, name: &[u8], owner: Option<u32>) -> Result<VarDecl, M
 
 // An agent of the base clock, with no statements.
 fn agent(alloc: Global, name: &[u8]) -> Result<AgentDecl, Memory>
-    ensures { IfOk result (λ a. a ≡ record { name = name.now; clock = 0; budget = 1; slots = []; points = record { count = 0; clock = 0; budget = 1 } ∷ []; stmts = [] }) }
+    ensures { IfOk result (λ a. a ≡ record {
+      name = name.now;
+      clock = 0;
+      budget = 1;
+      slots = [];
+      points = record { count = 0; clock = 0; budget = 1 }
+          ∷ [];
+      stmts = [];
+    }) }
 {
     let head = Point {
         count: 0,
@@ -43,7 +52,9 @@ fn agent(alloc: Global, name: &[u8]) -> Result<AgentDecl, Memory>
 
 // The inputs `speed` and `load`, and the variable `out` of an agent.
 fn variables(alloc: Global) -> Result<Items<VarDecl>, Memory>
-    ensures { IfOk result (λ vs. vs ≡ record { name = codes "speed"; owner = None; clock = 0; init = pos 0; depth = 1 } ∷ record { name = codes "load"; owner = None; clock = 0; init = pos 0; depth = 1 } ∷ record { name = codes "out"; owner = Some 0; clock = 0; init = pos 0; depth = 1 } ∷ []) }
+    ensures { IfOk result (λ vs. vs ≡ record { name = codes "speed"; owner = None; clock = 0; init = pos 0; depth = 1 }
+        ∷ record { name = codes "load"; owner = None; clock = 0; init = pos 0; depth = 1 }
+        ∷ record { name = codes "out"; owner = Some 0; clock = 0; init = pos 0; depth = 1 } ∷ []) }
 {
     let mut variables = Items::new(alloc);
     variables.push(variable(alloc, b"speed", None)?)?;

@@ -56,7 +56,8 @@ fn add_line(
 ) -> Result<Option<LineKind>, Memory>
     requires { agents.now ≡ map (λ a. a.name) unit.now.agents }
     ensures fault { (before : List (List ℕ)) → placed.old ≡ script_in unit.now before → IfOk result (λ fault. fault ≡ script_judge unit.now before line.now) }
-    ensures placed { (before : List (List ℕ)) → placed.old ≡ script_in unit.now before → IfOk result (λ fault. fault ≡ None → placed.new ≡ script_in unit.now (before ++ line.now ∷ [])) }
+    ensures placed { (before : List (List ℕ)) → placed.old ≡ script_in unit.now before
+        → IfOk result (λ fault. fault ≡ None → placed.new ≡ script_in unit.now (before ++ line.now ∷ [])) }
 {
     if is_skipped(line) {
         return Ok(None);

@@ -1,3 +1,4 @@
+//! Scripts of a small program.
 ghost use Rattle.std.specs.Prelude.{◌≡◌, [], ◌∷◌, IfOk};
 ghost use Rattle.psy_meaning.specs.Units.{IsBare};
 
@@ -12,7 +13,15 @@ use std::test::Fail;
 
 // An agent without statements.
 fn agent(alloc: Global, name: &[u8]) -> Result<AgentDecl, Memory>
-    ensures { IfOk result (λ a. a ≡ record { name = name.now; clock = 0; budget = 1; slots = []; points = record { count = 0; clock = 0; budget = 1 } ∷ []; stmts = [] }) }
+    ensures { IfOk result (λ a. a ≡ record {
+      name = name.now;
+      clock = 0;
+      budget = 1;
+      slots = [];
+      points = record { count = 0; clock = 0; budget = 1 }
+          ∷ [];
+      stmts = [];
+    }) }
 {
     let head = Point {
         count: 0,

@@ -1,3 +1,4 @@
+//! Lines and words of a text.
 use crate::words::{cut_line, cut_word};
 use std::alloc::{AllocError, Global};
 use std::test::Fail;

@@ -15,7 +15,8 @@ pub struct Cut<'a> {
 
 /// The first line of a text, and what follows it.
 pub fn cut_line(text: &[u8]) -> Option<Cut<'_>>
-    ensures { MatchOption result (lines_of text.now ≡ []) (λ cut. (lines_of text.now ≡ cut.front.now ∷ lines_of cut.rest.now) × (length cut.rest.now < length text.now)) }
+    ensures { MatchOption result (lines_of text.now ≡ []) (λ cut. (lines_of text.now ≡ cut.front.now ∷ lines_of cut.rest.now)
+        × (length cut.rest.now < length text.now)) }
 {
     if text.is_empty() {
         return None;
@@ -50,7 +51,8 @@ fn without_return(bytes: &[u8]) -> &[u8]
 
 /// The first word of a line, and what follows it.
 pub fn cut_word(line: &[u8]) -> Option<Cut<'_>>
-    ensures { MatchOption result (words_of line.now ≡ []) (λ cut. (words_of line.now ≡ cut.front.now ∷ words_of cut.rest.now) × (length cut.rest.now < length line.now)) }
+    ensures { MatchOption result (words_of line.now ≡ []) (λ cut. (words_of line.now ≡ cut.front.now ∷ words_of cut.rest.now)
+        × (length cut.rest.now < length line.now)) }
 {
     let (_, words) = line.split_at(gaps_len(line));
     if words.is_empty() {

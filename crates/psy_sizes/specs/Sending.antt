@@ -12,4 +12,5 @@ HasSendsAmong functions agent streams from nexts n = (to : ℕ) × Contains next
 
 -- The same on a way from one of the points before this one to a next one.
 abbrev pub HasSendsBefore : List FunctionDecl → AgentDecl → ℕ → ℕ → ℕ → Type 0
-HasSendsBefore functions agent streams points n = (from to : ℕ) × (from < points) × IsNext functions agent from to × AreSendsBelow functions agent from to streams n
+HasSendsBefore functions agent streams points n = (from to : ℕ) × (from < points) × IsNext functions agent from to
+    × AreSendsBelow functions agent from to streams n

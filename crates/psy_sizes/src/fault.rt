@@ -1,3 +1,4 @@
+//! Why no sizes are given.
 ghost use Rattle.std.specs.Prelude.{◌≡◌};
 ghost use Rattle.psy_sizes.specs.declared.fault.SizeFault.TheVariants.{Memory as no_memory};
 

@@ -59,7 +59,8 @@ fn most_among(agent: &AgentDecl, from: u32, nexts: &[u32], streams: u32) -> u32
 fn outbox(alloc: Global, agent: &AgentDecl, streams: u32) -> Result<u32, Memory>
     requires text { IsOfSome agent.now }
     requires few { streams ≤ STREAMS }
-    ensures { IfOk result (λ size. (unit : Whole) (number : ℕ) → IsAgentOf unit number agent.now → IsGreatest (HasSendsBefore unit.functions agent.now streams (length agent.now.points)) size) }
+    ensures { IfOk result (λ size. (unit : Whole) (number : ℕ) → IsAgentOf unit number agent.now
+        → IsGreatest (HasSendsBefore unit.functions agent.now streams (length agent.now.points)) size) }
 {
     known();
     sends();

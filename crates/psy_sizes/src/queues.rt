@@ -27,7 +27,8 @@ fn queue(alloc: Global, unit: &Unit, graphs: &[Graph], stream: u32) -> Result<u3
     requires stream { stream < length unit.now.streams }
     ensures queue { IfOk result (λ size. (nexts : List (List (List ℕ))) → AreAllNexts unit.now nexts → IsKeptQueue unit.now nexts stream size) }
     ensures small { IfOk result (λ size. size ≤ QUEUE) }
-    ensures cause { IfErr result (λ fault. (fault ≡ no_memory) ⊎ ((nexts : List (List (List ℕ))) → AreAllNexts unit.now nexts → IsAtFault unit.now nexts stream fault)) }
+    ensures cause { IfErr result (λ fault. (fault ≡ no_memory)
+        ⊎ ((nexts : List (List (List ℕ))) → AreAllNexts unit.now nexts → IsAtFault unit.now nexts stream fault)) }
 {
     let delays = delays(alloc, unit, stream)?;
     match greatest(delays.as_slice()) {
@@ -57,8 +58,10 @@ pub fn queues(alloc: Global, unit: &Unit, graphs: &[Graph]) -> Result<Items<u32>
     requires graphs { AreGraphs unit.now graphs.now }
     ensures queues { IfOk result (λ queues. (nexts : List (List (List ℕ))) → AreAllNexts unit.now nexts → AreQueues unit.now nexts queues) }
     ensures small { IfOk result (All (λ size. size ≤ QUEUE)) }
-    ensures counted { IfOk result (λ _. (nexts : List (List (List ℕ))) → AreAllNexts unit.now nexts → (stream : ℕ) → stream < length unit.now.streams → PassesTable unit.now nexts stream → ⊥) }
-    ensures cause { IfErr result (λ fault. (fault ≡ no_memory) ⊎ ((nexts : List (List (List ℕ))) → AreAllNexts unit.now nexts → IsQueueFault unit.now nexts fault)) }
+    ensures counted { IfOk result (λ _. (nexts : List (List (List ℕ))) → AreAllNexts unit.now nexts → (stream : ℕ) → stream < length unit.now.streams
+        → PassesTable unit.now nexts stream → ⊥) }
+    ensures cause { IfErr result (λ fault. (fault ≡ no_memory)
+        ⊎ ((nexts : List (List (List ℕ))) → AreAllNexts unit.now nexts → IsQueueFault unit.now nexts fault)) }
 {
     let mut sizes = Items::new(alloc);
     'streams: for stream in 0..unit.streams.len() {

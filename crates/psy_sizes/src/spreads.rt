@@ -31,7 +31,8 @@ fn send_edge(agent: &AgentDecl, nodes: &[Node], edge: Edge, stream: u32) -> Edge
     requires text { IsOfSome agent.now }
     requires points { All (λ node. node.point < length agent.now.points) nodes.now }
     requires edge { IsEdge (length nodes.now) edge }
-    ensures sent { (unit : Whole) (number : ℕ) → IsAgentOf unit number agent.now → IsSendEdge unit.functions agent.now stream (map spot_of nodes.now) edge result }
+    ensures sent { (unit : Whole) (number : ℕ) → IsAgentOf unit number agent.now
+        → IsSendEdge unit.functions agent.now stream (map spot_of nodes.now) edge result }
     ensures edge { IsEdge (length nodes.now) result }
 {
     let from = nodes[edge.from as usize].point;
@@ -59,7 +60,8 @@ fn send_edges(
     requires text { IsOfSome agent.now }
     requires points { All (λ node. node.point < length agent.now.points) graph.now.nodes }
     requires edges { All (IsEdge (length graph.now.nodes)) graph.now.edges }
-    ensures sent { IfOk result (λ sent. (unit : Whole) (number : ℕ) → IsAgentOf unit number agent.now → AreSendEdges unit.functions agent.now stream (map spot_of graph.now.nodes) graph.now.edges sent) }
+    ensures sent { IfOk result (λ sent. (unit : Whole) (number : ℕ) → IsAgentOf unit number agent.now
+        → AreSendEdges unit.functions agent.now stream (map spot_of graph.now.nodes) graph.now.edges sent) }
     ensures edges { IfOk result (All (IsEdge (length graph.now.nodes))) }
 {
     let mut sent = Items::new(alloc);
@@ -107,10 +109,14 @@ fn spread(
     requires graph { HasGraph unit.now number graph.now }
     requires edges { All (IsEdge (length graph.now.nodes)) graph.now.edges }
     requires top { (nexts : List (List (List ℕ))) → AreAllNexts unit.now nexts → IsTop unit.now nexts stream top }
-    ensures spread { IfOk result (λ n. (nexts : List (List (List ℕ))) (window : ℕ) → AreAllNexts unit.now nexts → IsWindow unit.now nexts stream window → IsSpread unit.now nexts stream window number n) }
+    ensures spread { IfOk result (λ n. (nexts : List (List (List ℕ))) (window : ℕ) → AreAllNexts unit.now nexts → IsWindow unit.now nexts stream window
+        → IsSpread unit.now nexts stream window number n) }
     ensures small { IfOk result (λ n. n < 2 ^ 50) }
-    ensures counted { IfOk result (λ _. (nexts : List (List (List ℕ))) (window : ℕ) → AreAllNexts unit.now nexts → IsWindow unit.now nexts stream window → length graph.now.nodes * window ≤ WINDOW_CELLS) }
-    ensures cause { IfErr result (λ fault. (fault ≡ no_memory) ⊎ ((fault ≡ many_cells stream) × ((nexts : List (List (List ℕ))) (window : ℕ) → AreAllNexts unit.now nexts → IsWindow unit.now nexts stream window → WINDOW_CELLS < length graph.now.nodes * window))) }
+    ensures counted { IfOk result (λ _. (nexts : List (List (List ℕ))) (window : ℕ) → AreAllNexts unit.now nexts → IsWindow unit.now nexts stream window
+        → length graph.now.nodes * window ≤ WINDOW_CELLS) }
+    ensures cause { IfErr result (λ fault. (fault ≡ no_memory)
+        ⊎ ((fault ≡ many_cells stream) × ((nexts : List (List (List ℕ))) (window : ℕ) → AreAllNexts unit.now nexts
+        → IsWindow unit.now nexts stream window → WINDOW_CELLS < length graph.now.nodes * window))) }
 {
     nexts();
     one_graph();
@@ -141,10 +147,12 @@ fn spread_by(
     requires edges { All (IsEdge (length graph.now.nodes)) graph.now.edges }
     requires delay { delay ≡ delay_by unit.now stream (agent_at unit.now number) }
     requires top { (nexts : List (List (List ℕ))) → AreAllNexts unit.now nexts → IsTop unit.now nexts stream top }
-    ensures spread { IfOk result (λ n. (nexts : List (List (List ℕ))) (window : ℕ) → AreAllNexts unit.now nexts → IsWindow unit.now nexts stream window → IsSpread unit.now nexts stream window number n) }
+    ensures spread { IfOk result (λ n. (nexts : List (List (List ℕ))) (window : ℕ) → AreAllNexts unit.now nexts → IsWindow unit.now nexts stream window
+        → IsSpread unit.now nexts stream window number n) }
     ensures small { IfOk result (λ n. n < 2 ^ 50) }
     ensures counted { IfOk result (λ _. (nexts : List (List (List ℕ))) → AreAllNexts unit.now nexts → PassesTableOf unit.now nexts stream number → ⊥) }
-    ensures cause { IfErr result (λ fault. (fault ≡ no_memory) ⊎ ((fault ≡ many_cells stream) × ((nexts : List (List (List ℕ))) → AreAllNexts unit.now nexts → PassesTableOf unit.now nexts stream number))) }
+    ensures cause { IfErr result (λ fault. (fault ≡ no_memory)
+        ⊎ ((fault ≡ many_cells stream) × ((nexts : List (List (List ℕ))) → AreAllNexts unit.now nexts → PassesTableOf unit.now nexts stream number))) }
 {
     sound();
     sends();
@@ -170,9 +178,11 @@ pub fn spreads(
     requires graphs { AreGraphs unit.now graphs.now }
     requires delays { delays.now ≡ map (delay_by unit.now stream) unit.now.agents }
     requires top { (nexts : List (List (List ℕ))) → AreAllNexts unit.now nexts → IsTop unit.now nexts stream top }
-    ensures spreads { IfOk result (λ n. (nexts : List (List (List ℕ))) (window : ℕ) → AreAllNexts unit.now nexts → IsWindow unit.now nexts stream window → IsSpreadBelow unit.now nexts stream window (length unit.now.agents) n) }
+    ensures spreads { IfOk result (λ n. (nexts : List (List (List ℕ))) (window : ℕ) → AreAllNexts unit.now nexts → IsWindow unit.now nexts stream window
+        → IsSpreadBelow unit.now nexts stream window (length unit.now.agents) n) }
     ensures counted { IfOk result (λ _. (nexts : List (List (List ℕ))) → AreAllNexts unit.now nexts → PassesTable unit.now nexts stream → ⊥) }
-    ensures cause { IfErr result (λ fault. (fault ≡ no_memory) ⊎ ((fault ≡ many_cells stream) × ((nexts : List (List (List ℕ))) → AreAllNexts unit.now nexts → PassesTable unit.now nexts stream))) }
+    ensures cause { IfErr result (λ fault. (fault ≡ no_memory)
+        ⊎ ((fault ≡ many_cells stream) × ((nexts : List (List (List ℕ))) → AreAllNexts unit.now nexts → PassesTable unit.now nexts stream))) }
 {
     one_graph();
     let mut sum = 0u64;

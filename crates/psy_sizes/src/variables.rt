@@ -97,7 +97,8 @@ fn ring(unit: &Unit, graphs: &[Graph], variable: u32) -> Result<u32, SizeFault>
     ensures size { IfOk result (λ size. (nexts : List (List (List ℕ))) → AreAllNexts unit.now nexts → IsRingSize unit.now nexts variable size) }
     ensures small { IfOk result (λ size. (1 ≤ size) × (size ≤ RING)) }
     ensures fault { IfErr result (λ fault. fault ≡ large_ring variable) }
-    ensures large { IfErr result (λ _. (nexts : List (List (List ℕ))) → AreAllNexts unit.now nexts → (size : ℕ) × IsRingSize unit.now nexts variable size × (RING < size)) }
+    ensures large { IfErr result (λ _. (nexts : List (List (List ℕ))) → AreAllNexts unit.now nexts → (size : ℕ)
+        × IsRingSize unit.now nexts variable size × (RING < size)) }
 {
     one_graph();
     let decl = &unit.variables.as_slice()[variable as usize];

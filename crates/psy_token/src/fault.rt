@@ -1,3 +1,4 @@
+//! Why a text has no tokens.
 ghost use Rattle.std.specs.Prelude.{◌≡◌};
 
 use psy_base::Memory;

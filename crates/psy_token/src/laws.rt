@@ -9,6 +9,7 @@ ghost use Rattle.psy_tree.specs.Tokens.{TokensOf};
 pub fn one_reading()
     ensures either { (text : List ℕ) → ((tokens : List Token) × TokensOf text tokens) ⊎ ((kind : LexKind) × (place : ℕ) × FirstFault text kind place) }
     ensures tokens { (text : List ℕ) (some others : List Token) → TokensOf text some → TokensOf text others → some ≡ others }
-    ensures fault { (text : List ℕ) (kind other : LexKind) (place elsewhere : ℕ) → FirstFault text kind place → FirstFault text other elsewhere → (kind ≡ other) × (place ≡ elsewhere) }
+    ensures fault { (text : List ℕ) (kind other : LexKind) (place elsewhere : ℕ) → FirstFault text kind place → FirstFault text other elsewhere
+        → (kind ≡ other) × (place ≡ elsewhere) }
     ensures not_both { (text : List ℕ) (tokens : List Token) (kind : LexKind) (place : ℕ) → TokensOf text tokens → FirstFault text kind place → ⊥ }
 {}

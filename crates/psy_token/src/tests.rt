@@ -1,3 +1,4 @@
+//! Tokens of small texts.
 use crate::laws::one_reading;
 use crate::{LexFault, lex};
 use psy_base::limits::FILE_BYTES;

@@ -27,11 +27,15 @@ MayNotFollow digits b = IsTrue (begins_word b) ⊎ (IsTrue (is_ascii_digit b) ×
 abbrev pub IsAtFault : LexKind → List ℕ → ℕ → Type 0
 IsAtFault lexical.BadByte bytes behind =
     ((b : ℕ) × (rest : List ℕ) × (bytes ≡ b ∷ rest) × BeginsNothing b × (behind ≡ 0))
-    ⊎ ((digits : List ℕ) × (b : ℕ) × (rest : List ℕ) × (bytes ≡ digits ++ b ∷ rest) × IsNumber digits × (decimal_value digits ≤ LITERAL) × MayNotFollow digits b × (behind ≡ length digits))
-IsAtFault lexical.LongName bytes behind = (word : List ℕ) × (rest : List ℕ) × (bytes ≡ word ++ rest) × IsWord word × EndsBefore is_in_word rest × (WORD_BYTES < length word) × (behind ≡ 0)
-IsAtFault lexical.BigLiteral bytes behind = (digits : List ℕ) × (rest : List ℕ) × (bytes ≡ digits ++ rest) × IsNumber digits × EndsBefore is_ascii_digit rest × (LITERAL < decimal_value digits) × (behind ≡ 0)
+    ⊎ ((digits : List ℕ) × (b : ℕ) × (rest : List ℕ) × (bytes ≡ digits ++ b ∷ rest) × IsNumber digits × (decimal_value digits ≤ LITERAL)
+    × MayNotFollow digits b × (behind ≡ length digits))
+IsAtFault lexical.LongName bytes behind = (word : List ℕ) × (rest : List ℕ) × (bytes ≡ word ++ rest) × IsWord word × EndsBefore is_in_word rest
+    × (WORD_BYTES < length word) × (behind ≡ 0)
+IsAtFault lexical.BigLiteral bytes behind = (digits : List ℕ) × (rest : List ℕ) × (bytes ≡ digits ++ rest) × IsNumber digits
+    × EndsBefore is_ascii_digit rest × (LITERAL < decimal_value digits) × (behind ≡ 0)
 IsAtFault lexical.OpenComment bytes behind = (inside : List ℕ) × (bytes ≡ codes "/*" ++ inside) × (HasClose inside → ⊥) × (behind ≡ 0)
 
 -- The first fault of the text, and the bytes before it: what stands before the piece at fault is lawful.
 abbrev pub FirstFault : List ℕ → LexKind → ℕ → Type 0
-FirstFault text kind place = (pieces : List Piece) × (rest : List ℕ) × (behind : ℕ) × Splits text pieces rest × IsAtFault kind rest behind × (place ≡ length (text_of pieces) + behind)
+FirstFault text kind place = (pieces : List Piece) × (rest : List ℕ) × (behind : ℕ) × Splits text pieces rest × IsAtFault kind rest behind
+    × (place ≡ length (text_of pieces) + behind)

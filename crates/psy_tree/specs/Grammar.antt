@@ -93,7 +93,8 @@ mutual
         → Expr 10 ts first us → Others us others rest
         → Expr 0 (named f ∷ sign a signs.OpenRound ∷ ts) (Call f (first ∷ others)) rest
     past : {x : Name} {back : Lit} {n a b c : ℕ} {rest : List Numbered}
-        → Expr 0 (word n words.Past ∷ sign a signs.OpenRound ∷ named x ∷ sign b signs.Comma ∷ numeral back ∷ sign c signs.CloseRound ∷ rest) (Past n x back) rest
+        → Expr 0 (word n words.Past ∷ sign a signs.OpenRound ∷ named x ∷ sign b signs.Comma ∷ numeral back ∷ sign c signs.CloseRound ∷ rest)
+        (Past n x back) rest
     ready : {x : Name} {n a b : ℕ} {rest : List Numbered}
         → Expr 0 (word n words.Ready ∷ sign a signs.OpenRound ∷ named x ∷ sign b signs.CloseRound ∷ rest) (Ready n x) rest
     take : {x : Name} {n a b : ℕ} {rest : List Numbered}
@@ -148,7 +149,8 @@ mutual
     advance : {count : Lit} {clock : Name} {n a b : ℕ} {rest : List Numbered}
         → Stmt (word n words.Advance ∷ numeral count ∷ word a words.On ∷ named clock ∷ sign b signs.Semicolon ∷ rest) (Advance n count clock None) rest
     advance_budget : {count budget : Lit} {clock : Name} {n a b c : ℕ} {rest : List Numbered}
-        → Stmt (word n words.Advance ∷ numeral count ∷ word a words.On ∷ named clock ∷ word b words.Budget ∷ numeral budget ∷ sign c signs.Semicolon ∷ rest) (Advance n count clock (Some budget)) rest
+        → Stmt (word n words.Advance ∷ numeral count ∷ word a words.On ∷ named clock ∷ word b words.Budget ∷ numeral budget ∷ sign c signs.Semicolon
+        ∷ rest) (Advance n count clock (Some budget)) rest
     return : {e : RawExpr} {n a : ℕ} {ts rest : List Numbered}
         → Expr 10 ts e (sign a signs.Semicolon ∷ rest)
         → Stmt (word n words.Return ∷ ts) (Return n e) rest
@@ -175,7 +177,8 @@ pub data FunctionLocal : List Numbered → Local → List Numbered → Type 0 wh
 pub data AgentLocal : List Numbered → Local → List Numbered → Type 0 where
   variable : {x : Local} {ts rest : List Numbered} → FunctionLocal ts x rest → AgentLocal ts x rest
   array : {x : Name} {cells : Lit} {n a b c : ℕ} {rest : List Numbered}
-      → AgentLocal (word n words.Int ∷ named x ∷ sign a signs.OpenSquare ∷ numeral cells ∷ sign b signs.CloseSquare ∷ sign c signs.Semicolon ∷ rest) (Array x cells) rest
+      → AgentLocal (word n words.Int ∷ named x ∷ sign a signs.OpenSquare ∷ numeral cells ∷ sign b signs.CloseSquare ∷ sign c signs.Semicolon ∷ rest)
+      (Array x cells) rest
 
 -- none or more locals, one after another
 pub data Many (One : List Numbered → Local → List Numbered → Type 0) : List Numbered → List Local → List Numbered → Type 0 where
@@ -215,18 +218,21 @@ pub data Declaration : List Numbered → Item → List Numbered → Type 0 where
       → Declaration (word n words.Clock ∷ named name ∷ sign a signs.Assign ∷ numeral by ∷ sign b signs.Star ∷ ts) (Clock name by parent shift) rest
   temporal : {name owner clock : Name} {init : Init} {depth : Lit} {n a b c d e : ℕ} {ts rest : List Numbered}
       → Start ts init (word d words.Depth ∷ numeral depth ∷ sign e signs.Semicolon ∷ rest)
-      → Declaration (word n words.Temporal ∷ named name ∷ word a words.Of ∷ named owner ∷ word b words.On ∷ named clock ∷ sign c signs.Assign ∷ ts) (Temporal name owner clock init depth) rest
+      → Declaration (word n words.Temporal ∷ named name ∷ word a words.Of ∷ named owner ∷ word b words.On ∷ named clock ∷ sign c signs.Assign ∷ ts)
+      (Temporal name owner clock init depth) rest
   input : {name clock : Name} {init : Init} {depth : Lit} {n a b c d : ℕ} {ts rest : List Numbered}
       → Start ts init (word c words.Depth ∷ numeral depth ∷ sign d signs.Semicolon ∷ rest)
       → Declaration (word n words.Input ∷ named name ∷ word a words.On ∷ named clock ∷ sign b signs.Assign ∷ ts) (Input name clock init depth) rest
   stream : {name receiver clock : Name} {keep : Lit} {n a b c d : ℕ} {rest : List Numbered}
-      → Declaration (word n words.Stream ∷ named name ∷ word a words.To ∷ named receiver ∷ word b words.Keep ∷ numeral keep ∷ word c words.On ∷ named clock ∷ sign d signs.Semicolon ∷ rest) (Stream name receiver keep clock) rest
+      → Declaration (word n words.Stream ∷ named name ∷ word a words.To ∷ named receiver ∷ word b words.Keep ∷ numeral keep ∷ word c words.On
+      ∷ named clock ∷ sign d signs.Semicolon ∷ rest) (Stream name receiver keep clock) rest
   function : {name : Name} {params : List Name} {locals : List Local} {stmts : List RawStmt} {n a b : ℕ} {ts us vs rest : List Numbered}
       → Params ts params (sign b signs.OpenBrace ∷ us) → Many FunctionLocal us locals vs → Block vs stmts rest
       → Declaration (word n words.Int ∷ named name ∷ sign a signs.OpenRound ∷ ts) (Function name params locals stmts) rest
   agent : {name clock : Name} {budget : Lit} {locals : List Local} {stmts : List RawStmt} {n a b c body d e : ℕ} {ts us rest : List Numbered}
       → Many AgentLocal ts locals (word body words.Body ∷ sign d signs.OpenBrace ∷ us) → Block us stmts (sign e signs.CloseBrace ∷ rest)
-      → Declaration (word n words.Agent ∷ named name ∷ word a words.On ∷ named clock ∷ word b words.Budget ∷ numeral budget ∷ sign c signs.OpenBrace ∷ ts) (Agent name clock budget locals body stmts) rest
+      → Declaration (word n words.Agent ∷ named name ∷ word a words.On ∷ named clock ∷ word b words.Budget ∷ numeral budget ∷ sign c signs.OpenBrace
+      ∷ ts) (Agent name clock budget locals body stmts) rest
 
 -- declarations up to the end of the text
 pub data Program : List Numbered → List Item → Type 0 where

@@ -6,9 +6,13 @@ use Rattle.psy_base.specs.declared.limits.TheConstants.{WORD_BYTES, LITERAL}
 use Rattle.psy_tree.specs.declared.token.Kind.{Kind}
 use Rattle.psy_tree.specs.declared.token.Kind.TheVariants as kinds
 use Rattle.psy_tree.specs.declared.token.Word.{Word}
-use Rattle.psy_tree.specs.declared.token.Word.TheVariants.{Advance, After, Agent, Body, Budget, Clock, Depth, Else, If, Input, Int, Int8, Int16, Int32, Int64, Keep, Max, Of, On, Past, Processor, Ready, Return, Send, Stream, Take, Temporal, Tick, To, While}
+use Rattle.psy_tree.specs.declared.token.Word.TheVariants.{Advance, After, Agent, Body, Budget, Clock, Depth, Else, If, Input, Int, Int8, Int16}
+use Rattle.psy_tree.specs.declared.token.Word.TheVariants.{Int32, Int64, Keep, Max, Of, On, Past, Processor, Ready, Return, Send, Stream, Take}
+use Rattle.psy_tree.specs.declared.token.Word.TheVariants.{Temporal, Tick, To, While}
 use Rattle.psy_tree.specs.declared.token.Sign.{Sign}
-use Rattle.psy_tree.specs.declared.token.Sign.TheVariants.{Semicolon, OpenBrace, CloseBrace, OpenRound, CloseRound, OpenSquare, CloseSquare, Comma, Assign, Plus, Minus, Star, Slash, Percent, ShiftLeft, ShiftRight, Less, LessEqual, Greater, GreaterEqual, Equal, NotEqual, Amp, Caret, Bar, AmpAmp, BarBar, Tilde, Bang}
+use Rattle.psy_tree.specs.declared.token.Sign.TheVariants.{Semicolon, OpenBrace, CloseBrace, OpenRound, CloseRound, OpenSquare, CloseSquare, Comma}
+use Rattle.psy_tree.specs.declared.token.Sign.TheVariants.{Assign, Plus, Minus, Star, Slash, Percent, ShiftLeft, ShiftRight, Less, LessEqual, Greater}
+use Rattle.psy_tree.specs.declared.token.Sign.TheVariants.{GreaterEqual, Equal, NotEqual, Amp, Caret, Bar, AmpAmp, BarBar, Tilde, Bang}
 
 -- space, tab, line feed or carriage return
 abbrev pub is_blank : ℕ → Bool
@@ -120,7 +124,8 @@ IsSpelling (kinds.Sign sign) bytes = bytes ≡ sign_spelling sign
 
 -- no longer sign stands where this one does, before the rest
 abbrev pub IsLongestSign : Sign → List ℕ → Type 0
-IsLongestSign sign rest = (other : Sign) (more : List ℕ) → sign_spelling sign ++ rest ≡ sign_spelling other ++ more → length (sign_spelling other) ≤ length (sign_spelling sign)
+IsLongestSign sign rest = (other : Sign) (more : List ℕ) → sign_spelling sign ++ rest ≡ sign_spelling other ++ more
+    → length (sign_spelling other) ≤ length (sign_spelling sign)
 
 -- a comment begins with these bytes
 abbrev pub OpensComment : List ℕ → Type 0

@@ -1,3 +1,4 @@
+-- The definitions of this crate, by subject.
 pub mod Deep
 pub mod Faults
 pub mod Grammar

@@ -1,5 +1,6 @@
 -- The unit that a program stands for: the program with numbers for names.
-use Rattle.std.specs.Prelude.{◌≡◌, ℕ, ◌+◌, Bool, true, false, nat_lt, if◌then◌else◌, List, [], ◌∷◌, ◌++◌, map, take, length, Option, Some, None, option_to_list, slice_get, ℤ, pos}
+use Rattle.std.specs.Prelude.{◌≡◌, ℕ, ◌+◌, Bool, true, false, nat_lt, if◌then◌else◌, List, [], ◌∷◌, ◌++◌, map, take, length, Option, Some, None}
+use Rattle.std.specs.Prelude.{option_to_list, slice_get, ℤ, pos}
 use Rattle.std.specs.List.{count_by, find, list_any, flat_map}
 use Rattle.std.specs.Int.{w32, cast_signed, int_wrapping_neg}
 use Rattle.psy_base.specs.declared.limits.TheConstants.{CLOCKS, AGENTS, VARIABLES, STREAMS, FUNCTIONS, NAMES, POINTS}
@@ -207,7 +208,14 @@ clock_names _ = []
 -- The temporal variable or input that a declaration is, where it is one. An input has no owner.
 abbrev pub variables : List Item → Item → List VarDecl
 variables items (item.Temporal name owner clock init depth) =
-    record { name = name.text; owner = Some (global_number is_agent items owner); clock = global_number is_clock items clock; init = first_value init; depth = depth.value } ∷ []
+    record {
+      name = name.text;
+      owner = Some
+          (global_number is_agent items owner);
+      clock = global_number is_clock items clock;
+      init = first_value init;
+      depth = depth.value;
+    } ∷ []
 variables items (item.Input name clock init depth) =
     record { name = name.text; owner = None; clock = global_number is_clock items clock; init = first_value init; depth = depth.value } ∷ []
 variables items _ = []

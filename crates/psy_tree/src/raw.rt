@@ -1,3 +1,4 @@
+//! The tree of a program's text, with names as they are written.
 use psy_arith::{Op1, Op2};
 use psy_base::{Boxed, Items, Text};
 

@@ -1,3 +1,5 @@
+//! What names stand for, and which places there are.
+
 /// What a name stands for.
 #[derive(Clone, Copy, Debug, PartialEq, Eq)]
 pub enum Found {

@@ -1,3 +1,4 @@
+//! The tokens of a program's text.
 use psy_base::Text;
 
 /// A token, and where its first byte stands.

@@ -1,3 +1,4 @@
+//! A program whose names are numbers.
 use psy_arith::{Op1, Op2};
 use psy_base::{Boxed, Items, Text};
 use psy_clock::Clock;

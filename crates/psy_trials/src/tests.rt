@@ -1,3 +1,5 @@
+//! The way from text to machine, by tables of small programs.
+
 mod actions;
 mod calls;
 mod code;

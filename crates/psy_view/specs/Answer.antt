@@ -9,6 +9,8 @@ use Rattle.psy_view.specs.Views.{ViewOf}
 pub data Answers (words : List (List ℕ)) (files : Option Files) : ℕ → List ℕ → Type 0 where
   no_words : AskNothing words → Answers words files 2 words_line
   viewed : (request : Request) (bytes : List ℕ) (status : ℕ) (text : List ℕ) → Asks words request
-      → WhereTold files (λ told. bytes ≡ bytes_under told (file_of request)) → length bytes ≤ most_of request → ViewOf bytes request status text → Answers words files status text
+      → WhereTold files (λ told. bytes ≡ bytes_under told (file_of request)) → length bytes ≤ most_of request → ViewOf bytes request status text
+      → Answers words files status text
   too_long : (request : Request) (bytes : List ℕ) → Asks words request
-      → WhereTold files (λ told. bytes ≡ bytes_under told (file_of request)) → most_of request < length bytes → Answers words files 1 (long_line (file_of request) (most_of request))
+      → WhereTold files (λ told. bytes ≡ bytes_under told (file_of request)) → most_of request < length bytes
+      → Answers words files 1 (long_line (file_of request) (most_of request))

@@ -55,7 +55,8 @@ pub fn read_words(words: &[String]) -> Option<Asked<'_>>
 #[tactic(auto, using(crate::proofs::AskedLemmas::asks_line))]
 fn of_more<'a>(command: &str, name: &'a str, line: &'a [String]) -> Option<Asked<'a>>
     requires { 0 < length line.now }
-    ensures { MatchOption result (AskNothing (command.now ∷ name.now ∷ map string_bytes line.now)) (λ asked. Asks (command.now ∷ name.now ∷ map string_bytes line.now) (request_of asked)) }
+    ensures { MatchOption result (AskNothing (command.now ∷ name.now ∷ map string_bytes line.now))
+        (λ asked. Asks (command.now ∷ name.now ∷ map string_bytes line.now) (request_of asked)) }
 {
     if command == "where" {
         return Some(Asked::Where { name, words: line });

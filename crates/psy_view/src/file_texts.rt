@@ -1,3 +1,4 @@
+//! Texts of the system's files.
 ghost use Rattle.std.specs.Prelude.{◌≡◌, ◌≢◌, ◌+◌, ◌<◌, ◌≤◌, None, IfOk, OnOk, ⊤, vec_len};
 ghost use Rattle.psy_door.specs.Faults.{Rose};
 ghost use Rattle.psy_door.specs.States.{counted_up};

@@ -1,3 +1,4 @@
+//! What psyview answers.
 use crate::{TextsMap, psyview};
 use psy_base::Text;
 use psy_door::SinkVec;

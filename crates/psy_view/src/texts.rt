@@ -1,3 +1,4 @@
+//! Where texts are read from.
 ghost use Rattle.std.specs.Prelude.{◌≡◌, ℕ, ◌<◌, ◌≤◌, List, Option, length, vec_len, IfOk};
 ghost use Rattle.psy_door.specs.Faults.{Rose};
 ghost use Rattle.psy_door.specs.Files.{Files, WhereTold, bytes_under};

@@ -58,7 +58,8 @@ pub fn psyview<T: Texts, S: Sink>(alloc: Global, words: &[String], texts: &mut T
 
     // Where no call failed, the whole text of a defined answer was written, unless memory ran out.
     ensures done { (Rose (T.faults texts.old) (T.faults texts.new) → ⊥) → (Rose (S.faults out.old) (S.faults out.new) → ⊥)
-        → ((text : List ℕ) × Answers (map string_bytes words.now) (T.files texts.old) result text × Grew (S.held out.old) (S.held out.new) text) ⊎ (result ≡ 8) }
+        → ((text : List ℕ) × Answers (map string_bytes words.now) (T.files texts.old) result text × Grew (S.held out.old) (S.held out.new) text)
+        ⊎ (result ≡ 8) }
 
     // Words of no listed form are refused whatever the texts do.
     ensures words { AskNothing (map string_bytes words.now) → (result ≡ 2) ⊎ (result ≡ 4) }

@@ -1,5 +1,6 @@
 -- What is written for a refusal: where it is, what it means, the line, and a mark below.
-use Rattle.std.specs.Prelude.{◌≡◌, ℕ, ◌-◌, ◌==◌, Bool, ◌&&◌, ◌||◌, not, nat_le, nat_lt, if◌then◌else◌, List, ◌++◌, map, length, take, slice_index, codes, decimal, replicate, filter, count_by, max, None, Some, ◌⊎◌}
+use Rattle.std.specs.Prelude.{◌≡◌, ℕ, ◌-◌, ◌==◌, Bool, ◌&&◌, ◌||◌, not, nat_le, nat_lt, if◌then◌else◌, List, ◌++◌, map, length, take, slice_index}
+use Rattle.std.specs.Prelude.{codes, decimal, replicate, filter, count_by, max, None, Some, ◌⊎◌}
 use Rattle.std.specs.List.{prefix_len}
 use Rattle.psy_tree.specs.Lexemes.{is_in_word}
 use Rattle.psy_where.specs.declared.recall.What.{What}
@@ -32,7 +33,8 @@ padding bytes = map (λ b. if b == 9 then 9 else 32) (filter (λ b. not (goes_on
 abbrev pub columns : List ℕ → ℕ
 columns bytes = count_by (λ b. not (goes_on b)) bytes
 
--- how many columns of a line, from the place on, are marked: those of a word or a number that begins there, or of the whole line of inputs or of a script; one at least
+-- how many columns of a line, from the place on, are marked: those of a word or a number that begins there, or of the whole line
+-- of inputs or of a script; one at least
 abbrev pub marked : What → List ℕ → ℕ
 marked Inputs line = max 1 (columns line)
 marked Script line = max 1 (columns line)
@@ -62,7 +64,8 @@ abbrev pub Explains : List ℕ → List ℕ → List ℕ → List ℕ → Type 0
 Explains name text line answer =
     (refusal : Refusal) × (sentence : List ℕ) × Says line refusal sentence
     × (((refusal.at ≡ None) × (answer ≡ unplaced name sentence))
-    ⊎ ((number : ℕ) × (place : ℕ) × (refusal.at ≡ Some number) × IsPlaceOf refusal.what text number place × (answer ≡ explanation name text refusal.what sentence place)))
+    ⊎ ((number : ℕ) × (place : ℕ) × (refusal.at ≡ Some number) × IsPlaceOf refusal.what text number place
+    × (answer ≡ explanation name text refusal.what sentence place)))
 
 -- The line is no refusal that psyc writes of a text.
 abbrev pub IsNone : List ℕ → Type 0

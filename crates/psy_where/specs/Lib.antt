@@ -1,3 +1,4 @@
+-- The definitions of this crate, by subject.
 pub mod Explained
 pub mod Lexing
 pub mod Places

@@ -13,7 +13,8 @@ use crate::spot::spot_at;
 use itoa::Buffer;
 use std::alloc::{AllocError, Global};
 
-/// Explains a refusal, `line`, of a text of at most 262,144 bytes that stands in a file of this name: `NAME:LINE:COLUMN: ` and what it means, the line, and a mark
+/// Explains a refusal, `line`, of a text of at most 262,144 bytes that stands in a file of this name: `NAME:LINE:COLUMN: ` and
+/// what it means, the line, and a mark
 /// under the place.
 pub fn explain(alloc: Global, name: &[u8], text: &[u8], line: &[u8]) -> Result<Vec<u8>, WhereFault>
     requires { length text.now ≤ FILE_BYTES }

@@ -1,3 +1,4 @@
+//! Why a refusal isn't explained.
 use psy_token::LexFault;
 use std::alloc::AllocError;
 use thiserror::Error;

@@ -73,7 +73,8 @@ fn read_what(text: &[u8]) -> Option<(What, &[u8])>
 // The number at the front of a text, and what follows it: the only one that stands there.
 fn read_number(text: &[u8]) -> Option<(u32, &[u8])>
     ensures some { IfSome result (λ r. Cuts is_ascii_digit text.now (decimal r.0) r.1.now) }
-    ensures once { IfSome result (λ r. (number : ℕ) (rest : List ℕ) → number < 2 ^ 32 → Cuts is_ascii_digit text.now (decimal number) rest → (number ≡ r.0) × (rest ≡ r.1.now)) }
+    ensures once { IfSome result (λ r. (number : ℕ) (rest : List ℕ) → number < 2 ^ 32 → Cuts is_ascii_digit text.now (decimal number) rest
+        → (number ≡ r.0) × (rest ≡ r.1.now)) }
     ensures none { result ≡ None → (number : ℕ) (rest : List ℕ) → number < 2 ^ 32 → Cuts is_ascii_digit text.now (decimal number) rest → ⊥ }
 {
     one_number();

@@ -1,3 +1,4 @@
+//! Refusals explained.
 use crate::{WhereFault, explain};
 use psy_base::limits::FILE_BYTES;
 use std::alloc::Global;

@@ -1,3 +1,4 @@
+-- The lemmas of this crate, by subject.
 pub mod Cells
 pub mod Existence
 pub mod Lists

@@ -21,7 +21,8 @@ IsWithin FirstFree within path = length_of path ≤ within
 -- n is the greatest weight of a path from the node that is at most so long, of those whose first edge is among the
 -- first `seen` edges of the graph; the empty path is there from the start.
 pub record IsCell (graph : List Edge) (seen : ℕ) (span : Span) (within node n : ℕ) : Type 0 where
-  pub most : (i : ℕ) (e : Edge) (path : List Edge) → i < seen → get_or graph i e ≡ e → e.from ≡ node → IsPathFrom graph e.to path → IsWithin span within (e ∷ path) → weight_of (e ∷ path) ≤ n
+  pub most : (i : ℕ) (e : Edge) (path : List Edge) → i < seen → get_or graph i e ≡ e → e.from ≡ node → IsPathFrom graph e.to path
+      → IsWithin span within (e ∷ path) → weight_of (e ∷ path) ≤ n
   pub one : (path : List Edge) × IsPathFrom graph node path × IsWithin span within path × (weight_of path ≡ n)
   pub small : n ≤ BUDGET * within
 

@@ -1,3 +1,4 @@
+//! Why no weights are given.
 ghost use Rattle.std.specs.Prelude.{◌≡◌};
 ghost use Rattle.psy_window.specs.declared.fault.WindowFault.TheVariants.{Memory as no_memory};
 

@@ -1,3 +1,4 @@
+//! The greatest weight of a path that fits a length, by a row of the table.
 ghost use Rattle.std.specs.Prelude.{◌≡◌, ◌+◌, ◌*◌, ◌^◌, ◌≤◌, All, length};
 ghost use Rattle.psy_base.specs.declared.limits.TheConstants.{BUDGET};
 ghost use Rattle.psy_base.specs.Paths.{IsGreatestWeight};

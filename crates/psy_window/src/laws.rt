@@ -8,6 +8,8 @@ ghost use Rattle.psy_window.specs.Windows.{IsEdge, Fits};
 
 /// The paths of a graph that fit a length have one greatest weight.
 pub fn greatest()
-    ensures some { (graph : List Edge) (nodes : ℕ) (span : Span) (within : ℕ) → All (IsEdge nodes) graph → (n : ℕ) × IsGreatestWeight graph (Fits span within) n }
-    ensures one { (graph : List Edge) (span : Span) (within n m : ℕ) → IsGreatestWeight graph (Fits span within) n → IsGreatestWeight graph (Fits span within) m → n ≡ m }
+    ensures some { (graph : List Edge) (nodes : ℕ) (span : Span) (within : ℕ) → All (IsEdge nodes) graph → (n : ℕ)
+        × IsGreatestWeight graph (Fits span within) n }
+    ensures one { (graph : List Edge) (span : Span) (within n m : ℕ) → IsGreatestWeight graph (Fits span within) n
+        → IsGreatestWeight graph (Fits span within) m → n ≡ m }
 {}

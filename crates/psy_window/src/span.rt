@@ -1,3 +1,4 @@
+//! Which lengths of a path count.
 ghost use Rattle.std.specs.Prelude.{◌≡◌};
 ghost use Rattle.psy_window.specs.Table.{last_of};
 

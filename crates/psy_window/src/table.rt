@@ -1,3 +1,4 @@
+//! A row of the table of weights, over the rows of shorter lengths.
 ghost use Rattle.std.specs.Prelude.{◌≡◌, ℕ, ◌+◌, ◌*◌, ◌<◌, ◌≤◌, All, length, get_or};
 ghost use Rattle.psy_window.specs.Table.{IsTable, IsThrough, IsRow};
 ghost use Rattle.psy_window.specs.Windows.{IsEdge};

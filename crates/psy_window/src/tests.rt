@@ -1,3 +1,4 @@
+//! Weights worked out by hand.
 ghost use Rattle.std.specs.Prelude.{◌<◌, ◌≤◌};
 ghost use Rattle.psy_base.specs.declared.limits.TheConstants.{BUDGET};
 ghost use Rattle.psy_window.specs.Windows.{IsEdge};

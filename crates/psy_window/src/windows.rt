@@ -1,3 +1,4 @@
+//! The greatest weights of an agent's paths, by the length that they fit.
 ghost use Rattle.std.specs.Prelude.{◌≡◌, ℕ, ◌+◌, ◌*◌, ◌^◌, ◌<◌, ◌≤◌, ◌↔◌, ◌++◌, [], IfOk, OnOk, All, length, slice_index};
 ghost use Rattle.std.specs.Result.{IsErrOf};
 ghost use Rattle.psy_base.specs.declared.limits.TheConstants.{WINDOW_CELLS};

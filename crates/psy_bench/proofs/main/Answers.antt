@@ -1,3 +1,4 @@
+-- What is left of the proof of `main`.
 use Rattle.psy_bench.proofs.Stepping.{begins}
 use Rattle.psy_bench.proofs.main.Goals as goal
 

@@ -1,3 +1,4 @@
+-- What is left of the proof of `step`.
 use Rattle.std.proofs.Common.{subst, sym}
 use Rattle.psy_bench.specs.Loop.{IsLoop, seen}
 use Rattle.psy_bench.proofs.Stepping.{is_of, able, kept}

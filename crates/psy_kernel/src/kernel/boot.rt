@@ -1,3 +1,4 @@
+//! The kernel before its first date.
 ghost use Rattle.std.specs.Prelude.{◌≡◌, ◌^◌, ◌<◌, ◌≤◌, ℕ, List, [], map, length, IfOk};
 ghost use Rattle.std.specs.List.{AllPairs, range_with_len};
 ghost use Rattle.psy_base.specs.declared.limits.TheConstants.{AGENTS};

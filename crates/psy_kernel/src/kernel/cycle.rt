@@ -1,4 +1,6 @@
-ghost use Rattle.std.specs.Prelude.{◌≡◌, ◌≢◌, ℕ, ◌+◌, ◌*◌, ◌-◌, ◌^◌, ◌<◌, ◌≤◌, List, [], ◌∷◌, Option, Some, None, IsSome, length, slice_get, if◌then◌else◌, true, false, ℤ};
+//! A cycle: the agent that gets it, and what becomes of its action.
+ghost use Rattle.std.specs.Prelude.{◌≡◌, ◌≢◌, ℕ, ◌+◌, ◌*◌, ◌-◌, ◌^◌, ◌<◌, ◌≤◌, List, [], ◌∷◌, Option, Some, None, IsSome, length, slice_get};
+ghost use Rattle.std.specs.Prelude.{if◌then◌else◌, true, false, ℤ};
 ghost use Rattle.std.specs.List.{All, AllPairs};
 ghost use Rattle.psy_base.specs.declared.limits.TheConstants.{RING, VARIABLES};
 ghost use Rattle.psy_budget.specs.declared.charge.Stall.{Stall};
@@ -18,7 +20,8 @@ ghost use Rattle.psy_ready.specs.Choice.{ListsEach};
 ghost use Rattle.psy_tree.specs.declared.unit.StreamDecl.{StreamDecl};
 ghost use Rattle.psy_tree.specs.declared.unit.VarDecl.{VarDecl};
 ghost use Rattle.psy_kernel.specs.Acting.{IsLookIn};
-ghost use Rattle.psy_kernel.specs.Cycles.{AreOver, BoxStands, GetsCycle, IsCycleOf, IsGiven, IsNear, LooksBack, MayEnd, OneStands, figured, is_owned, order_by, reach_by, run_of, run_turns};
+ghost use Rattle.psy_kernel.specs.Cycles.{AreOver, BoxStands, GetsCycle, IsCycleOf, IsGiven, IsNear, LooksBack, MayEnd, OneStands, figured, is_owned};
+ghost use Rattle.psy_kernel.specs.Cycles.{order_by, reach_by, run_of, run_turns};
 ghost use Rattle.psy_kernel.specs.declared.script.Script.{Script};
 ghost use Rattle.psy_kernel.specs.Progress.{after_cycle, stage_of};
 ghost use Rattle.psy_kernel.specs.Seeing.{sight_in};
@@ -88,9 +91,12 @@ fn is_owned(agent: u32, owner: Option<u32>) -> bool
 fn keep_copies(ended: &mut Vec<i32>, variables: &[VarDecl], agent: u32, machine: &Machine)
     requires valued { length ended.old.items ≡ length variables.now }
     requires few { length variables.now ≤ VARIABLES }
-    requires copies { (variable : ℕ) (v : VarDecl) → slice_get variables.now variable ≡ Some v → v.owner ≡ Some agent → IsSome (copy_of variable machine.now.machine.copies) }
-    ensures own { (variable : ℕ) (v : VarDecl) (value : ℤ) → slice_get variables.now variable ≡ Some v → v.owner ≡ Some agent → slice_get ended.new.items variable ≡ Some value → copy_of variable machine.now.machine.copies ≡ Some value }
-    ensures others { (variable : ℕ) (v : VarDecl) → slice_get variables.now variable ≡ Some v → v.owner ≢ Some agent → slice_get ended.new.items variable ≡ slice_get ended.old.items variable }
+    requires copies { (variable : ℕ) (v : VarDecl) → slice_get variables.now variable ≡ Some v → v.owner ≡ Some agent
+        → IsSome (copy_of variable machine.now.machine.copies) }
+    ensures own { (variable : ℕ) (v : VarDecl) (value : ℤ) → slice_get variables.now variable ≡ Some v → v.owner ≡ Some agent
+        → slice_get ended.new.items variable ≡ Some value → copy_of variable machine.now.machine.copies ≡ Some value }
+    ensures others { (variable : ℕ) (v : VarDecl) → slice_get variables.now variable ≡ Some v → v.owner ≢ Some agent
+        → slice_get ended.new.items variable ≡ slice_get ended.old.items variable }
     ensures all { length ended.new.items ≡ length ended.old.items }
 {
     for variable in 0..variables.len() {
@@ -213,21 +219,31 @@ fn go(
     requires valued { length ended.old.items ≡ length plan.now.unit.variables }
     requires early { date ≤ 2 ^ 40 }
     requires few { All (λ ring. length ring ≤ RING) rings.now }
-    requires given { (inputs : List (List ℤ)) × (stalls : ℕ → List Stall) × (turns : List (Option Turn)) × (r : Action) × (before : List Action) × (waits : Option ℕ)
-        × IsGiven plan.now inputs stalls turns date cycle agent r before charge.old machine.old waits figure.old seat.old ended.old.items (sight_in plan.now.unit rings.now queues.now agent seat.old.start date) taken.old.items outbox.old }
+    requires given { (inputs : List (List ℤ)) × (stalls : ℕ → List Stall) × (turns : List (Option Turn)) × (r : Action) × (before : List Action)
+        × (waits : Option ℕ)
+        × IsGiven plan.now inputs stalls turns date cycle agent r before charge.old machine.old waits figure.old seat.old ended.old.items
+        (sight_in plan.now.unit rings.now queues.now agent seat.old.start date) taken.old.items outbox.old }
     ensures has { (inputs : List (List ℤ)) (stalls : ℕ → List Stall) (turns : List (Option Turn)) (r : Action) (before : List Action) (waits : Option ℕ)
-        → IsGiven plan.now inputs stalls turns date cycle agent r before charge.old machine.old waits figure.old seat.old ended.old.items (sight_in plan.now.unit rings.now queues.now agent seat.old.start date) taken.old.items outbox.old
-        → OneStands (system_of plan.now inputs stalls) plan.now.code (Some (record { agent = r.agent; number = r.number }) ∷ turns) plan.now.until date agent (r ∷ before) charge.new machine.new (if result.goes then waits else None) figure.new seat.new ended.new.items }
+        → IsGiven plan.now inputs stalls turns date cycle agent r before charge.old machine.old waits figure.old seat.old ended.old.items
+        (sight_in plan.now.unit rings.now queues.now agent seat.old.start date) taken.old.items outbox.old
+        → OneStands (system_of plan.now inputs stalls) plan.now.code
+        (Some (record { agent = r.agent; number = r.number }) ∷ turns) plan.now.until date agent (r ∷ before) charge.new machine.new
+        (if result.goes then waits else None) figure.new seat.new ended.new.items }
     ensures look { (inputs : List (List ℤ)) (stalls : ℕ → List Stall) (turns : List (Option Turn)) (r : Action) (before : List Action) (waits : Option ℕ)
-        → IsGiven plan.now inputs stalls turns date cycle agent r before charge.old machine.old waits figure.old seat.old ended.old.items (sight_in plan.now.unit rings.now queues.now agent seat.old.start date) taken.old.items outbox.old
+        → IsGiven plan.now inputs stalls turns date cycle agent r before charge.old machine.old waits figure.old seat.old ended.old.items
+        (sight_in plan.now.unit rings.now queues.now agent seat.old.start date) taken.old.items outbox.old
         → IsLookIn (system_of plan.now inputs stalls) plan.now.code r (units r.agent r.number turns) result.look }
     ensures boxed { (inputs : List (List ℤ)) (stalls : ℕ → List Stall) (turns : List (Option Turn)) (r : Action) (before : List Action) (waits : Option ℕ)
-        → IsGiven plan.now inputs stalls turns date cycle agent r before charge.old machine.old waits figure.old seat.old ended.old.items (sight_in plan.now.unit rings.now queues.now agent seat.old.start date) taken.old.items outbox.old
-        → BoxStands (system_of plan.now inputs stalls) plan.now.code (Some (record { agent = r.agent; number = r.number }) ∷ turns) date agent (r ∷ before) outbox.new.sends taken.new.items }
+        → IsGiven plan.now inputs stalls turns date cycle agent r before charge.old machine.old waits figure.old seat.old ended.old.items
+        (sight_in plan.now.unit rings.now queues.now agent seat.old.start date) taken.old.items outbox.old
+        → BoxStands (system_of plan.now inputs stalls) plan.now.code (Some (record { agent = r.agent; number = r.number }) ∷ turns) date agent
+        (r ∷ before) outbox.new.sends taken.new.items }
     ensures size { outbox.new.size ≡ outbox.old.size }
     ensures count { length taken.new.items ≡ length taken.old.items }
-    ensures untaken { (stream : ℕ) (decl : StreamDecl) → slice_get plan.now.unit.streams stream ≡ Some decl → decl.receiver ≢ agent → slice_get taken.new.items stream ≡ slice_get taken.old.items stream }
-    ensures others { (variable : ℕ) (v : VarDecl) → slice_get plan.now.unit.variables variable ≡ Some v → v.owner ≢ Some agent → slice_get ended.new.items variable ≡ slice_get ended.old.items variable }
+    ensures untaken { (stream : ℕ) (decl : StreamDecl) → slice_get plan.now.unit.streams stream ≡ Some decl → decl.receiver ≢ agent
+        → slice_get taken.new.items stream ≡ slice_get taken.old.items stream }
+    ensures others { (variable : ℕ) (v : VarDecl) → slice_get plan.now.unit.variables variable ≡ Some v → v.owner ≢ Some agent
+        → slice_get ended.new.items variable ≡ slice_get ended.old.items variable }
     ensures all { length ended.new.items ≡ length ended.old.items }
 {
     let scene = Scene::new(
@@ -275,14 +291,17 @@ fn gets(until: u32)
     ensures most { until ≤ 4294967295 }
     ensures over { (plan : Plan) (inputs : List (List ℤ)) (script : Script) (date cycle agent : ℕ) → IsCycleOf plan inputs script date cycle
         → AreOver (run_turns plan inputs script cycle) (history (run_of plan inputs script) (date + 1) agent) }
-    ensures gets { (plan : Plan) (inputs : List (List ℤ)) (script : Script) (date cycle agent : ℕ) (r : Action) (before : List Action) → IsCycleOf plan inputs script date cycle
+    ensures gets { (plan : Plan) (inputs : List (List ℤ)) (script : Script) (date cycle agent : ℕ) (r : Action) (before : List Action)
+        → IsCycleOf plan inputs script date cycle
         → history (run_of plan inputs script) (date + 1) agent ≡ r ∷ before → is_pending (run_turns plan inputs script cycle) r ≡ true
         → GetsCycle (run_of plan inputs script) plan.code (run_turns plan inputs script cycle) plan.until date cycle agent r before }
-    ensures looks { (plan : Plan) (inputs : List (List ℤ)) (script : Script) (date cycle agent : ℕ) (r : Action) (before : List Action) → IsCycleOf plan inputs script date cycle
+    ensures looks { (plan : Plan) (inputs : List (List ℤ)) (script : Script) (date cycle agent : ℕ) (r : Action) (before : List Action)
+        → IsCycleOf plan inputs script date cycle
         → history (run_of plan inputs script) (date + 1) agent ≡ r ∷ before → is_pending (run_turns plan inputs script cycle) r ≡ true
         → LooksBack (run_of plan inputs script) plan.code (run_turns plan inputs script cycle) date r }
     ensures idle { (s : System) (turns : List (Option Turn)) (h : History) (variable : ℕ) → reach s (None ∷ turns) h variable ≡ reach s turns h variable }
-    ensures lawful { (plan : Plan) (inputs : List (List ℤ)) (script : Script) → IsPlan plan → AreInputs plan.unit inputs → IsLawful (run_of plan inputs script) }
+    ensures lawful { (plan : Plan) (inputs : List (List ℤ)) (script : Script) → IsPlan plan → AreInputs plan.unit inputs
+        → IsLawful (run_of plan inputs script) }
 {
     regular();
     on_time();

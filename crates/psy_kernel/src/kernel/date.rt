@@ -1,3 +1,4 @@
+//! A date of the kernel: what is shared moves on, and actions start.
 ghost use Rattle.std.specs.Prelude.{◌≡◌, ◌≢◌, ℕ, ◌*◌, ◌≤◌, true, length, None};
 ghost use Rattle.psy_base.specs.declared.limits.TheConstants.{AGENTS};
 ghost use Rattle.psy_ready.specs.Choice.{pending_deadline};

@@ -1,3 +1,4 @@
+//! The lines of the date that was done last.
 ghost use Rattle.std.specs.Prelude.{◌≡◌, ◌+◌, ◌^◌, ◌<◌, ◌≤◌, ℕ, List, Option, filter, length, nat_lt, get_or, slice_get, Some, IsNone, IsTrue, IsFalse};
 ghost use Rattle.std.specs.List.{All};
 ghost use Rattle.psy_base.specs.declared.limits.TheConstants.{WORD_BYTES};
@@ -105,8 +106,10 @@ fn tell_place(plan: &Plan, shared: &Shared, date: u64, place: usize, line: &mut 
     requires valued { length shared.now.committed.items ≡ length plan.now.unit.variables }
     requires early { date ≤ 2 ^ 40 }
     requires within { place < length plan.now.unit.agents + length plan.now.unit.variables }
-    ensures told { (stalls : ℕ → List Stall) (turns : List (Option Turn)) → SharedStands (system_of plan.now shared.now.inputs.lists stalls) turns (date + 1) shared.now
-        → IsToldBy (system_of plan.now shared.now.inputs.lists stalls) date (told_by (system_of plan.now shared.now.inputs.lists stalls) date place) result line.old line.new }
+    ensures told { (stalls : ℕ → List Stall) (turns : List (Option Turn))
+        → SharedStands (system_of plan.now shared.now.inputs.lists stalls) turns (date + 1) shared.now
+        → IsToldBy (system_of plan.now shared.now.inputs.lists stalls) date
+        (told_by (system_of plan.now shared.now.inputs.lists stalls) date place) result line.old line.new }
     ensures kept { IsFalse result → line.new ≡ line.old }
 {
     regular();
@@ -133,8 +136,10 @@ fn tell_next(plan: &Plan, shared: &Shared, date: u64, place: usize, line: &mut L
     requires valued { length shared.now.committed.items ≡ length plan.now.unit.variables }
     requires early { date ≤ 2 ^ 40 }
     requires within { place ≤ length plan.now.unit.agents + length plan.now.unit.variables }
-    ensures told { (stalls : ℕ → List Stall) (turns : List (Option Turn)) → SharedStands (system_of plan.now shared.now.inputs.lists stalls) turns (date + 1) shared.now
-        → IsNextTold (system_of plan.now shared.now.inputs.lists stalls) date (length plan.now.unit.agents + length plan.now.unit.variables) place 0 result line.old line.new }
+    ensures told { (stalls : ℕ → List Stall) (turns : List (Option Turn))
+        → SharedStands (system_of plan.now shared.now.inputs.lists stalls) turns (date + 1) shared.now
+        → IsNextTold (system_of plan.now shared.now.inputs.lists stalls) date
+        (length plan.now.unit.agents + length plan.now.unit.variables) place 0 result line.old line.new }
     ensures kept { IsNone result → line.new ≡ line.old }
 {
     let places = plan.unit.agents.len() + plan.unit.variables.len();
@@ -165,7 +170,8 @@ fn tell_stream(
     requires inputs { AreInputs plan.now.unit shared.now.inputs.lists }
     requires queued { length shared.now.queues.items ≡ length plan.now.unit.streams }
     requires within { stream < length plan.now.unit.streams }
-    ensures told { (stalls : ℕ → List Stall) (turns : List (Option Turn)) → SharedStands (system_of plan.now shared.now.inputs.lists stalls) turns (date + 1) shared.now
+    ensures told { (stalls : ℕ → List Stall) (turns : List (Option Turn))
+        → SharedStands (system_of plan.now shared.now.inputs.lists stalls) turns (date + 1) shared.now
         → IsShownBy (system_of plan.now shared.now.inputs.lists stalls) date stream shown result line.old line.new }
     ensures room { IsTrue result → shown + 1 < 2 ^ 32 }
     ensures kept { IsFalse result → line.new ≡ line.old }
@@ -194,8 +200,10 @@ fn tell_shown(
     requires queued { length shared.now.queues.items ≡ length plan.now.unit.streams }
     requires behind { length plan.now.unit.agents + length plan.now.unit.variables ≤ place }
     requires within { place ≤ length plan.now.unit.agents + length plan.now.unit.variables + length plan.now.unit.streams }
-    ensures told { (stalls : ℕ → List Stall) (turns : List (Option Turn)) → SharedStands (system_of plan.now shared.now.inputs.lists stalls) turns (date + 1) shared.now
-        → IsNextTold (system_of plan.now shared.now.inputs.lists stalls) date (length plan.now.unit.agents + length plan.now.unit.variables + length plan.now.unit.streams) place shown result line.old line.new }
+    ensures told { (stalls : ℕ → List Stall) (turns : List (Option Turn))
+        → SharedStands (system_of plan.now shared.now.inputs.lists stalls) turns (date + 1) shared.now
+        → IsNextTold (system_of plan.now shared.now.inputs.lists stalls) date
+        (length plan.now.unit.agents + length plan.now.unit.variables + length plan.now.unit.streams) place shown result line.old line.new }
 {
     let places = plan.unit.agents.len() + plan.unit.variables.len();
     let end = places + plan.unit.streams.len();
@@ -231,8 +239,10 @@ fn tell_from(
     requires early { date ≤ 2 ^ 40 }
     requires within { place ≤ length plan.now.unit.agents + length plan.now.unit.variables + length plan.now.unit.streams }
     requires unshown { place < length plan.now.unit.agents + length plan.now.unit.variables → shown ≡ 0 }
-    ensures told { (stalls : ℕ → List Stall) (turns : List (Option Turn)) → SharedStands (system_of plan.now shared.now.inputs.lists stalls) turns (date + 1) shared.now
-        → IsNextTold (system_of plan.now shared.now.inputs.lists stalls) date (length plan.now.unit.agents + length plan.now.unit.variables + length plan.now.unit.streams) place shown result line.old line.new }
+    ensures told { (stalls : ℕ → List Stall) (turns : List (Option Turn))
+        → SharedStands (system_of plan.now shared.now.inputs.lists stalls) turns (date + 1) shared.now
+        → IsNextTold (system_of plan.now shared.now.inputs.lists stalls) date
+        (length plan.now.unit.agents + length plan.now.unit.variables + length plan.now.unit.streams) place shown result line.old line.new }
 {
     let places = plan.unit.agents.len() + plan.unit.variables.len();
     if place >= places {

@@ -1,3 +1,4 @@
+//! The lines of the summary.
 ghost use Rattle.std.specs.Prelude.{◌<◌, ◌^◌, ◌≡◌, ◌≤◌, length, slice_get, Some, IsTrue, IsFalse};
 ghost use Rattle.psy_dates.specs.Plans.{IsPlan};
 ghost use Rattle.psy_kernel.specs.Progress.{stage_of, summary_told};

@@ -1,3 +1,4 @@
+//! The instructions that go elsewhere: jumps, loops, calls and ends.
 ghost use Rattle.std.specs.Prelude.{◌≡◌, ◌+◌, ◌<◌, ◌^◌};
 ghost use Rattle.psy_code.specs.Execution.{jump, guard, zero_counter, call};
 ghost use Rattle.psy_machine.specs.Acting.{CanDo, Did, with_place, jump_at_zero, leave_zero, leave_one, leave_call, advance_to};

@@ -1,3 +1,4 @@
+//! The instructions that compute.
 ghost use Rattle.psy_code.specs.Execution.{binary, unary};
 ghost use Rattle.psy_machine.specs.Acting.{CanDo, Did, truth_of_top};
 

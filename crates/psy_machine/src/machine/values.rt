@@ -1,3 +1,4 @@
+//! The instructions that read and write cells, copies, variables and streams.
 ghost use Rattle.std.specs.Prelude.{◌≡◌};
 ghost use Rattle.psy_code.specs.Execution.{push, load, load_cell, store_cell, store_copy, index_in};
 ghost use Rattle.psy_machine.specs.Acting.{CanDo, Did, store_top, push_copy};

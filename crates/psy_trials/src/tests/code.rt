@@ -1,3 +1,4 @@
+//! The code of small programs.
 use crate::texts::unit_of;
 use psy_arith::{Op1, Op2};
 use psy_code::{Binary, Code, CopyInit, Instr};

@@ -1,3 +1,4 @@
+//! How deep machines grow, by tables of small programs.
 use crate::texts::unit_of;
 use psy_flow::{Depths, depth_of_stack};
 use std::alloc::AllocGlobal;

@@ -1,3 +1,4 @@
+//! Which points follow and which looks may come, by tables of small bodies.
 ghost use Rattle.std.specs.Prelude.{◌≡◌, slice_get, Some, IfOk};
 ghost use Rattle.psy_meaning.specs.Units.{IsOfText};
 ghost use Rattle.psy_flow.specs.Agents.{IsOfSome};

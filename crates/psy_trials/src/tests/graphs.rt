@@ -1,3 +1,4 @@
+//! Action graphs of small programs, worked out by hand.
 use crate::texts::unit_of;
 use psy_base::{Edge, Items};
 use psy_graph::{Graph, GraphFault, Node, build};

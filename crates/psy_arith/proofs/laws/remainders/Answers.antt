@@ -1,3 +1,4 @@
+-- What is left of the proof of `laws::remainders`.
 use Rattle.std.proofs.Common.{sym}
 use Rattle.std.proofs.lemmas.Int.{quot-rem, rem_below}
 use Rattle.psy_arith.proofs.laws.remainders.Goals as goal

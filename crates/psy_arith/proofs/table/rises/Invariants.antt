@@ -1,3 +1,4 @@
+-- What each loop of `table::rises` keeps.
 use Rattle.std.proofs.Common.{◌≡◌, length}
 use Rattle.psy_arith.specs.Tables.{bytes_rise}
 use Rattle.psy_arith.proofs.table.rises.Given as goal

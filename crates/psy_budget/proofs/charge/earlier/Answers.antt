@@ -1,3 +1,4 @@
+-- What is left of the proof of `charge::earlier`.
 use Rattle.std.proofs.Common.{◌≡◌, ℕ, ◌≤◌, ltb, true, false, List, get_or, sym, subst, inl, inr, arith, rules}
 use Rattle.std.proofs.lemmas.Bool.{cases_order, ltb-true, ltb-false}
 use Rattle.std.proofs.lemmas.List.Sorted.{IsPartitionedBy-ltb, IsPartitionPoint-from_clause}

@@ -1,3 +1,4 @@
+-- What is left of the proof of `charge::next_stall`.
 use Rattle.std.proofs.Common.{◌≡◌, Some, get_or, slice_get, ap, ◌∙◌, arith}
 use Rattle.std.proofs.lemmas.Option.{slice_get_within, get_or_from_slice_get, slice_get-get_or}
 use Rattle.psy_budget.specs.declared.charge.Stall.{Stall}

@@ -1,3 +1,4 @@
+-- What is left of the proof of `laws::dates`.
 use Rattle.psy_clock.proofs.Counts.{date_counted, date_counted_below, after_is, from_is}
 use Rattle.psy_clock.proofs.laws.dates.Goals as goal
 

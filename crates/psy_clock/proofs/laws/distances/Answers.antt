@@ -1,3 +1,4 @@
+-- What is left of the proof of `laws::distances`.
 use Rattle.psy_clock.proofs.Distances.{after-late, after-near, from-late, from-near, after-again}
 use Rattle.psy_clock.proofs.laws.distances.Goals as goal
 

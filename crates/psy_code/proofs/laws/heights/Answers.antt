@@ -1,3 +1,4 @@
+-- What is left of the proof of `laws::heights`.
 use Rattle.psy_code.proofs.Heights.{heights}
 use Rattle.psy_code.proofs.laws.heights.Goals as goal
 

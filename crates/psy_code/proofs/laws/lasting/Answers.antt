@@ -1,3 +1,4 @@
+-- What is left of the proof of `laws::lasting`.
 use Rattle.psy_code.proofs.Homes.{ended}
 use Rattle.psy_code.proofs.Lasting.{lasted}
 use Rattle.psy_code.proofs.laws.lasting.Goals as goal

@@ -1,3 +1,4 @@
+-- What is left of the proof of `laws::rows`.
 use Rattle.psy_code.proofs.Rowed.{has_row}
 use Rattle.psy_code.proofs.laws.rows.Goals as goal
 

@@ -1,3 +1,4 @@
+-- What each loop of `clears::clear_outboxes` keeps.
 use Rattle.std.proofs.Common.{◌≡◌, ℕ, ◌<◌, ◌≤◌, [], if◌then◌else◌, Some, slice_get}
 use Rattle.psy_dates.specs.Moves.{ends_at}
 use Rattle.psy_dates.specs.Outboxes.{Outboxed}

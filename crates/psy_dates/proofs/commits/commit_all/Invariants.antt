@@ -1,3 +1,4 @@
+-- What each loop of `commits::commit_all` keeps.
 use Rattle.std.proofs.Common.{◌≡◌, ℕ, ◌<◌, ◌≤◌, get_or, if◌then◌else◌, pos}
 use Rattle.psy_dates.specs.Moves.{commits_at, owner_of}
 use Rattle.psy_dates.proofs.commits.commit_all.Given as goal

@@ -1,3 +1,4 @@
+-- What is left of the proof of `date::at_date`.
 use Rattle.std.proofs.Common.{◌≡◌, ℕ, ◌+◌, ◌<◌, ◌≤◌, ◌*◌, ◌^◌, List, [], All, Some, length, get_or, refl, sym, ap, subst, ◌∙◌, arith}
 use Rattle.std.specs.Prelude.{slice_get, if◌then◌else◌, ℤ, pos}
 use Rattle.std.specs.Vec.{with_items}

@@ -1,3 +1,4 @@
+-- What is left of the proof of `due::clock_of`.
 use Rattle.std.proofs.Common.{◌∙◌}
 use Rattle.psy_dates.proofs.Lists.{get_or_none}
 use Rattle.psy_dates.proofs.due.clock_of.Goals as goal

@@ -1,3 +1,4 @@
+-- What is left of the proof of `due::deadline_of`.
 use Rattle.std.proofs.Common.{◌≡◌, ◌<◌, [], length, None, ap, subst, arith}
 use Rattle.std.specs.Prelude.{map, slice_get}
 use Rattle.psy_meaning.specs.Timing.{least, end_date}

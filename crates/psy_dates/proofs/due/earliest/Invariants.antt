@@ -1,3 +1,4 @@
+-- What each loop of `due::earliest` keeps.
 use Rattle.std.proofs.Common.{ℕ, ◌<◌, ◌≤◌, get_or, map}
 use Rattle.std.specs.List.{Contains}
 use Rattle.psy_meaning.specs.Timing.{end_date}

@@ -1,3 +1,4 @@
+-- What is left of the proof of `due::point_of`.
 use Rattle.psy_dates.proofs.Lists.{part_none}
 use Rattle.psy_dates.proofs.due.point_of.Goals as goal
 

@@ -1,3 +1,4 @@
+-- What each loop of `enters::enter_all` keeps.
 use Rattle.std.proofs.Common.{ℕ, ◌-◌, [], List, length}
 use Rattle.psy_base.specs.declared.message.Message.{Message}
 use Rattle.psy_queue.specs.Order.{Queued}

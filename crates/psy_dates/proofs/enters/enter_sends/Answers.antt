@@ -1,3 +1,4 @@
+-- What is left of the proof of `enters::enter_sends`.
 use Rattle.std.proofs.Common.{◌≡◌, ℕ, ◌+◌, ◌<◌, ◌≤◌, [], ◌∷◌, List, Some, drop, length, get_or, sym, ap, subst, ◌∙◌, arith}
 use Rattle.std.specs.Prelude.{slice_get, slice_set, pos}
 use Rattle.std.proofs.lemmas.Option.{slice_get-get_or}

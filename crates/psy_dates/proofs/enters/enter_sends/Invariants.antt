@@ -1,3 +1,4 @@
+-- What each loop of `enters::enter_sends` keeps.
 use Rattle.std.proofs.Common.{ℕ, [], List, drop}
 use Rattle.psy_base.specs.declared.message.Message.{Message}
 use Rattle.psy_queue.specs.Order.{Queued}

@@ -1,3 +1,4 @@
+-- What is left of the proof of `enters::enter_where`.
 use Rattle.std.proofs.Common.{◌+◌, ◌≤◌, Bool, [], length, subst}
 use Rattle.std.specs.Prelude.{if◌then◌else◌}
 use Rattle.psy_meaning.specs.Visible.{messages_from}

@@ -1,3 +1,4 @@
+-- What is left of the proof of `enters::message_of`.
 use Rattle.std.proofs.Common.{◌<◌, ◌≤◌, ◌+◌, ◌*◌, sym, subst, arith}
 use Rattle.std.proofs.lemmas.Nat.{mul-le}
 use Rattle.psy_dates.proofs.enters.message_of.Goals as goal

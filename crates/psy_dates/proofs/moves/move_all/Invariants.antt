@@ -1,3 +1,4 @@
+-- What each loop of `moves::move_all` keeps.
 use Rattle.std.proofs.Common.{◌≡◌, ℕ, ◌<◌, ◌≤◌, Some}
 use Rattle.std.specs.Prelude.{slice_get}
 use Rattle.psy_dates.specs.declared.seat.Seat.{Seat}

@@ -1,3 +1,4 @@
+-- What each loop of `rings::publish_all` keeps.
 use Rattle.std.proofs.Common.{◌≡◌, ℕ, ◌<◌, ◌≤◌, [], List, ℤ, Some, slice_get}
 use Rattle.psy_dates.specs.Plans.{system_of}
 use Rattle.psy_dates.specs.Publications.{ring_then}

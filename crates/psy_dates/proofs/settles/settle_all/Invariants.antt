@@ -1,3 +1,4 @@
+-- What each loop of `settles::settle_all` keeps.
 use Rattle.std.proofs.Common.{◌≡◌, ℕ, ◌<◌, ◌≤◌, Some, get_or, slice_get}
 use Rattle.psy_queue.specs.Order.{Queued}
 use Rattle.psy_meaning.specs.QueueSizes.{stream_at}

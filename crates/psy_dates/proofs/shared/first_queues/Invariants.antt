@@ -1,3 +1,4 @@
+-- What each loop of `shared::first_queues` keeps.
 use Rattle.std.proofs.Common.{◌≡◌, ℕ, ◌<◌, [], Some, get_or, length, slice_get}
 use Rattle.psy_dates.proofs.shared.first_queues.Given as goal
 

@@ -1,3 +1,4 @@
+-- What each loop of `shared::first_rings` keeps.
 use Rattle.std.proofs.Common.{◌≡◌, ℕ, ◌<◌, Some, get_or, length, map, pos, replicate, slice_get}
 use Rattle.psy_dates.proofs.shared.first_rings.Given as goal
 

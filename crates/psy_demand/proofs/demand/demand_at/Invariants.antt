@@ -1,3 +1,4 @@
+-- What each loop of `demand::demand_at` keeps.
 use Rattle.std.proofs.Common.{◌≡◌, ◌*◌, ◌^◌, ◌≤◌, take}
 use Rattle.psy_demand.specs.Demand.{demand}
 use Rattle.psy_demand.proofs.demand.demand_at.Given as goal

@@ -1,3 +1,4 @@
+-- What each loop of `demand::feasible` keeps.
 use Rattle.std.proofs.Common.{ℕ, ◌*◌, ◌<◌, ◌≤◌}
 use Rattle.psy_demand.specs.Demand.{demand}
 use Rattle.psy_demand.proofs.demand.feasible.Given as goal

@@ -1,3 +1,4 @@
+-- What each loop of `file_shelf::read_some` keeps.
 use Rattle.std.proofs.Common.{◌≡◌, ◌≤◌, ◌+◌, ◌-◌, vec_len}
 use Rattle.psy_base.specs.declared.limits.TheConstants.{FILE_BYTES}
 use Rattle.psy_door.proofs.file_shelf.read_some.Given as goal

@@ -1,3 +1,4 @@
+-- What is left of the proof of `files::bytes_of`.
 use Rattle.std.proofs.Common.{ap, option_map}
 use Rattle.psy_door.proofs.FilesLemmas.{named_map}
 use Rattle.psy_door.proofs.files.bytes_of.Goals as goal

@@ -1,3 +1,4 @@
+-- What is left of the proof of `text::add_note`.
 use Rattle.std.proofs.Common.{append_assoc}
 use Rattle.psy_dot.proofs.text.add_note.Goals as goal
 

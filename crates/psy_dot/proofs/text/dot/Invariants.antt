@@ -1,3 +1,4 @@
+-- What each loop of `text::dot` keeps.
 use Rattle.std.proofs.Common.{◌≡◌, ◌++◌, None, codes, drop, option_map}
 use Rattle.psy_dot.specs.Drawing.{clusters}
 use Rattle.psy_dot.proofs.text.dot.Given as goal

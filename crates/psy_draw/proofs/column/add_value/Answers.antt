@@ -1,3 +1,4 @@
+-- What is left of the proof of `column::add_value`.
 use Rattle.std.proofs.Common.{rules, w32, List, [], ◌∷◌, ◌++◌, ◌∙◌, sym, subst, ap}
 use Rattle.std.specs.Prelude.{ℤ}
 use mir.Val.{SFits}

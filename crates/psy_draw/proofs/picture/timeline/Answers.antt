@@ -1,3 +1,4 @@
+-- What is left of the proof of `picture::timeline`.
 use Rattle.std.proofs.Common.{ℕ, List, length, Err, sym, ap, subst, ◌∙◌, inl, inr, ⊎_elim}
 use Rattle.std.proofs.lemmas.Bool.{cases_lt}
 use Rattle.psy_draw.specs.declared.file.TheConstants.{INSIDE_BYTES, TOO_LARGE}

@@ -1,3 +1,4 @@
+-- What each loop of `steps::put_labels` keeps.
 use Rattle.std.proofs.Common.{length}
 use Rattle.psy_draw.proofs.steps.put_labels.Given as goal
 

@@ -1,3 +1,4 @@
+-- What is left of the proof of `calls::+loops`.
 use Rattle.std.proofs.Common.{sym, arith}
 use Rattle.psy_meaning.specs.Depths as depths
 use Rattle.psy_flow.proofs.Lists.{total_more}

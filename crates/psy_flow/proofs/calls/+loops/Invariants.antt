@@ -1,3 +1,4 @@
+-- What each loop of `calls::+loops` keeps.
 use Rattle.std.proofs.Common.{◌≡◌, ◌-◌, ◌^◌, min, take}
 use Rattle.psy_meaning.specs.Depths as depths
 use Rattle.psy_flow.proofs.calls.+loops.Given as goal

@@ -1,3 +1,4 @@
+-- What is left of the proof of `calls::depths_of_calls`.
 use Rattle.std.proofs.Common.{sym, arith}
 use Rattle.psy_flow.proofs.Rows.{row_more}
 use Rattle.psy_flow.proofs.calls.depths_of_calls.Goals as goal

@@ -1,3 +1,4 @@
+-- What each loop of `calls::depths_of_calls` keeps.
 use Rattle.std.proofs.Common.{◌≡◌, map, take}
 use Rattle.psy_flow.specs.Counted.{held, counted_calls}
 use Rattle.psy_flow.proofs.calls.depths_of_calls.Given as goal

@@ -1,3 +1,4 @@
+-- What is left of the proof of `costs::costs_of_calls`.
 use Rattle.std.proofs.Common.{sym, arith}
 use Rattle.psy_flow.proofs.CostRows.{cost_more}
 use Rattle.psy_flow.proofs.costs.costs_of_calls.Goals as goal

@@ -1,3 +1,4 @@
+-- What each loop of `costs::costs_of_calls` keeps.
 use Rattle.std.proofs.Common.{◌≡◌, [], take}
 use Rattle.psy_flow.specs.Tops.{capped_from}
 use Rattle.psy_flow.proofs.costs.costs_of_calls.Given as goal

@@ -1,3 +1,4 @@
+-- What is left of the proof of `expressions::+expr`.
 use Rattle.std.proofs.Common.{map, take, sym, ap, ◌∙◌, arith}
 use Rattle.psy_meaning.specs.Depths.{stacked, expr_depth, Depth}
 use Rattle.psy_tree.specs.declared.unit.Expr.{Expr}

@@ -1,3 +1,4 @@
+-- What each loop of `expressions::+expr` keeps.
 use Rattle.std.proofs.Common.{◌≡◌, map, take}
 use Rattle.psy_meaning.specs.Depths.{stacked, expr_depth}
 use Rattle.psy_flow.specs.Counted.{held, capped_depth}

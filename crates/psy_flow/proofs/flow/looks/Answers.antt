@@ -1,3 +1,4 @@
+-- What is left of the proof of `flow::looks`.
 use Rattle.std.proofs.Common.{◌≡◌, true, None, [], sym, ap, subst, ◌∙◌, arith}
 use Rattle.std.specs.Prelude.{◌↔◌, nat_lt}
 use Rattle.psy_meaning.specs.Rest.{rest}

@@ -1,3 +1,4 @@
+-- What is left of the proof of `flow::most_sends`.
 use Rattle.std.proofs.Common.{Some, [], sym, ap, subst, ◌∙◌, arith}
 use Rattle.psy_meaning.specs.Rest.{rest}
 use Rattle.psy_flow.specs.declared.gauge.Gauge.TheVariants as gauge

@@ -1,3 +1,4 @@
+-- What is left of the proof of `flow::worst`.
 use Rattle.std.proofs.Common.{◌≡◌, ℕ, List, [], None, take, length, get_or, refl, sym, ap, subst, ◌∙◌, arith}
 use Rattle.std.proofs.lemmas.Option.{get_or_from_slice_get, slice_get_read}
 use Rattle.psy_base.specs.declared.limits.TheConstants.{COST}

@@ -1,3 +1,4 @@
+-- What is left of the proof of `laws::costs`.
 use Rattle.psy_base.specs.declared.limits.TheConstants.{COST}
 use Rattle.psy_meaning.specs.Flow.{HasCost}
 use Rattle.psy_flow.proofs.CappedCosts.{some_cost}

@@ -1,3 +1,4 @@
+-- What is left of the proof of `laws::known`.
 use Rattle.psy_meaning.specs.Sound.{IsSoundUnit}
 use Rattle.psy_flow.proofs.laws.known.Goals as goal
 

@@ -1,3 +1,4 @@
+-- What is left of the proof of `laws::looking`.
 use Rattle.psy_flow.proofs.Silent.{told}
 use Rattle.psy_flow.proofs.laws.looking.Goals as goal
 

@@ -1,3 +1,4 @@
+-- What is left of the proof of `laws::nexts`.
 use Rattle.psy_flow.proofs.AllNexts.{all_nexts, are_nexts}
 use Rattle.psy_flow.proofs.laws.nexts.Goals as goal
 

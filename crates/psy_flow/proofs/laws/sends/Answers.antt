@@ -1,3 +1,4 @@
+-- What is left of the proof of `laws::sends`.
 use Rattle.psy_flow.proofs.Cuts.{one_most}
 use Rattle.psy_flow.proofs.Silent.{some_most}
 use Rattle.psy_flow.proofs.laws.sends.Goals as goal

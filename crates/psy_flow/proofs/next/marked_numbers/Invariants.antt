@@ -1,3 +1,4 @@
+-- What each loop of `next::marked_numbers` keeps.
 use Rattle.std.proofs.Common.{◌≡◌, ◌++◌, drop}
 use Rattle.psy_flow.specs.Reach.{numbers_of, numbers_from}
 use Rattle.psy_flow.proofs.next.marked_numbers.Given as goal

@@ -1,3 +1,4 @@
+-- What is left of the proof of `next::next_points`.
 use Rattle.std.proofs.Common.{List, Bool, false, length, sym, ap, subst, ◌∙◌, arith}
 use Rattle.std.specs.Prelude.{replicate}
 use Rattle.std.specs.List.{All}

@@ -1,3 +1,4 @@
+-- What each loop of `next::no_marks` keeps.
 use Rattle.std.proofs.Common.{◌≡◌, false, replicate}
 use Rattle.psy_flow.proofs.next.no_marks.Given as goal
 

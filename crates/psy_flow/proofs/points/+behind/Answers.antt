@@ -1,3 +1,4 @@
+-- What is left of the proof of `points::+behind`.
 use Rattle.std.proofs.Common.{◌≡◌, ◌∙◌, ℕ, sym, ap, arith, subst, ◌+◌}
 use Rattle.psy_tree.specs.declared.unit.Stmt.{Stmt}
 use Rattle.psy_tree.specs.declared.unit.Stmt.TheVariants as stmt

@@ -1,3 +1,4 @@
+-- What each loop of `points::+behind` keeps.
 use Rattle.std.proofs.Common.{drop}
 use Rattle.psy_meaning.specs.Rest.{rests_of_list}
 use Rattle.psy_flow.specs.declared.points.Search.{Search}

@@ -1,3 +1,4 @@
+-- What is left of the proof of `points::tops_from`.
 use Rattle.std.proofs.Common.{◌≡◌, ◌∙◌, ◌-◌, ℕ, ap, subst}
 use Rattle.psy_meaning.specs.Rest.{rests_of_list}
 use Rattle.psy_flow.specs.declared.points.Search.{Search}

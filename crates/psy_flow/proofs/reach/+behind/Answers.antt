@@ -1,3 +1,4 @@
+-- What is left of the proof of `reach::+behind`.
 use Rattle.std.proofs.Common.{◌≡◌, ◌+◌, false, sym, ap, subst, refl, ◌∙◌, arith}
 use Rattle.psy_tree.specs.declared.unit.Stmt.{Stmt}
 use Rattle.psy_tree.specs.declared.unit.Stmt.TheVariants as stmt

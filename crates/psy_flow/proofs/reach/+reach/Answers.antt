@@ -1,3 +1,4 @@
+-- What is left of the proof of `reach::+reach`.
 use Rattle.std.proofs.Common.{◌≡◌, ◌+◌, true, ◌&&◌, List, [], ◌∷◌, drop, sym, ap, refl, ◌∙◌, arith}
 use Rattle.std.proofs.lemmas.List.{drop_all}
 use Rattle.psy_tree.specs.declared.unit.Stmt.{Stmt}

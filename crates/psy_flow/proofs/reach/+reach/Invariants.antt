@@ -1,3 +1,4 @@
+-- What each loop of `reach::+reach` keeps.
 use Rattle.std.proofs.Common.{◌≡◌, drop}
 use Rattle.psy_flow.specs.Reach.{all_fall, some_reaches, marked}
 use Rattle.psy_flow.proofs.reach.+reach.Given as goal

@@ -1,3 +1,4 @@
+-- What is left of the proof of `reach::mark`.
 use Rattle.std.proofs.Common.{sym, ◌∙◌, arith}
 use Rattle.psy_flow.proofs.Marks.{marked_one, marked_outside}
 use Rattle.psy_flow.proofs.reach.mark.Goals as goal

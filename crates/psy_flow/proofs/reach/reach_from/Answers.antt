@@ -1,3 +1,4 @@
+-- What is left of the proof of `reach::reach_from`.
 use Rattle.std.proofs.Common.{◌<◌, ◌∙◌, arith}
 use Rattle.psy_flow.proofs.ReachRests.{from_head, from_on, from_stop}
 use Rattle.psy_flow.proofs.reach.reach_from.Goals as goal

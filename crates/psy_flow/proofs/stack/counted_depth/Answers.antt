@@ -1,3 +1,4 @@
+-- What is left of the proof of `stack::counted_depth`.
 use Rattle.std.proofs.Common.{◌≡◌, length, take, map, get_or, ap, ◌∙◌}
 use Rattle.std.proofs.lemmas.Option.{get_or_from_slice_get}
 use Rattle.psy_meaning.specs.Depths.{stmts_depth}

@@ -1,3 +1,4 @@
+-- What is left of the proof of `stack::depth_of_stack`.
 use Rattle.std.proofs.Common.{ap, ◌∙◌, arith}
 use Rattle.psy_meaning.specs.Depths.{Depth}
 use Rattle.psy_flow.proofs.Lists.{there}

@@ -1,3 +1,4 @@
+-- What is left of the proof of `statements::+stmt`.
 use Rattle.std.proofs.Common.{map, take, sym, ap, ◌∙◌}
 use Rattle.psy_meaning.specs.Depths.{Depth, stmt_depth, stmts_depth}
 use Rattle.psy_tree.specs.declared.unit.Stmt.{Stmt}

@@ -1,3 +1,4 @@
+-- What each loop of `statements::+stmt` keeps.
 use Rattle.std.proofs.Common.{◌≡◌, map, take}
 use Rattle.psy_meaning.specs.Depths.{stmts_depth}
 use Rattle.psy_flow.specs.Counted.{held, capped_depth}

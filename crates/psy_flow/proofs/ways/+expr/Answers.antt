@@ -1,3 +1,4 @@
+-- What is left of the proof of `ways::+expr`.
 use Rattle.std.proofs.Common.{sym, arith}
 use Rattle.psy_flow.specs.Tops.{called, expr_most}
 use Rattle.psy_flow.proofs.Lists.{total_more}

@@ -1,3 +1,4 @@
+-- What each loop of `ways::+expr` keeps.
 use Rattle.std.proofs.Common.{◌≡◌, min, map, take}
 use Rattle.psy_tree.specs.Paths.{total}
 use Rattle.psy_flow.specs.Tops.{limit_of, called, expr_most}

@@ -1,3 +1,4 @@
+-- What each loop of `ways::+stmt` keeps.
 use Rattle.std.proofs.Common.{◌≡◌, take}
 use Rattle.psy_flow.specs.Tops.{called, capped_tops, stmts_tops}
 use Rattle.psy_flow.proofs.ways.+stmt.Given as goal

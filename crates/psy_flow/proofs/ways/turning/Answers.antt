@@ -1,3 +1,4 @@
+-- What is left of the proof of `ways::turning`.
 use Rattle.std.proofs.Common.{◌≡◌, ◌+◌, ◌-◌, ◌*◌, min, ap, ◌∙◌}
 use Rattle.psy_flow.specs.Tops.{limit_of, in_step, falling, or_else}
 use Rattle.psy_flow.proofs.Limits.{sum_is, min-mul-min, sum_steps_is}

@@ -1,3 +1,4 @@
+-- What is left of the proof of `decimal::decimal_value`.
 use Rattle.psy_front.proofs.Numbers.{decimal-read, decimal-unread, no_leading_zero, some_digits}
 use Rattle.psy_front.proofs.decimal.decimal_value.Goals as goal
 

@@ -1,3 +1,4 @@
+-- What is left of the proof of `decimal::value_of`.
 use Rattle.std.proofs.Common.{◌^◌, ◌≤◌, arith}
 use Rattle.std.specs.Str.Parse.{digits_value}
 use Rattle.psy_front.proofs.Numbers.{digit_next, digits_value-front}

@@ -1,3 +1,4 @@
+-- What each loop of `decimal::value_of` keeps.
 use Rattle.std.proofs.Common.{◌≡◌, ◌^◌, ◌<◌, drop}
 use Rattle.std.specs.Str.Parse.{digits_value, digits_value_after}
 use Rattle.psy_tree.specs.Lexemes.{Each}

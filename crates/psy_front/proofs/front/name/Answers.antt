@@ -1,3 +1,4 @@
+-- What is left of the proof of `front::name`.
 use Rattle.std.proofs.Common.{subst}
 use Rattle.psy_tree.specs.Lexemes.{is_in_word}
 use Rattle.psy_front.specs.Fronts.{IsName}

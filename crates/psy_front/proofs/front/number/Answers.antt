@@ -1,3 +1,4 @@
+-- What is left of the proof of `front::number`.
 use Rattle.std.proofs.Common.{decimal, refl, sym}
 use Rattle.std.specs.Char.{is_ascii_digit}
 use Rattle.psy_front.proofs.Runs.{Cuts-once}

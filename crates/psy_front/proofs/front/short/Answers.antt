@@ -1,3 +1,4 @@
+-- What is left of the proof of `front::short`.
 use Rattle.std.proofs.Common.{arith}
 use Rattle.psy_front.proofs.Numbers.{one_number}
 use Rattle.psy_front.proofs.front.short.Goals as goal

@@ -1,3 +1,4 @@
+-- What is left of the proof of `front::value`.
 use Rattle.std.proofs.Common.{refl}
 use Rattle.psy_front.proofs.Values.{NoValue-minus, NoValue-below, NoValue-above}
 use Rattle.psy_front.proofs.front.value.Goals as goal

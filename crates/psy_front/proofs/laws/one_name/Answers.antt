@@ -1,3 +1,4 @@
+-- What is left of the proof of `laws::one_name`.
 use Rattle.psy_front.proofs.Words.{one_name}
 use Rattle.psy_front.proofs.laws.one_name.Goals as goal
 

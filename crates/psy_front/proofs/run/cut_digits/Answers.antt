@@ -1,3 +1,4 @@
+-- What is left of the proof of `run::cut_digits`.
 use Rattle.std.specs.Char.{is_ascii_digit}
 use Rattle.psy_front.proofs.Runs.{Each-longest, Cuts-longest}
 use Rattle.psy_front.proofs.run.cut_digits.Goals as goal

@@ -1,3 +1,4 @@
+-- What is left of the proof of `run::cut_word`.
 use Rattle.psy_tree.specs.Lexemes.{is_in_word}
 use Rattle.psy_front.proofs.Runs.{Each-longest, Cuts-longest}
 use Rattle.psy_front.proofs.run.cut_word.Goals as goal

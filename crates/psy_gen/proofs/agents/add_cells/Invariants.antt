@@ -1,3 +1,4 @@
+-- What each loop of `agents::add_cells` keeps.
 use Rattle.std.proofs.Common.{◌≡◌, ◌++◌}
 use Rattle.std.specs.Prelude.{replicate}
 use Rattle.psy_gen.proofs.agents.add_cells.Given as goal

@@ -1,3 +1,4 @@
+-- What is left of the proof of `agents::agent_of`.
 use Rattle.std.proofs.Common.{refl}
 use Rattle.psy_gen.proofs.Small.{cells_small}
 use Rattle.psy_gen.proofs.Wholes.{cells_is}

@@ -1,3 +1,4 @@
+-- What is left of the proof of `agents::copies_of`.
 use Rattle.std.proofs.Common.{◌+◌, ◌++◌, drop, map, sym, ap, ◌∙◌}
 use Rattle.psy_meaning.specs.Alike.{owned_from}
 use Rattle.psy_gen.specs.Emission.{copy_init}

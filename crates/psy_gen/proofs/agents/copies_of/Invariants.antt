@@ -1,3 +1,4 @@
+-- What each loop of `agents::copies_of` keeps.
 use Rattle.std.proofs.Common.{◌≡◌, ◌++◌, drop, map}
 use Rattle.psy_meaning.specs.Alike.{owned_from}
 use Rattle.psy_gen.specs.Emission.{copy_init}

@@ -1,3 +1,4 @@
+-- What is left of the proof of `agents::emit_agent`.
 use Rattle.std.proofs.Common.{◌≡◌, ◌++◌, [], ◌∷◌, map, length, refl, ap, ◌∙◌, arith}
 use Rattle.psy_code.specs.declared.instr.Instr.TheVariants as instr
 use Rattle.psy_tree.specs.declared.unit.Slots.{Slots}

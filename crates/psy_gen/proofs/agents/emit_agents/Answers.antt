@@ -1,3 +1,4 @@
+-- What is left of the proof of `agents::emit_agents`.
 use Rattle.std.proofs.Common.{◌+◌, List, ◌++◌, drop, map, length, sym, ap, ◌∙◌, arith}
 use Rattle.psy_tree.specs.declared.unit.AgentDecl.{AgentDecl}
 use Rattle.psy_tree.specs.Paths.{total}

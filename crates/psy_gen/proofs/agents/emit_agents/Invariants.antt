@@ -1,3 +1,4 @@
+-- What each loop of `agents::emit_agents` keeps.
 use Rattle.std.proofs.Common.{◌≡◌, ◌++◌, drop, length}
 use Rattle.psy_gen.specs.Emission.{codes_from, agent_code, agent_size, agent_entries}
 use Rattle.psy_gen.proofs.agents.emit_agents.Given as goal

@@ -1,3 +1,4 @@
+-- What each loop of `agents::first_cells` keeps.
 use Rattle.std.proofs.Common.{◌≡◌, take}
 use Rattle.std.specs.Prelude.{replicate}
 use Rattle.std.specs.List.{flat_map}

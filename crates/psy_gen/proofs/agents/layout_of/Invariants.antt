@@ -1,3 +1,4 @@
+-- What each loop of `agents::layout_of` keeps.
 use Rattle.std.proofs.Common.{◌≡◌, take, map}
 use Rattle.psy_gen.proofs.agents.layout_of.Given as goal
 

@@ -1,3 +1,4 @@
+-- What is left of the proof of `expressions::+emit_expr`.
 use Rattle.std.proofs.Common.{rules, ◌+◌, List, ◌++◌, drop, map, length, ap, sym, ◌∙◌, arith}
 use Rattle.std.proofs.lemmas.Result.{on_ok_weaker}
 use Rattle.psy_tree.specs.declared.unit.Expr.{Expr, the_lemmas}

@@ -1,3 +1,4 @@
+-- What each loop of `expressions::+emit_expr` keeps.
 use Rattle.std.proofs.Common.{◌≡◌, ◌++◌, drop, length}
 use Rattle.psy_gen.specs.Emission.{exprs_code}
 use Rattle.psy_gen.proofs.expressions.+emit_expr.Given as goal

@@ -1,3 +1,4 @@
+-- What is left of the proof of `functions::emit_function`.
 use Rattle.std.proofs.Common.{ap, arith}
 use Rattle.psy_meaning.specs.Depths.{loops_in}
 use Rattle.psy_gen.proofs.Lengths.{loops_fewer}

@@ -1,3 +1,4 @@
+-- What is left of the proof of `functions::emit_functions`.
 use Rattle.std.proofs.Common.{◌+◌, List, ◌++◌, drop, map, length, sym, ap, subst, ◌∙◌, arith}
 use Rattle.std.proofs.lemmas.List.Elements.{All-get_or}
 use Rattle.psy_tree.specs.declared.unit.FunctionDecl.{FunctionDecl}

@@ -1,3 +1,4 @@
+-- What each loop of `functions::emit_functions` keeps.
 use Rattle.std.proofs.Common.{◌≡◌, ◌++◌, drop, length}
 use Rattle.psy_gen.specs.Emission.{codes_from, function_code, function_size, function_entries}
 use Rattle.psy_gen.proofs.functions.emit_functions.Given as goal

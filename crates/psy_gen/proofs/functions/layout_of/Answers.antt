@@ -1,3 +1,4 @@
+-- What is left of the proof of `functions::layout_of`.
 use Rattle.std.proofs.Common.{◌+◌, ap, arith}
 use Rattle.psy_tree.specs.Paths.{total}
 use Rattle.psy_gen.proofs.Small.{ones}

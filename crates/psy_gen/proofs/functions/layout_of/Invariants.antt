@@ -1,3 +1,4 @@
+-- What each loop of `functions::layout_of` keeps.
 use Rattle.std.proofs.Common.{◌≡◌, ◌+◌}
 use Rattle.std.specs.Prelude.{replicate}
 use Rattle.psy_gen.proofs.functions.layout_of.Given as goal

@@ -1,3 +1,4 @@
+-- What is left of the proof of `laws::alike`.
 use Rattle.psy_gen.proofs.Alikes.{code_alike}
 use Rattle.psy_gen.proofs.laws.alike.Goals as goal
 

@@ -1,3 +1,4 @@
+-- What is left of the proof of `statements::+emit_stmt`.
 use Rattle.std.proofs.Common.{rules, ◌+◌, ◌++◌, drop, length, refl, sym, ap, ◌∙◌, arith, append-nil, append_assoc}
 use Rattle.std.proofs.lemmas.Result.{on_ok_weaker}
 use Rattle.psy_tree.specs.declared.unit.Stmt.{the_lemmas}

@@ -1,3 +1,4 @@
+-- What each loop of `statements::+emit_stmt` keeps.
 use Rattle.std.proofs.Common.{◌≡◌, ◌+◌, ◌++◌, drop, length}
 use Rattle.psy_meaning.specs.Depths.{loops_in}
 use Rattle.psy_gen.specs.Emission.{stmts_code, stmts_places}

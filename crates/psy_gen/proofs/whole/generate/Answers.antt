@@ -1,3 +1,4 @@
+-- What is left of the proof of `whole::generate`.
 use Rattle.std.proofs.Common.{length, sym, ap, subst, arith}
 use Rattle.psy_code.specs.declared.code.Code.{Code}
 use Rattle.psy_meaning.specs.Alike.{ActsAlike}

@@ -1,3 +1,4 @@
+-- What is left of the proof of `agents::build`.
 use Rattle.std.proofs.Common.{◌≡◌, ◌⊎◌, ℕ, [], ◌∷◌, ◌++◌, All, length, length-append, get_or, Err, IfErr, ap, sym, subst, inl, inr, arith, rules}
 use Rattle.std.proofs.lemmas.Option.{slice_get_within, get_or_from_slice_get}
 use Rattle.std.proofs.lemmas.List.Elements.{All-push}

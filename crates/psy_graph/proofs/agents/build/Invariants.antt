@@ -1,3 +1,4 @@
+-- What each loop of `agents::build` keeps.
 use Rattle.std.proofs.Common.{◌≡◌, ℕ, ◌<◌, All, length, get_or}
 use Rattle.psy_window.specs.Windows.{IsEdge}
 use Rattle.psy_graph.specs.declared.graph.Graph.{Graph}

@@ -1,3 +1,4 @@
+-- What is left of the proof of `agents::graph_by`.
 use Rattle.std.proofs.Common.{◌≡◌, ◌⊎◌, ◌<◌, ◌≤◌, All, length, sym, subst, refl, inl, inr}
 use Rattle.std.proofs.lemmas.Result.{IfOk-weaker, IfErr-weaker}
 use Rattle.psy_base.specs.declared.limits.TheConstants.{NODES, EDGES}

@@ -1,3 +1,4 @@
+-- What each loop of `agents::nexts_of` keeps.
 use Rattle.std.proofs.Common.{◌≡◌, ◌↔◌, ℕ, ◌<◌, List, length, get_or}
 use Rattle.std.specs.List.{Contains}
 use Rattle.psy_tree.specs.declared.unit.Unit.{Unit}

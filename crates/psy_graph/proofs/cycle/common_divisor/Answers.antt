@@ -1,3 +1,4 @@
+-- What is left of the proof of `cycle::common_divisor`.
 use Rattle.std.proofs.Common.{arith}
 use Rattle.std.proofs.lemmas.Nat.Gcd.{IsGcd-from_zero, IsGcd-from_mod}
 use Rattle.psy_graph.proofs.cycle.common_divisor.Goals as goal

@@ -1,3 +1,4 @@
+-- What each loop of `cycle::common_divisor` keeps.
 use Rattle.std.proofs.Common.{ℕ}
 use Rattle.std.specs.Int.{IsGcd}
 use Rattle.psy_graph.proofs.cycle.common_divisor.Given as goal

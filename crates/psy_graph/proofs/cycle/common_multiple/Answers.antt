@@ -1,3 +1,4 @@
+-- What is left of the proof of `cycle::common_multiple`.
 use Rattle.std.proofs.Common.{ap, ◌∙◌, arith}
 use Rattle.std.proofs.Math.Nat.{pos_of_dvd_of_pos}
 use Rattle.psy_graph.specs.Steps.{joined}

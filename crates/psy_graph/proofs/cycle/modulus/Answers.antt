@@ -1,3 +1,4 @@
+-- What is left of the proof of `cycle::modulus`.
 use Rattle.std.proofs.Common.{◌≡◌, ◌+◌, ◌-◌, ◌≤◌, map, take, drop, ap, sym, subst, arith, length-drop}
 use Rattle.std.proofs.lemmas.List.{take_all}
 use Rattle.psy_meaning.specs.Graph.{IsLeastCommonMultiple}

@@ -1,3 +1,4 @@
+-- What each loop of `cycle::modulus` keeps.
 use Rattle.std.proofs.Common.{◌-◌, ◌≤◌, map, take, drop}
 use Rattle.psy_meaning.specs.Graph.{IsLeastCommonMultiple}
 use Rattle.psy_meaning.specs.Timing.{clock_at}

@@ -1,3 +1,4 @@
+-- What is left of the proof of `edges::add_edges`.
 use Rattle.std.proofs.Common.{◌≡◌, ℕ, ◌-◌, get_or, ap, subst, ◌∙◌, arith}
 use Rattle.std.specs.List.{Contains}
 use Rattle.std.proofs.lemmas.List.Elements.{Contains-get_or}

@@ -1,3 +1,4 @@
+-- What each loop of `edges::add_edges` keeps.
 use Rattle.std.proofs.Common.{◌≡◌, ◌++◌, map, take}
 use Rattle.psy_graph.specs.Steps.{timing_by}
 use Rattle.psy_graph.specs.Drawn.{edge_to}

@@ -1,3 +1,4 @@
+-- What is left of the proof of `edges::add_node`.
 use Rattle.std.proofs.Common.{◌≡◌, map, length, ap, ◌∙◌, arith}
 use Rattle.std.proofs.lemmas.List.{length-map}
 use Rattle.psy_meaning.specs.Timing.{following, end_date, least, deadline}

@@ -1,3 +1,4 @@
+-- What is left of the proof of `edges::draw`.
 use Rattle.std.proofs.Common.{◌≡◌, ◌+◌, ◌++◌, ◌≤◌, [], ◌∷◌, length, length-append, ap, sym, refl, ◌∙◌, inr, arith}
 use Rattle.std.proofs.lemmas.List.{length-map, map_more}
 use Rattle.psy_meaning.specs.Timing.{following}

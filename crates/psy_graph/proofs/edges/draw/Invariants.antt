@@ -1,3 +1,4 @@
+-- What each loop of `edges::draw` keeps.
 use Rattle.std.proofs.Common.{◌≡◌, ◌≤◌, map, take, length}
 use Rattle.psy_base.specs.declared.limits.TheConstants.{EDGES}
 use Rattle.psy_graph.specs.Steps.{timing_by}

@@ -1,3 +1,4 @@
+-- What each loop of `edges::least_of` keeps.
 use Rattle.std.proofs.Common.{ℕ, ◌<◌, ◌≤◌, get_or}
 use Rattle.std.specs.List.{Contains}
 use Rattle.psy_graph.proofs.edges.least_of.Given as goal

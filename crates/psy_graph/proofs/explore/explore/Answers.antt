@@ -1,3 +1,4 @@
+-- What is left of the proof of `explore::explore`.
 use Rattle.std.proofs.Common.{◌≡◌, ℕ, ◌%◌, ◌<◌, ◌≤◌, [], ◌∷◌, length, ap, sym, subst, arith}
 use Rattle.std.proofs.Math.Nat.{mod-le}
 use Rattle.psy_graph.specs.declared.place.Place.{Place}

@@ -1,3 +1,4 @@
+-- What each loop of `explore::explore` keeps.
 use Rattle.std.proofs.Common.{ℕ, ◌-◌, ◌<◌, ◌≤◌, length, get_or}
 use Rattle.psy_base.specs.declared.limits.TheConstants.{NODES}
 use Rattle.psy_graph.specs.declared.place.Place.{Place}

@@ -1,3 +1,4 @@
+-- What is left of the proof of `laws::one_graph`.
 use Rattle.std.proofs.Common.{refl, sym, subst, slice_index_or}
 use Rattle.std.proofs.lemmas.Option.{slice_get-get_or}
 use Rattle.psy_meaning.specs.Timing.{timing_of}

@@ -1,3 +1,4 @@
+-- What is left of the proof of `place::seek`.
 use Rattle.std.proofs.Common.{◌<◌, ◌/◌, ◌-◌, ◌+◌, length, arith}
 use Rattle.std.proofs.lemmas.Bool.Decides.{not_from_Decides}
 use Rattle.psy_graph.proofs.Rooms.{search_low, search_high}

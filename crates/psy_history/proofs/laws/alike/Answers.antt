@@ -1,3 +1,4 @@
+-- What is left of the proof of `laws::alike`.
 use Rattle.std.proofs.Common.{ap, ◌∙◌}
 use Rattle.psy_meaning.specs.History.{history}
 use Rattle.psy_meaning.specs.Sound.{IsSoundUnit}

@@ -1,3 +1,4 @@
+-- What is left of the proof of `laws::deeds`.
 use Rattle.std.proofs.lemmas.List.Elements.{All-contains}
 use Rattle.psy_code.specs.declared.code.Code.{Code}
 use Rattle.psy_tree.specs.declared.unit.Unit.{Unit as Whole}

@@ -1,3 +1,4 @@
+-- What is left of the proof of `laws::given`.
 use Rattle.psy_history.proofs.Given.{given_within, given_unstarted}
 use Rattle.psy_history.proofs.laws.given.Goals as goal
 

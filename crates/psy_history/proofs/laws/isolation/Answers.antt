@@ -1,3 +1,4 @@
+-- What is left of the proof of `laws::isolation`.
 use Rattle.std.proofs.Common.{ap, ◌∙◌}
 use Rattle.std.proofs.lemmas.Option.{get_or_from_slice_get}
 use Rattle.psy_tree.specs.declared.unit.Unit.{Unit as Whole}

@@ -1,3 +1,4 @@
+-- What is left of the proof of `laws::on_time`.
 use Rattle.psy_history.proofs.Finishes.{finishes_in_time}
 use Rattle.psy_history.proofs.KeptDates.{due_finished, earlier_finished}
 use Rattle.psy_history.proofs.laws.on_time.Goals as goal

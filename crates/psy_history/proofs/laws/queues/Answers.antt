@@ -1,3 +1,4 @@
+-- What is left of the proof of `laws::queues`.
 use Rattle.psy_history.specs.Compiled.{coded}
 use Rattle.psy_history.proofs.CodedStreams.{has_streams}
 use Rattle.psy_history.proofs.QueueLooks.{ended_is, look_is, shows_is}

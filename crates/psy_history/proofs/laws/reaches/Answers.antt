@@ -1,3 +1,4 @@
+-- What is left of the proof of `laws::reaches`.
 use Rattle.std.proofs.Common.{refl}
 use Rattle.std.proofs.lemmas.List.Elements.{All-contains}
 use Rattle.psy_code.specs.Execution.{call_of}

@@ -1,3 +1,4 @@
+-- What is left of the proof of `laws::regular`.
 use Rattle.psy_code.specs.declared.code.Code.{Code}
 use Rattle.psy_tree.specs.declared.unit.Unit.{Unit as Whole}
 use Rattle.psy_meaning.specs.Units.{IsOfText}

@@ -1,3 +1,4 @@
+-- What is left of the proof of `laws::ring_sizes`.
 use Rattle.std.specs.Prelude.{◌+◌}
 use Rattle.std.proofs.lemmas.List.Elements.{All-contains}
 use Rattle.psy_meaning.specs.History.{history}

@@ -1,3 +1,4 @@
+-- What is left of the proof of `laws::rings`.
 use Rattle.psy_history.proofs.ClockDates.{AreCounted}
 use Rattle.psy_history.proofs.RingValues.{ring_look, ring_next}
 use Rattle.psy_history.proofs.laws.rings.Goals as goal

@@ -1,3 +1,4 @@
+-- What is left of the proof of `write::write_all_of`.
 use Rattle.std.proofs.Common.{arith}
 use Rattle.std.proofs.Math.Seq.{take-add}
 use Rattle.psy_log.proofs.GrowthLemmas.{Grew-trans}

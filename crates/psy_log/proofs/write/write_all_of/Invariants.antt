@@ -1,3 +1,4 @@
+-- What each loop of `write::write_all_of` keeps.
 use Rattle.std.proofs.Common.{◌≤◌, ◌-◌, length, take}
 use Rattle.psy_door.specs.Growth.{Grew}
 use Rattle.psy_log.proofs.write.write_all_of.Given as goal

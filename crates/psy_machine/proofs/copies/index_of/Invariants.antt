@@ -1,3 +1,4 @@
+-- What each loop of `copies::index_of` keeps.
 use Rattle.std.proofs.Common.{◌≡◌, ◌≤◌, ℕ, ◌+◌, length, drop, Some}
 use Rattle.std.specs.Prelude.{slice_get}
 use Rattle.psy_machine.specs.Copying.{IsFirst}

@@ -1,3 +1,4 @@
+-- What is left of the proof of `agent::draw_agent`.
 use Rattle.std.proofs.Common.{◌≡◌, ℕ, suc, ◌+◌, ◌*◌, ◌/◌, ◌%◌, ◌^◌, ◌∙◌, ap, refl, arith}
 use Rattle.psy_make.specs.Generator.{next, drawn, draw}
 use Rattle.psy_make.proofs.agent.draw_agent.Goals as goal

@@ -1,3 +1,4 @@
+-- What each loop of `agent::draw_agents` keeps.
 use Rattle.std.proofs.Common.{◌≡◌, ◌+◌, ◌*◌, map}
 use Rattle.std.specs.List.{range_with_len}
 use Rattle.psy_make.specs.Generator.{drawn, agent_of}

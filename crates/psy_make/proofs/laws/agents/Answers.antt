@@ -1,3 +1,4 @@
+-- What is left of the proof of `laws::agents`.
 use Rattle.std.proofs.Common.{ℕ, ◌<◌, ◌≤◌, get_or, arith}
 use Rattle.std.specs.List.{range_with_len}
 use Rattle.std.proofs.lemmas.List.Elements.{All-map}

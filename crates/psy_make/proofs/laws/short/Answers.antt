@@ -1,3 +1,4 @@
+-- What is left of the proof of `laws::short`.
 use Rattle.std.proofs.Common.{arith}
 use Rattle.psy_make.proofs.ShortTexts.{text_short}
 use Rattle.psy_make.proofs.laws.short.Goals as goal

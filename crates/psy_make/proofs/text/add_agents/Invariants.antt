@@ -1,3 +1,4 @@
+-- What each loop of `text::add_agents` keeps.
 use Rattle.std.proofs.Common.{◌≡◌, ◌++◌, map, flat_map, take}
 use Rattle.psy_make.specs.Text.{ended, agent_line}
 use Rattle.psy_make.proofs.text.add_agents.Given as goal

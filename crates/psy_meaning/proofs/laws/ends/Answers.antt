@@ -1,3 +1,4 @@
+-- What is left of the proof of `laws::ends`.
 use Rattle.psy_meaning.proofs.Endings.{action_ends}
 use Rattle.psy_meaning.proofs.laws.ends.Goals as goal
 

@@ -1,3 +1,4 @@
+-- What is left of the proof of `laws::follows`.
 use Rattle.std.proofs.Common.{◌≡◌, ℕ, zero, suc, ◌+◌, ◌≤◌, [], length, subst, sym, refl, arith}
 use Rattle.std.specs.List.{range_with_len}
 use Rattle.psy_tree.specs.declared.unit.AgentDecl.{AgentDecl}

@@ -1,3 +1,4 @@
+-- What is left of the proof of `laws::keeps`.
 use Rattle.psy_meaning.specs.Alike.{begun}
 use Rattle.psy_meaning.proofs.Endings.{action_ends}
 use Rattle.psy_meaning.proofs.KeptActions.{action_keeps, first_of_agent}

@@ -1,3 +1,4 @@
+-- What is left of the proof of `laws::of_text`.
 use Rattle.std.proofs.Common.{arith}
 use Rattle.psy_tree.proofs.TokenCounts.{length-TokensOf}
 use Rattle.psy_meaning.proofs.Bare.{bare_unit}

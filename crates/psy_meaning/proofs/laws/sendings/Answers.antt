@@ -1,3 +1,4 @@
+-- What is left of the proof of `laws::sendings`.
 use Rattle.std.specs.List.{Contains}
 use Rattle.psy_tree.proofs.Among.{among, contains}
 use Rattle.psy_meaning.specs.QueueSizes.{sendings_in}

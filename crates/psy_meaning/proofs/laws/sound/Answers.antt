@@ -1,3 +1,4 @@
+-- What is left of the proof of `laws::sound`.
 use Rattle.psy_meaning.proofs.SoundPaths.{none_advances}
 use Rattle.psy_meaning.proofs.SoundUnits.{unit_sound}
 use Rattle.psy_meaning.proofs.laws.sound.Goals as goal

@@ -1,3 +1,4 @@
+-- What is left of the proof of `laws::traps`.
 use Rattle.std.proofs.Common.{refl, subst}
 use Rattle.psy_meaning.specs.Statements.{callees_of}
 use Rattle.psy_meaning.specs.Rest.{rest}

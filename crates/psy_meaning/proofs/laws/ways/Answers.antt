@@ -1,3 +1,4 @@
+-- What is left of the proof of `laws::ways`.
 use Rattle.std.proofs.Common.{subst}
 use Rattle.psy_meaning.specs.Statements.{callees_of}
 use Rattle.psy_meaning.specs.Ways.{To, Course, met_by, courses_through, piece_course, callee_ways}

@@ -1,3 +1,4 @@
+-- What is left of the proof of `dated::dated`.
 use Rattle.psy_notes.proofs.Ends.{end_only}
 use Rattle.psy_notes.proofs.dated.dated.Goals as goal
 

@@ -1,3 +1,4 @@
+-- What is left of the proof of `dated::named`.
 use Rattle.std.proofs.Common.{◌∷◌, ◌++◌, ◌∙◌, sym, refl, arith, codes}
 use Rattle.std.specs.Fmt.{signed_decimal}
 use Rattle.psy_notes.proofs.Ends.{value_first}

@@ -1,3 +1,4 @@
+-- What is left of the proof of `field::long`.
 use Rattle.std.proofs.Common.{◌∷◌, arith, rules}
 use Rattle.psy_notes.proofs.field.long.Goals as goal
 

@@ -1,3 +1,4 @@
+-- What is left of the proof of `field::name`.
 use Rattle.std.proofs.Common.{◌∷◌, refl}
 use Rattle.psy_notes.proofs.field.name.Goals as goal
 

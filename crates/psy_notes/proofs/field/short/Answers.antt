@@ -1,3 +1,4 @@
+-- What is left of the proof of `field::short`.
 use Rattle.std.proofs.Common.{◌∷◌, arith, rules}
 use Rattle.psy_notes.proofs.field.short.Goals as goal
 

@@ -1,3 +1,4 @@
+-- What is left of the proof of `field::value`.
 use Rattle.std.proofs.Common.{◌∷◌, refl, rules}
 use Rattle.psy_notes.proofs.field.value.Goals as goal
 

@@ -1,3 +1,4 @@
+-- What is left of the proof of `laws::one_reading`.
 use Rattle.psy_notes.proofs.Total.{either}
 use Rattle.psy_notes.proofs.Walks.{not_both, one_break}
 use Rattle.psy_notes.proofs.laws.one_reading.Goals as goal

@@ -1,3 +1,4 @@
+-- What is left of the proof of `read::first_step`.
 use Rattle.std.proofs.Common.{◌∙◌, refl, sym, ap, arith, length}
 use Rattle.psy_notes.proofs.Fields.{line_of-fields, AllPlain-fields_of}
 use Rattle.psy_notes.proofs.Lines.{length-spell}

@@ -1,3 +1,4 @@
+-- What is left of the proof of `read::read`.
 use Rattle.std.proofs.Common.{◌≡◌, ◌∙◌, ◌++◌, List, sym, ap, subst}
 use Rattle.psy_log.specs.declared.note.Note.{Note}
 use Rattle.psy_notes.specs.Texts.{Leads, text_of}

@@ -1,3 +1,4 @@
+-- What each loop of `read::read` keeps.
 use Rattle.std.proofs.Common.{◌≡◌, ◌++◌, length}
 use Rattle.psy_notes.specs.Texts.{Leads, text_of}
 use Rattle.psy_notes.proofs.read.read.Given as goal

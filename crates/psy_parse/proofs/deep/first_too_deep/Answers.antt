@@ -1,3 +1,4 @@
+-- What is left of the proof of `deep::first_too_deep`.
 use Rattle.std.proofs.Common.{◌≡◌, ◌+◌, arith, below_more}
 use Rattle.psy_tree.specs.Deep.{bracket_depth, operators_since}
 use Rattle.psy_parse.proofs.Front.{front, front_more, not_reached}

@@ -1,3 +1,4 @@
+-- What each loop of `expr::+expr` keeps.
 use Rattle.std.proofs.Common.{◌≡◌, ◌+◌, ◌*◌, ◌≤◌}
 use Rattle.psy_parse.specs.Reading.{left, climb_at, others_at}
 use Rattle.psy_parse.proofs.expr.+expr.Given as goal

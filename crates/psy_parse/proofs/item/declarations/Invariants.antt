@@ -1,3 +1,4 @@
+-- What each loop of `item::declarations` keeps.
 use Rattle.std.proofs.Common.{◌≡◌, []}
 use Rattle.psy_parse.specs.Reading.{left, program_at}
 use Rattle.psy_parse.proofs.item.declarations.Given as goal

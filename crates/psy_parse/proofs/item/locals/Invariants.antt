@@ -1,3 +1,4 @@
+-- What each loop of `item::locals` keeps.
 use Rattle.std.proofs.Common.{◌≡◌, []}
 use Rattle.psy_parse.specs.Reading.{left, locals_at}
 use Rattle.psy_parse.proofs.item.locals.Given as goal

@@ -1,3 +1,4 @@
+-- What is left of the proof of `laws::one_tree`.
 use Rattle.psy_parse.proofs.AgainItems.{Spells-unique}
 use Rattle.psy_parse.proofs.Trees.{tree_or_none}
 use Rattle.psy_parse.proofs.Depths.{deep_or_shallow, Deep-once, not_both}

@@ -1,3 +1,4 @@
+-- What is left of the proof of `program::parse`.
 use Rattle.psy_parse.proofs.SoundItems.{spells_from_reading}
 use Rattle.psy_parse.proofs.AgainItems.{only_tree, no_tree}
 use Rattle.psy_parse.proofs.program.parse.Goals as goal

@@ -1,3 +1,4 @@
+-- What each loop of `stmt::+stmt` keeps.
 use Rattle.std.proofs.Common.{◌≡◌, ◌+◌, ◌*◌, ◌≤◌}
 use Rattle.psy_parse.specs.Reading.{left, block_at}
 use Rattle.psy_parse.proofs.stmt.+stmt.Given as goal

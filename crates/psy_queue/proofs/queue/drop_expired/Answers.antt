@@ -1,3 +1,4 @@
+-- What is left of the proof of `queue::drop_expired`.
 use Rattle.std.proofs.Common.{rules}
 use Rattle.std.proofs.lemmas.Fn.{filter_same}
 use Rattle.psy_queue.proofs.queue.drop_expired.Goals as goal

@@ -1,3 +1,4 @@
+-- What is left of the proof of `queue::place_of`.
 use Rattle.std.proofs.Common.{◌≡◌, Bool, true, false, not, List, get_or, refl, sym, rules}
 use Rattle.std.specs.List.Sorted.{IsPartitionPoint}
 use Rattle.std.proofs.lemmas.List.Sorted.{IsPartitionPoint-from_clause}

@@ -1,3 +1,4 @@
+-- What is left of the proof of `queue::seen_in`.
 use Rattle.std.proofs.Common.{◌≡◌, true, false, leb, List, sym, rules}
 use Rattle.std.specs.List.Sorted.{IsPartitionedBy, IsPartitionPoint}
 use Rattle.std.proofs.lemmas.List.Sorted.{IsPartitionPoint-from_clause, IsPartitionedBy-leb}

@@ -1,3 +1,4 @@
+-- What is left of the proof of `tests::the_least_deadline_comes_first_and_ties_go_by_the_order`.
 use Rattle.std.proofs.Common.{◌≡◌, ℕ, ◌+◌, ◌<◌, [], ◌∷◌, length, refl, sym, ap, ◌∙◌, inl, inr, arith}
 use Rattle.std.specs.Prelude.{◌≢◌}
 use Rattle.std.specs.List.{Contains}

@@ -1,3 +1,4 @@
+-- What is left of the proof of `counts::+advances`.
 use Rattle.std.proofs.Common.{sym, arith}
 use Rattle.psy_rules.proofs.Judging.{advances_more}
 use Rattle.psy_rules.proofs.counts.+advances.Goals as goal

@@ -1,3 +1,4 @@
+-- What each loop of `counts::+advances` keeps.
 use Rattle.std.proofs.Common.{◌≡◌, ◌-◌, ◌^◌, take, min}
 use Rattle.psy_tree.specs.Paths as paths
 use Rattle.psy_rules.proofs.counts.+advances.Given as goal

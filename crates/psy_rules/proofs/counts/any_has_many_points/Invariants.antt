@@ -1,3 +1,4 @@
+-- What each loop of `counts::any_has_many_points` keeps.
 use Rattle.std.proofs.Common.{◌≡◌, take, false}
 use Rattle.std.specs.Prelude.{nat_lt}
 use Rattle.std.specs.List.{list_any}

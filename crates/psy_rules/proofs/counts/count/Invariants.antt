@@ -1,3 +1,4 @@
+-- What each loop of `counts::count` keeps.
 use Rattle.std.proofs.Common.{◌≡◌, ◌≤◌, take}
 use Rattle.std.specs.List.{count_by}
 use Rattle.psy_rules.specs.Counted.{counts_as}

@@ -1,3 +1,4 @@
+-- What each loop of `declarations::agents` keeps.
 use Rattle.std.proofs.Common.{◌≡◌, take}
 use Rattle.psy_tree.specs.Stands as stands
 use Rattle.psy_tree.specs.Stands.{each_from}

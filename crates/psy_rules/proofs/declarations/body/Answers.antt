@@ -1,3 +1,4 @@
+-- What is left of the proof of `declarations::body`.
 use Rattle.std.proofs.Common.{◌≡◌, ◌≤◌, map, length, Option, sym, ap, subst, ◌∙◌}
 use Rattle.std.proofs.lemmas.Option.{slice_get_within}
 use Rattle.psy_base.specs.declared.limits.TheConstants.{NAMES}

@@ -1,3 +1,4 @@
+-- What is left of the proof of `declarations::function`.
 use Rattle.std.proofs.Common.{◌≤◌, length, arith}
 use Rattle.psy_base.specs.declared.limits.TheConstants.{NAMES}
 use Rattle.psy_tree.specs.Scope.{slots_of}

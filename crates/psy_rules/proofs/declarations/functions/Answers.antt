@@ -1,3 +1,4 @@
+-- What is left of the proof of `declarations::functions`.
 use Rattle.std.proofs.Common.{◌++◌, sym, ap, ◌∙◌, append-nil}
 use Rattle.std.specs.Prelude.{option_to_list}
 use Rattle.psy_tree.specs.Stands as stands

@@ -1,3 +1,4 @@
+-- What each loop of `declarations::local_values` keeps.
 use Rattle.std.proofs.Common.{◌≡◌, take, map}
 use Rattle.psy_tree.specs.Stands as stands
 use Rattle.psy_rules.proofs.declarations.local_values.Given as goal

@@ -1,3 +1,4 @@
+-- What each loop of `declarations::slots` keeps.
 use Rattle.std.proofs.Common.{◌≡◌, take, map}
 use Rattle.psy_tree.specs.Stands as stands
 use Rattle.psy_rules.proofs.declarations.slots.Given as goal

@@ -1,3 +1,4 @@
+-- What each loop of `expressions::+lower_expr` keeps.
 use Rattle.std.proofs.Common.{◌≡◌, map, take}
 use Rattle.psy_tree.specs.Stands.{expr_of}
 use Rattle.psy_rules.specs.Lowered.{site}

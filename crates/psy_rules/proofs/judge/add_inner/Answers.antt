@@ -1,3 +1,4 @@
+-- What is left of the proof of `judge::add_inner`.
 use Rattle.std.proofs.Common.{sym, refl}
 use Rattle.std.specs.Str.{bytes_eq}
 use Rattle.psy_tree.specs.declared.reach.Found.TheVariants.{Slot}

@@ -1,3 +1,4 @@
+-- What each loop of `judge::add_inner` keeps.
 use Rattle.std.proofs.Common.{◌≡◌, ◌||◌, List, ℕ, take}
 use Rattle.std.specs.Prelude.{is_some}
 use Rattle.std.specs.Str.{bytes_eq}

@@ -1,3 +1,4 @@
+-- What each loop of `judge::judge` keeps.
 use Rattle.std.proofs.Common.{◌≡◌, take, None}
 use Rattle.psy_tree.specs.Rules.{sound_clocks, AreClocks}
 use Rattle.psy_rules.specs.Tables.{HasInner}

@@ -1,3 +1,4 @@
+-- What is left of the proof of `judge::judge_cells`.
 use Rattle.std.proofs.Common.{sym, ap, ◌∙◌, ◌∷◌, [], take}
 use Rattle.psy_tree.specs.Places.{cells_places}
 use Rattle.psy_rules.specs.Judged.{judged_all}

@@ -1,3 +1,4 @@
+-- What each loop of `judge::judge_cells` keeps.
 use Rattle.std.proofs.Common.{◌≡◌, take}
 use Rattle.psy_tree.specs.Scope.{Site}
 use Rattle.psy_tree.specs.Places.{cells_places}

@@ -1,3 +1,4 @@
+-- What is left of the proof of `judge::judge_clock`.
 use Rattle.std.proofs.Common.{ap, ◌∙◌}
 use Rattle.psy_tree.specs.declared.rules.RuleKind.TheVariants.{BadClock}
 use Rattle.psy_rules.specs.Sites.{site_of}

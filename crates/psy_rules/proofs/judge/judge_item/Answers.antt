@@ -1,3 +1,4 @@
+-- What is left of the proof of `judge::judge_item`.
 use Rattle.std.proofs.Common.{◌≡◌, map, ap, ◌∙◌}
 use Rattle.psy_tree.specs.Places.{NamesItem}
 use Rattle.psy_tree.specs.Scope.{slots_of}

@@ -1,3 +1,4 @@
+-- What is left of the proof of `judge::judge_name`.
 use Rattle.std.proofs.Common.{ap, ◌∙◌}
 use Rattle.psy_tree.specs.declared.rules.RuleKind.TheVariants.{Twice}
 use Rattle.psy_rules.specs.Judged.{judged, noted}

@@ -1,3 +1,4 @@
+-- What is left of the proof of `judge::judge_slot`.
 use Rattle.std.proofs.Common.{ap, refl, ◌∙◌}
 use Rattle.psy_tree.specs.declared.rules.RuleKind.TheVariants.{Twice}
 use Rattle.psy_rules.specs.Sites.{site_of}

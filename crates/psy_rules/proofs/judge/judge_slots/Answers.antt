@@ -1,3 +1,4 @@
+-- What is left of the proof of `judge::judge_slots`.
 use Rattle.std.proofs.Common.{sym, ap, ◌∙◌, ◌∷◌, [], take, map}
 use Rattle.psy_tree.specs.Places.{NamesSlot}
 use Rattle.psy_rules.specs.Sites.{site_of}

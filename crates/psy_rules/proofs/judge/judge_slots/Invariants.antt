@@ -1,3 +1,4 @@
+-- What each loop of `judge::judge_slots` keeps.
 use Rattle.std.proofs.Common.{◌≡◌, take, map}
 use Rattle.psy_rules.specs.Sites.{site_of}
 use Rattle.psy_rules.specs.Heads.{name_places}

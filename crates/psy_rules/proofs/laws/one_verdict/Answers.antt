@@ -1,3 +1,4 @@
+-- What is left of the proof of `laws::one_verdict`.
 use Rattle.psy_rules.proofs.Verdicts.{some_verdict, Stands-once, LeastFault-once, count-once, stands_or_fault, stands_or_count, fault_or_none}
 use Rattle.psy_rules.proofs.laws.one_verdict.Goals as goal
 

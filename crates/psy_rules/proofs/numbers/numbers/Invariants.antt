@@ -1,3 +1,4 @@
+-- What each loop of `numbers::numbers` keeps.
 use Rattle.std.proofs.Common.{◌≡◌, ℕ, ◌<◌, length, Some}
 use Rattle.std.specs.Prelude.{slice_get}
 use Rattle.psy_rules.specs.Numbering.{before_at}

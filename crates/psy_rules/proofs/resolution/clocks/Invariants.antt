@@ -1,3 +1,4 @@
+-- What each loop of `resolution::clocks` keeps.
 use Rattle.std.proofs.Common.{◌≡◌, take}
 use Rattle.std.specs.Prelude.{option_to_list}
 use Rattle.std.specs.List.{flat_map}

@@ -1,3 +1,4 @@
+-- What is left of the proof of `resolution::program`.
 use Rattle.std.proofs.Common.{List, sym, subst}
 use Rattle.psy_tree.specs.declared.raw.Item.{Item}
 use Rattle.psy_tree.specs.Scope.{item_entries}

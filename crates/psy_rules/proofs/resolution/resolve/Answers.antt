@@ -1,3 +1,4 @@
+-- What is left of the proof of `resolution::resolve`.
 use Rattle.std.proofs.Common.{Option, subst}
 use Rattle.psy_tree.specs.Rules.{LeastFault}
 use Rattle.psy_rules.specs.declared.least.RuleAt.{RuleAt}

@@ -1,3 +1,4 @@
+-- What is left of the proof of `resolution::unit`.
 use Rattle.psy_rules.proofs.Wholes.{unit_of-parts}
 use Rattle.psy_rules.proofs.resolution.unit.Goals as goal
 

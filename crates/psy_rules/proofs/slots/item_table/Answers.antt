@@ -1,3 +1,4 @@
+-- What is left of the proof of `slots::item_table`.
 use Rattle.std.proofs.Common.{sym, ap}
 use Rattle.psy_rules.proofs.Tables.{stands-items_more}
 use Rattle.psy_rules.proofs.slots.item_table.Goals as goal

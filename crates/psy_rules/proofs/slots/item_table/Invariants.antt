@@ -1,3 +1,4 @@
+-- What each loop of `slots::item_table` keeps.
 use Rattle.std.proofs.Common.{take}
 use Rattle.psy_tree.specs.Scope.{item_entries}
 use Rattle.psy_rules.specs.Tables.{StandsFor}

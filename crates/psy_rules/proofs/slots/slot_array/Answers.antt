@@ -1,3 +1,4 @@
+-- What is left of the proof of `slots::slot_array`.
 use Rattle.std.proofs.Common.{◌≤◌, length, sym, ap, ◌∙◌, arith}
 use Rattle.psy_tree.specs.Scope.{item_params}
 use Rattle.psy_rules.proofs.SlotLists.{slot_at_param, slot_at_local}

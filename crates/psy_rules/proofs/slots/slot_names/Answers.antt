@@ -1,3 +1,4 @@
+-- What is left of the proof of `slots::slot_names`.
 use Rattle.std.proofs.Common.{◌≤◌, ◌++◌, map, length, ap, ◌∙◌, arith}
 use Rattle.std.proofs.lemmas.List.{take_all}
 use Rattle.psy_tree.specs.Scope.{local_slot}

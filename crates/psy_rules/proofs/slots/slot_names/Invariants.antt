@@ -1,3 +1,4 @@
+-- What each loop of `slots::slot_names` keeps.
 use Rattle.std.proofs.Common.{◌≡◌, ◌++◌, map, take}
 use Rattle.psy_tree.specs.Scope.{local_slot}
 use Rattle.psy_tree.specs.Scope.{item_params, item_locals}

@@ -1,3 +1,4 @@
+-- What is left of the proof of `slots::slot_table`.
 use Rattle.std.proofs.Common.{sym}
 use Rattle.psy_rules.proofs.Tables.{stands-slots_more}
 use Rattle.psy_rules.proofs.slots.slot_table.Goals as goal

@@ -1,3 +1,4 @@
+-- What each loop of `slots::slot_table` keeps.
 use Rattle.std.proofs.Common.{take, map}
 use Rattle.psy_tree.specs.Scope.{slot_entries}
 use Rattle.psy_rules.specs.Tables.{StandsFor, as_slots}

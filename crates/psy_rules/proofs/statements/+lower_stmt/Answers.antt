@@ -1,3 +1,4 @@
+-- What is left of the proof of `statements::+lower_stmt`.
 use Rattle.std.proofs.Common.{rules, ◌++◌, ◌∷◌, [], List, take, sym, ap, ◌∙◌, arith}
 use Rattle.psy_tree.specs.declared.raw.RawStmt.{the_lemmas}
 use Rattle.psy_tree.specs.declared.unit.Stmt.{Stmt}

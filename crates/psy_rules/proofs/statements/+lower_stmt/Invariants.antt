@@ -1,3 +1,4 @@
+-- What each loop of `statements::+lower_stmt` keeps.
 use Rattle.std.proofs.Common.{◌≡◌, ◌+◌, ◌≤◌, take, length}
 use Rattle.psy_tree.specs.Paths.{advances_list}
 use Rattle.psy_tree.specs.Stands.{stmts_of}

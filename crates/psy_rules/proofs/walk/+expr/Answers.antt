@@ -1,3 +1,4 @@
+-- What is left of the proof of `walk::+expr`.
 use Rattle.std.proofs.Common.{sym}
 use Rattle.std.proofs.lemmas.List.{length-map}
 use Rattle.psy_tree.specs.Places.{expr_places}

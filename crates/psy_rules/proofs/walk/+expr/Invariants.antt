@@ -1,3 +1,4 @@
+-- What each loop of `walk::+expr` keeps.
 use Rattle.std.proofs.Common.{◌≡◌, take, map}
 use Rattle.psy_tree.specs.Places.{expr_places, joined}
 use Rattle.psy_rules.specs.Sites.{site_of}

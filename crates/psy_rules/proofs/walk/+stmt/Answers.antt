@@ -1,3 +1,4 @@
+-- What is left of the proof of `walk::+stmt`.
 use Rattle.std.proofs.Common.{◌∙◌, sym, ap}
 use Rattle.std.specs.Prelude.{nat_lt}
 use Rattle.psy_tree.specs.Places.{stmt_places}

@@ -1,3 +1,4 @@
+-- What each loop of `walk::+stmt` keeps.
 use Rattle.std.proofs.Common.{◌≡◌, take}
 use Rattle.std.specs.Prelude.{nat_lt}
 use Rattle.psy_tree.specs.Places.{stmts_places}

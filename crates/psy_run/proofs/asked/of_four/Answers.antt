@@ -1,3 +1,4 @@
+-- What is left of the proof of `asked::of_four`.
 use Rattle.std.proofs.Common.{[], ◌∷◌, ap, codes}
 use Rattle.psy_run.specs.Asked.{asks_run_with_inputs}
 use Rattle.psy_run.proofs.AskedLemmas.{same_text}

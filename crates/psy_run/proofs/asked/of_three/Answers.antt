@@ -1,3 +1,4 @@
+-- What is left of the proof of `asked::of_three`.
 use Rattle.std.proofs.Common.{[], ◌∷◌, ap, codes}
 use Rattle.psy_run.specs.Asked.{asks_run, asks_check, asks_trial}
 use Rattle.psy_run.proofs.AskedLemmas.{same_text, untried}

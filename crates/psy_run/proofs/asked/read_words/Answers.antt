@@ -1,3 +1,4 @@
+-- What is left of the proof of `asked::read_words`.
 use Rattle.std.proofs.Common.{ℕ, ◌≡◌, [], ◌∷◌, List, map, string_bytes, MatchOption, sym, subst, arith}
 use Rattle.psy_run.specs.Asked.{Asks, AskNothing, asked_by}
 use Rattle.psy_run.proofs.AskedLemmas.{map-next, map-end}

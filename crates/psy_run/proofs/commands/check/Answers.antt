@@ -1,3 +1,4 @@
+-- What is left of the proof of `commands::check`.
 use Rattle.std.proofs.Common.{refl}
 use Rattle.psy_run.specs.Answer.{compiling, supplying}
 use Rattle.psy_run.proofs.Courses.{gives_then, halts_exit, halts_first, halts_later}

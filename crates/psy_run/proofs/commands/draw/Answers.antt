@@ -1,3 +1,4 @@
+-- What is left of the proof of `commands::draw`.
 use Rattle.std.proofs.Common.{refl}
 use Rattle.psy_run.specs.Answer.{compiling}
 use Rattle.psy_run.specs.Steps.{graphing, costing}

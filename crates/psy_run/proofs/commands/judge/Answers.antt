@@ -1,3 +1,4 @@
+-- What is left of the proof of `commands::judge`.
 use Rattle.std.proofs.Common.{refl, subst}
 use Rattle.std.specs.Prelude.{map, string_bytes, option_copied}
 use Rattle.psy_run.specs.declared.refusal.Refusal.TheVariants.{Words}

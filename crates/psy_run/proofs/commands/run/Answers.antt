@@ -1,3 +1,4 @@
+-- What is left of the proof of `commands::run`.
 use Rattle.std.specs.Prelude.{option_copied}
 use Rattle.psy_run.specs.Answer.{compiling, supplying, listing, scripting}
 use Rattle.psy_run.specs.Outcome.{halts_memory}

@@ -1,3 +1,4 @@
+-- What is left of the proof of `commands::try_made`.
 use Rattle.std.proofs.Common.{◌≡◌, sym, subst}
 use Rattle.psy_history.specs.Compiled.{AreInputs}
 use Rattle.psy_run.specs.declared.refusal.Stop.TheVariants.{Memory}

@@ -1,3 +1,4 @@
+-- What is left of the proof of `commands::write_made`.
 use Rattle.psy_run.specs.declared.refusal.Stop.TheVariants.{Memory}
 use Rattle.psy_run.specs.Outcome.{halts_memory}
 use Rattle.psy_run.proofs.Courses.{halts_exit}

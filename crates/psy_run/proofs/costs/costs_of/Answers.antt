@@ -1,3 +1,4 @@
+-- What is left of the proof of `costs::costs_of`.
 use Rattle.std.proofs.Common.{◌≡◌, ◌∙◌, ap, sym, subst, ℕ, [], ◌∷◌, length, length-append, get_or, slice_get, Some, arith}
 use Rattle.psy_base.specs.declared.limits.TheConstants.{COST}
 use Rattle.psy_tree.specs.declared.unit.AgentDecl.{AgentDecl}

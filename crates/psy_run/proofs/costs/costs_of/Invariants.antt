@@ -1,3 +1,4 @@
+-- What each loop of `costs::costs_of` keeps.
 use Rattle.std.proofs.Common.{◌≡◌, ℕ, length, slice_get, Some}
 use Rattle.psy_base.specs.declared.limits.TheConstants.{COST}
 use Rattle.psy_tree.specs.declared.unit.AgentDecl.{AgentDecl}

@@ -1,3 +1,4 @@
+-- What is left of the proof of `costs::costs_of_agents`.
 use Rattle.std.proofs.Common.{◌≡◌, ap, sym, subst, ℕ, List, [], ◌∷◌, length, length-append, slice_get, Some, arith}
 use Rattle.psy_tree.specs.declared.unit.AgentDecl.{AgentDecl}
 use Rattle.psy_run.specs.Steps.{AreCosts}

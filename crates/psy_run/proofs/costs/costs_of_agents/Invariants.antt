@@ -1,3 +1,4 @@
+-- What each loop of `costs::costs_of_agents` keeps.
 use Rattle.std.proofs.Common.{◌≡◌, ℕ, List, length, slice_get, Some}
 use Rattle.psy_tree.specs.declared.unit.AgentDecl.{AgentDecl}
 use Rattle.psy_run.specs.Steps.{AreCosts}

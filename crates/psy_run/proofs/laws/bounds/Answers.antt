@@ -1,3 +1,4 @@
+-- What is left of the proof of `laws::bounds`.
 use Rattle.std.proofs.Common.{◌+◌, ◌*◌, arith}
 use Rattle.psy_history.specs.Compiled.{coded}
 use Rattle.psy_kernel.specs.Scripts.{order_of, stalls_of}

@@ -1,3 +1,4 @@
+-- What is left of the proof of `laws::one_answer`.
 use Rattle.psy_run.proofs.OneAnswer.{Answers-unique}
 use Rattle.psy_run.proofs.laws.one_answer.Goals as goal
 

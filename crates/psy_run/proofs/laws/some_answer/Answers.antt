@@ -1,3 +1,4 @@
+-- What is left of the proof of `laws::some_answer`.
 use Rattle.psy_run.proofs.SomeAnswer.{Answers-some}
 use Rattle.psy_run.proofs.laws.some_answer.Goals as goal
 

@@ -1,3 +1,4 @@
+-- What each loop of `nexts::all_nexts` keeps.
 use Rattle.std.proofs.Common.{◌≡◌, ℕ, List, length, slice_get, Some}
 use Rattle.psy_tree.specs.declared.unit.AgentDecl.{AgentDecl}
 use Rattle.psy_meaning.specs.Flow.{AreNexts}

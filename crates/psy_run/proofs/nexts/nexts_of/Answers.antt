@@ -1,3 +1,4 @@
+-- What is left of the proof of `nexts::nexts_of`.
 use Rattle.std.proofs.Common.{◌≡◌, ◌∙◌, ap, sym, subst, ℕ, ◌↔◌, List, [], ◌∷◌, length, length-append, get_or, slice_get, Some, arith}
 use Rattle.std.proofs.lemmas.Option.{slice_get-get_or}
 use Rattle.std.specs.List.{Contains}

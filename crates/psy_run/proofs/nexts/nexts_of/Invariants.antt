@@ -1,3 +1,4 @@
+-- What each loop of `nexts::nexts_of` keeps.
 use Rattle.std.proofs.Common.{◌≡◌, ℕ, ◌↔◌, List, length, slice_get, Some}
 use Rattle.std.specs.List.{Contains}
 use Rattle.psy_tree.specs.declared.unit.AgentDecl.{AgentDecl}

@@ -1,3 +1,4 @@
+-- What is left of the proof of `plan::plan_of`.
 use Rattle.psy_dates.specs.declared.plan.Plan.{Plan}
 use Rattle.psy_run.proofs.PlanLemmas.{is_feasible_for}
 use Rattle.psy_run.proofs.SupplyLemmas.{supply_is}

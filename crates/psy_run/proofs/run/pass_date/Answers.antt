@@ -1,3 +1,4 @@
+-- What is left of the proof of `run::pass_date`.
 use Rattle.std.proofs.Common.{◌≡◌, ap, subst, refl, ◌+◌, ◌-◌, ◌<◌, length, slice_get, Some, arith}
 use Rattle.std.proofs.lemmas.Option.{slice_get_within}
 use Rattle.psy_kernel.specs.Progress.{lines_told}

@@ -1,3 +1,4 @@
+-- What each loop of `run::pass_dates` keeps.
 use Rattle.std.proofs.Common.{◌≡◌, ◌+◌, ◌-◌, ◌*◌, ◌≤◌, length}
 use Rattle.psy_kernel.specs.Progress.{lines_told}
 use Rattle.psy_run.proofs.run.pass_dates.Given as goal

@@ -1,3 +1,4 @@
+-- What is left of the proof of `run::run_dates`.
 use Rattle.std.proofs.Common.{◌≡◌, ◌∙◌, ap, subst, sym, ◌+◌, ◌*◌, ◌≤◌, length, arith}
 use Rattle.psy_door.specs.Growth.{Grew, GrewByFront}
 use Rattle.psy_kernel.specs.Progress.{after_date, lines_told, system}

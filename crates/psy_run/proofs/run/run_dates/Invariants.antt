@@ -1,3 +1,4 @@
+-- What each loop of `run::run_dates` keeps.
 use Rattle.std.proofs.Common.{◌≡◌, ◌+◌, ◌-◌, ◌*◌, ◌≤◌, length}
 use Rattle.psy_door.specs.Growth.{Grew}
 use Rattle.psy_kernel.specs.Progress.{lines_told, system}

@@ -1,3 +1,4 @@
+-- What is left of the proof of `run::run_loop`.
 use Rattle.std.proofs.Common.{◌≡◌, ap, subst, ◌+◌}
 use Rattle.psy_kernel.specs.Progress.{summary_told, system}
 use Rattle.psy_kernel.specs.Texts.{log_of, text_of}

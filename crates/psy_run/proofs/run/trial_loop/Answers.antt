@@ -1,3 +1,4 @@
+-- What is left of the proof of `run::trial_loop`.
 use Rattle.std.proofs.Common.{◌≡◌, ap, subst}
 use Rattle.psy_kernel.specs.Progress.{summary_told}
 use Rattle.psy_kernel.specs.Texts.{text_of}

@@ -1,3 +1,4 @@
+-- What each loop of `run::write_date` keeps.
 use Rattle.std.proofs.Common.{◌≡◌, ◌≤◌, ◌-◌, length, take}
 use Rattle.psy_door.specs.Growth.{Grew}
 use Rattle.psy_kernel.specs.Progress.{lines_told}

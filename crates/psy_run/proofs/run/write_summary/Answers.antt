@@ -1,3 +1,4 @@
+-- What is left of the proof of `run::write_summary`.
 use Rattle.std.proofs.Common.{subst, refl, ◌+◌, ◌-◌, ◌<◌, ◌≤◌, length, arith}
 use Rattle.std.proofs.lemmas.Option.{slice_get_within}
 use Rattle.psy_door.specs.Growth.{Grew, GrewByFront}

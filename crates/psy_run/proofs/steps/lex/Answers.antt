@@ -1,3 +1,4 @@
+-- What is left of the proof of `steps::lex`.
 use Rattle.std.proofs.Common.{subst}
 use Rattle.psy_token.specs.Answer.{IsFirstFault}
 use Rattle.psy_run.specs.declared.refusal.Refusal.TheVariants.{Lexical}

@@ -1,3 +1,4 @@
+-- What is left of the proof of `steps::parse`.
 use Rattle.std.proofs.Common.{◌∙◌, ap, subst, Err}
 use Rattle.psy_tree.specs.Deep as deep
 use Rattle.psy_run.specs.declared.refusal.Refusal.TheVariants.{Deep, Syntax}

@@ -1,3 +1,4 @@
+-- What is left of the proof of `steps::read`.
 use Rattle.std.proofs.Common.{◌∙◌, ap, refl, Err}
 use Rattle.psy_run.specs.declared.refusal.Refusal.TheVariants.{TooLong}
 use Rattle.psy_run.specs.Outcome.{halts_refused, halts_unread, halts_memory}

@@ -1,3 +1,4 @@
+-- What is left of the proof of `steps::resolve`.
 use Rattle.std.proofs.Common.{subst}
 use Rattle.psy_rules.specs.Cause.{IsCause}
 use Rattle.psy_run.specs.declared.refusal.Refusal.TheVariants.{Rule, Many}

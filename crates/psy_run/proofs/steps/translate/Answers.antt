@@ -1,3 +1,4 @@
+-- What is left of the proof of `steps::translate`.
 use Rattle.psy_run.specs.Steps.{lexing, parsing}
 use Rattle.psy_run.proofs.Courses.{halts_exit, halts_first, halts_later, halts_last, gives_last}
 use Rattle.psy_run.proofs.steps.translate.Goals as goal

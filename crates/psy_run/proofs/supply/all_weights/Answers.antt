@@ -1,3 +1,4 @@
+-- What is left of the proof of `supply::all_weights`.
 use Rattle.std.proofs.Common.{◌≡◌, ◌∙◌, ap, sym, subst, ℕ, ◌<◌, List, [], ◌∷◌, length, length-append, get_or, slice_get, Some, arith}
 use Rattle.psy_graph.specs.declared.graph.Graph.{Graph}
 use Rattle.psy_run.specs.Tables.{AreWeights}

@@ -1,3 +1,4 @@
+-- What each loop of `supply::all_weights` keeps.
 use Rattle.std.proofs.Common.{◌≡◌, ℕ, List, length, slice_get, Some}
 use Rattle.psy_graph.specs.declared.graph.Graph.{Graph}
 use Rattle.psy_run.specs.Tables.{AreWeights}

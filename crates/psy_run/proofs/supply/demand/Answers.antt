@@ -1,3 +1,4 @@
+-- What is left of the proof of `supply::demand`.
 use Rattle.std.proofs.Common.{◌≡◌, subst, ◌*◌}
 use Rattle.psy_demand.specs.Demand.{DemandFits, IsVerdict}
 use Rattle.psy_demand.specs.declared.demand.Verdict.TheVariants as verdict

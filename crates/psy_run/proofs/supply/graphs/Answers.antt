@@ -1,3 +1,4 @@
+-- What is left of the proof of `supply::graphs`.
 use Rattle.psy_run.specs.declared.refusal.Refusal.TheVariants.{Nodes, Edges}
 use Rattle.psy_run.specs.Outcome.{halts_refused, halts_memory}
 use Rattle.psy_run.proofs.SupplyLemmas.{small_graphs, undrawn_nodes, undrawn_edges}

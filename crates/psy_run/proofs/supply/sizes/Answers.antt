@@ -1,3 +1,4 @@
+-- What is left of the proof of `supply::sizes`.
 use Rattle.psy_run.specs.declared.refusal.Refusal.TheVariants.{Ring, Queue, Cells}
 use Rattle.psy_run.specs.Outcome.{halts_refused, halts_memory}
 use Rattle.psy_run.proofs.SupplyLemmas.{unsized_ring, unsized_cells, unsized_queue}

@@ -1,3 +1,4 @@
+-- What is left of the proof of `supply::supply`.
 use Rattle.psy_run.specs.declared.refusal.Stop.TheVariants.{Memory}
 use Rattle.psy_run.specs.Answer.{supplying}
 use Rattle.psy_run.specs.Outcome.{halts_memory}

@@ -1,3 +1,4 @@
+-- What is left of the proof of `supply::weights_of`.
 use Rattle.std.proofs.Common.{ℕ, ◌+◌, ◌*◌, ◌<◌, ◌≤◌, slice_index, subst, inl, inr}
 use Rattle.std.proofs.lemmas.Bool.{cases_lt}
 use Rattle.psy_base.specs.declared.limits.TheConstants.{WINDOW_CELLS}

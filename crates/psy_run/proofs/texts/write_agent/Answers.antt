@@ -1,3 +1,4 @@
+-- What is left of the proof of `texts::write_agent`.
 use Rattle.std.proofs.Common.{◌≡◌, ◌++◌, List, ℕ, subst, flat_map, length}
 use Rattle.psy_door.specs.Growth.{Grew, GrewByFront}
 use Rattle.psy_log.specs.Forms.{agent_graph_line}

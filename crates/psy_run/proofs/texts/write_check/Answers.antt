@@ -1,3 +1,4 @@
+-- What is left of the proof of `texts::write_check`.
 use Rattle.std.proofs.Common.{◌≡◌, ◌++◌, List, ℕ, subst}
 use Rattle.psy_door.specs.Growth.{Grew, GrewByFront}
 use Rattle.psy_log.specs.Forms.{feasible_line}

@@ -1,3 +1,4 @@
+-- What is left of the proof of `texts::write_edges`.
 use Rattle.std.proofs.Common.{◌+◌, flat_map, take, arith}
 use Rattle.psy_run.specs.Texts.{edge_text}
 use Rattle.psy_run.proofs.TextLemmas.{items_more, items_split}

@@ -1,3 +1,4 @@
+-- What each loop of `texts::write_edges` keeps.
 use Rattle.std.proofs.Common.{◌≤◌, flat_map, take}
 use Rattle.psy_door.specs.Growth.{Grew}
 use Rattle.psy_run.specs.Texts.{edge_text}

@@ -1,3 +1,4 @@
+-- What each loop of `texts::write_graph` keeps.
 use Rattle.std.proofs.Common.{◌≤◌, take}
 use Rattle.psy_door.specs.Growth.{Grew}
 use Rattle.psy_run.specs.Texts.{graph_text}

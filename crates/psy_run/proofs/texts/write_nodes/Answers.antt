@@ -1,3 +1,4 @@
+-- What is left of the proof of `texts::write_nodes`.
 use Rattle.std.proofs.Common.{◌+◌, take, arith}
 use Rattle.psy_run.specs.Texts.{nodes_text}
 use Rattle.psy_run.proofs.TextLemmas.{nodes_more, nodes_split}

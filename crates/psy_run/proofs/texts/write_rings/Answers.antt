@@ -1,3 +1,4 @@
+-- What is left of the proof of `texts::write_rings`.
 use Rattle.std.proofs.Common.{◌≡◌, ◌∙◌, ap, subst, ◌+◌, ◌<◌, get_or, length, take, min, arith}
 use Rattle.psy_door.specs.Growth.{Grew, GrewByFront}
 use Rattle.psy_tree.specs.declared.unit.VarDecl.{VarDecl}

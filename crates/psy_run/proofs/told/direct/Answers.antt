@@ -1,3 +1,4 @@
+-- What is left of the proof of `told::direct`.
 use Rattle.std.proofs.Common.{◌∙◌, ap, refl, sym, subst, Err}
 use Rattle.psy_script.specs.Faults.{HasManyLines, IsFirst}
 use Rattle.psy_script.specs.Script.{script_judge}

@@ -1,3 +1,4 @@
+-- What is left of the proof of `told::inputs_of`.
 use Rattle.std.proofs.Common.{sym, subst}
 use Rattle.psy_dates.specs.declared.plan.Inputs.{Inputs as Lists}
 use Rattle.psy_history.specs.Compiled.{AreInputs}

@@ -1,3 +1,4 @@
+-- What each loop of `told::no_lists` keeps.
 use Rattle.std.proofs.Common.{◌≡◌, [], map, take}
 use Rattle.psy_run.proofs.told.no_lists.Given as goal
 

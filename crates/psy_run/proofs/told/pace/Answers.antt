@@ -1,3 +1,4 @@
+-- What is left of the proof of `told::pace`.
 use Rattle.std.proofs.Common.{◌≡◌, refl, subst, ◌*◌, ◌<◌}
 use Rattle.psy_base.specs.declared.limits.TheConstants.{RUN}
 use Rattle.psy_run.specs.declared.refusal.Refusal.TheVariants.{Cycles}

@@ -1,3 +1,4 @@
+-- What is left of the proof of `told::script_of`.
 use Rattle.psy_run.specs.declared.refusal.File.TheVariants.{Script}
 use Rattle.psy_run.specs.Steps.{reading}
 use Rattle.psy_run.proofs.Courses.{halts_exit, halts_first, halts_last, gives_last}

@@ -1,3 +1,4 @@
+-- What is left of the proof of `top::answer`.
 use Rattle.std.proofs.Common.{sym, subst}
 use Rattle.psy_run.specs.Outcome.{Ends}
 use Rattle.psy_run.specs.Services.{service_of}

@@ -1,3 +1,4 @@
+-- What is left of the proof of `top::psyc`.
 use Rattle.psy_run.proofs.TopLemmas.{ends_answered, ends_complete, ends_done, ends_words, ends_listed, ends_read, ends_cut_short, ends_for_memory, ends_left, ends_over, ends_none_left}
 use Rattle.psy_run.proofs.top.psyc.Goals as goal
 

@@ -1,3 +1,4 @@
+-- What is left of the proof of `top::serve`.
 use Rattle.psy_run.proofs.MeaningText.{is_bounded}
 use Rattle.psy_run.proofs.top.serve.Goals as goal
 

@@ -1,3 +1,4 @@
+-- What is left of the proof of `top::try_run`.
 use Rattle.std.proofs.Common.{subst}
 use Rattle.psy_door.specs.Growth.{Grew, GrewByFront}
 use Rattle.psy_run.proofs.MeaningText.{are_alike, tried_leaves, tried_text}

@@ -1,3 +1,4 @@
+-- What is left of the proof of `digits::decimal_value`.
 use Rattle.std.proofs.Common.{◌+◌, ◌*◌, ap, ◌∙◌, arith}
 use Rattle.psy_script.proofs.DigitValues.{decimal_value-more, decimal_value-small}
 use Rattle.psy_script.proofs.digits.decimal_value.Goals as goal

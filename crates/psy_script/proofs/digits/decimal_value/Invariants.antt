@@ -1,3 +1,4 @@
+-- What each loop of `digits::decimal_value` keeps.
 use Rattle.std.proofs.Common.{◌≡◌, take}
 use Rattle.psy_tree.specs.Lexemes.{decimal_value}
 use Rattle.psy_script.proofs.digits.decimal_value.Given as goal

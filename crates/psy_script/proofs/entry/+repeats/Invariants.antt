@@ -1,3 +1,4 @@
+-- What each loop of `entry::+repeats` keeps.
 use Rattle.std.proofs.Common.{length}
 use Rattle.psy_script.proofs.entry.+repeats.Given as goal
 

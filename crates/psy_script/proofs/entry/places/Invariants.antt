@@ -1,3 +1,4 @@
+-- What each loop of `entry::places` keeps.
 use Rattle.std.proofs.Common.{◌≡◌, ◌++◌, length, map}
 use Rattle.std.specs.Option.{option_map}
 use Rattle.psy_script.specs.Entries.{place_in}

@@ -1,3 +1,4 @@
+-- What is left of the proof of `inputs::add`.
 use Rattle.std.proofs.Common.{◌≡◌, true, false, [], Some, None, sym, ap, ◌∙◌}
 use Rattle.std.specs.Prelude.{ℤ, List, if◌then◌else◌, slice_set}
 use Rattle.std.specs.List.{list_all, position}

@@ -1,3 +1,4 @@
+-- What is left of the proof of `inputs::add_line`.
 use Rattle.std.proofs.Common.{sym, ◌∙◌}
 use Rattle.std.proofs.lemmas.Result.{IfOk-weaker}
 use Rattle.psy_script.proofs.InputFaults.{line_fault, line_says}

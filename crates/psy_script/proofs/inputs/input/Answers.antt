@@ -1,3 +1,4 @@
+-- What is left of the proof of `inputs::input`.
 use Rattle.std.proofs.Common.{◌≡◌, get_or, true, false, sym, ap, ◌∙◌, subst}
 use Rattle.std.specs.Prelude.{bytes_eq, is_some}
 use Rattle.std.specs.List.{position}

@@ -1,3 +1,4 @@
+-- What each loop of `inputs::narrowed` keeps.
 use Rattle.std.proofs.Common.{◌≡◌, true, take}
 use Rattle.std.specs.List.{list_all}
 use Rattle.psy_script.specs.Numbers.{fits_32}

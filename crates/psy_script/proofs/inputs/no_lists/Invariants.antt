@@ -1,3 +1,4 @@
+-- What each loop of `inputs::no_lists` keeps.
 use Rattle.std.proofs.Common.{◌≡◌, [], map, take}
 use Rattle.psy_script.proofs.inputs.no_lists.Given as goal
 

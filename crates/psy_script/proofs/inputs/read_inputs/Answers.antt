@@ -1,3 +1,4 @@
+-- What is left of the proof of `inputs::read_inputs`.
 use Rattle.std.proofs.Common.{◌+◌, ◌≤◌, [], ◌∷◌, ◌++◌, length, Ok, refl, sym, ap, ◌∙◌, subst, length-append, arith}
 use Rattle.std.proofs.lemmas.Bool.Decides.{nat_tests}
 use Rattle.psy_base.specs.declared.limits.TheConstants.{LINES}

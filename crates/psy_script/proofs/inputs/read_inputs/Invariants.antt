@@ -1,3 +1,4 @@
+-- What each loop of `inputs::read_inputs` keeps.
 use Rattle.std.proofs.Common.{◌≡◌, ℕ, List, length}
 use Rattle.psy_script.specs.Inputs.{inputs_judge, lists_in}
 use Rattle.psy_script.specs.Lines.{lines_of}

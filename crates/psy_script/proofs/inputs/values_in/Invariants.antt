@@ -1,3 +1,4 @@
+-- What each loop of `inputs::values_in` keeps.
 use Rattle.std.proofs.Common.{◌≡◌, ◌++◌, map, length}
 use Rattle.std.specs.Prelude.{option_map}
 use Rattle.psy_script.specs.Lines.{words_of}

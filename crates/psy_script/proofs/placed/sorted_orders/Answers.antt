@@ -1,3 +1,4 @@
+-- What is left of the proof of `placed::sorted_orders`.
 use Rattle.std.proofs.Common.{◌≡◌, ◌<◌, subst, map, rules}
 use Rattle.std.specs.List.{AllPairs}
 use Rattle.psy_kernel.specs.declared.script.Order.{Order}

@@ -1,3 +1,4 @@
+-- What each loop of `placed::sorted_orders` keeps.
 use Rattle.std.proofs.Common.{◌≡◌, ◌++◌, map}
 use Rattle.psy_script.specs.Entries.{order_from}
 use Rattle.psy_script.proofs.placed.sorted_orders.Given as goal

@@ -1,3 +1,4 @@
+-- What each loop of `placed::sorted_stalls` keeps.
 use Rattle.std.proofs.Common.{◌≡◌, ◌++◌, map}
 use Rattle.psy_script.specs.Entries.{stall_at}
 use Rattle.psy_script.proofs.placed.sorted_stalls.Given as goal

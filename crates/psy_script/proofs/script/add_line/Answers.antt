@@ -1,3 +1,4 @@
+-- What is left of the proof of `script::add_line`.
 use Rattle.std.proofs.Common.{◌∙◌, None, Some, sym}
 use Rattle.psy_script.specs.Entries.{said}
 use Rattle.psy_script.proofs.ScriptFaults.{entry_found, names_none, out_of_range, placed_more, says_so, stands_twice, without_fault}

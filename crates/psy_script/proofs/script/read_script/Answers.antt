@@ -1,3 +1,4 @@
+-- What is left of the proof of `script::read_script`.
 use Rattle.std.proofs.Common.{◌≡◌, ◌+◌, ◌∙◌, [], ◌∷◌, ◌++◌, None, length, length-append, sym, ap, subst}
 use Rattle.psy_script.specs.Lines.{lines_of}
 use Rattle.psy_script.specs.Script.{script_in, script_judge}

@@ -1,3 +1,4 @@
+-- What each loop of `script::read_script` keeps.
 use Rattle.std.proofs.Common.{◌≡◌, List, ℕ, length}
 use Rattle.psy_script.specs.Lines.{lines_of}
 use Rattle.psy_script.specs.Script.{script_judge, script_in}

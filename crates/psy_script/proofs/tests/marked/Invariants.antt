@@ -1,3 +1,4 @@
+-- What each loop of `tests::marked` keeps.
 use Rattle.std.proofs.Common.{length}
 use Rattle.psy_script.proofs.tests.marked.Given as goal
 

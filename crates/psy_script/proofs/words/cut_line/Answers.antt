@@ -1,3 +1,4 @@
+-- What is left of the proof of `words::cut_line`.
 use Rattle.std.proofs.Common.{◌≡◌, ◌<◌, false, not, ◌==◌, ◌++◌, length, drop, sym, ap, ◌∙◌, arith}
 use Rattle.std.proofs.lemmas.Bool.{eqb-false}
 use Rattle.std.proofs.lemmas.List.Sums.{prefix_len-le-length}

@@ -1,3 +1,4 @@
+-- What is left of the proof of `words::cut_word`.
 use Rattle.std.proofs.Common.{◌<◌, not, length, drop, sym, ap, ◌∙◌, arith}
 use Rattle.std.proofs.lemmas.Bool.{eqb-true, eqb-false}
 use Rattle.std.proofs.lemmas.List.Sums.{prefix_len-le-length}

@@ -1,3 +1,4 @@
+-- What each loop of `words::has_many_lines` keeps.
 use Rattle.std.proofs.Common.{◌≡◌, ◌+◌, ◌≤◌, length}
 use Rattle.psy_base.specs.declared.limits.TheConstants.{LINES}
 use Rattle.psy_script.specs.Lines.{lines_of}

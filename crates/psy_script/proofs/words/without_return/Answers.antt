@@ -1,3 +1,4 @@
+-- What is left of the proof of `words::without_return`.
 use Rattle.std.proofs.Common.{◌≡◌, [], ◌∷◌, ◌++◌, ap, ◌∙◌, ne_eqb}
 use Rattle.psy_script.proofs.LinesCut.{lines_of-returned, lines_of-plain}
 use Rattle.psy_script.proofs.words.without_return.Goals as goal

@@ -1,3 +1,4 @@
+-- What is left of the proof of `buffers::sizes`.
 use Rattle.psy_sizes.proofs.QueueOf.{known_stream}
 use Rattle.psy_sizes.proofs.buffers.sizes.Goals as goal
 

@@ -1,3 +1,4 @@
+-- What is left of the proof of `delays::+stmt`.
 use Rattle.std.proofs.Common.{◌≡◌, Some, take, ap, sym, ◌∙◌}
 use Rattle.psy_tree.specs.declared.unit.Stmt.TheVariants as stmt
 use Rattle.psy_meaning.specs.QueueSizes.{sendings_in, sendings_of}

@@ -1,3 +1,4 @@
+-- What each loop of `delays::+stmt` keeps.
 use Rattle.std.proofs.Common.{◌≡◌, take}
 use Rattle.psy_meaning.specs.QueueSizes.{sendings_in}
 use Rattle.psy_sizes.specs.Queues.{delay_among}

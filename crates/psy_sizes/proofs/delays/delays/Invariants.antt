@@ -1,3 +1,4 @@
+-- What each loop of `delays::delays` keeps.
 use Rattle.std.proofs.Common.{◌≡◌, take, map}
 use Rattle.psy_sizes.specs.Queues.{delay_by}
 use Rattle.psy_sizes.proofs.delays.delays.Given as goal

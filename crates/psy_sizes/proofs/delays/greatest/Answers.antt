@@ -1,3 +1,4 @@
+-- What is left of the proof of `delays::greatest`.
 use Rattle.std.proofs.Common.{None, get_or, ap, sym, ◌∙◌}
 use Rattle.psy_sizes.specs.Queues.{later}
 use Rattle.psy_sizes.proofs.Latest.{latest_more}

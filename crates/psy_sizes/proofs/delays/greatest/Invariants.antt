@@ -1,3 +1,4 @@
+-- What each loop of `delays::greatest` keeps.
 use Rattle.std.proofs.Common.{◌≡◌, take}
 use Rattle.psy_sizes.specs.Queues.{latest}
 use Rattle.psy_sizes.proofs.delays.greatest.Given as goal

@@ -1,3 +1,4 @@
+-- What each loop of `divisors::common_divisor` keeps.
 use Rattle.std.proofs.Common.{ℕ}
 use Rattle.std.specs.Int.{IsGcd}
 use Rattle.psy_sizes.proofs.divisors.common_divisor.Given as goal

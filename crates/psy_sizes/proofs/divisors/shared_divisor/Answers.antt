@@ -1,3 +1,4 @@
+-- What is left of the proof of `divisors::shared_divisor`.
 use Rattle.std.proofs.Common.{◌+◌, ◌/◌, ◌*◌, ◌<◌, get_or, length, sym, subst, arith}
 use Rattle.std.specs.Int.{IsGcd}
 use Rattle.std.proofs.Math.Nat.{pos_of_dvd_of_pos}

@@ -1,3 +1,4 @@
+-- What each loop of `divisors::shared_divisor` keeps.
 use Rattle.psy_sizes.proofs.Sharing.{Shares, periods_before}
 use Rattle.psy_sizes.proofs.divisors.shared_divisor.Given as goal
 

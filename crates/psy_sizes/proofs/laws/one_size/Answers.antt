@@ -1,3 +1,4 @@
+-- What is left of the proof of `laws::one_size`.
 use Rattle.std.proofs.Common.{ℕ, List}
 use Rattle.psy_tree.specs.declared.unit.Unit.{Unit as Whole}
 use Rattle.psy_meaning.specs.Flow.{AreAllNexts}

@@ -1,3 +1,4 @@
+-- What is left of the proof of `outboxes::most_among`.
 use Rattle.std.proofs.Common.{◌+◌, take, get_or, subst}
 use Rattle.std.proofs.lemmas.List.{take_all}
 use Rattle.psy_meaning.specs.QueueSizes.{AreSendsBelow}

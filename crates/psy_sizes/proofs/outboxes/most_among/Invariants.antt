@@ -1,3 +1,4 @@
+-- What each loop of `outboxes::most_among` keeps.
 use Rattle.std.proofs.Common.{ℕ, take}
 use Rattle.psy_tree.specs.declared.unit.Unit.{Unit as Whole}
 use Rattle.psy_flow.specs.Agents.{IsAgentOf}

@@ -1,3 +1,4 @@
+-- What is left of the proof of `outboxes::outbox`.
 use Rattle.std.proofs.Common.{◌≡◌, ◌+◌, length, subst, arith}
 use Rattle.psy_sizes.specs.Passing.{IsMost}
 use Rattle.psy_sizes.specs.Sending.{HasSendsAmong, HasSendsBefore}

@@ -1,3 +1,4 @@
+-- What each loop of `outboxes::outboxes` keeps.
 use Rattle.std.proofs.Common.{◌≡◌, ℕ, ◌<◌, length, get_or}
 use Rattle.psy_meaning.specs.Executors.{agent_at}
 use Rattle.psy_meaning.specs.Flow.{IsGreatest}

@@ -1,3 +1,4 @@
+-- What is left of the proof of `outboxes::sends_between`.
 use Rattle.std.proofs.Common.{◌≡◌, refl, subst, arith}
 use Rattle.psy_meaning.specs.QueueSizes.{AreSendsBelow}
 use Rattle.psy_sizes.proofs.OutboxesOf.{sends_more}

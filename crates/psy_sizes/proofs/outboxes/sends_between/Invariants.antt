@@ -1,3 +1,4 @@
+-- What each loop of `outboxes::sends_between` keeps.
 use Rattle.std.proofs.Common.{ℕ, ◌*◌, ◌≤◌}
 use Rattle.psy_base.specs.declared.limits.TheConstants.{SENDS}
 use Rattle.psy_tree.specs.declared.unit.Unit.{Unit as Whole}

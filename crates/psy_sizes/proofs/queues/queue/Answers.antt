@@ -1,3 +1,4 @@
+-- What is left of the proof of `queues::queue`.
 use Rattle.std.proofs.Common.{◌≡◌, map, refl, sym, ap, ◌∙◌, inr, arith}
 use Rattle.psy_meaning.specs.QueueSizes.{all_sendings, delay_of}
 use Rattle.psy_meaning.specs.Summary.{greatest_of}

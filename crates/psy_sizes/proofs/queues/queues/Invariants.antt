@@ -1,3 +1,4 @@
+-- What each loop of `queues::queues` keeps.
 use Rattle.std.proofs.Common.{◌≡◌, ℕ, ◌<◌, ◌≤◌, List, length, get_or}
 use Rattle.std.specs.List.{All}
 use Rattle.psy_base.specs.declared.limits.TheConstants.{QUEUE}

@@ -1,3 +1,4 @@
+-- What is left of the proof of `spreads::greatest`.
 use Rattle.std.proofs.Common.{sym, subst, arith}
 use Rattle.std.specs.Prelude.{slice_index}
 use Rattle.psy_base.specs.Paths.{FitsFirstFree, IsGreatestWeight}

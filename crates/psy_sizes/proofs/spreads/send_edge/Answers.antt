@@ -1,3 +1,4 @@
+-- What is left of the proof of `spreads::send_edge`.
 use Rattle.std.proofs.Common.{get_or, refl, subst}
 use Rattle.psy_meaning.specs.Flow.{IsMostSends}
 use Rattle.psy_graph.specs.declared.graph.Node.{Node}

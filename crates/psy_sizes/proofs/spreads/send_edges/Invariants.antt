@@ -1,3 +1,4 @@
+-- What each loop of `spreads::send_edges` keeps.
 use Rattle.std.proofs.Common.{◌≡◌, ℕ, ◌<◌, length, get_or}
 use Rattle.std.specs.List.{All}
 use Rattle.psy_base.specs.declared.edge.Edge.{Edge}

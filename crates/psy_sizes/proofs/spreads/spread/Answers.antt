@@ -1,3 +1,4 @@
+-- What is left of the proof of `spreads::spread`.
 use Rattle.std.proofs.Common.{◌≡◌, ◌+◌, ◌*◌, ◌<◌, ◌≤◌, length, ap, subst, inl, inr}
 use Rattle.std.proofs.lemmas.Result.{IfOk-weaker, IfErr-weaker}
 use Rattle.psy_base.specs.declared.limits.TheConstants.{WINDOW_CELLS}

@@ -1,3 +1,4 @@
+-- What is left of the proof of `spreads::spread_by`.
 use Rattle.std.proofs.Common.{◌≡◌, [], refl, sym, subst, ◌∙◌, inl, inr, arith}
 use Rattle.std.specs.List.{Contains}
 use Rattle.std.proofs.lemmas.Option.{slice_get-get_or}

@@ -1,3 +1,4 @@
+-- What is left of the proof of `spreads::spreads`.
 use Rattle.std.proofs.Common.{◌≡◌, ◌⊎◌, ℕ, ◌+◌, ◌<◌, List, Err, IfErr, length, refl, sym, subst, inl, inr, add-one, arith, rules}
 use Rattle.psy_meaning.specs.Flow.{AreAllNexts}
 use Rattle.psy_meaning.specs.QueueSizes.{IsSpreadBelow, PassesTable}

@@ -1,3 +1,4 @@
+-- What each loop of `spreads::spreads` keeps.
 use Rattle.std.proofs.Common.{ℕ, ◌*◌, ◌^◌, ◌<◌, ◌≤◌, List}
 use Rattle.psy_meaning.specs.Flow.{AreAllNexts}
 use Rattle.psy_meaning.specs.QueueSizes.{IsSpreadBelow, IsWindow}

@@ -1,3 +1,4 @@
+-- What is left of the proof of `tops::longest`.
 use Rattle.std.proofs.Common.{subst}
 use Rattle.std.proofs.lemmas.List.{take_all}
 use Rattle.psy_meaning.specs.Flow.{IsGreatest}

@@ -1,3 +1,4 @@
+-- What each loop of `tops::longest` keeps.
 use Rattle.std.proofs.Common.{take}
 use Rattle.psy_meaning.specs.Flow.{IsGreatest}
 use Rattle.psy_sizes.specs.Queues.{HasLength}

@@ -1,3 +1,4 @@
+-- What is left of the proof of `tops::longest_of_agent`.
 use Rattle.std.proofs.Common.{◌≡◌, get_or, ap, subst, ◌∙◌}
 use Rattle.std.proofs.lemmas.List.{get_or_default}
 use Rattle.psy_clock.specs.declared.clock.Clock.{Clock}

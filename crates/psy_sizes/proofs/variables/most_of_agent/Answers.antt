@@ -1,3 +1,4 @@
+-- What is left of the proof of `variables::most_of_agent`.
 use Rattle.std.proofs.Common.{◌≡◌, ◌<◌, ◌≤◌, Some, length, refl, sym, ap, subst, arith}
 use Rattle.std.specs.Int.{IsGcd}
 use Rattle.std.specs.List.{All, slice_get}

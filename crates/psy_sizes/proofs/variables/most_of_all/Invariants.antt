@@ -1,3 +1,4 @@
+-- What each loop of `variables::most_of_all` keeps.
 use Rattle.psy_sizes.specs.Passing.{IsMost, HasDatesBefore}
 use Rattle.psy_sizes.proofs.variables.most_of_all.Given as goal
 

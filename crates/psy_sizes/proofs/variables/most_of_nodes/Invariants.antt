@@ -1,3 +1,4 @@
+-- What each loop of `variables::most_of_nodes` keeps.
 use Rattle.std.proofs.Common.{◌≡◌, ℕ, ◌<◌, ◌↔◌, true, take, length}
 use Rattle.std.specs.Int.{IsGcd}
 use Rattle.std.specs.List.{All}

@@ -1,3 +1,4 @@
+-- What is left of the proof of `variables::ring`.
 use Rattle.std.proofs.Common.{◌≡◌, ℕ, ◌+◌, List, Some, length, get_or, refl, ap, subst, ◌∙◌, arith}
 use Rattle.std.specs.List.{slice_get}
 use Rattle.std.proofs.lemmas.List.{get_or_default}

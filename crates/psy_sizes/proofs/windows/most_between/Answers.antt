@@ -1,3 +1,4 @@
+-- What is left of the proof of `windows::most_between`.
 use Rattle.std.proofs.Common.{◌+◌, ◌-◌, ◌/◌, ap, sym, subst, ◌∙◌, arith}
 use Rattle.psy_meaning.specs.Flow.{IsGreatest}
 use Rattle.psy_sizes.specs.Windows.{HasDates}

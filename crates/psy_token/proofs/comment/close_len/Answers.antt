@@ -1,3 +1,4 @@
+-- What is left of the proof of `comment::close_len`.
 use Rattle.std.proofs.Common.{ap, sym, ◌∙◌, ◌+◌}
 use Rattle.std.proofs.lemmas.List.{take_rest}
 use Rattle.psy_token.specs.Reading.{next_is}

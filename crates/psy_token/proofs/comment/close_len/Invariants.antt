@@ -1,3 +1,4 @@
+-- What each loop of `comment::close_len` keeps.
 use Rattle.std.proofs.Common.{◌≡◌, ◌+◌, drop}
 use Rattle.std.specs.Prelude.{option_map}
 use Rattle.psy_token.specs.Reading.{close_len}

@@ -1,3 +1,4 @@
+-- What is left of the proof of `laws::one_reading`.
 use Rattle.psy_token.proofs.Texts.{TokensOf-once, FirstFault-once, not_both}
 use Rattle.psy_token.proofs.Total.{tokens_or_fault}
 use Rattle.psy_token.proofs.laws.one_reading.Goals as goal

@@ -1,3 +1,4 @@
+-- What is left of the proof of `number::decimal_value`.
 use Rattle.std.proofs.Common.{◌+◌, ◌-◌, ◌*◌, ◌^◌, arith, ap, ◌∙◌, drop, length, get_or}
 use Rattle.psy_tree.specs.Lexemes.{decimal_value}
 use Rattle.psy_token.proofs.Decimal.{decimal_value-more, decimal_value-front}

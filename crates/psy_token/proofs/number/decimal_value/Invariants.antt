@@ -1,3 +1,4 @@
+-- What each loop of `number::decimal_value` keeps.
 use Rattle.std.proofs.Common.{◌≡◌, ◌+◌, ◌*◌, ◌^◌, ◌≤◌, drop, length}
 use Rattle.psy_base.specs.declared.limits.TheConstants.{LITERAL}
 use Rattle.psy_tree.specs.Lexemes.{decimal_value}

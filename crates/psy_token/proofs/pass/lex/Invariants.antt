@@ -1,3 +1,4 @@
+-- What each loop of `pass::lex` keeps.
 use Rattle.std.proofs.Common.{◌-◌, length}
 use Rattle.psy_token.proofs.Texts.{State}
 use Rattle.psy_token.proofs.pass.lex.Given as goal

@@ -1,3 +1,4 @@
+-- What is left of the proof of `pass::number`.
 use Rattle.std.proofs.Common.{◌≤◌, arith}
 use Rattle.std.specs.Char.{is_ascii_digit}
 use Rattle.std.specs.List.{prefix_len}

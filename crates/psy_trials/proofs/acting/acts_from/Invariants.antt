@@ -1,3 +1,4 @@
+-- What each loop of `acting::acts_from` keeps.
 use Rattle.std.proofs.Common.{◌≡◌}
 use Rattle.psy_machine.specs.Stepping.{IsOf}
 use Rattle.psy_trials.specs.Actions.{Rests}

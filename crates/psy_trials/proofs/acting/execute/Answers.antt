@@ -1,3 +1,4 @@
+-- What is left of the proof of `acting::execute`.
 use Rattle.std.proofs.Common.{refl, arith}
 use Rattle.psy_trials.proofs.Actions.{able, permitted, behind_stepped}
 use Rattle.psy_trials.proofs.acting.execute.Goals as goal

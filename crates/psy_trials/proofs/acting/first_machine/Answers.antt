@@ -1,3 +1,4 @@
+-- What is left of the proof of `acting::first_machine`.
 use Rattle.std.proofs.Common.{refl, length}
 use Rattle.std.proofs.lemmas.Option.{slice_get_read}
 use Rattle.psy_trials.proofs.Actions.{rests_first}

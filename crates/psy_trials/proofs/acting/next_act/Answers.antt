@@ -1,3 +1,4 @@
+-- What is left of the proof of `acting::next_act`.
 use Rattle.std.proofs.Common.{◌∙◌, subst}
 use Rattle.psy_trials.specs.Actions.{HasCopies, RestsAfter}
 use Rattle.psy_trials.proofs.Actions.{after_end, has_copy}

@@ -1,3 +1,4 @@
+-- What each loop of `acting::next_act` keeps.
 use Rattle.std.proofs.Common.{◌≡◌, ◌≤◌, length}
 use Rattle.psy_machine.specs.Stepping.{IsOf}
 use Rattle.psy_trials.specs.Actions.{IsUnderWay}

@@ -1,3 +1,4 @@
+-- What is left of the proof of `acting::next_look`.
 use Rattle.std.proofs.Common.{◌≡◌, sym, subst}
 use Rattle.psy_code.specs.Views.{View}
 use Rattle.psy_meaning.specs.Alike.{IsViewOf}

@@ -1,3 +1,4 @@
+-- What each loop of `look::messages_of` keeps.
 use Rattle.std.proofs.Common.{◌≡◌, take, map}
 use Rattle.std.specs.Prelude.{◌==◌}
 use Rattle.std.specs.List.{All}

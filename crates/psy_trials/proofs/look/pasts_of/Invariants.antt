@@ -1,3 +1,4 @@
+-- What each loop of `look::pasts_of` keeps.
 use Rattle.std.proofs.Common.{◌≡◌, take, map, length}
 use Rattle.std.specs.List.{All}
 use Rattle.psy_meaning.specs.Alike.{AllFit}

@@ -1,3 +1,4 @@
+-- What each loop of `look::values_of` keeps.
 use Rattle.std.proofs.Common.{◌≡◌, ◌≤◌, length}
 use Rattle.psy_meaning.specs.Alike.{AllFit}
 use Rattle.psy_trials.proofs.look.values_of.Given as goal

@@ -1,3 +1,4 @@
+-- What is left of the proof of `texts::unit_of`.
 use Rattle.std.proofs.Common.{arith}
 use Rattle.psy_trials.proofs.texts.unit_of.Goals as goal
 

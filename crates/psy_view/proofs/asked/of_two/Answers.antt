@@ -1,3 +1,4 @@
+-- What is left of the proof of `asked::of_two`.
 use Rattle.std.proofs.Common.{[], ◌∷◌, ap, codes}
 use Rattle.psy_view.specs.Asked.{asks_timeline, asks_dot}
 use Rattle.psy_view.proofs.AskedLemmas.{same_text}

@@ -1,3 +1,4 @@
+-- What each loop of `file_texts::read_all` keeps.
 use Rattle.std.proofs.Common.{◌+◌, ◌-◌, vec_len}
 use Rattle.psy_view.proofs.file_texts.read_all.Given as goal
 

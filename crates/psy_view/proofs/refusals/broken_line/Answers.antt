@@ -1,3 +1,4 @@
+-- What is left of the proof of `refusals::broken_line`.
 use Rattle.std.proofs.lemmas.List.{append_assoc}
 use Rattle.psy_view.proofs.refusals.broken_line.Goals as goal
 

@@ -1,3 +1,4 @@
+-- What each loop of `refusals::joined` keeps.
 use Rattle.std.proofs.Common.{◌≡◌, take}
 use Rattle.std.specs.List.{flat_map}
 use Rattle.psy_view.proofs.refusals.joined.Given as goal

@@ -1,3 +1,4 @@
+-- What is left of the proof of `refusals::long_line`.
 use Rattle.std.proofs.lemmas.List.{append_assoc}
 use Rattle.psy_view.proofs.refusals.long_line.Goals as goal
 

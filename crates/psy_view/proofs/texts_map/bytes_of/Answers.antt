@@ -1,3 +1,4 @@
+-- What is left of the proof of `texts_map::bytes_of`.
 use Rattle.std.proofs.Common.{ap, option_map}
 use Rattle.psy_door.proofs.FilesLemmas.{named_map}
 use Rattle.psy_view.proofs.texts_map.bytes_of.Goals as goal

@@ -1,3 +1,4 @@
+-- What is left of the proof of `top::psyview`.
 use Rattle.psy_view.specs.Answer.{no_words}
 use Rattle.psy_view.specs.Outcome.{may_answer}
 use Rattle.psy_view.proofs.TopLemmas.{ends_answered, ends_done, ends_listed, ends_read, ends_write, ends_cut_short, ends_for_memory}

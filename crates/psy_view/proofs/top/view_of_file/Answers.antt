@@ -1,3 +1,4 @@
+-- What is left of the proof of `top::view_of_file`.
 use Rattle.std.proofs.Common.{ap, Err}
 use Rattle.psy_view.specs.Outcome.{may_answer}
 use Rattle.psy_view.proofs.TopLemmas.{answers_long}

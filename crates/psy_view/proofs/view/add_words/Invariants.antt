@@ -1,3 +1,4 @@
+-- What each loop of `view::add_words` keeps.
 use Rattle.std.proofs.Common.{◌≡◌, ◌++◌, codes, string_bytes, take}
 use Rattle.std.specs.List.{flat_map}
 use Rattle.psy_view.proofs.view.add_words.Given as goal

@@ -1,3 +1,4 @@
+-- What is left of the proof of `view::dotted`.
 use Rattle.psy_view.specs.Views.{dotted}
 use Rattle.psy_view.proofs.view.dotted.Goals as goal
 

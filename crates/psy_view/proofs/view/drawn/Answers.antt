@@ -1,3 +1,4 @@
+-- What is left of the proof of `view::drawn`.
 use Rattle.std.proofs.Common.{ap, Err, ◌≤◌, length, arith}
 use Rattle.psy_view.specs.Views.{drawn, unlisted}
 use Rattle.psy_view.proofs.view.drawn.Goals as goal

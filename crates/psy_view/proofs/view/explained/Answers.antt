@@ -1,3 +1,4 @@
+-- What is left of the proof of `view::explained`.
 use Rattle.std.proofs.Common.{ap, Err}
 use Rattle.psy_view.specs.Views.{no_refusal}
 use Rattle.psy_view.proofs.view.explained.Goals as goal

@@ -1,3 +1,4 @@
+-- What each loop of `mark::add_carets` keeps.
 use Rattle.std.proofs.Common.{◌≡◌, ◌++◌}
 use Rattle.psy_where.specs.Explained.{carets}
 use Rattle.psy_where.proofs.mark.add_carets.Given as goal

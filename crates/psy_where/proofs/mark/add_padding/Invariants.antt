@@ -1,3 +1,4 @@
+-- What each loop of `mark::add_padding` keeps.
 use Rattle.std.proofs.Common.{◌≡◌, ◌++◌, take}
 use Rattle.psy_where.specs.Explained.{padding}
 use Rattle.psy_where.proofs.mark.add_padding.Given as goal

@@ -1,3 +1,4 @@
+-- What each loop of `mark::add_shown` keeps.
 use Rattle.std.proofs.Common.{◌≡◌, ◌++◌, take}
 use Rattle.psy_where.specs.Explained.{shown}
 use Rattle.psy_where.proofs.mark.add_shown.Given as goal

@@ -1,3 +1,4 @@
+-- What is left of the proof of `place::line_place`.
 use Rattle.std.proofs.Common.{ap, ◌∙◌}
 use Rattle.std.specs.List.{prefix_len}
 use Rattle.std.proofs.lemmas.List.{take_rest}

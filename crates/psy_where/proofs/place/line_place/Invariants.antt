@@ -1,3 +1,4 @@
+-- What each loop of `place::line_place` keeps.
 use Rattle.std.proofs.Common.{◌-◌, length}
 use Rattle.psy_where.proofs.LinesWalked.{Walks}
 use Rattle.psy_where.proofs.place.line_place.Given as goal

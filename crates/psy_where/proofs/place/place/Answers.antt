@@ -1,3 +1,4 @@
+-- What is left of the proof of `place::place`.
 use Rattle.std.proofs.Common.{inl, inr, subst}
 use Rattle.psy_where.specs.declared.recall.What.{What}
 use Rattle.psy_where.specs.Refusals.{IsPlaceOf}

@@ -1,3 +1,4 @@
+-- What is left of the proof of `place::token_place`.
 use Rattle.std.proofs.Common.{◌≡◌, ℕ, List, length, Result, Err, refl, sym, ap, subst, ◌∙◌}
 use Rattle.std.proofs.lemmas.Result.{err_from_is_err_and}
 use Rattle.psy_tree.specs.declared.token.Token.{Token}

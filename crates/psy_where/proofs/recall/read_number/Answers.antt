@@ -1,3 +1,4 @@
+-- What is left of the proof of `recall::read_number`.
 use Rattle.std.proofs.Common.{◌<◌, ◌^◌, arith}
 use Rattle.psy_where.proofs.recall.read_number.Goals as goal
 

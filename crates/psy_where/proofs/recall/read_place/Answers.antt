@@ -1,3 +1,4 @@
+-- What is left of the proof of `recall::read_place`.
 use Rattle.std.proofs.Common.{◌≡◌, ℕ, ◌==◌, false, List, [], length, None, Some, refl, sym, ap, ◌∙◌}
 use Rattle.std.proofs.lemmas.Bool.{false≢true}
 use Rattle.psy_where.proofs.RefusalLines.{place_told}

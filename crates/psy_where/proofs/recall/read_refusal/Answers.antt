@@ -1,3 +1,4 @@
+-- What is left of the proof of `recall::read_refusal`.
 use Rattle.std.proofs.Common.{◌++◌, refl, sym, ap, subst, ◌∙◌}
 use Rattle.std.specs.Prelude.{decimal}
 use Rattle.std.proofs.lemmas.Bool.{false≢true}

@@ -1,3 +1,4 @@
+-- What is left of the proof of `spot::spot_at`.
 use Rattle.std.proofs.Common.{◌-◌, length, drop, sym, ap, ◌∙◌}
 use Rattle.std.proofs.lemmas.List.{take_rest}
 use Rattle.psy_where.specs.Places.{line_back}

@@ -1,3 +1,4 @@
+-- What is left of the proof of `greatest::greatest`.
 use Rattle.std.proofs.Common.{length, sym, subst}
 use Rattle.psy_base.specs.Paths.{IsGreatestWeight}
 use Rattle.psy_window.specs.declared.span.Span.{Span}

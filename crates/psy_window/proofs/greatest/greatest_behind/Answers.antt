@@ -1,3 +1,4 @@
+-- What is left of the proof of `greatest::greatest_behind`.
 use Rattle.psy_base.specs.declared.edge.Edge.{Edge}
 use Rattle.psy_window.specs.Table.{behind}
 use Rattle.psy_window.proofs.Tops.{top_more}

@@ -1,3 +1,4 @@
+-- What each loop of `greatest::greatest_behind` keeps.
 use Rattle.psy_window.specs.Table.{IsTop, behind}
 use Rattle.psy_window.proofs.greatest.greatest_behind.Given as goal
 

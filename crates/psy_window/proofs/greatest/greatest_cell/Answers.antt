@@ -1,3 +1,4 @@
+-- What is left of the proof of `greatest::greatest_cell`.
 use Rattle.std.proofs.Common.{ℕ}
 use Rattle.psy_window.proofs.Tops.{top_more}
 use Rattle.psy_window.proofs.greatest.greatest_cell.Goals as goal

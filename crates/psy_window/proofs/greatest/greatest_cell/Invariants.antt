@@ -1,3 +1,4 @@
+-- What each loop of `greatest::greatest_cell` keeps.
 use Rattle.psy_window.specs.Table.{IsTop}
 use Rattle.psy_window.proofs.greatest.greatest_cell.Given as goal
 

@@ -1,3 +1,4 @@
+-- What is left of the proof of `laws::greatest`.
 use Rattle.psy_window.specs.Windows.{Fits}
 use Rattle.psy_window.proofs.Existence.{greatest_some, greatest_one}
 use Rattle.psy_window.proofs.laws.greatest.Goals as goal

@@ -1,3 +1,4 @@
+-- What is left of the proof of `table::fill_row`.
 use Rattle.std.proofs.Common.{ℕ, ◌+◌, get_or, set, sym, subst, arith}
 use Rattle.std.proofs.lemmas.List.{get_or_default}
 use Rattle.std.proofs.lemmas.List.Elements.{All-get_or}

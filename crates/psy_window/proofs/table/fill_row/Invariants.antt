@@ -1,3 +1,4 @@
+-- What each loop of `table::fill_row` keeps.
 use Rattle.psy_window.specs.Table.{IsRow}
 use Rattle.psy_window.proofs.table.fill_row.Given as goal
 

@@ -1,3 +1,4 @@
+-- What is left of the proof of `tests::short_advances_weigh_most`.
 use Rattle.std.proofs.Common.{List, [], ◌∷◌, All, arith}
 use Rattle.std.proofs.lemmas.List.Elements.{All-cons}
 use Rattle.psy_base.specs.declared.edge.Edge.{Edge}

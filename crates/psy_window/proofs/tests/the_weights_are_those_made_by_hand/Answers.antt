@@ -1,3 +1,4 @@
+-- What is left of the proof of `tests::the_weights_are_those_made_by_hand`.
 use Rattle.std.proofs.Common.{[], ◌∷◌, All, arith}
 use Rattle.std.proofs.lemmas.List.Elements.{All-cons}
 use Rattle.psy_base.specs.declared.edge.Edge.{Edge}

@@ -1,3 +1,4 @@
+-- What is left of the proof of `windows::add_weights`.
 use Rattle.std.proofs.Common.{◌≡◌, ℕ, ◌+◌, ◌^◌, ◌<◌, List, [], ◌∷◌, All, length, get_or, ap, sym, subst, length-append, arith}
 use Rattle.std.proofs.lemmas.List.Elements.{All-push}
 use Rattle.psy_base.specs.Paths.{IsGreatestWeight}

@@ -1,3 +1,4 @@
+-- What each loop of `windows::add_weights` keeps.
 use Rattle.std.proofs.Common.{◌≡◌, ℕ, ◌^◌, ◌<◌, All, length, get_or}
 use Rattle.psy_base.specs.Paths.{IsGreatestWeight}
 use Rattle.psy_window.specs.Table.{IsTable}

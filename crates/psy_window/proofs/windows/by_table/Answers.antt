@@ -1,3 +1,4 @@
+-- What is left of the proof of `windows::by_table`.
 use Rattle.std.proofs.Common.{ℕ, ◌+◌, ◌<◌, List, slice_index, sym, subst}
 use Rattle.psy_base.specs.Paths.{IsGreatestWeight}
 use Rattle.psy_window.specs.Windows.{Fits}

@@ -1,3 +1,4 @@
+-- What is left of the proof of `charge::Charge::start`.
 use Rattle.std.proofs.Common.{◌≡◌, ℕ, ◌+◌, ◌-◌, subst, arith}
 use Rattle.psy_budget.specs.Charges.{stalled}
 use Rattle.psy_budget.specs.Standing.{AreSplit}

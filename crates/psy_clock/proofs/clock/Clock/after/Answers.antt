@@ -1,3 +1,4 @@
+-- What is left of the proof of `clock::Clock::after`.
 use Rattle.std.proofs.Common.{rules, arith}
 use Rattle.psy_clock.proofs.Counts.{count-le, after_is}
 use Rattle.psy_clock.proofs.clock.Clock.after.Goals as goal

@@ -1,3 +1,4 @@
+-- What is left of the proof of `clock::Clock::count_to`.
 use Rattle.std.proofs.Common.{◌≡◌, ◌+◌, ◌-◌, ◌/◌, sym, arith}
 use Rattle.psy_clock.specs.Dates.{count}
 use Rattle.psy_clock.proofs.Counts.{count-early, count-late}

@@ -1,3 +1,4 @@
+-- What is left of the proof of `clock::Clock::from_date`.
 use Rattle.std.proofs.Common.{rules, arith}
 use Rattle.psy_clock.proofs.Counts.{count_below-le, from_is}
 use Rattle.psy_clock.proofs.clock.Clock.from_date.Goals as goal

@@ -1,3 +1,4 @@
+-- What is left of the proof of `shared::Shared::new`.
 use Rattle.std.proofs.Common.{ℕ, ◌<◌, ◌≤◌, List, [], All, length, get_or, Option, Some, refl, sym, ap, subst, ◌∙◌}
 use Rattle.std.specs.Prelude.{map, pos, replicate, ℤ}
 use Rattle.psy_base.specs.declared.limits.TheConstants.{RING}

@@ -1,3 +1,4 @@
+-- What is left of the proof of `collect::Run::of`.
 use Rattle.std.proofs.Common.{◌≡◌, ℕ, ◌+◌, true, [], get_or, Some, sym, ap, ◌∙◌, below_more, arith}
 use Rattle.std.proofs.lemmas.List.{get_or_default}
 use Rattle.psy_log.specs.declared.note.Note.{Note}

@@ -1,3 +1,4 @@
+-- What each loop of `collect::Run::of` keeps.
 use Rattle.std.proofs.Common.{◌≡◌, ℕ, ◌<◌, true, get_or}
 use Rattle.psy_log.specs.declared.note.Note.{Note}
 use Rattle.psy_draw.specs.Tables.{is_among}

@@ -1,3 +1,4 @@
+-- What is left of the proof of `column::Column::and`.
 use Rattle.std.proofs.Common.{rules, w32, ◌∙◌}
 use Rattle.std.specs.Int.{int_min, int_max}
 use mir.Val.{SFits}

@@ -1,3 +1,4 @@
+-- What is left of the proof of `listed::Listed::of`.
 use Rattle.std.proofs.Common.{ℕ, Bool, List, []}
 use Rattle.psy_log.specs.declared.note.Note.{Note}
 use Rattle.psy_log.specs.declared.note.Note.TheVariants as note

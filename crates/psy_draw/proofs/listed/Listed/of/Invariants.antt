@@ -1,3 +1,4 @@
+-- What each loop of `listed::Listed::of` keeps.
 use Rattle.std.proofs.Common.{take}
 use Rattle.psy_draw.specs.Listing.{Lists, ends_agent, ends_stream, ends_variable}
 use Rattle.psy_draw.proofs.listed.Listed.of.Given as goal

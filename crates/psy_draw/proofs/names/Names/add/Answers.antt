@@ -1,3 +1,4 @@
+-- What is left of the proof of `names::Names::add`.
 use Rattle.std.proofs.Common.{refl, ap, ◌∙◌, bytes_eq, ◌||◌}
 use Rattle.std.specs.List.{list_any}
 use Rattle.psy_draw.proofs.NameTables.{names_inserted}

@@ -1,3 +1,4 @@
+-- What is left of the proof of `names::Names::place`.
 use Rattle.std.proofs.Common.{ap, sym, ◌∙◌, bytes_eq}
 use Rattle.std.specs.List.{list_any}
 use Rattle.psy_draw.proofs.NameTables.{list_any-map}

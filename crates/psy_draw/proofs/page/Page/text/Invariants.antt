@@ -1,3 +1,4 @@
+-- What each loop of `page::Page::text` keeps.
 use Rattle.std.proofs.Common.{◌≡◌, ◌++◌, take}
 use Rattle.std.specs.List.{flat_map}
 use Rattle.psy_draw.specs.Spelling.{escaped}

@@ -1,3 +1,4 @@
+-- What is left of the proof of `picture::Picture::put_tables`.
 use Rattle.psy_draw.proofs.Shown.{grows_on, rows_kept}
 use Rattle.psy_draw.proofs.picture.Picture.put_tables.Goals as goal
 

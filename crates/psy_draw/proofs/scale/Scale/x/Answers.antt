@@ -1,3 +1,4 @@
+-- What is left of the proof of `scale::Scale::x`.
 use Rattle.std.proofs.Common.{rules, ◌≡◌, ℕ, ◌*◌, ◌/◌, ◌≤◌, min, sym, subst, arith}
 use Rattle.psy_base.specs.declared.limits.TheConstants.{UNTIL}
 use Rattle.psy_draw.specs.Places.{x_of}

@@ -1,3 +1,4 @@
+-- What is left of the proof of `span::Span::depth`.
 use Rattle.std.proofs.Common.{rules, w32, ◌∙◌, ap, min, ◌*◌, ◌/◌}
 use Rattle.std.specs.Prelude.{◌-ℤ◌, unsigned_abs}
 use mir.Val.{SFits}

@@ -1,3 +1,4 @@
+-- What is left of the proof of `table::Table::draw`.
 use Rattle.std.proofs.Common.{ℕ, ◌≡◌, [], None, length, get_or, ap, below_more, arith}
 use Rattle.psy_draw.specs.declared.row.Row.{Row}
 use Rattle.psy_draw.specs.Showing.{Grows, ShowsRow}

@@ -1,3 +1,4 @@
+-- What each loop of `table::Table::draw` keeps.
 use Rattle.std.proofs.Common.{ℕ, ◌<◌, get_or}
 use Rattle.psy_draw.specs.declared.row.Row.{Row}
 use Rattle.psy_draw.specs.Showing.{Grows, ShowsRow}

@@ -1,3 +1,4 @@
+-- What each loop of `tables::Tables::of` keeps.
 use Rattle.std.proofs.Common.{◌≡◌, take}
 use Rattle.std.specs.List.{flat_map}
 use Rattle.psy_draw.specs.Showing.{agent_rows, stream_rows, variable_rows}

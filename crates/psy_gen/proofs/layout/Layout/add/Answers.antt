@@ -1,3 +1,4 @@
+-- What is left of the proof of `layout::Layout::add`.
 use Rattle.std.proofs.Common.{refl, ap, arith}
 use Rattle.psy_tree.specs.Paths.{total}
 use Rattle.psy_gen.proofs.Spans.{all_cells, stand_more}

@@ -1,3 +1,4 @@
+-- What is left of the proof of `layout::Layout::base`.
 use Rattle.std.proofs.Common.{sym, ap, ◌∙◌, take}
 use Rattle.psy_tree.specs.Paths.{total}
 use Rattle.psy_gen.specs.Emission.{Layout}

@@ -1,3 +1,4 @@
+-- What is left of the proof of `layout::Layout::cells`.
 use Rattle.std.proofs.Common.{sym, ap, ◌∙◌}
 use Rattle.std.specs.Prelude.{slice_index_or}
 use Rattle.psy_gen.specs.Emission.{Layout}

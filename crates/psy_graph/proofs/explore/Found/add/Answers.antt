@@ -1,3 +1,4 @@
+-- What is left of the proof of `explore::Found::add`.
 use Rattle.std.proofs.Common.{◌≡◌, Some, sym, subst, refl, inr, arith}
 use Rattle.std.specs.List.{slice_get}
 use Rattle.std.proofs.lemmas.Bool.Decides.{not_from_Decides}

@@ -1,3 +1,4 @@
+-- What each loop of `explore::Found::follow` keeps.
 use Rattle.std.proofs.Common.{ℕ, ◌<◌, ◌≤◌, length, get_or}
 use Rattle.std.specs.List.{Contains}
 use Rattle.psy_base.specs.declared.limits.TheConstants.{NODES}

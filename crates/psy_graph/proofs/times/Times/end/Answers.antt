@@ -1,3 +1,4 @@
+-- What is left of the proof of `times::Times::end`.
 use Rattle.std.proofs.Common.{◌≡◌, ◌+◌, ◌≤◌, ap, sym, subst, ◌∙◌}
 use Rattle.psy_clock.specs.Dates.{after_date}
 use Rattle.psy_meaning.specs.Timing.{point_at, clock_at, end_date}

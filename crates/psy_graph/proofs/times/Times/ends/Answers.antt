@@ -1,3 +1,4 @@
+-- What is left of the proof of `times::Times::ends`.
 use Rattle.std.proofs.Common.{get_or, subst}
 use Rattle.std.specs.List.{Contains}
 use Rattle.std.proofs.lemmas.List.Elements.{Contains-get_or}

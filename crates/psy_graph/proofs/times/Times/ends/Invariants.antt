@@ -1,3 +1,4 @@
+-- What each loop of `times::Times::ends` keeps.
 use Rattle.std.proofs.Common.{◌≡◌, map, take}
 use Rattle.psy_meaning.specs.Timing.{following, end_date}
 use Rattle.psy_graph.specs.Steps.{timing_by}

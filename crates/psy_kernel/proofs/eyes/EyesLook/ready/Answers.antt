@@ -1,3 +1,4 @@
+-- What is left of the proof of `eyes::EyesLook::ready`.
 use Rattle.std.proofs.Common.{rules, ◌≡◌, ◌<◌, Some, length, refl, ap, ◌∙◌, arith}
 use Rattle.std.proofs.lemmas.Option.{get_or_from_slice_get, slice_get_within}
 use Rattle.psy_code.specs.Views.{found_in}

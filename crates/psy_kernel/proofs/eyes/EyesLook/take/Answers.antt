@@ -1,3 +1,4 @@
+-- What is left of the proof of `eyes::EyesLook::take`.
 use Rattle.std.proofs.Common.{rules, ◌≡◌, ◌⊎◌, map, ◌≤◌, ◌<◌, ◌+◌, ℕ, ℤ, List, Option, Some, length, slice_get, slice_set, refl, sym, ap, ◌∙◌, inl, inr, arith, of_z, to_z}
 use Rattle.std.specs.Int.{w32}
 use Rattle.std.proofs.lemmas.Bool.{cases_eq}

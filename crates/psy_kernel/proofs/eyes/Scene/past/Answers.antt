@@ -1,3 +1,4 @@
+-- What is left of the proof of `eyes::Scene::past`.
 use Rattle.std.proofs.Common.{◌≡◌, arith, ap, of_z, to_z, sym, Some, ◌∙◌}
 use Rattle.std.specs.Int.{w32}
 use Rattle.std.proofs.lemmas.Int.{to_z-of_z}

@@ -1,3 +1,4 @@
+-- What is left of the proof of `kernel::Kernel::boot`.
 use Rattle.std.proofs.Common.{◌≡◌, ◌<◌, ℕ, ℤ, List, [], length, Option, None, refl, ap, sym, subst, ◌∙◌, arith, rules}
 use Rattle.std.specs.List.{AllPairs, range_with_len, slice_get}
 use Rattle.std.proofs.lemmas.Bool.{true≢false}

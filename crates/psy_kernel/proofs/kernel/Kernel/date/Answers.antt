@@ -1,3 +1,4 @@
+-- What is left of the proof of `kernel::Kernel::date`.
 use Rattle.std.proofs.Common.{◌≡◌, ℕ, ◌+◌, ◌*◌, ◌≤◌, suc, List, length, None, true, refl, ap, sym, subst, ◌∙◌, arith, ℤ}
 use Rattle.std.proofs.Math.Numerals.{add-one}
 use Rattle.psy_ready.specs.Choice.{pending_deadline}

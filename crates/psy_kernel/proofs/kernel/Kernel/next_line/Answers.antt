@@ -1,3 +1,4 @@
+-- What is left of the proof of `kernel::Kernel::next_line`.
 use Rattle.std.proofs.Common.{◌≡◌, ◌+◌, ◌*◌, ◌≤◌, ℕ, length, slice_get, Some, refl, ap, subst, arith}
 use Rattle.psy_history.specs.Scheduled.{turns_of}
 use Rattle.psy_kernel.specs.Progress.{Progress, after_line, lines_told, order, system}

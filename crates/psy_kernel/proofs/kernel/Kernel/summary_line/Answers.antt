@@ -1,3 +1,4 @@
+-- What is left of the proof of `kernel::Kernel::summary_line`.
 use Rattle.std.proofs.Common.{◌≡◌, ◌<◌, ◌≤◌, ◌^◌, length, slice_get, sym, ap, subst, ◌∙◌, arith}
 use Rattle.psy_kernel.specs.Progress.{order, stage_of, summary_told, system}
 use Rattle.psy_kernel.specs.declared.stage.Stage.TheVariants.{Over}

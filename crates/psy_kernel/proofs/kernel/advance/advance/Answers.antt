@@ -1,3 +1,4 @@
+-- What is left of the proof of `kernel::advance::advance`.
 use Rattle.std.proofs.Common.{refl, sym, ◌∙◌}
 use Rattle.psy_machine.specs.declared.machine.Step.TheVariants as step
 use Rattle.psy_kernel.specs.Looking.{window_of}

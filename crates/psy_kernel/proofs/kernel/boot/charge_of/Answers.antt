@@ -1,3 +1,4 @@
+-- What is left of the proof of `kernel::boot::charge_of`.
 use Rattle.std.proofs.Common.{sym, subst}
 use Rattle.psy_budget.specs.Charges.{StallsRise}
 use Rattle.psy_kernel.proofs.Booted.{own_rise}

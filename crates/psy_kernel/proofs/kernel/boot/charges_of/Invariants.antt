@@ -1,3 +1,4 @@
+-- What each loop of `kernel::boot::charges_of` keeps.
 use Rattle.std.proofs.Common.{◌≡◌, map}
 use Rattle.std.specs.List.{range_with_len}
 use Rattle.psy_kernel.specs.Starting.{first_charge}

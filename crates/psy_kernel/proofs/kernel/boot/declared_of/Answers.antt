@@ -1,3 +1,4 @@
+-- What is left of the proof of `kernel::boot::declared_of`.
 use Rattle.std.proofs.Common.{◌≡◌, [], ◌∷◌, ◌++◌, sym, ap, ◌∙◌, arith}
 use Rattle.psy_kernel.proofs.Booted.{range_more}
 use Rattle.psy_kernel.proofs.kernel.boot.declared_of.Goals as goal

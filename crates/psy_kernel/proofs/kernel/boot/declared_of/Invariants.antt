@@ -1,3 +1,4 @@
+-- What each loop of `kernel::boot::declared_of` keeps.
 use Rattle.std.proofs.Common.{◌≡◌}
 use Rattle.std.specs.List.{range_with_len}
 use Rattle.psy_kernel.proofs.kernel.boot.declared_of.Given as goal

@@ -1,3 +1,4 @@
+-- What is left of the proof of `kernel::boot::machines_of`.
 use Rattle.std.proofs.Common.{◌≡◌, [], ◌∷◌, ◌++◌, length, length-append, ap, sym, subst, arith}
 use Rattle.psy_machine.specs.Stepping.{IsNew, IsOf}
 use Rattle.psy_kernel.specs.Starting.{AreNew}

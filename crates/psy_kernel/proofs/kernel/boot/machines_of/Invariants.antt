@@ -1,3 +1,4 @@
+-- What each loop of `kernel::boot::machines_of` keeps.
 use Rattle.std.proofs.Common.{◌≡◌, length}
 use Rattle.psy_kernel.specs.Starting.{AreNew}
 use Rattle.psy_kernel.proofs.kernel.boot.machines_of.Given as goal

@@ -1,3 +1,4 @@
+-- What is left of the proof of `kernel::boot::passed_first`.
 use Rattle.std.proofs.Common.{◌≡◌, ◌==◌, true, false, sym, subst, inl, inr}
 use Rattle.std.proofs.lemmas.Bool.{cases_Bool}
 use Rattle.psy_kernel.specs.Standing.{AreInForce}

@@ -1,3 +1,4 @@
+-- What each loop of `kernel::boot::stalls_of` keeps.
 use Rattle.std.proofs.Common.{◌≡◌, ◌==◌, filter, take}
 use Rattle.psy_budget.specs.declared.charge.Stall.{Stall}
 use Rattle.psy_kernel.proofs.kernel.boot.stalls_of.Given as goal

@@ -1,3 +1,4 @@
+-- What is left of the proof of `kernel::cycle::gets`.
 use Rattle.std.proofs.Common.{◌+◌}
 use Rattle.psy_kernel.specs.Scripts.{order_of, stalls_of}
 use Rattle.psy_history.specs.Scheduled.{IsSupplied}

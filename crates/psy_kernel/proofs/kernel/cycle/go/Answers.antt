@@ -1,3 +1,4 @@
+-- What is left of the proof of `kernel::cycle::go`.
 use Rattle.std.proofs.Common.{rules, ◌≡◌, ℕ, ◌+◌, ◌*◌, ◌==◌, ◌<◌, ◌≤◌, true, List, [], ◌∷◌, Option, Some, None, get_or, slice_get, ℤ, Vec, Global, refl, sym, ap, ◌∙◌, subst, arith}
 use Rattle.std.specs.Prelude.{option_map}
 use Rattle.std.specs.List.{All}

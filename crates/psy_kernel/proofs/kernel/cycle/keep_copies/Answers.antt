@@ -1,3 +1,4 @@
+-- What is left of the proof of `kernel::cycle::keep_copies`.
 use Rattle.std.proofs.Common.{◌≡◌, ℕ, ◌+◌, List, length, Some, slice_get, slice_set, ℤ, w32, to_z, of_z, Vec, Global, refl, sym, ap, ◌∙◌, subst, arith}
 use Rattle.std.proofs.lemmas.Int.{ints, to_z-of_z}
 use Rattle.std.proofs.lemmas.List.{length-set}

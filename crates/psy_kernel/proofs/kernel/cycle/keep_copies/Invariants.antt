@@ -1,3 +1,4 @@
+-- What each loop of `kernel::cycle::keep_copies` keeps.
 use Rattle.psy_kernel.proofs.KeptCopies.{AreKept}
 use Rattle.psy_kernel.proofs.kernel.cycle.keep_copies.Given as goal
 

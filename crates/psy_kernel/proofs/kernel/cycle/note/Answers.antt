@@ -1,3 +1,4 @@
+-- What is left of the proof of `kernel::cycle::note`.
 use Rattle.std.proofs.Common.{◌≡◌, ℕ, ◌+◌, ◌==◌, ◌<◌, List, Option, Some, None, length, get_or, slice_get, slice_set, sym, ap, ◌∙◌, subst, refl, inl, inr, arith, pos}
 use Rattle.std.specs.Prelude.{[]}
 use Rattle.std.proofs.lemmas.Bool.{cases_eq, cond-false, cond-true, eq-eqb, ne_eqb}

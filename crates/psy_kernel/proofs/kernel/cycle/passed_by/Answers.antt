@@ -1,3 +1,4 @@
+-- What is left of the proof of `kernel::cycle::passed_by`.
 use Rattle.std.proofs.Common.{List, length, refl, ap, ◌∙◌, arith}
 use Rattle.std.proofs.lemmas.Option.{get_or_from_slice_get, slice_get_read, slice_get_within}
 use Rattle.psy_kernel.specs.declared.script.Order.{Order}

@@ -1,3 +1,4 @@
+-- What each loop of `kernel::date::hold_all` keeps.
 use Rattle.psy_kernel.specs.Starting.{IsDoneBelow, held_at}
 use Rattle.psy_kernel.proofs.kernel.date.hold_all.Given as goal
 

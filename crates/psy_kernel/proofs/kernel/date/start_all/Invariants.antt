@@ -1,3 +1,4 @@
+-- What each loop of `kernel::date::start_all` keeps.
 use Rattle.psy_kernel.specs.Starting.{IsDoneBelow, charge_at, deadline_at}
 use Rattle.psy_kernel.proofs.kernel.date.start_all.Given as goal
 

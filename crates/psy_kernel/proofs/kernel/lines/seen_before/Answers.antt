@@ -1,3 +1,4 @@
+-- What is left of the proof of `kernel::lines::seen_before`.
 use Rattle.std.proofs.Common.{length, sym, ap}
 use Rattle.psy_kernel.proofs.ShownMessages.{none_earlier}
 use Rattle.psy_kernel.proofs.kernel.lines.seen_before.Goals as goal

@@ -1,3 +1,4 @@
+-- What is left of the proof of `kernel::lines::tell_message`.
 use Rattle.std.proofs.Common.{◌≡◌, ◌+◌, ◌<◌, ℕ, nat_le, nat_lt, filter, length, Some, w32, to_z, of_z, refl, sym, ap, ◌∙◌, arith}
 use Rattle.std.proofs.lemmas.Int.{to_z-of_z}
 use Rattle.psy_base.specs.declared.message.Message.{Message}

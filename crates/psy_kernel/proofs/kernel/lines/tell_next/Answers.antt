@@ -1,3 +1,4 @@
+-- What is left of the proof of `kernel::lines::tell_next`.
 use Rattle.std.proofs.Common.{◌≡◌, ℕ, ◌+◌, ◌<◌, List, Some, length, refl, ap, subst, ◌∙◌, arith}
 use Rattle.psy_dates.specs.Plans.{system_of}
 use Rattle.psy_kernel.specs.Standing.{told_from}

@@ -1,3 +1,4 @@
+-- What is left of the proof of `kernel::lines::tell_shown`.
 use Rattle.std.proofs.Common.{◌≡◌, ℕ, ◌+◌, ◌-◌, ◌<◌, ◌≤◌, true, false, List, Some, length, refl, subst, ◌∙◌, arith}
 use Rattle.psy_dates.specs.Plans.{system_of}
 use Rattle.psy_kernel.specs.Telling.{IsNextTold, IsShownBy}

@@ -1,3 +1,4 @@
+-- What each loop of `kernel::lines::tell_shown` keeps.
 use Rattle.std.proofs.Common.{◌≡◌, ℕ, ◌+◌, ◌-◌, ◌≤◌, List, Option}
 use Rattle.psy_budget.specs.declared.charge.Stall.{Stall}
 use Rattle.psy_meaning.specs.Schedule.{Turn}

@@ -1,3 +1,4 @@
+-- What is left of the proof of `kernel::lines::tell_stream`.
 use Rattle.std.proofs.Common.{◌≡◌, ◌<◌, ℕ, length, slice_get, Some, refl, sym, ap, subst, ◌∙◌}
 use Rattle.std.proofs.lemmas.Option.{slice_get_read}
 use Rattle.psy_tree.specs.declared.unit.StreamDecl.{StreamDecl}

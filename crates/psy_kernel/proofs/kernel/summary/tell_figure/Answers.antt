@@ -1,3 +1,4 @@
+-- What is left of the proof of `kernel::summary::tell_figure`.
 use Rattle.std.proofs.Common.{◌≡◌, ℕ, ◌-◌, ◌<◌, ◌≤◌, length, get_or, Some, None, refl, sym, ap, subst, ◌∙◌, arith}
 use Rattle.psy_log.specs.Forms.{agent_line, stream_line, variable_line}
 use Rattle.psy_tree.specs.declared.unit.AgentDecl.{AgentDecl}

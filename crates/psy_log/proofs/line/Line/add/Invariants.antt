@@ -1,3 +1,4 @@
+-- What each loop of `line::Line::add` keeps.
 use Rattle.std.proofs.Common.{◌≡◌, ◌++◌, take}
 use Rattle.psy_log.proofs.line.Line.add.Given as goal
 

@@ -1,3 +1,4 @@
+-- What is left of the proof of `copies::Copies::get`.
 use Rattle.std.proofs.Common.{ap, ◌∙◌, arith}
 use Rattle.std.proofs.lemmas.Int.{to_z-of_z}
 use Rattle.psy_machine.proofs.Entries.{reads}

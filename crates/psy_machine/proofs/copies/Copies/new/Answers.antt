@@ -1,3 +1,4 @@
+-- What is left of the proof of `copies::Copies::new`.
 use Rattle.std.proofs.Common.{ap, ◌∙◌}
 use Rattle.psy_machine.specs.Copying.{copies_in}
 use Rattle.psy_machine.proofs.Entries.{copies_in-map}

@@ -1,3 +1,4 @@
+-- What is left of the proof of `copies::Copies::set`.
 use Rattle.std.proofs.Common.{◌≡◌, ℕ, get_or, set, w32, to_z, of_z, ap, ◌∙◌, sym, arith}
 use Rattle.std.proofs.lemmas.Int.{to_z-of_z}
 use Rattle.psy_machine.specs.declared.copies.Entry.{Entry}

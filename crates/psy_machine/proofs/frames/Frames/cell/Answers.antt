@@ -1,3 +1,4 @@
+-- What is left of the proof of `frames::Frames::cell`.
 use Rattle.std.proofs.Common.{ap, arith}
 use Rattle.std.specs.Prelude.{slice_get}
 use Rattle.std.proofs.lemmas.Int.{to_z-of_z}

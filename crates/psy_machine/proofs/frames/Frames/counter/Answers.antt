@@ -1,3 +1,4 @@
+-- What is left of the proof of `frames::Frames::counter`.
 use Rattle.std.proofs.Common.{ap, ◌∙◌, arith}
 use Rattle.std.specs.Prelude.{slice_get}
 use Rattle.psy_code.specs.Execution.{Frame}

@@ -1,3 +1,4 @@
+-- What is left of the proof of `frames::Frames::open`.
 use Rattle.std.proofs.Common.{◌≡◌, ◌+◌, ◌++◌, length, replicate, ap, ◌∙◌, refl, arith, append_assoc}
 use Rattle.psy_machine.specs.declared.frames.Frames.TheInside.{Inside}
 use Rattle.psy_machine.proofs.Laid.{room_for, call_within, open_gives, grown_by}

@@ -1,3 +1,4 @@
+-- What is left of the proof of `frames::Frames::restart`.
 use Rattle.std.proofs.Common.{◌≡◌, ◌++◌, replicate, refl, ap, ◌∙◌, arith}
 use Rattle.psy_machine.specs.declared.frames.Frames.TheInside.{Inside}
 use Rattle.psy_machine.proofs.Laid.{restart_gives, restart_laid, grown_by}

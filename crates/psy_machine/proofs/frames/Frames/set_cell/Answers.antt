@@ -1,3 +1,4 @@
+-- What is left of the proof of `frames::Frames::set_cell`.
 use Rattle.std.proofs.Common.{arith}
 use Rattle.std.proofs.Common.{w32, to_z, of_z, ◌≡◌}
 use Rattle.std.proofs.lemmas.Int.{to_z-of_z}

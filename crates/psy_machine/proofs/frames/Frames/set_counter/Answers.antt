@@ -1,3 +1,4 @@
+-- What is left of the proof of `frames::Frames::set_counter`.
 use Rattle.std.proofs.Common.{arith}
 use Rattle.psy_machine.proofs.Laid.{counter_within, set_counter_gives}
 use Rattle.psy_machine.proofs.frames.Frames.set_counter.Goals as goal

@@ -1,3 +1,4 @@
+-- What is left of the proof of `machine::Machine::new`.
 use Rattle.std.proofs.Common.{◌≡◌, Some, refl}
 use Rattle.std.specs.Prelude.{slice_get}
 use Rattle.std.proofs.lemmas.Option.{slice_get_read}

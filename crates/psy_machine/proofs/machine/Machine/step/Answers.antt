@@ -1,3 +1,4 @@
+-- What is left of the proof of `machine::Machine::step`.
 use Rattle.std.proofs.Common.{ap}
 use Rattle.psy_machine.specs.Stepping.{AgentMachine}
 use Rattle.psy_machine.proofs.Steps.{fetched}

@@ -1,3 +1,4 @@
+-- What is left of the proof of `operands::Operands::below_top`.
 use Rattle.std.proofs.Common.{◌≡◌, ◌+◌, ◌-◌, length, ap, arith}
 use Rattle.std.proofs.lemmas.List.{length-reverse}
 use Rattle.std.proofs.lemmas.Int.{to_z-of_z}

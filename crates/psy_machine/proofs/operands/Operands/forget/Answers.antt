@@ -1,3 +1,4 @@
+-- What is left of the proof of `operands::Operands::forget`.
 use Rattle.std.proofs.Common.{◌≡◌, ◌+◌, ◌-◌, length, ap, arith}
 use Rattle.std.proofs.lemmas.List.{length-reverse}
 use Rattle.psy_machine.specs.Parts.{OperandStack}

@@ -1,3 +1,4 @@
+-- What is left of the proof of `queue::Queue::settle`.
 use Rattle.std.proofs.Common.{◌≡◌, ℕ, ◌≤◌, false, nat_lt, List, length, drop, sym, ap, ◌∙◌, subst, arith}
 use Rattle.std.specs.List.{filter}
 use Rattle.std.proofs.lemmas.List.Kept.{AllPairs-filter}

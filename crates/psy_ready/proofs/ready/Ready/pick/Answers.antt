@@ -1,3 +1,4 @@
+-- What is left of the proof of `ready::Ready::pick`.
 use Rattle.std.proofs.Common.{◌≡◌, ℕ, ◌+◌, List, length, Option, Some, None, get_or, sym, ap, ◌∙◌, subst, arith}
 use Rattle.std.proofs.lemmas.Option.{slice_get-get_or}
 use Rattle.psy_ready.specs.Choice.{pending_deadline}

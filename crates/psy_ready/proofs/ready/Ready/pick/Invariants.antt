@@ -1,3 +1,4 @@
+-- What each loop of `ready::Ready::pick` keeps.
 use Rattle.psy_ready.proofs.Walks.{IsFirst}
 use Rattle.psy_ready.proofs.ready.Ready.pick.Given as goal
 

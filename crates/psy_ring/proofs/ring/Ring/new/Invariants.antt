@@ -1,3 +1,4 @@
+-- What each loop of `ring::Ring::new` keeps.
 use Rattle.std.proofs.Common.{◌≡◌, ◌≤◌, replicate}
 use Rattle.psy_ring.proofs.ring.Ring.new.Given as goal
 

@@ -1,3 +1,4 @@
+-- What is left of the proof of `declarations::Program::before`.
 use Rattle.std.proofs.Common.{ap, ◌∙◌}
 use Rattle.psy_tree.specs.Scope.{stands_globally}
 use Rattle.psy_rules.specs.Numbering.{before_in}

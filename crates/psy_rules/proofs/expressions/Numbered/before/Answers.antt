@@ -1,3 +1,4 @@
+-- What is left of the proof of `expressions::Numbered::before`.
 use Rattle.std.proofs.Common.{length, ap, ◌∙◌}
 use Rattle.psy_tree.specs.Scope.{own_slots, stands_for}
 use Rattle.psy_rules.specs.Lowered.{site}

@@ -1,3 +1,4 @@
+-- What is left of the proof of `expressions::Numbered::slot`.
 use Rattle.std.proofs.Common.{◌≤◌, length, sym, subst, Option}
 use Rattle.psy_base.specs.declared.limits.TheConstants.{NAMES}
 use Rattle.psy_tree.specs.declared.reach.Found.{Found}

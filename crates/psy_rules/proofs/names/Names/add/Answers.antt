@@ -1,3 +1,4 @@
+-- What is left of the proof of `names::Names::add`.
 use Rattle.std.proofs.Common.{◌≡◌, false}
 use Rattle.std.specs.Prelude.{is_some}
 use Rattle.psy_tree.specs.Scope.{first_named}

@@ -1,3 +1,4 @@
+-- What is left of the proof of `names::Names::first`.
 use Rattle.std.proofs.Common.{sym, ap, ◌∙◌}
 use Rattle.psy_tree.specs.Scope.{first_named}
 use Rattle.psy_rules.proofs.Tables.{first_of_pairs}

@@ -1,3 +1,4 @@
+-- What is left of the proof of `scope::Scope::find`.
 use Rattle.std.proofs.Common.{sym, ◌∙◌}
 use Rattle.psy_rules.specs.Sites.{site_of}
 use Rattle.psy_rules.proofs.Tables.{found_above, found_inner, found_beneath}

@@ -1,3 +1,4 @@
+-- What is left of the proof of `names::Names::add`.
 use Rattle.std.proofs.Common.{◌∙◌}
 use Rattle.psy_script.proofs.NamePlaces.{names_more}
 use Rattle.psy_script.proofs.names.Names.add.Goals as goal

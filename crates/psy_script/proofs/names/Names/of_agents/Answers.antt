@@ -1,3 +1,4 @@
+-- What is left of the proof of `names::Names::of_agents`.
 use Rattle.psy_script.proofs.NamePlaces.{agents_differ, absent_next}
 use Rattle.psy_script.proofs.names.Names.of_agents.Goals as goal
 

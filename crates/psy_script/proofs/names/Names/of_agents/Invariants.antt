@@ -1,3 +1,4 @@
+-- What each loop of `names::Names::of_agents` keeps.
 use Rattle.std.proofs.Common.{◌≡◌, map, take}
 use Rattle.psy_script.proofs.names.Names.of_agents.Given as goal
 

@@ -1,3 +1,4 @@
+-- What is left of the proof of `placed::Placed::clashes`.
 use Rattle.std.proofs.Common.{◌∙◌, sym, ap, ◌||◌}
 use Rattle.psy_script.specs.Entries.{clashes, repeats}
 use Rattle.psy_script.specs.declared.entry.Entry.TheVariants as entry

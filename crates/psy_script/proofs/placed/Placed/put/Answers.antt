@@ -1,3 +1,4 @@
+-- What is left of the proof of `placed::Placed::put`.
 use Rattle.std.proofs.Common.{◌≡◌, ◌∙◌, sym, ap, false, rules}
 use Rattle.psy_script.specs.Entries.{clashes, with_entry}
 use Rattle.psy_script.specs.declared.entry.Entry.TheVariants as entry
