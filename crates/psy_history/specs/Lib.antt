@@ -1,4 +1,5 @@
 -- The definitions of this crate, by subject.
+pub mod Asked
 pub mod Compiled
 pub mod Feeding
 pub mod Queues
