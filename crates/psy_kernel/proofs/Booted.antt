@@ -19,7 +19,7 @@ use Rattle.psy_kernel.specs.Progress.{Progress, booted}
 use Rattle.psy_kernel.specs.Scripts.{StallBefore}
 use Rattle.psy_kernel.specs.Standing.{AgentStands, AreInForce}
 
--- the stalls of one agent rise by action and instruction
+-- The stalls of one agent rise by action and instruction
 pub own_rise : (agent : ℕ) (stalls : List Stall) → AllPairs StallBefore stalls → StallsRise (filter (λ (s : Stall). s.agent == agent) stalls)
 own_rise agent stalls rise i j d ij jl =
     let is_own = λ (s : Stall). s.agent == agent in

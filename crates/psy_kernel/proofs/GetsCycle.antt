@@ -36,7 +36,7 @@ numbers_below s dates agent (r ∷ before) h =
     All-cons (λ (q : Action). q.number < length (r ∷ before)) r before (let e : r.number ≡ length before = h.0.number in omega (arith, e))
     (All-weaker (λ (q : Action). q.number < length before) (λ (q : Action). q.number < length (r ∷ before)) (λ q less. omega (arith, less)) before (numbers_below s dates agent before h.1))
 
--- an agent's last action at a date starts there, or it is the last one of the dates before
+-- An agent's last action at a date starts there, or it is the last one of the dates before
 started_by : (s : System) (h : History) (date agent : ℕ) (actions : List Action) (n : Option Next) (r : Action) (before : List Action) → with_start s h date agent actions n ≡ r ∷ before → (actions ≡ r ∷ before) ⊎ (r.start ≡ date)
 started_by s h date agent actions None r before e = inl e
 started_by s h date agent actions (Some n) r before e = by (n.start == date) refl e

@@ -97,7 +97,7 @@ TakesLaw =
 
 -- ---- the action that gets the cycle
 
--- a variable's clock is one of the program's
+-- A variable's clock is one of the program's
 pub clock_lawful : (plan : Plan) → IsPlan plan → (s : System) → s.unit ≡ plan.unit → (variable : ℕ) → variable < length s.unit.variables → IsClock (publishing s variable)
 clock_lawful plan is s e variable less =
     let bare : IsBare s.unit = subst IsBare (sym e) is.compiled.text.bare in

@@ -45,7 +45,7 @@ behind o orders passed cycle h = record {
   ahead = λ place p at more. h.ahead (suc place) p at (omega (arith, more));
 }
 
--- the order of the last of some that have come into force
+-- The order of the last of some that have come into force
 order_last : (declared : List ℕ) (orders : List Order) (passed : ℕ) → order_by declared orders (suc passed) ≡ (get_or orders passed (record { cycle = 0; agents = declared })).agents
 order_last declared orders passed =
     cond-false (suc passed == 0) declared (get_or orders (suc passed - 1) (record { cycle = 0; agents = declared })).agents (ne_eqb (suc passed) 0 (λ e. absurd (omega (arith, e))))

@@ -16,7 +16,7 @@ use Rattle.psy_tree.specs.declared.raw.Lit.{Lit}
 use Rattle.psy_tree.specs.Grammar.{Numbered, named, numeral, word, sign, unary_of, binary_of}
 use Rattle.psy_parse.specs.Reading.{◌>>=◌, given, or_stuck, name_at, number_at, after_number, after_word, after_sign, word_at, sign_at, unary_at_front, binary_at_front, optional_at}
 
--- what was read has the property
+-- What was read has the property
 pub data Sound {A : Type 0} (P : A → List Numbered → Type 0) : Result (A × List Numbered) ℕ → Type 0 where
   done : {x : A} {rest : List Numbered} → P x rest → Sound P (Ok (x, rest))
   failed : {n : ℕ} → Sound P (Err n)
@@ -29,12 +29,12 @@ sound_ok {A = A} {P = P} (done {x = y} {rest = us} p) x rest e =
     subst (λ (z : A × List Numbered). P z.0 z.1) same p
 sound_ok failed x rest e = absurd cc
 
--- a number behind a word, or neither
+-- A number behind a word, or neither
 pub data Optional (w : Word) : List Numbered → Option Lit → List Numbered → Type 0 where
   without : {rest : List Numbered} → Optional w rest None rest
   with_number : {n : ℕ} {k : Lit} {rest : List Numbered} → Optional w (word n w ∷ numeral k ∷ rest) (Some k) rest
 
--- a list whose front was read before
+-- A list whose front was read before
 pub data Behind {A : Type 0} (R : List Numbered → List A → List Numbered → Type 0) (front : List A) (ts : List Numbered) : List A → List Numbered → Type 0 where
   behind : {others : List A} {rest : List Numbered} → R ts others rest → Behind R front ts (front ++ others) rest
 
@@ -45,7 +45,7 @@ module _ {A : Type 0} {R : List Numbered → List A → List Numbered → Type 0
   pub one_behind : (x : A) {ts us rest : List Numbered} {all : List A} → ((others : List A) (rest : List Numbered) → R us others rest → R ts (x ∷ others) rest) → Behind R (front ++ x ∷ []) us all rest → Behind R front ts all rest
   one_behind x step (behind {others = others} r) = rw (append_assoc front (x ∷ []) others) (behind (step _ _ r))
 
--- the same as Sound, where all tokens are read
+-- The same as Sound, where all tokens are read
 pub data SoundEnd {A : Type 0} (P : A → Type 0) : Result A ℕ → Type 0 where
   done_end : {x : A} → P x → SoundEnd P (Ok x)
   failed_end : {n : ℕ} → SoundEnd P (Err n)

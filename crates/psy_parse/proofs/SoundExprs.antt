@@ -17,7 +17,7 @@ use Rattle.psy_tree.specs.Grammar as grammar
 use Rattle.psy_parse.specs.Reading.{◌>>=◌, given, Reads, binary_at_front, in_brackets_at, past_at, args_at, behind_name_at, primary_at, operand_at, expr_at, climb_at, others_at}
 use Rattle.psy_parse.proofs.Sound.{Sound, done, failed, Behind, behind, nothing_behind, one_behind, sound_bind, sound_map, given_sign, given_word, given_number, given_unary, given_binary, sound_sign, sound_word, sound_number, sound_name}
 
--- an expression, and no further operator of a level below this one
+-- An expression, and no further operator of a level below this one
 pub record Whole (level : ℕ) (ts : List Numbered) (e : RawExpr) (rest : List Numbered) : Type 0 where
   pub expr : Expr level ts e rest
   pub ended : binary_at_front level rest ≡ None
@@ -42,7 +42,7 @@ ready_of brackets = grammar.Expr.ready
 take_of : {n : ℕ} {ts rest : List Numbered} {x : Name} → InBrackets ts x rest → Expr 0 (word n words.Take ∷ ts) (Take n x) rest
 take_of brackets = grammar.Expr.take
 
--- the arguments of a call
+-- The arguments of a call
 call_of : {n : ℕ} {f : Name} {first : RawExpr} {args : List RawExpr} {ts us rest : List Numbered} → Whole 10 ts first us → Behind Others (first ∷ []) us args rest
     → Expr 0 (named f ∷ sign n signs.OpenRound ∷ ts) (Call f args) rest
 call_of e (behind o) = grammar.Expr.call e.expr o
@@ -79,7 +79,7 @@ module _ (expr : ℕ → Reads RawExpr) (others : List RawExpr → Reads (List R
       given_unary _ _ _ (λ n s op us e a. sound_bind _ _ (expr_sound 0 us) (λ x vs h. done (rw a (grammar.Expr.unary e h.expr))))
       (primary_sound ts)
 
--- a level that is looser still
+-- A level that is looser still
 looser : (a b : ℕ) {ts rest : List Numbered} {e : RawExpr} → a ≤ b → Expr a ts e rest → Expr b ts e rest
 looser a zero le h = let same : a ≡ 0 = omega arith in rw same at h
 looser a (suc b) le h =
@@ -106,7 +106,7 @@ below_cases (Some p) level k own op ts us found none =
     let high : p.0 < level = leb-false _ _ c.0 in
     (omega (arith, c.2), omega (arith, c.2))
 
--- an operator of a level that is found isn't below one that ended an expression
+-- An operator of a level that is found isn't below one that ended an expression
 not_below : (level k own : ℕ) (op : Op2) (ts us : List Numbered) → binary_at_front level ts ≡ Some (own, op, us) → binary_at_front k ts ≡ None → (k ≤ own) × (own < level)
 unfolding binary_at_front
 not_below level k own op [] us found none = absurd cc
@@ -119,7 +119,7 @@ zero_cases : (o : Option (ℕ × Op2)) (ts : List Numbered) → given o (λ p. c
 zero_cases None ts = refl
 zero_cases (Some p) ts = ap (λ b. chosen b p ts) (leb-zero p.0)
 
--- no operator is of a level below 0
+-- No operator is of a level below 0
 pub none_at_zero : (ts : List Numbered) → binary_at_front 0 ts ≡ None
 unfolding binary_at_front
 none_at_zero [] = refl

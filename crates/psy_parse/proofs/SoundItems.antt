@@ -29,7 +29,7 @@ array_sound : (n m : ℕ) (x : Name) (ts : List Numbered) → Sound (AgentLocal 
 unfolding array_at
 array_sound n m x ts = sound_number _ _ (λ k us a. sound_sign _ _ _ (λ _ vs b. sound_sign _ _ _ (λ _ ws c. done (rw (a, b, c) grammar.AgentLocal.array))))
 
--- a function's local, or an agent's
+-- A function's local, or an agent's
 abbrev OneLocal : Bool → List Numbered → Local → List Numbered → Type 0
 OneLocal false = FunctionLocal
 OneLocal true = AgentLocal
@@ -163,6 +163,6 @@ unfolding text_at
 text_sound n tokens =
     end_bind _ _ (quantum_sound (numbered 0 tokens)) (λ quantum us q. end_then _ _ (declarations_sound n [] us) (λ items b. done_end (spells_of refl q b)))
 
--- the tree that is read has these tokens
+-- The tree that is read has these tokens
 pub spells_from_reading : (n : ℕ) (tokens : List Token) (raw : Raw) → text_at n (numbered 0 tokens) ≡ Ok raw → Spells raw tokens
 spells_from_reading n tokens raw e = sound_end_ok (text_sound n tokens) raw e

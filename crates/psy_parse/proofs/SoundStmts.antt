@@ -94,7 +94,7 @@ module _ (expr : Reads RawExpr) (block : Reads (List RawStmt))
       (given_word _ _ _ _ (λ n us a. rw a (return_sound n us))
       (sound_name _ _ (λ x us a. given_sign _ _ _ _ (λ n vs b. rw (a, b) (set_cell_sound n x vs)) (rw a (set_sound x us))))))))
 
--- from the empty list on nothing was read before
+-- From the empty list on nothing was read before
 from_nothing : {ts rest : List Numbered} {body : List RawStmt} → Behind Block [] ts body rest → Block ts body rest
 from_nothing (behind b) = b
 

@@ -25,7 +25,7 @@ use Rattle.psy_run.proofs.KeptOrders.{order_each}
 
 -- ---- actions
 
--- an action among the second ones is like one among the first
+-- An action among the second ones is like one among the first
 like_one : (rs qs : List Action) (q : Action) → AreLike rs qs → Contains qs q → (r : Action) × Contains rs r × IsLike r q
 like_one [] [] q like there = absurd (omega (arith, there.1))
 like_one [] (p ∷ qs) q like there = absurd like

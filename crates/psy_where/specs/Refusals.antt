@@ -6,7 +6,7 @@ use Rattle.psy_where.specs.declared.recall.What.TheVariants.{Lex, Parse, Rule, I
 use Rattle.psy_where.specs.declared.recall.Refusal.{Refusal}
 use Rattle.psy_where.specs.Places.{IsTokenPlace, IsLinePlace}
 
--- the word for what is refused
+-- The word for what is refused
 abbrev pub word_of : What → List ℕ
 word_of Lex = codes "lex"
 word_of Parse = codes "parse"
@@ -14,7 +14,7 @@ word_of Rule = codes "rule"
 word_of Inputs = codes "inputs"
 word_of Script = codes "script"
 
--- what a refusal of each number means
+-- What a refusal of each number means
 abbrev pub sentence_of : What → ℕ → Option (List ℕ)
 sentence_of Lex number =
     if number == 1 then Some (codes "no token begins with this byte, or it may not follow the number before it")
@@ -53,13 +53,13 @@ sentence_of Script number =
     else if number == 4 then Some (codes "a number is out of its range")
     else None
 
--- a place is told, but for a text that is no program
+-- A place is told, but for a text that is no program
 abbrev pub TellsPlace : What → ℕ → Option ℕ → Type 0
 TellsPlace what number (Some at) = at < 2 ^ 32
 TellsPlace Parse number None = number ≡ 1
 TellsPlace what number None = ⊥
 
--- the line is this refusal, and it is one that psyc writes
+-- The line is this refusal, and it is one that psyc writes
 pub record Says (line : List ℕ) (refusal : Refusal) (sentence : List ℕ) : Type 0 where
   pub written : line ++ codes "\n" ≡ refused_line (word_of refusal.what) refusal.number refusal.at
   pub means : sentence_of refusal.what refusal.number ≡ Some sentence

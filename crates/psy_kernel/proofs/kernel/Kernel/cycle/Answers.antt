@@ -37,7 +37,7 @@ is_on : (b : Bool) → not b ≡ false → b ≡ true
 is_on true e = refl
 is_on false e = sym e
 
--- the last action of the chosen agent, and what it has and sees
+-- The last action of the chosen agent, and what it has and sees
 module _ (k : Inside) (is : KernelStands k) (d : IsDue k) (agent : ℕ) (pick : IsPick k.ready (order_of k.plan.unit k.script k.cycles) agent) (date : ℕ) (date_is : date ≡ dates_done k.shared.date - 1) where
   abbrev r : Action
   r = (takes k is d agent pick).0
