@@ -1,4 +1,5 @@
 //! The operators of the language, why an action traps, and the tables of instructions.
+//! It may know numbers; no text.
 #![tactic(auto)]
 
 pub mod laws;

@@ -1,5 +1,6 @@
 //! The work at a date: actions that end there commit, what receivers took and what has expired goes, messages enter, variables publish,
 //! agents that were stopped fall silent, and the next actions start; and what all agents share between two dates.
+//! It may know the history's definitions; no cycles, no machines.
 #![tactic(auto)]
 
 mod clears;
