@@ -18,7 +18,7 @@ mod shared;
 
 pub use date::at_date;
 pub use outbox::Outbox;
-pub use plan::{Inputs, Plan};
+pub use plan::Plan;
 pub use psy_code::Sent;
 pub use seat::{Phase, Seat};
 pub use shared::Shared;

@@ -7,3 +7,4 @@ pub mod Regular
 pub mod Rings
 pub mod Likeness
 pub mod Scheduled
+pub mod Scripts

@@ -23,8 +23,8 @@ use Rattle.psy_tree.specs.declared.unit.Point.{Point}
 use Rattle.psy_tree.specs.declared.unit.Unit.{Unit as Whole}
 use Rattle.psy_kernel.specs.Acting.{came_to}
 use Rattle.psy_kernel.specs.Cycles.{AreOver, GetsCycle, MayEnd}
-use Rattle.psy_kernel.specs.declared.script.Script.{Script}
-use Rattle.psy_kernel.specs.Scripts.{IsScript, order_of}
+use Rattle.psy_history.specs.declared.told.Script.{Script}
+use Rattle.psy_history.specs.Scripts.{IsScript, order_of}
 use Rattle.psy_kernel.proofs.CyclesDone.{as_many, stays_over}
 use Rattle.psy_kernel.proofs.OrdersInForce.{lists_order}
 

@@ -32,8 +32,8 @@ use Rattle.psy_tree.specs.declared.unit.StreamDecl.{StreamDecl}
 use Rattle.psy_tree.specs.declared.unit.Unit.{Unit as Whole}
 use Rattle.psy_tree.specs.declared.unit.VarDecl.{VarDecl}
 use Rattle.psy_kernel.specs.Cycles.{GetsCycle, LooksBack}
-use Rattle.psy_kernel.specs.declared.script.Script.{Script}
-use Rattle.psy_kernel.specs.Scripts.{order_of}
+use Rattle.psy_history.specs.declared.told.Script.{Script}
+use Rattle.psy_history.specs.Scripts.{order_of}
 use Rattle.psy_kernel.specs.Standing.{charge_after}
 use Rattle.psy_kernel.proofs.CyclesDone.{as_many, tick_of_cycle}
 use Rattle.psy_kernel.proofs.LooksMade.{near, reached}

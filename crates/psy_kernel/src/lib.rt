@@ -5,10 +5,8 @@
 
 mod eyes;
 mod kernel;
-mod script;
 mod stage;
 
 pub use kernel::Kernel;
 pub use psy_budget::Stall;
-pub use script::{Order, Script};
 pub use stage::Stage;

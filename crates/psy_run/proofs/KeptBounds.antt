@@ -17,8 +17,8 @@ use Rattle.psy_history.specs.Regular.{IsLawful, IsRegular}
 use Rattle.psy_history.specs.Scheduled.{IsSupplied, turns_of}
 use Rattle.psy_dates.specs.declared.plan.Plan.{Plan}
 use Rattle.psy_dates.specs.Plans.{IsPlan}
-use Rattle.psy_kernel.specs.declared.script.Script.{Script}
-use Rattle.psy_kernel.specs.Scripts.{IsScript, order_of, stalls_of}
+use Rattle.psy_history.specs.declared.told.Script.{Script}
+use Rattle.psy_history.specs.Scripts.{IsScript, order_of, stalls_of}
 use Rattle.psy_run.specs.Bounds.{KeepsBounds}
 use Rattle.psy_run.specs.Services.{meaning_of}
 use Rattle.psy_run.proofs.KeptOrders.{order_each}

@@ -10,9 +10,9 @@ use Rattle.psy_dates.specs.declared.plan.Plan.{Plan}
 use Rattle.psy_dates.specs.Plans.{IsPlan}
 use Rattle.psy_history.specs.Compiled.{AreInputs, IsCompiled, coded, stated}
 use Rattle.psy_history.specs.Scheduled.{turns_of}
-use Rattle.psy_kernel.specs.declared.script.Script.{Script}
+use Rattle.psy_history.specs.declared.told.Script.{Script}
 use Rattle.psy_kernel.specs.Progress.{Progress, booted, order, system}
-use Rattle.psy_kernel.specs.Scripts.{IsScript, order_of, stalls_of}
+use Rattle.psy_history.specs.Scripts.{IsScript, order_of, stalls_of}
 use Rattle.psy_kernel.specs.Texts.{agent_end, event_line, lines_of, run_text, stream_end, summary_of, text_of, variable_end}
 use Rattle.psy_log.specs.Forms.{agent_line, end_line, stream_line, variable_line}
 use Rattle.psy_meaning.specs.Actions.{System, stream_of, variable_of}

@@ -5,9 +5,9 @@ use Rattle.psy_dates.specs.Plans.{IsPlan}
 use Rattle.psy_door.specs.Faults.{Rose}
 use Rattle.psy_door.specs.Files.{Files}
 use Rattle.psy_history.specs.Compiled.{AreInputs}
-use Rattle.psy_kernel.specs.declared.script.Script.{Script as Said}
+use Rattle.psy_history.specs.declared.told.Script.{Script as Said}
 use Rattle.psy_kernel.specs.Progress.{Progress, booted}
-use Rattle.psy_kernel.specs.Scripts.{IsScript}
+use Rattle.psy_history.specs.Scripts.{IsScript}
 use Rattle.psy_make.specs.Text.{made_text}
 use Rattle.psy_script.specs.declared.fault.LineKind.{LineKind}
 use Rattle.psy_script.specs.declared.fault.TextFault.{TextFault}

@@ -4,8 +4,8 @@ use Rattle.psy_base.specs.declared.limits.TheConstants.{RUN}
 use Rattle.psy_base.specs.declared.sizes.Sizes.{Sizes}
 use Rattle.psy_door.specs.Files.{Files}
 use Rattle.psy_tree.specs.declared.unit.Unit.{Unit as Whole}
-use Rattle.psy_kernel.specs.declared.script.Script.{Script}
-use Rattle.psy_kernel.specs.Scripts.{order_of}
+use Rattle.psy_history.specs.declared.told.Script.{Script}
+use Rattle.psy_history.specs.Scripts.{order_of}
 use Rattle.psy_kernel.specs.Texts.{run_text}
 use Rattle.psy_run.specs.Answer.{Answers, compiling, listing, scripting}
 use Rattle.psy_run.specs.Bounds.{KeepsBounds}

@@ -8,8 +8,8 @@ use Rattle.psy_meaning.specs.History.{history}
 use Rattle.psy_meaning.specs.Schedule.{finish}
 use Rattle.psy_meaning.specs.Summary.{most_held, reach}
 use Rattle.psy_history.specs.Scheduled.{IsFinished, turns_of}
-use Rattle.psy_kernel.specs.declared.script.Script.{Script}
-use Rattle.psy_kernel.specs.Scripts.{order_of}
+use Rattle.psy_history.specs.declared.told.Script.{Script}
+use Rattle.psy_history.specs.Scripts.{order_of}
 use Rattle.psy_run.specs.Services.{Service, Ran, Tried, meaning_of, no_inputs, no_script}
 
 -- A run up to a date keeps its bounds.

@@ -23,7 +23,7 @@ use Rattle.psy_graph.specs.declared.graph.Graph.{Graph}
 use Rattle.psy_graph.specs.Graphs.{AreGraphs, IsCause}
 use Rattle.psy_sizes.specs.declared.fault.SizeFault.TheVariants as size
 use Rattle.psy_sizes.specs.Faults.{CanCount, IsFaultBy}
-use Rattle.psy_kernel.specs.declared.script.Script.{Script as Said}
+use Rattle.psy_history.specs.declared.told.Script.{Script as Said}
 use Rattle.psy_script.specs.Faults.{HasManyLines, IsFirst}
 use Rattle.psy_script.specs.Inputs.{AreListsOf, inputs_judge}
 use Rattle.psy_script.specs.Script.{IsScriptOf, script_judge}

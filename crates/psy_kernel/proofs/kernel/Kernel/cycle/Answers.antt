@@ -19,7 +19,7 @@ use Rattle.psy_kernel.specs.Cycles.{BoxStands, IsGiven, OneStands}
 use Rattle.psy_kernel.specs.declared.kernel.Figure.{Figure}
 use Rattle.psy_kernel.specs.declared.kernel.Kernel.TheInside.{Inside}
 use Rattle.psy_kernel.specs.Progress.{Progress}
-use Rattle.psy_kernel.specs.Scripts.{order_of, stalls_of}
+use Rattle.psy_history.specs.Scripts.{order_of, stalls_of}
 use Rattle.psy_kernel.specs.Seeing.{sight_in}
 use Rattle.psy_kernel.specs.Standing.{AreInForce, IsChosen, KernelStands, progress_of}
 use Rattle.psy_kernel.proofs.CyclesGiven.{Takes, early, given_between, idle_between, is_given, known, near, on_date, reached_given, started_at, takes}

@@ -1,6 +1,12 @@
-//! What a run is told of execution times and ties.
+//! What a run is told from outside: the values of inputs, execution times and ties.
 use psy_base::Items;
 use psy_budget::Stall;
+
+/// By variable, the values of its list; empty where it has none.
+#[derive(Debug, Drop)]
+pub struct Inputs {
+    pub lists: Items<Items<i32>>,
+}
 
 /// From a cycle on, until a later one's order, ties of deadlines go by this order, which lists each agent once.
 #[derive(Debug, Drop)]

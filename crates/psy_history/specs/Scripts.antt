@@ -6,8 +6,8 @@ use Rattle.psy_budget.specs.declared.charge.Stall.{Stall}
 use Rattle.psy_budget.specs.Charges.{IsBelow}
 use Rattle.psy_ready.specs.Choice.{ListsEach}
 use Rattle.psy_tree.specs.declared.unit.Unit.{Unit as Whole}
-use Rattle.psy_kernel.specs.declared.script.Order.{Order}
-use Rattle.psy_kernel.specs.declared.script.Script.{Script}
+use Rattle.psy_history.specs.declared.told.Order.{Order}
+use Rattle.psy_history.specs.declared.told.Script.{Script}
 
 -- One stall stands before another: by agent, then by action, then by instruction.
 abbrev pub StallBefore : Stall → Stall → Type 0
