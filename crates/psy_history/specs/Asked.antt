@@ -1,5 +1,5 @@
 -- What agents may still ask of the processor by a date, and the bound on it that the schedule keeps at each cycle.
-use Rattle.std.specs.Prelude.{◌≡◌, ◌⊎◌, ℕ, ◌+◌, ◌-◌, ◌*◌, ◌/◌, ◌<◌, ◌≤◌, Bool, true, false, ◌&&◌, if◌then◌else◌, nat_le}
+use Rattle.std.specs.Prelude.{◌≡◌, ◌⊎◌, ℕ, ◌+◌, ◌-◌, ◌*◌, ◌/◌, ◌<◌, ◌≤◌, true, false, ◌&&◌, if◌then◌else◌, nat_le}
 use Rattle.std.specs.Prelude.{List, [], ◌∷◌, length, Option, Some, slice_get, sum_by}
 use Rattle.std.specs.List.{All, Contains, range_with_len}
 use Rattle.psy_base.specs.declared.edge.Edge.{Edge}
@@ -27,14 +27,14 @@ module _ (s : System) (graphs : List (List Edge)) (agent : ℕ) (g : Drawn s gra
   IsStep point start to e = IsEdgeOf (timing s agent) g.graph.cycle g.spots point start to e
 
   -- What may follow the agent's present action, as a path of its graph whose last action is due by a date: nothing; what follows from
-  -- where a pending action may end; or, where its actions are finished, the next one and what follows that. An agent that is silent has
-  -- no next one.
+  -- where a pending action may end; or, where its actions are finished, the next one and what follows that. Behind an action that
+  -- was stopped there is no next one.
   pub data IsContinuation (by : ℕ) (turns : List (Option Turn)) : List Action → List Edge → Type 0 where
     nothing : {actions : List Action} → IsContinuation by turns actions []
     behind : {r : Action} {before : List Action} {to : ℕ} {e : Edge} {path : List Edge} → is_pending turns r ≡ true
         → IsStep r.point r.start to e → IsPathFrom g.edges e.to path → DueBy by (r.start + e.len) path
         → IsContinuation by turns (r ∷ before) path
-    next : {actions : List Action} {n : Next} {node : ℕ} {path : List Edge} → All (λ r. is_pending turns r ≡ false) actions
+    next : {actions : List Action} {n : Next} {path : List Edge} (node : ℕ) → All (λ r. is_pending turns r ≡ false) actions
         → next_of s agent actions ≡ Some n → IsNode n.point n.start node → IsPathFrom g.edges node path → DueBy by n.start path
         → IsContinuation by turns actions path
 

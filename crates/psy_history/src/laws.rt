@@ -104,8 +104,8 @@ pub fn given()
 
 /// Where the processor can supply the demand up to a date, each action that is due by then is finished, or stopped, by its deadline
 /// (Baruah, Rosier, Howell 1990): it has had all its work, and the cycle behind its last one is no later. So of an agent's actions the last
-/// alone is pending. What is kept at each cycle, for each date up to that one: all is finished that is due by the date, or what may still be
-/// asked by then is no more than is left of the cycles.
+/// alone is pending. What is kept before each cycle, for each later date up to that one: all is finished that is due by the date, or what may
+/// still be asked by then is no more than the cycles that are left until it.
 pub fn on_time()
     ensures kept { (s : System) (order : ℕ → List ℕ) (until cycle by : ℕ) (supplied : IsSupplied s order until) → cycle < s.unit.quantum * by
         → by ≤ until → IsBoundedBy s order supplied.graphs cycle by }
