@@ -6,6 +6,9 @@ mod operators;
 mod table;
 #[cfg(test)]
 mod tests;
+mod width;
+pub mod widths;
 
 pub use operators::{Op1, Op2, Trap, apply1, apply2};
 pub use table::{Row, Table};
+pub use width::Width;
