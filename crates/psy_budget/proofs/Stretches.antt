@@ -24,10 +24,18 @@ went_none Spent c = refl
 next_sum : (a n : ℕ) → a + n + 1 ≡ a + suc n
 next_sum a n = omega arith
 
+suc_sum : (a n : ℕ) → suc (a + n) ≡ a + suc n
+suc_sum a n = omega arith
+
 went_more : (t : Tick) (c : Charged) (n : ℕ) → after_tick (went t c n) t ≡ went t c (suc n)
 went_more Paid c n = rw (next_sum c.consumed n) (rw (next_sum c.paid n) refl)
 went_more Stalled c n = rw (next_sum c.consumed n) refl
 went_more Spent c n = refl
+
+-- Cycles behind others are further ones.
+pub further : (c : Charged) (n more : ℕ) → ticked (ticked c n) more ≡ ticked c (n + more)
+further c n zero = ap (ticked c) (sym (add-zero n))
+further c n (suc more) = ap (λ (d : Charged). after_tick d (tick_of d)) (further c n more) ∙ ap (ticked c) (suc_sum n more)
 
 module _ (t : Tick) (c : Charged) where
   -- what cycles leave that all go to this

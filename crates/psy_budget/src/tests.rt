@@ -68,5 +68,6 @@ fn stretches_go_up_to_the_next_stall_and_the_budget(rt: HostRuntime) -> Result<(
         (charge.skip(9), charge.free(9), charge.tick()),
         (0, 0, Tick::Spent)
     );
+    laws::stretches();
     Ok(())
 }
