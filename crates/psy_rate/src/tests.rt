@@ -1,0 +1,1 @@
+//! Lines and horizons that were worked out by hand.
