@@ -1,8 +1,8 @@
 -- A path of more edges than there are nodes goes round a closed path, which can be cut out of it.
-use Rattle.std.proofs.Common.{◌≡◌, ◌≢◌, ◌⊎◌, ℕ, suc, ◌+◌, ◌*◌, ◌<◌, ◌≤◌, List, [], ◌∷◌, true, false, length, map, refl, ap, sym, subst, ◌∙◌, inl, inr, arith}
-use Rattle.std.specs.List.{Contains, All, AllByRecursion, IsDistinct, list_any}
+use Rattle.std.proofs.Common.{◌≡◌, ◌⊎◌, ℕ, ◌+◌, ◌<◌, ◌≤◌, List, [], ◌∷◌, true, false, length, map, refl, sym, subst, ◌∙◌, inl, inr, arith}
+use Rattle.std.specs.List.{All, AllByRecursion, IsDistinct, list_any}
 use Rattle.std.proofs.Math.Dec.{eqb}
-use Rattle.std.proofs.lemmas.Bool.{cases_eq, eqb-true, eq-eqb, ne_eqb, or_cases}
+use Rattle.std.proofs.lemmas.Bool.{cases_eq, eqb-true, ne_eqb, or_cases}
 use Rattle.std.proofs.lemmas.List.{length-map}
 use Rattle.std.proofs.lemmas.List.Elements.{All-contains}
 use Rattle.std.proofs.lemmas.Map.Steps.{length-le_from_distinct_below}
@@ -49,28 +49,28 @@ split graph at node [] is = inr tt
 split graph at node (e ∷ path) is =
     elim (cases_eq at e.from) [
       | inl here ↦ inl (record {
-          before = [];
-          after = e ∷ path;
-          leads = tt;
-          there = sym is.1 ∙ sym here;
-          is_path = (is.0, sym here, is.2);
-          some = omega arith;
-          shorter = omega arith;
-          weight = omega arith;
-          due = omega arith;
-        })
+        before = [];
+        after = e ∷ path;
+        leads = tt;
+        there = sym is.1 ∙ sym here;
+        is_path = (is.0, sym here, is.2);
+        some = omega arith;
+        shorter = omega arith;
+        weight = omega arith;
+        due = omega arith;
+      })
       | inr other ↦ elim (split graph at e.to path is.2) [
         | inl later ↦ inl (record {
-            before = e ∷ later.before;
-            after = later.after;
-            leads = (is.0, is.1, later.leads);
-            there = later.there;
-            is_path = later.is_path;
-            some = later.some;
-            shorter = omega (arith, later.shorter);
-            weight = omega (arith, later.weight);
-            due = omega (arith, due_cons e path (omega (arith, later.some, later.shorter)), later.due);
-          })
+          before = e ∷ later.before;
+          after = later.after;
+          leads = (is.0, is.1, later.leads);
+          there = later.there;
+          is_path = later.is_path;
+          some = later.some;
+          shorter = omega (arith, later.shorter);
+          weight = omega (arith, later.weight);
+          due = omega (arith, due_cons e path (omega (arith, later.some, later.shorter)), later.due);
+        })
         | inr none ↦ inr (ne_eqb at e.from other, none)
       ]
     ]
@@ -82,26 +82,26 @@ cut_cases graph node [] is = inr tt
 cut_cases graph node (e ∷ path) is =
     elim (cut_cases graph e.to path is.2) [
       | inl cut ↦ inl (record {
-          loop = cut.loop;
-          rest = e ∷ cut.rest;
-          closed = cut.closed;
-          is_path = (is.0, is.1, cut.is_path);
-          some = omega arith;
-          shorter = omega (arith, cut.shorter);
-          weight = omega (arith, cut.weight);
-          due = omega (arith, due_cons e path (omega (arith, cut.some, cut.shorter)), due_cons e cut.rest cut.some, cut.due);
-        })
+        loop = cut.loop;
+        rest = e ∷ cut.rest;
+        closed = cut.closed;
+        is_path = (is.0, is.1, cut.is_path);
+        some = omega arith;
+        shorter = omega (arith, cut.shorter);
+        weight = omega (arith, cut.weight);
+        due = omega (arith, due_cons e path (omega (arith, cut.some, cut.shorter)), due_cons e cut.rest cut.some, cut.due);
+      })
       | inr distinct ↦ elim (split graph e.from e.to path is.2) [
         | inl back ↦ inl (record {
-            loop = e ∷ back.before;
-            rest = back.after;
-            closed = ((is.0, refl, back.leads), back.there);
-            is_path = subst (λ m. IsPathFrom graph m back.after) is.1 back.is_path;
-            some = back.some;
-            shorter = omega (arith, back.shorter);
-            weight = omega (arith, back.weight);
-            due = omega (arith, due_cons e path (omega (arith, back.some, back.shorter)), back.due);
-          })
+          loop = e ∷ back.before;
+          rest = back.after;
+          closed = ((is.0, refl, back.leads), back.there);
+          is_path = subst (λ m. IsPathFrom graph m back.after) is.1 back.is_path;
+          some = back.some;
+          shorter = omega (arith, back.shorter);
+          weight = omega (arith, back.weight);
+          due = omega (arith, due_cons e path (omega (arith, back.some, back.shorter)), back.due);
+        })
         | inr none ↦ inr (none, distinct)
       ]
     ]

@@ -1,11 +1,11 @@
 -- The demand is below the lines, and so below the supply from the horizon on.
-use Rattle.std.proofs.Common.{◌≡◌, ◌⊎◌, ℕ, ◌+◌, ◌-◌, ◌*◌, ◌<◌, ◌≤◌, List, [], ◌∷◌, All, refl, ap, sym, subst, ◌∙◌, inl, inr, arith}
+use Rattle.std.proofs.Common.{◌≡◌, ℕ, ◌+◌, ◌-◌, ◌*◌, ◌≤◌, List, [], ◌∷◌, All, ap, sym, ◌∙◌, inl, inr, arith}
 use Rattle.std.proofs.lemmas.Bool.{cases_lt}
 use Rattle.std.proofs.lemmas.List.Elements.{All-nil, All-cons, All-head, All-tail}
 use Rattle.std.proofs.lemmas.List.Sums.{sum_by-cons}
-use Rattle.std.proofs.Math.Nat.{add-mul, mul-le-mul_left, le_of_mul-le-mul_right, mul_comm}
+use Rattle.std.proofs.Math.Nat.{add-mul, mul-le-mul_left}
 use Rattle.psy_base.specs.declared.edge.Edge.{Edge}
-use Rattle.psy_base.specs.Paths.{DueBy, FitsDueLast, IsGreatestWeight, weight_of}
+use Rattle.psy_base.specs.Paths.{DueBy, FitsDueLast, IsGreatestWeight}
 use Rattle.psy_meaning.specs.Demand.{IsDemand, Suffices}
 use Rattle.psy_rate.specs.Horizons.{rate_of, intercept_of, Covers, IsHorizonOf, IsHorizon, AreFeasible, HaveDemands}
 use Rattle.psy_rate.specs.Lines.{IsRateOf, AreRates, AreAll, due_of}
@@ -61,8 +61,8 @@ groups_behind (graphs ∷ groups) (ls ∷ lines) quantum horizon length have are
     let Q : List Rate → Type 0 = λ rs. (own : ℕ) × IsHorizonOf quantum rs own × (own ≤ horizon) in
     let own : (own : ℕ) × IsHorizonOf quantum ls own × (own ≤ horizon) = All-head Q ls lines each in
     All-cons (λ gs. Suffices gs quantum length) graphs groups
-        (behind graphs ls quantum own.0 length are.0 (All-head P graphs groups have) own.1.covers (omega (arith, own.2, later)))
-        (groups_behind groups lines quantum horizon length (All-tail P graphs groups have) are.1 (All-tail Q ls lines each) later)
+    (behind graphs ls quantum own.0 length are.0 (All-head P graphs groups have) own.1.covers (omega (arith, own.2, later)))
+    (groups_behind groups lines quantum horizon length (All-tail P graphs groups have) are.1 (All-tail Q ls lines each) later)
 
 -- Where the supply suffices up to the horizon it suffices over every length.
 pub always : (groups : List (List (List Edge))) (lines : List (List Rate)) (quantum horizon : ℕ) → HaveDemands groups → AreAll groups lines → IsHorizon quantum lines horizon → AreFeasible groups quantum horizon → (top : ℕ) → AreFeasible groups quantum top

@@ -1,12 +1,12 @@
 -- The line of a graph is there, for the passes can be made whatever the graph; and it is one.
-use Rattle.std.proofs.Common.{◌≡◌, ◌⊎◌, ℕ, zero, suc, ◌+◌, ◌-◌, ◌*◌, ◌<◌, ◌≤◌, List, [], Option, Some, None, length, get_or, set, max, replicate, All, add-one, refl, ap, sym, subst, ◌∙◌, inl, inr, arith}
+use Rattle.std.proofs.Common.{◌≡◌, ◌⊎◌, ℕ, zero, suc, ◌+◌, ◌*◌, ◌<◌, ◌≤◌, List, Option, Some, None, length, get_or, set, max, replicate, All, add-one, refl, ap, sym, subst, ◌∙◌, inl, inr, arith}
 use Rattle.std.specs.List.{Contains}
 use Rattle.std.proofs.lemmas.Bool.{cases_lt}
 use Rattle.std.proofs.lemmas.List.{get_or-replicate, length-replicate}
 use Rattle.std.proofs.lemmas.List.Elements.{All-contains}
 use Rattle.psy_base.specs.declared.edge.Edge.{Edge}
 use Rattle.psy_base.specs.declared.limits.TheConstants.{BUDGET, EDGES}
-use Rattle.psy_rate.specs.Lines.{Allows, IsRate, IsIntercept, IsRateOf}
+use Rattle.psy_rate.specs.Lines.{Allows, IsIntercept, IsRateOf}
 use Rattle.psy_rate.specs.Rows.{excess, IsRow, HasGone, IsGreatest}
 use Rattle.psy_rate.specs.Trials.{IsPassed}
 use Rattle.psy_rate.specs.declared.line.Rate.{Rate}
@@ -34,17 +34,17 @@ going_some graph rate count before edges cells (suc seen) less =
     let all : All (IsEdge (length going.row)) graph = subst (λ n. All (IsEdge n) graph) (sym going.gone.size) edges in
     let next : IsGoing graph (seen + 1) rate count before = elim (cases_lt (get_or going.row (next_of graph seen).from 0) (excess rate (next_of graph seen) (get_or going.row (next_of graph seen).to 0))) [
       | inl grew ↦ record {
-          row = set going.row (next_of graph seen).from (excess rate (next_of graph seen) (get_or going.row (next_of graph seen).to 0));
-          last = Some (next_of graph seen).from;
-          cells = next_grows graph seen rate going.row here all count (excess rate (next_of graph seen) (get_or going.row (next_of graph seen).to 0)) refl grew going.cells;
-          gone = grows_gone graph seen rate going.row here all before going.last (excess rate (next_of graph seen) (get_or going.row (next_of graph seen).to 0)) grew going.gone;
-        }
+        row = set going.row (next_of graph seen).from (excess rate (next_of graph seen) (get_or going.row (next_of graph seen).to 0));
+        last = Some (next_of graph seen).from;
+        cells = next_grows graph seen rate going.row here all count (excess rate (next_of graph seen) (get_or going.row (next_of graph seen).to 0)) refl grew going.cells;
+        gone = grows_gone graph seen rate going.row here all before going.last (excess rate (next_of graph seen) (get_or going.row (next_of graph seen).to 0)) grew going.gone;
+      }
       | inr stays ↦ record {
-          row = going.row;
-          last = going.last;
-          cells = next_stays graph seen rate going.row here all count stays going.cells;
-          gone = stays_gone graph seen rate going.row here all before going.last stays going.gone;
-        }
+        row = going.row;
+        last = going.last;
+        cells = next_stays graph seen rate going.row here all count stays going.cells;
+        gone = stays_gone graph seen rate going.row here all before going.last stays going.gone;
+      }
     ] in
     subst (λ n. IsGoing graph n rate count before) (add-one seen) next
 
@@ -71,7 +71,7 @@ passes_more graph nodes rate count before edges few size cells =
     ends : (row : List ℕ) (last : Option ℕ) → IsRow graph (length graph) rate count row → HasGone graph (length graph) rate before row last → All (IsEdge (length before)) graph → Passes graph nodes rate (count + 1)
     ends row (Some node) new gone all =
         goes_on row (gone.size ∙ size) (row_done graph rate count row few new)
-            (λ many. grown graph rate count node before row all (omega (arith, many, size)) gone.size gone.outcome.0 gone.outcome.1 cells (row_done graph rate count row few new))
+        (λ many. grown graph rate count node before row all (omega (arith, many, size)) gone.size gone.outcome.0 gone.outcome.1 cells (row_done graph rate count row few new))
     ends row None new gone all =
         let top = greatest_some row (length row) (omega arith) in
         let inside : (e : Edge) → Contains graph e → e.from < length row = λ e in'. omega (arith, gone.size, (All-contains (IsEdge (length before)) graph e all in').from) in

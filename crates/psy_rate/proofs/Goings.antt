@@ -1,8 +1,8 @@
 -- How a row goes from one to the next: which cell grew, and what it means that none did.
-use Rattle.std.proofs.Common.{◌≡◌, ◌≢◌, ◌⊎◌, ℕ, ◌+◌, ◌-◌, ◌*◌, ◌<◌, ◌≤◌, List, [], ◌∷◌, Option, Some, None, length, get_or, max, set, refl, sym, subst, ◌∙◌, inl, inr, arith}
+use Rattle.std.proofs.Common.{◌≡◌, ◌≢◌, ℕ, ◌+◌, ◌-◌, ◌<◌, ◌≤◌, List, Option, Some, None, length, get_or, refl, sym, subst, ◌∙◌, inl, inr, arith}
 use Rattle.std.proofs.lemmas.Bool.{cases_eq}
 use Rattle.psy_base.specs.declared.edge.Edge.{Edge}
-use Rattle.psy_rate.specs.Rows.{excess, IsSeen, IsSettled, HasGone}
+use Rattle.psy_rate.specs.Rows.{excess, HasGone}
 use Rattle.psy_rate.proofs.Cells.{seen_cases}
 
 -- Before the first edge.
@@ -22,10 +22,13 @@ gone_stays graph seen rate before row None e less at given gone =
     record {
       size = gone.size;
       grows = gone.grows;
-      outcome = (gone.outcome.0, λ f seen_f. elim (seen_cases graph seen e f less at seen_f) [
-        | inl same ↦ subst (λ g. excess rate g (get_or row g.to 0) ≤ get_or row g.from 0) same given
-        | inr earlier ↦ gone.outcome.1 f earlier
-      ]);
+      outcome = (
+        gone.outcome.0,
+        λ f seen_f. elim (seen_cases graph seen e f less at seen_f) [
+          | inl same ↦ subst (λ g. excess rate g (get_or row g.to 0) ≤ get_or row g.from 0) same given
+          | inr earlier ↦ gone.outcome.1 f earlier
+        ],
+      );
     }
 
 -- The cell of its node grows.

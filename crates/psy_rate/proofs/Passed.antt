@@ -1,5 +1,5 @@
 -- A number that a closed path passes; and bounds on what paths of few edges allow.
-use Rattle.std.proofs.Common.{◌≡◌, ◌⊎◌, ℕ, zero, suc, ◌+◌, ◌*◌, ◌<◌, ◌≤◌, List, [], ◌∷◌, length, get_or, All, refl, ap, sym, subst, ◌∙◌, inl, inr, arith}
+use Rattle.std.proofs.Common.{◌≡◌, ◌⊎◌, ℕ, zero, suc, ◌+◌, ◌*◌, ◌<◌, ◌≤◌, List, [], ◌∷◌, length, get_or, All, ap, ◌∙◌, inl, inr, arith}
 use Rattle.std.proofs.lemmas.Bool.{cases_lt}
 use Rattle.std.proofs.lemmas.List.Elements.{All-contains}
 use Rattle.std.proofs.lemmas.Nat.{mul-le}
@@ -7,7 +7,7 @@ use Rattle.std.proofs.Math.Nat.{mul-add}
 use Rattle.psy_base.specs.declared.edge.Edge.{Edge}
 use Rattle.psy_base.specs.declared.limits.TheConstants.{BUDGET}
 use Rattle.psy_base.specs.Paths.{IsPathFrom, weight_of, length_of}
-use Rattle.psy_rate.specs.Lines.{IsClosed, Allows, IsRate, IsIntercept, due_of}
+use Rattle.psy_rate.specs.Lines.{IsClosed, Allows, IsIntercept, due_of}
 use Rattle.psy_rate.specs.Rows.{IsWithin, IsRow, IsCell}
 use Rattle.psy_rate.specs.Trials.{IsPassed}
 use Rattle.psy_rate.specs.declared.line.TheConstants.{SCALE}
@@ -22,8 +22,8 @@ passed_one graph rate path closed passes =
       path = path;
       closed = closed;
       passes = λ less below. (
-        let l : less * length_of path ≤ rate * length_of path = mul-le less (length_of path) rate (length_of path) (omega (arith, below)) (omega arith) in
-        omega (arith, l, passes));
+          let l : less * length_of path ≤ rate * length_of path = mul-le less (length_of path) rate (length_of path) (omega (arith, below)) (omega arith) in
+          omega (arith, l, passes));
     }
 
 -- No number below is allowed.

@@ -1,15 +1,14 @@
 -- A settled row shows that the rate is allowed, and its greatest cell is the intercept. No closed path is looked for.
-use Rattle.std.proofs.Common.{◌≡◌, ◌⊎◌, ℕ, ◌+◌, ◌-◌, ◌*◌, ◌<◌, ◌≤◌, List, [], ◌∷◌, length, get_or, max, refl, sym, subst, ◌∙◌, inl, inr, arith}
+use Rattle.std.proofs.Common.{◌≡◌, ◌⊎◌, ℕ, ◌+◌, ◌*◌, ◌<◌, ◌≤◌, List, [], ◌∷◌, length, get_or, max, sym, subst, inl, inr, arith}
 use Rattle.std.specs.List.{Contains}
 use Rattle.std.proofs.lemmas.Bool.{cases_eq, cases_lt}
 use Rattle.std.proofs.Math.Nat.{mul-add}
 use Rattle.psy_base.specs.declared.edge.Edge.{Edge}
-use Rattle.psy_base.specs.Paths.{IsPathFrom, IsPath, weight_of, length_of}
-use Rattle.psy_rate.specs.Lines.{IsClosed, Allows, IsIntercept, end_of, due_of}
-use Rattle.psy_rate.specs.Rows.{excess, IsWithin, IsSettled, IsRow, IsCell, IsGreatest}
+use Rattle.psy_base.specs.Paths.{IsPathFrom, weight_of, length_of}
+use Rattle.psy_rate.specs.Lines.{Allows, IsIntercept, end_of}
+use Rattle.psy_rate.specs.Rows.{excess, IsWithin, IsSettled, IsRow, IsGreatest}
 use Rattle.psy_rate.specs.declared.line.TheConstants.{SCALE}
 use Rattle.psy_rate.proofs.Excesses.{within_more, within_nil, within_cons}
-use Rattle.psy_window.specs.Windows.{IsEdge}
 
 -- The greatest of the cells that were looked at, and one more.
 pub greatest_more : (row : List ℕ) (seen n m : ℕ) → seen < length row → m ≡ max n (get_or row seen 0) → IsGreatest row seen n → IsGreatest row (seen + 1) m

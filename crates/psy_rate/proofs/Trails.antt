@@ -1,8 +1,8 @@
 -- A trail along edges, and what a trail that comes back shows.
-use Rattle.std.proofs.Common.{◌≡◌, ◌≢◌, ℕ, ◌+◌, ◌-◌, ◌*◌, ◌/◌, ◌%◌, ◌<◌, ◌≤◌, List, [], ◌∷◌, ◌++◌, min, refl, ap, sym, subst, ◌∙◌, arith}
+use Rattle.std.proofs.Common.{◌≡◌, ℕ, ◌+◌, ◌*◌, ◌/◌, ◌%◌, ◌<◌, ◌≤◌, List, [], ◌∷◌, ◌++◌, min, refl, ap, sym, subst, ◌∙◌, arith}
 use Rattle.std.specs.List.{Contains}
 use Rattle.std.proofs.lemmas.Grind.{div_ceil_times}
-use Rattle.std.proofs.Math.Nat.{mul-le-mul_left, add-mul, suc-mul, mul_comm}
+use Rattle.std.proofs.Math.Nat.{mul-le-mul_left, add-mul, mul_comm}
 use Rattle.psy_base.specs.declared.edge.Edge.{Edge}
 use Rattle.psy_base.specs.Paths.{IsPathFrom, weight_of, length_of}
 use Rattle.psy_rate.specs.Lines.{IsClosed, end_of}
@@ -56,11 +56,11 @@ passed_by graph start rate weight len next trail some is above =
       path = trail.path;
       closed = closed_by graph start trail.path trail.is_path trail.end (omega (arith, some, trail.lasts));
       passes = λ less below. (
-        let most : next * len < SCALE * weight + len = subst (λ n. n * len < SCALE * weight + len) (sym is) (div_ceil_times (SCALE * weight) len (omega (arith, some))).1 in
-        let grows : len * (less + 1) ≤ len * next = mul-le-mul_left len (omega (arith, below)) in
-        let turned : len * next ≡ next * len = mul_comm len next in
-        let turned' : len * (less + 1) ≡ (less + 1) * len = mul_comm len (less + 1) in
-        let one : (less + 1) * len ≡ less * len + 1 * len = add-mul less 1 len in
-        let l : less * len < SCALE * weight = omega (arith, most, grows, turned, turned', one) in
-        subst (λ w. less * length_of trail.path < SCALE * w) (sym trail.weighs) (subst (λ m. less * m < SCALE * weight) (sym trail.lasts) l));
+          let most : next * len < SCALE * weight + len = subst (λ n. n * len < SCALE * weight + len) (sym is) (div_ceil_times (SCALE * weight) len (omega (arith, some))).1 in
+          let grows : len * (less + 1) ≤ len * next = mul-le-mul_left len (omega (arith, below)) in
+          let turned : len * next ≡ next * len = mul_comm len next in
+          let turned' : len * (less + 1) ≡ (less + 1) * len = mul_comm len (less + 1) in
+          let one : (less + 1) * len ≡ less * len + 1 * len = add-mul less 1 len in
+          let l : less * len < SCALE * weight = omega (arith, most, grows, turned, turned', one) in
+          subst (λ w. less * length_of trail.path < SCALE * w) (sym trail.weighs) (subst (λ m. less * m < SCALE * weight) (sym trail.lasts) l));
     }

@@ -1,6 +1,6 @@
 -- From which length on the supply is above the lines of all agents, and what follows for the demand. Agents are in groups, one
 -- for each processor.
-use Rattle.std.specs.Prelude.{◌≡◌, ◌⊎◌, ℕ, ◌+◌, ◌-◌, ◌*◌, ◌≤◌, List, All}
+use Rattle.std.specs.Prelude.{◌≡◌, ◌⊎◌, ℕ, ◌-◌, ◌*◌, ◌≤◌, List, All}
 use Rattle.std.specs.List.{Contains, sum_by}
 use Rattle.psy_base.specs.declared.edge.Edge.{Edge}
 use Rattle.psy_meaning.specs.Demand.{IsDemand, Suffices}

@@ -1,5 +1,5 @@
 -- What is left of the proof of `rates::rise`.
-use Rattle.std.proofs.Common.{◌≡◌, ℕ, ◌+◌, ◌*◌, ◌<◌, ◌≤◌, All, length, arith, sym, subst}
+use Rattle.std.proofs.Common.{◌≡◌, ◌*◌, ◌≤◌, All, length, arith, sym, subst}
 use Rattle.psy_base.specs.declared.limits.TheConstants.{BUDGET}
 use Rattle.psy_rate.specs.declared.line.TheConstants.{SCALE}
 use Rattle.psy_rate.proofs.Passed.{passed_least, rate_small}

@@ -1,5 +1,5 @@
 -- What each loop of `rates::rise` keeps.
-use Rattle.std.proofs.Common.{◌≡◌, ℕ, ◌-◌, ◌*◌, ◌≤◌, length}
+use Rattle.std.proofs.Common.{ℕ, ◌-◌, ◌*◌, ◌≤◌}
 use Rattle.psy_base.specs.declared.limits.TheConstants.{BUDGET}
 use Rattle.psy_rate.specs.Lines.{Allows}
 use Rattle.psy_rate.specs.declared.line.TheConstants.{SCALE}

@@ -1,5 +1,5 @@
 -- What each loop of `rates::try_rate` keeps.
-use Rattle.std.proofs.Common.{◌≡◌, ◌+◌, ◌<◌, length}
+use Rattle.std.proofs.Common.{◌+◌, ◌<◌, length}
 use Rattle.psy_rate.specs.Rows.{IsRow}
 use Rattle.psy_rate.specs.Trials.{IsPassed}
 use Rattle.psy_rate.proofs.rates.try_rate.Given as goal

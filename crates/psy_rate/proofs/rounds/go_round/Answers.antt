@@ -1,5 +1,5 @@
 -- What is left of the proof of `rounds::go_round`.
-use Rattle.std.proofs.Common.{◌≡◌, ℕ, ◌+◌, ◌≤◌, length, refl, arith, sym, subst}
+use Rattle.std.proofs.Common.{◌+◌, length, arith, sym, subst}
 use Rattle.std.proofs.lemmas.List.Elements.{All-contains}
 use Rattle.psy_rate.specs.Trials.{IsTrail}
 use Rattle.psy_rate.proofs.Trails.{trail_none, trail_more}

@@ -1,6 +1,6 @@
 -- What each loop of `rounds::go_round` keeps.
-use Rattle.std.proofs.Common.{◌*◌, ◌≤◌, length}
-use Rattle.psy_base.specs.declared.limits.TheConstants.{BUDGET, NODES}
+use Rattle.std.proofs.Common.{◌*◌, ◌≤◌}
+use Rattle.psy_base.specs.declared.limits.TheConstants.{BUDGET}
 use Rattle.psy_rate.specs.Trials.{IsTrail}
 use Rattle.psy_rate.proofs.rounds.go_round.Given as goal
 

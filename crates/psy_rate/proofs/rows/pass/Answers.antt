@@ -1,6 +1,5 @@
 -- What is left of the proof of `rows::pass`.
-use Rattle.std.proofs.Common.{◌≡◌, ℕ, ◌+◌, ◌≤◌, List, All, length, refl, sym, subst, ◌∙◌, arith}
-use Rattle.psy_base.specs.declared.edge.Edge.{Edge}
+use Rattle.std.proofs.Common.{◌≡◌, All, length, sym, subst, arith}
 use Rattle.psy_window.specs.Windows.{IsEdge}
 use Rattle.psy_rate.specs.Rows.{IsRow, HasGone}
 use Rattle.psy_rate.proofs.Cells.{row_done}
