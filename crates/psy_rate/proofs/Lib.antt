@@ -8,4 +8,4 @@ pub mod Goings
 pub mod Passed
 pub mod Potentials
 pub mod Steps
-pub mod Trails
+pub mod Walks

@@ -9,22 +9,26 @@ use Rattle.psy_rate.proofs.Cells.{row_more}
 use Rattle.psy_rate.proofs.Goings.{gone_stays, gone_grows}
 use Rattle.psy_window.specs.Windows.{IsEdge}
 
+-- What stands where there is no edge.
+abbrev no_edge : Edge
+no_edge = record { from = 0; to = 0; len = 0; due = 0; weight = 0 }
+
 -- The next edge, from the last one on
 abbrev pub next_of : List Edge → ℕ → Edge
-next_of graph seen = get_or graph (length graph - 1 - seen) (record { from = 0; to = 0; len = 0; due = 0; weight = 0 })
+next_of graph seen = get_or graph (length graph - 1 - seen) no_edge
 
 module _ (graph : List Edge) (seen rate : ℕ) (row : List ℕ) (less : seen < length graph) (edges : All (IsEdge (length row)) graph) where
   inside : length graph - 1 - seen < length graph
   inside = omega (arith, less)
 
   at : (d : Edge) → get_or graph (length graph - 1 - seen) d ≡ next_of graph seen
-  at d = get_or_default graph (length graph - 1 - seen) d (record { from = 0; to = 0; len = 0; due = 0; weight = 0 }) inside
+  at d = get_or_default graph (length graph - 1 - seen) d no_edge inside
 
   edge : IsEdge (length row) (next_of graph seen)
-  edge = All-get_or (IsEdge (length row)) graph (length graph - 1 - seen) (record { from = 0; to = 0; len = 0; due = 0; weight = 0 }) inside edges
+  edge = All-get_or (IsEdge (length row)) graph (length graph - 1 - seen) no_edge inside edges
 
   contained : Contains graph (next_of graph seen)
-  contained = Contains-get_or graph (length graph - 1 - seen) (record { from = 0; to = 0; len = 0; due = 0; weight = 0 }) inside
+  contained = Contains-get_or graph (length graph - 1 - seen) no_edge inside
 
   pub next_stays : (count : ℕ) → excess rate (next_of graph seen) (get_or row (next_of graph seen).to 0) ≤ get_or row (next_of graph seen).from 0 → IsRow graph seen rate count row → IsRow graph (seen + 1) rate count row
   next_stays count given cells = row_more graph seen rate count row row (next_of graph seen) less at contained edge refl (omega (arith, given)) (λ node other. refl) cells

@@ -15,7 +15,7 @@ pub record IsPassed (graph : List Edge) (rate next : ℕ) : Type 0 where
   pub passes : (less : ℕ) → less < next → less * length_of path < SCALE * weight_of path
 
 -- A path from a node to another, with its weight and its length
-pub record IsTrail (graph : List Edge) (start node weight length : ℕ) : Type 0 where
+pub record IsWalk (graph : List Edge) (start node weight length : ℕ) : Type 0 where
   pub path : List Edge
   pub is_path : IsPathFrom graph start path
   pub end : end_of start path ≡ node

@@ -14,8 +14,10 @@ use crate::line::SCALE;
 /// The demand over each length is at most the sum of the lines. So where the supply suffices over each length up to the
 /// horizon, it suffices over every length.
 pub fn always()
-    ensures line { (graphs : List (List Edge)) (lines : List Rate) (length demand : ℕ) → AreRates graphs lines → IsDemand graphs length demand → demand * SCALE ≤ rate_of lines * length + intercept_of lines }
-    ensures every { (groups : List (List (List Edge))) (lines : List (List Rate)) (quantum horizon : ℕ) → HaveDemands groups → AreAll groups lines → IsHorizon quantum lines horizon → AreFeasible groups quantum horizon → (top : ℕ) → AreFeasible groups quantum top }
+    ensures line { (graphs : List (List Edge)) (lines : List Rate) (length demand : ℕ) → AreRates graphs lines → IsDemand graphs length demand
+        → demand * SCALE ≤ rate_of lines * length + intercept_of lines }
+    ensures every { (groups : List (List (List Edge))) (lines : List (List Rate)) (quantum horizon : ℕ) → HaveDemands groups → AreAll groups lines
+        → IsHorizon quantum lines horizon → AreFeasible groups quantum horizon → (top : ℕ) → AreFeasible groups quantum top }
 {}
 
 /// The graph of an agent has one line.

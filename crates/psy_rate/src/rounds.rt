@@ -3,13 +3,14 @@
 ghost use Rattle.std.specs.Prelude.{◌≡◌, ℕ, ◌+◌, ◌*◌, ◌^◌, ◌<◌, ◌≤◌, All, IfSome, length, ⊤};
 ghost use Rattle.std.specs.List.{Contains};
 ghost use Rattle.psy_base.specs.declared.limits.TheConstants.{BUDGET, NODES};
-ghost use Rattle.psy_rate.specs.Trials.{IsPassed, IsTrail};
+ghost use Rattle.psy_rate.specs.Trials.{IsPassed, IsWalk};
 ghost use Rattle.psy_window.specs.Windows.{IsEdge};
 
 use crate::line::SCALE;
 use psy_base::Edge;
 
-/// The edge that was chosen at a node. Where none was, there stands one of another node, or the node's own first one.
+/// The edge that was chosen last at a node, if there is one. Where none was, the number of the first edge stands there, which
+/// may begin elsewhere.
 fn chosen_at(edges: &[Edge], chosen: &[usize], node: u32) -> Option<Edge>
     ensures { IfSome result (λ edge. Contains edges.now edge × (edge.from ≡ node)) }
 {
@@ -38,7 +39,7 @@ struct Round {
 fn go_round(edges: &[Edge], chosen: &[usize], start: u32) -> Option<Round>
     requires edges { All (IsEdge (length chosen.now)) edges.now }
     requires nodes { length chosen.now ≤ NODES }
-    ensures { IfSome result (λ round. IsTrail edges.now start start round.weight round.len × (1 ≤ round.len) × (round.weight ≤ BUDGET * NODES)) }
+    ensures { IfSome result (λ round. IsWalk edges.now start start round.weight round.len × (1 ≤ round.len) × (round.weight ≤ BUDGET * NODES)) }
 {
     let mut node = start;
     let mut weight = 0;

@@ -25,7 +25,9 @@ fn relax(edge: &Edge, rate: u64, row: &mut [u64]) -> bool
     requires edge { IsEdge (length row.old) edge.now }
     requires small { All (λ cell. cell < 2 ^ 63) row.old }
     ensures { let given = excess_of rate edge.now (slice_index row.old edge.now.to) in
-        MatchBool result ((slice_index row.old edge.now.from < given) × (row.new ≡ slice_set row.old edge.now.from given)) ((given ≤ slice_index row.old edge.now.from) × (row.new ≡ row.old)) }
+        MatchBool result
+        ((slice_index row.old edge.now.from < given) × (row.new ≡ slice_set row.old edge.now.from given))
+        ((given ≤ slice_index row.old edge.now.from) × (row.new ≡ row.old)) }
 {
     let given = excess(edge, rate, row[edge.to as usize]);
     if given <= row[edge.from as usize] {

@@ -1,5 +1,5 @@
 -- What is left of the proof of `rounds::steeper`.
-use Rattle.psy_rate.proofs.Trails.{passed_by}
+use Rattle.psy_rate.proofs.Walks.{passed_by}
 use Rattle.psy_rate.proofs.rounds.steeper.Goals as goal
 
 pub returns-then-next-rate : goal.returns-then-next-rate
