@@ -1,0 +1,7 @@
+-- What each loop of `supply::sum_of_rates` keeps.
+use Rattle.std.proofs.Common.{◌≡◌, ◌*◌, ◌^◌, ◌≤◌, take}
+use Rattle.psy_rate.specs.Horizons.{rate_of}
+use Rattle.psy_rate.proofs.supply.sum_of_rates.Given as goal
+
+abbrev pub invariant-loop-line : goal.invariant-loop-line
+invariant-loop-line l = (l.sum ≡ rate_of (take l.line-index l.lines)) × (l.sum ≤ l.line-index * 2 ^ 40)

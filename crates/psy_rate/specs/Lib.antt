@@ -1,0 +1,5 @@
+-- The definitions of this crate, by subject.
+pub mod Horizons
+pub mod Lines
+pub mod Rows
+pub mod Trials

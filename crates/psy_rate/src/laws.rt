@@ -1,0 +1,27 @@
+//! Laws of the definitions, each the contract of a function that does nothing.
+
+ghost use Rattle.std.specs.Prelude.{◌≡◌, ℕ, ◌+◌, ◌*◌, ◌≤◌, List, All, length};
+ghost use Rattle.psy_base.specs.declared.edge.Edge.{Edge};
+ghost use Rattle.psy_base.specs.declared.limits.TheConstants.{EDGES};
+ghost use Rattle.psy_meaning.specs.Demand.{IsDemand};
+ghost use Rattle.psy_rate.specs.declared.line.Rate.{Rate};
+ghost use Rattle.psy_rate.specs.Lines.{IsRateOf, AreRates, AreAll};
+ghost use Rattle.psy_rate.specs.Horizons.{rate_of, intercept_of, IsHorizon, AreFeasible, HaveDemands};
+ghost use Rattle.psy_window.specs.Windows.{IsEdge};
+
+use crate::line::SCALE;
+
+/// The demand over each length is at most the sum of the lines. So where the supply suffices over each length up to the
+/// horizon, it suffices over every length.
+pub fn always()
+    ensures line { (graphs : List (List Edge)) (lines : List Rate) (length demand : ℕ) → AreRates graphs lines → IsDemand graphs length demand
+        → demand * SCALE ≤ rate_of lines * length + intercept_of lines }
+    ensures every { (groups : List (List (List Edge))) (lines : List (List Rate)) (quantum horizon : ℕ) → HaveDemands groups → AreAll groups lines
+        → IsHorizon quantum lines horizon → AreFeasible groups quantum horizon → (top : ℕ) → AreFeasible groups quantum top }
+{}
+
+/// The graph of an agent has one line.
+pub fn rates()
+    ensures some { (graph : List Edge) (nodes : ℕ) → All (IsEdge nodes) graph → length graph ≤ EDGES → (line : Rate) × IsRateOf graph line }
+    ensures one { (graph : List Edge) (line other : Rate) → IsRateOf graph line → IsRateOf graph other → line ≡ other }
+{}

@@ -1,0 +1,15 @@
+//! A line above the demand of an agent, which holds for every length, and the length from which on it is below the supply.
+#![tactic(auto)]
+
+pub mod laws;
+mod line;
+mod rates;
+mod rounds;
+mod rows;
+mod supply;
+#[cfg(test)]
+mod tests;
+
+pub use line::{Rate, SCALE};
+pub use rates::certify;
+pub use supply::horizon;
