@@ -69,7 +69,7 @@ finished_in_time s order until dates agent r supplied there due =
     let begun = stays_started s (suc r.start) r.deadline agent r its.due (started_by s dates agent r there) in
     due_finished s order until supplied r.deadline agent r due begun (omega arith)
 
--- and the cycle behind its last one is no later.
+-- And the cycle behind its last one is no later.
 pub finishes_in_time : (s : System) (order : ℕ → List ℕ) (until cycles agent : ℕ) (r : Action) → IsSupplied s order until → until * s.unit.quantum ≤ cycles → Contains (history s until agent) r → r.deadline ≤ until → finish r.agent r.number (turns_of s order cycles) ≤ r.deadline * s.unit.quantum
 finishes_in_time s order until cycles agent r supplied far there due =
     let finished = finished_in_time s order until until agent r supplied there due in

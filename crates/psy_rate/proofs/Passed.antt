@@ -74,7 +74,7 @@ weight_small graph nodes node (e ∷ path) edges is =
     let rest : weight_of path ≤ BUDGET * length path = weight_small graph nodes e.to path edges is.2 in
     omega (arith, rest, (All-contains (IsEdge nodes) graph e edges is.0).weight)
 
--- and is at least a tick an edge long.
+-- And is at least a tick an edge long.
 length_small : (graph : List Edge) (nodes node : ℕ) (path : List Edge) → All (IsEdge nodes) graph → IsPathFrom graph node path → length path ≤ length_of path
 length_small graph nodes node [] edges is = omega arith
 length_small graph nodes node (e ∷ path) edges is =
@@ -87,7 +87,7 @@ allows_budgets : (graph : List Edge) (nodes : ℕ) → All (IsEdge nodes) graph 
 allows_budgets graph nodes edges [] closed = absurd closed
 allows_budgets graph nodes edges (e ∷ path) closed = omega (arith, weight_small graph nodes e.from (e ∷ path) edges closed.0, length_small graph nodes e.from (e ∷ path) edges closed.0)
 
--- and the rate is no more.
+-- And the rate is no more.
 pub rate_small : (graph : List Edge) (nodes rate : ℕ) → All (IsEdge nodes) graph → ((less : ℕ) → Allows graph less → rate ≤ less) → rate ≤ SCALE * BUDGET
 rate_small graph nodes rate edges least = least (SCALE * BUDGET) (allows_budgets graph nodes edges)
 

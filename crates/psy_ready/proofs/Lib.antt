@@ -1,2 +1,4 @@
 -- The lemmas of this crate, by subject.
-pub mod Walks
+mod Edits
+mod Picks
+mod Sorts

@@ -1,3 +1,3 @@
 -- The definitions of this crate, by subject.
 pub mod Choice
-pub mod Walk
+pub mod Standing

@@ -1,7 +1,10 @@
 //! The agents that wait for the processor.
-ghost use Rattle.std.specs.Prelude.{◌≡◌, ◌<◌, ℕ, Some, None, IfOk, MatchOption, length, replicate, slice_set};
+ghost use Rattle.std.specs.Prelude.{◌≡◌, ◌≢◌, ◌==◌, ◌<◌, ◌≤◌, ℕ, Some, None, IfOk, MatchOption, length, replicate, slice_get, slice_set};
+ghost use Rattle.std.specs.List.{AllPairs, position};
+ghost use Rattle.std.specs.List.Sorted.{IsPartitionPoint};
+ghost use Rattle.psy_ready.specs.declared.ready.Pending.{Pending};
 ghost use Rattle.psy_ready.specs.Choice.{IsPick, ListsEach, pending_deadline};
-ghost use Rattle.psy_ready.specs.Walk.{sooner};
+ghost use Rattle.psy_ready.specs.Standing.{IsFirstDue};
 
 use psy_base::Memory;
 use std::alloc::Global;
@@ -12,14 +15,19 @@ use std::marker::Model;
 #[derive(Drop)]
 pub struct Ready {
     deadlines: Vec<Option<u64>>,
+    /// The pending agents by deadline, in room for all.
+    sorted: Vec<Pending>,
 }
 
 impl Model for Ready {
     ghost use Rattle.std.specs.Prelude.{List, Option, ℕ};
+    ghost use Rattle.psy_ready.specs.Standing.{IsReady};
 
     ghost Value = { List (Option ℕ) };
 
     ghost view = { λ r. r.deadlines.items };
+
+    ghost invariant = { IsReady };
 }
 
 /// A pending agent.
@@ -39,19 +47,34 @@ fn pending_deadline(deadlines: &[Option<u64>], agent: u32) -> Option<u64>
     }
 }
 
-/// Of the first agent so far and the next of the order, the one that comes first.
-fn sooner(first: Option<Pending>, agent: u32, deadline: Option<u64>) -> Option<Pending>
-    ensures { result ≡ sooner first agent deadline }
+/// How many of the pending agents are due no later than so.
+fn no_later(sorted: &[Pending], deadline: u64) -> usize
+    requires { AllPairs (λ (p q : Pending). p.deadline ≤ q.deadline) sorted.now }
+    ensures point { IsPartitionPoint (λ (p : Pending). p.deadline ≤ deadline) (λ (p : Pending). deadline < p.deadline) sorted.now result }
+    ensures within { result ≤ length sorted.now }
 {
-    let Some(deadline) = deadline else {
-        return first;
-    };
-    let next = Pending { agent, deadline };
-    match first {
-        None => Some(next),
-        Some(first) if deadline < first.deadline => Some(next),
-        Some(first) => Some(first),
+    sorted.partition_point(|pending| pending.deadline <= deadline)
+}
+
+/// Where an agent stands among the pending ones.
+fn place_of(sorted: &[Pending], agent: u32) -> Option<usize>
+    ensures { result ≡ position (λ (p : Pending). p.agent == agent) sorted.now }
+{
+    sorted.iter().position(|pending| pending.agent == agent)
+}
+
+/// The first agent of an order that is due at a deadline.
+fn first_due(deadlines: &[Option<u64>], order: &[u32], deadline: u64) -> Option<u32>
+    ensures { MatchOption result
+        ((p agent : ℕ) → slice_get order.now p ≡ Some agent → pending_deadline deadlines.now agent ≢ Some deadline)
+        (λ agent. IsFirstDue deadlines.now order.now deadline agent) }
+{
+    for agent in order {
+        if pending_deadline(deadlines, *agent) == Some(deadline) {
+            return Some(*agent);
+        }
     }
+    None
 }
 
 impl Ready {
@@ -61,6 +84,7 @@ impl Ready {
     {
         Ok(Ready {
             deadlines: vec![in alloc; None; agents as usize]?,
+            sorted: Vec::with_capacity(alloc, agents as usize)?,
         })
     }
 
@@ -72,6 +96,9 @@ impl Ready {
         ensures agents { length self.new ≡ length self.old }
     {
         self.deadlines[agent as usize] = Some(deadline);
+        let place = no_later(self.sorted.as_slice(), deadline);
+        // There is room, so this takes no memory.
+        let _ = self.sorted.insert(place, Pending { agent, deadline });
     }
 
     /// A pending agent is no longer so.
@@ -81,6 +108,9 @@ impl Ready {
         ensures agents { length self.new ≡ length self.old }
     {
         self.deadlines[agent as usize] = None;
+        if let Some(place) = place_of(self.sorted.as_slice(), agent) {
+            self.sorted.remove(place);
+        }
     }
 
     /// The pending agent of least deadline, ties going to the earlier place in the order; None exactly where nobody is
@@ -91,14 +121,14 @@ impl Ready {
             ((agent : ℕ) → pending_deadline self.now agent ≡ None)
             (λ agent. IsPick self.now order.now agent) }
     {
-        let deadlines = self.deadlines.as_slice();
-        let mut first = None;
-        for agent in order {
-            first = sooner(first, *agent, pending_deadline(deadlines, *agent));
+        let sorted = self.sorted.as_slice();
+        if sorted.is_empty() {
+            return None;
         }
-        match first {
-            Some(pending) => Some(pending.agent),
-            None => None,
+        let first = sorted[0];
+        if sorted.len() == 1 || first.deadline < sorted[1].deadline {
+            return Some(first.agent);
         }
+        first_due(self.deadlines.as_slice(), order, first.deadline)
     }
 }

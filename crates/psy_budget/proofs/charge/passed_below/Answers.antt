@@ -18,7 +18,7 @@ stalls-preserved c =
       behind_it c.args.stalls.now c.stalls.place c.args.action c.requires.rise c.stalls.invariant.0 c.stalls.invariant.2 s (slice_get-get_or c.args.stalls.now c.stalls.place nothing c.stalls-test.true) c.if-stalls-place.true,
     )
 
--- where no stall of the action below the instruction stands at the place
+-- Where no stall of the action below the instruction stands at the place
 ends : (stalls : List Stall) (place action instr : ℕ) → StallsRise stalls → (n : ℕ) × (n ≤ instr) × AreSplit stalls place action n
     → ((s : Stall) → slice_get stalls place ≡ Some s → s.action ≡ action → s.instr < instr → ⊥) → AreSplit stalls place action instr
 ends stalls place action instr rise reached none =

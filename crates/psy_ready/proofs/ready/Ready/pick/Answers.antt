@@ -1,38 +1,42 @@
 -- What is left of the proof of `ready::Ready::pick`.
-use Rattle.std.proofs.Common.{◌≡◌, ℕ, ◌+◌, List, length, Option, Some, None, get_or, sym, ap, ◌∙◌, subst, arith}
-use Rattle.std.proofs.lemmas.Option.{slice_get-get_or}
+use Rattle.std.proofs.Common.{◌≡◌, ℕ, ◌<◌, ◌==◌, Bool, false, List, length, Option, Some, get_or, slice_get, sym, subst, inl, inr, arith}
+use Rattle.std.specs.Prelude.{◌≢◌, MatchOption}
+use Rattle.std.proofs.lemmas.Bool.Decides.{nat_tests}
+use Rattle.std.proofs.lemmas.List.{get_or_default}
+use Rattle.psy_ready.specs.declared.ready.Pending.{Pending}
+use Rattle.psy_ready.specs.declared.ready.Ready.TheInside.{Inside}
 use Rattle.psy_ready.specs.Choice.{pending_deadline}
-use Rattle.psy_ready.specs.Walk.{sooner}
-use Rattle.psy_ready.proofs.Walks.{IsFirst, one_more, nobody, picked}
+use Rattle.psy_ready.specs.Standing.{AreSorted, IsFirstDue, IsReady}
+use Rattle.psy_ready.proofs.Picks.{pick_front, pick_found}
 use Rattle.psy_ready.proofs.ready.Ready.pick.Goals as goal
+use Rattle.psy_ready.proofs.ready.Ready.pick.Goals.{then-sorted-eq1-via-then-sorted-eq1, then-sorted-eq1-via-else-sorted-eq1+then-first-sorted}
 
-pub loop-agent-preserved : goal.loop-agent-preserved
-loop-agent-preserved c =
-    let order : List ℕ = c.args.order.now in
-    let deadlines : List (Option ℕ) = c.as_slice-deadlines.result.now in
-    let place : ℕ = c.loop-agent.agent-index in
-    let agent : ℕ = get_or order place 0 in
-    let next : c.sooner-first.result ≡ sooner c.loop-agent.first agent (pending_deadline deadlines agent) = c.sooner-first.ensures ∙ ap (sooner c.loop-agent.first agent) c.pending_deadline.ensures in
-    subst (IsFirst deadlines order (place + 1)) (sym next) (one_more deadlines order place agent (slice_get-get_or order place 0 c.loop-agent-test.true) c.loop-agent.first c.loop-agent.invariant)
+abbrev nothing : Pending
+nothing = record { agent = 0; deadline = 0 }
 
-pub returns-in-Some : goal.returns-in-Some
-returns-in-Some c =
-    let order : List ℕ = c.args.order.now in
-    let pending : List (Option ℕ) = c.args.self.now in
-    let same : c.as_slice-deadlines.result.now ≡ pending = cc in
-    let end : c.loop-agent.agent-index ≡ length order = omega arith in
-    let reached : IsFirst pending order (length order) (Some c.in-Some.pending) =
-    subst (λ d. IsFirst d order (length order) (Some c.in-Some.pending)) same (subst (λ n. IsFirst c.as_slice-deadlines.result.now order n (Some c.in-Some.pending)) end
-    (subst (IsFirst c.as_slice-deadlines.result.now order c.loop-agent.agent-index) c.in-Some.is c.loop-agent.invariant)) in
-    picked pending order c.requires c.in-Some.pending reached
+not_empty : (n : ℕ) (empty : Bool) → empty ≡ (n == 0) → empty ≡ false → 0 < n
+not_empty n empty is other = grind (arith, nat_tests)
 
-pub returns-in-None : goal.returns-in-None
-returns-in-None c =
+-- What stands in the fields, as the model and the slice have it
+sorted_so : (r : Inside) (deadlines : List (Option ℕ)) (sorted : List Pending) → IsReady r → deadlines ≡ r.deadlines.items → sorted ≡ r.sorted.items → AreSorted deadlines sorted
+sorted_so r deadlines sorted is same listed = subst (AreSorted deadlines) (sym listed) (subst (λ ds. AreSorted ds r.sorted.items) (sym same) is.sorted)
+
+pub returns-then-sorted-eq1 : goal.returns-then-sorted-eq1
+returns-then-sorted-eq1 c =
+    let sorted : List Pending = c.as_slice-sorted.result.now in
+    pick_front c.args.self.now sorted c.args.order.now nothing (sorted_so c.self.inside c.args.self.now sorted c.self.invariant (sym c.self.view_is) c.as_slice-sorted.ensures.value) c.requires
+    (not_empty (length sorted) c.is_empty.result c.is_empty.ensures c.if-is_empty.false) (elim c.then-sorted-eq1.branch [
+      | then-sorted-eq1-via-then-sorted-eq1 w ↦ inl w.if-sorted-eq1.true
+      | then-sorted-eq1-via-else-sorted-eq1+then-first-sorted w ↦ inr w.if-first-sorted.true
+    ])
+
+pub returns : goal.returns
+returns c =
+    let sorted : List Pending = c.as_slice-sorted.result.now in
+    let deadlines : List (Option ℕ) = c.args.self.now in
     let order : List ℕ = c.args.order.now in
-    let pending : List (Option ℕ) = c.args.self.now in
-    let same : c.as_slice-deadlines.result.now ≡ pending = cc in
-    let end : c.loop-agent.agent-index ≡ length order = omega arith in
-    let reached : IsFirst pending order (length order) None =
-    subst (λ d. IsFirst d order (length order) None) same (subst (λ n. IsFirst c.as_slice-deadlines.result.now order n None) end
-    (subst (IsFirst c.as_slice-deadlines.result.now order c.loop-agent.agent-index) c.in-None.is c.loop-agent.invariant)) in
-    nobody pending order c.requires reached
+    let f : Pending = get_or sorted 0 nothing in
+    let same : c.as_slice.result.now ≡ deadlines = cc in
+    let some : 0 < length sorted = not_empty (length sorted) c.is_empty.result c.is_empty.ensures c.if-is_empty.false in
+    pick_found deadlines sorted (sorted_so c.self.inside deadlines sorted c.self.invariant (sym c.self.view_is) c.as_slice-sorted.ensures.value) order c.requires f some (λ d. get_or_default sorted 0 d nothing some) c.first_due.result
+    (subst (λ ds. MatchOption c.first_due.result ((p agent : ℕ) → slice_get order p ≡ Some agent → pending_deadline ds agent ≢ Some f.deadline) (IsFirstDue ds order f.deadline)) same c.first_due.ensures)
