@@ -14,6 +14,7 @@ mod Outcomes
 pub mod Patches
 mod PlaceCounts
 mod RestRuns
+mod Rooms
 pub mod Spans
 mod Steps
 mod StmtRuns

@@ -1,3 +1,4 @@
 -- The definitions of this crate, by subject.
 pub mod Emission
+pub mod Rooms
 pub mod Spans

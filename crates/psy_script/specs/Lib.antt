@@ -1,4 +1,5 @@
 -- The definitions of this crate, by subject.
+pub mod Answer
 pub mod Entries
 pub mod Faults
 pub mod Inputs

@@ -1,9 +1,10 @@
 //! The inputs file.
 ghost use Rattle.std.specs.Prelude.{◌≡◌, ◌≢◌, ◌&&◌, ◌++◌, ℕ, List, [], ◌∷◌, map, if◌then◌else◌, MatchBool, Some, None, IfOk, Ok, Err, is_none};
-ghost use Rattle.std.specs.Prelude.{bytes_eq, slice_get};
+ghost use Rattle.std.specs.Prelude.{bytes_eq, slice_get, ℤ};
 ghost use Rattle.std.specs.List.{list_all, position};
 ghost use Rattle.psy_history.specs.Compiled.{AreInputs};
 ghost use Rattle.psy_meaning.specs.Units.{IsBare};
+ghost use Rattle.psy_script.specs.Answer.{GivesFault, GivesLists};
 ghost use Rattle.psy_script.specs.Faults.{HasManyLines, IsFirst};
 ghost use Rattle.psy_script.specs.Inputs.{AreListsOf, inputs_judge, listing_fault, listing_in, listing_of, listings, lists_in};
 ghost use Rattle.psy_script.specs.Lines.{words_of};
@@ -23,6 +24,25 @@ use std::marker::Model;
 /// The lists of values that a text states for the inputs of a program, line by line. Its errors are the first line that is at fault, more
 /// than 10,000 lines, and want of memory.
 pub fn read_inputs(alloc: Global, text: &[u8], unit: &Unit) -> Result<Inputs, TextFault>
+    requires { IsBare unit.now }
+    // The lists are those of the text, which has no fault; and they are inputs of the program.
+    ensures lists { IfOk result (λ inputs. AreListsOf unit.now text.now inputs.lists) }
+    ensures inputs { IfOk result (λ inputs. AreInputs unit.now inputs.lists) }
+
+    // What is refused is there.
+    ensures fault { (kind : Kind) (line : ℕ) → result ≡ Err (TextFault.Line kind line) → IsFirst (inputs_judge unit.now) text.now kind line }
+    ensures lines { result ≡ Err TextFault.Lines → HasManyLines text.now }
+
+    // What the text states is answered, and so is what is wrong with it, but for want of memory.
+    ensures all_lists { (lists : List (List ℤ)) → AreListsOf unit.now text.now lists → GivesLists result lists }
+    ensures all_faults { (kind : Kind) (line : ℕ) → IsFirst (inputs_judge unit.now) text.now kind line → GivesFault result (TextFault.Line kind line) }
+    ensures all_lines { HasManyLines text.now → GivesFault result TextFault.Lines }
+{
+    stated_lists(alloc, text, unit)
+}
+
+// The lists that a text states, or the first fault that is found.
+fn stated_lists(alloc: Global, text: &[u8], unit: &Unit) -> Result<Inputs, TextFault>
     requires { IsBare unit.now }
     // The lists are those of the text, which has no fault; and they are inputs of the program.
     ensures lists { IfOk result (λ inputs. AreListsOf unit.now text.now inputs.lists) }

@@ -1,7 +1,9 @@
 //! The script file.
 ghost use Rattle.std.specs.Prelude.{◌≡◌, ℕ, List, [], ◌∷◌, ◌++◌, map, None, IfOk, Err};
 ghost use Rattle.psy_history.specs.Scripts.{IsScript};
+ghost use Rattle.psy_history.specs.declared.told.Script.{Script as Said};
 ghost use Rattle.psy_meaning.specs.Units.{IsBare};
+ghost use Rattle.psy_script.specs.Answer.{GivesFault, GivesScript};
 ghost use Rattle.psy_script.specs.Faults.{HasManyLines, IsFirst};
 ghost use Rattle.psy_script.specs.Script.{IsScriptOf, script_in, script_judge};
 ghost use Rattle.psy_script.specs.declared.fault.LineKind.{LineKind as Kind};
@@ -20,6 +22,25 @@ use std::alloc::Global;
 /// The script that a text states for a program, line by line: its stalls by agent, action and instruction, its orders by cycle. Its errors
 /// are the first line that is at fault, more than 10,000 lines, and want of memory.
 pub fn read_script(alloc: Global, text: &[u8], unit: &Unit) -> Result<Script, TextFault>
+    requires { IsBare unit.now }
+    // The script is that of the text, which has no fault; and it is one of the program.
+    ensures stated { IfOk result (IsScriptOf unit.now text.now) }
+    ensures script { IfOk result (IsScript unit.now) }
+
+    // What is refused is there.
+    ensures fault { (kind : Kind) (line : ℕ) → result ≡ Err (TextFault.Line kind line) → IsFirst (script_judge unit.now) text.now kind line }
+    ensures lines { result ≡ Err TextFault.Lines → HasManyLines text.now }
+
+    // What the text states is answered, and so is what is wrong with it, but for want of memory.
+    ensures all_scripts { (script : Said) → IsScriptOf unit.now text.now script → GivesScript result script }
+    ensures all_faults { (kind : Kind) (line : ℕ) → IsFirst (script_judge unit.now) text.now kind line → GivesFault result (TextFault.Line kind line) }
+    ensures all_lines { HasManyLines text.now → GivesFault result TextFault.Lines }
+{
+    stated_script(alloc, text, unit)
+}
+
+// The script that a text states, or the first fault that is found.
+fn stated_script(alloc: Global, text: &[u8], unit: &Unit) -> Result<Script, TextFault>
     requires { IsBare unit.now }
     // The script is that of the text, which has no fault; and it is one of the program.
     ensures stated { IfOk result (IsScriptOf unit.now text.now) }

@@ -1,4 +1,4 @@
--- What is left of the proof of `inputs::read_inputs`.
+-- What is left of the proof of `inputs::stated_lists`.
 use Rattle.std.proofs.Common.{◌+◌, ◌≤◌, [], ◌∷◌, ◌++◌, length, Ok, refl, sym, ap, ◌∙◌, subst, length-append, arith}
 use Rattle.std.proofs.lemmas.Bool.Decides.{nat_tests}
 use Rattle.psy_base.specs.declared.limits.TheConstants.{LINES}
@@ -8,8 +8,8 @@ use Rattle.psy_script.specs.Lines.{lines_of}
 use Rattle.psy_script.proofs.FirstFaults.{AreRead, read_none, read_more, read_fault, read_all, told}
 use Rattle.psy_script.proofs.InputFaults.{inputs_of_lists}
 use Rattle.psy_script.proofs.ListsKept.{lists_none}
-use Rattle.psy_script.proofs.inputs.read_inputs.Goals as goal
-use Rattle.psy_script.proofs.inputs.read_inputs.Goals.{In-Some}
+use Rattle.psy_script.proofs.inputs.stated_lists.Goals as goal
+use Rattle.psy_script.proofs.inputs.stated_lists.Goals.{In-Some}
 
 -- The lines that were read, with the one that was cut next
 next : (c : In-Some) → AreRead (inputs_judge c.args.unit.now) c.args.text.now c.loop-cut.invariant.before (c.in-Some.cut.front.now ∷ lines_of c.in-Some.cut.rest.now)

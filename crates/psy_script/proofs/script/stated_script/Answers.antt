@@ -1,10 +1,10 @@
--- What is left of the proof of `script::read_script`.
+-- What is left of the proof of `script::stated_script`.
 use Rattle.std.proofs.Common.{◌≡◌, ◌+◌, ◌∙◌, [], ◌∷◌, ◌++◌, None, length, length-append, sym, ap, subst}
 use Rattle.psy_script.specs.Lines.{lines_of}
 use Rattle.psy_script.specs.Script.{script_in, script_judge}
 use Rattle.psy_script.proofs.FirstFaults.{AreRead, read_all, read_more}
 use Rattle.psy_script.proofs.SoundScripts.{script_is}
-use Rattle.psy_script.proofs.script.read_script.Goals as goal
+use Rattle.psy_script.proofs.script.stated_script.Goals as goal
 
 pub loop-cut-preserved : goal.loop-cut-preserved
 loop-cut-preserved c =

@@ -1,9 +1,9 @@
--- What each loop of `inputs::read_inputs` keeps.
+-- What each loop of `inputs::stated_lists` keeps.
 use Rattle.std.proofs.Common.{◌≡◌, ℕ, List, length}
 use Rattle.psy_script.specs.Inputs.{inputs_judge, lists_in}
 use Rattle.psy_script.specs.Lines.{lines_of}
 use Rattle.psy_script.proofs.FirstFaults.{AreRead}
-use Rattle.psy_script.proofs.inputs.read_inputs.Given as goal
+use Rattle.psy_script.proofs.inputs.stated_lists.Given as goal
 
 -- The lists are those of the lines that were read, and none of these is at fault.
 abbrev pub invariant-loop-cut : goal.invariant-loop-cut
