@@ -1,5 +1,5 @@
 -- What the answer of a reader is, where memory is found.
-use Rattle.std.specs.Prelude.{◌≡◌, ◌⊎◌, List, ℤ, ⊥, Result, MatchResult}
+use Rattle.std.specs.Prelude.{◌≡◌, ◌⊎◌, List, ℤ, Result, MatchResult}
 use Rattle.psy_history.specs.declared.told.Inputs.{Inputs}
 use Rattle.psy_history.specs.declared.told.Script.{Script}
 use Rattle.psy_script.specs.declared.fault.TextFault.{TextFault}
