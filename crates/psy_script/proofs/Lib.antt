@@ -11,6 +11,7 @@ mod NamePlaces
 mod Placing
 mod Positions
 mod PutEntries
+mod RisingScripts
 mod ScriptFaults
 mod SoundScripts
 mod Stated

@@ -56,7 +56,7 @@ All_put_at P true x y ys placed one all more = All-cons P x (y ∷ ys) one all
 All_put_at P false x y ys placed one all more = All-cons P y placed (All-head P y ys all) more
 
 -- It holds where the item is put,
-All_put : {X : Type 0} (P : X → Type 0) (before : X → X → Bool) (x : X) (ys : List X) → P x → All P ys → All P (put before x ys)
+pub All_put : {X : Type 0} (P : X → Type 0) (before : X → X → Bool) (x : X) (ys : List X) → P x → All P ys → All P (put before x ys)
 All_put P before x [] one all = All-cons P x [] one (All-nil P)
 All_put P before x (y ∷ ys) one all = All_put_at P (before x y) x y ys (put before x ys) one all (All_put P before x ys one (All-tail P y ys all))
 

@@ -113,7 +113,7 @@ less_first a b false true rest l s e = inr (eqb-true a b s, e)
 less_first a b false false rest l s e = absurd (true≢false (sym e))
 
 -- The test of which stall comes first tells what stands before what.
-from_before : (s t : Stall) → stall_before s t ≡ true → StallBefore s t
+pub from_before : (s t : Stall) → stall_before s t ≡ true → StallBefore s t
 from_before s t e = elim (less_first s.agent t.agent (ltb s.agent t.agent) (eqb s.agent t.agent) (less_or s.action t.action (ltb s.instr t.instr)) refl refl e) [
   | inl below ↦ inl below
   | inr same ↦ inr (

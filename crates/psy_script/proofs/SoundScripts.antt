@@ -25,7 +25,7 @@ use Rattle.psy_script.proofs.Stated.{number_below, repeats_are}
 -- ---- a property that each line without fault keeps
 
 -- Something isn't nothing.
-not_there : {X : Type 0} (x : X) → Some x ≡ None → ⊥
+pub not_there : {X : Type 0} (x : X) → Some x ≡ None → ⊥
 not_there x e = cc
 
 -- There is no first fault where the first line has none and the others have none.
@@ -129,7 +129,7 @@ order_is unit cycle names are once within full = record {
 }
 
 -- What a statement without fault keeps
-parts_of : (named again within : Bool) → cond (not named) (Some NoSuchName) (cond again (Some Again) (cond (not within) (Some Range) None)) ≡ None → (named ≡ true) × (again ≡ false) × (within ≡ true)
+pub parts_of : (named again within : Bool) → cond (not named) (Some NoSuchName) (cond again (Some Again) (cond (not within) (Some Range) None)) ≡ None → (named ≡ true) × (again ≡ false) × (within ≡ true)
 parts_of true true within e = absurd (not_there Again e)
 parts_of true false true e = (refl, refl, refl)
 parts_of true false false e = absurd (not_there Range e)

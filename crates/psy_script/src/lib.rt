@@ -8,6 +8,7 @@ mod fault;
 mod inputs;
 #[cfg(test)]
 mod inputs_tests;
+pub mod laws;
 mod names;
 mod placed;
 mod script;
