@@ -1,5 +1,5 @@
 -- The run of a plan keeps its bounds: what is known of its code's history holds of its statements' too.
-use Rattle.std.proofs.Common.{◌≡◌, refl, sym, ap, ◌∙◌, subst, ℕ, zero, suc, ◌+◌, ◌*◌, ◌<◌, ◌≤◌, ◌==◌, Bool, true, false, if◌then◌else◌, List, [], ◌∷◌, length, get_or, Option, None, Some, ℤ, arith}
+use Rattle.std.proofs.Common.{◌≡◌, refl, sym, ap, ◌∙◌, subst, ℕ, zero, suc, ◌+◌, ◌*◌, ◌<◌, ◌≤◌, ◌==◌, nat_lt, Bool, true, false, if◌then◌else◌, List, [], ◌∷◌, length, get_or, Option, None, Some, ℤ, arith}
 use Rattle.std.specs.List.{Contains}
 use Rattle.std.proofs.lemmas.Bool.{eqb-true}
 use Rattle.std.proofs.lemmas.List.Elements.{All-contains}
@@ -9,12 +9,12 @@ use Rattle.psy_meaning.specs.Actions.{Action, Next, System, next_of}
 use Rattle.psy_meaning.specs.History.{action_of, history, with_start}
 use Rattle.psy_meaning.specs.QueueSizes.{IsQueueSize}
 use Rattle.psy_meaning.specs.RingSizes.{IsRingSize}
-use Rattle.psy_meaning.specs.Schedule.{Turn, finish}
+use Rattle.psy_meaning.specs.Schedule.{Turn, finish, units}
 use Rattle.psy_meaning.specs.Summary.{most_held, reach}
 use Rattle.psy_history.specs.Compiled.{coded}
 use Rattle.psy_history.specs.Likeness.{AreLike, IsLike}
 use Rattle.psy_history.specs.Regular.{IsLawful, IsRegular}
-use Rattle.psy_history.specs.Scheduled.{IsSupplied, turns_of}
+use Rattle.psy_history.specs.Scheduled.{IsFinished, IsSupplied, turns_of}
 use Rattle.psy_dates.specs.declared.plan.Plan.{Plan}
 use Rattle.psy_dates.specs.Plans.{IsPlan}
 use Rattle.psy_history.specs.declared.told.Script.{Script}
@@ -90,14 +90,26 @@ module _ (plan : Plan) (inputs : List (List ℤ)) (script : Script) (is : IsPlan
   pub record RunLaws : Type 0 where
     pub lawful : IsLawful by_code
     pub actions : (dates agent : ℕ) → AreLike (history by_code dates agent) (history by_meaning dates agent)
-    pub schedule : cycles_of by_code ≡ cycles_of by_meaning
+    pub schedule : (cycles : ℕ) → turns_of by_code ties cycles ≡ turns_of by_meaning ties cycles
     pub reaches : (variable : ℕ) → reach by_code (cycles_of by_code) (history by_code (plan.until + 1)) variable ≡ reach by_meaning (cycles_of by_meaning) (history by_meaning (plan.until + 1)) variable
     pub held : (stream : ℕ) → most_held by_code plan.until stream ≡ most_held by_meaning plan.until stream
     pub finishes : (agent : ℕ) (r : Action) → IsSupplied by_code ties plan.until → Contains (history by_code plan.until agent) r → r.deadline ≤ plan.until → finish r.agent r.number (cycles_of by_code) ≤ r.deadline * plan.unit.quantum
+    pub worked : (agent : ℕ) (r : Action) → IsSupplied by_code ties plan.until → Contains (history by_code (plan.until + 1) agent) r → r.deadline ≤ plan.until → IsFinished by_code ties (r.deadline * plan.unit.quantum) r
     pub reached : (variable size n : ℕ) → IsSupplied by_code ties plan.until → IsRingSize plan.unit plan.nexts variable size → reach by_code (cycles_of by_code) (history by_code (plan.until + 1)) variable ≡ Some n → n < size
     pub most : (stream size : ℕ) → stream < length plan.unit.streams → IsQueueSize plan.unit plan.nexts stream size → size ≤ QUEUE → most_held by_code plan.until stream ≤ size
 
   module _ (law : RunLaws) where
+    -- each action that is due by the last date has had its work by its deadline
+    finished : (agent : ℕ) (q : Action) → Contains (history by_meaning (plan.until + 1) agent) q → q.deadline ≤ plan.until → IsFinished by_meaning ties (q.deadline * plan.unit.quantum) q
+    finished agent q there due =
+        let found = like_one (history by_code (plan.until + 1) agent) (history by_meaning (plan.until + 1) agent) q (law.actions (plan.until + 1) agent) there in
+        let r = found.0 in
+        let like = found.2 in
+        let kept = law.worked agent r (supplied law.lawful) found.1 (subst (λ d. d ≤ plan.until) (sym like.deadline) due) in
+        let turns = law.schedule (r.deadline * plan.unit.quantum) in
+        let same : IsFinished by_meaning ties (r.deadline * plan.unit.quantum) q = (λ i. nat_lt (units (sym like.agent i) (sym like.number i) (sym turns i)) (sym like.work i)) ∙ kept in
+        subst (λ d. IsFinished by_meaning ties (d * plan.unit.quantum) q) like.deadline same
+
     -- each action that is due by the last date ends in time
     in_time : (agent : ℕ) (q : Action) → Contains (history by_meaning (plan.until + 1) agent) q → q.deadline ≤ plan.until → finish q.agent q.number (cycles_of by_meaning) ≤ q.deadline * plan.unit.quantum
     in_time agent q there due =
@@ -106,7 +118,7 @@ module _ (plan : Plan) (inputs : List (List ℤ)) (script : Script) (is : IsPlan
         let like = found.2 in
         let due' : r.deadline ≤ plan.until = subst (λ d. d ≤ plan.until) (sym like.deadline) due in
         let kept = law.finishes agent r (supplied law.lawful) (started_before by_code law.lawful plan.until agent r found.1 due') due' in
-        let same : finish r.agent r.number (cycles_of by_code) ≡ finish q.agent q.number (cycles_of by_meaning) = λ i. finish (like.agent i) (like.number i) (law.schedule i) in
+        let same : finish r.agent r.number (cycles_of by_code) ≡ finish q.agent q.number (cycles_of by_meaning) = λ i. finish (like.agent i) (like.number i) (law.schedule (plan.until * plan.unit.quantum) i) in
         let late : r.deadline * plan.unit.quantum ≡ q.deadline * plan.unit.quantum = ap (λ d. d * plan.unit.quantum) like.deadline in
         subst (λ d. finish q.agent q.number (cycles_of by_meaning) ≤ d) late (subst (λ n. n ≤ r.deadline * plan.unit.quantum) same kept)
 
@@ -125,4 +137,4 @@ module _ (plan : Plan) (inputs : List (List ℤ)) (script : Script) (is : IsPlan
         subst (λ n. n ≤ size) (law.held stream) (law.most stream size known (is.buffers.queues.each stream size at) (is.buffers.small_queues stream 0 within))
 
     pub keeps_bounds : KeepsBounds by_meaning ties plan.sizes plan.until
-    keeps_bounds = record { in_time = in_time; rings = rings; queues = queues }
+    keeps_bounds = record { finished = finished; in_time = in_time; rings = rings; queues = queues }

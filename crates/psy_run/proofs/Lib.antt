@@ -1,15 +1,19 @@
 -- The lemmas of this crate, by subject.
+pub mod Accepting
 pub mod AskedLemmas
 pub mod AskingForms
 pub mod Courses
+pub mod CutLemmas
 pub mod Decisions
 pub mod GrowthLemmas
 pub mod KeptBounds
 pub mod KeptOrders
 pub mod LogLemmas
+pub mod LongFiles
 pub mod MeaningText
 pub mod OneAnswer
 pub mod OneStep
+pub mod OwnLemmas
 pub mod PlanLemmas
 pub mod RefusalLemmas
 pub mod RowLemmas

@@ -38,24 +38,35 @@ range_more : (a n : ℕ) → range_with_len a (suc n) ≡ range_with_len a n ++ 
 range_more a zero = let e : a ≡ a + 0 = omega arith in ap (λ m. m ∷ []) e
 range_more a (suc n) = let e : a + 1 + n ≡ a + suc n = omega arith in ap (λ rest. a ∷ rest) (range_more (a + 1) n ∙ ap (λ m. range_with_len (a + 1) n ++ m ∷ []) e)
 
-log-suc : (s : System) (n : ℕ) → log_of s (suc n) ≡ log_of s n ++ text_of (lines_of s n)
-log-suc s n =
-    let lines : ℕ → List ℕ = λ date. text_of (lines_of s date) in
-    let e : 0 + n ≡ n = omega arith in
-    ap (flat_map lines) (range_more 0 n) ∙ flat_map-append lines (range_with_len 0 n) ((0 + n) ∷ []) ∙ ap (λ text. log_of s n ++ text) (append-nil (lines (0 + n))) ∙ ap (λ m. log_of s n ++ lines m) e
+module _ {X : Type 0} (of : ℕ → List X) where
+  -- What is told of the first dates
+  abbrev first_dates : ℕ → List X
+  first_dates n = flat_map of (range_with_len 0 n)
+
+  dates-suc : (n : ℕ) → first_dates (suc n) ≡ first_dates n ++ of n
+  dates-suc n =
+      let e : 0 + n ≡ n = omega arith in
+      ap (flat_map of) (range_more 0 n) ∙ flat_map-append of (range_with_len 0 n) ((0 + n) ∷ []) ∙ ap (λ told. first_dates n ++ told) (append-nil (of (0 + n))) ∙ ap (λ m. first_dates n ++ of m) e
+
+  pub dates-next : (n : ℕ) → first_dates (n + 1) ≡ first_dates n ++ of n
+  dates-next n = ap first_dates (add-one n) ∙ dates-suc n
+
+  -- What is told of more dates begins with that of fewer
+  pub dates-more : (dates n : ℕ) → dates ≤ n → (rest : List X) × (first_dates n ≡ first_dates dates ++ rest)
+  dates-more dates zero h = let none : dates ≡ 0 = omega arith in ([], rw none refl)
+  dates-more dates (suc n) h = elim (eq-or-lt_of_le h) [
+    | inl eq ↦ ([], rw eq (sym (append-nil (first_dates (suc n)))))
+    | inr lt ↦
+        let before = dates-more dates n (omega arith) in
+        (before.0 ++ of n, dates-suc n ∙ ap (λ told. told ++ of n) before.1 ∙ append_assoc (first_dates dates) before.0 (of n))
+  ]
 
 pub log-next : (s : System) (n : ℕ) → log_of s (n + 1) ≡ log_of s n ++ text_of (lines_of s n)
-log-next s n = ap (log_of s) (add-one n) ∙ log-suc s n
+log-next s n = dates-next (λ date. text_of (lines_of s date)) n
 
 -- The text of more dates begins with that of fewer
 pub log-more : (s : System) (dates n : ℕ) → dates ≤ n → (rest : List ℕ) × (log_of s n ≡ log_of s dates ++ rest)
-log-more s dates zero h = let none : dates ≡ 0 = omega arith in ([], rw none refl)
-log-more s dates (suc n) h = elim (eq-or-lt_of_le h) [
-  | inl eq ↦ ([], rw eq (sym (append-nil (log_of s (suc n)))))
-  | inr lt ↦
-      let before = log-more s dates n (omega arith) in
-      (before.0 ++ text_of (lines_of s n), log-suc s n ∙ ap (λ text. text ++ text_of (lines_of s n)) before.1 ∙ append_assoc (log_of s dates) before.0 (text_of (lines_of s n)))
-]
+log-more s dates n h = dates-more (λ date. text_of (lines_of s date)) dates n h
 
 -- One date more was written
 pub Grew-date : (a b c : Option (List ℕ)) (s : System) (date : ℕ) → Grew a b (log_of s date) → Grew b c (text_of (lines_of s date)) → Grew a c (log_of s (date + 1))

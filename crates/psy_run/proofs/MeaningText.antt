@@ -160,7 +160,7 @@ Keeps = (plan : Plan) (inputs : List (List ℤ)) (script : Script) → IsPlan pl
     → KeepsBounds (meaning_of plan.unit plan.nexts inputs script) (order_of plan.unit script) plan.sizes plan.until
 
 -- A script with nothing in it
-is_no_script : (unit : Whole) → IsScript unit no_script
+pub is_no_script : (unit : Whole) → IsScript unit no_script
 is_no_script unit = record {
   stalls = λ k d none. absurd (omega (arith, none));
   stalls_rise = λ i j d less none. absurd (omega (arith, none));

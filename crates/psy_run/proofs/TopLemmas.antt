@@ -72,6 +72,14 @@ not_by _ _ answer (of_other refusal status a b c d f) two which e = elim which [
   | inr (inr (inr eight)) ↦ f (e ∙ eight)
 ]
 
+some_by : (refusal : Refusal) (status : ℕ) → IsStatus refusal status → status ≢ 0
+some_by _ _ of_words zero = absurd (omega (arith, zero))
+some_by _ _ (of_other refusal status a b c d f) zero = a zero
+
+-- No refusal is answered by 0.
+pub status_some : (refusal : Refusal) → status_of refusal ≢ 0
+status_some refusal = some_by refusal (status_of refusal) (is_status refusal)
+
 two_by : (refusal : Refusal) (status : ℕ) → IsStatus refusal status → status ≡ 2 → refusal ≡ Words
 two_by _ _ of_words e = refl
 two_by _ _ (of_other refusal status a b c d f) e = absurd (b e)
@@ -276,3 +284,17 @@ ends_none_left seen old now before after _ _ (ends_said _ _ _ (may_refuse refusa
 ends_none_left seen old now before after _ _ (ends_said _ _ _ (may_miss file unread) grew) some = refl
 ends_none_left seen old now before after _ _ (ends_said _ _ _ (may_serve done other gives leaves bounded) grew) some = absurd (some refl)
 ends_none_left seen old now before after _ _ (ends_cut status text left may rose front) some = refl
+
+-- What words come to keeps its bounds.
+abbrev pub AllBounded : Type 0
+AllBounded = (words : List (List ℕ)) (files : Option Files) (done : Service) → (answering words files).gives done → IsBounded done
+
+-- A run that nothing refuses is written whole and keeps its bounds, or memory ran out and nothing was written.
+pub ends_headline : OneAnswer → AllBounded → (seen : Seen) (old now : Option (List ℕ)) (before after answer : ℕ) (left : Option Progress) → Ends seen old now before after answer left
+    → (files : Files) (done : Service) → seen.files ≡ Some files → (answering seen.words (Some files)).gives done → (Rose seen.before seen.after → ⊥) → (Rose before after → ⊥)
+    → ((answer ≡ 0) × Grew old now (text_of done) × IsBounded done) ⊎ ((answer ≡ 8) × Grew old now [])
+ends_headline one_answer bounded seen old now before after answer left ends files done told gives shelf sink =
+    elim (ends_complete one_answer seen old now before after answer left ends files 0 (text_of done) told (served done gives) shelf sink) [
+      | inl (zero, grew) ↦ inl (zero, grew, bounded seen.words (Some files) done gives)
+      | inr eight ↦ inr (eight, ends_for_memory seen old now before after answer left ends eight)
+    ]

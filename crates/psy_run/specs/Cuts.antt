@@ -6,9 +6,13 @@ use Rattle.psy_door.specs.Growth.{Grew}
 use Rattle.psy_meaning.specs.Actions.{System}
 use Rattle.psy_kernel.specs.Texts.{lines_of, summary_of, text_of}
 
+-- The lines of the first dates, of which there are so many: 0, 1 and so on
+abbrev pub log_lines : System → ℕ → List (List ℕ)
+log_lines s dates = flat_map (lines_of s) (range_with_len 0 dates)
+
 -- The lines of a run up to a date: those of each date, then the summary
 abbrev pub run_lines : System → (ℕ → List ℕ) → Sizes → ℕ → List (List ℕ)
-run_lines s order sizes until = flat_map (lines_of s) (range_with_len 0 (until + 1)) ++ summary_of s order sizes until
+run_lines s order sizes until = log_lines s (until + 1) ++ summary_of s order sizes until
 
 -- A sink grew by lines, the first of these, and by so many bytes of the next, which weren't all.
 pub record IsCutAt (old new : Option (List ℕ)) (lines : List (List ℕ)) (taken : ℕ) : Type 0 where

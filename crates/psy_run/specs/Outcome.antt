@@ -1,6 +1,7 @@
 -- How a call of the top ends. The counts of faults are those of the shelf and the sink before and after it.
-use Rattle.std.specs.Prelude.{◌≡◌, ◌⊎◌, ℕ, ◌≤◌, List, [], length, Option, None, ⊤}
+use Rattle.std.specs.Prelude.{◌≡◌, ◌⊎◌, ℕ, ◌+◌, ◌≤◌, List, [], length, Option, None, ⊤}
 use Rattle.std.specs.List.{All}
+use Rattle.psy_base.specs.declared.limits.TheConstants.{FILE_BYTES}
 use Rattle.psy_door.specs.Faults.{Rose}
 use Rattle.psy_door.specs.Files.{Files}
 use Rattle.psy_door.specs.Growth.{Grew, GrewByFront}
@@ -11,6 +12,7 @@ use Rattle.psy_history.specs.Scripts.{IsScript}
 use Rattle.psy_log.specs.Forms.{read_line}
 use Rattle.psy_run.specs.declared.refusal.File.{File}
 use Rattle.psy_run.specs.declared.refusal.Refusal.{Refusal}
+use Rattle.psy_run.specs.declared.refusal.Refusal.TheVariants.{TooLong}
 use Rattle.psy_run.specs.declared.refusal.Stop.{Stop}
 use Rattle.psy_run.specs.declared.refusal.Stop.TheVariants as stop
 use Rattle.psy_meaning.specs.Units.{IsBare}
@@ -29,6 +31,17 @@ pub data Halts {X : Type 0} (course : Course X) (failed : List ℕ) (before afte
   halts_refused : (refusal : Refusal) → course.stops refusal → Halts course failed before after (stop.Refused refusal)
   halts_unread : (file : File) → course.reads file failed → Rose before after → Halts course failed before after (stop.Unread file)
   halts_memory : Halts course failed before after stop.Memory
+
+-- Where a command stopped at a file that is too long, the shelf took one byte more than a file may have.
+abbrev pub TookLimit : ℕ → Stop → Type 0
+TookLimit taken at = (file : File) → at ≡ stop.Refused (TooLong file) → taken ≡ FILE_BYTES + 1
+
+-- A limit was passed: a step refused, and its line was added; where a file was too long, the shelf took one byte more than a file may have.
+pub record IsPastLimit {X : Type 0} (course : Course X) (old now : Option (List ℕ)) (taken : ℕ) : Type 0 where
+  pub refusal : Refusal
+  pub stops : course.stops refusal
+  pub grew : Grew old now (line_of refusal)
+  pub took : (file : File) → refusal ≡ TooLong file → taken ≡ FILE_BYTES + 1
 
 -- What a call is given and meets: the words, the files where they are told, the shelf's counts of faults, and the name that
 -- failed last.

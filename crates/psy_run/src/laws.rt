@@ -12,19 +12,21 @@ ghost use Rattle.psy_history.specs.Feeding.{OverranAlike, Reaches};
 ghost use Rattle.psy_history.specs.declared.told.Script.{Script};
 ghost use Rattle.psy_history.specs.Scripts.{IsScript, order_of};
 ghost use Rattle.psy_run.specs.Accepted.{IsRunnable};
-ghost use Rattle.psy_run.specs.Answer.{Answers};
+ghost use Rattle.psy_run.specs.Answer.{Answers, answering};
 ghost use Rattle.psy_run.specs.Asked.{Asks, Check, Run};
-ghost use Rattle.psy_run.specs.Bounds.{KeepsBounds};
+ghost use Rattle.psy_run.specs.Bounds.{IsBounded, KeepsBounds};
 ghost use Rattle.psy_run.specs.OwnLines.{own_text};
-ghost use Rattle.psy_run.specs.Services.{meaning_of};
+ghost use Rattle.psy_run.specs.Services.{Service, meaning_of};
 
 use psy_flow::laws::{costs, nexts};
+use psy_gen::laws::alike as generated;
 use psy_graph::laws::one_graph;
 use psy_history::laws::{alike, isolation as histories, on_time, queue_sizes, regular, ring_sizes};
 use psy_make::laws::short;
-use psy_meaning::laws::of_text;
+use psy_meaning::laws::{of_text, sound};
 use psy_parse::laws::one_tree;
 use psy_rules::laws::one_verdict;
+use psy_script::laws::lawful;
 use psy_sizes::laws::one_size;
 use psy_token::laws::one_reading;
 use psy_window::laws::greatest;
@@ -73,6 +75,19 @@ pub fn bounds()
     queue_sizes();
 }
 
+/// What words come to, where nothing refuses it, keeps its bounds.
+pub fn bounded()
+    ensures { (words : List (List ℕ)) (files : Option Files) (done : Service) → (answering words files).gives done → IsBounded done }
+{
+    of_text();
+    sound();
+    short();
+    generated();
+    one_graph();
+    lawful();
+    bounds();
+}
+
 /// The headline: where a check of a program up to a date is answered by status 0, each run of it up to that date is, whatever the inputs and
 /// the script; it writes the dated meaning of the program's statements, and keeps its bounds.
 pub fn accepted()
@@ -81,7 +96,7 @@ pub fn accepted()
         → Asks ran (Run again until inputs script) → bytes_under others again ≡ bytes_under files program
         → IsRunnable ran others again until inputs script }
 {
-    bounds();
+    bounded();
 }
 
 /// Isolation, in bytes: two runs of a program with the same inputs, each with stalls of its own. Where, of each agent that reaches another,

@@ -5,7 +5,7 @@ ghost use Rattle.psy_kernel.specs.declared.stage.Stage.TheVariants.{Over};
 ghost use Rattle.psy_kernel.specs.Progress.{booted, lines_told, order, stage_of, summary_told, system};
 ghost use Rattle.psy_kernel.specs.Texts.{log_of, run_text, summary_of, text_of};
 ghost use Rattle.psy_log.specs.Writing.{Written};
-ghost use Rattle.psy_run.specs.Cuts.{IsCutAt, run_lines};
+ghost use Rattle.psy_run.specs.Cuts.{IsCutAt, log_lines, run_lines};
 ghost use Rattle.psy_run.specs.Runs.{all_given, ended};
 
 use psy_door::Sink;
@@ -19,6 +19,7 @@ fn write_date<S: Sink>(kernel: &mut Kernel, out: &mut S) -> Result<(), WriteFaul
     ensures failed { OnErr result (Rose (S.faults out.old) (S.faults out.new)) }
     ensures given { OnOk result (kernel.new ≡ all_given kernel.old) }
     ensures written { Written (S.held out.old) (S.held out.new) result (text_of (lines_told kernel.old)) }
+    ensures cut { IfErr result (λ fault. IsCutAt (S.held out.old) (S.held out.new) (lines_told kernel.old) fault.taken) }
 {
     let mut line = Line::new();
     'lines: loop {
@@ -38,6 +39,8 @@ fn run_dates<S: Sink>(kernel: &mut Kernel, out: &mut S) -> Result<(), WriteFault
     ensures failed { OnErr result (Rose (S.faults out.old) (S.faults out.new)) }
     ensures over { OnOk result (kernel.new ≡ ended kernel.old) }
     ensures written { Written (S.held out.old) (S.held out.new) result (log_of (system kernel.old) (kernel.old.plan.until + 1)) }
+    ensures cut { IfErr result (λ fault. IsCutAt (S.held out.old) (S.held out.new)
+        (log_lines (system kernel.old) (kernel.old.plan.until + 1)) fault.taken) }
 {
     'stages: loop {
         match kernel.stage() {
@@ -85,6 +88,7 @@ fn write_summary<S: Sink>(kernel: &Kernel, out: &mut S) -> Result<(), WriteFault
     ensures counted { S.faults out.old ≤ S.faults out.new }
     ensures failed { OnErr result (Rose (S.faults out.old) (S.faults out.new)) }
     ensures written { Written (S.held out.old) (S.held out.new) result (text_of (summary_told kernel.now)) }
+    ensures cut { IfErr result (λ fault. IsCutAt (S.held out.old) (S.held out.new) (summary_told kernel.now) fault.taken) }
 {
     let mut line = Line::new();
     let mut place = 0;

@@ -4,7 +4,7 @@ ghost use Rattle.psy_history.specs.Compiled.{AreInputs};
 ghost use Rattle.psy_history.specs.Scripts.{IsScript};
 ghost use Rattle.psy_meaning.specs.Units.{IsOfText};
 ghost use Rattle.psy_run.specs.Answer.{listing, scripting};
-ghost use Rattle.psy_run.specs.Outcome.{Halts};
+ghost use Rattle.psy_run.specs.Outcome.{Halts, TookLimit};
 ghost use Rattle.psy_run.specs.Refusals.{stop_by};
 ghost use Rattle.psy_run.specs.Services.{no_inputs, no_script};
 ghost use Rattle.psy_run.specs.Steps.{stating, directing, pacing};
@@ -89,6 +89,7 @@ pub fn inputs_of<F: Shelf>(
     ensures inputs { IfOk result (λ inputs. AreInputs unit.now inputs.lists) }
     ensures err { IfErr result (Halts (listing (F.files shelf.old) unit.now (option_copied name.entry)) (F.failed_name shelf.new) (F.faults shelf.old)
         (F.faults shelf.new)) }
+    ensures long { IfErr result (TookLimit (F.taken shelf.new)) }
     ensures shelf { (F.faults shelf.old ≤ F.faults shelf.new) × (F.files shelf.new ≡ F.files shelf.old) }
 {
     let Some(name) = name else {
@@ -110,6 +111,7 @@ pub fn script_of<F: Shelf>(
     ensures script { IfOk result (IsScript unit.now) }
     ensures err { IfErr result (Halts (scripting (F.files shelf.old) unit.now (option_copied name.entry)) (F.failed_name shelf.new) (F.faults shelf.old)
         (F.faults shelf.new)) }
+    ensures long { IfErr result (TookLimit (F.taken shelf.new)) }
     ensures shelf { (F.faults shelf.old ≤ F.faults shelf.new) × (F.files shelf.new ≡ F.files shelf.old) }
 {
     let Some(name) = name else {

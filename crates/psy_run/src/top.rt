@@ -1,6 +1,5 @@
 //! The top call.
-ghost use Rattle.std.specs.Prelude.{◌≡◌, ◌≢◌, ℕ, ℤ, ◌+◌, ◌≤◌, ◌⊎◌, List, [], map, string_bytes, Option, None, Some, IfSome, OnErr, MatchResult};
-ghost use Rattle.psy_base.specs.declared.limits.TheConstants.{FILE_BYTES};
+ghost use Rattle.std.specs.Prelude.{◌≡◌, ◌≢◌, ℕ, ℤ, ◌≤◌, ◌⊎◌, List, [], map, string_bytes, Option, None, Some, IfSome, OnErr, MatchResult};
 ghost use Rattle.psy_base.specs.declared.sizes.Sizes.{Sizes};
 ghost use Rattle.psy_door.specs.Faults.{Rose};
 ghost use Rattle.psy_door.specs.Files.{Files};
@@ -15,16 +14,15 @@ ghost use Rattle.psy_log.specs.Forms.{read_line};
 ghost use Rattle.psy_log.specs.Writing.{Written};
 ghost use Rattle.psy_run.specs.declared.refusal.File.{File as Role};
 ghost use Rattle.psy_run.specs.declared.refusal.Refusal.{Refusal as Cause};
-ghost use Rattle.psy_run.specs.declared.refusal.Refusal.TheVariants.{TooLong};
 ghost use Rattle.psy_run.specs.Answer.{Answers, answering};
 ghost use Rattle.psy_run.specs.Asked.{AskNothing};
 ghost use Rattle.psy_run.specs.Bounds.{IsBounded, KeepsBounds};
-ghost use Rattle.psy_run.specs.Outcome.{CanServe, Ends, IsUnread, MayAnswer, Says};
+ghost use Rattle.psy_run.specs.Outcome.{CanServe, Ends, IsPastLimit, IsUnread, MayAnswer, Says};
 ghost use Rattle.psy_run.specs.Refusals.{status_of, line_of, file_name};
 ghost use Rattle.psy_run.specs.Services.{Leaves, Ran, Service, meaning_of, service_of, text_of};
 
 use crate::commands::judge;
-use crate::laws::{bounds, one_answer};
+use crate::laws::{bounded, bounds, one_answer};
 use crate::refusal::{Stop, unread_line};
 use crate::run::{run_loop, trial_loop};
 use crate::served::Served;
@@ -145,6 +143,8 @@ fn answer<F: Shelf, S: Sink>(
       after = F.faults shelf.new;
     })
         (S.held out.old) (S.held out.new) (S.faults out.old) (S.faults out.new) result left.new }
+    ensures limit { result ≡ 7 → IsPastLimit (answering (map string_bytes words.now) (F.files shelf.old)) (S.held out.old) (S.held out.new)
+        (F.taken shelf.new) }
     ensures shelf { (F.faults shelf.old ≤ F.faults shelf.new) × (F.files shelf.new ≡ F.files shelf.old) }
     ensures sink { S.faults out.old ≤ S.faults out.new }
 {
@@ -190,9 +190,8 @@ pub fn psyc<F: Shelf, S: Sink>(
         ⊎ ((result ≡ 8) × Grew (S.held out.old) (S.held out.new) []) }
 
     // A limit: the refusal's line was written; where a file was too long, the shelf took one byte more than a file may have.
-    ensures limit { result ≡ 7 → (refusal : Cause) × (answering (map string_bytes words.now) (F.files shelf.old)).stops refusal
-        × Grew (S.held out.old) (S.held out.new) (line_of refusal)
-        × ((file : Role) → refusal ≡ TooLong file → F.taken shelf.new ≡ FILE_BYTES + 1) }
+    ensures limit { result ≡ 7 → IsPastLimit (answering (map string_bytes words.now) (F.files shelf.old)) (S.held out.old) (S.held out.new)
+        (F.taken shelf.new) }
 
     // Words of no listed form are refused whatever the shelf does.
     ensures words { AskNothing (map string_bytes words.now) → (result ≡ 2) ⊎ (result ≡ 4) }
@@ -230,6 +229,7 @@ pub fn psyc<F: Shelf, S: Sink>(
     ensures sink { S.faults out.old ≤ S.faults out.new }
 {
     one_answer();
+    bounded();
     *left = None;
     answer(alloc, words, shelf, out, left)
 }

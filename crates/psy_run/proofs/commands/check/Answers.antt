@@ -1,7 +1,8 @@
 -- What is left of the proof of `commands::check`.
-use Rattle.std.proofs.Common.{refl}
+use Rattle.std.proofs.Common.{refl, []}
 use Rattle.psy_run.specs.Answer.{compiling, supplying}
 use Rattle.psy_run.proofs.Courses.{gives_then, halts_exit, halts_first, halts_later}
+use Rattle.psy_run.proofs.LongFiles.{took_exit, took_never, supplying_never_long}
 use Rattle.psy_run.proofs.commands.check.Goals as goal
 
 pub returns-in_err-unit-clause-err : goal.returns-in_err-unit-clause-err
@@ -17,3 +18,9 @@ returns-clause-ok g c =
     let (graphs, gives) = c.in_ok-supply.ensures.ok in
     gives_then (compiling _ _) _ _ _ c.in_ok-unit.ensures.ok
     (gives_then (supplying _ _) _ (record { graphs = graphs; nexts = supply.nexts; sizes = supply.sizes }) _ gives refl)
+
+pub returns-in_err-unit-clause-long : goal.returns-in_err-unit-clause-long
+returns-in_err-unit-clause-long g c = took_exit _ _ _ c.from_residual.ensures.1 c.in_err-unit.ensures.long
+
+pub returns-in_err-supply-clause-long : goal.returns-in_err-supply-clause-long
+returns-in_err-supply-clause-long g c = took_exit _ _ _ c.from_residual-in_err-supply.ensures.1 (took_never (supplying _ _) [] 0 0 _ _ (supplying_never_long _ _) (c.in_err-supply.ensures.err _ _ _))

@@ -1,12 +1,14 @@
 -- What is left of the proof of `commands::judge`.
-use Rattle.std.proofs.Common.{refl, subst}
+use Rattle.std.proofs.Common.{refl, subst, []}
 use Rattle.std.specs.Prelude.{map, string_bytes, option_copied}
 use Rattle.psy_run.specs.declared.refusal.Refusal.TheVariants.{Words}
+use Rattle.psy_run.specs.Answer.{making, trying}
 use Rattle.psy_run.specs.Asked.{Asks, asked_by, Run, Check, Graph, Make, Trial}
 use Rattle.psy_run.specs.Outcome.{halts_refused}
 use Rattle.psy_run.specs.Services.{service_of}
 use Rattle.psy_run.specs.Steps.{asking}
 use Rattle.psy_run.proofs.Courses.{halts_first, halts_last, gives_last}
+use Rattle.psy_run.proofs.LongFiles.{not_words, took_last, trying_never_long}
 use Rattle.psy_run.proofs.commands.judge.Goals as goal
 
 pub returns-in-None-clause-err : goal.returns-in-None-clause-err
@@ -41,3 +43,12 @@ returns-in-Some-Trial-clause-ok g c = gives_last (asking _) _ (Trial c.in-Some-T
 
 pub returns-in-Some-Trial-clause-err : goal.returns-in-Some-Trial-clause-err
 returns-in-Some-Trial-clause-err g c = halts_last (asking _) _ _ _ _ (Trial c.in-Some-Trial.seed c.in-Some-Trial.until) _ (subst (λ read. Asks (map string_bytes c.args.words.now) (asked_by read)) c.in-Some-Trial.field-0-is c.in-Some-Trial.ensures) (c.try_made.ensures.err _ _ _)
+
+pub returns-in-None-clause-long : goal.returns-in-None-clause-long
+returns-in-None-clause-long g c file e = absurd (not_words file cc)
+
+pub returns-in-Some-Make-clause-long : goal.returns-in-Some-Make-clause-long
+returns-in-Some-Make-clause-long g c = took_last (making _) _ _ _ _ _ (λ file stops. stops) (c.write_made.ensures.err [] 0 0)
+
+pub returns-in-Some-Trial-clause-long : goal.returns-in-Some-Trial-clause-long
+returns-in-Some-Trial-clause-long g c = took_last (trying _ _) _ _ _ _ _ (trying_never_long _ _) (c.try_made.ensures.err [] 0 0)

@@ -1,9 +1,11 @@
 -- What is left of the proof of `commands::run`.
-use Rattle.std.specs.Prelude.{option_copied}
+use Rattle.std.specs.Prelude.{[], option_copied}
 use Rattle.psy_run.specs.Answer.{compiling, supplying, listing, scripting}
 use Rattle.psy_run.specs.Outcome.{halts_memory}
+use Rattle.psy_run.specs.Steps.{pacing}
 use Rattle.psy_run.proofs.Courses.{halts_exit, halts_first, halts_later}
 use Rattle.psy_run.proofs.ToldLemmas.{halts_behind, gives_behind, run_unlisted, run_unscripted, run_unpaced, run_gives, can_run, ran_is}
+use Rattle.psy_run.proofs.LongFiles.{took_exit, took_for_memory, took_never, supplying_never_long, pacing_never_long}
 use Rattle.psy_run.proofs.commands.run.Goals as goal
 
 pub returns-in_err-unit-clause-err : goal.returns-in_err-unit-clause-err
@@ -67,3 +69,21 @@ returns-in-Ok-clause-can g c =
 
 pub returns-in-Err-clause-err : goal.returns-in-Err-clause-err
 returns-in-Err-clause-err g c = halts_memory
+
+pub returns-in_err-unit-clause-long : goal.returns-in_err-unit-clause-long
+returns-in_err-unit-clause-long g c = took_exit _ _ _ c.from_residual.ensures.1 c.in_err-unit.ensures.long
+
+pub returns-in_err-supply-clause-long : goal.returns-in_err-supply-clause-long
+returns-in_err-supply-clause-long g c = took_exit _ _ _ c.from_residual-in_err-supply.ensures.1 (took_never (supplying _ _) [] 0 0 _ _ (supplying_never_long _ _) (c.in_err-supply.ensures.err _ _ _))
+
+pub returns-in_err-inputs-clause-long : goal.returns-in_err-inputs-clause-long
+returns-in_err-inputs-clause-long g c = took_exit _ _ _ c.from_residual-in_err-inputs.ensures.1 c.in_err-inputs.ensures.long
+
+pub returns-in_err-script-clause-long : goal.returns-in_err-script-clause-long
+returns-in_err-script-clause-long g c = took_exit _ _ _ c.from_residual-in_err-script.ensures.1 c.in_err-script.ensures.long
+
+pub returns-in_err-pace-clause-long : goal.returns-in_err-pace-clause-long
+returns-in_err-pace-clause-long g c = took_exit _ _ _ c.from_residual-in_err-pace.ensures.1 (took_never (pacing c.in_ok-unit.unit c.args.until) [] 0 0 _ _ (pacing_never_long c.in_ok-unit.unit c.args.until) (c.in_err-pace.ensures.err _ _ _))
+
+pub returns-in-Err-clause-long : goal.returns-in-Err-clause-long
+returns-in-Err-clause-long g c = took_for_memory _

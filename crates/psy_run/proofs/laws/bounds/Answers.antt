@@ -13,10 +13,11 @@ returns c plan inputs script is are its =
     keeps_bounds plan inputs script is its (record {
       lawful = c.regular.ensures.lawful plan.unit plan.code plan.nexts stalls inputs is.compiled are;
       actions = c.alike.ensures.actions plan.unit plan.code plan.nexts stalls inputs is.compiled are;
-      schedule = c.alike.ensures.schedule plan.unit plan.code plan.nexts stalls inputs is.compiled are ties cycles;
+      schedule = c.alike.ensures.schedule plan.unit plan.code plan.nexts stalls inputs is.compiled are ties;
       reaches = c.alike.ensures.reaches plan.unit plan.code plan.nexts stalls inputs is.compiled are ties (plan.until + 1) cycles;
       held = c.alike.ensures.held plan.unit plan.code plan.nexts stalls inputs is.compiled are plan.until;
       finishes = λ agent r supplied. c.on_time.ensures.finishes (coded plan.unit plan.code plan.nexts stalls inputs) ties plan.until cycles agent r supplied (omega arith);
+      worked = λ agent r supplied. c.on_time.ensures.finished (coded plan.unit plan.code plan.nexts stalls inputs) ties plan.until (plan.until + 1) agent r supplied;
       reached = λ variable size n supplied. c.ring_sizes.ensures.reached plan.unit plan.code plan.nexts stalls inputs is.compiled are ties plan.until cycles variable size n supplied (omega arith);
       most = c.queue_sizes.ensures.most plan.unit plan.code plan.nexts stalls inputs is.compiled are plan.until;
     })

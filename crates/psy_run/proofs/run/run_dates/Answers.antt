@@ -3,7 +3,9 @@ use Rattle.std.proofs.Common.{◌≡◌, ◌∙◌, ap, subst, sym, ◌+◌, ◌
 use Rattle.psy_door.specs.Growth.{Grew, GrewByFront}
 use Rattle.psy_kernel.specs.Progress.{after_date, lines_told, system}
 use Rattle.psy_kernel.specs.Texts.{lines_of, text_of}
+use Rattle.psy_run.specs.Cuts.{IsCutAt}
 use Rattle.psy_run.specs.Runs.{all_given}
+use Rattle.psy_run.proofs.CutLemmas.{cut_at_date}
 use Rattle.psy_run.proofs.LogLemmas.{Grew-date, GrewByFront-date, cycles-after, lines_told-after, progress-parts, stage-date}
 use Rattle.psy_run.proofs.run.run_dates.Goals as goal
 
@@ -43,3 +45,14 @@ stages-preserved g c =
           (Grew-date _ _ _ (system old) p.dates c.stages.invariant.grew
           (subst (λ ls. Grew (g.S.Sink.held c.stages.out) (g.S.Sink.held c.write_date.new.out) (text_of ls)) lines c.in_default.ensures.written));
     }
+
+pub returns-in-Err-clause-cut : goal.returns-in-Err-clause-cut
+returns-in-Err-clause-cut g c =
+    let old = c.args.kernel.now in
+    let p = c.stages.kernel in
+    let due = stage-date p c.in-DateDue.field-0 (sym c.in-DateDue.ensures) in
+    let until = ap (λ k. k.plan.until) c.stages.invariant.same in
+    let lines : lines_told c.date.new.self ≡ lines_of (system old) p.dates = ap lines_told c.date.ensures.state ∙ lines_told-after p ∙ ap (λ k. lines_of (system k) p.dates) c.stages.invariant.same in
+    let before : p.dates + 1 ≤ old.plan.until + 1 = omega (arith, due.2, c.stages.invariant.within, until) in
+    cut_at_date _ _ _ (system old) p.dates (old.plan.until + 1) c.in-Err.fault.taken before c.stages.invariant.grew
+    (subst (λ ls. IsCutAt (g.S.Sink.held c.stages.out) (g.S.Sink.held c.write_date.new.out) ls c.in-Err.fault.taken) lines c.in-Err.ensures.cut)

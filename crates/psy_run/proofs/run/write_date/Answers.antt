@@ -1,8 +1,9 @@
 -- What is left of the proof of `run::write_date`.
-use Rattle.std.proofs.Common.{◌≡◌, ap, subst, refl, ◌+◌, ◌-◌, ◌<◌, length, slice_get, Some, arith}
+use Rattle.std.proofs.Common.{◌≡◌, ap, subst, refl, ◌+◌, ◌-◌, ◌<◌, length, slice_get, take, Some, arith}
 use Rattle.std.proofs.lemmas.Option.{slice_get_within}
 use Rattle.psy_door.specs.Growth.{Grew, GrewByFront}
 use Rattle.psy_kernel.specs.Progress.{lines_told}
+use Rattle.psy_run.proofs.CutLemmas.{cut_at_line}
 use Rattle.psy_run.proofs.LogLemmas.{Grew-line, GrewByFront-line, given-set}
 use Rattle.psy_run.proofs.run.write_date.Goals as goal
 
@@ -38,3 +39,11 @@ lines-preserved g c =
           (Grew-line _ _ _ (lines_told c.args.kernel.now) c.lines.kernel.given c.next_line.new.line at c.lines.invariant.grew
           (subst (Grew (g.S.Sink.held c.lines.out) (g.S.Sink.held c.write_all_of.new.out)) c.bytes.ensures c.in_default.ensures.written));
     }
+
+pub returns-in-Err-clause-cut : goal.returns-in-Err-clause-cut
+returns-in-Err-clause-cut g c =
+    let told : lines_told c.lines.kernel ≡ lines_told c.args.kernel.now = ap lines_told c.lines.invariant.same in
+    let at = subst (λ lines. slice_get lines c.lines.kernel.given ≡ Some c.next_line.new.line) told (c.if-not-next_line.ensures.some refl).0 in
+    cut_at_line _ _ _ (lines_told c.args.kernel.now) c.lines.kernel.given c.in-Err.fault.taken c.next_line.new.line at c.lines.invariant.grew
+    (subst (λ line. Grew (g.S.Sink.held c.lines.out) (g.S.Sink.held c.write_all_of.new.out) (take c.in-Err.fault.taken line)) c.bytes.ensures c.in-Err.ensures.front)
+    (subst (λ line. c.in-Err.fault.taken < length line) c.bytes.ensures c.in-Err.ensures.short)

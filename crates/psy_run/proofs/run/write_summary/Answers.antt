@@ -1,8 +1,9 @@
 -- What is left of the proof of `run::write_summary`.
-use Rattle.std.proofs.Common.{subst, refl, ◌+◌, ◌-◌, ◌<◌, ◌≤◌, length, arith}
+use Rattle.std.proofs.Common.{subst, refl, ◌+◌, ◌-◌, ◌<◌, ◌≤◌, length, take, arith}
 use Rattle.std.proofs.lemmas.Option.{slice_get_within}
 use Rattle.psy_door.specs.Growth.{Grew, GrewByFront}
 use Rattle.psy_kernel.specs.Progress.{summary_told}
+use Rattle.psy_run.proofs.CutLemmas.{cut_at_line}
 use Rattle.psy_run.proofs.LogLemmas.{Grew-line, GrewByFront-line}
 use Rattle.psy_run.proofs.run.write_summary.Goals as goal
 
@@ -36,3 +37,10 @@ lines-preserved g c =
           Grew-line _ _ _ (summary_told c.args.kernel.now) c.lines.place c.summary_line.new.line at c.lines.invariant.grew
           (subst (Grew (g.S.Sink.held c.lines.out) (g.S.Sink.held c.write_all_of.new.out)) c.bytes.ensures c.in_default.ensures.written);
     }
+
+pub returns-in-Err-clause-cut : goal.returns-in-Err-clause-cut
+returns-in-Err-clause-cut g c =
+    let at = c.if-not-summary_line.ensures.some refl in
+    cut_at_line _ _ _ (summary_told c.args.kernel.now) c.lines.place c.in-Err.fault.taken c.summary_line.new.line at c.lines.invariant.grew
+    (subst (λ line. Grew (g.S.Sink.held c.lines.out) (g.S.Sink.held c.write_all_of.new.out) (take c.in-Err.fault.taken line)) c.bytes.ensures c.in-Err.ensures.front)
+    (subst (λ line. c.in-Err.fault.taken < length line) c.bytes.ensures c.in-Err.ensures.short)

@@ -14,3 +14,6 @@ returns-in-Err-TooLong-clause-err g c = halts_refused (TooLong c.args.file) (ref
 
 pub returns-in-Err-Memory-clause-err : goal.returns-in-Err-Memory-clause-err
 returns-in-Err-Memory-clause-err g c = halts_memory
+
+pub returns-in-Err-TooLong-clause-long : goal.returns-in-Err-TooLong-clause-long
+returns-in-Err-TooLong-clause-long g c file e = c.fetch.ensures.too_long (c.in-Err-TooLong.is ∙ ap Err c.in-Err-TooLong.field-0-is)

@@ -1,0 +1,145 @@
+-- What words come to keeps its bounds; and what a check accepts can be run.
+use Rattle.std.proofs.Common.{◌≡◌, ◌∙◌, refl, sym, ap, subst, ℕ, ◌*◌, ◌≤◌, List, length, Option, None, Some, ℤ}
+use Rattle.psy_base.specs.declared.limits.TheConstants.{FILE_BYTES, RUN}
+use Rattle.psy_dates.specs.declared.plan.Plan.{Plan}
+use Rattle.psy_dates.specs.Plans.{IsPlan}
+use Rattle.psy_door.specs.Files.{Files, bytes_under}
+use Rattle.psy_gen.specs.Emission.{code_of}
+use Rattle.psy_graph.specs.Graphs.{IsTimingOf}
+use Rattle.psy_history.specs.Compiled.{AreInputs}
+use Rattle.psy_history.specs.declared.told.Script.{Script as Said}
+use Rattle.psy_history.specs.Scripts.{IsScript, order_of}
+use Rattle.psy_make.specs.Text.{made_text}
+use Rattle.psy_meaning.specs.Alike.{ActsAlike}
+use Rattle.psy_meaning.specs.Timing.{Timing}
+use Rattle.psy_meaning.specs.Units.{IsOfText}
+use Rattle.psy_script.specs.Inputs.{AreListsOf}
+use Rattle.psy_script.specs.Script.{IsScriptOf}
+use Rattle.psy_tree.specs.declared.unit.Unit.{Unit as Whole}
+use Rattle.psy_run.specs.Accepted.{IsRunnable}
+use Rattle.psy_run.specs.Answer.{Answers, refused, served, Supply, compiling, translating, supplying, listing, scripting, running, trying, serving, answering}
+use Rattle.psy_run.specs.Asked.{Asks, Command, Run, Check, Graph, Make, Trial}
+use Rattle.psy_run.specs.Bounds.{IsBounded, KeepsBounds}
+use Rattle.psy_run.specs.Courses.{in_row}
+use Rattle.psy_run.specs.Refusals.{status_of}
+use Rattle.psy_run.specs.Services.{Service, Ran, Checked, Drawn, Made, Tried, meaning_of, no_inputs, no_script}
+use Rattle.psy_run.proofs.AskingForms.{one_asking}
+use Rattle.psy_run.proofs.Courses.{gives_then}
+use Rattle.psy_run.proofs.MeaningText.{Keeps, is_no_script}
+use Rattle.psy_run.proofs.OneAnswer.{compiled, translated}
+use Rattle.psy_run.proofs.OneStep.{TextsHold}
+use Rattle.psy_run.proofs.PlanLemmas.{are_no_inputs, is_feasible_for}
+use Rattle.psy_run.proofs.SupplyLemmas.{supply_is}
+use Rattle.psy_run.proofs.TopLemmas.{AllBounded, status_some}
+
+-- ---- bounds
+
+-- What the laws of the steps say of a run
+pub record RunsHold : Type 0 where
+  pub of_text : TextsHold
+  pub short : (seed : ℕ) → length (made_text seed) ≤ FILE_BYTES
+  pub alike : (unit : Whole) → IsOfText unit → ActsAlike unit (code_of unit)
+  pub timing : (unit : Whole) (number : ℕ) (timing other : Timing) → IsTimingOf unit number timing → IsTimingOf unit number other → timing ≡ other
+  pub inputs : (unit : Whole) (text : List ℕ) (lists : List (List ℤ)) → AreListsOf unit text lists → AreInputs unit lists
+  pub script : (unit : Whole) (text : List ℕ) (said : Said) → IsScriptOf unit text said → IsScript unit said
+  pub keeps : Keeps
+
+module _ (hold : RunsHold) where
+  -- A program that is supplied has a plan, and so keeps its bounds.
+  supplied_bounded : (unit : Whole) (until : ℕ) (supply : Supply) (lists : List (List ℤ)) (said : Said) → IsOfText unit → (supplying unit until).gives supply → AreInputs unit lists → IsScript unit said
+      → KeepsBounds (meaning_of unit supply.nexts lists said) (order_of unit said) supply.sizes until
+  supplied_bounded unit until supply lists said text supplied are script =
+      let plan : Plan = record { unit = unit; code = code_of unit; nexts = supply.nexts; sizes = supply.sizes; until = until } in
+      let is = supply_is unit until supply supplied in
+      let planned : IsPlan plan = record {
+        compiled = record { text = text; alike = hold.alike unit text; followed = is.followed };
+        buffers = is.sized;
+        supplied = is_feasible_for hold.timing plan is.followed supply is;
+      } in
+      hold.keeps plan lists said planned are script
+
+  -- The lists of an inputs file are inputs of the program.
+  listed_inputs : (files : Option Files) (unit : Whole) (inputs : Option (List ℕ)) (lists : List (List ℤ)) → (listing files unit inputs).gives lists → AreInputs unit lists
+  unfolding in_row
+  listed_inputs files unit None lists is = subst (AreInputs unit) (sym is) (are_no_inputs unit)
+  listed_inputs files unit (Some name) lists (bytes, read, stated) = hold.inputs unit bytes lists stated
+
+  -- The script of a script file is one of the program.
+  told_script : (files : Option Files) (unit : Whole) (script : Option (List ℕ)) (said : Said) → (scripting files unit script).gives said → IsScript unit said
+  unfolding in_row
+  told_script files unit None said is = subst (IsScript unit) (sym is) (is_no_script unit)
+  told_script files unit (Some name) said (bytes, read, stated) = hold.script unit bytes said stated
+
+  running_bounded : (files : Option Files) (name : List ℕ) (until : ℕ) (inputs script : Option (List ℕ)) (done : Service) → (running files name until inputs script).gives done → IsBounded done
+  unfolding in_row
+  running_bounded files name until inputs script done (unit, made, (supply, supplied, (lists, listed, (said, told, (paced, fits, is))))) =
+      subst IsBounded (sym is)
+      (supplied_bounded unit until supply lists said (compiled hold.of_text files name unit made) supplied (listed_inputs files unit inputs lists listed) (told_script files unit script said told))
+
+  trying_bounded : (seed until : ℕ) (done : Service) → (trying seed until).gives done → IsBounded done
+  unfolding in_row
+  trying_bounded seed until done (unit, made, (supply, supplied, (paced, fits, is))) =
+      subst IsBounded (sym is)
+      (supplied_bounded unit until supply (no_inputs unit) no_script (translated hold.of_text (made_text seed) unit (hold.short seed) made) supplied (are_no_inputs unit) (is_no_script unit))
+
+  serving_bounded : (files : Option Files) (command : Command) (done : Service) → (serving files command).gives done → IsBounded done
+  unfolding in_row
+  serving_bounded files (Run name until inputs script) done gives = running_bounded files name until inputs script done gives
+  serving_bounded files (Check name until) done (unit, made, (supply, supplied, is)) = subst IsBounded (sym is) tt
+  serving_bounded files (Graph name) done (unit, made, (graphs, drawn, (costs, found, is))) = subst IsBounded (sym is) tt
+  serving_bounded files (Make seed) done is = subst IsBounded (sym is) tt
+  serving_bounded files (Trial seed until) done gives = trying_bounded seed until done gives
+
+  pub answering_bounded : (words : List (List ℕ)) (files : Option Files) (done : Service) → (answering words files).gives done → IsBounded done
+  unfolding in_row
+  answering_bounded words files done (command, asks, gives) = serving_bounded files command done gives
+
+-- ---- what is accepted
+
+-- Where the status is 0, something is given.
+given_by : (words : List (List ℕ)) (files : Option Files) (status : ℕ) (text : List ℕ) → Answers words files status text → status ≡ 0 → (done : Service) × (answering words files).gives done
+given_by words files _ _ (refused refusal stops) zero = absurd (status_some refusal zero)
+given_by words files _ _ (served done gives) zero = (done, gives)
+
+-- What a program has that a check accepts
+record IsAccepted (files : Files) (program : List ℕ) (until : ℕ) : Type 0 where
+  unit : Whole
+  supply : Supply
+  made : (compiling (Some files) program).gives unit
+  supplied : (supplying unit until).gives supply
+
+accepted_by : (files : Files) (words : List (List ℕ)) (program : List ℕ) (until : ℕ) (text : List ℕ) → Asks words (Check program until) → Answers words (Some files) 0 text → IsAccepted files program until
+unfolding in_row
+accepted_by files words program until text asks answers =
+    let (done, (command, asked, gives)) = given_by words (Some files) 0 text answers refl in
+    let same : command ≡ Check program until = (one_asking words).gift command (Check program until) asked asks in
+    let (unit, made, (supply, supplied, is)) = subst (λ c. (serving (Some files) c).gives done) same gives in
+    record { unit = unit; supply = supply; made = made; supplied = supplied }
+
+-- Another file with the same bytes is compiled to the same program.
+compiled_again : (files others : Files) (program again : List ℕ) (unit : Whole) → bytes_under others again ≡ bytes_under files program → (compiling (Some files) program).gives unit → (compiling (Some others) again).gives unit
+unfolding in_row
+compiled_again files others program again unit same (bytes, (few, is), made) = (bytes, (few, is ∙ sym same), made)
+
+pub is_runnable : AllBounded → (files others : Files) (checked ran : List (List ℕ)) (program again : List ℕ) (until : ℕ) (inputs script : Option (List ℕ)) (text : List ℕ)
+    → Asks checked (Check program until) → Answers checked (Some files) 0 text → Asks ran (Run again until inputs script) → bytes_under others again ≡ bytes_under files program
+    → IsRunnable ran others again until inputs script
+is_runnable bounded files others checked ran program again until inputs script text asks answers runs same =
+    let accepted = accepted_by files checked program until text asks answers in
+    let unit = accepted.unit in
+    let supply = accepted.supply in
+    let made = compiled_again files others program again unit same accepted.made in
+    let gives : (lists : List (List ℤ)) (said : Said) → (listing (Some others) unit inputs).gives lists → (scripting (Some others) unit script).gives said → until * unit.quantum ≤ RUN
+    → (answering ran (Some others)).gives (Ran unit supply.nexts supply.sizes until lists said) =
+    λ lists said listed told fits. gives_then _ _ (Run again until inputs script) _ runs
+    (gives_then _ _ unit _ made (gives_then _ _ supply _ accepted.supplied (gives_then _ _ lists _ listed (gives_then _ _ said _ told (gives_then _ _ tt _ fits refl))))) in
+    record {
+      unit = unit;
+      nexts = supply.nexts;
+      sizes = supply.sizes;
+      compiled = made;
+      served = λ lists said listed told fits. record {
+        answered = served (Ran unit supply.nexts supply.sizes until lists said) (gives lists said listed told fits);
+        bounded = bounded ran (Some others) (Ran unit supply.nexts supply.sizes until lists said) (gives lists said listed told fits);
+      };
+    }

@@ -1,0 +1,14 @@
+-- What is left of the proof of `laws::bounded`.
+use Rattle.psy_run.proofs.Accepting.{answering_bounded}
+use Rattle.psy_run.proofs.laws.bounded.Goals as goal
+
+pub returns : goal.returns
+returns c words files = answering_bounded (record {
+  of_text = c.of_text.ensures.unit;
+  short = c.short.ensures;
+  alike = λ unit is. c.alike.ensures unit (c.sound.ensures.unit is.text.0 unit is.text.1);
+  timing = c.one_graph.ensures.timing;
+  inputs = c.lawful.ensures.inputs;
+  script = c.lawful.ensures.script;
+  keeps = c.bounds.ensures;
+}) words files
