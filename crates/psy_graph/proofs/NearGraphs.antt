@@ -1,12 +1,12 @@
 -- The numbers of a graph lie near: phases since its places were found one by one, each no farther than a step behind another.
-use Rattle.std.proofs.Common.{◌≡◌, ◌∙◌, refl, sym, ap, subst, inl, inr, ℕ, ◌+◌, ◌*◌, ◌%◌, ◌<◌, ◌≤◌, List, map, length, get_or, arith}
+use Rattle.std.proofs.Common.{◌≡◌, ◌∙◌, sym, ap, subst, inl, inr, ℕ, ◌+◌, ◌*◌, ◌<◌, ◌≤◌, List, map, length, get_or, arith}
 use Rattle.std.specs.List.{All, Contains}
 use Rattle.std.proofs.lemmas.List.{get_or-map, length-map}
 use Rattle.std.proofs.lemmas.List.Elements.{All-contains, All-map, Contains-get_or}
 use Rattle.psy_base.specs.declared.edge.Edge.{Edge}
-use Rattle.psy_base.specs.declared.limits.TheConstants.{BUDGET, NODES, POINTS}
-use Rattle.psy_meaning.specs.Graph.{IsMet, Spot}
-use Rattle.psy_meaning.specs.Timing.{Timing, deadline, end_date, following}
+use Rattle.psy_base.specs.declared.limits.TheConstants.{NODES}
+use Rattle.psy_meaning.specs.Graph.{Spot}
+use Rattle.psy_meaning.specs.Timing.{Timing, deadline, following}
 use Rattle.psy_graph.specs.declared.graph.Graph.{Graph}
 use Rattle.psy_graph.specs.declared.graph.Node.{Node}
 use Rattle.psy_graph.specs.Drawn.{first_edges}

@@ -164,8 +164,12 @@ grown : ComesAgain → (timing : Timing) → IsTimed timing → (n : ℕ) (place
     ((all : List Place) × ArePlaces timing all × (length all ≤ NODES) × (ComesNear → AreNear all)) ⊎ PassesNodes timing
 grown again timing timed zero places rise met begins within count = inr (too_many timing timed places rise met (omega (arith, count)))
 grown again timing timed (suc n) places rise met begins within count = elim (missing timing places rise places) [
-  | inl closed ↦ inl (places, record { met = met; first = begins; rise = rise; closed = closed }, omega (arith, count),
-      λ near. All-weaker (λ q. q.phase ≤ STEP * length places) (λ q. q.phase ≤ STEP * NODES) (λ q l. omega (arith, l, count)) places (within near))
+  | inl closed ↦ inl (
+    places,
+    record { met = met; first = begins; rise = rise; closed = closed },
+    omega (arith, count),
+    λ near. All-weaker (λ q. q.phase ≤ STEP * length places) (λ q. q.phase ≤ STEP * NODES) (λ q l. omega (arith, l, count)) places (within near),
+  )
   | inr m ↦ (
       let p = m.0 in let to = m.2.0 in let at = m.2.2.0 in let room = m.2.2.1 in
       let one : IsMetAt timing (next timing p to) = follower_met again timing timed p to m.2.1 (All-contains (IsMetAt timing) places p met m.1) in

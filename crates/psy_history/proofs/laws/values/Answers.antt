@@ -1,9 +1,6 @@
 -- What is left of the proof of `laws::values`.
-use Rattle.std.proofs.Common.{ℕ, List, ℤ}
-use Rattle.std.specs.List.{All}
 use Rattle.std.proofs.lemmas.List.Elements.{All-nil}
-use Rattle.psy_budget.specs.declared.charge.Stall.{Stall}
-use Rattle.psy_meaning.specs.Actions.{System, variable_of}
+use Rattle.psy_meaning.specs.Actions.{variable_of}
 use Rattle.psy_meaning.specs.History.{history}
 use Rattle.psy_meaning.specs.Units.{IsOfText}
 use Rattle.psy_tree.specs.declared.unit.Unit.{Unit as Whole}
