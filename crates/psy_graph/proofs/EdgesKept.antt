@@ -46,7 +46,7 @@ module _ (late : (c : Clock) (t k : ℕ) → IsClock c → 1 ≤ k → t < after
   clock_lawful : (clock : ℕ) → IsClock (clock_at timing clock)
   clock_lawful clock = found IsClock timing.clocks clock _ timed.clocks (record { first = omega arith; period = omega arith })
 
-  budget_small : (point : ℕ) → budget_at timing point ≤ BUDGET
+  pub budget_small : (point : ℕ) → budget_at timing point ≤ BUDGET
   budget_small point = found (λ p. p.budget ≤ BUDGET) timing.points point _ timed.budgets (omega arith)
 
   -- an action ends behind its start
@@ -60,7 +60,7 @@ module _ (late : (c : Clock) (t k : ℕ) → IsClock c → 1 ≤ k → t < after
   due_behind point start to c = least_above (end_date timing start) start (following timing point) (omega (arith, c.1)) (λ x d. ends_behind point start x d)
 
   -- its deadline is no later than its end
-  due_by_end : (point start to : ℕ) → Contains (following timing point) to → deadline timing point start ≤ end_date timing start to
+  pub due_by_end : (point start to : ℕ) → Contains (following timing point) to → deadline timing point start ≤ end_date timing start to
   due_by_end point start to c = least_most (end_date timing start) (following timing point) to c
 
 length_map : {X Y : Type 0} (f : X → Y) (xs : List X) → length (map f xs) ≡ length xs
@@ -68,7 +68,7 @@ length_map f [] = refl
 length_map f (x ∷ xs) = omega (arith, length_map f xs)
 
 -- What each member of a list keeps, all of it keeps.
-all_members : {X : Type 0} (P : X → Type 0) (xs : List X) → ((x : X) → Contains xs x → P x) → All P xs
+pub all_members : {X : Type 0} (P : X → Type 0) (xs : List X) → ((x : X) → Contains xs x → P x) → All P xs
 all_members P [] each k d less = absurd (omega (arith, less))
 all_members P (x ∷ xs) each zero d less = each x (0, omega arith, refl)
 all_members P (x ∷ xs) each (suc k) d less = all_members P xs (λ y c. each y (suc c.0, omega (arith, c.1), c.2)) k d (omega (arith, less))

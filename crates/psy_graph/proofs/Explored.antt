@@ -23,7 +23,7 @@ nodes_spots : (timing : Timing) (places : List Place) → map spot_of (map (node
 nodes_spots timing [] = refl
 nodes_spots timing (p ∷ places) = ap (λ spots. spot_by p ∷ spots) (nodes_spots timing places)
 
-drawn_is : ComesAgain → ComesLate → (timing : Timing) → IsTimed timing → (places : List Place) → ArePlaces timing places → IsGraph timing (map spot_by places) (first_edges timing places (length places))
+pub drawn_is : ComesAgain → ComesLate → (timing : Timing) → IsTimed timing → (places : List Place) → ArePlaces timing places → IsGraph timing (map spot_by places) (first_edges timing places (length places))
 drawn_is again late timing timed places are = record {
   cycle = cycle_of timing;
   is_cycle = cycle_is timing timed;

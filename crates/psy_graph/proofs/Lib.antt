@@ -5,6 +5,7 @@ pub mod EdgesKept
 pub mod Explored
 pub mod Finding
 pub mod Links
+pub mod NearGraphs
 pub mod Numbers
 pub mod Ordered
 pub mod Periods

@@ -1,19 +1,20 @@
 -- The places where actions start are found one by one: each that is found is met, and where no follower is missing all are there.
-use Rattle.std.proofs.Common.{◌≡◌, ◌⊎◌, ℕ, zero, suc, ◌+◌, ◌%◌, ◌<◌, ◌≤◌, List, [], ◌∷◌, All, map, length, get_or, refl, sym, ap, subst, ◌∙◌, inl, inr, arith}
+use Rattle.std.proofs.Common.{◌≡◌, ◌⊎◌, ℕ, zero, suc, ◌+◌, ◌*◌, ◌%◌, ◌<◌, ◌≤◌, List, [], ◌∷◌, All, map, length, get_or, refl, sym, ap, subst, ◌∙◌, inl, inr, arith}
 use Rattle.std.specs.List.{AllPairs, Contains, insert}
+use Rattle.std.proofs.Math.Nat.{mod-le}
 use Rattle.std.proofs.lemmas.List.{get_or-map, length-map}
 use Rattle.std.proofs.lemmas.List.Edits.{length-insert}
-use Rattle.std.proofs.lemmas.List.Elements.{All-nil, All-cons, All-map, All-contains}
+use Rattle.std.proofs.lemmas.List.Elements.{All-nil, All-cons, All-map, All-contains, All-weaker}
 use Rattle.std.proofs.lemmas.List.Sorted.{All-permutation, Contains-permutation, IsPermutation-insert, IsPermutation-sym}
 use Rattle.psy_base.specs.declared.limits.TheConstants.{NODES}
 use Rattle.psy_meaning.specs.Timing.{Timing, following, first_date, end_date, MayStart, first, later}
 use Rattle.psy_meaning.specs.Graph.{SpotBefore, IsMet, AreSpots, PassesNodes}
 use Rattle.psy_graph.specs.declared.place.Place.{Place}
 use Rattle.psy_graph.specs.Graphs.{IsTimed}
-use Rattle.psy_graph.specs.Steps.{cycle_of}
-use Rattle.psy_graph.specs.Places.{spot_by, place_at, Before, IsMetAt, IsRoom, HasFollowers, ArePlaces}
-use Rattle.psy_graph.proofs.Periods.{cycle_is}
-use Rattle.psy_graph.proofs.Phases.{ComesAgain, same_phase}
+use Rattle.psy_graph.specs.Steps.{STEP, cycle_of}
+use Rattle.psy_graph.specs.Places.{spot_by, place_at, Before, IsMetAt, IsRoom, HasFollowers, AreNear, ArePlaces}
+use Rattle.psy_graph.proofs.Periods.{clock_lawful, cycle_is}
+use Rattle.psy_graph.proofs.Phases.{ComesAgain, ComesNear, end_near, same_phase}
 use Rattle.psy_graph.proofs.Rooms.{contains_behind, room_rise, room_for}
 
 abbrev no_place : Place
@@ -134,12 +135,41 @@ missing timing places rise (p ∷ front) = elim (missing_of timing places rise p
   | inr m ↦ inr (p, (0, omega arith, refl), m)
 ]
 
+-- Phases lie no farther than so many places can.
+abbrev AreWithin : ℕ → List Place → Type 0
+AreWithin places = All (λ p. p.phase ≤ STEP * places)
+
+-- A place that follows one lies no farther behind it than a step.
+next_within : ComesNear → (timing : Timing) → IsTimed timing → (places : List Place) (p : Place) (to at : ℕ) → AreWithin (length places) places → Contains places p → Contains (following timing p.point) to → at ≤ length places
+    → AreWithin (length (insert places at (next timing p to))) (insert places at (next timing p to))
+next_within near timing timed places p to at within there follows room =
+    let w = timed.within p.point to follows in
+    let here : p.phase ≤ STEP * length places = All-contains (λ q. q.phase ≤ STEP * length places) places p within there in
+    let end : end_date timing p.phase to ≤ p.phase + STEP = end_near near timing timed p.phase to w.0 w.1 in
+    let phase : end_date timing p.phase to % cycle_of timing ≤ end_date timing p.phase to = mod-le (end_date timing p.phase to) (cycle_of timing) in
+    let more : length (insert places at (next timing p to)) ≡ suc (length places) = omega (arith, length-insert places at (next timing p to) room) in
+    subst (λ n. AreWithin n (insert places at (next timing p to))) (sym more)
+    (insert_all (λ q. q.phase ≤ STEP * suc (length places)) places (next timing p to) at
+    (All-weaker (λ q. q.phase ≤ STEP * length places) (λ q. q.phase ≤ STEP * suc (length places)) (λ q l. omega (arith, l)) places within) (omega (arith, here, end, phase)))
+
+-- The first place lies in the first period.
+first_within : (timing : Timing) → IsTimed timing → AreWithin 1 (place_at timing 0 (first_date timing) ∷ [])
+first_within timing timed =
+    let lawful = clock_lawful timing timed 0 (omega (arith, timed.head)) in
+    let phase : first_date timing % cycle_of timing ≤ first_date timing = mod-le (first_date timing) (cycle_of timing) in
+    All-cons (λ p. p.phase ≤ STEP * 1) (place_at timing 0 (first_date timing)) [] (omega (arith, lawful.first, lawful.period, phase)) (All-nil (λ p. p.phase ≤ STEP * 1))
+
 -- So many places can still be found.
-grown : ComesAgain → (timing : Timing) → IsTimed timing → (n : ℕ) (places : List Place) → AllPairs Before places → All (IsMetAt timing) places → Contains places (place_at timing 0 (first_date timing)) → length places + n ≡ NODES + 1 →
-    ((all : List Place) × ArePlaces timing all × (length all ≤ NODES)) ⊎ PassesNodes timing
-grown again timing timed zero places rise met begins count = inr (too_many timing timed places rise met (omega (arith, count)))
-grown again timing timed (suc n) places rise met begins count = elim (missing timing places rise places) [
-  | inl closed ↦ inl (places, record { met = met; first = begins; rise = rise; closed = closed }, omega (arith, count))
+grown : ComesAgain → (timing : Timing) → IsTimed timing → (n : ℕ) (places : List Place) → AllPairs Before places → All (IsMetAt timing) places → Contains places (place_at timing 0 (first_date timing)) → (ComesNear → AreWithin (length places) places) → length places + n ≡ NODES + 1 →
+    ((all : List Place) × ArePlaces timing all × (length all ≤ NODES) × (ComesNear → AreNear all)) ⊎ PassesNodes timing
+grown again timing timed zero places rise met begins within count = inr (too_many timing timed places rise met (omega (arith, count)))
+grown again timing timed (suc n) places rise met begins within count = elim (missing timing places rise places) [
+  | inl closed ↦ inl (
+    places,
+    record { met = met; first = begins; rise = rise; closed = closed },
+    omega (arith, count),
+    λ near. All-weaker (λ q. q.phase ≤ STEP * length places) (λ q. q.phase ≤ STEP * NODES) (λ q l. omega (arith, l, count)) places (within near),
+  )
   | inr m ↦ (
       let p = m.0 in let to = m.2.0 in let at = m.2.2.0 in let room = m.2.2.1 in
       let one : IsMetAt timing (next timing p to) = follower_met again timing timed p to m.2.1 (All-contains (IsMetAt timing) places p met m.1) in
@@ -147,11 +177,12 @@ grown again timing timed (suc n) places rise met begins count = elim (missing ti
       (room_rise places (next timing p to) at rise room)
       (insert_all (IsMetAt timing) places (next timing p to) at met one)
       (insert_kept places (next timing p to) at (place_at timing 0 (first_date timing)) begins)
+      (λ near. next_within near timing timed places p to at (within near) m.1 m.2.1 room.within)
       (omega (arith, count, length-insert places at (next timing p to) room.within)))
 ]
 
 -- The places where actions start are no more than a graph's nodes, or pass them.
-pub all_places : ComesAgain → (timing : Timing) → IsTimed timing → ((all : List Place) × ArePlaces timing all × (length all ≤ NODES)) ⊎ PassesNodes timing
+pub all_places : ComesAgain → (timing : Timing) → IsTimed timing → ((all : List Place) × ArePlaces timing all × (length all ≤ NODES) × (ComesNear → AreNear all)) ⊎ PassesNodes timing
 all_places again timing timed =
     let p = place_at timing 0 (first_date timing) in
-    grown again timing timed NODES (p ∷ []) (λ i j d ij jl. absurd (omega (arith, ij, jl))) (All-cons (IsMetAt timing) p [] (first_met timing) (All-nil (IsMetAt timing))) (0, omega arith, refl) (omega arith)
+    grown again timing timed NODES (p ∷ []) (λ i j d ij jl. absurd (omega (arith, ij, jl))) (All-cons (IsMetAt timing) p [] (first_met timing) (All-nil (IsMetAt timing))) (0, omega arith, refl) (λ near. first_within timing timed) (omega arith)

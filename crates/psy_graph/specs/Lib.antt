@@ -2,5 +2,6 @@
 pub mod Drawn
 pub mod Faults
 pub mod Graphs
+pub mod Near
 pub mod Places
 pub mod Steps

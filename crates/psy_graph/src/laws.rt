@@ -11,6 +11,7 @@ ghost use Rattle.psy_graph.specs.declared.fault.GraphFault.{GraphFault};
 ghost use Rattle.psy_graph.specs.declared.graph.Graph.{Graph};
 ghost use Rattle.psy_meaning.specs.Timing.{Timing};
 ghost use Rattle.psy_graph.specs.Graphs.{AreGraphs, IsCause, IsTimingOf};
+ghost use Rattle.psy_graph.specs.Near.{IsNear};
 
 use psy_clock::laws::distances;
 use psy_flow::laws::{known, nexts};
@@ -28,6 +29,8 @@ pub fn one_graph()
     // Edges lead from node to node, an action is due behind its start and by its end, and its budget keeps the limit.
     ensures edges { (unit : Whole) (graphs : List Graph) → IsOfText unit → AreGraphs unit graphs
         → All (λ graph. All (IsEdge (length graph.nodes)) graph.edges) graphs }
+    // Its numbers lie near.
+    ensures near { (unit : Whole) (graphs : List Graph) → IsOfText unit → AreGraphs unit graphs → All IsNear graphs }
     ensures some { (unit : Whole) → IsOfText unit → ((graphs : List Graph) × AreGraphs unit graphs) ⊎ ((fault : GraphFault) × IsCause unit fault) }
 {
     known();

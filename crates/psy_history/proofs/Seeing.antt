@@ -120,7 +120,7 @@ module _ (s : System) where
     input_fits variable date = nth_fits (variable_of s variable).init (get_or s.inputs variable []) _ (init_fits variable) (get_or_holds AllFit s.inputs variable [] (All-nil (FitsSigned w32)) inputs)
 
     module _ (h : History) (leave : (agent : ℕ) → All Leaves (h agent)) where
-      by_owner : (variable date : ℕ) (owner : Option ℕ) → Fits (published_by s h variable date owner)
+      pub by_owner : (variable date : ℕ) (owner : Option ℕ) → Fits (published_by s h variable date owner)
       by_owner variable date (Some owner) = committed_fits variable date (h owner) (first variable) (leave owner)
       by_owner variable date None = input_fits variable date
 
@@ -130,11 +130,13 @@ module _ (s : System) where
           let at : ℕ = date clock (count clock start - 1 - back) in
           cond_both (nat_lt back (count clock start)) (published s h variable at) (variable_of s variable).init Fits (λ t. by_owner variable at (variable_of s variable).owner) (λ t. init_fits variable)
 
+      pub messages_fit : (stream : ℕ) → All MessageFits (messages s h stream)
+      messages_fit stream =
+          order_fits (sent_to s h stream) (All-append MessageFits (s.opening.messages stream) _ (sent stream)
+          (all_flat_map MessageFits _ _ (λ agent known. all_flat_map MessageFits _ (h agent) (λ r there. by_fits stream r.agent r.deeds.sends r.verdict (All-contains Leaves (h agent) r (leave agent) there).sends))))
+
       seen_fits : (date stream : ℕ) → All MessageFits (seen_at s h date stream)
-      seen_fits date stream =
-          All-filter _ MessageFits (messages s h stream)
-          (order_fits (sent_to s h stream) (All-append MessageFits (s.opening.messages stream) _ (sent stream)
-          (all_flat_map MessageFits _ _ (λ agent known. all_flat_map MessageFits _ (h agent) (λ r there. by_fits stream r.agent r.deeds.sends r.verdict (All-contains Leaves (h agent) r (leave agent) there).sends)))))
+      seen_fits date stream = All-filter _ MessageFits (messages s h stream) (messages_fit stream)
 
       pub sees : (agent start : ℕ) → IsViewOf s.unit agent (view_of s h agent start (seen_at s h start))
       sees agent start = record {

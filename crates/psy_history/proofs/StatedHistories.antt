@@ -183,3 +183,7 @@ module _ (unit : Whole) (nexts : List (List (List ℕ))) (stalls : ℕ → List 
     -- The next action is that of an agent that there is.
     pub next_known : (date agent : ℕ) (n : Next) → next_of system agent (history system date agent) ≡ Some n → slice_get unit.agents agent ≡ Some (agent_at unit agent)
     next_known date agent n is = at agent ((keeps date agent).next n is).less
+
+    -- What each action left are values of 32 bits.
+    pub all_fit : (dates agent : ℕ) → All (LeavesFit unit) (history system dates agent)
+    all_fit dates agent = (keeps dates agent).leave

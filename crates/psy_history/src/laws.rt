@@ -1,7 +1,8 @@
 //! Laws of the dated history, each the contract of a function that does nothing.
 
 ghost use Rattle.std.specs.Prelude.{◌≡◌, ℕ, ◌+◌, ◌*◌, ◌/◌, ◌==◌, ◌<◌, ◌≤◌, if◌then◌else◌, List, [], ◌∷◌, Option, None, Some, ℤ, drop, filter, length};
-ghost use Rattle.std.specs.Prelude.{map, nat_le, slice_get, take};
+ghost use Rattle.std.specs.Prelude.{map, nat_le, slice_get, take, FitsSigned};
+ghost use Rattle.std.specs.Int.{w32};
 ghost use Rattle.std.specs.List.{All, Contains, count_by};
 ghost use Rattle.psy_base.specs.declared.limits.TheConstants.{QUEUE};
 ghost use Rattle.psy_base.specs.declared.message.Message.{Message};
@@ -275,6 +276,21 @@ pub fn isolation()
         → slice_get unit.variables variable ≡ Some v → v.owner ≡ Some to
         → publications (stated unit nexts stalls inputs) (history (stated unit nexts stalls inputs) dates) date variable
         ≡ publications (stated unit nexts others inputs) (history (stated unit nexts others inputs) dates) date variable }
+{
+    sound();
+    keeps();
+    ways();
+    sendings();
+}
+
+/// What variables publish and what messages carry are values of 32 bits.
+pub fn values()
+    ensures published { (unit : Whole) (nexts : List (List (List ℕ))) (stalls : ℕ → List Stall) (inputs : List (List ℤ)) (dates variable date : ℕ)
+        → IsOfText unit → AreInputs unit inputs
+        → FitsSigned w32 (published (stated unit nexts stalls inputs) (history (stated unit nexts stalls inputs) dates) variable date) }
+    ensures messages { (unit : Whole) (nexts : List (List (List ℕ))) (stalls : ℕ → List Stall) (inputs : List (List ℤ)) (dates stream : ℕ)
+        → IsOfText unit → AreInputs unit inputs
+        → All (λ (m : Message). FitsSigned w32 m.value) (messages (stated unit nexts stalls inputs) (history (stated unit nexts stalls inputs) dates) stream) }
 {
     sound();
     keeps();

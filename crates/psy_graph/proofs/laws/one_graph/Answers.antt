@@ -5,6 +5,7 @@ use Rattle.psy_meaning.specs.Timing.{timing_of}
 use Rattle.psy_graph.proofs.Causes.{there, same_graphs, graphs_apart, same_cause, graphs_or_cause}
 use Rattle.psy_graph.specs.Graphs.{IsTimed}
 use Rattle.psy_graph.proofs.EdgesKept.{edges_kept}
+use Rattle.psy_graph.proofs.NearGraphs.{graph_near}
 use Rattle.psy_graph.proofs.Timed.{timed}
 use Rattle.psy_graph.proofs.Unique.{drawn_spots, drawn_edges, same_timing}
 use Rattle.psy_graph.proofs.laws.one_graph.Goals as goal
@@ -35,3 +36,9 @@ returns-clause-edges c unit graphs text are number d less =
     let (timing, (agent, nexts, got, follow, is), drawn, small) = are.each number (slice_index_or graphs number d) (slice_get-get_or graphs number d less) in
     let its = timed unit number agent nexts (text, got) follow (c.known.ensures unit number agent (text, got)) (c.nexts.ensures.within unit number agent (text, got)) in
     edges_kept c.distances.ensures.late timing (slice_index_or graphs number d) (subst IsTimed (sym is) its) drawn
+
+pub returns-clause-near : goal.returns-clause-near
+returns-clause-near c unit graphs text are number d less =
+    let (timing, (agent, nexts, got, follow, is), drawn, small) = are.each number (slice_index_or graphs number d) (slice_get-get_or graphs number d less) in
+    let its = timed unit number agent nexts (text, got) follow (c.known.ensures unit number agent (text, got)) (c.nexts.ensures.within unit number agent (text, got)) in
+    graph_near c.distances.ensures.again c.distances.ensures.late c.distances.ensures.near timing (subst IsTimed (sym is) its) (slice_index_or graphs number d) drawn small
