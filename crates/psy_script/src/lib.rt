@@ -5,16 +5,10 @@ mod digits;
 mod entry;
 mod fault;
 mod inputs;
-#[cfg(test)]
-mod inputs_tests;
 mod names;
 mod placed;
 mod script;
-#[cfg(test)]
-mod script_tests;
 mod statement;
-#[cfg(test)]
-mod tests;
 mod words;
 
 pub use digits::number;
