@@ -1,4 +1,6 @@
 //! Tries all cases of the texts that a list names.
+ghost use Rattle.std.specs.Prelude.{◌≡◌, Some, IsTrue};
+
 use crate::answer::Answer;
 use crate::case::{Case, Fronts};
 use crate::command::{Asked, Command};
@@ -37,7 +39,10 @@ impl From<WriteFault> for Stop {
 }
 
 // The answer is the one that is wanted.
-fn is_met(case: &Case, answer: &Answer) -> bool {
+fn is_met(case: &Case, answer: &Answer) -> bool
+    ensures status { IsTrue result → case.now.status ≡ Some answer.now.status }
+    ensures sound { IsTrue result → IsTrue answer.now.is_sound }
+{
     let text = answer.text.as_slice();
     let is_met = case.wants.iter().all(|want| want.is_met(text));
     is_met && answer.is_sound && case.status == Some(answer.status)
