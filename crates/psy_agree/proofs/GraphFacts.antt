@@ -58,5 +58,5 @@ pub graphs_tellable : (unit : Whole) (graphs : List Graph) (costs : List (List �
 graphs_tellable unit graphs costs bare are near edges small =
     all_tellable unit.agents graphs costs (recursion_from_All (λ (agent : AgentDecl). IsName agent.name) unit.agents (λ k d less. (bare.agents k d less).name))
     (λ number graph list at at_costs. (
-      let few = (are.each number graph at).3 in
-      graph_tellable graph list few.0 few.1 (at_place IsNear graphs number graph near at) (at_place (λ (g : Graph). All (IsEdge (length g.nodes)) g.edges) graphs number graph edges at) (small number list at_costs)))
+    let few = (are.each number graph at).3 in
+    graph_tellable graph list few.0 few.1 (at_place IsNear graphs number graph near at) (at_place (λ (g : Graph). All (IsEdge (length g.nodes)) g.edges) graphs number graph edges at) (small number list at_costs)))

@@ -109,14 +109,14 @@ module _ (graph : Graph) (costs : List ℕ) (its : IsTellableGraph graph costs) 
 edge_line : (nodes : ℕ) (edge : Edge) → nodes ≤ NODES → IsTellableEdge nodes edge → IsEdgeLine nodes (edge_note edge)
 edge_line nodes edge few told = (
   let from = told.0 in
-  let into = told.1 in
-  (omega (arith, from, few), omega (arith, into, few), told.2),
+      let into = told.1 in
+      (omega (arith, from, few), omega (arith, into, few), told.2),
   λ agents edges. (
-    let less : suc edges - 1 ≡ edges = omega arith in
-    where_true ((nodes == nodes && nat_lt 0 (suc edges)) && (nat_lt edge.from nodes && nat_lt edge.to nodes)) (stand.Graphs agents nodes nodes (suc edges - 1))
-    (and_from (nodes == nodes && nat_lt 0 (suc edges)) (nat_lt edge.from nodes && nat_lt edge.to nodes) (and_from (nodes == nodes) (nat_lt 0 (suc edges)) (eq-eqb nodes nodes refl) (lt-ltb 0 (suc edges) (omega arith)))
-    (and_from (nat_lt edge.from nodes) (nat_lt edge.to nodes) (lt-ltb edge.from nodes told.0) (lt-ltb edge.to nodes told.1)))
-    ∙ ap (λ n. Some (stand.Graphs agents nodes nodes n)) less),
+      let less : suc edges - 1 ≡ edges = omega arith in
+      where_true ((nodes == nodes && nat_lt 0 (suc edges)) && (nat_lt edge.from nodes && nat_lt edge.to nodes)) (stand.Graphs agents nodes nodes (suc edges - 1))
+      (and_from (nodes == nodes && nat_lt 0 (suc edges)) (nat_lt edge.from nodes && nat_lt edge.to nodes) (and_from (nodes == nodes) (nat_lt 0 (suc edges)) (eq-eqb nodes nodes refl) (lt-ltb 0 (suc edges) (omega arith)))
+      (and_from (nat_lt edge.from nodes) (nat_lt edge.to nodes) (lt-ltb edge.from nodes told.0) (lt-ltb edge.to nodes told.1)))
+      ∙ ap (λ n. Some (stand.Graphs agents nodes nodes n)) less),
 )
 
 edge_lines : (nodes : ℕ) (edges : List Edge) → nodes ≤ NODES → AllByRecursion (IsTellableEdge nodes) edges → AllByRecursion (IsEdgeLine nodes) (map edge_note edges)
@@ -129,8 +129,8 @@ head_line agent graph named few_nodes few_edges =
     let edges = length graph.edges in (
       (named, omega (arith, few_nodes), omega (arith, few_edges)),
       λ agents told less. where_true ((told == told && 0 == 0) && (nat_lt agents AGENTS && (nat_le nodes NODES && nat_le edges EDGES))) (stand.Graphs (agents + 1) nodes 0 edges)
-      (and_from (told == told && 0 == 0) (nat_lt agents AGENTS && (nat_le nodes NODES && nat_le edges EDGES)) (and_from (told == told) (0 == 0) (eq-eqb told told refl) refl)
-      (and_from (nat_lt agents AGENTS) (nat_le nodes NODES && nat_le edges EDGES) (lt-ltb agents AGENTS less) (and_from (nat_le nodes NODES) (nat_le edges EDGES) (le-leb nodes NODES few_nodes) (le-leb edges EDGES few_edges)))),
+          (and_from (told == told && 0 == 0) (nat_lt agents AGENTS && (nat_le nodes NODES && nat_le edges EDGES)) (and_from (told == told) (0 == 0) (eq-eqb told told refl) refl)
+          (and_from (nat_lt agents AGENTS) (nat_le nodes NODES && nat_le edges EDGES) (lt-ltb agents AGENTS less) (and_from (nat_le nodes NODES) (nat_le edges EDGES) (le-leb nodes NODES few_nodes) (le-leb edges EDGES few_edges)))),
     )
 
 length_nodes : (costs : List ℕ) (number : ℕ) (nodes : List Node) → length (node_notes costs number nodes) ≡ length nodes

@@ -55,7 +55,7 @@ graph_leads agents told notes few are =
     let nodes = length are.nodes in
     let edges = length are.edges in
     let behind = Leads-append (stand.Graphs (agents + 1) nodes 0 edges) (stand.Graphs (agents + 1) nodes nodes edges) (stand.Graphs (agents + 1) nodes nodes 0) are.nodes are.edges
-        (nodes_lead (agents + 1) nodes 0 edges are.nodes (omega arith) are.are_nodes) (edges_lead (agents + 1) nodes are.edges are.are_edges) in
+    (nodes_lead (agents + 1) nodes 0 edges are.nodes (omega arith) are.are_nodes) (edges_lead (agents + 1) nodes are.edges are.are_edges) in
     subst (λ ns. Leads (stand.Graphs agents told told 0) ns (stand.Graphs (agents + 1) nodes nodes 0)) (sym are.whole)
     (stand.Graphs (agents + 1) nodes 0 edges, (are.is_head.0, are.is_head.1 agents told few), behind)
 
@@ -68,9 +68,12 @@ pub graphs_lead : (agents told : ℕ) (graphs : List (List Note)) → agents + l
 graphs_lead agents told [] few are = (stand.Graphs agents told told 0, and_from _ _ (all_told told) refl, refl)
 graphs_lead agents told (notes ∷ graphs) few are =
     let nodes = length are.0.nodes in
-    let rest = graphs_lead (agents + 1) nodes graphs (omega (arith, few)) are.1 in
-    (rest.0, rest.1, Leads-append (stand.Graphs agents told told 0) (stand.Graphs (agents + 1) nodes nodes 0) rest.0 notes (flat_map (λ notes. notes) graphs)
-    (graph_leads agents told notes (omega (arith, few)) are.0) rest.2)
+    let rest = graphs_lead (agents + 1) nodes graphs (omega (arith, few)) are.1 in (
+      rest.0,
+      rest.1,
+      Leads-append (stand.Graphs agents told told 0) (stand.Graphs (agents + 1) nodes nodes 0) rest.0 notes (flat_map (λ notes. notes) graphs)
+          (graph_leads agents told notes (omega (arith, few)) are.0) rest.2,
+    )
 
 -- The text of agents' graphs is one of notes
 pub graphs_read : (graphs : List (List Note)) → length graphs ≤ AGENTS → AllByRecursion IsGraphLines graphs → IsText graph_begins (text_of (flat_map (λ notes. notes) graphs)) (flat_map (λ notes. notes) graphs)

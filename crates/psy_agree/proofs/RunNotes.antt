@@ -88,7 +88,7 @@ module _ (s : System) where
         let variables = lines_same variable_note (variable_end s turns sizes until) (λ variable. refl) (range_with_len 0 (length s.unit.variables)) in
         let streams = lines_same stream_note (stream_end s sizes until) (λ stream. refl) (range_with_len 0 (length s.unit.streams)) in
         ap (λ rest. line_of (note.End until) ++ rest) (three agent_notes variable_notes stream_notes (map (agent_end s turns until) (range_with_len 0 (length s.unit.agents)))
-            (map (variable_end s turns sizes until) (range_with_len 0 (length s.unit.variables))) (map (stream_end s sizes until) (range_with_len 0 (length s.unit.streams))) agents variables streams)
+        (map (variable_end s turns sizes until) (range_with_len 0 (length s.unit.variables))) (map (stream_end s sizes until) (range_with_len 0 (length s.unit.streams))) agents variables streams)
       where
         three : (us vs ss : List Note) (xs ys zs : List (List ℕ)) → text_of us ≡ lines_text xs → text_of vs ≡ lines_text ys → text_of ss ≡ lines_text zs
             → text_of (us ++ (vs ++ ss)) ≡ lines_text (xs ++ (ys ++ zs))

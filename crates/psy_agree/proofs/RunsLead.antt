@@ -77,9 +77,11 @@ agents_lead : (agents : ℕ) (notes : List Note) → agents + length notes ≤ A
 agents_lead agents [] few are = ap stand.Agents (omega arith)
 agents_lead agents (note ∷ notes) few are =
     let rest = agents_lead (agents + 1) notes (omega (arith, few)) are.1 in
-    let same : agents + 1 + length notes ≡ agents + length (note ∷ notes) = omega arith in
-    (stand.Agents (agents + 1), (are.0.0, are.0.1 agents ∙ where_true (nat_lt agents AGENTS) (stand.Agents (agents + 1)) (lt-ltb agents AGENTS (omega (arith, few)))),
-    subst (λ n. Leads (stand.Agents (agents + 1)) notes (stand.Agents n)) same rest)
+    let same : agents + 1 + length notes ≡ agents + length (note ∷ notes) = omega arith in (
+      stand.Agents (agents + 1),
+      (are.0.0, are.0.1 agents ∙ where_true (nat_lt agents AGENTS) (stand.Agents (agents + 1)) (lt-ltb agents AGENTS (omega (arith, few)))),
+      subst (λ n. Leads (stand.Agents (agents + 1)) notes (stand.Agents n)) same rest,
+    )
 
 -- What stands there may end, and streams may follow it.
 pub record Ends (s : Stand) : Type 0 where
@@ -145,9 +147,15 @@ module _ (until : ℕ) (events : ℕ → List Note) (agents variables streams : 
       let next = variables_lead (0 + length agents) variables are.few_variables are.variable_lines in
       let end = streams_lead next.0 streams next.1 are.few_streams are.stream_lines in
       let behind = Leads-append (stand.Agents (0 + length agents)) next.0 end.0 variables streams next.2 end.2 in
-      let long : until < 2 ^ 64 = omega (arith, are.most) in
-      (end.0, end.1, (stand.Agents 0, (long, where_true (may_be_dated last until) (stand.Agents 0) (may_be last until within are.most)),
-      Leads-append (stand.Agents 0) (stand.Agents (0 + length agents)) end.0 agents (variables ++ streams) first behind))
+      let long : until < 2 ^ 64 = omega (arith, are.most) in (
+        end.0,
+        end.1,
+        (
+          stand.Agents 0,
+          (long, where_true (may_be_dated last until) (stand.Agents 0) (may_be last until within are.most)),
+          Leads-append (stand.Agents 0) (stand.Agents (0 + length agents)) end.0 agents (variables ++ streams) first behind,
+        ),
+      )
 
   -- A summary alone
   pub trial_reads : IsText run_begins (text_of (summary_notes until agents variables streams)) (summary_notes until agents variables streams)

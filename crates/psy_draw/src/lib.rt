@@ -25,8 +25,6 @@ mod stops;
 mod style;
 mod table;
 mod tables;
-#[cfg(test)]
-mod tests;
 
 pub use fault::DrawFault;
 pub use picture::timeline;

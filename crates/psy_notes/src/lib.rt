@@ -4,16 +4,12 @@
 
 mod dated;
 mod fault;
-#[cfg(test)]
-mod fault_tests;
 mod field;
 mod graph;
 pub mod laws;
 mod read;
 mod stand;
 mod summary;
-#[cfg(test)]
-mod tests;
 
 pub use fault::TextFault;
 pub use read::{read_graph, read_run};

@@ -6,17 +6,11 @@ mod digits;
 mod entry;
 mod fault;
 mod inputs;
-#[cfg(test)]
-mod inputs_tests;
 pub mod laws;
 mod names;
 mod placed;
 mod script;
-#[cfg(test)]
-mod script_tests;
 mod statement;
-#[cfg(test)]
-mod tests;
 mod words;
 
 pub use digits::number;

@@ -93,34 +93,3 @@ impl<'a, R: Files> Texts for FileTexts<'a, R> {
         }
     }
 }
-
-#[cfg(test)]
-mod tests {
-    use super::*;
-    use std::test::Fail;
-
-    #[test]
-    fn each_error_of_the_system_is_a_fault(rt: HostRuntime) -> Result<(), Fail> {
-        fs::write(&rt, "viewed.txt", "text")?;
-        let mut texts = FileTexts::new(&rt);
-        let cases = [
-            ("viewed.txt", 4, Ok(4), 0),
-            ("viewed.txt", 3, Err(FetchFault::TooLong), 0),
-            ("absent.txt", 4, Err(FetchFault::Failed), 1),
-            ("/dev/null", 0, Ok(0), 1),
-            ("/dev/zero", 5000, Err(FetchFault::TooLong), 1),
-            (".", 4, Err(FetchFault::Failed), 2),
-        ];
-        for (name, most, want, faults) in cases {
-            let length = texts.read(rt.alloc(), name, most).map(|bytes| bytes.len());
-            assert_eq!(rt; length, want, "of {name}");
-            assert_eq!(rt; texts.faults, faults, "after {name}");
-        }
-        assert_eq!(rt;
-            texts.read(rt.alloc(), "viewed.txt", 4)?.as_slice(),
-            b"text".as_slice()
-        );
-        fs::remove_file(&rt, "viewed.txt")?;
-        Ok(())
-    }
-}

@@ -5,8 +5,6 @@
 mod asked;
 mod file_texts;
 mod refusals;
-#[cfg(test)]
-mod tests;
 mod texts;
 mod texts_map;
 mod top;

@@ -10,8 +10,6 @@ mod recall;
 mod scan;
 mod sentence;
 mod spot;
-#[cfg(test)]
-mod tests;
 
 pub use answer::explain;
 pub use fault::WhereFault;

@@ -67,7 +67,7 @@ const POINTS: [(&str, &[(&[u32], u64)]); 7] = [
     ),
 ];
 
-pub fn expect_points(
+fn expect_points(
     rt: &(impl Abort + AllocGlobal),
     unit: &Unit,
     wanted: &[(&[u32], u64)],
