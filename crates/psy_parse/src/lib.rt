@@ -13,6 +13,3 @@ mod stmt;
 
 pub use fault::ParseFault;
 pub use program::parse;
-
-#[cfg(test)]
-mod tests;
