@@ -109,27 +109,22 @@ fn tokens_are_marked(rt: HostRuntime) {
         (
             "int x",
             "refused parse 1 at 2",
-            "p.psy:1:6: this is no program: something is missing, as a `;` or a bracket, or stands where it can't, as a reserved word in place of a name\nint x\n     ^\n",
+            "p.psy:1:6: no program goes on like this: something is missing before it, as a `;` or a bracket, or it can't stand here, as a reserved word in place of a name\nint x\n     ^\n",
         ),
         (
             "int x\n",
             "refused parse 1 at 2",
-            "p.psy:2:1: this is no program: something is missing, as a `;` or a bracket, or stands where it can't, as a reserved word in place of a name\n\n^\n",
+            "p.psy:2:1: no program goes on like this: something is missing before it, as a `;` or a bracket, or it can't stand here, as a reserved word in place of a name\n\n^\n",
         ),
         (
             "",
             "refused parse 1 at 0",
-            "p.psy:1:1: this is no program: something is missing, as a `;` or a bracket, or stands where it can't, as a reserved word in place of a name\n\n^\n",
+            "p.psy:1:1: no program goes on like this: something is missing before it, as a `;` or a bracket, or it can't stand here, as a reserved word in place of a name\n\n^\n",
         ),
         (
             "x <= y",
             "refused parse 2 at 1",
             "p.psy:1:3: 64 brackets are open here, or 256 operators stand since the last `;`, `{` or `}`\nx <= y\n  ^\n",
-        ),
-        (
-            "int x",
-            "refused parse 1",
-            "p.psy: this is no program: something is missing, as a `;` or a bracket, or stands where it can't, as a reserved word in place of a name\n",
         ),
     ];
     compare(&rt, rt.alloc(), &cases);
@@ -208,6 +203,7 @@ fn other_lines_are_no_refusals(rt: HostRuntime) {
             "refused  lex 1 at 1",
             "refused lex 0 at 1",
             "refused lex 5 at 1",
+            "refused parse 1",
             "refused parse 2",
             "refused rule 1",
             "refused rule 13 at 0",
