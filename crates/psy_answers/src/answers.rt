@@ -296,12 +296,12 @@ const ANSWERED: [Case; 26] = [
     ("tick 10; $", "20", 1, "refused lex 1 at 9\n"),
     ("tick 2147483648;", "20", 1, "refused lex 3 at 5\n"),
     ("/* ", "20", 1, "refused lex 4 at 0\n"),
-    ("", "20", 1, "refused parse 1\n"),
+    ("", "20", 1, "refused parse 1 at 0\n"),
     (
         "tick 100; clock c = 10 * tick;\ntemporal v of A on c = 0 depth 1;\nagent A on c budget 40 { int n = 0; body { n = n + 1; v = n; advance 1 on c; }\n",
         "20",
         1,
-        "refused parse 1\n",
+        "refused parse 1 at 51\n",
     ),
     (
         "tick 10; clock c = 1 * tick; temporal v of A on c = 0 depth 2; agent A on c budget 9 { body { v = (((((((((((((((((((((((((((((((((((((((((((((((((((((((((((((((( } }",

@@ -136,7 +136,7 @@ const CHECKED: [Check; 31] = [
     (TWO_SLOW_CLOCKS, "0", 7, "limit nodes 512\n"),
     (SECOND_AGENT, "0", 7, "limit nodes 512\n"),
     ("tick 10; $", "20", 1, "refused lex 1 at 9\n"),
-    ("", "20", 1, "refused parse 1\n"),
+    ("", "20", 1, "refused parse 1 at 0\n"),
     (TOO_DEEP, "20", 1, "refused parse 2 at 66\n"),
     (COSTLY, "20", 1, "refused rule 12 at 26\n"),
     (
@@ -197,7 +197,7 @@ const DRAWN: [Drawing; 13] = [
     (SECOND_AGENT, 7, "limit nodes 512\n"),
     (SIX_CLOCKS, 7, "limit nodes 512\n"),
     ("/* ", 1, "refused lex 4 at 0\n"),
-    ("", 1, "refused parse 1\n"),
+    ("", 1, "refused parse 1 at 0\n"),
     (TOO_DEEP, 1, "refused parse 2 at 66\n"),
     (COSTLY, 1, "refused rule 12 at 26\n"),
 ];

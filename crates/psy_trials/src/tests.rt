@@ -8,3 +8,4 @@ mod exchanges;
 mod flow;
 mod graphs;
 mod sizes;
+mod trees;

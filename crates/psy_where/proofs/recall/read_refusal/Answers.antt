@@ -1,11 +1,10 @@
 -- What is left of the proof of `recall::read_refusal`.
-use Rattle.std.proofs.Common.{◌++◌, refl, sym, ap, subst, ◌∙◌}
+use Rattle.std.proofs.Common.{◌<◌, ◌^◌, ◌++◌, Some, refl, sym, ap, ◌∙◌, arith}
 use Rattle.std.specs.Prelude.{decimal}
 use Rattle.std.proofs.lemmas.Bool.{false≢true}
 use Rattle.std.proofs.lemmas.Option.{none-some}
 use Rattle.psy_log.specs.Forms.{at_place}
-use Rattle.psy_where.specs.declared.recall.What.{What}
-use Rattle.psy_where.specs.Refusals.{TellsPlace, sentence_of}
+use Rattle.psy_where.specs.Refusals.{sentence_of}
 use Rattle.psy_where.proofs.RefusalLines.{Says-from, said-begins, said-behind, said-number}
 use Rattle.psy_where.proofs.recall.read_refusal.Goals as goal
 
