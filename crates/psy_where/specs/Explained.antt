@@ -1,6 +1,6 @@
 -- What is written for a refusal: where it is, what it means, the line, and a mark below.
 use Rattle.std.specs.Prelude.{◌≡◌, ℕ, ◌-◌, ◌==◌, Bool, ◌&&◌, ◌||◌, not, nat_le, nat_lt, if◌then◌else◌, List, ◌++◌, map, length, take, slice_index}
-use Rattle.std.specs.Prelude.{codes, decimal, replicate, filter, count_by, max, None, Some, ◌⊎◌}
+use Rattle.std.specs.Prelude.{codes, decimal, replicate, filter, count_by, max}
 use Rattle.std.specs.List.{prefix_len}
 use Rattle.psy_tree.specs.Lexemes.{is_in_word}
 use Rattle.psy_where.specs.declared.recall.What.{What}
