@@ -1,4 +1,5 @@
 //! What the top call answers: programs, words, files and devices, with the statuses and the texts that are wanted of it.
+//! It may know psy_run and the forms in memory.
 #![tactic(auto)]
 
 #[cfg(test)]

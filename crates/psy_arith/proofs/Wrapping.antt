@@ -8,9 +8,14 @@ use mir.Val.{bits}
 use mir.ValLaws.{pow-bits}
 use borrow.Author.Differences.{up, down, same_in, same_out, sum_is_lem, fits_in, read_fits, ints}
 use Rattle.std.specs.Prelude.{FitsSigned, unsigned_abs}
-use Rattle.std.specs.Int.{cast_signed, cast_unsigned, int_wrap}
+use Rattle.std.specs.Int.{cast_signed, cast_unsigned, int_wrap, int_rem_euclid}
 use Rattle.std.proofs.lemmas.Int.{of_z-to_z, int_rem_euclid_is, int_wrap_fits, SFits-int_wrap}
 use Rattle.psy_arith.specs.Operators.{Wraps}
+
+-- What a division by 2 ^ bits leaves, read as signed.
+pub rem_wraps : (w : Width) (z r : ℤ) → r ≡ int_rem_euclid z (pos (2 ^ bits w)) → cast_signed w (unsigned_abs r) ≡ int_wrap w z
+unfolding int_wrap
+rem_wraps w z r e = ap (λ q. cast_signed w (unsigned_abs q)) e
 
 -- Numbers that differ by a multiple of 2 ^ bits leave the same.
 wrapped_same : (w : Width) (a b : ℤ) (j k : ℕ) → a +ℤ pos (j * 2 ^ bits w) ≡ b +ℤ pos (k * 2 ^ bits w) → int_wrap w a ≡ int_wrap w b

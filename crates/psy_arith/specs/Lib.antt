@@ -1,3 +1,4 @@
 -- The definitions of this crate, by subject.
 pub mod Operators
 pub mod Tables
+pub mod Widths

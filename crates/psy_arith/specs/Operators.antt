@@ -30,7 +30,7 @@ quotient w a b = if is_zero b then None else Some (int_wrapping_div w a b)
 abbrev pub remainder : ℤ → ℤ → Option ℤ
 remainder a b = if is_zero b then None else Some (int_rem a b)
 
--- a op b, or none where the operator divides by 0
+-- `a op b`, or none where the operator divides by 0
 abbrev pub value2 : Width → Op2 → ℤ → ℤ → Option ℤ
 value2 w two.Mul a b = Some (int_wrap w (a *ℤ b))
 value2 w two.Div a b = quotient w a b
@@ -51,7 +51,7 @@ value2 w two.Or a b = Some (int_bit_or w a b)
 value2 w two.AndAnd a b = Some (truth (not (is_zero a) && not (is_zero b)))
 value2 w two.OrOr a b = Some (truth (not (is_zero a) || not (is_zero b)))
 
--- op a
+-- `op a`
 abbrev pub value1 : Width → Op1 → ℤ → ℤ
 value1 w one.Neg a = int_wrap w (neg_ℤ a)
 value1 w one.Flip a = int_bit_not w a

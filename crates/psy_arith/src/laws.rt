@@ -1,8 +1,10 @@
 //! Laws of the definitions, each the contract of a function that does nothing.
 
-ghost use Rattle.std.specs.Prelude.{◌≡◌, ℕ, ℤ, ◌<◌, ◌+ℤ◌, ◌*ℤ◌, ◌↔◌, int_div, int_rem, unsigned_abs};
+ghost use Rattle.std.specs.Prelude.{◌≡◌, ℕ, ℤ, ◌<◌, ◌+ℤ◌, ◌*ℤ◌, ◌↔◌, int_div, int_rem, unsigned_abs, FitsSigned, IfSome};
 ghost use Rattle.std.specs.Int.{Width, int_wrap};
-ghost use Rattle.psy_arith.specs.Operators.{Wraps};
+ghost use Rattle.psy_arith.specs.Operators.{Wraps, value1, value2};
+ghost use Rattle.psy_arith.specs.declared.operators.Op1.{Op1};
+ghost use Rattle.psy_arith.specs.declared.operators.Op2.{Op2};
 
 /// One number alone is in a width's range and differs by a multiple of 2 ^ bits from a given one.
 pub fn wraps()
@@ -13,4 +15,10 @@ pub fn wraps()
 pub fn remainders()
     ensures left { (a b : ℤ) → a ≡ int_div a b *ℤ b +ℤ int_rem a b }
     ensures below { (a b : ℤ) → 0 < unsigned_abs b → unsigned_abs (int_rem a b) < unsigned_abs b }
+{}
+
+/// A value is in the width's range where the left operand is.
+pub fn ranges()
+    ensures two { (w : Width) (op : Op2) (a b : ℤ) → FitsSigned w a → IfSome (value2 w op a b) (FitsSigned w) }
+    ensures one { (w : Width) (op : Op1) (a : ℤ) → FitsSigned w (value1 w op a) }
 {}

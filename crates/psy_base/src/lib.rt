@@ -1,5 +1,6 @@
 //! What every crate of psyc stands on: names as bytes, the limits of the profile, want of memory,
 //! and the list and box that contracts see as plain data.
+//! It may know bytes and numbers; nothing of the language.
 #![tactic(auto)]
 
 mod edge;

@@ -1,5 +1,6 @@
 //! Steps an agent's machine so many times through a loop with arithmetic, an array and a call, and says
 //! how many actions ended and what their last one computed. `bench/machine` times it.
+//! It may know the machine alone.
 #![tactic(auto)]
 
 ghost use Rattle.std.specs.Prelude.{◌≡◌};

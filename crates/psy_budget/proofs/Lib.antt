@@ -1,3 +1,5 @@
 -- The lemmas of this crate, by subject.
+mod Gaps
 mod Splits
+mod Stretches
 mod Units

@@ -1,5 +1,5 @@
 -- What the cycles of an agent's action go to: the stalls before each instruction, then the instruction itself.
-use Rattle.std.specs.Prelude.{ℕ, zero, suc, ◌+◌, ◌-◌, ◌^◌, ◌<◌, ◌⊎◌, ◌≡◌, min, ◌==◌, ◌&&◌, nat_lt, if◌then◌else◌, List}
+use Rattle.std.specs.Prelude.{ℕ, zero, suc, ◌+◌, ◌-◌, ◌^◌, ◌<◌, ◌≤◌, ◌⊎◌, ◌≡◌, min, ◌==◌, ◌&&◌, nat_lt, if◌then◌else◌, List}
 use Rattle.std.specs.List.{AllPairs, sum_by}
 use Rattle.psy_budget.specs.declared.charge.Stall.{Stall}
 use Rattle.psy_budget.specs.declared.charge.Tick.{Tick}
@@ -55,6 +55,16 @@ after_start c budget = record c { started = min (c.started + 1) (2 ^ 64 - 1); bu
 abbrev pub ticked : Charged → ℕ → Charged
 ticked c zero = c
 ticked c (suc n) = after_tick (ticked c n) (tick_of (ticked c n))
+
+-- The next n cycles all go to this.
+abbrev pub AllGoTo : Charged → Tick → ℕ → Type 0
+AllGoTo c t n = (k : ℕ) → k < n → tick_of (ticked c k) ≡ t
+
+-- n is the greatest number, up to `most`, of cycles in a row from the next on that all go to this.
+pub record IsStretch (c : Charged) (t : Tick) (most n : ℕ) : Type 0 where
+  pub within : n ≤ most
+  pub all : AllGoTo c t n
+  pub greatest : (m : ℕ) → m ≤ most → AllGoTo c t m → m ≤ n
 
 -- The next cycle is the one that pays this instruction.
 abbrev pub Pays : Charged → ℕ → Type 0

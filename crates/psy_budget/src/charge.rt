@@ -1,6 +1,7 @@
 //! What an agent's actions are charged: a cycle for each instruction, and the stalls of a script.
-ghost use Rattle.std.specs.Prelude.{◌≡◌, ◌+◌, ◌==◌};
-ghost use Rattle.psy_budget.specs.Charges.{StallsRise, stalled, tick_of, after_tick, after_start};
+ghost use Rattle.std.specs.Prelude.{ℕ, ◌≡◌, ◌<◌, ◌≤◌, ◌+◌, ◌==◌};
+ghost use Rattle.psy_budget.specs.declared.charge.Tick.TheVariants as tick;
+ghost use Rattle.psy_budget.specs.Charges.{AllGoTo, IsStretch, StallsRise, stalled, tick_of, ticked, after_tick, after_start};
 ghost use Rattle.psy_budget.specs.Standing.{AreSplit};
 
 use psy_base::Items;
@@ -88,6 +89,41 @@ fn next_stall(stalls: &[Stall], place: usize, action: u64, instr: u64) -> Next
     }
 }
 
+/// How many stalls stand below an instruction of an action, given how many stand below that one or an earlier one.
+fn passed_below(stalls: &[Stall], place: usize, action: u64, instr: u64) -> usize
+    requires rise { StallsRise stalls.now }
+    requires below { (n : ℕ) × (n ≤ instr) × AreSplit stalls.now place action n }
+    ensures { AreSplit stalls.now result action instr }
+{
+    let mut place = place;
+    'stalls: while place < stalls.len()
+        && stalls[place].action == action
+        && stalls[place].instr < instr
+    {
+        place += 1;
+    }
+    place
+}
+
+/// How many instructions, up to `most`, come next with no cycles of a stall between them, given how many are paid and how
+/// many stalls stand up to the next one.
+fn unstalled(stalls: &[Stall], place: usize, action: u64, paid: u64, most: u64) -> u64
+    requires rise { StallsRise stalls.now }
+    requires split { AreSplit stalls.now place action (paid + 1) }
+    ensures within { result ≤ most }
+    ensures same { (k : ℕ) → k < result → stalled stalls.now action (paid + k + 1) ≡ stalled stalls.now action (paid + 1) }
+    ensures next { result < most → stalled stalls.now action (paid + 1) < stalled stalls.now action (paid + result + 1) }
+{
+    let mut place = place;
+    'stalls: while place < stalls.len() && stalls[place].action == action {
+        if stalls[place].cycles > 0 {
+            return most.min(stalls[place].instr - paid);
+        }
+        place += 1;
+    }
+    most
+}
+
 impl Charge {
     /// The charge of an agent with these stalls, none of whose actions has started.
     pub fn new(stalls: Items<Stall>) -> Charge
@@ -144,6 +180,53 @@ impl Charge {
         self.passed = next.passed;
         self.left = next.cycles;
         Tick::Paid
+    }
+
+    /// The stalled cycles that come next, up to `most`, at once: how many they are, and what as many ticks leave.
+    pub fn skip(&mut self, most: u64) -> u64
+        ensures count { IsStretch self.old tick.Stalled most result }
+        ensures charge { self.new ≡ ticked self.old result }
+    {
+        let granted = u64::from(self.budget) - self.consumed;
+        let cycles = most.min(self.left).min(granted);
+        self.consumed += cycles;
+        self.left -= cycles;
+        cycles
+    }
+
+    /// How many cycles come next, up to `most`, that each pay an instruction.
+    pub fn free(&self, most: u64) -> u64
+        ensures { IsStretch self.now tick.Paid most result }
+    {
+        if self.left > 0 || self.spent() {
+            return 0;
+        }
+        let granted = most.min(u64::from(self.budget) - self.consumed);
+        unstalled(
+            self.stalls.as_slice(),
+            self.passed,
+            self.started - 1,
+            self.paid,
+            granted,
+        )
+    }
+
+    /// The next cycles, each of which pays an instruction, at once: what as many ticks leave.
+    pub fn pay(&mut self, cycles: u64)
+        requires { AllGoTo self.old tick.Paid cycles }
+        ensures { self.new ≡ ticked self.old cycles }
+    {
+        if cycles == 0 {
+            return;
+        }
+        self.consumed += cycles;
+        self.paid += cycles;
+        let stalls = self.stalls.as_slice();
+        let action = self.started - 1;
+        let below = passed_below(stalls, self.passed, action, self.paid);
+        let next = next_stall(stalls, below, action, self.paid);
+        self.passed = next.passed;
+        self.left = next.cycles;
     }
 
     /// Whether the budget is spent.

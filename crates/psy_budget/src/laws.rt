@@ -1,8 +1,8 @@
 //! Laws of the definitions, each the contract of a function that does nothing.
 
-ghost use Rattle.std.specs.Prelude.{ℕ, ◌≡◌, ◌≢◌, ◌<◌, ◌≤◌, ◌↔◌};
+ghost use Rattle.std.specs.Prelude.{ℕ, ◌≡◌, ◌≢◌, ◌+◌, ◌<◌, ◌≤◌, ◌↔◌};
 ghost use Rattle.psy_budget.specs.declared.charge.Tick.TheVariants as tick;
-ghost use Rattle.psy_budget.specs.Charges.{Charged, Pays, action_of, after_start, cycle_of, tick_of, ticked};
+ghost use Rattle.psy_budget.specs.Charges.{AllGoTo, Charged, Pays, action_of, after_start, cycle_of, tick_of, ticked};
 
 /// The cycles of an action that has begun, counted from 0: below the budget each pays the instruction whose
 /// cycle it is, and goes to a stall where it is no instruction's; from the budget on there is none.
@@ -12,4 +12,11 @@ pub fn units()
     ensures stalled { (c : Charged) (budget cycle : ℕ) → cycle < budget
         → (tick_of (ticked (after_start c budget) cycle) ≡ tick.Stalled) ↔ ((instr : ℕ) → cycle ≢ cycle_of c.stalls (action_of (after_start c budget)) instr) }
     ensures spent { (c : Charged) (budget cycle : ℕ) → (tick_of (ticked (after_start c budget) cycle) ≡ tick.Spent) ↔ (budget ≤ cycle) }
+{}
+
+/// Cycles in a row: those behind others are further ones; paid ones pay an instruction each, and stalled ones none.
+pub fn stretches()
+    ensures further { (c : Charged) (n more : ℕ) → ticked (ticked c n) more ≡ ticked c (n + more) }
+    ensures paid { (c : Charged) (n : ℕ) → AllGoTo c tick.Paid n → (ticked c n).paid ≡ c.paid + n }
+    ensures stalled { (c : Charged) (n : ℕ) → AllGoTo c tick.Stalled n → (ticked c n).paid ≡ c.paid }
 {}

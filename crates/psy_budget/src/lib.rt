@@ -1,5 +1,6 @@
 //! What an agent's actions are charged: each instruction a cycle, and the cycles of a script's stalls before
 //! it, up to the budget of the action.
+//! It may know stalls and budgets; no code.
 #![tactic(auto)]
 
 mod charge;

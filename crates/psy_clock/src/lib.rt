@@ -1,4 +1,5 @@
 //! Clocks: the dates at which time moves on for an agent, a variable or a stream.
+//! It may know numbers; no text.
 #![tactic(auto)]
 
 mod clock;

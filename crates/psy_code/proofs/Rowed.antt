@@ -31,7 +31,7 @@ has_row (instr.Guard c b) = (_, refl)
 has_row (instr.Call f) = (_, refl)
 has_row instr.Return = (_, refl)
 has_row (instr.Advance p) = (_, refl)
--- the line below is tried at each other operator
+-- The line below is tried at each other operator
 has_row (instr.Binary op.Mul) = (_, refl)
 has_row (instr.Binary operator) = (_, refl)
 has_row (instr.Unary one.Neg) = (_, refl)

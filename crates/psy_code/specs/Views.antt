@@ -15,15 +15,15 @@ abbrev pub found_in : {A B : Type 0} → Option A → (A → Option B) → Optio
 found_in None f = None
 found_in (Some x) f = f x
 
--- past(variable, back)
+-- `past(variable, back)`
 abbrev pub past_of : View → ℕ → ℕ → Option ℤ
 past_of view variable back = found_in (slice_get view.pasts variable) (λ values. slice_get values back)
 
--- the messages of a stream
+-- The messages of a stream
 abbrev pub messages_of : View → ℕ → Option (List ℤ)
 messages_of view stream = found_in (slice_get view.messages stream) (λ messages. messages)
 
--- how many messages, as a number of 32 bits
+-- How many messages, as a number of 32 bits
 abbrev pub count_as_value : List ℤ → ℤ
 count_as_value messages = cast_signed w32 (length messages)
 
@@ -37,11 +37,11 @@ abbrev pub without_first : Option (List ℤ) → Option (List ℤ)
 without_first None = None
 without_first (Some messages) = Some (drop 1 messages)
 
--- how many messages of a stream aren't yet taken
+-- How many messages of a stream aren't yet taken
 abbrev pub count_in : View → ℕ → Option ℕ
 count_in view stream = found_in (messages_of view stream) (λ messages. Some (length messages))
 
--- the first of them
+-- The first of them
 abbrev pub next_in : View → ℕ → Option ℤ
 next_in view stream = found_in (messages_of view stream) first_of
 
@@ -82,11 +82,11 @@ pub record Deeds : Type 0 where
 abbrev pub nothing_done : Deeds
 nothing_done = record { steps = 0; looks = []; sends = []; takes = [] }
 
--- one instruction more
+-- One instruction more
 abbrev pub tick : Deeds → Deeds
 tick deeds = record deeds { steps = deeds.steps + 1 }
 
--- one instruction more, which makes this call
+-- One instruction more, which makes this call
 abbrev pub done : Deeds → Call → Deeds
 done deeds (Past variable back) = tick (record deeds { looks = deeds.looks ++ record { number = deeds.steps; variable = variable; back = back } ∷ [] })
 done deeds (Ready stream) = tick deeds

@@ -1,5 +1,6 @@
 //! The instructions of an agent's machine, the code made of them, what an action asks of the world, and
 //! the definition of execution.
+//! It may know numbers; no trees, no clocks.
 #![tactic(auto)]
 
 mod code;

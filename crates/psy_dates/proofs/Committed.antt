@@ -17,13 +17,13 @@ use Rattle.psy_dates.proofs.Histories.{goes_on, is_regular, starts, stays, was_s
 use Rattle.psy_dates.proofs.Phases.{by_ended, ended_before, of_done}
 use Rattle.psy_dates.proofs.Seats.{acting}
 
--- an action that ends after a date commits nothing by it
+-- An action that ends after a date commits nothing by it
 not_yet : (variable date : ℕ) (carried : Carried) (earlier : ℤ) (verdict : Verdict) → ((point end : ℕ) → verdict ≡ Done point end → date < end) → commit variable date carried earlier verdict ≡ earlier
 not_yet variable date carried earlier (Done point end) late = cond-false (nat_le end date) _ _ (lt-leb end date (late point end refl))
 not_yet variable date carried earlier (Trapped kind) late = refl
 not_yet variable date carried earlier Overran late = refl
 
--- one that was followed had ended by the date at which the next one started
+-- One that was followed had ended by the date at which the next one started
 followed : (s : System) (variable date agent by : ℕ) (n : Next) (r : Action) (before : List Action) (v : Verdict) → r.verdict ≡ v → next_by r.number r.after v ≡ Some n → n.start ≤ by → committed_in s variable by (r ∷ before) ≡ copy_in r.after variable
 followed s variable date agent by n r before (Done point end) verdict next early =
     let ends : end ≡ n.start = cc in
@@ -31,7 +31,7 @@ followed s variable date agent by n r before (Done point end) verdict next early
 followed s variable date agent by n r before (Trapped kind) verdict next early = cc
 followed s variable date agent by n r before Overran verdict next early = cc
 
--- those before an agent's last action commit nothing at a later date
+-- Those before an agent's last action commit nothing at a later date
 older : (s : System) (variable date agent : ℕ) (r : Action) (before : List Action) → WasStarted s date agent before r → committed_in s variable date before ≡ committed_in s variable (date - 1) before
 older s variable date agent r [] was = refl
 older s variable date agent r (q ∷ before) was =

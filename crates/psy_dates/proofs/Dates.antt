@@ -38,7 +38,7 @@ one_back n = omega arith
 waits_not : phase.Waiting ≡ phase.Ended → ⊥
 waits_not e = cc
 
--- an agent has done fewer actions than there were dates
+-- An agent has done fewer actions than there were dates
 pub seat_numbered : (s : System) → IsLawful s → (date agent : ℕ) (turns : List (Option Turn)) (seat : Seat) → date ≤ 2 ^ 40 → SeatStands (date - 1) turns (history s date agent) seat → IsNumbered seat
 seat_numbered s lawful date agent turns seat early = from (history s date agent) refl
   where

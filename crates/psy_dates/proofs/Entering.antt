@@ -21,17 +21,17 @@ longer_by : (m n : Message) (ns : List Message) (test : Bool) → length (put_in
 longer_by m n ns true h = refl
 longer_by m n ns false h = ap suc h
 
--- a queue holds one more where one is put in its place
+-- A queue holds one more where one is put in its place
 pub length_placed : (m : Message) (ns : List Message) → length (put_in_order m ns) ≡ suc (length ns)
 length_placed m [] = refl
 length_placed m (n ∷ ns) = longer_by m n ns (comes_before m n) (length_placed m ns)
 
--- as many more as enter
+-- As many more as enter
 pub length_entered : (more messages : List Message) → length (entered more messages) ≡ length more + length messages
 length_entered [] messages = omega arith
 length_entered (m ∷ more) messages = omega (arith, length_entered more (put_in_order m messages), length_placed m messages)
 
--- some enter, and then more
+-- Some enter, and then more
 pub entered_both : (some more messages : List Message) → entered (some ++ more) messages ≡ entered more (entered some messages)
 entered_both [] more messages = refl
 entered_both (m ∷ some) more messages = entered_both some more (put_in_order m messages)
@@ -42,7 +42,7 @@ entered_both (m ∷ some) more messages = entered_both some more (put_in_order m
 abbrev pub with_first : ℕ → Message → (ℕ → List Message) → ℕ → List Message
 with_first to m rest stream = if to == stream then m ∷ rest stream else rest stream
 
--- what is left to enter of numbered sends: the message of the first of them, and the rest
+-- What is left to enter of numbered sends: the message of the first of them, and the rest
 pub left_is : (s : System) (agent end : ℕ) (sends : List Sent) (none : Sent) (number stream : ℕ) → number < length sends
     → messages_from s stream agent end number (drop number sends) ≡ with_first (get_or sends number none).stream (message_of s agent end number (get_or sends number none)) (λ to. messages_from s to agent end (number + 1) (drop (number + 1) sends)) stream
 left_is s agent end sends none number stream l = ap (messages_from s stream agent end number) (drop_more sends number none l)
@@ -87,13 +87,13 @@ module _ (to : ℕ) (m : Message) (rest : ℕ → List Message) (queues : List Q
 
 -- ---- some messages, and then the rest
 
--- what is left to enter of so many agents' messages: those of the first of them, and the rest
+-- What is left to enter of so many agents' messages: those of the first of them, and the rest
 pub both_are : (s : System) (date : ℕ) (seats : List Seat) (outboxes : List Outboxed) (agent agents stream : ℕ) → agent < agents
     → sent_from s date seats outboxes agent (agents - agent) stream ≡ sent_by s date seats outboxes stream agent ++ sent_from s date seats outboxes (agent + 1) (agents - (agent + 1)) stream
 both_are s date seats outboxes agent agents stream l =
     (let more : agents - agent ≡ suc (agents - (agent + 1)) = omega (arith, l) in ap (λ n. sent_from s date seats outboxes agent n stream) more)
 
--- the same, where it is known whether the first of them ends its action there, and what it sent
+-- The same, where it is known whether the first of them ends its action there, and what it sent
 pub both_told : (s : System) (date : ℕ) (seats : List Seat) (outboxes : List Outboxed) (agent agents : ℕ) (ends : Bool) (sends : List Sent) → agent < agents → ends ≡ ends_at date (slice_get seats agent) → sends ≡ sends_of outboxes agent
     → (stream : ℕ) → sent_from s date seats outboxes agent (agents - agent) stream ≡ (if ends then messages_from s stream agent date 0 sends else []) ++ sent_from s date seats outboxes (agent + 1) (agents - (agent + 1)) stream
 both_told s date seats outboxes agent agents ends sends l at are stream =

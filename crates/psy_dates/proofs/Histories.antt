@@ -28,7 +28,7 @@ module _ (s : System) (lawful : IsLawful s) (date agent : ℕ) (r : Action) (bef
   pub few : suc (length before) ≤ date
   few = omega (arith, (lawful.actions date agent).few, ap length is)
 
--- the number of an agent's next action
+-- The number of an agent's next action
 module _ (s : System) (lawful : IsLawful s) (date agent : ℕ) where
   behind : (r : Action) (before : List Action) (n : Next) (v : Verdict) → r.verdict ≡ v → next_by r.number r.after v ≡ Some n → r.number ≡ length before → suc (length before) ≤ n.number
   behind r before n (Done point end) verdict next number = (let is : r.number + 1 ≡ n.number = cc in omega (arith, is, number))

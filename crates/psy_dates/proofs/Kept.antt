@@ -26,7 +26,7 @@ abbrev pub Kept : {X : Type 0} → X → (Action → X) → ℕ → List (Option
 Kept nothing of date turns [] x = x ≡ nothing
 Kept nothing of date turns (r ∷ before) x = phase_of date turns r ≡ phase.Ended → x ≡ of r
 
--- what was sent
+-- What was sent
 pub sends_kept : (date : ℕ) (turns : List (Option Turn)) (actions : List Action) (sends : List Sent) → KeepsSends date turns actions sends → Kept [] (λ r. r.deeds.sends) date turns actions sends
 sends_kept date turns [] sends h = h
 sends_kept date turns (r ∷ before) sends h = h
@@ -35,7 +35,7 @@ pub kept_sends : (date : ℕ) (turns : List (Option Turn)) (actions : List Actio
 kept_sends date turns [] sends h = h
 kept_sends date turns (r ∷ before) sends h = h
 
--- how many messages of a stream were taken
+-- How many messages of a stream were taken
 pub takes_kept : (date : ℕ) (turns : List (Option Turn)) (stream : ℕ) (actions : List Action) (n : ℕ) → KeepsTakes date turns stream actions n → Kept 0 (λ r. length (taken r stream)) date turns actions n
 takes_kept date turns stream [] n h = h
 takes_kept date turns stream (r ∷ before) n h = h
@@ -44,13 +44,13 @@ pub kept_takes : (date : ℕ) (turns : List (Option Turn)) (stream : ℕ) (actio
 kept_takes date turns stream [] n h = h
 kept_takes date turns stream (r ∷ before) n h = h
 
--- an action that ends at a date is followed by one that starts there
+-- An action that ends at a date is followed by one that starts there
 follows_there : (date number : ℕ) (r : Action) (v : Verdict) → ended_at date v ≡ true → (m : Next) × (next_by number r.after v ≡ Some m) × (m.start ≡ date)
 follows_there date number r (Done point end) e = (record { number = number + 1; point = point; start = end; carried = r.after }, refl, eqb-true end date e)
 follows_there date number r (Trapped kind) e = cc
 follows_there date number r Overran e = cc
 
--- the seat of an agent that ends its action, and of one that doesn't, behind a date
+-- The seat of an agent that ends its action, and of one that doesn't, behind a date
 ended_by : (p : Phase) (at : Bool) → ends_by p at ≡ true → (p ≡ phase.Ended) × (at ≡ true)
 ended_by phase.Waiting at e = cc
 ended_by phase.Acting at e = cc
@@ -74,7 +74,7 @@ same_start timing date seat phase.Ended begun e = ap (λ (x : Seat). x.start) (c
 same_start timing date seat phase.Stopped begun e = silent_start seat (nat_le seat.deadline date)
 same_start timing date seat phase.Silent begun e = refl
 
--- an agent goes on with an action: it has ended none
+-- An agent goes on with an action: it has ended none
 pub goes_still : (timing : Timing) (date : ℕ) (seat : Seat) → (seat_then timing date seat).start < date → ends_at date (Some seat) ≡ false
 goes_still timing date seat l = elim (cases_Bool (ends_at date (Some seat))) [
   | inl ends ↦ absurd (omega (arith, l, starts_there timing date seat ends))

@@ -8,13 +8,13 @@ use Rattle.std.proofs.lemmas.Option.{unwrap_or-slice_get}
 pub get_or_none : {X : Type 0} (xs : List X) (i : ℕ) (d : X) → None ≡ slice_get xs i → d ≡ get_or xs i d
 get_or_none xs i d e = ap (λ o. unwrap_or o d) e ∙ unwrap_or-slice_get xs i d
 
--- what an item holds, where it doesn't hold so many
+-- What an item holds, where it doesn't hold so many
 pub part_none : {X Y : Type 0} (parts : X → List Y) (xs ys : List X) (i k : ℕ) (x d : X) (e : Y) → ys ≡ xs → i < length xs → None ≡ slice_get (parts (get_or ys i x)) k → e ≡ get_or (parts (get_or xs i d)) k e
 part_none parts xs ys i k x d e same l none =
     let is : get_or ys i x ≡ get_or xs i d = ap (λ zs. get_or zs i x) same ∙ get_or_default xs i x d l in
     subst (λ z. e ≡ get_or (parts z) k e) is (get_or_none (parts (get_or ys i x)) k e none)
 
--- a list that was written to
+-- A list that was written to
 pub slice_get_same : {X : Type 0} (xs : List X) (i : ℕ) (x : X) → i < length xs → slice_get (slice_set xs i x) i ≡ Some x
 slice_get_same [] i x l = absurd (omega (arith, l))
 slice_get_same (y ∷ xs) zero x l = refl
@@ -27,7 +27,7 @@ slice_get_other (y ∷ xs) zero (suc k) x other = refl
 slice_get_other (y ∷ xs) (suc i) zero x other = refl
 slice_get_other (y ∷ xs) (suc i) (suc k) x other = slice_get_other xs i k x (λ e. other (ap suc e))
 
--- lists by number, one behind the other, that are the same for each number below a limit
+-- Lists by number, one behind the other, that are the same for each number below a limit
 pub same_joined : {X : Type 0} (f g : ℕ → List X) (limit : ℕ) → ((k : ℕ) → k < limit → f k ≡ g k) → (from n : ℕ) → from + n ≤ limit → flat_map f (range_with_len from n) ≡ flat_map g (range_with_len from n)
 same_joined f g limit same from zero within = refl
 same_joined f g limit same from (suc n) within =

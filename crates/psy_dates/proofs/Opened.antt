@@ -22,7 +22,7 @@ first_value : (s : System) (variable : ℕ) (owner : Option ℕ) → s.opening.c
 first_value s variable None = refl
 first_value s variable (Some owner) = refl
 
--- the ring of a variable, filled with its first value
+-- The ring of a variable, filled with its first value
 first_ring : (s : System) (variable size : ℕ) (value : ℤ) → IsRingSize s.unit s.nexts variable size → value ≡ (variable_of s variable).init → RingStands s 0 variable (replicate size value)
 first_ring s variable size value of_size is =
     let long = length-replicate size value in
@@ -31,7 +31,7 @@ first_ring s variable size value of_size is =
       values = ap (replicate size) is ∙ ap (λ n. replicate n (variable_of s variable).init) (sym long);
     }
 
--- a ring has a place at least, since a variable has a depth
+-- A ring has a place at least, since a variable has a depth
 pub ring_places : (plan : Plan) → IsBare plan.unit → AreSizes plan.unit plan.nexts plan.sizes → All (λ size. (1 ≤ size) × (size ≤ RING)) plan.sizes.rings
 ring_places plan bare sizes variable d l =
     let its = sizes.rings.each variable (get_or plan.sizes.rings variable d) (slice_get-get_or plan.sizes.rings variable d l) in

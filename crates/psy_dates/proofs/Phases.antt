@@ -27,12 +27,12 @@ of_done date turns r e = ap (λ done. phase_by (not done && nat_le r.deadline da
 pub of_stopped : (date : ℕ) (turns : List (Option Turn)) (r : Action) → is_done r.verdict ≡ false → phase_of date turns r ≡ phase_by (nat_le r.deadline date) (is_pending turns r) false
 of_stopped date turns r e = ap (λ done. phase_by (not done && nat_le r.deadline date) (is_pending turns r) done) e
 
--- one that starts at a date and had no cycle yet
+-- One that starts at a date and had no cycle yet
 pub of_started : (date : ℕ) (turns : List (Option Turn)) (r : Action) → date < r.deadline → 1 ≤ r.budget → 1 ≤ r.charge → units r.agent r.number turns ≡ 0 → phase_of date turns r ≡ phase.Acting
 of_started date turns r due granted charged none =
     by_pending _ _ _ (and_right (not (is_done r.verdict)) (nat_le r.deadline date) (lt-leb r.deadline date due)) (lt-ltb (units r.agent r.number turns) (work r) (omega (arith, granted, charged, none)))
 
--- an agent that has ended an action at some date, had done so before
+-- An agent that has ended an action at some date, had done so before
 pub ended_before : (date other : ℕ) (turns : List (Option Turn)) (r : Action) → phase_of date turns r ≡ phase.Ended → phase_of other turns r ≡ phase.Ended
 ended_before date other turns r e =
     let is = by_ended _ _ _ e in

@@ -10,12 +10,12 @@ use Rattle.psy_history.specs.Rings.{ring_of}
 use Rattle.psy_dates.specs.Publications.{ring_then, value_by}
 use Rattle.psy_dates.specs.Standing.{RingStands, committed_by}
 
--- what a variable publishes is what it has committed, or the value of its list
+-- What a variable publishes is what it has committed, or the value of its list
 value_is : (s : System) (h : History) (values : List ℤ) (date variable : ℕ) (owner : Option ℕ) → get_or values variable (pos 0) ≡ committed_by s h variable date owner → value_by s values date variable owner ≡ published_by s h variable date owner
 value_is s h values date variable None is = refl
 value_is s h values date variable (Some owner) is = is
 
--- a ring keeps its size
+-- A ring keeps its size
 same_size : (at : Bool) (value : ℤ) (ring : List ℤ) → length (if at then take (length ring) (value ∷ ring) else ring) ≡ length ring
 same_size true value ring = omega (arith, length-take (length ring) (value ∷ ring))
 same_size false value ring = refl

@@ -23,7 +23,7 @@ use Rattle.psy_dates.proofs.Histories.{goes_on, is_regular, starts, stays, was_s
 
 -- ---- what goes
 
--- a queue that is settled alike
+-- A queue that is settled alike
 same_settled : (date : ℕ) (queue : Queued) (sweep : Bool) (some more : ℕ) → (sweep ≡ true → some ≡ more)
     → (if sweep then record queue { messages = filter (λ (m : Message). nat_lt date m.expiry) (drop some queue.messages) } else queue)
     ≡ record queue { messages = if sweep then filter (λ (m : Message). nat_lt date m.expiry) (drop more queue.messages) else queue.messages }
@@ -42,7 +42,7 @@ settled_alike s date stream agent first actions seat took queue swept gone =
 
 -- ---- what enters
 
--- the messages of an action that ends at a date
+-- The messages of an action that ends at a date
 sent_there : (s : System) (date stream agent : ℕ) (sends : List Sent) (v : Verdict) → ended_at date v ≡ true → messages_by s stream agent sends v ≡ messages_from s stream agent date 0 sends
 sent_there s date stream agent sends (Done point end) e = ap (λ n. messages_from s stream agent n 0 sends) (eqb-true end date e)
 sent_there s date stream agent sends (Trapped kind) e = cc

@@ -15,11 +15,11 @@ use Rattle.psy_dates.specs.Standing.{SeatOf, SeatStands, TellsEnd, phase_by, pha
 use Rattle.psy_dates.proofs.Histories.{goes_on, is_regular, starts, stays, was_started}
 use Rattle.psy_dates.proofs.Phases.{of_done, of_started, of_stopped, tells_acting, tells_silent}
 
--- a seat that is left as it is
+-- A seat that is left as it is
 keeps : (date other : ℕ) (turns : List (Option Turn)) (r : Action) (seat : Seat) → SeatOf date turns r seat → phase_of other turns r ≡ phase_of date turns r → SeatOf other turns r seat
 keeps date other turns r seat stands e = record { phase = stands.phase ∙ sym e; number = stands.number; point = stands.point; start = stands.start; deadline = stands.deadline; ends = stands.ends }
 
--- where an action's cycles are none before it starts
+-- Where an action's cycles are none before it starts
 module _ (s : System) (lawful : IsLawful s) (date : ℕ) (turns : List (Option Turn)) (agent : ℕ) (unstarted : (number : ℕ) → length (history s date agent) ≤ number → units agent number turns ≡ 0) where
   -- the action that starts
   pub acting : (n : Next) → next_of s agent (history s date agent) ≡ Some n → n.start ≡ date → length (history s date agent) ≤ n.number → phase_of date turns (action_of s (history s date) agent n) ≡ phase.Acting

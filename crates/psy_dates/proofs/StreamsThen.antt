@@ -41,13 +41,13 @@ use Rattle.psy_dates.proofs.Lists.{same_joined}
 use Rattle.psy_dates.proofs.QueuesThen.{enters_there, seen_held, settles_there}
 use Rattle.psy_dates.proofs.StreamLaws.{AreStreamLaws}
 
--- a message is the same whatever the inputs and stalls
+-- A message is the same whatever the inputs and stalls
 same_messages : (plan : Plan) (inputs : List (List ℤ)) (stalls : ℕ → List Stall) (stream agent end number : ℕ) (sends : List Sent) → messages_from (system_of plan [] (λ a. [])) stream agent end number sends ≡ messages_from (system_of plan inputs stalls) stream agent end number sends
 same_messages plan inputs stalls stream agent end number [] = refl
 same_messages plan inputs stalls stream agent end number (sent ∷ sends) =
     ap (λ ms. if sent.stream == stream then message_of (system_of plan inputs stalls) agent end number sent ∷ ms else ms) (same_messages plan inputs stalls stream agent end (number + 1) sends)
 
--- an action that ends at a date reached a point
+-- An action that ends at a date reached a point
 done_there : (date : ℕ) (v : Verdict) → ended_at date v ≡ true → (point : ℕ) × (v ≡ Done point date)
 done_there date (Done point end) e = (point, ap (Done point) (eqb-true end date e))
 done_there date (Trapped kind) e = cc
@@ -56,7 +56,7 @@ done_there date Overran e = cc
 ends_nowhere : true ≡ false → ⊥
 ends_nowhere e = cc
 
--- an outbox that is cleared or not
+-- An outbox that is cleared or not
 cleared : (ends : Bool) (outbox : Outboxed) → (if ends then record outbox { sends = [] } else outbox) ≡ record outbox { sends = if ends then [] else outbox.sends }
 cleared true outbox = refl
 cleared false outbox = refl

@@ -1,5 +1,6 @@
 //! The work at a date: actions that end there commit, what receivers took and what has expired goes, messages enter, variables publish,
 //! agents that were stopped fall silent, and the next actions start; and what all agents share between two dates.
+//! It may know the history's definitions; no cycles, no machines.
 #![tactic(auto)]
 
 mod clears;
@@ -17,7 +18,7 @@ mod shared;
 
 pub use date::at_date;
 pub use outbox::Outbox;
-pub use plan::{Inputs, Plan};
+pub use plan::Plan;
 pub use psy_code::Sent;
 pub use seat::{Phase, Seat};
 pub use shared::Shared;

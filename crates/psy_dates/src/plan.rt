@@ -12,9 +12,3 @@ pub struct Plan {
     pub sizes: Sizes,
     pub until: u32,
 }
-
-/// By variable, the values of its list; empty where it has none.
-#[derive(Debug, Drop)]
-pub struct Inputs {
-    pub lists: Items<Items<i32>>,
-}

@@ -7,7 +7,8 @@ ghost use Rattle.psy_dates.specs.Plans.{system_of};
 ghost use Rattle.psy_dates.specs.Publications.{ring_then, value_at};
 
 use crate::due::clock_of;
-use crate::plan::{Inputs, Plan};
+use crate::plan::Plan;
+use psy_history::Inputs;
 use psy_ring::Ring;
 
 /// The n-th value of a list, or its last one where it is shorter; this one where the list is empty.

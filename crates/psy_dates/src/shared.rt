@@ -9,9 +9,10 @@ ghost use Rattle.psy_dates.specs.Plans.{IsPlan, system_of};
 ghost use Rattle.psy_dates.specs.Standing.{SharedStands};
 
 use crate::outbox::Outbox;
-use crate::plan::{Inputs, Plan};
+use crate::plan::Plan;
 use crate::seat::{Phase, Seat};
 use psy_base::{Items, Memory};
+use psy_history::Inputs;
 use psy_queue::Queue;
 use psy_ring::Ring;
 use psy_tree::VarDecl;

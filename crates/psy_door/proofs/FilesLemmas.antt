@@ -7,7 +7,7 @@ use Rattle.std.specs.FinMap as m
 use Rattle.std.proofs.lemmas.Map.Text.{is_eq-slice_cmp}
 use Rattle.psy_door.specs.Files.{Pairs, files_of, named}
 
--- the lists of a name and a file, as pairs of bytes
+-- The lists of a name and a file, as pairs of bytes
 abbrev pub pairs : List (List ℕ × Vec ℕ Global) → Pairs
 pairs = map (λ p. (p.0, p.1.items))
 

@@ -5,31 +5,31 @@ use Rattle.std.specs.Cmp.Lexicographic.{slice_cmp}
 use Rattle.std.specs.FinMap.{FinMap, get, from_entries}
 use Rattle.psy_base.specs.declared.limits.TheConstants.{FILE_BYTES}
 
--- files by name: a finite map from the bytes of a name to the bytes of the file
+-- Files by name: a finite map from the bytes of a name to the bytes of the file
 abbrev pub Files : Type 0
 Files = FinMap (slice_cmp nat_cmp) (List ℕ)
 
--- the bytes of the file with this name, and none where there is no such file
+-- The bytes of the file with this name, and none where there is no such file
 abbrev pub bytes_under : Files → List ℕ → List ℕ
 bytes_under files name = unwrap_or (get files name) []
 
--- the fact holds of the files, where they are told
+-- The fact holds of the files, where they are told
 abbrev pub WhereTold : Option Files → (Files → Type 0) → Type 0
 WhereTold None P = Unit {0}
 WhereTold (Some files) P = P files
 
--- files as pairs of a name and its bytes
+-- Files as pairs of a name and its bytes
 abbrev pub Pairs : Type 0
 Pairs = List (List ℕ × List ℕ)
 
--- the files that these pairs list; of two with one name the first stands
+-- The files that these pairs list; of two with one name the first stands
 abbrev pub files_of : Pairs → Files
 files_of pairs = from_entries pairs
 
--- the bytes of the first pair with this name
+-- The bytes of the first pair with this name
 abbrev pub named : List ℕ → Pairs → Option (List ℕ)
 named name pairs = option_map (λ p. p.1) (find (λ p. bytes_eq name p.0) pairs)
 
--- the bytes that a call takes from a file of this length: all, but at most one more than a shelf gives
+-- The bytes that a call takes from a file of this length: all, but at most one more than a shelf gives
 abbrev pub taken_of : ℕ → ℕ
 taken_of bytes = min bytes (FILE_BYTES + 1)

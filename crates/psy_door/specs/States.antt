@@ -3,16 +3,16 @@ use Rattle.std.specs.Prelude.{◌≡◌, ℕ, ◌+◌, ◌-◌, ◌<◌, ◌^◌
 use Rattle.std.specs.FinMap.{get}
 use Rattle.psy_door.specs.Files.{Pairs, files_of}
 
--- one more, up to the counter's last value
+-- One more, up to the counter's last value
 abbrev pub counted_up : ℕ → ℕ
 counted_up n = min (n + 1) (2 ^ 64 - 1)
 
--- files whose calls never fail
+-- Files whose calls never fail
 pub record CleanShelfState : Type 0 where
   pub files : Pairs
   pub taken : ℕ
 
--- files, and the numbers of the calls that fail, counted from 0
+-- Files, and the numbers of the calls that fail, counted from 0
 pub record ShelfState : Type 0 where
   pub files : Pairs
   pub fails : List ℕ
@@ -21,11 +21,11 @@ pub record ShelfState : Type 0 where
   pub failed_name : List ℕ
   pub taken : ℕ
 
--- the next call for this name fails: its number is listed, or there is no such file
+-- The next call for this name fails: its number is listed, or there is no such file
 abbrev pub FetchFails : ShelfState → List ℕ → Type 0
 FetchFails shelf name = Contains shelf.fails shelf.calls ⊎ (get (files_of shelf.files) name ≡ None)
 
--- bytes in a room of fixed size; one call takes at most `most` bytes
+-- Bytes in a room of fixed size; one call takes at most `most` bytes
 pub record SinkState : Type 0 where
   pub bytes : List ℕ
   pub room : ℕ
@@ -34,36 +34,36 @@ pub record SinkState : Type 0 where
   pub calls : ℕ
   pub faults : ℕ
 
--- how many bytes of a piece of this length the next call takes
+-- How many bytes of a piece of this length the next call takes
 abbrev pub fitting : SinkState → ℕ → ℕ
 fitting sink piece = min piece (min sink.most (sink.room - length sink.bytes))
 
--- the next call with this piece fails: its number is listed, or there is no room
+-- The next call with this piece fails: its number is listed, or there is no room
 abbrev pub WriteFails : SinkState → List ℕ → Type 0
 WriteFails sink piece = Contains sink.fails sink.calls ⊎ ((0 < length piece) × (length sink.bytes ≡ sink.room))
 
--- bytes in a room of fixed size, and whether all that was written was kept
+-- Bytes in a room of fixed size, and whether all that was written was kept
 pub record CleanSinkState : Type 0 where
   pub bytes : List ℕ
   pub room : ℕ
   pub whole : Bool
 
--- what is kept of a piece: its front that fits
+-- What is kept of a piece: its front that fits
 abbrev pub kept : CleanSinkState → List ℕ → List ℕ
 kept sink piece = take (sink.room - length sink.bytes) piece
 
--- the sink after a piece was written
+-- The sink after a piece was written
 abbrev pub written : CleanSinkState → List ℕ → CleanSinkState
 written sink piece = record sink {
   bytes = sink.bytes ++ kept sink piece;
   whole = sink.whole && nat_le (length sink.bytes + length piece) sink.room;
 }
 
--- the bytes, as long as all were kept
+-- The bytes, as long as all were kept
 abbrev pub told : CleanSinkState → Option (List ℕ)
 told sink = if sink.whole then Some sink.bytes else None
 
--- the counts of a shelf over files of the system
+-- The counts of a shelf over files of the system
 pub record FileShelfState : Type 0 where
   pub faults : ℕ
   pub failed_name : List ℕ

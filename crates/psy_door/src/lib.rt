@@ -1,5 +1,6 @@
 //! The outside of psyc: where files come from and where text goes. A call that fails is seen by a
 //! count that never falls, so that no code above can claim a failure by itself.
+//! It may know files and output; nothing of the language.
 #![tactic(auto)]
 
 mod clean_shelf;

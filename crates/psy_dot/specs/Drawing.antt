@@ -3,31 +3,31 @@ use Rattle.std.specs.Prelude.{ℕ, List, [], ◌∷◌, ◌++◌, codes, decimal
 use Rattle.psy_log.specs.declared.note.Note.{Note}
 use Rattle.psy_log.specs.declared.note.Note.TheVariants as note
 
--- what closes the cluster of an agent, where there is one
+-- What closes the cluster of an agent, where there is one
 abbrev pub closing : Option (List ℕ) → List ℕ
 closing None = []
 closing (Some agent) = codes "  }\n"
 
--- what opens an agent's cluster
+-- What opens an agent's cluster
 abbrev pub opening : List ℕ → List ℕ
 opening agent = codes "  subgraph \"cluster_" ++ agent ++ codes "\" {\n    label=\"" ++ agent ++ codes "\";\n"
 
--- the name of an agent's node
+-- The name of an agent's node
 abbrev pub node_name : Option (List ℕ) → ℕ → List ℕ
 node_name agent number = codes "\"" ++ unwrap_or agent [] ++ codes " " ++ decimal number ++ codes "\""
 
--- a node: its number, its point and its phase; its worst cost and its budget; how many ticks behind its start it is due
+-- A node: its number, its point and its phase; its worst cost and its budget; how many ticks behind its start it is due
 abbrev pub node_text : Option (List ℕ) → ℕ → ℕ → ℕ → ℕ → ℕ → ℕ → List ℕ
 node_text agent number point phase budget worst due =
     codes "    " ++ node_name agent number ++ codes " [label=\"" ++ decimal number ++ codes ": point " ++ decimal point ++ codes " at " ++ decimal phase
     ++ codes "\\nworst " ++ decimal worst ++ codes " of " ++ decimal budget ++ codes "\\ndue in " ++ decimal due ++ codes "\"];\n"
 
--- an edge, and how many ticks lie between the starts of its ends
+-- An edge, and how many ticks lie between the starts of its ends
 abbrev pub edge_text : Option (List ℕ) → ℕ → ℕ → ℕ → List ℕ
 edge_text agent from to len =
     codes "    " ++ node_name agent from ++ codes " -> " ++ node_name agent to ++ codes " [label=\"" ++ decimal len ++ codes "\"];\n"
 
--- what notes draw within the cluster of an agent, and the clusters behind it; other notes than a graph's draw nothing
+-- What notes draw within the cluster of an agent, and the clusters behind it; other notes than a graph's draw nothing
 abbrev pub clusters : Option (List ℕ) → List Note → List ℕ
 clusters agent [] = closing agent
 clusters agent (note.AgentGraph next nodes edges ∷ notes) = closing agent ++ opening next.now ++ clusters (Some next.now) notes
@@ -35,6 +35,6 @@ clusters agent (note.Node number point phase budget worst due ∷ notes) = node_
 clusters agent (note.EdgeOf from to len ∷ notes) = edge_text agent from to len ++ clusters agent notes
 clusters agent (_ ∷ notes) = clusters agent notes
 
--- the whole text
+-- The whole text
 abbrev pub dot_of : List Note → List ℕ
 dot_of notes = codes "digraph psyc {\n  rankdir=LR;\n  node [shape=box];\n" ++ clusters None notes ++ codes "}\n"

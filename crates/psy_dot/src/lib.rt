@@ -1,4 +1,5 @@
 //! Draws action graphs as a text in the language DOT of Graphviz.
+//! It may know notes of a graph.
 #![tactic(auto)]
 
 mod piece;

@@ -3,7 +3,7 @@ use Rattle.std.proofs.Common.{◌≡◌, ℕ, Result, Err, ap}
 use Rattle.psy_draw.specs.declared.fault.DrawFault.{DrawFault}
 use Rattle.psy_draw.specs.declared.fault.DrawFault.TheVariants as fault
 
--- the number of a refusal
+-- The number of a refusal
 number_of : {T : Type 0} → Result T DrawFault → ℕ
 number_of (Err (fault.Unlisted n)) = n
 number_of _ = 0

@@ -10,17 +10,17 @@ use Rattle.std.proofs.lemmas.List.Elements.{Contains-append_left, Contains-appen
 use Rattle.psy_draw.specs.declared.column.Column.{Column}
 use Rattle.psy_draw.specs.Columns.{StandsFor}
 
--- the last of a list is in it
+-- The last of a list is in it
 contains_last : (values : List ℤ) (v : ℤ) → Contains (values ++ v ∷ []) v
 contains_last values v = Contains-append_right values (v ∷ []) v (0, omega arith, refl)
 
--- one of two is in a list with one more
+-- One of two is in a list with one more
 contains_picked : (values : List ℤ) (v old new : ℤ) → Contains values old → (new ≡ v) ⊎ (new ≡ old) → Contains (values ++ v ∷ []) new
 contains_picked values v old new there picked =
     let P : ℤ → Type 0 = λ z. Contains (values ++ v ∷ []) z in
     ⊎_elim (λ e. subst P (sym e) (contains_last values v)) (λ e. subst P (sym e) (Contains-append_left values (v ∷ []) old there)) picked
 
--- a bound of each, with one more
+-- A bound of each, with one more
 all_more : (P : ℤ → Type 0) (values : List ℤ) (v : ℤ) → All P values → P v → All P (values ++ v ∷ [])
 all_more P values v all one = All-append P values (v ∷ []) all (All-cons P v [] one (All-nil P))
 

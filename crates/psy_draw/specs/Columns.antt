@@ -21,14 +21,14 @@ abbrev pub Keeps : List ℤ → List Column → Type 0
 Keeps values [] = values ≡ []
 Keeps values (c ∷ columns) = (group rest : List ℤ) × (values ≡ group ++ rest) × StandsFor group c × Keeps rest columns
 
--- the columns of a lane up to a place
+-- The columns of a lane up to a place
 abbrev pub up_to : ℕ → List Column → List Column
 up_to place columns = take_while (λ c. nat_le c.x place) columns
 
--- no column has a greater value
+-- No column has a greater value
 abbrev pub none_greater : ℤ → List Column → Bool
 none_greater value columns = list_all (λ c. int_le c.greatest value) columns
 
--- no column has a smaller value
+-- No column has a smaller value
 abbrev pub none_less : ℤ → List Column → Bool
 none_less value columns = list_all (λ c. int_le value c.least) columns

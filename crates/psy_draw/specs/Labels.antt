@@ -4,11 +4,11 @@ use Rattle.std.specs.Fmt.{signed_decimal}
 use Rattle.psy_arith.specs.declared.operators.Trap.{Trap}
 use Rattle.psy_log.specs.Forms.{trap_name}
 
--- a value at a place
+-- A value at a place
 abbrev pub label_text : ℕ → ℕ → ℤ → List ℕ
 label_text x y value = codes "<text x=\"" ++ (decimal x ++ (codes "\" y=\"" ++ (decimal y ++ (codes "\">" ++ (signed_decimal value ++ codes "</text>\n")))))
 
--- the cause of a stop, by its trap, or none where a budget was spent
+-- The cause of a stop, by its trap, or none where a budget was spent
 abbrev pub cause_of : Option Trap → List ℕ
 cause_of None = codes "overrun"
 cause_of (Some kind) = codes "trap " ++ trap_name kind

@@ -27,11 +27,11 @@ is_listed notes (note.Value date variable value) = list_any (ends_variable varia
 is_listed notes (note.Message date stream value) = list_any (ends_stream stream.now) notes
 is_listed notes _ = true
 
--- the number, counted from 1, of the first note that doesn't pass
+-- The number, counted from 1, of the first note that doesn't pass
 abbrev pub first_failing : (Note → Bool) → List Note → Option ℕ
 first_failing passes notes = option_map (λ k. k + 1) (position (λ note. not (passes note)) notes)
 
--- the number of the first note whose name the summary doesn't list
+-- The number of the first note whose name the summary doesn't list
 abbrev pub first_unlisted : List Note → Option ℕ
 first_unlisted notes = first_failing (is_listed notes) notes
 

@@ -15,7 +15,7 @@ HasPart text part = (before after : List ℕ) × (text ≡ before ++ (part ++ af
 abbrev pub Grows : List ℕ → List ℕ → Type 0
 Grows old new = (more : List ℕ) × (new ≡ old ++ more)
 
--- a row at a height, with the right ends of its numbers
+-- A row at a height, with the right ends of its numbers
 abbrev pub row_text : ℕ → ℕ → ℕ → Row → List ℕ
 row_text y first second row =
     codes "<text y=\"" ++ (decimal y ++ (codes "\">" ++ (flat_map escaped row.name.now
@@ -26,17 +26,17 @@ row_text y first second row =
 abbrev pub ShowsRow : List ℕ → Row → Type 0
 ShowsRow text row = (y first second : ℕ) × HasPart text (row_text y first second row)
 
--- the row of an agent in the summary: its actions, and the least slack among them
+-- The row of an agent in the summary: its actions, and the least slack among them
 abbrev pub agent_rows : Note → List Row
 agent_rows (note.AgentEnd agent count slack) = record { name = agent; first = count; second = slack } ∷ []
 agent_rows _ = []
 
--- the row of a variable: its places, and how far a look went back
+-- The row of a variable: its places, and how far a look went back
 abbrev pub variable_rows : Note → List Row
 variable_rows (note.VariableEnd variable size reach) = record { name = variable; first = size; second = reach } ∷ []
 variable_rows _ = []
 
--- the row of a stream: its places, and the most messages that it held
+-- The row of a stream: its places, and the most messages that it held
 abbrev pub stream_rows : Note → List Row
 stream_rows (note.StreamEnd stream size held) = record { name = stream; first = size; second = Some held } ∷ []
 stream_rows _ = []

@@ -5,11 +5,11 @@ use Rattle.std.specs.List.{flat_map}
 use Rattle.psy_draw.specs.declared.piece.Piece.{Piece}
 use Rattle.psy_draw.specs.declared.piece.Piece.TheVariants as piece
 
--- a letter, escaped where it is `&`, `<`, `>` or `"`
+-- A letter, escaped where it is `&`, `<`, `>` or `"`
 abbrev pub escaped : ℕ → List ℕ
 escaped b = cond (b == 38) (codes "&amp;") (cond (b == 60) (codes "&lt;") (cond (b == 62) (codes "&gt;") (cond (b == 34) (codes "&quot;") (b ∷ []))))
 
--- the bytes of a piece
+-- The bytes of a piece
 abbrev pub spelled : Piece → List ℕ
 spelled (piece.Raw bytes) = bytes.now
 spelled (piece.Text text) = flat_map escaped text.now
@@ -17,6 +17,6 @@ spelled (piece.Number number) = decimal number
 spelled (piece.Long number) = decimal number
 spelled (piece.Value value) = signed_decimal value
 
--- the file of one SVG element with this inside
+-- The file of one SVG element with this inside
 abbrev pub svg_of : List ℕ → List ℕ
 svg_of inside = codes "<svg" ++ (inside ++ codes "</svg>\n")

@@ -1,4 +1,5 @@
 //! Draws what a run said as a picture: an SVG file with a lane for each variable, stream and stopped agent.
+//! It may know notes of a run.
 #![tactic(auto)]
 
 mod axis;

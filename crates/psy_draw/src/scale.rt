@@ -16,7 +16,7 @@ pub const COLUMNS: u32 = 48_000;
 pub struct Scale {
     pub until: u32,
     pub grain: u32,
-    ghost dated: { until ≤ 100000 },
+    ghost dated: { until ≤ UNTIL },
     ghost grained: { 0 < grain },
 }
 

@@ -22,7 +22,7 @@ there_back : (g : Gauge) (t : Tops) → IsHome t → IsThere (greater t.back (pl
 there_back g t (inl p) = there_right t.back (plus (in_step g + in_step g) t.fell) (there_plus (in_step g + in_step g) t.fell p)
 there_back g t (inr p) = there_left t.back (plus (in_step g + in_step g) t.fell) p
 
--- out of the statements, with two instructions behind
+-- Out of the statements, with two instructions behind
 top_fallen : (g : Gauge) (way : Way) (o : Option ℕ) → IsTop g way o → IsTop g (both way (both one one)) (plus (in_step g + in_step g) o)
 top_fallen g way None p = λ m n w. p m w.0 w.1
 top_fallen g way (Some k) p =

@@ -1,5 +1,6 @@
 //! What can be said of an agent's actions before they run: the points that follow each point, what an action
 //! costs, sends and looks at on the way, and how deep the agent's machine gets.
+//! It may know trees, their ways and their measures; no code.
 #![tactic(auto)]
 
 mod calls;

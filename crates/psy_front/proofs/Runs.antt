@@ -6,7 +6,7 @@ use Rattle.std.proofs.lemmas.List.{take-append-drop}
 use Rattle.psy_tree.specs.Lexemes.{Each, EndsBefore}
 use Rattle.psy_front.specs.Fronts.{Cuts}
 
--- a run that ends before the rest is as long as the longest
+-- A run that ends before the rest is as long as the longest
 prefix_len-run : (sort : ℕ → Bool) (run rest : List ℕ) → Each sort run → EndsBefore sort rest → prefix_len sort (run ++ rest) ≡ length run
 prefix_len-run sort [] [] each ends = refl
 prefix_len-run sort [] (b ∷ rest) each ends = ap (λ t. cond t (1 + prefix_len sort rest) 0) ends
@@ -15,7 +15,7 @@ prefix_len-run sort (b ∷ run) rest each ends =
     let e : 1 + prefix_len sort (run ++ rest) ≡ suc (length run) = omega arith in
     ap (λ t. cond t (1 + prefix_len sort (run ++ rest)) 0) each.0 ∙ e
 
--- the longest run is of the sort, and ends before what follows
+-- The longest run is of the sort, and ends before what follows
 record IsLongest (sort : ℕ → Bool) (bytes : List ℕ) (len : ℕ) : Type 0 where
   each : Each sort (take len bytes)
   ends : EndsBefore sort (drop len bytes)
@@ -30,24 +30,24 @@ longest : (sort : ℕ → Bool) (bytes : List ℕ) → IsLongest sort bytes (pre
 longest sort [] = record { each = tt; ends = tt }
 longest sort (b ∷ bytes) = longest_by sort b bytes (longest sort bytes) (sort b) refl
 
--- the bytes of the longest run are of the sort
+-- The bytes of the longest run are of the sort
 pub Each-longest : (sort : ℕ → Bool) (text run : List ℕ) (len : ℕ) → len ≡ prefix_len sort text → run ≡ take len text → Each sort run
 Each-longest sort text run len is run_is = subst (Each sort) (sym (run_is ∙ ap (λ n. take n text) is)) (longest sort text).each
 
--- the longest run is cut off
+-- The longest run is cut off
 pub Cuts-longest : (sort : ℕ → Bool) (text run rest : List ℕ) (len : ℕ) → len ≡ prefix_len sort text → run ≡ take len text → rest ≡ drop len text → Cuts sort text run rest
 Cuts-longest sort text run rest len is run_is rest_is = (
   sym (take-append-drop len text) ∙ (λ i. sym run_is i ++ sym rest_is i),
   subst (EndsBefore sort) (sym (rest_is ∙ ap (λ n. drop n text) is)) (longest sort text).ends,
 )
 
--- a run that is cut off is the longest
+-- A run that is cut off is the longest
 Cuts_is : (sort : ℕ → Bool) (text run rest : List ℕ) → Each sort run → Cuts sort text run rest → (run ≡ take (prefix_len sort text) text) × (rest ≡ drop (prefix_len sort text) text)
 Cuts_is sort text run rest each cuts =
     let len : length run ≡ prefix_len sort text = sym (ap (prefix_len sort) cuts.0 ∙ prefix_len-run sort run rest each cuts.1) in
     (sym (take-append_seam run rest) ∙ (λ i. take (len i) (sym cuts.0 i)), sym (drop-append_seam run rest) ∙ (λ i. drop (len i) (sym cuts.0 i)))
 
--- a text is cut in one way
+-- A text is cut in one way
 pub Cuts-once : (sort : ℕ → Bool) (text run other rest more : List ℕ) → Each sort run → Each sort other → Cuts sort text run rest → Cuts sort text other more → (run ≡ other) × (rest ≡ more)
 Cuts-once sort text run other rest more each every cuts divides =
     let a = Cuts_is sort text run rest each cuts in

@@ -3,7 +3,7 @@ use Rattle.std.specs.Prelude.{◌≡◌, ℕ, ◌≤◌, Bool, List, ◌++◌, l
 use Rattle.psy_base.specs.declared.limits.TheConstants.{WORD_BYTES}
 use Rattle.psy_tree.specs.Lexemes.{IsWord, EndsBefore}
 
--- a word of 1 to 32 bytes: a letter or `_`, and then letters, digits and `_`
+-- A word of 1 to 32 bytes: a letter or `_`, and then letters, digits and `_`
 abbrev pub IsName : List ℕ → Type 0
 IsName name = IsWord name × (length name ≤ WORD_BYTES)
 

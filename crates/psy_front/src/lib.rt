@@ -1,4 +1,5 @@
 //! Reads what stands at the front of a text: a name, a number or a value.
+//! It may know bytes and numbers; nothing of lines.
 #![tactic(auto)]
 
 mod decimal;

@@ -67,7 +67,7 @@ module _ (whole : Code) (its : AgentCode) where
             (λ i. let e : n + 1 + i ≡ n + suc i = omega arith in ap (slice_get whole.functions) e ∙ entries (suc i)),
       )
 
--- the code of one agent
+-- The code of one agent
 record AgentAt (unit : Whole) (whole : Code) (number : ℕ) (agent : AgentDecl) (its : AgentCode) : Type 0 where
   place : ℕ
   entry : its ≡ agent_entry unit number agent place

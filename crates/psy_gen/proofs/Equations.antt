@@ -19,7 +19,7 @@ use Rattle.psy_gen.specs.Emission.{Layout, Emit, Operand, Coded, Part, Places, P
 
 -- ---- expressions
 
--- an expression beside its code
+-- An expression beside its code
 abbrev pub operand : Layout → Expr → Operand
 operand layout e = (e, expr_code layout e)
 
@@ -56,7 +56,7 @@ code_unary layout o e p = code_rolled layout (expr.Unary o e) (Expr-F.Unary o e)
 pub code_binary : (layout : Layout) (o : Op2) (l r : Expr) (p : ℕ) → expr_code layout (expr.Binary o l r) p ≡ binary_code o (operand layout l) (operand layout r) p
 code_binary layout o l r p = code_rolled layout (expr.Binary o l r) (Expr-F.Binary o l r) p (expr.rolls-Binary o l r)
 
--- an operator that evaluates both its sides
+-- An operator that evaluates both its sides
 pub binary_eager : (o : Op2) (l r : Operand) (p : ℕ) → (o ≡ op.AndAnd → ⊥) → (o ≡ op.OrOr → ⊥) → binary_code o l r p ≡ l.1 p ++ (r.1 (p + expr_size l.0) ++ instr.Binary o ∷ [])
 binary_eager op.AndAnd l r p x y = elim (x refl) [ ]
 binary_eager op.OrOr l r p x y = elim (y refl) [ ]
@@ -80,7 +80,7 @@ size_unary o e = size_rolled (expr.Unary o e) (Expr-F.Unary o e) (expr.rolls-Una
 pub size_binary : (o : Op2) (l r : Expr) → expr_size (expr.Binary o l r) ≡ expr_size l + (expr_size r + binary_size o)
 size_binary o l r = size_rolled (expr.Binary o l r) (Expr-F.Binary o l r) (expr.rolls-Binary o l r)
 
--- a test and the truth of the right side
+-- A test and the truth of the right side
 pub size_lazy : (o : Op2) → (o ≡ op.AndAnd) ⊎ (o ≡ op.OrOr) → binary_size o ≡ 2
 size_lazy o (inl is) = ap binary_size is
 size_lazy o (inr is) = ap binary_size is
@@ -88,14 +88,14 @@ size_lazy o (inr is) = ap binary_size is
 pub size_call : (function : ℕ) (arguments : List Expr) → expr_size (expr.Call function arguments) ≡ total (map expr_size arguments) + 1
 size_call function arguments = size_rolled (expr.Call function arguments) (Expr-F.Call function arguments) (expr.rolls-Call function arguments)
 
--- what stands behind the arguments
+-- What stands behind the arguments
 pub arguments_behind : (operands : List Operand) (behind : List Instr) (p : ℕ) → arguments_code operands behind p ≡ arguments_code operands [] p ++ behind
 arguments_behind [] behind p = refl
 arguments_behind (a ∷ rest) behind p = ap (λ c. a.1 p ++ c) (arguments_behind rest behind (p + expr_size a.0)) ∙ sym (append_assoc (a.1 p) (arguments_code rest [] (p + expr_size a.0)) behind)
 
 -- ---- blocks
 
--- a statement beside its code, and beside its places
+-- A statement beside its code, and beside its places
 abbrev pub part : Layout → Stmt → Part
 part layout s = (s, stmt_code layout s)
 
@@ -194,7 +194,7 @@ size_if test branch = size_of (stmt.If test branch None) (Stmt-F.If test branch 
 pub size_if_else : (test : Expr) (branch other : List Stmt) → stmt_size (stmt.If test branch (Some other)) ≡ expr_size test + 1 + (stmts_size branch + (stmts_size other + 1))
 size_if_else test branch other = size_of (stmt.If test branch (Some other)) (Stmt-F.If test branch (Some other)) (stmt.rolls-If test branch (Some other))
 
--- as far as the second branch, be there one or not
+-- As far as the second branch, be there one or not
 pub size_if_front : (test : Expr) (branch : List Stmt) (other : Option (List Stmt)) → expr_size test + 1 + stmts_size branch ≤ stmt_size (stmt.If test branch other)
 size_if_front test branch None = omega (arith, size_if test branch)
 size_if_front test branch (Some other) = omega (arith, size_if_else test branch other)

@@ -12,7 +12,7 @@ use Rattle.psy_gen.specs.Emission.{base_of}
 use Rattle.psy_gen.proofs.Contexts.{joined}
 use Rattle.psy_gen.proofs.Basics.{some_is, no_some}
 
--- an element in front of others, and behind them
+-- An element in front of others, and behind them
 get-front : (xs ys : List ℤ) (j : ℕ) → j < length xs → slice_get (xs ++ ys) j ≡ Some (slice_index_or xs j (pos 0))
 get-front [] ys j h = absurd (omega (arith, h))
 get-front (x ∷ xs) ys zero h = refl
@@ -22,7 +22,7 @@ get-behind : (xs ys : List ℤ) (j : ℕ) → slice_get (xs ++ ys) (length xs + 
 get-behind [] ys j = let e : 0 + j ≡ j = omega arith in ap (slice_get ys) e
 get-behind (x ∷ xs) ys j = let e : length (x ∷ xs) + j ≡ suc (length xs + j) = omega arith in ap (slice_get (x ∷ (xs ++ ys))) e ∙ get-behind xs ys j
 
--- the cell of a slot, among those of all slots
+-- The cell of a slot, among those of all slots
 cell_by : (slots : List (List ℤ)) (slot c j : ℕ) → slice_get (map length slots) slot ≡ Some c → j < c
     → slice_get (joined slots) (total (take slot (map length slots)) + j) ≡ Some (slice_index_or (slice_index_or slots slot []) j (pos 0))
 cell_by [] slot c j e h = no_some c e
@@ -86,7 +86,7 @@ messages_by (m ∷ rest) (suc stream) e = messages_by rest stream e
 pub messages_are : (sc : Scope) (view : View) (stream : ℕ) → map is_there view.messages ≡ sc.streams → HasStream sc stream → messages_of view stream ≡ Some (messages_at view stream)
 messages_are sc view stream shape e = messages_by view.messages stream (subst (λ l. slice_get l stream ≡ Some true) (sym shape) e)
 
--- a take leaves the streams that are there
+-- A take leaves the streams that are there
 there-set : (all : List (Option (List ℤ))) (stream : ℕ) (m : Option (List ℤ)) → slice_get (map is_there all) stream ≡ Some (is_there m) → map is_there (slice_set all stream m) ≡ map is_there all
 there-set [] stream m e = refl
 there-set (x ∷ rest) zero m e = ap (λ b. b ∷ map is_there rest) (sym (some_is (is_there x) (is_there m) e))

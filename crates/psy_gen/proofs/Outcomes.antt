@@ -153,7 +153,7 @@ count-set (y ∷ ys) (suc i) x = ap suc (count-set ys i x)
 pub keeps_set : (xs : List ℕ) (i x : ℕ) → Keeps i xs (slice_set xs i x)
 keeps_set xs i x = record { count = count-set xs i x; below = λ j h. get-set-below xs i j x h }
 
--- what a guard does, by the counter
+-- What a guard does, by the counter
 abbrev guarded : ℕ → ℕ → ℕ → ℤ → List ℤ → Machine → code.Next
 guarded c bound turns v operands m = if is_zero v then code.onward operands m else (if turns == bound then code.Trapped trap.Loop else code.onward operands (with_counter c ((turns + 1) % 2 ^ 32) m))
 

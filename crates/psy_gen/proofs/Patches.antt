@@ -16,13 +16,13 @@ use Rattle.psy_gen.specs.Emission.{Layout, expr_code, exprs_code, lazy_code, bin
 use Rattle.psy_gen.proofs.Equations.{operand, code_if, code_if_else, code_bounded, code_timed}
 use Rattle.psy_gen.proofs.Lengths.{expr_length, stmt_length, stmts_length}
 
--- what was pushed behind a kept place
+-- What was pushed behind a kept place
 seam : (c1 c2 c3 b : List Instr) (x y : Instr) (at : ℕ) → at ≡ length c1 → c2 ≡ c1 ++ x ∷ [] → c3 ≡ c2 ++ b → slice_set c3 at y ≡ c1 ++ y ∷ b
 seam c1 c2 c3 b x y at m e2 e3 =
     let flat : c3 ≡ c1 ++ x ∷ b = e3 ∙ ap (λ l. l ++ b) e2 ∙ append_assoc c1 (x ∷ []) b in
     ap (λ l. slice_set l at y) flat ∙ ap (λ n. slice_set (c1 ++ x ∷ b) n y) m ∙ set-append_seam c1 x b y
 
--- how long the code is behind an expression, and behind statements
+-- How long the code is behind an expression, and behind statements
 pub behind_expr : (layout : Layout) (e : Expr) (c0 c1 : List Instr) → c1 ≡ c0 ++ expr_code layout e (length c0) → length c1 ≡ length c0 + expr_size e
 behind_expr layout e c0 c1 is = ap length is ∙ length-append c0 (expr_code layout e (length c0)) ∙ ap (λ n. length c0 + n) (expr_length layout e (length c0))
 
@@ -35,7 +35,7 @@ behind_stmt layout s counter c0 c1 is = ap length is ∙ length-append c0 (stmt_
 pub behind_one : (c0 c1 : List Instr) (x : Instr) → c1 ≡ c0 ++ x ∷ [] → length c1 ≡ length c0 + 1
 behind_one c0 c1 x is = ap length is ∙ length-append c0 (x ∷ [])
 
--- what is left of a list, one item on
+-- What is left of a list, one item on
 pub drop_read : {X : Type 0} (xs : List X) (i : ℕ) (x : X) → i < length xs → x ≡ get_or xs i x → drop i xs ≡ x ∷ drop (i + 1) xs
 drop_read xs i x h is = drop_more xs i x h ∙ ap (λ y. y ∷ drop (i + 1) xs) (sym is)
 

@@ -47,7 +47,7 @@ few_cells : (slots : List Slots) → All IsBareSlot slots → cells_in slots ≤
 few_cells [] h = omega arith
 few_cells (s ∷ rest) h = omega (arith, (All-head IsBareSlot s rest h).cells.1, few_cells rest (All-tail IsBareSlot s rest h))
 
--- the cells of those before a slot, and its own
+-- The cells of those before a slot, and its own
 pub cells_through : (slots : List Slots) (i : ℕ) (s : Slots) → i < length slots → s ≡ get_or slots i s → cells_in (take i slots) + s.cells ≤ cells_in slots
 cells_through [] i s h e = absurd (omega (arith, h))
 cells_through (x ∷ slots) zero s h e = omega (arith, ap (λ (y : Slots). y.cells) e)

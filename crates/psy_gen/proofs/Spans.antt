@@ -35,7 +35,7 @@ pub stand_more : (spans : List Span) (b end : ℕ) (s : Span) → StandFrom b sp
 stand_more [] b end s h e = (e ∙ sym h, ap (λ n. n + s.cells) h)
 stand_more (x ∷ spans) b end s h e = (h.0, stand_more spans (b + x.cells) end s h.1 e)
 
--- the cells of all
+-- The cells of all
 pub all_cells : (spans : List Span) (b end : ℕ) → StandFrom b spans end → b + total (widths spans) ≡ end
 all_cells [] b end h = omega (arith, h)
 all_cells (x ∷ spans) b end h = omega (arith, all_cells spans (b + x.cells) end h.1)

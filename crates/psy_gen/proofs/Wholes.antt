@@ -66,7 +66,7 @@ copies_more agent number v rest q0 q1 is =
     ap (λ q. q ++ map copy_init (owned_from agent (number + 1) rest)) is ∙ append_assoc q0 (map copy_init (owned_copy agent number v v.owner)) (map copy_init (owned_from agent (number + 1) rest))
     ∙ ap (λ q. q0 ++ q) (sym (map-append copy_init (owned_copy agent number v v.owner) (owned_from agent (number + 1) rest)))
 
--- the functions' code, and the agents' behind it
+-- The functions' code, and the agents' behind it
 pub code_is : (unit : Whole) (c1 c2 : List Instr) (functions : List FunctionCode) (agents : List AgentCode) → c1 ≡ codes_from function_code function_size unit.functions 0 →
     c2 ≡ c1 ++ codes_from agent_code agent_size unit.agents (length c1) → functions ≡ function_entries unit.functions 0 → agents ≡ agent_entries unit 0 unit.agents (length c1) →
     record { instrs = c2; agents = agents; functions = functions } ≡ code_of unit
@@ -82,7 +82,7 @@ code_size unit =
     let start = functions_size unit.functions in
     omega (arith, length-append (codes_from function_code function_size unit.functions 0) (codes_from agent_code agent_size unit.agents start), codes_length function_code function_size function_length unit.functions 0, codes_length agent_code agent_size agent_length unit.agents start)
 
--- the cells that slots begin with, slot by slot
+-- The cells that slots begin with, slot by slot
 pub cells_is : (slots : List Slots) → flat_map (λ (s : Slots). replicate s.cells s.init) slots ≡ flat_map (λ (cells : List ℤ). cells) (map (λ (s : Slots). replicate s.cells s.init) slots)
 cells_is [] = refl
 cells_is (s ∷ slots) = ap (λ cells. replicate s.cells s.init ++ cells) (cells_is slots)

@@ -1,4 +1,5 @@
 //! The compiler: from a unit to the code that acts as its statements.
+//! It may know trees, code and meaning; no machine.
 #![tactic(auto)]
 
 mod agents;

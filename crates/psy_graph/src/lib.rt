@@ -1,4 +1,5 @@
 //! The action graphs of a program's agents: which actions an agent may start, by point and phase, and which may follow which.
+//! It may know clocks, points and what follows them; statements through psy_flow alone.
 #![tactic(auto)]
 
 mod agents;

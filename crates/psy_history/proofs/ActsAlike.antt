@@ -239,7 +239,7 @@ module _ (pasts others : List (List ℤ)) (Sees : ℕ → Type 0) (agree : (vari
 
 -- ---- actions
 
--- the same, of an agent that is known
+-- The same, of an agent that is known
 acts_from : (unit : Whole) (agent : AgentDecl) (point : ℕ) (carried : Carried) (view other : View) (budget : ℕ) → IsSoundUnit unit → view.messages ≡ other.messages
     → ((variable back : ℕ) → Contains (pasts_in agent.stmts) variable → past_of view variable back ≡ past_of other variable back)
     → acted_by budget carried (act unit.functions (rest agent.stmts point) (begun (store_of agent carried) view)) ≡ acted_by budget carried (act unit.functions (rest agent.stmts point) (begun (store_of agent carried) other))

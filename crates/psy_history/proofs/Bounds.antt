@@ -5,8 +5,9 @@ use Rattle.psy_base.specs.declared.edge.Edge.{Edge}
 use Rattle.psy_base.specs.Paths.{DueBy, FitsDueLast, IsGreatestWeight, IsPathFrom, weight_of}
 use Rattle.psy_meaning.specs.Actions.{Action, Next, System, next_by, next_of}
 use Rattle.psy_meaning.specs.Schedule.{work}
+use Rattle.psy_history.specs.Asked.{Drawn, IsNode, IsStep}
 use Rattle.psy_history.specs.Regular.{IsRegular}
-use Rattle.psy_history.proofs.Edges.{Drawn, IsNode, IsStep, step_in, step_some, step_done}
+use Rattle.psy_history.proofs.Edges.{step_in, step_some, step_done}
 use Rattle.psy_history.proofs.Growth.{next_done}
 use Rattle.psy_history.proofs.PathShifts.{due_front, due_moved}
 

@@ -1,23 +1,17 @@
 -- The edges of the graphs of a system's agents.
-use Rattle.std.proofs.Common.{◌≡◌, ℕ, ◌+◌, ◌-◌, ◌<◌, List, [], length, get_or, slice_get, Some, refl, sym, ap, ◌∙◌, subst, arith}
+use Rattle.std.proofs.Common.{◌≡◌, ℕ, ◌+◌, ◌-◌, ◌<◌, List, [], length, get_or, Some, refl, sym, ap, ◌∙◌, subst, arith}
 use Rattle.std.specs.List.{Contains}
 use Rattle.std.proofs.lemmas.Option.{slice_get-get_or, slice_get_within}
 use Rattle.psy_base.specs.declared.edge.Edge.{Edge}
 use Rattle.psy_meaning.specs.Actions.{Action, Done, System, timing}
-use Rattle.psy_meaning.specs.Graph.{Spot, IsEdgeOf, IsGraph, spot_at}
+use Rattle.psy_meaning.specs.Graph.{spot_at}
 use Rattle.psy_meaning.specs.Timing.{MayStart, end_date, following, later}
+use Rattle.psy_history.specs.Asked.{Drawn, IsNode, IsStep}
 use Rattle.psy_history.specs.Compiled.{AreEdgesOf}
 use Rattle.psy_history.specs.Regular.{IsRegular}
 use Rattle.psy_history.proofs.Deadlines.{deadline_least, some_follows}
 
 -- ---- graphs
-
--- The graph of an agent, with what its nodes stand for
-pub record Drawn (s : System) (graphs : List (List Edge)) (agent : ℕ) : Type 0 where
-  pub edges : List Edge
-  pub at : slice_get graphs agent ≡ Some edges
-  pub spots : List Spot
-  pub graph : IsGraph (timing s agent) spots edges
 
 pub drawn_of : (s : System) (graphs : List (List Edge)) → AreEdgesOf s graphs → (agent : ℕ) → agent < length s.unit.agents → Drawn s graphs agent
 drawn_of s graphs are agent known =
@@ -29,22 +23,14 @@ pub drawn_within : (s : System) (graphs : List (List Edge)) (agent : ℕ) → Dr
 drawn_within s graphs agent g = slice_get_within graphs agent g.edges g.at
 
 module _ (s : System) (graphs : List (List Edge)) (agent : ℕ) (g : Drawn s graphs agent) where
-  -- The node of this number is that of a point and a date.
-  abbrev pub IsNode : ℕ → ℕ → ℕ → Type 0
-  IsNode point start node = slice_get g.spots node ≡ Some (spot_at g.graph.cycle point start)
-
-  -- The edge of an action that starts there and then, and reaches a point
-  abbrev pub IsStep : ℕ → ℕ → ℕ → Edge → Type 0
-  IsStep point start to e = IsEdgeOf (timing s agent) g.graph.cycle g.spots point start to e
-
-  pub node_of : (point start : ℕ) → MayStart (timing s agent) point start → (node : ℕ) × IsNode point start node
+  pub node_of : (point start : ℕ) → MayStart (timing s agent) point start → (node : ℕ) × IsNode s graphs agent g point start node
   node_of point start may =
       let spot = spot_at g.graph.cycle point start in
       let (k, l, e) = (g.graph.nodes.all spot).1 (start, may, refl) in
       (k, slice_get-get_or g.spots k spot l ∙ ap Some e)
 
   -- An action has an edge to each node of a point that may follow its own.
-  step_to : (r : Action) → IsRegular s agent r → (to node : ℕ) → Contains (following (timing s agent) r.point) to → IsNode to (end_date (timing s agent) r.start to) node → (e : Edge) × IsStep r.point r.start to e × (e.to ≡ node)
+  step_to : (r : Action) → IsRegular s agent r → (to node : ℕ) → Contains (following (timing s agent) r.point) to → IsNode s graphs agent g to (end_date (timing s agent) r.start to) node → (e : Edge) × IsStep s graphs agent g r.point r.start to e × (e.to ≡ node)
   step_to r regular to node follows into =
       let t = timing s agent in
       let from = node_of r.point r.start regular.starts in
@@ -69,7 +55,7 @@ module _ (s : System) (graphs : List (List Edge)) (agent : ℕ) (g : Drawn s gra
       )
 
   -- So it has one.
-  pub step_some : (r : Action) → IsRegular s agent r → (to : ℕ) × (e : Edge) × IsStep r.point r.start to e
+  pub step_some : (r : Action) → IsRegular s agent r → (to : ℕ) × (e : Edge) × IsStep s graphs agent g r.point r.start to e
   step_some r regular =
       let t = timing s agent in
       let one = some_follows t r.point r.start (omega (arith, regular.due, regular.deadline)) in
@@ -77,12 +63,12 @@ module _ (s : System) (graphs : List (List Edge)) (agent : ℕ) (g : Drawn s gra
       let step = step_to r regular one.0 into.0 one.1 into.1 in
       (one.0, step.0, step.1)
 
-  pub step_in : (point start to : ℕ) (e : Edge) → IsStep point start to e → Contains g.edges e
+  pub step_in : (point start to : ℕ) (e : Edge) → IsStep s graphs agent g point start to e → Contains g.edges e
   step_in point start to e step = (g.graph.links.all e).1 (point, start, to, step)
 
   -- Where the action reached a point, it has an edge to each node of where the next one starts.
-  pub step_done : (r : Action) → IsRegular s agent r → (point end node : ℕ) → r.verdict ≡ Done point end → IsNode point end node → (e : Edge) × IsStep r.point r.start point e × (e.to ≡ node) × (r.start + e.len ≡ end)
+  pub step_done : (r : Action) → IsRegular s agent r → (point end node : ℕ) → r.verdict ≡ Done point end → IsNode s graphs agent g point end node → (e : Edge) × IsStep s graphs agent g r.point r.start point e × (e.to ≡ node) × (r.start + e.len ≡ end)
   step_done r regular point end node done into =
       let ends = regular.ends point end done in
-      let step = step_to r regular point node ends.0 (subst (λ n. IsNode point n node) ends.1 into) in
+      let step = step_to r regular point node ends.0 (subst (λ n. IsNode s graphs agent g point n node) ends.1 into) in
       (step.0, step.1, step.2, step.1.len ∙ sym ends.1)

@@ -62,11 +62,17 @@ module _ (s : System) (order : ℕ → List ℕ) (lawful : IsLawful s) (dates ag
       kept_on (λ n. IsFinished s order n r × (finish r.agent r.number (turns_of s order n) ≡ finish r.agent r.number (turns_of s order cycles)))
       (λ n h. let other = another n h.0 in (rw other h.0, rw other h.1)) cycles more later (finished, refl)
 
+-- By its deadline it is finished, whenever that is looked at,
+pub finished_in_time : (s : System) (order : ℕ → List ℕ) (until dates agent : ℕ) (r : Action) → IsSupplied s order until → Contains (history s dates agent) r → r.deadline ≤ until → IsFinished s order (r.deadline * s.unit.quantum) r
+finished_in_time s order until dates agent r supplied there due =
+    let its : IsRegular s agent r = All-contains (IsRegular s agent) (history s dates agent) r (supplied.lawful.actions dates agent).each there in
+    let begun = stays_started s (suc r.start) r.deadline agent r its.due (started_by s dates agent r there) in
+    due_finished s order until supplied r.deadline agent r due begun (omega arith)
+
+-- and the cycle behind its last one is no later.
 pub finishes_in_time : (s : System) (order : ℕ → List ℕ) (until cycles agent : ℕ) (r : Action) → IsSupplied s order until → until * s.unit.quantum ≤ cycles → Contains (history s until agent) r → r.deadline ≤ until → finish r.agent r.number (turns_of s order cycles) ≤ r.deadline * s.unit.quantum
 finishes_in_time s order until cycles agent r supplied far there due =
-    let its : IsRegular s agent r = All-contains (IsRegular s agent) (history s until agent) r (supplied.lawful.actions until agent).each there in
-    let begun = stays_started s (suc r.start) r.deadline agent r its.due (started_by s until agent r there) in
-    let finished = due_finished s order until supplied r.deadline agent r due begun (omega arith) in
+    let finished = finished_in_time s order until until agent r supplied there due in
     let early = mul-le r.deadline s.unit.quantum until s.unit.quantum due (omega arith) in
     let kept = (finish_kept s order supplied.lawful until agent r there (r.deadline * s.unit.quantum) cycles (omega (arith, early, far)) finished).1 in
     let most = finish_most r.agent r.number (turns_of s order (r.deadline * s.unit.quantum)) in

@@ -15,7 +15,7 @@ use Rattle.psy_history.proofs.Members.{contains_behind}
 
 -- ---- the next action
 
--- at date 0 it is the first one of an agent that there is
+-- At date 0 it is the first one of an agent that there is
 pub opens_with : (unit : Whole) (nexts : List (List (List ℕ))) (executor : Executor) (stalls : ℕ → List Stall) (inputs : List (List ℤ)) (agent : ℕ) (n : Next) → (from_start unit nexts executor stalls inputs).opening.starts agent ≡ Some n
     → (agent < length unit.agents) × (first_action unit nexts executor agent ≡ n)
 opens_with unit nexts executor stalls inputs agent n e = from (slice_get unit.agents agent) refl e
@@ -24,7 +24,7 @@ opens_with unit nexts executor stalls inputs agent n e = from (slice_get unit.ag
     from None at h = absurd (none-some n h)
     from (Some a) at h = (slice_get_within unit.agents agent a at, same_Some (first_action unit nexts executor agent) n h)
 
--- only an action that is done is followed by another
+-- Only an action that is done is followed by another
 pub next_done : (number : ℕ) (carried : Carried) (verdict : Verdict) (n : Next) → next_by number carried verdict ≡ Some n → (verdict ≡ Done n.point n.start) × (n.number ≡ number + 1) × (n.carried ≡ carried)
 next_done number carried (Done point end) n e =
     let is = same_Some _ n e in
@@ -70,7 +70,7 @@ one_date_more s date agent r c = elim (grown s date agent) [
   | inr (n, next, at, more) ↦ subst (λ xs. Contains xs r) (sym more) (contains_behind (action_of s (history s date) agent n) (history s date agent) r c)
 ]
 
--- what a step keeps, more steps keep
+-- What a step keeps, more steps keep
 pub kept_on : (P : ℕ → Type 0) → ((n : ℕ) → P n → P (suc n)) → (some more : ℕ) → some ≤ more → P some → P more
 kept_on P step some zero l h = (let same : some ≡ 0 = omega (arith, l) in subst P same h)
 kept_on P step some (suc more) l h = elim (cases_lt more some) [
@@ -78,6 +78,6 @@ kept_on P step some (suc more) l h = elim (cases_lt more some) [
   | inr below ↦ step more (kept_on P step some more below h)
 ]
 
--- an action that was started stays
+-- An action that was started stays
 pub stays_started : (s : System) (date later agent : ℕ) (r : Action) → date ≤ later → Contains (history s date agent) r → Contains (history s later agent) r
 stays_started s date later agent r l c = kept_on (λ n. Contains (history s n agent) r) (λ n. one_date_more s n agent r) date later l c

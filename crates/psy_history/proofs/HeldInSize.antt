@@ -24,7 +24,7 @@ use Rattle.psy_history.proofs.SentMessages.{AreClockLaws, HasStreams, contains_m
 
 -- ---- all agents
 
--- one number more, behind the others
+-- One number more, behind the others
 range_more : (a n : ℕ) → range_with_len a (suc n) ≡ range_with_len a n ++ (a + n) ∷ []
 range_more a zero = (let same : a ≡ a + 0 = omega arith in ap (λ k. k ∷ []) same)
 range_more a (suc n) = (let same : (a + 1) + n ≡ a + suc n = omega arith in ap (λ ks. a ∷ ks) (range_more (a + 1) n ∙ ap (λ k. range_with_len (a + 1) n ++ k ∷ []) same))

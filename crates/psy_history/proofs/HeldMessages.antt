@@ -35,7 +35,7 @@ in_view stream date actions m e =
     let rest = and_parts (nat_lt date m.expiry) (is_untaken stream date actions m) visible.1 in
     record { entered = leb-true m.entry date entered.0; visible = leb-true m.visible date visible.0; fresh = rest.0; untaken = rest.1 }
 
--- and so much passes the test.
+-- And so much passes the test.
 pub from_view : (stream date : ℕ) (actions : List Action) (m : Message) → InView stream date actions m → is_in_view stream date actions m ≡ true
 from_view stream date actions m is =
     and_from (nat_le m.entry date) (nat_le m.visible date && (nat_lt date m.expiry && is_untaken stream date actions m)) (le-leb m.entry date is.entered)

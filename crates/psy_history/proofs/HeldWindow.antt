@@ -26,7 +26,7 @@ use Rattle.psy_history.proofs.Timings.{every_tick}
 
 -- ---- the greatest of some numbers
 
--- none is greater
+-- None is greater
 pub most_above : (numbers : List ℕ) (n : ℕ) → Contains numbers n → n ≤ most_of numbers
 most_above [] n c = absurd (contains_none n c)
 most_above (first ∷ numbers) n c = elim (front_or_behind first numbers n c) [
@@ -34,7 +34,7 @@ most_above (first ∷ numbers) n c = elim (front_or_behind first numbers n c) [
   | inr there ↦ omega (arith, most_above numbers n there)
 ]
 
--- where none is greater than a bound, neither is it
+-- Where none is greater than a bound, neither is it
 pub most_below : (numbers : List ℕ) (bound : ℕ) → All (λ n. n ≤ bound) numbers → most_of numbers ≤ bound
 most_below [] bound all = omega arith
 most_below (first ∷ numbers) bound all = omega (arith, All-head (λ n. n ≤ bound) first numbers all, most_below numbers bound (All-tail (λ n. n ≤ bound) first numbers all))

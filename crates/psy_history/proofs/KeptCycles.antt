@@ -7,8 +7,9 @@ use Rattle.std.proofs.lemmas.List.Elements.{All-contains, All-head}
 use Rattle.psy_base.specs.declared.edge.Edge.{Edge}
 use Rattle.psy_meaning.specs.Actions.{Action, History, System}
 use Rattle.psy_meaning.specs.Schedule.{Turn, pending, soonest, turn_of, units, work}
+use Rattle.psy_history.specs.Asked.{Drawn}
 use Rattle.psy_history.specs.Regular.{IsRegular}
-use Rattle.psy_history.proofs.Edges.{Drawn, drawn_within}
+use Rattle.psy_history.proofs.Edges.{drawn_within}
 use Rattle.psy_history.proofs.Bounds.{Covered, covered_some, covered_unit}
 use Rattle.psy_history.proofs.Totals.{total, total_less}
 use Rattle.psy_history.proofs.Members.{contains_none, front_or_behind}

@@ -1,4 +1,4 @@
--- What is due by a date is finished by then.
+-- What is due by a date is finished by then, and what is kept at each cycle.
 use Rattle.std.proofs.Common.{◌≡◌, ℕ, zero, suc, ◌+◌, ◌-◌, ◌*◌, ◌/◌, ◌<◌, ◌≤◌, List, [], ◌∷◌, drop, length, Option, refl, sym, ap, ◌∙◌, subst, inl, inr, arith}
 use Rattle.std.specs.List.{All, Contains}
 use Rattle.std.proofs.lemmas.Bool.{cases_lt, le-ltb}
@@ -7,9 +7,10 @@ use Rattle.std.proofs.lemmas.Nat.{div-mul-add}
 use Rattle.psy_meaning.specs.Actions.{Action, History, System}
 use Rattle.psy_meaning.specs.History.{action_of, history}
 use Rattle.psy_meaning.specs.Schedule.{Turn, pending, soonest, turn_of, units, work}
+use Rattle.psy_history.specs.Asked.{Drawn}
 use Rattle.psy_history.specs.Regular.{IsRegular}
 use Rattle.psy_history.specs.Scheduled.{IsFinished, IsSupplied, turns_of}
-use Rattle.psy_history.proofs.Edges.{Drawn, drawn_of, drawn_within}
+use Rattle.psy_history.proofs.Edges.{drawn_of, drawn_within}
 use Rattle.psy_history.proofs.Bounds.{Rests, RestsBy, covered_quiet, covered_some, covered_start}
 use Rattle.psy_history.proofs.Totals.{demand_total, total_above}
 use Rattle.psy_history.proofs.Growth.{IsGrown, grown}
@@ -18,7 +19,7 @@ use Rattle.psy_history.proofs.Turns.{units_rise}
 use Rattle.psy_history.proofs.NextStarts.{ends_before, next_late, older_due, regular_head}
 use Rattle.psy_history.proofs.KeptCycles.{Bounded, Covers, IsCovered, Older, Quiet, had_of, kept_cycle, last_of}
 
-rests_of : (turns : List (Option Turn)) (actions : List Action) → ((r : Action) → Contains actions r → work r ≤ units r.agent r.number turns) → Rests (had_of turns actions) actions
+pub rests_of : (turns : List (Option Turn)) (actions : List Action) → ((r : Action) → Contains actions r → work r ≤ units r.agent r.number turns) → Rests (had_of turns actions) actions
 rests_of turns [] done = tt {0}
 rests_of turns (r ∷ before) done = done r (contains_front r before)
 
@@ -132,18 +133,23 @@ module _ (s : System) (order : ℕ → List ℕ) (until : ℕ) (supplied : IsSup
       let next : first + suc n ≡ suc cycle = omega arith in
       subst (λ c. IsCovered s supplied.graphs by c (at c) (history s (suc date))) (sym next) turns
 
+  -- What is kept when so many cycles of a tick are done
+  pub older_in : (date n : ℕ) → date ≤ until → Kept date → Older (at (date * s.unit.quantum + n)) (history s (suc date))
+  older_in date n early kept = (let first = date * s.unit.quantum in older_later first (first + n) (history s (suc date)) (omega arith) (older_date date (quiet_at date early kept)))
+
+  pub covered_in : (date by n : ℕ) → n ≤ s.unit.quantum → date < by → by ≤ until → Kept date → IsCovered s supplied.graphs by (date * s.unit.quantum + n) (at (date * s.unit.quantum + n)) (history s (suc date))
+  covered_in date by n few late early kept =
+      let quiet = quiet_at date (omega (arith, late, early)) kept in
+      let bounded = covered_date date by (date * s.unit.quantum) quiet (bounded_at date by late early kept) in
+      kept_cycles date by (date * s.unit.quantum) n refl few (older_date date quiet) (inr bounded)
+
   kept_date : (date : ℕ) → date < until → Kept date → Kept (suc date)
   kept_date date early kept =
-      let quiet = quiet_at date (omega (arith, early)) kept in
-      let first = date * s.unit.quantum in
-      let older = older_date date quiet in
-      let next : first + s.unit.quantum ≡ suc date * s.unit.quantum = omega arith in
+      let next : date * s.unit.quantum + s.unit.quantum ≡ suc date * s.unit.quantum = omega arith in
       record {
-        older = older_later first (suc date * s.unit.quantum) (history s (suc date)) (omega (arith, next)) older;
-        covered = λ by late soon.
-            let bounded = covered_date date by first quiet (bounded_at date by (omega (arith, late)) soon kept) in
-            let covered = kept_cycles date by first s.unit.quantum refl (omega arith) older (inr bounded) in
-            subst (λ c. IsCovered s supplied.graphs by c (at c) (history s (suc date))) next covered;
+        older = subst (λ c. Older (at c) (history s (suc date))) next (older_in date s.unit.quantum (omega (arith, early)) kept);
+        covered = λ by late soon. subst (λ c. IsCovered s supplied.graphs by c (at c) (history s (suc date))) next
+            (covered_in date by s.unit.quantum (omega arith) (omega (arith, late)) soon kept);
       }
 
   pub kept : (date : ℕ) → date ≤ until → Kept date

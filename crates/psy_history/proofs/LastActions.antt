@@ -43,7 +43,7 @@ ended_by by x e = of x.verdict e
     of (Trapped kind) t = absurd cc
     of Overran t = absurd cc
 
--- and one that ended is done by each later date.
+-- And one that ended is done by each later date.
 pub done_by : (by later : ℕ) (x : Action) → by ≤ later → EndedBy by x → is_done_by later x.verdict ≡ true
 done_by by later x l (point, end, is, early) = ap (is_done_by later) is ∙ le-leb end later (omega (arith, early, l))
 
@@ -66,7 +66,7 @@ done_before s dates agent (r ∷ before) (was, were) all n is x c =
 abbrev pub EndsBefore : Action → Action → Type 0
 EndsBefore later earlier = EndedBy later.start earlier
 
--- one behind the other, along the list
+-- One behind the other, along the list
 ordered_by : (s : System) (dates agent : ℕ) (actions : List Action) → WereStarted s dates agent actions → All (IsRegular s agent) actions → AllPairs EndsBefore actions
 ordered_by s dates agent [] were all = λ i j d less within. absurd (omega (arith, within))
 ordered_by s dates agent (r ∷ before) (was, were) all =

@@ -1,6 +1,7 @@
 -- The lemmas of this crate, by subject.
 mod ActionSends
 mod ActsAlike
+mod Asking
 mod Bounds
 mod ClockDates
 mod CodeHistories

@@ -64,7 +64,7 @@ module _ (f g : Action → Bool) (same : (r q : Action) → IsLike r q → f r �
   pub filter_like : (rs qs : List Action) → AreLike rs qs → AreLike (filter f rs) (filter g qs)
   filter_like = by_pairs (λ rs qs. AreLike (filter f rs) (filter g qs)) tt (λ r q rs qs one others rest. rw (same r q one) (kept_like (g q) r q (filter f rs) (filter g qs) one rest))
 
--- only actions of the list need give the same
+-- Only actions of the list need give the same
 pub flat_map_like : {X : Type 0} (f g : Action → List X) (rs qs : List Action) → ((r q : Action) → Contains qs q → IsLike r q → f r ≡ g q) → AreLike rs qs → flat_map f rs ≡ flat_map g qs
 flat_map_like f g [] [] same h = refl
 flat_map_like f g [] (q ∷ qs) same h = absurd h

@@ -62,7 +62,7 @@ all_members P xs each = All-weaker (Contains xs) P each xs (All-contains_itself 
 pub all_flat_map : {X Y : Type 0} (P : Y → Type 0) (f : X → List Y) (xs : List X) → ((x : X) → Contains xs x → All P (f x)) → All P (flat_map f xs)
 all_flat_map P f xs each = all_members P (flat_map f xs) (λ y c. let (x, there, within) = flat_map_from f xs y c in All-contains P (f x) y (each x there) within)
 
--- also past the end, where the default has it
+-- Also past the end, where the default has it
 pub get_or_holds : {X : Type 0} (P : X → Type 0) (xs : List X) (i : ℕ) (d : X) → P d → All P xs → P (get_or xs i d)
 get_or_holds P [] i d h all = h
 get_or_holds P (x ∷ xs) zero d h all = All-head P x xs all

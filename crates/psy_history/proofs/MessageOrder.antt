@@ -106,11 +106,11 @@ pub same_from : (m n : Message) → m.visible ≡ n.visible → m.entry ≡ n.en
 same_from m n a b c d =
     and_from (m.visible == n.visible) _ (eq-eqb m.visible n.visible a) (and_from (m.entry == n.entry) _ (eq-eqb m.entry n.entry b) (and_from (m.sender == n.sender) _ (eq-eqb m.sender n.sender c) (eq-eqb m.number n.number d)))
 
--- so each is the same as itself,
+-- So each is the same as itself,
 pub same_self : (m : Message) → is_same m m ≡ true
 same_self m = same_from m m refl refl refl refl
 
--- and two that differ do so either way.
+-- And two that differ do so either way.
 pub differs_back : (m n : Message) → is_same m n ≡ false → is_same n m ≡ false
 differs_back m n h = elim (cases_Bool (is_same n m)) [
   | inl same ↦ (
@@ -126,7 +126,7 @@ differs_back m n h = elim (cases_Bool (is_same n m)) [
 pub pairs_tail : {X : Type 0} (R : X → X → Type 0) (x : X) (xs : List X) → AllPairs R (x ∷ xs) → AllPairs R xs
 pairs_tail R x xs pairs i j d less small = pairs (suc i) (suc j) d (omega (arith, less)) (omega (arith, small))
 
--- and of the first one and each behind it.
+-- And of the first one and each behind it.
 pub pairs_head : {X : Type 0} (R : X → X → Type 0) (x : X) (xs : List X) → AllPairs R (x ∷ xs) → All (R x) xs
 pairs_head R x xs pairs k d small = pairs 0 (suc k) d (omega arith) (omega (arith, small))
 
@@ -138,7 +138,7 @@ pairs_none R i j d less small = absurd (omega (arith, small))
 pub strict_tail : (m : Message) (ms : List Message) → strictly (m ∷ ms) → strictly ms
 strict_tail m ms strict = pairs_tail (λ x y. comes_before x y ≡ true) m ms strict
 
--- which comes before all others.
+-- Which comes before all others.
 pub strict_head : (m : Message) (ms : List Message) → strictly (m ∷ ms) → All (λ n. comes_before m n ≡ true) ms
 strict_head m ms strict = pairs_head (λ x y. comes_before x y ≡ true) m ms strict
 
@@ -154,7 +154,7 @@ strict_in_order ms strict i j d less small = before_one_way (get_or ms i d) (get
 pub strictly_filter : (p : Message → Bool) (ms : List Message) → strictly ms → strictly (filter p ms)
 strictly_filter p ms strict = AllPairs-filter (λ x y. comes_before x y ≡ true) p ms strict
 
--- and where the first are gone.
+-- And where the first are gone.
 pub strictly_drop : (n : ℕ) (ms : List Message) → strictly ms → strictly (drop n ms)
 strictly_drop zero ms strict = strict
 strictly_drop (suc n) [] strict = strict
@@ -163,7 +163,7 @@ strictly_drop (suc n) (m ∷ ms) strict = strictly_drop n ms (strict_tail m ms s
 head_before : (m : Message) (ms : List Message) (n : Message) → strictly (m ∷ ms) → Contains ms n → comes_before m n ≡ true
 head_before m ms n strict c = All-contains (λ x. comes_before m x ≡ true) ms n (strict_head m ms strict) c
 
--- the first one stands nowhere else
+-- The first one stands nowhere else
 head_once : (m : Message) (ms : List Message) → strictly (m ∷ ms) → Contains ms m → ⊥
 head_once m ms strict c =
     let before = head_before m ms m strict c in

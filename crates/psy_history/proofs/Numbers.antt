@@ -36,13 +36,13 @@ same_number s dates agent (p ∷ before) r q (was, were) c d e = elim (front_or_
   ]
 ]
 
--- those that were started by a date were by the next one
+-- Those that were started by a date were by the next one
 were_later : (s : System) (date agent : ℕ) (actions : List Action) → WereStarted s date agent actions → WereStarted s (suc date) agent actions
 were_later s date agent [] were = were
 were_later s date agent (r ∷ before) (was, were) =
     (record { next = was.next; is_next = was.is_next; at = omega (arith, was.at); made = was.made; number = was.number }, were_later s date agent before were)
 
--- no more than one starts a date
+-- No more than one starts a date
 pub few : (s : System) (dates agent : ℕ) → length (history s dates agent) ≤ dates
 few s = at_each_date s (λ dates agent actions. length actions ≤ dates) (λ agent. omega arith) (λ date agent actions few. omega (arith, few)) (λ date agent n few next at. omega (arith, few agent))
 

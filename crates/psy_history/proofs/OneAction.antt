@@ -26,7 +26,7 @@ AreWithin budget a b = (a ≡ b) ⊎ ArePast budget a b
 
 -- ---- a run that ends as the statements do
 
--- a run that is over took an instruction
+-- A run that is over took an instruction
 pub some_steps : (code : Code) (its : AgentCode) (s t : RunState) (n : ℕ) → IsOver (run_code code its s n) t → 1 ≤ n
 some_steps code its s t zero over = absurd over
 some_steps code its s t (suc n) over = omega arith

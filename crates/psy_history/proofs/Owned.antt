@@ -39,7 +39,7 @@ owned_found number k zero (w ∷ vs) v at e =
 owned_found number k (suc i) (w ∷ vs) v at e =
     subst (λ n. IsSome (copy_of n (owned_from number k (w ∷ vs)))) (omega arith) (found_behind (k + 1 + i) (owned_copy number k w w.owner) (owned_from number (k + 1) vs) (owned_found number (k + 1) i vs v at e))
 
--- an agent's copies have each variable that it owns
+-- An agent's copies have each variable that it owns
 pub has_copy : (unit : Whole) (number variable : ℕ) (v : VarDecl) (copies : List Copy) → slice_get unit.variables variable ≡ Some v → v.owner ≡ Some number → map (λ c. c.variable) copies ≡ map (λ c. c.variable) (first_copies unit number) → IsSome (copy_of variable copies)
 has_copy unit number variable v copies at owns same =
     let found = subst (λ n. IsSome (copy_of n (first_copies unit number))) (omega arith) (owned_found number 0 variable unit.variables v at owns) in

@@ -11,7 +11,7 @@ use Rattle.psy_history.proofs.Members.{contains_behind, contains_front, filter_f
 
 -- ---- two tests
 
--- none does, where none of the elements may
+-- None does, where none of the elements may
 pub filter_none : {X : Type 0} (p : X → Bool) (xs : List X) → ((x : X) → Contains xs x → p x ≡ true → ⊥) → length (filter p xs) ≡ 0
 filter_none {X = X} p xs none = from (filter p xs) (λ x c. filter_from p xs x c)
   where
@@ -19,7 +19,7 @@ filter_none {X = X} p xs none = from (filter p xs) (λ x c. filter_from p xs x c
     from [] within = refl
     from (y ∷ ys) within = (let (there, passes) = within y (contains_front y ys) in absurd (none y there passes))
 
--- no more than pass another, where each that passes this one does
+-- No more than pass another, where each that passes this one does
 pub filter_fewer : {X : Type 0} (p q : X → Bool) (xs : List X) → ((x : X) → Contains xs x → p x ≡ true → q x ≡ true) → length (filter p xs) ≤ length (filter q xs)
 filter_fewer p q [] weaker = omega arith
 filter_fewer p q (x ∷ xs) weaker =

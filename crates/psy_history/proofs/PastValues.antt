@@ -15,7 +15,7 @@ use Rattle.psy_history.proofs.NextStarts.{regular_head}
 abbrev pub value_back : System → History → ℕ → ℕ → ℕ → ℤ
 value_back s h variable counted back = if nat_lt back counted then published s h variable (date (publishing s variable) (counted - 1 - back)) else (variable_of s variable).init
 
--- an action that ends after a date commits nothing by it
+-- An action that ends after a date commits nothing by it
 ends_later : (variable by : ℕ) (carried : Carried) (earlier : ℤ) (verdict : Verdict) → ((point end : ℕ) → verdict ≡ Done point end → by < end) → commit variable by carried earlier verdict ≡ earlier
 ends_later variable by carried earlier (Done point end) late = cond-false (nat_le end by) _ _ (lt-leb end by (late point end refl))
 ends_later variable by carried earlier (Trapped kind) late = refl

@@ -35,13 +35,13 @@ use Rattle.psy_history.proofs.Regulars.{AreLaws}
 use Rattle.psy_history.proofs.Sights.{SeesAs, sees_as, there_found}
 use Rattle.psy_history.proofs.Stores.{IsOwn, ends_alike, of_code, of_unit}
 
--- what stands in a list for what was made of it
+-- What stands in a list for what was made of it
 made_of : {X Y : Type 0} (f : X → Y) (xs : List X) (i : ℕ) (y : Y) → slice_get (map f xs) i ≡ Some y → (x : X) × (slice_get xs i ≡ Some x) × (f x ≡ y)
 made_of f [] i y at = absurd (none-some y at)
 made_of f (x ∷ xs) zero y at = (x, refl, same_Some (f x) y at)
 made_of f (x ∷ xs) (suc i) y at = made_of f xs i y at
 
--- the state of an action that is over
+-- The state of an action that is over
 abbrev pub state_in : Final → State
 state_in (by.Ended point t) = t
 state_in (by.Trapped kind t) = t

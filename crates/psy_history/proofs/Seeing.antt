@@ -26,7 +26,7 @@ use Rattle.psy_history.proofs.Members.{all_flat_map, get_or_holds}
 
 -- ---- lists
 
--- what is made of each number of a list is what is made of its elements
+-- What is made of each number of a list is what is made of its elements
 by_number : {X Y : Type 0} (f : ℕ → Y) (g : X → Y) (d : X) (xs : List X) → ((i : ℕ) → f i ≡ g (get_or xs i d)) → map f (range_with_len 0 (length xs)) ≡ map g xs
 by_number f g d xs same = sym (fill_by_all f (map g xs) (length xs) (g d) (length-map xs g) (λ i l. get_or-map g xs i d (g d) l ∙ sym (same i)))
 

@@ -14,8 +14,9 @@ use Rattle.psy_meaning.specs.Flow.{HasSends}
 use Rattle.psy_meaning.specs.Graph.{Spot, IsGraph, spot_at}
 use Rattle.psy_meaning.specs.QueueSizes.{AreSendEdges}
 use Rattle.psy_meaning.specs.Timing.{MayStart, end_date}
+use Rattle.psy_history.specs.Asked.{Drawn}
 use Rattle.psy_history.specs.Regular.{IsRegular}
-use Rattle.psy_history.proofs.Edges.{Drawn, node_of, step_done, step_in}
+use Rattle.psy_history.proofs.Edges.{node_of, step_done, step_in}
 use Rattle.psy_history.proofs.SendEdges.{sent_edge, single_weight, uncut}
 
 -- How many messages an action sends to a stream

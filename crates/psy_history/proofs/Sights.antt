@@ -22,7 +22,7 @@ there_after [] stream = refl
 there_after (m ∷ messages) zero = ap (λ b. b ∷ map is_there messages) (there_still m)
 there_after (m ∷ messages) (suc stream) = ap (λ bs. is_there m ∷ bs) (there_after messages stream)
 
--- a stream whose messages are found is one of those that are there
+-- A stream whose messages are found is one of those that are there
 pub there_found : (messages : List (Option (List ℤ))) (stream : ℕ) → IsSome (found_in (slice_get messages stream) (λ m. m)) → slice_get (map is_there messages) stream ≡ Some true
 there_found [] stream some = cc
 there_found (None ∷ messages) zero some = cc

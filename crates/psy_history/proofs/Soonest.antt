@@ -57,6 +57,6 @@ units_more agent number turn turns = elim (cases_Bool (is_of agent number turn))
 pub units_own : (r : Action) (turns : List (Option Turn)) → units r.agent r.number (turn_of (Some r) ∷ turns) ≡ suc (units r.agent r.number turns)
 units_own r turns = rw (eq-eqb r.agent r.agent refl, eq-eqb r.number r.number refl) refl
 
--- and none of another agent's.
+-- And none of another agent's.
 pub units_other : (r : Action) (agent number : ℕ) (turns : List (Option Turn)) → (r.agent ≡ agent → ⊥) → units agent number (turn_of (Some r) ∷ turns) ≡ units agent number turns
 units_other r agent number turns other = rw (ne_eqb r.agent agent other) refl

@@ -28,7 +28,7 @@ use Rattle.psy_history.proofs.Stores.{AreStoreLaws, Carries, EndsAlike, IsOwn, I
 
 -- ---- verdicts
 
--- one that is done reached the point, whose date is its end
+-- One that is done reached the point, whose date is its end
 done_by : (times : Timing) (start : ℕ) (f : Fate) (p e : ℕ) → verdict_by times start f ≡ Done p e → (f ≡ Reached p) × (e ≡ end_date times start p)
 done_by times start (Reached q) p e h = (cc, cc)
 done_by times start (fate.Trapped kind) p e h = absurd cc

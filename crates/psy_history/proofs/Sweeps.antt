@@ -43,7 +43,7 @@ loud_earlier d (r ∷ before) loud = elim (and_cases (not (is_done r.verdict)) (
     sooner : (n : ℕ) → nat_le n (suc d) ≡ false → nat_le n d ≡ false
     sooner n late = grind (arith, nat_tests)
 
--- and its streams were last rid of what had expired where they were a date before.
+-- And its streams were last rid of what had expired where they were a date before.
 pub loud_swept : (d : ℕ) (actions : List Action) → is_silent (suc d) actions ≡ false → swept (suc d) actions ≡ swept d actions
 loud_swept d [] loud = refl
 loud_swept d (r ∷ before) loud = ap (λ b. Some (if b then suc d else r.start)) loud ∙ sym (ap (λ b. Some (if b then d else r.start)) (loud_earlier d (r ∷ before) loud))
@@ -53,7 +53,7 @@ pub silent_swept : (date : ℕ) (actions : List Action) → is_silent date actio
 silent_swept date [] silent = absurd cc
 silent_swept date (r ∷ before) silent = ap (λ b. Some (if b then date else r.start)) silent
 
--- and at each of its starts.
+-- And at each of its starts.
 pub start_swept : (date : ℕ) (r : Action) (before : List Action) → r.start ≡ date → swept date (r ∷ before) ≡ Some date
 start_swept date r before at = elim (cases_Bool (is_silent date (r ∷ before))) [
   | inl silent ↦ silent_swept date (r ∷ before) silent

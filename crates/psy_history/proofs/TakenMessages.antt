@@ -18,7 +18,7 @@ pub list_all_members : {X : Type 0} (test : X → Bool) (xs : List X) → ((x : 
 list_all_members test [] each = refl
 list_all_members test (x ∷ xs) each = and_from (test x) (list_all test xs) (each x (contains_front x xs)) (list_all_members test xs (λ y c. each y (contains_behind x xs y c)))
 
--- and one that each fails none does.
+-- And one that each fails none does.
 pub list_any_members : {X : Type 0} (test : X → Bool) (xs : List X) → ((x : X) → Contains xs x → test x ≡ false) → list_any test xs ≡ false
 list_any_members test [] each = refl
 list_any_members test (x ∷ xs) each = or_from (test x) (list_any test xs) (each x (contains_front x xs)) (list_any_members test xs (λ y c. each y (contains_behind x xs y c)))

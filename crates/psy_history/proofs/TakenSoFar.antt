@@ -28,7 +28,7 @@ set_here [] stream values new is = absurd (let not : ◌≡◌ {A = Option (List
 set_here (m ∷ messages) zero values new is = refl
 set_here (m ∷ messages) (suc stream) values new is = set_here messages stream values new is
 
--- and leave those of the other streams.
+-- And leave those of the other streams.
 set_there : (messages : List (Option (List ℤ))) (stream other : ℕ) (new : Option (List ℤ)) → (other ≡ stream → ⊥) → slice_get (slice_set messages other new) stream ≡ slice_get messages stream
 set_there [] stream other new differ = refl
 set_there (m ∷ messages) zero zero new differ = absurd (differ refl)

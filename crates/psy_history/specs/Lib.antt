@@ -1,4 +1,5 @@
 -- The definitions of this crate, by subject.
+pub mod Asked
 pub mod Compiled
 pub mod Feeding
 pub mod Queues
@@ -6,3 +7,4 @@ pub mod Regular
 pub mod Rings
 pub mod Likeness
 pub mod Scheduled
+pub mod Scripts

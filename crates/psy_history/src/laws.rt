@@ -26,6 +26,7 @@ ghost use Rattle.psy_meaning.specs.Schedule.{Turn, finish, turn_of, units, work}
 ghost use Rattle.psy_meaning.specs.Units.{IsOfText};
 ghost use Rattle.psy_meaning.specs.Summary.{due_by, most_held, reach, slack};
 ghost use Rattle.psy_meaning.specs.Visible.{messages, published};
+ghost use Rattle.psy_history.specs.Asked.{IsBoundedBy};
 ghost use Rattle.psy_history.specs.Compiled.{AreInputs, IsCompiled, coded, stated};
 ghost use Rattle.psy_history.specs.Feeding.{AreSame, OverranAlike, Reaches};
 ghost use Rattle.psy_history.specs.Likeness.{AreLike};
@@ -102,8 +103,14 @@ pub fn given()
 {}
 
 /// Where the processor can supply the demand up to a date, each action that is due by then is finished, or stopped, by its deadline
-/// (Baruah, Rosier, Howell 1990): the cycle behind its last one is no later. So of an agent's actions the last alone is pending.
+/// (Baruah, Rosier, Howell 1990): it has had all its work, and the cycle behind its last one is no later. So of an agent's actions the last
+/// alone is pending. What is kept before each cycle, for each later date up to that one: all is finished that is due by the date, or what may
+/// still be asked by then is no more than the cycles that are left until it.
 pub fn on_time()
+    ensures kept { (s : System) (order : ℕ → List ℕ) (until cycle by : ℕ) (supplied : IsSupplied s order until) → cycle < s.unit.quantum * by
+        → by ≤ until → IsBoundedBy s order supplied.graphs cycle by }
+    ensures finished { (s : System) (order : ℕ → List ℕ) (until dates agent : ℕ) (r : Action) → IsSupplied s order until
+        → Contains (history s dates agent) r → r.deadline ≤ until → IsFinished s order (r.deadline * s.unit.quantum) r }
     ensures due { (s : System) (order : ℕ → List ℕ) (until date agent : ℕ) (r : Action) → IsSupplied s order until → date ≤ until
         → Contains (history s date agent) r → r.deadline ≤ date → IsFinished s order (date * s.unit.quantum) r }
     ensures finishes { (s : System) (order : ℕ → List ℕ) (until cycles agent : ℕ) (r : Action) → IsSupplied s order until

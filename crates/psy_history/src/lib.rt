@@ -1,5 +1,11 @@
 //! What follows from the definition of the dated history alone: that code and statements have the same one, what its actions keep,
-//! and that no action misses its deadline where the processor can supply the demand. Nothing runs here.
+//! and that no action misses its deadline where the processor can supply the demand; and what
+//! inputs and scripts are. Nothing runs here.
+//! It may know the definitions of psy_meaning; nothing runs.
 #![tactic(auto)]
 
 pub mod laws;
+mod told;
+
+pub use psy_budget::Stall;
+pub use told::{Inputs, Order, Script};

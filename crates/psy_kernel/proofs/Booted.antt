@@ -13,13 +13,13 @@ use Rattle.psy_machine.specs.Stepping.{AgentMachine, IsNew, IsOf}
 use Rattle.psy_meaning.specs.Actions.{System}
 use Rattle.psy_dates.specs.declared.plan.Plan.{Plan}
 use Rattle.psy_kernel.specs.declared.kernel.Figure.{Figure}
-use Rattle.psy_kernel.specs.declared.script.Order.{Order}
-use Rattle.psy_kernel.specs.declared.script.Script.{Script}
+use Rattle.psy_history.specs.declared.told.Order.{Order}
+use Rattle.psy_history.specs.declared.told.Script.{Script}
 use Rattle.psy_kernel.specs.Progress.{Progress, booted}
-use Rattle.psy_kernel.specs.Scripts.{StallBefore}
+use Rattle.psy_history.specs.Scripts.{StallBefore}
 use Rattle.psy_kernel.specs.Standing.{AgentStands, AreInForce}
 
--- the stalls of one agent rise by action and instruction
+-- The stalls of one agent rise by action and instruction
 pub own_rise : (agent : ℕ) (stalls : List Stall) → AllPairs StallBefore stalls → StallsRise (filter (λ (s : Stall). s.agent == agent) stalls)
 own_rise agent stalls rise i j d ij jl =
     let is_own = λ (s : Stall). s.agent == agent in

@@ -23,7 +23,7 @@ use Rattle.psy_kernel.specs.Acting.{IsLookIn}
 use Rattle.psy_kernel.specs.Cycles.{ActsIn, AreOver, AreQueuesOf, AreRingsOf, BoxStands, GetsCycle, IsGiven, IsNear, LooksBack, OneStands, reach_by}
 use Rattle.psy_kernel.specs.declared.kernel.Figure.{Figure}
 use Rattle.psy_kernel.specs.declared.kernel.Kernel.TheInside.{Inside}
-use Rattle.psy_kernel.specs.Scripts.{order_of, stalls_of}
+use Rattle.psy_history.specs.Scripts.{order_of, stalls_of}
 use Rattle.psy_kernel.specs.Seeing.{sight_in}
 use Rattle.psy_kernel.specs.Standing.{DeedsStand, HasDone, IsChosen, KernelStands, charge_after}
 use Rattle.psy_kernel.proofs.Kernels.{IsBetween, IsDue, next_in, parts_in, run_in, turns_in}

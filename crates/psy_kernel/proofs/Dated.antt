@@ -31,7 +31,7 @@ due_by true filled date cycle e = absurd (cc)
 due_by false true date cycle e = (refl, refl)
 due_by false false date cycle e = absurd (cc)
 
--- the cycles fill whole ticks where a date is due
+-- The cycles fill whole ticks where a date is due
 pub date_due : (p : Progress) → stage_of p ≡ DateDue p.dates → (p.dates ≡ p.plan.until + 1 → ⊥) × (p.cycles ≡ p.dates * p.plan.unit.quantum)
 date_due p e =
     let tests = due_by (p.dates == p.plan.until + 1) (p.cycles == p.dates * p.plan.unit.quantum) p.dates p.cycles e in

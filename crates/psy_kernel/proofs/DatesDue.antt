@@ -23,7 +23,7 @@ use Rattle.psy_kernel.specs.declared.kernel.Figure.{Figure}
 use Rattle.psy_kernel.specs.declared.kernel.Kernel.TheInside.{Inside}
 use Rattle.psy_kernel.specs.declared.stage.Stage.TheVariants.{DateDue}
 use Rattle.psy_kernel.specs.Progress.{Progress, after_date, order, stage_of, system}
-use Rattle.psy_kernel.specs.Scripts.{stalls_of}
+use Rattle.psy_history.specs.Scripts.{stalls_of}
 use Rattle.psy_kernel.specs.Standing.{AgentStands, DeedsStand, InTick, KernelStands, given_at, most_held_in, progress_of}
 use Rattle.psy_kernel.specs.Starting.{IsDoneBelow, charge_at, deadline_at, held_at, seat_at, starts_at}
 use Rattle.psy_kernel.proofs.Dated.{agents_after, date_due, free_before, tick_after, within_until}

@@ -21,7 +21,7 @@ use Rattle.psy_kernel.proofs.StreamsLeft.{drop_one, get_set_here, left_count, le
 
 -- ---- lists
 
--- one item more counts where it passes
+-- One item more counts where it passes
 filter_end : (p : ℕ → Bool) (xs : List ℕ) (x : ℕ) → length (filter p (xs ++ x ∷ [])) ≡ (if p x then length (filter p xs) + 1 else length (filter p xs))
 filter_end p [] x = by (p x)
   where
@@ -40,7 +40,7 @@ filter_end p (y ∷ xs) x = by (p y) (p x) (filter_end p xs x)
 count_end : (p : ℕ → Bool) (xs : List ℕ) (x : ℕ) → count_by p (xs ++ x ∷ []) ≡ (if p x then count_by p xs + 1 else count_by p xs)
 count_end p xs x = sym (length-filter p (xs ++ x ∷ [])) ∙ filter_end p xs x ∙ ap (λ n. if p x then n + 1 else n) (length-filter p xs)
 
--- how many messages there are
+-- How many messages there are
 abbrev many : Option (List ℤ) → ℕ
 many None = 0
 many (Some messages) = length messages
@@ -51,7 +51,7 @@ many_without (Some messages) = drop_one messages
 
 -- ---- streams that an agent receives
 
--- a stream of the program with this receiver is one that the agent receives
+-- A stream of the program with this receiver is one that the agent receives
 pub receives : (s : System) (agent stream : ℕ) → stream < length s.unit.streams → (stream_of s stream).receiver ≡ agent → Receives s.unit agent stream
 receives s agent stream less e =
     slice_get-map (λ (d : StreamDecl). d.receiver == agent) s.unit.streams stream

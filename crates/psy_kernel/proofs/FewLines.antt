@@ -8,7 +8,7 @@ use Rattle.psy_history.specs.Scheduled.{turns_of}
 use Rattle.psy_kernel.specs.Progress.{Progress, order, summary_told, system}
 use Rattle.psy_kernel.specs.Texts.{agent_end, stream_end, variable_end}
 
--- the summary has its first line, and one for each agent, variable and stream
+-- The summary has its first line, and one for each agent, variable and stream
 pub summary-count : (p : Progress) → length (summary_told p) ≡ 1 + (length p.plan.unit.agents + (length p.plan.unit.variables + length p.plan.unit.streams))
 summary-count p =
     let s = system p in

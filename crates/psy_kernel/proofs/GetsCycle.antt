@@ -23,8 +23,8 @@ use Rattle.psy_tree.specs.declared.unit.Point.{Point}
 use Rattle.psy_tree.specs.declared.unit.Unit.{Unit as Whole}
 use Rattle.psy_kernel.specs.Acting.{came_to}
 use Rattle.psy_kernel.specs.Cycles.{AreOver, GetsCycle, MayEnd}
-use Rattle.psy_kernel.specs.declared.script.Script.{Script}
-use Rattle.psy_kernel.specs.Scripts.{IsScript, order_of}
+use Rattle.psy_history.specs.declared.told.Script.{Script}
+use Rattle.psy_history.specs.Scripts.{IsScript, order_of}
 use Rattle.psy_kernel.proofs.CyclesDone.{as_many, stays_over}
 use Rattle.psy_kernel.proofs.OrdersInForce.{lists_order}
 
@@ -36,7 +36,7 @@ numbers_below s dates agent (r ∷ before) h =
     All-cons (λ (q : Action). q.number < length (r ∷ before)) r before (let e : r.number ≡ length before = h.0.number in omega (arith, e))
     (All-weaker (λ (q : Action). q.number < length before) (λ (q : Action). q.number < length (r ∷ before)) (λ q less. omega (arith, less)) before (numbers_below s dates agent before h.1))
 
--- an agent's last action at a date starts there, or it is the last one of the dates before
+-- An agent's last action at a date starts there, or it is the last one of the dates before
 started_by : (s : System) (h : History) (date agent : ℕ) (actions : List Action) (n : Option Next) (r : Action) (before : List Action) → with_start s h date agent actions n ≡ r ∷ before → (actions ≡ r ∷ before) ⊎ (r.start ≡ date)
 started_by s h date agent actions None r before e = inl e
 started_by s h date agent actions (Some n) r before e = by (n.start == date) refl e

@@ -15,7 +15,7 @@ pub not_owned : (agent : ℕ) (owner : Option ℕ) → is_owned agent owner ≡ 
 not_owned agent None e is = cc
 not_owned agent (Some owner) e is = eqb-false owner agent e (let same : owner ≡ agent = cc in same)
 
--- those of the agent are the machine's, and the others are as they were
+-- Those of the agent are the machine's, and the others are as they were
 pub record AreKept (variables : List VarDecl) (agent : ℕ) (copies : List Copy) (before : List ℤ) (now : List ℤ) (n : ℕ) : Type 0 where
   pub all : length now ≡ length before
   pub own : (variable : ℕ) (v : VarDecl) (value : ℤ) → variable < n → slice_get variables variable ≡ Some v → v.owner ≡ Some agent → slice_get now variable ≡ Some value → copy_of variable copies ≡ Some value

@@ -16,18 +16,18 @@ use Rattle.psy_meaning.specs.Summary.{reach}
 use Rattle.psy_ready.specs.Choice.{ListsEach}
 use Rattle.psy_kernel.specs.Cycles.{AreOver, GetsCycle, IsCycleOf, LooksBack, order_by, run_of, run_turns}
 use Rattle.psy_kernel.specs.declared.kernel.Kernel.TheInside.{Inside}
-use Rattle.psy_kernel.specs.declared.script.Order.{Order}
-use Rattle.psy_kernel.specs.declared.script.Script.{Script}
+use Rattle.psy_history.specs.declared.told.Order.{Order}
+use Rattle.psy_history.specs.declared.told.Script.{Script}
 use Rattle.psy_kernel.specs.declared.stage.Stage.TheVariants.{CycleDue}
 use Rattle.psy_kernel.specs.Progress.{Progress, stage_of}
-use Rattle.psy_kernel.specs.Scripts.{order_of}
+use Rattle.psy_history.specs.Scripts.{order_of}
 use Rattle.psy_kernel.specs.Standing.{AreInForce, IsChosen, KernelStands, given_at, most_held_in, progress_of}
 use Rattle.psy_kernel.proofs.CyclesDone.{next_turn}
 use Rattle.psy_kernel.proofs.OrdersInForce.{in_force_is, lists_order}
 use Rattle.psy_kernel.proofs.Parts.{PartsStand}
 use Rattle.psy_kernel.proofs.Stages.{IsInside, cycle_due, inside_tick, tick_kept}
 
--- the run of a kernel
+-- The run of a kernel
 abbrev pub run_in : Inside → System
 run_in k = run_of k.plan k.shared.inputs.lists k.script
 
@@ -37,11 +37,11 @@ turns_in k cycles = run_turns k.plan k.shared.inputs.lists k.script cycles
 abbrev pub PartsIn : Inside → ℕ → Type 0
 PartsIn k cycles = PartsStand (run_in k) k.plan.code k.plan.until (turns_in k cycles) (dates_done k.shared.date) k.shared k.machines.items k.charges.items k.ready k.figures.items
 
--- rings were reached for as far back as the first so many cycles did
+-- Rings were reached for as far back as the first so many cycles did
 abbrev pub ReachedIn : Inside → ℕ → Type 0
 ReachedIn k cycles = (variable : ℕ) (n : Option ℕ) → slice_get k.reaches.items variable ≡ Some n → n ≡ reach (run_in k) (turns_in k cycles) (history (run_in k) (dates_done k.shared.date)) variable
 
--- streams held as many messages at the dates done
+-- Streams held as many messages at the dates done
 abbrev pub HeldIn : Inside → Type 0
 HeldIn k = (stream n : ℕ) → slice_get k.helds.items stream ≡ Some n → n ≡ most_held_in (run_in k) (dates_done k.shared.date) stream
 
@@ -152,7 +152,7 @@ module _ (m : Inside) (b : IsBetween m) where
 
 -- ---- a kernel whose cycle is due
 
--- what is known of it
+-- What is known of it
 pub record IsDue (k : Inside) : Type 0 where
   pub date : ℕ
   pub inside : IsInside k.plan.unit.quantum k.plan.until (dates_done k.shared.date) k.cycles date

@@ -32,8 +32,8 @@ use Rattle.psy_tree.specs.declared.unit.StreamDecl.{StreamDecl}
 use Rattle.psy_tree.specs.declared.unit.Unit.{Unit as Whole}
 use Rattle.psy_tree.specs.declared.unit.VarDecl.{VarDecl}
 use Rattle.psy_kernel.specs.Cycles.{GetsCycle, LooksBack}
-use Rattle.psy_kernel.specs.declared.script.Script.{Script}
-use Rattle.psy_kernel.specs.Scripts.{order_of}
+use Rattle.psy_history.specs.declared.told.Script.{Script}
+use Rattle.psy_history.specs.Scripts.{order_of}
 use Rattle.psy_kernel.specs.Standing.{charge_after}
 use Rattle.psy_kernel.proofs.CyclesDone.{as_many, tick_of_cycle}
 use Rattle.psy_kernel.proofs.LooksMade.{near, reached}
@@ -97,7 +97,7 @@ TakesLaw =
 
 -- ---- the action that gets the cycle
 
--- a variable's clock is one of the program's
+-- A variable's clock is one of the program's
 pub clock_lawful : (plan : Plan) → IsPlan plan → (s : System) → s.unit ≡ plan.unit → (variable : ℕ) → variable < length s.unit.variables → IsClock (publishing s variable)
 clock_lawful plan is s e variable less =
     let bare : IsBare s.unit = subst IsBare (sym e) is.compiled.text.bare in

@@ -30,7 +30,7 @@ use Rattle.psy_kernel.proofs.OtherAgents.{AreSameFor, is_own, missed, other_numb
 
 -- ---- settled actions
 
--- an action that isn't settled stands in front of those that are
+-- An action that isn't settled stands in front of those that are
 settled_behind : (p : Action → Bool) (until : ℕ) (r : Action) (before : List Action) → p r ≡ false → filter p (due_by until (r ∷ before)) ≡ filter p (due_by until before)
 settled_behind p until r before h = by (nat_le r.deadline until)
   where
@@ -38,7 +38,7 @@ settled_behind p until r before h = by (nat_le r.deadline until)
     by true = cond-false (p r) (r ∷ filter p (due_by until before)) (filter p (due_by until before)) h
     by false = refl
 
--- one that is due later isn't
+-- One that is due later isn't
 later_behind : (p : Action → Bool) (until : ℕ) (r : Action) (before : List Action) → until < r.deadline → filter p (due_by until (r ∷ before)) ≡ filter p (due_by until before)
 later_behind p until r before h = ap (λ test. filter p (if test then r ∷ due_by until before else due_by until before)) (lt-leb r.deadline until h)
 
@@ -55,7 +55,7 @@ filter_length p (x ∷ xs) = by (p x) (filter_length p xs)
     by true h = omega (arith, h)
     by false h = omega (arith, h)
 
--- a variable that has an owner is one of the program's
+-- A variable that has an owner is one of the program's
 pub variable_known : (s : System) (variable owner : ℕ) → (variable_of s variable).owner ≡ Some owner → slice_get s.unit.variables variable ≡ Some (variable_of s variable)
 variable_known s variable owner e = elim (cases_lt variable (length s.unit.variables)) [
   | inl less ↦ slice_get-get_or s.unit.variables variable (record { name = []; owner = None; clock = 0; init = pos 0; depth = 0 }) less

@@ -10,9 +10,9 @@ use Rattle.std.proofs.lemmas.Option.{get_or_from_slice_get, slice_get_within, sl
 use Rattle.psy_ready.specs.Choice.{ListsEach}
 use Rattle.psy_tree.specs.declared.unit.Unit.{Unit as Whole}
 use Rattle.psy_kernel.specs.Cycles.{order_by}
-use Rattle.psy_kernel.specs.declared.script.Order.{Order}
-use Rattle.psy_kernel.specs.declared.script.Script.{Script}
-use Rattle.psy_kernel.specs.Scripts.{IsOrder, IsScript, in_force, order_of}
+use Rattle.psy_history.specs.declared.told.Order.{Order}
+use Rattle.psy_history.specs.declared.told.Script.{Script}
+use Rattle.psy_history.specs.Scripts.{IsOrder, IsScript, in_force, order_of}
 use Rattle.psy_kernel.specs.Standing.{AreInForce}
 
 -- ---- each order lists all agents
@@ -45,7 +45,7 @@ behind o orders passed cycle h = record {
   ahead = λ place p at more. h.ahead (suc place) p at (omega (arith, more));
 }
 
--- the order of the last of some that have come into force
+-- The order of the last of some that have come into force
 order_last : (declared : List ℕ) (orders : List Order) (passed : ℕ) → order_by declared orders (suc passed) ≡ (get_or orders passed (record { cycle = 0; agents = declared })).agents
 order_last declared orders passed =
     cond-false (suc passed == 0) declared (get_or orders (suc passed - 1) (record { cycle = 0; agents = declared })).agents (ne_eqb (suc passed) 0 (λ e. absurd (omega (arith, e))))

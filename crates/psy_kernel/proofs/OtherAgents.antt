@@ -35,7 +35,7 @@ map_agree_on f g (x ∷ xs) h =
 
 -- ---- an action
 
--- the turns give an action as many cycles, and the last one as late
+-- The turns give an action as many cycles, and the last one as late
 pub record AreSameFor (turns now : List (Option Turn)) (r : Action) : Type 0 where
   pub units : units r.agent r.number now ≡ units r.agent r.number turns
   pub finish : finish r.agent r.number now ≡ finish r.agent r.number turns
@@ -145,7 +145,7 @@ module _ (turns now : List (Option Turn)) where
       let head = All-head (AreSameFor turns now) r before same in
       subst (λ n. HasDone s code r (charge_after s r n).paid sends taken) (sym head.units) (h (sym (pending_same r head) ∙ pending))
 
--- an agent's action has done the same where the counts of the streams that it receives are the same
+-- An agent's action has done the same where the counts of the streams that it receives are the same
 pub deeds_untaken : (s : System) (code : Code) (turns : List (Option Turn)) (agent : ℕ) (actions : List Action) (sends : List Sent) (old taken : List ℕ) → All (λ (q : Action). q.agent ≡ agent) actions
     → ((stream n : ℕ) → slice_get taken stream ≡ Some n → (stream_of s stream).receiver ≡ agent → slice_get old stream ≡ Some n) → DeedsStand s code turns actions sends old → DeedsStand s code turns actions sends taken
 deeds_untaken s code turns agent [] sends old taken own same h = h

@@ -31,7 +31,7 @@ use Rattle.psy_kernel.proofs.OtherAgents.{AreSameFor, agent_kept, copy_kept, dee
 use Rattle.psy_kernel.proofs.PickIsSoonest.{Front, IsSoonest, front_of, soonest_by_pick, soonest_of_nobody}
 use Rattle.psy_kernel.proofs.Sets.{get_set_other, get_set_same}
 
--- it stands for the history of so many dates, where the cycles done went to these turns
+-- It stands for the history of so many dates, where the cycles done went to these turns
 pub record PartsStand (s : System) (code : Code) (until : ℕ) (turns : List (Option Turn)) (dates : ℕ) (shared : Shared) (machines : List AgentMachine) (charges : List Charged) (ready : List (Option ℕ)) (figures : List Figure) : Type 0 where
   pub shares : SharedStands s turns dates shared
   pub machined : length machines ≡ length s.unit.agents

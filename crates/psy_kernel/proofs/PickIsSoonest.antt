@@ -10,7 +10,7 @@ use Rattle.psy_meaning.specs.Schedule.{Turn, is_pending, pending, sooner, soones
 use Rattle.psy_kernel.specs.Cycles.{AreOver}
 use Rattle.psy_kernel.specs.Standing.{IsChosen, deadline_of}
 
--- of an agent's actions none is pending, or the last one alone, and it has this deadline
+-- Of an agent's actions none is pending, or the last one alone, and it has this deadline
 abbrev pub Front : List (Option Turn) → List Action → Option ℕ → Type 0
 Front turns actions None = filter (is_pending turns) actions ≡ []
 Front turns actions (Some deadline) = (r : Action) × (before : List Action) × (actions ≡ r ∷ before) × (filter (is_pending turns) actions ≡ r ∷ []) × (is_pending turns r ≡ true) × (r.deadline ≡ deadline)

@@ -26,7 +26,7 @@ set_other (y ∷ xs) (suc place) (suc other) v differs = set_other xs place othe
 pub none_done : {X : Type 0} (made : ℕ → X → X) (xs : List X) → IsDoneBelow made 0 xs xs
 none_done made xs = record { count = refl; done = λ place x l e. absurd (omega (arith, l)); ahead = λ place l. refl }
 
--- the next item becomes what is made of it
+-- The next item becomes what is made of it
 pub one_done : {X : Type 0} (made : ℕ → X → X) (n : ℕ) (before after next : List X) (x : X) → IsDoneBelow made n before after → slice_get before n ≡ Some x → next ≡ slice_set after n (made n x) → IsDoneBelow made (n + 1) before next
 one_done {X} made n before after next x h at e =
     let there : slice_get after n ≡ Some x = h.ahead n (omega arith) ∙ at in
@@ -42,7 +42,7 @@ one_done {X} made n before after next x h at e =
       ahead = λ place l. now place ∙ set_other after n place (made n x) (λ is. absurd (omega (arith, l, is))) ∙ h.ahead place (omega (arith, l));
     }
 
--- the next item stays as it is, where this makes nothing else of it
+-- The next item stays as it is, where this makes nothing else of it
 pub one_kept : {X : Type 0} (made : ℕ → X → X) (n : ℕ) (before after next : List X) → IsDoneBelow made n before after → ((x : X) → made n x ≡ x) → next ≡ after → IsDoneBelow made (n + 1) before next
 one_kept {X} made n before after next h same e =
     let now : (place : ℕ) → slice_get next place ≡ slice_get after place = λ place. ap (λ (ys : List X). slice_get ys place) e in

@@ -26,7 +26,7 @@ use Rattle.psy_kernel.proofs.StreamsLeft.{left_is, messages_are}
 
 -- ---- lists
 
--- as many as there are of the first so many are dropped as so many
+-- As many as there are of the first so many are dropped as so many
 drop_taken : {X : Type 0} (n : ℕ) (xs : List X) → drop (length (take n xs)) xs ≡ drop n xs
 drop_taken n xs = elim (cases_lt n (length xs)) [
   | inl less ↦ let same : length (take n xs) ≡ n = omega (arith, less, length-take n xs) in ap (λ m. drop m xs) same
@@ -35,7 +35,7 @@ drop_taken n xs = elim (cases_lt n (length xs)) [
 
 -- ---- streams
 
--- the declaration of a stream that an agent receives
+-- The declaration of a stream that an agent receives
 pub record IsReceived (s : System) (agent stream : ℕ) : Type 0 where
   pub decl : StreamDecl
   pub at : slice_get s.unit.streams stream ≡ Some decl

@@ -60,7 +60,7 @@ module _ (s : System) (code : Code) (r : Action) (paid : ℕ) (window : Window) 
   permits (Some (Take stream)) is asks alike served = (subst IsSome (sym (shows.messages state running stream asks)) served, tt {0})
   permits (Some (Send sent)) is asks alike served = (tt {0}, (omega (arith, asks.stream, shows.streams), omega (arith, asks.clock, shows.clocks), shows.room state running sent is))
 
--- a window that noted no look notes that of a call
+-- A window that noted no look notes that of a call
 pub noted_after : (window : Window) (call : Option Call) → window.noted ≡ None → (window_after window call).noted ≡ look_of call
 noted_after window None fresh = fresh
 noted_after window (Some (Past variable back)) fresh = refl

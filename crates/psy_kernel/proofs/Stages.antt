@@ -22,7 +22,7 @@ cycle_due p due =
 no_cycles : (quantum : ℕ) → 0 * quantum ≡ 0
 no_cycles quantum = grind arith
 
--- a cycle that is due stands between a date and the next one
+-- A cycle that is due stands between a date and the next one
 abbrev pub IsInside : ℕ → ℕ → ℕ → ℕ → ℕ → Type 0
 IsInside quantum until dates cycles date = (dates ≡ date + 1) × (date < until) × (date * quantum ≤ cycles) × (cycles < (date + 1) * quantum)
 
@@ -39,7 +39,7 @@ inside_tick quantum until (suc date) cycles h more other =
     below : (a b : ℕ) → a ≤ b → (a ≡ b → ⊥) → a < b
     below a b h other = grind (arith, h, other)
 
--- and one more stays in the tick
+-- And one more stays in the tick
 pub tick_kept : (quantum until dates cycles date : ℕ) → IsInside quantum until dates cycles date → InTick quantum until dates (cycles + 1)
 tick_kept quantum until dates cycles date h =
     let e : dates ≡ suc date = omega (arith, h.0) in

@@ -50,7 +50,7 @@ false_both : (b c : Bool) → c ≡ false → (b && c) ≡ false
 false_both true c e = e
 false_both false c e = refl
 
--- a pending action isn't settled
+-- A pending action isn't settled
 left_out : (p : Action → Bool) (r : Action) (rs : List Action) (b : Bool) → p r ≡ false → filter p (if b then r ∷ rs else rs) ≡ filter p rs
 left_out p r rs true e = rw e refl
 left_out p r rs false e = refl

@@ -93,7 +93,7 @@ not_done false due e = refl
 is_stopped : (done due : Bool) → done ≡ false → due ≡ true → (not done && due) ≡ true
 is_stopped done due e h = cc
 
--- the line of a stop
+-- The line of a stop
 event_stop : (s : System) (date agent : ℕ) (trap : Option Trap) → event_line s date (Stop agent trap) ≡ stop_line date (agent_at s.unit agent).name trap
 event_stop s date agent None = refl
 event_stop s date agent (Some kind) = refl

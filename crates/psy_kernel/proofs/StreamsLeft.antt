@@ -95,7 +95,7 @@ module _ (start : ℕ) (queue : Queued) where
 
 -- ---- what is left of a stream
 
--- an agent that has something left of a stream receives it, and there are the stream's queue and the count of what it took
+-- An agent that has something left of a stream receives it, and there are the stream's queue and the count of what it took
 pub record IsLeft (sight : Sight) (taken : List ℕ) (stream : ℕ) : Type 0 where
   pub mine : is_mine sight stream ≡ Some true
   pub n : ℕ
@@ -104,7 +104,7 @@ pub record IsLeft (sight : Sight) (taken : List ℕ) (stream : ℕ) : Type 0 whe
   pub queued : slice_get sight.queues stream ≡ Some queue
   pub left : left_of sight taken stream ≡ Some (left_in sight.start n queue)
 
--- what it has left of a stream that it receives
+-- What it has left of a stream that it receives
 pub left_is : (sight : Sight) (taken : List ℕ) (stream n : ℕ) (queue : Queued) → is_mine sight stream ≡ Some true → slice_get taken stream ≡ Some n → slice_get sight.queues stream ≡ Some queue
     → left_of sight taken stream ≡ Some (left_in sight.start n queue)
 left_is sight taken stream n queue mine at queued =

@@ -7,9 +7,9 @@ use Rattle.psy_history.specs.Regular.{IsLawful}
 use Rattle.psy_history.specs.Scheduled.{HaveAll, IsSupplied}
 use Rattle.psy_tree.specs.declared.unit.Unit.{Unit as Whole}
 use Rattle.psy_dates.specs.Plans.{IsPlan}
-use Rattle.psy_kernel.specs.declared.script.Order.{Order}
+use Rattle.psy_history.specs.declared.told.Order.{Order}
 use Rattle.psy_kernel.specs.Progress.{Progress, order, system}
-use Rattle.psy_kernel.specs.Scripts.{IsOrder, IsScript, in_force}
+use Rattle.psy_history.specs.Scripts.{IsOrder, IsScript, in_force}
 
 -- It has each of so many agents.
 abbrev HasEach : ℕ → List ℕ → Type 0

@@ -22,7 +22,7 @@ use Rattle.psy_kernel.specs.Acting.{IsGone, IsOfCode, came_to}
 use Rattle.psy_kernel.proofs.PaidCycles.{more_stalled}
 use Rattle.psy_kernel.proofs.RunsOn.{IsWhole, stays_over}
 
--- what was done by a run that is over
+-- What was done by a run that is over
 acted_over : (budget : ℕ) (before : Carried) (run : Run) (t : RunState) → IsOver run t → (acted_as budget before run).deeds.steps ≡ t.deeds.steps
 acted_over budget before (RanTo point s) t over = ap (λ (s : RunState). s.deeds.steps) (sym over)
 acted_over budget before (TrappedBy kind s) t over = ap (λ (s : RunState). s.deeds.steps) (sym over)

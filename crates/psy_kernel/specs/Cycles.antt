@@ -28,9 +28,9 @@ use Rattle.psy_meaning.specs.Summary.{greater, lesser, reach}
 use Rattle.psy_meaning.specs.Timing.{Timing, clock_at, end_date, point_at}
 use Rattle.psy_kernel.specs.Acting.{IsLookIn, IsOfCode, SeesAs, ShowsAs}
 use Rattle.psy_kernel.specs.declared.kernel.Figure.{Figure}
-use Rattle.psy_kernel.specs.declared.script.Order.{Order}
-use Rattle.psy_kernel.specs.declared.script.Script.{Script}
-use Rattle.psy_kernel.specs.Scripts.{IsScript, order_of, stalls_of}
+use Rattle.psy_history.specs.declared.told.Order.{Order}
+use Rattle.psy_history.specs.declared.told.Script.{Script}
+use Rattle.psy_history.specs.Scripts.{IsScript, order_of, stalls_of}
 use Rattle.psy_kernel.specs.Seeing.{Sight, sight_in, window_in}
 use Rattle.psy_kernel.specs.Standing.{AgentStands, DeedsStand, HasDone, charge_after}
 

@@ -3,7 +3,6 @@ pub mod Acting
 pub mod Cycles
 pub mod Looking
 pub mod Progress
-pub mod Scripts
 pub mod Seeing
 pub mod Standing
 pub mod Starting

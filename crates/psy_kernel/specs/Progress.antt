@@ -4,10 +4,10 @@ use Rattle.psy_meaning.specs.Actions.{System}
 use Rattle.psy_meaning.specs.Lines.{Event, events}
 use Rattle.psy_dates.specs.declared.plan.Plan.{Plan}
 use Rattle.psy_dates.specs.Plans.{system_of}
-use Rattle.psy_kernel.specs.declared.script.Script.{Script}
+use Rattle.psy_history.specs.declared.told.Script.{Script}
 use Rattle.psy_kernel.specs.declared.stage.Stage.{Stage}
 use Rattle.psy_kernel.specs.declared.stage.Stage.TheVariants.{DateDue, CycleDue, Over}
-use Rattle.psy_kernel.specs.Scripts.{order_of, stalls_of}
+use Rattle.psy_history.specs.Scripts.{order_of, stalls_of}
 use Rattle.psy_kernel.specs.Texts.{lines_of, summary_of}
 
 -- A run of a plan with these inputs and this script

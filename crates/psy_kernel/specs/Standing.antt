@@ -22,9 +22,9 @@ use Rattle.psy_dates.specs.Plans.{IsPlan}
 use Rattle.psy_dates.specs.Standing.{SharedStands, dates_done}
 use Rattle.psy_kernel.specs.declared.kernel.Figure.{Figure}
 use Rattle.psy_kernel.specs.declared.kernel.Kernel.TheInside.{Inside}
-use Rattle.psy_kernel.specs.declared.script.Order.{Order}
+use Rattle.psy_history.specs.declared.told.Order.{Order}
 use Rattle.psy_kernel.specs.Progress.{Progress, order, system}
-use Rattle.psy_kernel.specs.Scripts.{IsScript}
+use Rattle.psy_history.specs.Scripts.{IsScript}
 
 -- How far the run is
 abbrev pub progress_of : Inside → Progress

@@ -7,9 +7,9 @@ mod date;
 mod lines;
 mod summary;
 
-use crate::script::Script;
 use psy_budget::Charge;
 use psy_dates::{Plan, Shared};
+use psy_history::Script;
 use psy_machine::Machine;
 use psy_ready::Ready;
 use std::marker::Model;

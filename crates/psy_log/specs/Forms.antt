@@ -6,14 +6,14 @@ use Rattle.psy_arith.specs.declared.operators.Trap.TheVariants as trap
 use Rattle.psy_log.specs.declared.note.Note.{Note}
 use Rattle.psy_log.specs.declared.note.Note.TheVariants as note
 
--- the name of each kind of trap
+-- The name of each kind of trap
 abbrev pub trap_name : Trap → List ℕ
 trap_name trap.Divide = codes "divide"
 trap_name trap.Index = codes "index"
 trap_name trap.Loop = codes "loop"
 trap_name trap.Take = codes "take"
 
--- a number, or `-` where there is none
+-- A number, or `-` where there is none
 abbrev pub number_or_dash : Option ℕ → List ℕ
 number_or_dash None = codes "-"
 number_or_dash (Some number) = decimal number
@@ -127,7 +127,7 @@ busy_line agent = codes "busy " ++ agent ++ codes "\n"
 abbrev pub legal_line : ℕ → ℕ → List ℕ
 legal_line acts looks = codes "legal " ++ decimal acts ++ codes " " ++ decimal looks ++ codes "\n"
 
--- the line that says a note
+-- The line that says a note
 abbrev pub line_of : Note → List ℕ
 line_of (note.StopOverrun date agent) = stop_overrun_line date agent.now
 line_of (note.StopTrap date agent kind) = stop_trap_line date agent.now kind
@@ -154,7 +154,7 @@ line_of (note.RefusedImage place) = refused_image_line place
 line_of (note.Busy agent) = busy_line agent.now
 line_of (note.Legal acts looks) = legal_line acts looks
 
--- the name in a note, with no bytes where it has none
+-- The name in a note, with no bytes where it has none
 abbrev pub name_of : Note → List ℕ
 name_of (note.StopOverrun date agent) = agent.now
 name_of (note.StopTrap date agent kind) = agent.now

@@ -1,4 +1,5 @@
 //! The lines that psyc writes, byte by byte, and how a text is brought to a sink. Nothing here takes memory.
+//! It may know names as bytes, numbers, kinds of trap and sinks; no program.
 #![tactic(auto)]
 
 mod check;

@@ -13,17 +13,17 @@ use Rattle.psy_machine.specs.Layout.{home_in, calls_in, IsCut, frames_in, IsLaid
 use Rattle.psy_machine.specs.Parts.{FrameStack}
 use Rattle.psy_machine.proofs.Reversed.{reverse-push}
 
--- the present frame is what lies behind its beginning
+-- The present frame is what lies behind its beginning
 pub present-cut : (hs : List Header) (at : Place) (cells : List ℤ) (counters : List ℕ) (end : Place) → IsCut hs at (length cells) (length counters) end → innermost_frame (home_in hs at cells counters) (calls_in hs at cells counters) ≡ record { cells = drop at.cells cells; counters = drop at.counters counters }
 present-cut [] at cells counters end h = rw (h.0, h.1)
 present-cut (g ∷ hs) at cells counters end h = refl
 
--- it begins within all
+-- It begins within all
 pub begins_within : (hs : List Header) (at : Place) (n k : ℕ) (end : Place) → IsCut hs at n k end → (at.cells ≤ n) × (at.counters ≤ k)
 begins_within [] at n k end h = (omega (arith, h.0), omega (arith, h.1))
 begins_within (g ∷ hs) at n k end h = (h.0, h.1)
 
--- another cell of the present frame
+-- Another cell of the present frame
 pub home-set_cell : (hs : List Header) (at : Place) (cells : List ℤ) (counters : List ℕ) (end : Place) (i : ℕ) (v : ℤ) → IsCut hs at (length cells) (length counters) end → home_in hs at (set cells (at.cells + i) v) counters ≡ home_with (home_in hs at cells counters) (calls_in hs at cells counters) (record { cells = set (drop at.cells cells) i v; counters = drop at.counters counters })
 home-set_cell [] at cells counters end i v h = rw (h.0, h.1) (grind arith)
 home-set_cell (g ∷ hs) at cells counters end i v h = ap (λ below. home_in hs g.caller below (take at.counters counters)) (take-set-le at.cells cells (at.cells + i) v (omega arith))
@@ -47,7 +47,7 @@ home_below hs at cells more counters others = rw (take_at cells more (length cel
 pub calls_below : (hs : List Header) (at : Place) (cells more : List ℤ) (counters others : List ℕ) → calls_in hs at (take (length cells) (cells ++ more)) (take (length counters) (counters ++ others)) ≡ calls_in hs at cells counters
 calls_below hs at cells more counters others = rw (take_at cells more (length cells) refl, take_at counters others (length counters) refl)
 
--- the agent's own frame is the front of all
+-- The agent's own frame is the front of all
 pub end_within : (hs : List Header) (at : Place) (n k : ℕ) (end : Place) → IsCut hs at n k end → (end.cells ≤ n) × (end.counters ≤ k)
 end_within [] at n k end h = (omega (arith, h.2), omega (arith, h.3))
 end_within (g ∷ hs) at n k end h = let below = end_within hs g.caller at.cells at.counters end h.2 in (omega (arith, h.0, below.0), omega (arith, h.1, below.1))
@@ -97,7 +97,7 @@ counter_within f m n e ok h =
     let same = ap (λ (s : Frame). length s.counters) (present f m e ok) in
     omega (arith, same, h, length-drop f.present.counters f.counters.items)
 
--- what is read there
+-- What is read there
 pub slice_get-drop : {A : Type 0} → (xs : List A) (at n : ℕ) (x : A) → at + n < length xs → x ≡ get_or xs (at + n) x → slice_get (drop at xs) n ≡ Some x
 slice_get-drop xs at n x h e =
     let within : n < length (drop at xs) = omega (arith, length-drop at xs) in
@@ -106,7 +106,7 @@ slice_get-drop xs at n x h e =
 frame_stack : (home home' : Frame) (calls calls' : List OpenCall) (room : ℕ) → home ≡ home' → calls ≡ calls' → ◌≡◌ {A = FrameStack} (record { home = home; calls = calls; room = room }) (record { home = home'; calls = calls'; room = room })
 frame_stack home home' calls calls' room e d = cc
 
--- the frames with another cell, or another counter, of the present one
+-- The frames with another cell, or another counter, of the present one
 pub set_cell_gives : (f : Inside) (m : FrameStack) (i : ℕ) (v : ℤ) → frames_in f ≡ m → IsLaidOut f → frames_in (record f { cells = with_item f.cells (f.present.cells + i) v }) ≡ record m { home = home_with m.home m.calls (record (innermost_frame m.home m.calls) { cells = slice_set (innermost_frame m.home m.calls).cells i v }); calls = calls_with m.calls (record (innermost_frame m.home m.calls) { cells = slice_set (innermost_frame m.home m.calls).cells i v }) }
 set_cell_gives f m i v e ok =
     let hs = reverse f.headers.items in
@@ -140,7 +140,7 @@ call_within f m e ok h =
     let calls = ap (λ (s : FrameStack). length s.calls) e in
     omega (arith, calls, h, ok.calls, length-calls_in hs f.present f.cells.items f.counters.items, length-reverse f.headers.items)
 
--- the frames with one more on top
+-- The frames with one more on top
 pub open_gives : (f g : Inside) (m : FrameStack) (cells : List ℤ) (counters : List ℕ) (back : ℕ) → frames_in f ≡ m → g.cells.items ≡ f.cells.items ++ cells → g.counters.items ≡ f.counters.items ++ counters → g.headers.items ≡ f.headers.items ++ record { caller = f.present; back = back } ∷ [] → g.present ≡ record { cells = length f.cells.items; counters = length f.counters.items } → g.room ≡ f.room → frames_in g ≡ record m { calls = record { frame = record { cells = cells; counters = counters }; back = back } ∷ m.calls }
 open_gives f g m cells counters back e c k h p r =
     let hs = reverse f.headers.items in
@@ -151,7 +151,7 @@ open_gives f g m cells counters back e c k h p r =
     let dk = drop_at f.counters.items counters (length f.counters.items) refl in
     rw (← e) (rw (c, k, top, p, r) (rw (home, calls, dc, dk) refl))
 
--- the agent's own frame alone, with its counters at 0
+-- The agent's own frame alone, with its counters at 0
 pub restart_gives : (f g : Inside) (m : FrameStack) → frames_in f ≡ m → IsLaidOut f → g.cells.items ≡ take f.home_end.cells f.cells.items → g.counters.items ≡ replicate f.home_end.counters 0 → g.headers.items ≡ [] → g.room ≡ f.room → frames_in g ≡ record m { home = cleared m.home; calls = [] }
 restart_gives f g m e ok c k h r =
     let hs = reverse f.headers.items in
@@ -170,7 +170,7 @@ restart_laid f g ok c k h p e r nc nk nh =
       calls = rw nh ok.calls;
     }
 
--- what a list is after it grew by n zeros
+-- What a list is after it grew by n zeros
 pub grown_by : (xs : List ℕ) (end len n : ℕ) → end ≡ len + n → len ≡ length xs → take end xs ++ replicate (end - len) 0 ≡ xs ++ replicate n 0
 grown_by xs end len n more e =
     let all = take_all end xs (omega (arith, e, more)) in

@@ -2,7 +2,7 @@
 use Rattle.std.proofs.Common.{◌≡◌, ℕ, ◌+◌, ◌<◌, ◌≤◌, List, [], ◌∷◌, ◌++◌, length, get_or, set, take, drop, reverse, sym, ap, ◌∙◌, arith}
 use Rattle.std.proofs.lemmas.List.{take-append-drop, reverse-append, reverse-reverse, length-reverse, length-drop, length-take-le, drop_at, take_at, set_at, drop_more, drop_all, get_or-take, take-take}
 
--- all but the last, and the last
+-- All but the last, and the last
 pub with_last : {A : Type 0} → (xs : List A) (n : ℕ) (d : A) → n + 1 ≡ length xs → xs ≡ take n xs ++ get_or xs n d ∷ []
 with_last xs n d h =
     let within : n < length xs = omega arith in
@@ -12,18 +12,18 @@ with_last xs n d h =
 pub reverse-push : {A : Type 0} → (xs : List A) (x : A) → reverse (xs ++ x ∷ []) ≡ x ∷ reverse xs
 reverse-push xs x = reverse-append xs (x ∷ [])
 
--- the last first
+-- The last first
 pub reverse-with_last : {A : Type 0} → (xs : List A) (n : ℕ) (d : A) → n + 1 ≡ length xs → reverse xs ≡ get_or xs n d ∷ reverse (take n xs)
 reverse-with_last xs n d h = ap reverse (with_last xs n d h) ∙ reverse-push (take n xs) (get_or xs n d)
 
--- all but as many as there are in the front
+-- All but as many as there are in the front
 pub drop-reverse : {A : Type 0} → (xs : List A) (k n : ℕ) → n + k ≡ length xs → drop k (reverse xs) ≡ reverse (take n xs)
 drop-reverse xs k n h =
     let parts = reverse-append (take n xs) (drop n xs) in
     let long : length (reverse (drop n xs)) ≡ k = length-reverse (drop n xs) ∙ omega (arith, length-drop n xs) in
     ap (λ ys. drop k (reverse ys)) (sym (take-append-drop n xs)) ∙ ap (drop k) parts ∙ drop_at (reverse (drop n xs)) (reverse (take n xs)) k long
 
--- the last ones, in their order
+-- The last ones, in their order
 pub reverse-take-reverse : {A : Type 0} → (xs : List A) (k n : ℕ) → n + k ≡ length xs → reverse (take k (reverse xs)) ≡ drop n xs
 reverse-take-reverse xs k n h =
     let parts = reverse-append (take n xs) (drop n xs) in
@@ -31,7 +31,7 @@ reverse-take-reverse xs k n h =
     ap (λ ys. reverse (take k (reverse ys))) (sym (take-append-drop n xs)) ∙ ap (λ ys. reverse (take k ys)) parts
     ∙ ap reverse (take_at (reverse (drop n xs)) (reverse (take n xs)) k long) ∙ reverse-reverse (drop n xs)
 
--- another last one
+-- Another last one
 pub reverse-set_last : {A : Type 0} → (xs : List A) (n : ℕ) (x : A) → n + 1 ≡ length xs → reverse (set xs n x) ≡ x ∷ drop 1 (reverse xs)
 reverse-set_last xs n x h =
     let short : length (take n xs) ≡ n = length-take-le n xs (omega arith) in
@@ -39,7 +39,7 @@ reverse-set_last xs n x h =
     ap (λ ys. reverse (set ys n x)) whole ∙ ap reverse (set_at (take n xs) (get_or xs n x) [] x n short) ∙ reverse-push (take n xs) x
     ∙ ap (λ ys. x ∷ ys) (sym (drop-reverse xs 1 n h))
 
--- the last but one
+-- The last but one
 pub second-reverse : {A : Type 0} → (xs : List A) (n : ℕ) (d : A) → n + 2 ≡ length xs → drop 1 (reverse xs) ≡ get_or xs n d ∷ drop 2 (reverse xs)
 second-reverse xs n d h =
     let one : n + 1 + 1 ≡ length xs = omega arith in

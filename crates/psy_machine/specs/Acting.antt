@@ -10,11 +10,11 @@ use Rattle.psy_machine.specs.Stepping.{AgentMachine, Answers, machine_after}
 
 -- ---- some instructions, where what they name is there
 
--- pops a value into a cell
+-- Pops a value into a cell
 abbrev pub store_top : ℕ → Machine → Next
 store_top cell m = with_top m.operands (λ v rest. store cell v rest m)
 
--- pushes the working copy of a variable
+-- Pushes the working copy of a variable
 abbrev pub push_copy : ℕ → Machine → Next
 push_copy variable m = need (copy_of variable m.copies) (λ v. push v m)
 
@@ -22,29 +22,29 @@ push_copy variable m = need (copy_of variable m.copies) (λ v. push v m)
 abbrev pub truth_of_top : Machine → Next
 truth_of_top m = with_top m.operands (λ v rest. onward (truth (not (is_zero v)) ∷ rest) m)
 
--- goes on at a place where the value on top is 0
+-- Goes on at a place where the value on top is 0
 abbrev pub jump_at_zero : ℕ → Machine → Next
 jump_at_zero to m = with_top m.operands (λ v rest. if is_zero v then jump to rest m else onward rest m)
 
--- the same, and leaves the 0
+-- The same, and leaves the 0
 abbrev pub leave_zero : ℕ → Machine → Next
 leave_zero to m = with_top m.operands (λ v rest. if is_zero v then jump to (pos 0 ∷ rest) m else onward rest m)
 
--- goes on at a place where the value on top isn't 0, and leaves 1
+-- Goes on at a place where the value on top isn't 0, and leaves 1
 abbrev pub leave_one : ℕ → Machine → Next
 leave_one to m = with_top m.operands (λ v rest. if is_zero v then onward rest m else jump to (pos 1 ∷ rest) m)
 
--- ends the innermost call, with the value on top
+-- Ends the innermost call, with the value on top
 abbrev pub leave_call : Machine → Next
 leave_call m = with_top m.operands (λ v rest. back_from m.calls m)
 
--- ends the action; the machine goes on behind the point
+-- Ends the action; the machine goes on behind the point
 abbrev pub advance_to : AgentCode → ℕ → Machine → Next
 advance_to agent point m = need (slice_get agent.points point) (λ place. Ended point (begun_at place m))
 
 -- ---- what it takes, and what it does
 
--- the machine at another place
+-- The machine at another place
 abbrev pub with_place : ℕ → AgentMachine → AgentMachine
 with_place place m = record m { machine = record (m.machine) { place = place } }
 

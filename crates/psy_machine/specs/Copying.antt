@@ -4,12 +4,12 @@ use Rattle.psy_code.specs.declared.code.CopyInit.{CopyInit}
 use Rattle.psy_code.specs.Execution.{Copy}
 use Rattle.psy_machine.specs.declared.copies.Entry.{Entry}
 
--- what the entries stand for
+-- What the entries stand for
 abbrev pub copies_in : List Entry → List Copy
 copies_in [] = []
 copies_in (e ∷ es) = record { variable = e.variable; value = e.value } ∷ copies_in es
 
--- the entry of a copy that has its first value
+-- The entry of a copy that has its first value
 abbrev pub entry_from : CopyInit → Entry
 entry_from c = record { variable = c.variable; value = c.init }
 

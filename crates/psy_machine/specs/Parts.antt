@@ -18,10 +18,10 @@ pub record FrameStack : Type 0 where
   -- how many cells and counters of open calls there is room for
   pub room : ℕ
 
--- the innermost frame
+-- The innermost frame
 abbrev pub present_in : FrameStack → Frame
 present_in f = innermost_frame f.home f.calls
 
--- the frames with another innermost one
+-- The frames with another innermost one
 abbrev pub with_present : Frame → FrameStack → FrameStack
 with_present frame f = record f { home = home_with f.home f.calls frame; calls = calls_with f.calls frame }

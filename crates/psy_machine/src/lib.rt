@@ -1,4 +1,5 @@
 //! The machine of one agent, which executes one instruction a step.
+//! It may know code; nothing of statements.
 #![tactic(auto)]
 
 mod copies;

@@ -26,7 +26,7 @@ use Rattle.psy_tree.proofs.Standing.{second_false, function_is}
 
 -- ---- slots
 
--- a slot that is an array or isn't is there
+-- A slot that is an array or isn't is there
 slot_there : (array : Bool) (ss : List SlotName) (k : ℕ) → slot_is_array array (slice_get ss k) ≡ true → k < length ss
 slot_there array [] k h = cc
 slot_there array (s ∷ ss) zero h = omega arith

@@ -24,7 +24,7 @@ each_any : {X : Type 0} (P : X → Type 0) → ((x : X) → P x) → (xs : List 
 each_any P h [] = tt
 each_any P h (x ∷ xs) = (h x, each_any P h xs)
 
--- statements where there are no points
+-- Statements where there are no points
 suited : (scope : Scope) → scope.points ≡ 0 → (stmts : List Stmt) → AreSound scope stmts → Each (IsSuited scope Unreached) stmts
 suited scope e stmts h = all_suited scope Unreached stmts h (each_any (Allowed scope Unreached) (λ point less. omega (arith, less, e)) (advances_in stmts))
 

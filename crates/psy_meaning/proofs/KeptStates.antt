@@ -41,7 +41,7 @@ pub record IsShaped (layout names : List ℕ) (store : Store) : Type 0 where
 abbrev pub FitsCopy : Copy → Type 0
 FitsCopy c = FitsSigned w32 c.value
 
--- the cells of a slot
+-- The cells of a slot
 cells_fit : (store : Store) (slot : ℕ) → All AllFit store.slots → AllFit (cells_at store slot)
 cells_fit store slot h = all_or AllFit store.slots slot [] (All-nil Fits) h
 

@@ -27,7 +27,7 @@ cast_by : (t : Bool) (n : ℕ) → nat_lt n 2147483648 ≡ t → Fits (sel t (po
 cast_by true n e = let less : n < 2147483648 = grind (arith, e) in record { sfits = less }
 cast_by false n e = let most : 2147483648 ≤ n = grind (arith, e) in record { sfits = omega (arith, most) }
 
--- the bits of a number, read as a signed one
+-- The bits of a number, read as a signed one
 pub cast_fits : (n : ℕ) → Fits (cast_signed w32 n)
 cast_fits n = cast_by (nat_lt n 2147483648) n refl
 

@@ -50,7 +50,7 @@ none_turning left (suc more) test body p =
     none_else (out left) (falling (both test (both one one))) (behind (both test (both one one)) next) (none_falling left (both test (both one one)))
     (none_behind (out left) (both test (both one one)) next (none_on left body (behind one (turning more test body)) p (none_behind (out left) one (turning more test body) (none_turning left more test body p))))
 
--- what counts for this end
+-- What counts for this end
 abbrev counts : Bool → Bool → Option ℕ → Bool
 counts advance back None = back
 counts advance back (Some point) = advance

@@ -15,7 +15,7 @@ use Rattle.psy_meaning.proofs.Layers.{natural_expr, natural_stmt}
 open_here_or : (that : Way) → Open (either here that)
 open_here_or that m = let w = open_here m in (w.0, inl w.1, w.2)
 
--- the right side of `&&` or `||`, evaluated or not
+-- The right side of `&&` or `||`, evaluated or not
 abbrev pub lazy : Way → Way
 lazy right = both one (either here (both right one))
 
@@ -33,7 +33,7 @@ two = both one one
 pub open_two : Open two
 open_two = open_both one one open_one open_one
 
--- out of a bounded loop at once
+-- Out of a bounded loop at once
 leads_out : (test : Way) → Open test → Leads (falling (both test two))
 leads_out test p = leads_falling (both test two) (open_both test two p open_two)
 

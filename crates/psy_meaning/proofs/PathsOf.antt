@@ -36,7 +36,7 @@ range-append a (suc n) m =
     let s : suc (n + m) ≡ suc n + m = omega arith in
     ap (λ k. a ∷ (range_with_len (a + 1) n ++ range_with_len k m)) e ∙ ap (λ ns. a ∷ ns) (range-append (a + 1) n m) ∙ ap (range_with_len a) s
 
--- the numbers of one list of statements, and those of another behind it
+-- The numbers of one list of statements, and those of another behind it
 in_order : (a b n m : ℕ) (ns ms : List ℕ) → b ≡ a + n → ns ≡ range_with_len a n → ms ≡ range_with_len b m → ns ++ ms ≡ range_with_len a (n + m)
 in_order a b n m ns ms e f g = ap₂ (λ xs ys. xs ++ ys) f (g ∙ ap (λ k. range_with_len k m) e) ∙ range-append a n m
 

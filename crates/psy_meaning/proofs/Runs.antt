@@ -36,7 +36,7 @@ CallAlong does way = Open way × ((arguments : List ℤ) → Along (does argumen
 abbrev pub AllAlong : (ℕ → Callee) → (ℕ → Way) → Type 0
 AllAlong callees ways = (number : ℕ) → CallAlong (callees number) (ways number)
 
--- a further way
+-- A further way
 got_further : (way : Way) (m n : Meter) (next : Way) (got : Got) → way m n → GotBy next n got → GotBy (both way next) m got
 got_further way m n next (Value v t) w g = (n, w, g)
 got_further way m n next (Stops (Trapped kind t)) w (k, q, f) = (k, (n, w, q), f)

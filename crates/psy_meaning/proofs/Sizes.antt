@@ -73,7 +73,7 @@ functions_size ds = total (map (λ f. stmts_size f.stmts + 2) ds)
 abbrev agents_size : List AgentDecl → ℕ
 agents_size ds = total (map (λ a. stmts_size a.stmts + 1) ds)
 
--- the size of what a declaration gives
+-- The size of what a declaration gives
 abbrev size_in : List Item → ℕ → Item → ℕ
 size_in items k i = functions_size (functions items k i) + agents_size (agents items k i)
 

@@ -18,7 +18,7 @@ both_false : (a b : Bool) → a ≡ false → b ≡ false → (a || b) ≡ false
 both_false false b e f = f
 both_false true b e f = e
 
--- what counts, an `advance` or a `return`, can't stand here
+-- What counts, an `advance` or a `return`, can't stand here
 record Bars (scope : Scope) (advance back : Bool) : Type 0 where
   points : advance ≡ true → scope.points ≡ 0
   returns : back ≡ true → scope.returns ≡ false

@@ -30,7 +30,7 @@ abbrev NamesIt : Kind → Type 0
 NamesIt (kinds.Name text) = IsName text
 NamesIt _ = ⊤
 
--- the names among tokens are words of at most 32 bytes
+-- The names among tokens are words of at most 32 bytes
 abbrev Lawful : List Numbered → Type 0
 Lawful ts = AllByRecursion (λ t. NamesIt t.1) ts
 
@@ -55,7 +55,7 @@ tokens_lawful bytes tokens (pieces, splits, are) = subst (λ ts. Lawful (numbere
 abbrev behind : {ts rest : List Numbered} → Behind ts rest → Lawful ts → Lawful rest
 behind b lawful = all_behind (λ t. NamesIt t.1) b lawful
 
--- the name of a parameter or a local
+-- The name of a parameter or a local
 abbrev Named : SlotName → Type 0
 Named s = IsName s.name.text
 

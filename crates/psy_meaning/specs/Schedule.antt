@@ -54,7 +54,8 @@ turns order quantum started (suc cycle) =
     let before = turns order quantum started cycle in
     turn_of (soonest (pending (order cycle) before (started (cycle / quantum + 1)))) ∷ before
 
--- The number of the cycle after an action's last one; 0 where it had none
+-- The number of the cycle after the last one that an action had so far; 0 where it had none. Of an action that is finished it is the
+-- cycle after its last unit of work.
 abbrev pub finish : ℕ → ℕ → List (Option Turn) → ℕ
 finish agent number [] = 0
 finish agent number (turn ∷ turns) = if is_of agent number turn then length turns + 1 else finish agent number turns

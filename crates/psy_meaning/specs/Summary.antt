@@ -33,7 +33,8 @@ greatest_of (n ∷ numbers) = greater n (greatest_of numbers)
 abbrev pub due_by : ℕ → List Action → List Action
 due_by until actions = filter (λ (r : Action). nat_le r.deadline until) actions
 
--- The cycles from an action's finish to its deadline
+-- The cycles from an action's finish to its deadline. That each action that is due is finished by then, so that this is a true difference,
+-- is what a run keeps, and isn't said here.
 abbrev pub slack_of : ℕ → List (Option Turn) → Action → ℕ
 slack_of quantum turns r = r.deadline * quantum - finish r.agent r.number turns
 

@@ -42,7 +42,7 @@ published_by s h variable date None = input_value s variable date
 abbrev pub published : System → History → ℕ → ℕ → ℤ
 published s h variable date = published_by s h variable date (variable_of s variable).owner
 
--- past(variable, back) in an action that starts at a date: the value published so many dates before the last one up to the start,
+-- Past(variable, back) in an action that starts at a date: the value published so many dates before the last one up to the start,
 -- or the first value where there is no such date
 abbrev pub past : System → History → ℕ → ℕ → ℕ → ℤ
 past s h variable start back =

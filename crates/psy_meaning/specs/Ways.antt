@@ -49,7 +49,7 @@ no_way before now = ⊥
 abbrev pub here : Way
 here before now = now ≡ before
 
--- one instruction
+-- One instruction
 abbrev pub one : Way
 one before now = now ≡ record before { steps = before.steps + 1 }
 
@@ -126,7 +126,7 @@ returning way _ = no_way
 abbrev pub reaching : ℕ → Way → Course
 reaching point way end before now = (end ≡ To point) × way before now
 
--- a course that doesn't fall through
+-- A course that doesn't fall through
 abbrev pub leaving : Course → Course
 leaving course Fell = no_way
 leaving course end = course end
@@ -135,7 +135,7 @@ leaving course end = course end
 abbrev pub behind : Way → Course → Course
 behind way course end = both way (course end)
 
--- falls through the first into the second, or leaves the first
+-- Falls through the first into the second, or leaves the first
 abbrev pub and_on : Course → Course → Course
 and_on first second end = either (both (first Fell) (second end)) (leaving first end)
 

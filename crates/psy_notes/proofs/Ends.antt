@@ -19,16 +19,16 @@ digits_first (d ∷ digits) rest more b each some other is =
     let same : is_ascii_digit d ≡ is_ascii_digit b = ap is_ascii_digit first in
     cc (same, other, each.0)
 
--- no number begins with another byte than a digit
+-- No number begins with another byte than a digit
 pub decimal_first : (n : ℕ) (rest more : List ℕ) (b : ℕ) → n < 2 ^ 64 → is_ascii_digit b ≡ false → decimal n ++ rest ≡ b ∷ more → ⊥
 decimal_first n rest more b long other is = digits_first (decimal n) rest more b (Each-decimal n long) (decimal_nonempty n long) other is
 
--- no value begins with a letter
+-- No value begins with a letter
 pub value_first : (value : ℤ) (rest more : List ℕ) (b : ℕ) → FitsSigned w32 value → is_ascii_digit b ≡ false → 45 < b → signed_decimal value ++ rest ≡ b ∷ more → ⊥
 value_first (pos n) rest more b fits other above is = decimal_first n rest more b (omega (arith, fits.sfits)) other is
 value_first (negsuc n) rest more b fits other above is = let minus : 45 ≡ b = cc in omega (arith, minus)
 
--- behind `end ` there is nothing but a date
+-- Behind `end ` there is nothing but a date
 pub end_only : (text rest : List ℕ) → text ≡ codes "end " ++ rest → ((until : ℕ) (more : List ℕ) → IsLong until → rest ≢ spell (decimal until ∷ []) more)
     → (note : Note) (more : List ℕ) → IsTold note → IsDated note → text ≢ spell (fields_of note) more
 end_only text rest is none (note.StopOverrun date agent) more told dated eq = decimal_first date _ _ 101 told.0 refl (sym eq ∙ is)

@@ -18,11 +18,11 @@ use Rattle.psy_notes.specs.Notes.{IsLong, IsShort, IsTold, OrNone}
 use Rattle.psy_notes.specs.Reading.{spell, fields_of}
 use Rattle.psy_notes.proofs.Lines.{Plain, AllPlain, Plain-each}
 
--- bytes that are digits are those that std reads
+-- Bytes that are digits are those that std reads
 own : IsNumeralModel (Each is_ascii_digit) (digits_value 10)
 own = numerals_by_value _ (search rules)
 
--- a number is written by digits
+-- A number is written by digits
 pub Each-decimal : (n : ℕ) → n < 2 ^ 64 → Each is_ascii_digit (decimal n)
 Each-decimal n long = digits_decimal own n long
 
@@ -91,7 +91,7 @@ plain_node = search rules
 plain_edge : Plain (codes "edge")
 plain_edge = search rules
 
--- no field of a note has a blank or a line feed
+-- No field of a note has a blank or a line feed
 pub AllPlain-fields_of : (note : Note) → IsTold note → AllPlain (fields_of note)
 AllPlain-fields_of (note.StopOverrun date agent) told = (Plain-decimal date told.0, (plain_stop, (Plain-name agent.now told.1, plain_overrun)))
 AllPlain-fields_of (note.StopTrap date agent kind) told = (Plain-decimal date told.0, (plain_stop, (Plain-name agent.now told.1, (plain_trap, Plain-trap kind))))
@@ -107,7 +107,7 @@ AllPlain-fields_of (note.Node number point phase budget worst due) told =
 AllPlain-fields_of (note.EdgeOf from to len) told = (plain_edge, (Plain-short from told.0, (Plain-short to told.1, Plain-decimal len told.2)))
 AllPlain-fields_of _ told = absurd told
 
--- a note's line is spelled by its fields
+-- A note's line is spelled by its fields
 pub line_of-fields : (note : Note) (more : List ℕ) → IsTold note → line_of note ++ more ≡ spell (fields_of note) more
 line_of-fields (note.StopOverrun date agent) more told = simp append_assoc
 line_of-fields (note.StopTrap date agent kind) more told = simp append_assoc

@@ -4,18 +4,18 @@ use Rattle.std.proofs.lemmas.Bool.{ne_eqb}
 use Rattle.psy_tree.specs.Lexemes.{Each}
 use Rattle.psy_notes.specs.Reading.{spell}
 
--- without blanks and line feeds
+-- Without blanks and line feeds
 abbrev pub Plain : List ℕ → Type 0
 Plain [] = Unit {0}
 Plain (b ∷ bytes) = (eqb b 10 ≡ false) × (eqb b 32 ≡ false) × Plain bytes
 
--- at least one field, and all of them plain
+-- At least one field, and all of them plain
 abbrev pub AllPlain : List (List ℕ) → Type 0
 AllPlain [] = ⊥
 AllPlain (field ∷ []) = Plain field
 AllPlain (field ∷ next ∷ fields) = Plain field × AllPlain (next ∷ fields)
 
--- bytes of a sort that has no blank and no line feed are plain
+-- Bytes of a sort that has no blank and no line feed are plain
 pub Plain-each : (sort : ℕ → Bool) → sort 10 ≡ false → sort 32 ≡ false → (bytes : List ℕ) → Each sort bytes → Plain bytes
 Plain-each sort feed blank [] each = tt
 Plain-each sort feed blank (b ∷ bytes) each = (
@@ -24,17 +24,17 @@ Plain-each sort feed blank (b ∷ bytes) each = (
   Plain-each sort feed blank bytes each.1,
 )
 
--- a byte in front of the first field
+-- A byte in front of the first field
 abbrev onto : ℕ → List (List ℕ) → List (List ℕ)
 onto b [] = (b ∷ []) ∷ []
 onto b (field ∷ fields) = (b ∷ field) ∷ fields
 
--- the fields of the first line
+-- The fields of the first line
 abbrev words : List ℕ → List (List ℕ)
 words [] = []
 words (b ∷ text) = cond (eqb b 10) ([] ∷ []) (cond (eqb b 32) ([] ∷ words text) (onto b (words text)))
 
--- what follows the first line
+-- What follows the first line
 abbrev behind : List ℕ → List ℕ
 behind [] = []
 behind (b ∷ text) = cond (eqb b 10) text (behind text)
@@ -65,12 +65,12 @@ behind-spell [] more plain = absurd plain
 behind-spell (field ∷ []) more plain = behind-last field more plain
 behind-spell (field ∷ next ∷ fields) more plain = behind-blank field (spell (next ∷ fields) more) plain.0 ∙ behind-spell (next ∷ fields) more plain.1
 
--- one line stands at the front of a text
+-- One line stands at the front of a text
 pub one_line : (fields others : List (List ℕ)) (rest more : List ℕ) → AllPlain fields → AllPlain others → spell fields rest ≡ spell others more → (fields ≡ others) × (rest ≡ more)
 one_line fields others rest more plain simple is =
     (sym (words-spell fields rest plain) ∙ ap words is ∙ words-spell others more simple, sym (behind-spell fields rest plain) ∙ ap behind is ∙ behind-spell others more simple)
 
--- a line has bytes
+-- A line has bytes
 pub length-spell : (fields : List (List ℕ)) (more : List ℕ) → AllPlain fields → length more < length (spell fields more)
 length-spell [] more plain = absurd plain
 length-spell (field ∷ []) more plain = omega (arith, length-append field (10 ∷ more))

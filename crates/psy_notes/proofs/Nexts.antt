@@ -19,12 +19,12 @@ use Rattle.psy_notes.specs.Reading.{spell, fields_of, IsDated, IsSummary, IsGrap
 use Rattle.psy_notes.proofs.Lines.{one_line}
 use Rattle.psy_notes.proofs.Fields.{Each-decimal, AllPlain-fields_of}
 
--- the first byte
+-- The first byte
 abbrev initial : List (List ℕ) → ℕ
 initial [] = 0
 initial (field ∷ fields) = get_or field 0 0
 
--- the numbers of the fields, from the first one on
+-- The numbers of the fields, from the first one on
 abbrev number_0 : List (List ℕ) → ℕ
 number_0 [] = 0
 number_0 (field ∷ fields) = digits_value 10 field
@@ -41,19 +41,19 @@ abbrev number_3 : List (List ℕ) → ℕ
 number_3 [] = 0
 number_3 (field ∷ fields) = number_2 fields
 
--- behind dated lines: `e` begins the end's
+-- Behind dated lines: `e` begins the end's
 abbrev by_date : ℕ → List (List ℕ) → Option Stand
 by_date last fields = cond (eqb (initial fields) 101) (where_so (may_be_dated last (number_1 fields)) (stand.Agents 0)) (where_so (may_be_dated last (number_0 fields)) (stand.Dated (number_0 fields)))
 
--- behind agents' lines: `a` begins an agent's, `v` a variable's
+-- Behind agents' lines: `a` begins an agent's, `v` a variable's
 abbrev by_agents : ℕ → ℕ → Option Stand
 by_agents agents b = cond (eqb b 97) (where_so (nat_lt agents AGENTS) (stand.Agents (agents + 1))) (cond (eqb b 118) (next_variable 0) (next_stream 0))
 
--- behind variables' lines
+-- Behind variables' lines
 abbrev by_variables : ℕ → ℕ → Option Stand
 by_variables variables b = cond (eqb b 97) None (cond (eqb b 118) (next_variable variables) (next_stream 0))
 
--- behind streams' lines
+-- Behind streams' lines
 abbrev by_streams : ℕ → ℕ → Option Stand
 by_streams streams b = cond (eqb b 97) None (cond (eqb b 118) None (next_stream streams))
 
@@ -67,20 +67,20 @@ by_node agents nodes told edges number = where_so (number == told && nat_lt told
 abbrev by_edge : ℕ → ℕ → ℕ → ℕ → ℕ → ℕ → Option Stand
 by_edge agents nodes told edges from to = where_so ((told == nodes && nat_lt 0 edges) && (nat_lt from nodes && nat_lt to nodes)) (stand.Graphs agents nodes told (edges - 1))
 
--- behind graphs: `a` begins an agent's line, `n` a node's
+-- Behind graphs: `a` begins an agent's line, `n` a node's
 abbrev by_graph : ℕ → ℕ → ℕ → ℕ → List (List ℕ) → Option Stand
 by_graph agents nodes told edges fields =
     cond (eqb (initial fields) 97) (by_agent_graph agents nodes told edges (number_2 fields) (number_3 fields))
     (cond (eqb (initial fields) 110) (by_node agents nodes told edges (number_1 fields)) (by_edge agents nodes told edges (number_1 fields) (number_2 fields)))
 
--- what digits stand for
+-- What digits stand for
 digits_value-long : (n : ℕ) → n < 2 ^ 64 → digits_value 10 (decimal n) ≡ n
 digits_value-long n long = (decimal_is_IsNumeral n long).1
 
 digits_value-short : (n : ℕ) → n < 2 ^ 32 → digits_value 10 (decimal n) ≡ n
 digits_value-short n short = digits_value-long n (omega arith)
 
--- no number begins with `e`
+-- No number begins with `e`
 no_e : (digits : List ℕ) → Each is_ascii_digit digits → eqb (get_or digits 0 0) 101 ≡ false
 no_e [] each = refl
 no_e (b ∷ digits) each = ne_eqb b 101 (λ e. let is : is_ascii_digit b ≡ is_ascii_digit 101 = ap is_ascii_digit e in let no : is_ascii_digit 101 ≡ false = refl in cc (is, no, each.0))
@@ -120,7 +120,7 @@ by_graph-is agents nodes told edges (note.Node number point phase budget worst d
 by_graph-is agents nodes told edges (note.EdgeOf from to len) is graph = rw (digits_value-short from is.0, digits_value-short to is.1) refl
 by_graph-is agents nodes told edges _ is graph = absurd graph
 
--- notes with the same fields lead to the same stand
+-- Notes with the same fields lead to the same stand
 alike : (from : Stand) (some other : Note) → IsTold some → IsTold other → IsReadAt from some → IsReadAt from other → fields_of some ≡ fields_of other → next_stand from some ≡ next_stand from other
 alike (stand.Dated last) some other told is_told read is_read same = by_date-is last some told read ∙ ap (by_date last) same ∙ sym (by_date-is last other is_told is_read)
 alike (stand.Agents agents) some other told is_told read is_read same = by_agents-is agents some read ∙ ap (λ fields. by_agents agents (initial fields)) same ∙ sym (by_agents-is agents other is_read)
@@ -131,13 +131,13 @@ alike (stand.Streams streams) some other told is_told read is_read same =
 alike (stand.Graphs agents nodes told edges) some other is_told tells read is_read same =
     by_graph-is agents nodes told edges some is_told read ∙ ap (by_graph agents nodes told edges) same ∙ sym (by_graph-is agents nodes told edges other tells is_read)
 
--- two notes that are read at one stand at the front of one text lead to one stand, and the same follows them
+-- Two notes that are read at one stand at the front of one text lead to one stand, and the same follows them
 pub one_step : (from : Stand) (some other : Note) (rest more : List ℕ) → IsTold some → IsTold other → IsReadAt from some → IsReadAt from other → spell (fields_of some) rest ≡ spell (fields_of other) more → (next_stand from some ≡ next_stand from other) × (rest ≡ more)
 one_step from some other rest more told is_told read is_read is =
     let line = one_line (fields_of some) (fields_of other) rest more (AllPlain-fields_of some told) (AllPlain-fields_of other is_told) is in
     (alike from some other told is_told read is_read line.0, line.1)
 
--- a note behind which a stand follows is read there
+-- A note behind which a stand follows is read there
 dated_by : (last : ℕ) (note : Note) (to : Stand) → behind_dated last note ≡ Some to → IsDated note
 dated_by last (note.StopOverrun date agent) to is = tt
 dated_by last (note.StopTrap date agent kind) to is = tt

@@ -7,24 +7,24 @@ use Rattle.psy_notes.specs.Stands.{may_end}
 use Rattle.psy_notes.specs.Texts.{Steps, text_of, IsText, BreaksAt}
 use Rattle.psy_notes.proofs.Walks.{length-line}
 
--- no notes have this text from this stand on
+-- No notes have this text from this stand on
 abbrev NoText : Stand → List ℕ → Type 0
 NoText from text = (notes : List Note) → IsText from text notes → ⊥
 
--- the text breaks nowhere
+-- The text breaks nowhere
 abbrev NoBreak : Stand → List ℕ → Type 0
 NoBreak from text = (line : ℕ) → BreaksAt from text line → ⊥
 
--- a text without bytes ends or breaks at its first line
+-- A text without bytes ends or breaks at its first line
 either_empty : (from : Stand) (ends : Bool) → may_end from ≡ ends → NoText from [] → NoBreak from [] → ⊥
 either_empty from true is no_text no_break = no_text [] (record { last = from; leads = refl; ends = is; whole = refl })
 either_empty from false is no_text no_break = no_break 1 (record { notes = []; rest = []; last = from; leads = refl; cut = refl; stuck = inl (refl, is); number = refl })
 
--- a text breaks at its first line where nothing goes on there
+-- A text breaks at its first line where nothing goes on there
 at_first : (from : Stand) (text : List ℕ) → text ≢ [] → ((note : Note) (to : Stand) (more : List ℕ) → Steps from note to → text ≢ line_of note ++ more) → BreaksAt from text 1
 at_first from text some none = record { notes = []; rest = text; last = from; leads = refl; cut = refl; stuck = inr (some, none); number = refl }
 
--- one line more in front of a whole text, and of one that breaks
+-- One line more in front of a whole text, and of one that breaks
 text_behind : (from : Stand) (text : List ℕ) (note : Note) (to : Stand) (more : List ℕ) → Steps from note to → text ≡ line_of note ++ more → NoText from text → NoText to more
 text_behind from text note to more steps is no_text notes read = no_text (note ∷ notes) (record { last = read.last; leads = (to, steps, read.leads); ends = read.ends; whole = is ∙ ap (λ t. line_of note ++ t) read.whole })
 

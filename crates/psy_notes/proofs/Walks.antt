@@ -12,19 +12,19 @@ use Rattle.psy_notes.proofs.Lines.{length-spell}
 use Rattle.psy_notes.proofs.Fields.{AllPlain-fields_of, line_of-fields}
 use Rattle.psy_notes.proofs.Nexts.{one_step, IsReadAt-by}
 
--- a note's line has bytes
+-- A note's line has bytes
 pub length-line : (note : Note) (more : List ℕ) → IsTold note → length more < length (line_of note ++ more)
 length-line note more told = omega (arith, length-spell (fields_of note) more (AllPlain-fields_of note told), ap length (line_of-fields note more told))
 
--- a text that begins with a line isn't empty
+-- A text that begins with a line isn't empty
 pub some_line : (note : Note) (more : List ℕ) → IsTold note → [] ≢ line_of note ++ more
 some_line note more told is = omega (arith, length-line note more told, ap length is)
 
--- what cannot go on has no line that may stand there at its front
+-- What cannot go on has no line that may stand there at its front
 stuck : (from : Stand) (text : List ℕ) (note : Note) (to : Stand) (more : List ℕ) → CannotGoOn from text → Steps from note to → text ≡ line_of note ++ more → ⊥
 stuck from text note to more cannot steps is = ⊎_elim (λ ended. some_line note more steps.0 (sym ended.0 ∙ is)) (λ none. none.1 note to more steps is) cannot
 
--- two notes that may stand at the front of one text lead to one stand
+-- Two notes that may stand at the front of one text lead to one stand
 same_step : (from : Stand) (some other : Note) (to on : Stand) (rest more : List ℕ) → Steps from some to → Steps from other on → line_of some ++ rest ≡ line_of other ++ more → (to ≡ on) × (rest ≡ more)
 same_step from some other to on rest more steps goes is =
     let fields : spell (fields_of some) rest ≡ spell (fields_of other) more = sym (line_of-fields some rest steps.0) ∙ is ∙ line_of-fields other more goes.0 in
@@ -34,11 +34,11 @@ same_step from some other to on rest more steps goes is =
     let ends = goes.1 in
     (cc (next, leads, ends), one.1)
 
--- the lines of notes, one more in front
+-- The lines of notes, one more in front
 front : (note : Note) (notes : List Note) (rest : List ℕ) → text_of (note ∷ notes) ++ rest ≡ line_of note ++ (text_of notes ++ rest)
 front note notes rest = append_assoc (line_of note) (text_of notes) rest
 
--- a whole text breaks nowhere
+-- A whole text breaks nowhere
 whole_or_broken : (from : Stand) (notes others : List Note) (last stop : Stand) (rest : List ℕ) → Leads from notes last → Leads from others stop → IsTrue (may_end last) → CannotGoOn stop rest → text_of notes ++ [] ≡ text_of others ++ rest → ⊥
 whole_or_broken from [] [] last stop rest leads goes ends cannot is =
     let here : IsTrue (may_end stop) = subst (λ s. IsTrue (may_end s)) (sym leads ∙ goes) ends in
@@ -51,7 +51,7 @@ whole_or_broken from (note ∷ notes) (other ∷ others) last stop rest leads go
     let same = same_step from note other leads.0 goes.0 (text_of notes ++ []) (text_of others ++ rest) leads.1 goes.1 (sym (front note notes []) ∙ is ∙ front other others rest) in
     whole_or_broken leads.0 notes others last stop rest leads.2 (subst (λ s. Leads s others stop) (sym same.0) goes.2) ends cannot same.1
 
--- a text breaks behind one number of lines
+-- A text breaks behind one number of lines
 same_break : (from : Stand) (notes others : List Note) (last stop : Stand) (rest more : List ℕ) → Leads from notes last → Leads from others stop → CannotGoOn last rest → CannotGoOn stop more → text_of notes ++ rest ≡ text_of others ++ more → length notes ≡ length others
 same_break from [] [] last stop rest more leads goes cannot ends is = refl
 same_break from [] (other ∷ others) last stop rest more leads goes cannot ends is =
@@ -71,17 +71,17 @@ one_break first text line other breaks stops =
     let same = same_break first breaks.notes stops.notes breaks.last stops.last breaks.rest stops.rest breaks.leads stops.leads breaks.stuck stops.stuck (sym breaks.cut ∙ stops.cut) in
     omega (arith, same, breaks.number, stops.number)
 
--- where no note that is read there stands at the front, no line stands there behind which the text goes on
+-- Where no note that is read there stands at the front, no line stands there behind which the text goes on
 pub unread : (from : Stand) (text : List ℕ) → ((note : Note) (more : List ℕ) → IsTold note → IsReadAt from note → text ≢ spell (fields_of note) more) → (note : Note) (to : Stand) (more : List ℕ) → Steps from note to → text ≢ line_of note ++ more
 unread from text none note to more steps is = none note more steps.0 (IsReadAt-by from note to steps.1) (is ∙ line_of-fields note more steps.0)
 
--- nor where one stands there that may not
+-- Nor where one stands there that may not
 pub unfit : (from : Stand) (text : List ℕ) (some : Note) (rest : List ℕ) → IsTold some → IsReadAt from some → text ≡ spell (fields_of some) rest → next_stand from some ≡ None → (note : Note) (to : Stand) (more : List ℕ) → Steps from note to → text ≢ line_of note ++ more
 unfit from text some rest told read is ends note to more steps eq =
     let one = one_step from some note rest more told steps.0 read (IsReadAt-by from note to steps.1) (sym is ∙ eq ∙ line_of-fields note more steps.0) in
     cc (one.0, ends, steps.1)
 
--- one note more
+-- One note more
 pub Leads-push : (from : Stand) (notes : List Note) (between : Stand) (note : Note) (to : Stand) → Leads from notes between → Steps between note to → Leads from (notes ++ note ∷ []) to
 Leads-push from [] between note to leads steps = (to, subst (λ s. Steps s note to) (sym leads) steps, refl)
 Leads-push from (first ∷ notes) between note to leads steps = (leads.0, leads.1, Leads-push leads.0 notes between note to leads.2 steps)

@@ -5,15 +5,15 @@ use Rattle.psy_front.specs.Fronts.{IsName}
 use Rattle.psy_log.specs.declared.note.Note.{Note}
 use Rattle.psy_log.specs.declared.note.Note.TheVariants as note
 
--- a number of 32 bits
+-- A number of 32 bits
 abbrev pub IsShort : ℕ → Type 0
 IsShort number = number < 2 ^ 32
 
--- a number of 64 bits
+-- A number of 64 bits
 abbrev pub IsLong : ℕ → Type 0
 IsLong number = number < 2 ^ 64
 
--- none, or one of that sort
+-- None, or one of that sort
 abbrev pub OrNone : (ℕ → Type 0) → Option ℕ → Type 0
 OrNone sort None = Unit {0}
 OrNone sort (Some number) = sort number

@@ -7,13 +7,13 @@ use Rattle.psy_log.specs.Forms.{trap_name, number_or_dash}
 use Rattle.psy_notes.specs.declared.stand.Stand.{Stand}
 use Rattle.psy_notes.specs.declared.stand.Stand.TheVariants as stand
 
--- the fields with a blank behind each, and a line feed behind the last one; and what follows that line
+-- The fields with a blank behind each, and a line feed behind the last one; and what follows that line
 abbrev pub spell : List (List ℕ) → List ℕ → List ℕ
 spell [] more = more
 spell (field ∷ []) more = field ++ 10 ∷ more
 spell (field ∷ next ∷ fields) more = field ++ 32 ∷ spell (next ∷ fields) more
 
--- the fields of the line of each note that can be told
+-- The fields of the line of each note that can be told
 abbrev pub fields_of : Note → List (List ℕ)
 fields_of (note.StopOverrun date agent) = decimal date ∷ codes "stop" ∷ agent.now ∷ codes "overrun" ∷ []
 fields_of (note.StopTrap date agent kind) = decimal date ∷ codes "stop" ∷ agent.now ∷ codes "trap" ∷ trap_name kind ∷ []
@@ -29,7 +29,7 @@ fields_of (note.Node number point phase budget worst due) =
 fields_of (note.EdgeOf from to len) = codes "edge" ∷ decimal from ∷ decimal to ∷ decimal len ∷ []
 fields_of _ = []
 
--- a note of a date, or the end
+-- A note of a date, or the end
 abbrev pub IsDated : Note → Type 0
 IsDated (note.StopOverrun date agent) = Unit {0}
 IsDated (note.StopTrap date agent kind) = Unit {0}
@@ -38,21 +38,21 @@ IsDated (note.Message date stream value) = Unit {0}
 IsDated (note.End until) = Unit {0}
 IsDated _ = ⊥
 
--- a note of a summary
+-- A note of a summary
 abbrev pub IsSummary : Note → Type 0
 IsSummary (note.AgentEnd agent count slack) = Unit {0}
 IsSummary (note.VariableEnd variable size reach) = Unit {0}
 IsSummary (note.StreamEnd stream size held) = Unit {0}
 IsSummary _ = ⊥
 
--- a note of a graph
+-- A note of a graph
 abbrev pub IsGraph : Note → Type 0
 IsGraph (note.AgentGraph agent nodes edges) = Unit {0}
 IsGraph (note.Node number point phase budget worst due) = Unit {0}
 IsGraph (note.EdgeOf from to len) = Unit {0}
 IsGraph _ = ⊥
 
--- the note is of the sort that is read at this stand
+-- The note is of the sort that is read at this stand
 abbrev pub IsReadAt : Stand → Note → Type 0
 IsReadAt (stand.Dated date) note = IsDated note
 IsReadAt (stand.Agents agents) note = IsSummary note

@@ -6,11 +6,11 @@ use Rattle.psy_log.specs.declared.note.Note.TheVariants as note
 use Rattle.psy_notes.specs.declared.stand.Stand.{Stand}
 use Rattle.psy_notes.specs.declared.stand.Stand.TheVariants as stand
 
--- this stand, where that holds
+-- This stand, where that holds
 abbrev pub where_so : Bool → Stand → Option Stand
 where_so holds next = if holds then Some next else None
 
--- a line of this date may follow: dates don't fall, and none lies beyond the last one that psyc runs to
+-- A line of this date may follow: dates don't fall, and none lies beyond the last one that psyc runs to
 abbrev pub may_be_dated : ℕ → ℕ → Bool
 may_be_dated last date = nat_le last date && nat_le date UNTIL
 
@@ -23,11 +23,11 @@ behind_dated last (note.Message date stream value) = where_so (may_be_dated last
 behind_dated last (note.End until) = where_so (may_be_dated last until) (stand.Agents 0)
 behind_dated last _ = None
 
--- one stream more
+-- One stream more
 abbrev pub next_stream : ℕ → Option Stand
 next_stream streams = where_so (nat_lt streams STREAMS) (stand.Streams (streams + 1))
 
--- one variable more
+-- One variable more
 abbrev pub next_variable : ℕ → Option Stand
 next_variable variables = where_so (nat_lt variables VARIABLES) (stand.Variables (variables + 1))
 
@@ -61,7 +61,7 @@ behind_graph agents nodes told edges (note.EdgeOf from to len) =
     where_so ((told == nodes && nat_lt 0 edges) && (nat_lt from nodes && nat_lt to nodes)) (stand.Graphs agents nodes told (edges - 1))
 behind_graph agents nodes told edges _ = None
 
--- where the text stands behind a note's line, where that line may follow
+-- Where the text stands behind a note's line, where that line may follow
 abbrev pub next_stand : Stand → Note → Option Stand
 next_stand (stand.Dated date) next = behind_dated date next
 next_stand (stand.Agents agents) next = behind_agents agents next
@@ -69,7 +69,7 @@ next_stand (stand.Variables variables) next = behind_variables variables next
 next_stand (stand.Streams streams) next = behind_streams streams next
 next_stand (stand.Graphs agents nodes told edges) next = behind_graph agents nodes told edges next
 
--- the text may end here: behind the end of a run, or behind whole graphs
+-- The text may end here: behind the end of a run, or behind whole graphs
 abbrev pub may_end : Stand → Bool
 may_end (stand.Dated date) = false
 may_end (stand.Agents agents) = true
@@ -77,10 +77,10 @@ may_end (stand.Variables variables) = true
 may_end (stand.Streams streams) = true
 may_end (stand.Graphs agents nodes told edges) = told == nodes && edges == 0
 
--- the beginning of what `psyc run` writes
+-- The beginning of what `psyc run` writes
 abbrev pub run_begins : Stand
 run_begins = stand.Dated 0
 
--- the beginning of what `psyc graph` writes
+-- The beginning of what `psyc graph` writes
 abbrev pub graph_begins : Stand
 graph_begins = stand.Graphs 0 0 0 0

@@ -6,16 +6,16 @@ use Rattle.psy_notes.specs.declared.stand.Stand.{Stand}
 use Rattle.psy_notes.specs.Notes.{IsTold}
 use Rattle.psy_notes.specs.Stands.{next_stand, may_end}
 
--- the note can be told, and its line leads from one stand to the other
+-- The note can be told, and its line leads from one stand to the other
 abbrev pub Steps : Stand → Note → Stand → Type 0
 Steps from note to = IsTold note × (next_stand from note ≡ Some to)
 
--- the lines of the notes lead, one behind the other, from one stand to the other
+-- The lines of the notes lead, one behind the other, from one stand to the other
 abbrev pub Leads : Stand → List Note → Stand → Type 0
 Leads from [] to = from ≡ to
 Leads from (note ∷ notes) to = (between : Stand) × Steps from note between × Leads between notes to
 
--- the bytes of the notes' lines
+-- The bytes of the notes' lines
 abbrev pub text_of : List Note → List ℕ
 text_of notes = flat_map line_of notes
 

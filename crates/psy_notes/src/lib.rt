@@ -1,4 +1,5 @@
 //! Reads back what `psyc run` and `psyc graph` wrote: the notes whose lines a text is, or the first line that isn't in form.
+//! It may know the forms of lines, and which may follow which; nothing of programs.
 #![tactic(auto)]
 
 mod dated;

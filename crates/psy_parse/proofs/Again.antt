@@ -13,7 +13,7 @@ use Rattle.psy_tree.specs.Grammar.Expr.{number, variable, cell, call_of_none, ca
 use Rattle.psy_tree.specs.Grammar.Others.{no_more, one_more}
 use Rattle.psy_parse.specs.Reading.{given, name_at, number_at, after_number, after_word, after_sign, word_at, sign_at, unary_at_front, binary_at_front, in_brackets_at, past_at, args_at, behind_name_at, primary_at, operand_at, expr_at, climb_at, others_at}
 
--- what follows an expression of operators of levels below this one
+-- What follows an expression of operators of levels below this one
 pub record Closed (level : ℕ) (rest : List Numbered) : Type 0 where
   pub operator : binary_at_front level rest ≡ None
   pub round : after_sign signs.OpenRound rest ≡ None
@@ -38,7 +38,7 @@ mutual
   shorter_others no_more = omega arith
   shorter_others (one_more h o) = omega (arith, shorter h, shorter_others o)
 
--- no expression begins with a closing bracket
+-- No expression begins with a closing bracket
 unary_open : (s : Sign) (n : ℕ) (op : _) (ts : List Numbered) → unary_of s ≡ Some op → after_sign signs.CloseRound (sign n s ∷ ts) ≡ None
 unfolding after_sign
 unary_open signs.CloseRound n op ts e = absurd cc
@@ -64,14 +64,14 @@ unfolding after_sign binary_at_front
 others_closed no_more = record { operator = refl; round = refl; square = refl }
 others_closed (one_more h o) = record { operator = refl; round = refl; square = refl }
 
--- an operator between operands is no bracket
+-- An operator between operands is no bracket
 not_bracket : (s : Sign) (p : ℕ × Op2) (n : ℕ) (ts : List Numbered) → binary_of s ≡ Some p → (after_sign signs.OpenRound (sign n s ∷ ts) ≡ None) × (after_sign signs.OpenSquare (sign n s ∷ ts) ≡ None)
 unfolding after_sign
 not_bracket signs.OpenRound p n ts e = absurd cc
 not_bracket signs.OpenSquare p n ts e = absurd cc
 not_bracket _ p n ts e = (refl, refl)
 
--- an operator is found by levels looser than its own, and by no other
+-- An operator is found by levels looser than its own, and by no other
 pub found_above : (level own : ℕ) (op : Op2) (s : Sign) (n : ℕ) (ts : List Numbered) → binary_of s ≡ Some (own, op) → own < level → binary_at_front level (sign n s ∷ ts) ≡ Some (own, op, ts)
 unfolding binary_at_front
 found_above level own op s n ts e lt = rw (e, lt-leb level own lt) refl

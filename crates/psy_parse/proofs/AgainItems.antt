@@ -13,7 +13,7 @@ use Rattle.psy_tree.specs.declared.raw.Item.{Item}
 use Rattle.psy_tree.specs.Grammar.{Numbered, numbered, named, numeral, word, sign, Start, FunctionLocal, AgentLocal, Many, Further, Params, Parent, Shift, Declaration, Program, Spells}
 use Rattle.psy_tree.specs.Grammar as grammar
 use Rattle.psy_parse.specs.Reading.{name_at, number_at, after_number, after_word, after_sign, word_at, sign_at, start_at, array_at, scalar_at, local_at, locals_at, param_at, further_at, params_at, parent_at, shift_at, clock_at, temporal_at, input_at, stream_at, function_at, agent_at, declaration_at, program_at, is_end, quantum_at, text_at}
-use Rattle.psy_tree.proofs.TokenCounts.{length_of_numbered}
+use Rattle.psy_parse.proofs.Numbers.{length_of_numbered}
 use Rattle.psy_parse.proofs.AgainStmts.{shorter_block, block_begins, block_again}
 
 shorter_start : {ts rest : List Numbered} {i : Init} → Start ts i rest → length rest < length ts
@@ -25,14 +25,14 @@ unfolding start_at number_at after_number after_sign
 start_again grammar.Start.plain = refl
 start_again grammar.Start.negated = refl
 
--- locals
+-- Locals
 
--- a function's local, or an agent's
+-- A function's local, or an agent's
 abbrev OneLocal : Bool → List Numbered → Local → List Numbered → Type 0
 OneLocal false = FunctionLocal
 OneLocal true = AgentLocal
 
--- a local behind its first word is read again
+-- A local behind its first word is read again
 data LocalAgain (arrays : Bool) : List Numbered → Local → List Numbered → Type 0 where
   again : {n : ℕ} {x : Local} {ts rest : List Numbered} → length rest < length ts → local_at arrays ts ≡ Ok (x, rest) → LocalAgain arrays (word n words.Int ∷ ts) x rest
 
@@ -69,7 +69,7 @@ locals_again arrays (suc n) front {rest = rest} (grammar.Many.more {first = x} {
     local_step arrays n front one ∙ locals_again arrays n (front ++ x ∷ []) m (omega (arith, shorter_local one)) none
     ∙ ap (λ (all : List Local). Ok (all, rest)) (append_assoc front (x ∷ []) others)
 
--- parameters
+-- Parameters
 
 shorter_further : {ts rest : List Numbered} {xs : List Name} → Further ts xs rest → length rest < length ts
 shorter_further grammar.Further.no_more = omega arith
@@ -91,7 +91,7 @@ unfolding params_at param_at name_at word_at after_word after_sign
 params_again n grammar.Params.without lt = refl
 params_again n (grammar.Params.with_first {x = x} f) lt = rw (further_again n (x ∷ []) f (omega arith)) refl
 
--- declarations
+-- Declarations
 
 parent_again : {ts rest : List Numbered} {p : Option Name} → Parent ts p rest → parent_at ts ≡ Ok (p, rest)
 unfolding parent_at name_at after_word
@@ -151,25 +151,25 @@ quantum_again : (n m : ℕ) (quantum : Lit) (ts : List Numbered) → quantum_at 
 unfolding quantum_at number_at after_number word_at after_word sign_at after_sign
 quantum_again n m quantum ts = refl
 
--- the tree that has these tokens is read from them
+-- The tree that has these tokens is read from them
 pub reading_from_spells : (n : ℕ) {tokens : List Token} {raw : Raw} → Spells raw tokens → length tokens < n → text_at n (numbered 0 tokens) ≡ Ok raw
 unfolding text_at
 reading_from_spells n {tokens = tokens} (grammar.Spells.program {quantum = quantum} {n = a} {a = b} {ts = ts} e p) lt =
     let enough : length ts < n = omega (arith, length_of_numbered 0 tokens, ap length e) in
     rw (e, quantum_again a b quantum ts, program_again n [] p enough) refl
 
--- it is the only one
+-- It is the only one
 pub only_tree : (tokens : List Token) (raw other : Raw) → text_at (length tokens + 1) (numbered 0 tokens) ≡ Ok raw → Spells other tokens → other ≡ raw
 only_tree tokens raw other read s =
     let again = reading_from_spells (length tokens + 1) s (omega arith) in
     let same : ◌≡◌ {A = Result Raw ℕ} (Ok other) (Ok raw) = sym again ∙ read in
     cc
 
--- tokens have one tree at most
+-- Tokens have one tree at most
 pub Spells-unique : (tokens : List Token) (raw other : Raw) → Spells raw tokens → Spells other tokens → raw ≡ other
 Spells-unique tokens raw other s t = only_tree tokens other raw (reading_from_spells (length tokens + 1) t (omega arith)) s
 
--- where reading can't go on, there is none
+-- Where reading can't go on, there is none
 pub no_tree : (tokens : List Token) (n : ℕ) → text_at (length tokens + 1) (numbered 0 tokens) ≡ Err n → (raw : Raw) → Spells raw tokens → ⊥
 no_tree tokens n read raw s =
     let again = reading_from_spells (length tokens + 1) s (omega arith) in

@@ -28,7 +28,7 @@ mutual
   shorter_block close = omega arith
   shorter_block (next s b) = omega (arith, shorter_stmt s, shorter_block b)
 
--- what a statement doesn't begin with
+-- What a statement doesn't begin with
 pub record Begins (ts : List Numbered) : Type 0 where
   pub no_else : after_word words.Else ts ≡ None
   pub no_int : after_word words.Int ts ≡ None

@@ -17,7 +17,7 @@ reached_or_not tokens n = elim (eqb_tells (bracket_depth (up_to tokens n)) BRACK
   ]
 ]
 
--- the first of the first n tokens that reaches a measure, or none does
+-- The first of the first n tokens that reaches a measure, or none does
 first_or_none : (tokens : List Token) (n : ℕ) → n ≤ length tokens → ((k : ℕ) × Deep tokens k) ⊎ ((earlier : ℕ) → earlier < n → IsTooDeep tokens earlier → ⊥)
 first_or_none tokens zero within = inr (λ earlier below. absurd (omega arith))
 first_or_none tokens (suc n) within = elim (first_or_none tokens n (omega arith)) [

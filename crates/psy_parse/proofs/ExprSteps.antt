@@ -17,13 +17,13 @@ use Rattle.psy_parse.proofs.Again.{is_none}
 use Rattle.psy_parse.proofs.Steps.{Front, through, Anything, Whatever, Ends, Step, Part, Listed, listed, nothing_listed, one_listed, done_step, out_of_turns, weaker_step, bind_step, last_step}
 use Rattle.psy_parse.proofs.Heads.{sign_step, number_step, name_step, given_sign, given_word, given_number, given_unary, given_binary}
 
--- levels
+-- Levels
 
--- no operator of a level below this one follows
+-- No operator of a level below this one follows
 abbrev pub Ended : ℕ → List Numbered → Type 0
 Ended level us = binary_at_front level us ≡ None
 
--- a level that is looser still
+-- A level that is looser still
 looser : (a b : ℕ) {ts rest : List Numbered} {e : RawExpr} → a ≤ b → Expr a ts e rest → Expr b ts e rest
 looser a zero le h = let same : a ≡ 0 = omega arith in rw same at h
 looser a (suc b) le h =
@@ -32,7 +32,7 @@ looser a (suc b) le h =
       | inr low ↦ grammar.Expr.tighter (looser a b low h)
     ]
 
--- an operator isn't of a level below that at which an expression ended before it
+-- An operator isn't of a level below that at which an expression ended before it
 not_below : (k own : ℕ) (op : Op2) (s : Sign) (n : ℕ) (us : List Numbered) → binary_of s ≡ Some (own, op) → Ended k (sign n s ∷ us) → k ≤ own
 unfolding binary_at_front
 not_below k own op s n us is ended = leb-true k own (is_none (leb k own) (own, op, us) (rw is at ended))
@@ -41,7 +41,7 @@ none_by : (o : Option (ℕ × Op2)) (ts : List Numbered) → given {B = Option (
 none_by None ts = refl
 none_by (Some p) ts = ap (λ b. cond {A = Option (ℕ × Op2 × List Numbered)} b None (Some (p.0, p.1, ts))) (leb-zero p.0)
 
--- no operator is of a level below 0
+-- No operator is of a level below 0
 none_at_zero : (ts : List Numbered) → Ended 0 ts
 unfolding binary_at_front
 none_at_zero [] = refl
@@ -50,7 +50,7 @@ none_at_zero ((n, kinds.Name x) ∷ ts) = refl
 none_at_zero ((n, kinds.Number v) ∷ ts) = refl
 none_at_zero ((n, kinds.Sign s) ∷ ts) = none_by (binary_of s) ts
 
--- parts of expressions
+-- Parts of expressions
 
 data InBrackets : List Numbered → Name → List Numbered → Type 0 where
   brackets : {n m : ℕ} {x : Name} {rest : List Numbered} → InBrackets (sign n signs.OpenRound ∷ named x ∷ sign m signs.CloseRound ∷ rest) x rest
@@ -65,7 +65,7 @@ ready_of brackets = grammar.Expr.ready
 take_of : {n : ℕ} {ts rest : List Numbered} {x : Name} → InBrackets ts x rest → Expr 0 (word n words.Take ∷ ts) (Take n x) rest
 take_of brackets = grammar.Expr.take
 
--- the arguments of a call, and the closing bracket
+-- The arguments of a call, and the closing bracket
 data Args : List Numbered → List RawExpr → List Numbered → Type 0 where
   no_args : {n : ℕ} {rest : List Numbered} → Args (sign n signs.CloseRound ∷ rest) [] rest
   some_args : {first : RawExpr} {others : List RawExpr} {ts us rest : List Numbered} → Expr 10 ts first us → Others us others rest → Args ts (first ∷ others) rest
@@ -115,7 +115,7 @@ module _ (expr expr' : ℕ → Reads RawExpr) (others others' : List RawExpr →
       given_unary _ _ _ _ (λ o. bind_step _ _ (expr_part 0) (omega arith) (λ m e is. done_step ends (omega arith) (λ us _. tt) (λ rest. grammar.Expr.unary o.is (is rest))))
       (primary_steps pre ends)
 
--- a left side of level l, behind which no operator of a level below k follows, and the operators behind it
+-- A left side of level l, behind which no operator of a level below k follows, and the operators behind it
 abbrev Climb : (level bound : ℕ) (k k' : RawExpr → Reads RawExpr) → Type 0
 Climb level enough go go' = (pre : Front) → Ends pre (Whatever (Expr level)) → (ts : List Numbered) (other : Reads RawExpr) (bound c l k : ℕ) (left : Front) (e : RawExpr)
     → Whatever (Expr l) left e → l ≤ level → l ≤ suc k → bound ≤ c + enough → 1 ≤ c

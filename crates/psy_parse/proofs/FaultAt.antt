@@ -6,39 +6,17 @@ use Rattle.psy_tree.specs.declared.token.Kind.{Kind}
 use Rattle.psy_tree.specs.declared.raw.Raw.{Raw}
 use Rattle.psy_tree.specs.Grammar.{Numbered, numbered, Spells}
 use Rattle.psy_tree.specs.Grammar as grammar
-use Rattle.psy_tree.proofs.TokenCounts.{length_of_numbered}
 use Rattle.psy_parse.specs.Fault.{Viable, AtFault, inside, at_end}
 use Rattle.psy_parse.specs.Reading.{◌>>=◌, text_at}
+use Rattle.psy_parse.proofs.Numbers.{length_of_numbered, numbered-append, numbered-take, tokens_of, numbered-tokens_of}
 use Rattle.psy_parse.proofs.Steps.{Front, IsFront, SameHead, same_head, IsText, text, CanEnd, numbers, Read, done, failed}
 use Rattle.psy_parse.proofs.ItemSteps.{Texts, Nothing, whole_at, whole_part, text_whole}
 use Rattle.psy_parse.proofs.AgainItems.{reading_from_spells, no_tree}
 
--- numbered tokens
-
-numbered-append : (n : ℕ) (before after : List Token) → numbered n (before ++ after) ≡ numbered n before ++ numbered (n + length before) after
-numbered-append n [] after = let same : n + 0 ≡ n = omega arith in ap (λ k. numbered k after) (sym same)
-numbered-append n (token ∷ before) after =
-    let same : suc n + length before ≡ n + length (token ∷ before) = omega arith in
-    ap (λ (ts : List Numbered). (n, token.kind) ∷ ts) (numbered-append (suc n) before after ∙ ap (λ k. numbered (suc n) before ++ numbered k after) same)
-
-numbered-take : (n i : ℕ) (tokens : List Token) → numbered n (take i tokens) ≡ take i (numbered n tokens)
-numbered-take n zero tokens = refl
-numbered-take n (suc i) [] = refl
-numbered-take n (suc i) (token ∷ tokens) = ap (λ (ts : List Numbered). (n, token.kind) ∷ ts) (numbered-take (suc n) i tokens)
-
-tokens_of : List Kind → List Token
-tokens_of [] = []
-tokens_of (kind ∷ kinds) = record { place = 0; kind = kind } ∷ tokens_of kinds
-
-numbered-tokens_of : (n : ℕ) (kinds : List Kind) → numbered n (tokens_of kinds) ≡ numbers n kinds
-unfolding tokens_of
-numbered-tokens_of n [] = refl
-numbered-tokens_of n (kind ∷ kinds) = ap (λ (ts : List Numbered). (n, kind) ∷ ts) (numbered-tokens_of (suc n) kinds)
-
 spells_of_text : (raw : Raw) (ts : List Numbered) (tokens : List Token) → IsText raw ts → numbered 0 tokens ≡ ts → Spells raw tokens
 spells_of_text raw ts tokens (text p) e = grammar.Spells.program e p
 
--- viable tokens
+-- Viable tokens
 
 viable_front : (before after : List Token) → Viable (before ++ after) → Viable before
 viable_front before after v = record {
@@ -54,9 +32,9 @@ viable_take j i tokens le v =
 pub viable_all : (i : ℕ) (tokens : List Token) → Viable tokens → Viable (take i tokens)
 viable_all i tokens v = viable_front (take i tokens) (drop i tokens) (subst (λ (ts : List Token). Viable ts) (sym (take-append-drop i tokens)) v)
 
--- reading
+-- Reading
 
--- reading is stuck with k tokens left, and so it is in m turns, while the tokens up to the next are the same
+-- Reading is stuck with k tokens left, and so it is in m turns, while the tokens up to the next are the same
 record Stops (m : ℕ) (ts : List Numbered) (k : ℕ) : Type 0 where
   front : Front
   rest : List Numbered
@@ -83,14 +61,14 @@ texts_by m ts _ (done {mid = mid} {x = x} {rest = rest} front is len spelled non
     subst (λ (us : List Numbered). IsText raw us) (sym (is ∙ ap mid none)) (subst (λ (r : Raw). IsText r (mid [])) same spelled)
 texts_by m ts _ (failed front is hope again) raw e = absurd cc
 
--- the tree that is read has these tokens
+-- The tree that is read has these tokens
 pub spells_from_reading : (tokens : List Token) (raw : Raw) → text_at (length tokens + 1) (numbered 0 tokens) ≡ Ok raw → Spells raw tokens
 spells_from_reading tokens raw e =
     let n = length tokens + 1 in
     let ts = numbered 0 tokens in
     spells_of_text raw ts tokens (texts_by n ts (whole_at n ts) (text_read n n ts (omega arith) (omega (arith, length_of_numbered 0 tokens))) raw (sym (text_whole n ts) ∙ e)) refl
 
--- the tokens that were read before it stopped
+-- The tokens that were read before it stopped
 module _ (tokens : List Token) (m k : ℕ) (s : Stops m (numbered 0 tokens) k) where
   abbrev taken : ℕ
   taken = length (s.front [])

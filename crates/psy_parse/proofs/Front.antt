@@ -9,7 +9,7 @@ use Rattle.psy_tree.specs.Deep.{bracket_depth, operators_since, IsTooDeep}
 abbrev pub front : List Token → ℕ → List Kind
 front tokens n = reverse (map (λ token. token.kind) (take n tokens))
 
--- one token more
+-- One token more
 pub front_more : (tokens : List Token) (i : ℕ) (token : Token) → i < length tokens → token ≡ get_or tokens i token → front tokens (i + 1) ≡ token.kind ∷ front tokens i
 front_more tokens i token lt is =
     ap (λ (ts : List Token). reverse (map (λ t. t.kind) ts)) (take_more tokens i token lt)
@@ -17,7 +17,7 @@ front_more tokens i token lt is =
     ∙ reverse-append (map (λ (t : Token). t.kind) (take i tokens)) ((get_or tokens i token).kind ∷ [])
     ∙ ap (λ (t : Token). t.kind ∷ front tokens i) (sym is)
 
--- where neither number is that of a measure, none is reached
+-- Where neither number is that of a measure, none is reached
 pub not_reached : (tokens : List Token) (i depth since : ℕ) → bracket_depth (front tokens (i + 1)) ≡ depth → operators_since (front tokens (i + 1)) ≡ since → (depth ≡ BRACKETS → ⊥) → (since ≡ OPERATORS → ⊥) → IsTooDeep tokens i → ⊥
 not_reached tokens i depth since d r not_deep not_long (inl e) = not_deep (sym (rw add-one at d) ∙ e)
 not_reached tokens i depth since d r not_deep not_long (inr e) = not_long (sym (rw add-one at r) ∙ e)

@@ -38,7 +38,7 @@ module _ {X J : Type 0} {peek : List Numbered → Option X} {token : J → Numbe
     meets = λ us. must_by us (peek us) (l.seen us);
   }
 
--- signs
+-- Signs
 
 sign_seen : (s r : Sign) (n : ℕ) (us : List Numbered) → Seen (after_sign s) (λ n. sign n s) (λ n us. us) (sign n r ∷ us) (after_sign s (sign n r ∷ us))
 unfolding after_sign
@@ -61,7 +61,7 @@ sign_looks s = record {
   by ((n, kinds.Name x) ∷ us) = passed_over _ us (λ vs. refl)
   by ((n, kinds.Number v) ∷ us) = passed_over _ us (λ vs. refl)
 
--- words
+-- Words
 
 word_seen : (w r : Word) (n : ℕ) (us : List Numbered) → Seen (after_word w) (λ n. word n w) (λ n us. (n, us)) (word n r ∷ us) (after_word w (word n r ∷ us))
 unfolding after_word
@@ -84,7 +84,7 @@ word_looks w = record {
   by ((n, kinds.Name x) ∷ us) = passed_over _ us (λ vs. refl)
   by ((n, kinds.Number v) ∷ us) = passed_over _ us (λ vs. refl)
 
--- numbers
+-- Numbers
 
 number_looks : Looks after_number numeral (λ k us. (k, us))
 unfolding after_number
@@ -99,7 +99,7 @@ number_looks = record {
   by ((n, kinds.Sign s) ∷ us) = passed_over _ us (λ vs. refl)
   by ((n, kinds.Name x) ∷ us) = passed_over _ us (λ vs. refl)
 
--- names
+-- Names
 
 missed_here : (t : Numbered) (us : List Numbered) → ((vs : List Numbered) → name_at (t ∷ vs) ≡ Err (length (t ∷ vs))) → Met name_at named (λ x us. (x, us)) (t ∷ us) (Err (length (t ∷ us)))
 missed_here t us none = missed other where
@@ -119,9 +119,9 @@ name_meets = record {
   by ((n, kinds.Sign s) ∷ us) = missed_here _ us (λ vs. refl)
   by ((n, kinds.Number v) ∷ us) = missed_here _ us (λ vs. refl)
 
--- operators
+-- Operators
 
--- an operator before an operand
+-- An operator before an operand
 pub record Prefix : Type 0 where
   pub number : ℕ
   pub sign_of : Sign
@@ -149,7 +149,7 @@ unary_looks = record {
   by ((n, kinds.Name x) ∷ us) = passed_over _ us (λ vs. refl)
   by ((n, kinds.Number v) ∷ us) = passed_over _ us (λ vs. refl)
 
--- an operator between operands, of a level below this one
+-- An operator between operands, of a level below this one
 pub record Infix (level : ℕ) : Type 0 where
   pub number : ℕ
   pub sign_of : Sign
@@ -187,7 +187,7 @@ binary_looks level = record {
   by ((n, kinds.Name x) ∷ us) = passed_over _ us (λ vs. refl)
   by ((n, kinds.Number v) ∷ us) = passed_over _ us (λ vs. refl)
 
--- steps
+-- Steps
 
 module _ {A : Type 0} {pre : Front} {R : Front → A → Type 0} {E : List Numbered → Type 0} {ts : List Numbered}
     {other : List Numbered → Result (A × List Numbered) ℕ} {takes bound : ℕ} {mid : Front} {c : ℕ} {F : List Numbered → Type 0} where

@@ -21,14 +21,14 @@ start_part enough pre ends ts =
     given_sign _ _ _ _ _ (λ _. number_step _ _ (λ k. done_step ends (omega arith) (λ us _. tt) (λ rest. grammar.Start.negated)))
     (number_step _ _ (λ k. done_step ends (omega arith) (λ us _. tt) (λ rest. grammar.Start.plain)))
 
--- locals
+-- Locals
 
--- a function's local, or an agent's
+-- A function's local, or an agent's
 abbrev OneLocal : Bool → List Numbered → Local → List Numbered → Type 0
 OneLocal false = FunctionLocal
 OneLocal true = AgentLocal
 
--- a local behind its first word
+-- A local behind its first word
 abbrev BehindInt : Bool → Front → Local → Type 0
 BehindInt arrays mid x = (n : ℕ) (rest : List Numbered) → OneLocal arrays (word n words.Int ∷ mid rest) x rest
 
@@ -63,7 +63,7 @@ locals_parts arrays (suc n) (suc m) le front pre ends ts =
 all_locals : (arrays : Bool) {mid : Front} {all : List Local} → Listed (Whatever (Many (OneLocal arrays))) [] mid all → Whatever (Many (OneLocal arrays)) mid all
 all_locals arrays (listed m) = m
 
--- parameters
+-- Parameters
 
 data IsName : List Numbered → Name → List Numbered → Type 0 where
   is_name : {x : Name} {rest : List Numbered} → IsName (named x ∷ rest) x rest
@@ -112,7 +112,7 @@ params_part n m le pre ends ts =
     given_sign _ _ _ _ _ (λ _. done_step ends (omega arith) (λ us _. tt) (λ rest. grammar.Params.without))
     (bind_step _ _ (param_part n) (omega arith) (λ _ x is. last_step ends (further_parts n m le (x ∷ [])) (omega arith) (omega arith) (λ us _. tt) (λ _ all l. params_of is l)))
 
--- declarations
+-- Declarations
 
 parent_part : (enough : ℕ) → Part (Whatever Parent) Anything 1 enough parent_at parent_at
 unfolding parent_at
@@ -176,16 +176,16 @@ declaration_part n m le pre ends ts =
     (given_word _ _ _ _ _ (λ k. agent_steps n m le pre ends ts _ k)
     (stuck_step (through pre (kinds.Word words.Clock) (λ k. (clock_steps n m le pre ends ts (declaration_at m) k).hope))))))))
 
--- programs
+-- Programs
 
--- no tokens are left
+-- No tokens are left
 abbrev pub Nothing : List Numbered → Type 0
 Nothing us = us ≡ []
 
 abbrev Programs : Front → List Item → Type 0
 Programs mid items = Program (mid []) items
 
--- the declarations behind these, up to the end, with the tokens behind it, of which there are none
+-- The declarations behind these, up to the end, with the tokens behind it, of which there are none
 ending_at : ℕ → List Item → Reads (List Item)
 ending_at zero front ts = stuck ts
 ending_at (suc n) front ts = cond (is_end ts) (Ok (front, ts)) (declaration_at n ts >>= λ x. ending_at n (front ++ x.0 ∷ []) x.1)
@@ -214,11 +214,11 @@ text_by is_quantum p = text p
 text_of : {quantum : Lit} {items : List Item} {one mid : Front} → Whatever IsQuantum one quantum → Listed Programs [] mid items → IsText (record { quantum = quantum; items = items }) (one (mid []))
 text_of is (listed p) = text_by (is _) p
 
--- a whole program, with the tokens behind it, of which there are none
+-- A whole program, with the tokens behind it, of which there are none
 pub whole_at : ℕ → Reads Raw
 whole_at n ts = quantum_at ts >>= λ quantum. ending_at n [] quantum.1 >>= λ items. Ok (record { quantum = quantum.0; items = items.0 }, items.1)
 
--- the tokens up to the end are a text
+-- The tokens up to the end are a text
 abbrev pub Texts : Front → Raw → Type 0
 Texts mid raw = IsText raw (mid [])
 
@@ -228,7 +228,7 @@ whole_part n m le pre ends ts =
     bind_step _ _ (quantum_part n) (omega arith) (λ _ quantum is. bind_step _ _ (ending_parts n m le []) (omega arith) (λ _ items l.
     done_step ends (omega arith) (λ us none. none) (text_of is l)))
 
--- it is the text without those tokens
+-- It is the text without those tokens
 
 later : {A B C : Type 0} (r : Result A ℕ) (f : A → Result B ℕ) (g : B → Result C ℕ) → r >>= f >>= g ≡ (r >>= λ x. f x >>= g)
 later (Ok x) f g = refl

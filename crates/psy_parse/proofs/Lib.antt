@@ -1,8 +1,9 @@
 -- The lemmas of this crate, by subject.
+pub mod Steps
+pub mod Numbers
 pub mod Again
 pub mod AgainStmts
 pub mod AgainItems
-pub mod Steps
 pub mod Heads
 pub mod ExprSteps
 pub mod StmtSteps

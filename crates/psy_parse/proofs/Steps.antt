@@ -11,7 +11,7 @@ use Rattle.psy_tree.specs.declared.raw.Item.{Item}
 use Rattle.psy_tree.specs.Grammar.{Numbered, numeral, word, sign, Program}
 use Rattle.psy_parse.specs.Reading.{◌>>=◌, given, stuck, is_end}
 
--- what was read, as a function of what follows
+-- What was read, as a function of what follows
 abbrev pub Front : Type 0
 Front = List Numbered → List Numbered
 
@@ -21,7 +21,7 @@ IsFront front = (us : List Numbered) → front us ≡ front [] ++ us
 pub both_fronts : (mid front : Front) → IsFront mid → IsFront front → IsFront (λ us. mid (front us))
 both_fronts mid front m f us = m (front us) ∙ ap (λ (vs : List Numbered). mid [] ++ vs) (f us) ∙ sym (append_assoc (mid []) (front []) us) ∙ ap (λ (vs : List Numbered). vs ++ us) (sym (m (front [])))
 
--- the same token is next
+-- The same token is next
 pub data SameHead : List Numbered → List Numbered → Type 0 where
   same_head : {t : Numbered} {us vs : List Numbered} → SameHead (t ∷ us) (t ∷ vs)
 
@@ -33,37 +33,37 @@ pub same_front : (front : Front) → IsFront front → {us vs : List Numbered} �
 same_front front f {us = us} {vs = vs} h =
     subst (λ (xs : List Numbered). SameHead xs (front vs)) (sym (f us)) (subst (λ (xs : List Numbered). SameHead (front [] ++ us) xs) (sym (f vs)) (same_behind (front []) h))
 
--- the tokens of a text spell the tree
+-- The tokens of a text spell the tree
 pub data IsText : Raw → List Numbered → Type 0 where
   text : {quantum : Lit} {items : List Item} {n a : ℕ} {ts : List Numbered} → Program ts items
       → IsText (record { quantum = quantum; items = items }) (word n words.Tick ∷ numeral quantum ∷ sign a signs.Semicolon ∷ ts)
 
--- the tokens of these kinds, with their numbers from n on
+-- The tokens of these kinds, with their numbers from n on
 abbrev pub numbers : ℕ → List Kind → List Numbered
 numbers n [] = []
 numbers n (kind ∷ kinds) = (n, kind) ∷ numbers (suc n) kinds
 
--- whatever the number of the next token, something behind what was read makes it a text
+-- Whatever the number of the next token, something behind what was read makes it a text
 abbrev pub CanEnd : Front → Type 0
 CanEnd front = (n : ℕ) → (kinds : List Kind) × (raw : Raw) × IsText raw (front (numbers n kinds))
 
--- with this token next
+-- With this token next
 pub through : (front : Front) (kind : Kind) → ((n : ℕ) → CanEnd (λ us. front ((n, kind) ∷ us))) → CanEnd front
 through front kind h n = let rest = h n (suc n) in (kind ∷ rest.0, rest.1, rest.2)
 
--- nothing is claimed
+-- Nothing is claimed
 abbrev pub Anything : List Numbered → Type 0
 Anything us = Unit {0}
 
--- the relation holds whatever follows
+-- The relation holds whatever follows
 abbrev pub Whatever : {A : Type 0} → (List Numbered → A → List Numbered → Type 0) → Front → A → Type 0
 Whatever R mid x = (rest : List Numbered) → R (mid rest) x rest
 
--- whatever of this kind was read behind pre can be completed
+-- Whatever of this kind was read behind pre can be completed
 abbrev pub Ends : {A : Type 0} → Front → (Front → A → Type 0) → Type 0
 Ends {A = A} pre R = (mid : Front) (x : A) → R mid x → CanEnd (λ us. pre (mid us))
 
--- what reading ts gives, behind pre, where the other reading does the same while the tokens up to the next are the same
+-- What reading ts gives, behind pre, where the other reading does the same while the tokens up to the next are the same
 pub data Read {A : Type 0} (pre : Front) (R : Front → A → Type 0) (E : List Numbered → Type 0) (ts : List Numbered)
     (other : List Numbered → Result (A × List Numbered) ℕ) (takes : ℕ) : Result (A × List Numbered) ℕ → Type 0 where
   done : {mid : Front} {x : A} {rest : List Numbered} → IsFront mid → ts ≡ mid rest → takes + length rest ≤ length ts → R mid x → E rest
@@ -71,7 +71,7 @@ pub data Read {A : Type 0} (pre : Front) (R : Front → A → Type 0) (E : List 
   failed : {mid : Front} {rest : List Numbered} → IsFront mid → ts ≡ mid rest → CanEnd (λ us. pre (mid us))
       → ((us : List Numbered) → SameHead rest us → other (mid us) ≡ Err (length us)) → Read pre R E ts other takes (Err (length rest))
 
--- behind mid, of which c tokens at least were taken, reading goes on with k, and the other with k', where F holds of what follows
+-- Behind mid, of which c tokens at least were taken, reading goes on with k, and the other with k', where F holds of what follows
 pub record Step {A : Type 0} (pre : Front) (R : Front → A → Type 0) (E : List Numbered → Type 0) (ts : List Numbered)
     (other : List Numbered → Result (A × List Numbered) ℕ) (takes bound : ℕ) (mid : Front) (c : ℕ) (F : List Numbered → Type 0)
     (k k' : List Numbered → Result (A × List Numbered) ℕ) : Type 0 where
@@ -79,11 +79,11 @@ pub record Step {A : Type 0} (pre : Front) (R : Front → A → Type 0) (E : Lis
   pub go : (us : List Numbered) → IsFront mid → ts ≡ mid us → c + length us ≤ length ts → length ts < bound → F us
       → ((vs : List Numbered) → SameHead us vs → other (mid vs) ≡ k' vs) → Read pre R E ts other takes (k us)
 
--- a part of the text, wherever it begins
+-- A part of the text, wherever it begins
 abbrev pub Part : {A : Type 0} → (Front → A → Type 0) → (List Numbered → Type 0) → ℕ → ℕ → (k k' : List Numbered → Result (A × List Numbered) ℕ) → Type 0
 Part R E takes bound k k' = (pre : Front) → Ends pre R → (ts : List Numbered) → Step pre R E ts k' takes bound (λ us. us) 0 Anything k k'
 
--- a token that may be next: what is found of it, or nothing while that token is next
+-- A token that may be next: what is found of it, or nothing while that token is next
 pub data Seen {X J : Type 0} (peek : List Numbered → Option X) (token : J → Numbered) (found : J → List Numbered → X) : List Numbered → Option X → Type 0 where
   here : (j : J) {us : List Numbered} → Seen peek token found (token j ∷ us) (Some (found j us))
   elsewhere : {us : List Numbered} → peek us ≡ None → ((vs : List Numbered) → SameHead us vs → peek vs ≡ None) → Seen peek token found us None
@@ -92,7 +92,7 @@ pub record Looks {X J : Type 0} (peek : List Numbered → Option X) (token : J �
   pub finds : (j : J) (us : List Numbered) → peek (token j ∷ us) ≡ Some (found j us)
   pub seen : (us : List Numbered) → Seen peek token found us (peek us)
 
--- a token that has to be next
+-- A token that has to be next
 pub data Met {X J : Type 0} (read : List Numbered → Result X ℕ) (token : J → Numbered) (found : J → List Numbered → X) : List Numbered → Result X ℕ → Type 0 where
   met : (j : J) {us : List Numbered} → Met read token found (token j ∷ us) (Ok (found j us))
   missed : {us : List Numbered} → ((vs : List Numbered) → SameHead us vs → read vs ≡ Err (length vs)) → Met read token found us (Err (length us))
@@ -101,7 +101,7 @@ pub record Meets {X J : Type 0} (read : List Numbered → Result X ℕ) (token :
   pub finds : (j : J) (us : List Numbered) → read (token j ∷ us) ≡ Ok (found j us)
   pub meets : (us : List Numbered) → Met read token found us (read us)
 
--- a list whose front was read before
+-- A list whose front was read before
 pub data Listed {A : Type 0} (L : Front → List A → Type 0) (front : List A) (mid : Front) : List A → Type 0 where
   listed : {others : List A} → L mid others → Listed L front mid (front ++ others)
 

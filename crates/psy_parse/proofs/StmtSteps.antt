@@ -16,7 +16,7 @@ use Rattle.psy_parse.proofs.Steps.{Front, through, Anything, Whatever, Ends, Ste
 use Rattle.psy_parse.proofs.Heads.{sign_step, word_step, number_step, name_step, given_sign, given_word}
 use Rattle.psy_parse.proofs.ExprSteps.{Ended, expr_parts}
 
--- a number behind a word, or neither
+-- A number behind a word, or neither
 data Optional (w : Word) : List Numbered → Option Lit → List Numbered → Type 0 where
   without : {rest : List Numbered} → Optional w rest None rest
   with_number : {n : ℕ} {k : Lit} {rest : List Numbered} → Optional w (word n w ∷ numeral k ∷ rest) (Some k) rest
@@ -110,7 +110,7 @@ module _ (expr expr' : Reads RawExpr) (block block' : Reads (List RawStmt)) (eno
       (given_word _ _ _ _ _ (λ n. return_steps pre ends n)
       (name_step _ _ (λ x. given_sign _ _ _ _ _ (λ n. set_cell_steps pre ends x n) (set_steps pre ends x)))))))
 
--- from the empty list on nothing was read before
+-- From the empty list on nothing was read before
 from_nothing : {mid : Front} {body : List RawStmt} → Listed (Whatever Block) [] mid body → Whatever Block mid body
 from_nothing (listed b) = b
 

@@ -21,7 +21,7 @@ fault_by : (tokens : List Token) (read : Result Raw ℕ) → text_at (length tok
 fault_by tokens (Ok raw) is none = absurd (none raw (spells_from_reading tokens raw is))
 fault_by tokens (Err k) is none = (length tokens - k, fault_at tokens k is)
 
--- tokens without a tree have a token at fault
+-- Tokens without a tree have a token at fault
 pub fault_of_none : (tokens : List Token) → NoTree tokens → (n : ℕ) × AtFault tokens n
 fault_of_none tokens none = fault_by tokens (text_at (length tokens + 1) (numbered 0 tokens)) refl none
 
@@ -32,11 +32,11 @@ no_fault_by tokens _ v (at_end whole none) = none
 viable_tree : (tokens : List Token) (raw : Raw) → Spells raw tokens → Viable tokens
 viable_tree tokens raw s = record { more = []; raw = raw; spells = subst (λ (ts : List Token). Spells raw ts) (sym (append-nil tokens)) s }
 
--- tokens with a tree have none
+-- Tokens with a tree have none
 pub none_of_fault : (tokens : List Token) (n : ℕ) → AtFault tokens n → NoTree tokens
 none_of_fault tokens n fault raw s = no_fault_by tokens n (viable_tree tokens raw s) fault raw s
 
--- they have one at most
+-- They have one at most
 pub AtFault-once : (tokens : List Token) (n other : ℕ) → AtFault tokens n → AtFault tokens other → n ≡ other
 AtFault-once tokens _ _ (inside {i = i} lt earlier not) (inside {i = j} lt' earlier' not') = elim (leb_tells i j) [
   | inl up ↦ elim (leb_tells j i) [

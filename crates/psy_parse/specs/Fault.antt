@@ -4,18 +4,17 @@ use Rattle.psy_tree.specs.declared.token.Token.{Token}
 use Rattle.psy_tree.specs.declared.raw.Raw.{Raw}
 use Rattle.psy_tree.specs.Grammar.{Spells}
 
--- no tree has these tokens
+-- No tree has these tokens
 abbrev pub NoTree : List Token → Type 0
 NoTree tokens = (raw : Raw) → Spells raw tokens → ⊥
 
--- some list that begins with these tokens has a tree
+-- Some list that begins with these tokens has a tree
 pub record Viable (tokens : List Token) : Type 0 where
   pub more : List Token
   pub raw : Raw
   pub spells : Spells raw (tokens ++ more)
 
--- the token at fault of tokens that have no tree: the first that makes the tokens up to it no longer viable,
--- or the number of the tokens where all of them are viable
+-- The token at fault of tokens that have no tree: the first with which they are viable no longer, or their number where all of them are viable
 pub data AtFault (tokens : List Token) : ℕ → Type 0 where
   inside : {i : ℕ} → i < length tokens → ((earlier : ℕ) → earlier < i → Viable (take (suc earlier) tokens)) → (Viable (take (suc i) tokens) → ⊥)
       → AtFault tokens i

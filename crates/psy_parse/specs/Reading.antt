@@ -29,47 +29,47 @@ use Rattle.psy_parse.specs.declared.fault.Failure.{Failure}
 use Rattle.psy_parse.specs.declared.fault.Failure.TheVariants as faults
 
 infixl 10 ◌>>=◌
--- goes on with what was read, or stays stuck
+-- Goes on with what was read, or stays stuck
 abbrev pub ◌>>=◌ : {A B : Type 0} → Result A ℕ → (A → Result B ℕ) → Result B ℕ
 (Ok x) >>= f = f x
 (Err e) >>= f = Err e
 
--- goes on with what was found, or with the other
+-- Goes on with what was found, or with the other
 abbrev pub given : {A B : Type 0} → Option A → (A → B) → B → B
 given (Some x) f other = f x
 given None f other = other
 
--- the failure is want of memory, or says where reading is stuck
+-- The failure is want of memory, or says where reading is stuck
 abbrev pub Fails : {Y : Type 0} → Failure → Result Y ℕ → Type 0
 Fails faults.Memory read = Unit {0}
 Fails (faults.Stuck n) read = read ≡ Err n
 
--- what a function returned, seen by view, is what reading gives, unless memory ran out
+-- What a function returned, seen by view, is what reading gives, unless memory ran out
 abbrev pub Gives : {X Y : Type 0} → (X → Y) → Result X Failure → Result Y ℕ → Type 0
 Gives view (Ok x) read = read ≡ Ok (view x)
 Gives view (Err e) read = Fails e read
 
--- what a function found, seen by view, is what reading finds, or both find nothing
+-- What a function found, seen by view, is what reading finds, or both find nothing
 abbrev pub Finds : {X Y : Type 0} → (X → Y) → Option X → Option Y → Type 0
 Finds view (Some x) found = found ≡ Some (view x)
 Finds view None found = found ≡ None
 
--- the tokens that are left, with their numbers
+-- The tokens that are left, with their numbers
 abbrev pub left : Cursor → List Numbered
 left c = numbered c.number c.rest.now
 
--- reading can't go on, with these tokens left
+-- Reading can't go on, with these tokens left
 abbrev pub stuck : {A : Type 0} → List Numbered → Result A ℕ
 stuck ts = Err (length ts)
 
--- what is found, or else reading can't go on
+-- What is found, or else reading can't go on
 abbrev pub or_stuck : {A : Type 0} → List Numbered → Option A → Result A ℕ
 or_stuck ts (Some x) = Ok x
 or_stuck ts None = stuck ts
 
--- one token
+-- One token
 
--- the name that has to stand at the front, and the tokens behind it
+-- The name that has to stand at the front, and the tokens behind it
 unfoldable pub name_at : List Numbered → Result (Name × List Numbered) ℕ
 name_at [] = stuck []
 name_at ((n, kinds.Name t) ∷ ts) = Ok (record { text = t; token = n }, ts)
@@ -77,49 +77,49 @@ name_at ((n, kinds.Word w) ∷ ts) = stuck ((n, kinds.Word w) ∷ ts)
 name_at ((n, kinds.Number v) ∷ ts) = stuck ((n, kinds.Number v) ∷ ts)
 name_at ((n, kinds.Sign s) ∷ ts) = stuck ((n, kinds.Sign s) ∷ ts)
 
--- the number at the front and the tokens behind it, if a number stands there
+-- The number at the front and the tokens behind it, if a number stands there
 unfoldable pub after_number : List Numbered → Option (Lit × List Numbered)
 after_number ((n, kinds.Number v) ∷ ts) = Some (record { value = v; token = n }, ts)
 after_number _ = None
 
--- the number of this word's token and the tokens behind it, if the word stands at the front
+-- The number of this word's token and the tokens behind it, if the word stands at the front
 unfoldable pub after_word : Word → List Numbered → Option (ℕ × List Numbered)
 after_word w ((n, kinds.Word v) ∷ ts) = if sameb word_kind.the_type v w then Some (n, ts) else None
 after_word w _ = None
 
--- the tokens behind this sign, if it stands at the front
+-- The tokens behind this sign, if it stands at the front
 unfoldable pub after_sign : Sign → List Numbered → Option (List Numbered)
 after_sign s ((n, kinds.Sign r) ∷ ts) = if sameb sign_kind.the_type r s then Some ts else None
 after_sign s _ = None
 
--- the number that has to stand at the front, and the tokens behind it
+-- The number that has to stand at the front, and the tokens behind it
 unfoldable pub number_at : List Numbered → Result (Lit × List Numbered) ℕ
 number_at ts = or_stuck ts (after_number ts)
 
--- the number of the token of this word, which has to stand at the front, and the tokens behind it
+-- The number of the token of this word, which has to stand at the front, and the tokens behind it
 unfoldable pub word_at : Word → List Numbered → Result (ℕ × List Numbered) ℕ
 word_at w ts = or_stuck ts (after_word w ts)
 
--- the tokens behind this sign, which has to stand at the front
+-- The tokens behind this sign, which has to stand at the front
 unfoldable pub sign_at : Sign → List Numbered → Result (List Numbered) ℕ
 sign_at s ts = or_stuck ts (after_sign s ts)
 
--- the operator before an operand and the tokens behind it, if one stands at the front
+-- The operator before an operand and the tokens behind it, if one stands at the front
 unfoldable pub unary_at_front : List Numbered → Option (Op1 × List Numbered)
 unary_at_front ((n, kinds.Sign s) ∷ ts) = given (unary_of s) (λ op. Some (op, ts)) None
 unary_at_front _ = None
 
--- the level, the operator between operands and the tokens behind it, if one of a level below this stands at the front
+-- The level, the operator between operands and the tokens behind it, if one of a level below this stands at the front
 unfoldable pub binary_at_front : ℕ → List Numbered → Option (ℕ × Op2 × List Numbered)
 binary_at_front level ((n, kinds.Sign s) ∷ ts) = given (binary_of s) (λ o. if nat_le level o.0 then None else Some (o.0, o.1, ts)) None
 binary_at_front level _ = None
 
--- no tokens are left
+-- No tokens are left
 unfoldable pub is_end : List Numbered → Bool
 is_end [] = true
 is_end (t ∷ ts) = false
 
--- a part of the text: what it spells, and the tokens behind it
+-- A part of the text: what it spells, and the tokens behind it
 abbrev pub Reads : Type 0 → Type 0
 Reads A = List Numbered → Result (A × List Numbered) ℕ
 
@@ -127,7 +127,7 @@ Reads A = List Numbered → Result (A × List Numbered) ℕ
 unfoldable pub optional_at : Word → Reads (Option Lit)
 optional_at w ts = given (after_word w ts) (λ u. number_at u.1 >>= λ k. Ok (Some k.0, k.1)) (Ok (None, ts))
 
--- expressions
+-- Expressions
 
 -- `(NAME)`
 unfoldable pub in_brackets_at : Reads Name
@@ -153,14 +153,14 @@ args_at expr others ts =
     given (after_sign signs.CloseRound ts) (λ us. Ok ([], us))
     (expr ts >>= λ e. others (e.0 ∷ []) e.1)
 
--- what begins with this name, behind it: `NAME[E]`, `NAME(E, E)` or `NAME` alone
+-- What begins with this name, behind it: `NAME[E]`, `NAME(E, E)` or `NAME` alone
 unfoldable pub behind_name_at : Reads RawExpr → (List RawExpr → Reads (List RawExpr)) → Name → Reads RawExpr
 behind_name_at expr others x ts =
     given (after_sign signs.OpenSquare ts) (λ us. expr us >>= λ e. sign_at signs.CloseSquare e.1 >>= λ vs. Ok (Cell x e.0, vs))
     (given (after_sign signs.OpenRound ts) (λ us. args_at expr others us >>= λ es. Ok (Call x es.0, es.1))
     (Ok (Var x, ts)))
 
--- an operand with no operators before it: `(E)`, `past`, `ready`, `take`, a number, or what begins with a name
+-- An operand with no operators before it: `(E)`, `past`, `ready`, `take`, a number, or what begins with a name
 unfoldable pub primary_at : Reads RawExpr → (List RawExpr → Reads (List RawExpr)) → Reads RawExpr
 primary_at expr others ts =
     given (after_sign signs.OpenRound ts) (λ us. expr us >>= λ e. sign_at signs.CloseRound e.1 >>= λ vs. Ok (e.0, vs))
@@ -170,7 +170,7 @@ primary_at expr others ts =
     (given (after_number ts) (λ k. Ok (Number k.0, k.1))
     (name_at ts >>= λ x. behind_name_at expr others x.0 x.1)))))
 
--- an operand with the operators before it
+-- An operand with the operators before it
 unfoldable pub operand_at : (ℕ → Reads RawExpr) → (List RawExpr → Reads (List RawExpr)) → Reads RawExpr
 operand_at expr others ts =
     given (unary_at_front ts) (λ o. expr 0 o.1 >>= λ e. Ok (Unary o.0 e.0, e.1))
@@ -196,7 +196,7 @@ unfoldable mutual
       given (after_sign signs.CloseRound ts) (λ us. Ok (front, us))
       (sign_at signs.Comma ts >>= λ us. expr_at n 10 us >>= λ e. others_at n (front ++ e.0 ∷ []) e.1)
 
--- statements
+-- Statements
 
 -- `(E)`, the test of an `if` or a `while`
 unfoldable pub test_at : Reads RawExpr → Reads RawExpr
@@ -274,7 +274,7 @@ set_cell_at expr x ts = do
   ws ← sign_at signs.Semicolon e.1
   Ok (SetCell x i.0 e.0, ws)
 
--- a statement, by its first word; where none of those words stands, an assignment
+-- A statement, by its first word; where none of those words stands, an assignment
 unfoldable pub stmt_at : Reads RawExpr → Reads (List RawStmt) → Reads RawStmt
 stmt_at expr block ts =
     given (after_word words.If ts) (λ w. if_at expr block w.1)
@@ -284,16 +284,16 @@ stmt_at expr block ts =
     (given (after_word words.Return ts) (λ w. return_at expr w.0 w.1)
     (name_at ts >>= λ x. given (after_sign signs.OpenSquare x.1) (λ us. set_cell_at expr x.0 us) (set_at expr x.0 x.1))))))
 
--- the statements behind these, and the closing brace
+-- The statements behind these, and the closing brace
 unfoldable pub block_at : ℕ → List RawStmt → Reads (List RawStmt)
 block_at zero front ts = stuck ts
 block_at (suc n) front ts =
     given (after_sign signs.CloseBrace ts) (λ us. Ok (front, us))
     (stmt_at (expr_at n 10) (block_at n []) ts >>= λ s. block_at n (front ++ s.0 ∷ []) s.1)
 
--- declarations
+-- Declarations
 
--- a first value: `N` or `-N`
+-- A first value: `N` or `-N`
 unfoldable pub start_at : Reads Init
 start_at ts =
     given (after_sign signs.Minus ts) (λ us. number_at us >>= λ k. Ok (record { minus = true; value = k.0 }, k.1))
@@ -315,13 +315,13 @@ scalar_at x ts = do
   vs ← sign_at signs.Semicolon i.1
   Ok (Scalar x i.0, vs)
 
--- a local behind its first word
+-- A local behind its first word
 unfoldable pub local_at : Bool → Reads Local
 local_at arrays ts = do
   x ← name_at ts
   given (if arrays then after_sign signs.OpenSquare x.1 else None) (λ us. array_at x.0 us) (scalar_at x.0 x.1)
 
--- the locals behind these
+-- The locals behind these
 unfoldable pub locals_at : Bool → ℕ → List Local → Reads (List Local)
 locals_at arrays zero front ts = stuck ts
 locals_at arrays (suc n) front ts =
@@ -332,7 +332,7 @@ locals_at arrays (suc n) front ts =
 unfoldable pub param_at : Reads Name
 param_at ts = word_at words.Int ts >>= λ w. name_at w.1
 
--- the parameters behind these, and the closing bracket
+-- The parameters behind these, and the closing bracket
 unfoldable pub further_at : ℕ → List Name → Reads (List Name)
 further_at zero front ts = stuck ts
 further_at (suc n) front ts =
@@ -345,7 +345,7 @@ params_at n ts =
     given (after_sign signs.CloseRound ts) (λ us. Ok ([], us))
     (param_at ts >>= λ x. further_at n (x.0 ∷ []) x.1)
 
--- the parent of a clock: `NAME`, or `tick`, for which there is none
+-- The parent of a clock: `NAME`, or `tick`, for which there is none
 unfoldable pub parent_at : Reads (Option Name)
 parent_at ts =
     given (after_word words.Tick ts) (λ w. Ok (None, w.1))
@@ -436,7 +436,7 @@ agent_at n ts = do
   ws ← sign_at signs.CloseBrace stmts.1
   Ok (Agent name.0 clock.0 budget.0 locals.0 body.0 stmts.0, ws)
 
--- a declaration, by its first word
+-- A declaration, by its first word
 unfoldable pub declaration_at : ℕ → Reads Item
 declaration_at n ts =
     given (after_word words.Clock ts) (λ w. clock_at w.1)
@@ -447,14 +447,14 @@ declaration_at n ts =
     (given (after_word words.Agent ts) (λ w. agent_at n w.1)
     (stuck ts))))))
 
--- the declarations behind these, up to the end
+-- The declarations behind these, up to the end
 unfoldable pub program_at : ℕ → List Item → List Numbered → Result (List Item) ℕ
 program_at zero front ts = stuck ts
 program_at (suc n) front ts =
     if is_end ts then Ok front
     else (declaration_at n ts >>= λ x. program_at n (front ++ x.0 ∷ []) x.1)
 
--- the length of the tick, behind which the declarations stand
+-- The length of the tick, behind which the declarations stand
 unfoldable pub quantum_at : Reads Lit
 quantum_at ts = do
   w ← word_at words.Tick ts
@@ -462,7 +462,7 @@ quantum_at ts = do
   us ← sign_at signs.Semicolon quantum.1
   Ok (quantum.0, us)
 
--- a whole program: `tick N;` and the declarations up to the end
+-- A whole program: `tick N;` and the declarations up to the end
 unfoldable pub text_at : ℕ → List Numbered → Result Raw ℕ
 text_at n ts = do
   quantum ← quantum_at ts

@@ -1,4 +1,5 @@
 //! From the tokens of a program's text to its tree.
+//! It may know tokens and trees; no bytes.
 #![tactic(auto)]
 
 mod cursor;

@@ -1,4 +1,5 @@
 //! The messages of a stream that its receiver can still take, in their order.
+//! It may know messages; no agents, no clocks.
 #![tactic(auto)]
 
 mod queue;

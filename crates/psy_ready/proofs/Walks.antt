@@ -7,7 +7,7 @@ use Rattle.psy_ready.specs.declared.ready.Pending.{Pending}
 use Rattle.psy_ready.specs.Choice.{IsPick, ListsEach, NoLater, pending_deadline}
 use Rattle.psy_ready.specs.Walk.{sooner}
 
--- the pick of the first n places
+-- The pick of the first n places
 pub record FirstWithin (pending : List (Option ℕ)) (order : List ℕ) (n agent deadline : ℕ) : Type 0 where
   pub place : ℕ
   pub at : slice_get order place ≡ Some agent
@@ -15,7 +15,7 @@ pub record FirstWithin (pending : List (Option ℕ)) (order : List ℕ) (n agent
   pub first : (p a d : ℕ) → p < n → slice_get order p ≡ Some a → pending_deadline pending a ≡ Some d → NoLater place deadline p d
   pub within : place < n
 
--- what the walk keeps
+-- What the walk keeps
 abbrev pub IsFirst : List (Option ℕ) → List ℕ → ℕ → Option Pending → Type 0
 IsFirst pending order n None = (p a : ℕ) → p < n → slice_get order p ≡ Some a → pending_deadline pending a ≡ None
 IsFirst pending order n (Some f) = FirstWithin pending order n f.agent f.deadline

@@ -20,7 +20,7 @@ abbrev pub Best : (RuleKind → ℕ → Type 0) → Option RuleAt → Type 0
 Best P None = (k : RuleKind) (t : ℕ) → P k t → ⊥
 Best P (Some f) = P f.kind f.token × ((k : RuleKind) (t : ℕ) → P k t → NotAfter f.kind f.token k t)
 
--- the faults that there are, and one more where b is true
+-- The faults that there are, and one more where b is true
 abbrev pub With : (RuleKind → ℕ → Type 0) → Bool → RuleKind → ℕ → RuleKind → ℕ → Type 0
 With P b kind token k t = P k t ⊎ ((b ≡ true) × (k ≡ kind) × (t ≡ token))
 
@@ -34,11 +34,11 @@ not_after_refl k s = inr (refl, omega arith)
 not_after_same : (k l : RuleKind) (s t : ℕ) → l ≡ k → t ≡ s → NotAfter k s l t
 not_after_same k l s t e f = inr (sym f, omega (arith, ap rule_number e))
 
--- what comes before f comes before all that f isn't after
+-- What comes before f comes before all that f isn't after
 before_then : (k : RuleKind) (s : ℕ) (f : RuleAt) (l : RuleKind) (t : ℕ) → is_before k s (Some f) ≡ true → NotAfter f.kind f.token l t → NotAfter k s l t
 before_then k s f l t b h = grind (arith, nat_tests)
 
--- what doesn't come before f isn't before it
+-- What doesn't come before f isn't before it
 behind : (k : RuleKind) (s : ℕ) (f : RuleAt) → is_before k s (Some f) ≡ false → NotAfter f.kind f.token k s
 behind k s f b = grind (arith, nat_tests)
 
@@ -67,7 +67,7 @@ best_noted P false kind token l h = best_same P (With P false kind token) l (λ 
 best_noted P true kind token None h = (inr (refl, refl, refl), λ k t q. elim q [ inl p ↦ absurd (h k t p) | inr s ↦ not_after_same kind k token t s.1 s.2 ])
 best_noted P true kind token (Some f) h = noted_new P kind token f (is_before kind token (Some f)) refl h
 
--- the faults that there are, and those of one more place
+-- The faults that there are, and those of one more place
 abbrev pub At : (RuleKind → ℕ → Type 0) → Site → Place → RuleKind → ℕ → Type 0
 At P site p k t = P k t ⊎ ((is_fault k site p ≡ true) × (t ≡ token_of p))
 
@@ -119,14 +119,14 @@ only_Ranges : (site : Site) (number : Lit) (low high : ℕ) → only_of site (Ra
 only_Ranges site number low high kind.BadNumber h = refl
 only_Ranges site number low high _ h = cc
 
--- two kinds at a loop
+-- Two kinds at a loop
 loop_kinds : (P : RuleKind → ℕ → Type 0) (site : Site) (token : ℕ) (bounded advances quiet : Bool) (k : RuleKind) (t : ℕ) → is_fault k site (Loops token bounded advances quiet) ≡ true → t ≡ token →
     With (With P (is_fault kind.NoMax site (Loops token bounded advances quiet)) kind.NoMax token) (is_fault kind.MixedLoop site (Loops token bounded advances quiet)) kind.MixedLoop token k t
 loop_kinds P site token bounded advances quiet kind.NoMax t h e = inl (inr (h, refl, e))
 loop_kinds P site token bounded advances quiet kind.MixedLoop t h e = inr (h, refl, e)
 loop_kinds P site token bounded advances quiet _ t h e = absurd (cc)
 
--- five at a use
+-- Five at a use
 abbrev pub used : Site → Name → Asks → RuleKind → Bool
 used site name what k = is_fault k site (Uses name what)
 
@@ -181,7 +181,7 @@ best_judged P site (Uses name what) l h =
 
 -- ---- over all places
 
--- the faults that there are, and those of more places
+-- The faults that there are, and those of more places
 abbrev pub Over : (RuleKind → ℕ → Type 0) → List Sited → RuleKind → ℕ → Type 0
 Over P ps k t = P k t ⊎ ((p : Sited) × Among p ps × (is_fault k p.site p.place ≡ true) × (t ≡ token_of p.place))
 

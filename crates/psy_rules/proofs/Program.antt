@@ -10,11 +10,11 @@ use Rattle.psy_rules.specs.declared.least.RuleAt.{RuleAt}
 use Rattle.psy_rules.specs.Judged.{judged_sited}
 use Rattle.psy_rules.proofs.Items.{sited_append}
 
--- the places of the declarations from number k on that are there among the whole program's
+-- The places of the declarations from number k on that are there among the whole program's
 abbrev pub start : Raw → Sited
 start raw = record { site = record { items = raw.items; at = 0; inside = false }; place = Ranges raw.quantum 1 QUANTUM }
 
--- the places of a program's first n declarations
+-- The places of a program's first n declarations
 abbrev pub places_to : Raw → ℕ → List Sited
 places_to raw n = start raw ∷ places_from raw.items 0 (take n raw.items)
 

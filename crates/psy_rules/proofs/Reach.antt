@@ -12,7 +12,7 @@ use Rattle.psy_rules.specs.declared.numbers.Before.{Before}
 use Rattle.psy_rules.specs.Numbering.{AreNumbers, before_of, before_in}
 use Rattle.psy_rules.proofs.Tables.{InRange, or_first, first_range, above, beneath, inner, stands_parts}
 
--- a declaration below number m, or a slot below number n
+-- A declaration below number m, or a slot below number n
 abbrev pub Within : ℕ → ℕ → Option Found → Type 0
 Within m n None = Unit {0}
 Within m n (Some (found.Item k)) = k < m

@@ -23,7 +23,7 @@ pub first_of_pairs : (text : List ℕ) (es : List (List ℕ × Found)) → first
 first_of_pairs text [] = refl
 first_of_pairs text (e ∷ es) = ap (λ o. cond (bytes_eq text e.0) (Some e.1) o) (first_of_pairs text es)
 
--- the first, or else the second
+-- The first, or else the second
 abbrev pub or_first : Option Found → Option Found → Option Found
 or_first None o = o
 or_first (Some f) o = Some f
@@ -103,7 +103,7 @@ add_entry es new k n v table e same view none =
 
 -- ---- where what is found stands
 
--- a declaration of a number from low on and below high
+-- A declaration of a number from low on and below high
 abbrev pub InRange : ℕ → ℕ → Option Found → Type 0
 InRange low high None = Unit {0}
 InRange low high (Some (found.Item j)) = (low ≤ j) × (j < high)
@@ -176,7 +176,7 @@ found_inside site q g h e up =
     (first_range q 0 (take (site.at + 1) site.items)) (omega (arith, length-take (site.at + 1) site.items)) (subst P split up)
     ∙ sym (stands_parts site q)
 
--- where nothing stands above, what stands for the name in the whole program stands beneath
+-- Where nothing stands above, what stands for the name in the whole program stands beneath
 not_above : (n : ℕ) (a c : Option Found) (m : ℕ) → InRange 0 m a → m ≤ n + 1 → up_to n (or_first a c) ≡ false → or_first a c ≡ c
 not_above n None c m ra le h = refl
 not_above n (Some (found.Slot j)) c m ra le h = absurd ra

@@ -56,11 +56,11 @@ LeastFault-once raw k l n m a b = elim (a.least l m b.present) [
   ]
 ]
 
--- stands for one unit at most,
+-- Stands for one unit at most,
 pub Stands-once : (raw : Raw) (unit other : Whole) → Stands unit raw → Stands other raw → unit ≡ other
 Stands-once raw unit other a b = a.numbered ∙ sym b.numbered
 
--- and has one first count at most that passes.
+-- And has one first count at most that passes.
 pub count-once : (raw : Raw) (count other : Count) → first_passed raw ≡ Some count → first_passed raw ≡ Some other → count ≡ other
 count-once raw count other a b = let e : Some count ≡ Some other = sym a ∙ b in cc
 

@@ -37,12 +37,12 @@ judged site (Loops token bounded advances quiet) l =
 judged site (HasBody token quiet) l = noted quiet kind.NoAdvance token l
 judged site (Ranges number low high) l = noted (is_bad_number site (Ranges number low high)) kind.BadNumber number.token l
 
--- after places at one site, in order
+-- After places at one site, in order
 abbrev pub judged_all : Site → List Place → Option RuleAt → Option RuleAt
 judged_all site [] l = l
 judged_all site (p ∷ ps) l = judged_all site ps (judged site p l)
 
--- after places wherever they stand
+-- After places wherever they stand
 abbrev pub judged_sited : List Sited → Option RuleAt → Option RuleAt
 judged_sited [] l = l
 judged_sited (p ∷ ps) l = judged_sited ps (judged p.site p.place l)

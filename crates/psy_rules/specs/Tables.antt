@@ -19,7 +19,7 @@ added table text what = if is_some (first_named text table) then table else tabl
 abbrev pub slot_names : List SlotName → List Name
 slot_names slots = map (λ s. s.name) slots
 
--- as slots that are no arrays
+-- As slots that are no arrays
 abbrev pub as_slots : List Name → List SlotName
 as_slots names = map (λ n. record { name = n; array = false }) names
 

@@ -1,4 +1,5 @@
 //! Names and rules: from the tree of a program to its unit, or to the first of its faults.
+//! It may know trees, units and clocks; no tokens.
 #![tactic(auto)]
 
 mod clocks;

@@ -8,7 +8,7 @@ use Rattle.psy_base.specs.declared.limits.TheConstants.{UNTIL}
 use Rattle.psy_script.specs.Numbers.{number_of}
 use Rattle.psy_run.specs.Asked.{IsDate, IsSeed, Command, Run, Check, Graph, Make, Trial, Asks, asks_run, asks_run_with_inputs, asks_run_with_script, asks_check, asks_graph, asks_make, asks_trial, AskNothing}
 
--- texts that aren't told apart are the same
+-- Texts that aren't told apart are the same
 pub same_text : (a b : List ℕ) → true ≡ bytes_eq a b → a ≡ b
 same_text a b e = (bytes_eq-Decides a b).0 (sym e)
 

@@ -25,16 +25,16 @@ halts_later c f failed before after x _ gives (halts_refused refusal stops) = ha
 halts_later c f failed before after x _ gives (halts_unread file reads rose) = halts_unread file (inr (x, gives, reads)) rose
 halts_later c f failed before after x _ gives halts_memory = halts_memory
 
--- want of memory, wherever it comes
+-- Want of memory, wherever it comes
 pub halts_for_memory : {X : Type 0} (c : Course X) (failed : List ℕ) (before after : ℕ) (stop : Stop) → stop ≡ Memory → Halts c failed before after stop
 halts_for_memory c failed before after stop is = subst (Halts c failed before after) (sym is) halts_memory
 
--- what `?` hands on, where it hands on the stop itself
+-- What `?` hands on, where it hands on the stop itself
 pub halts_exit : {X Y : Type 0} (c : Course X) (failed : List ℕ) (before after : ℕ) (stop : Stop) (result : Result Y Stop) → IsErrAnd result (λ handed. handed ≡ stop) → Halts c failed before after stop → IfErr result (Halts c failed before after)
 halts_exit c failed before after stop (Ok y) is halts = absurd is
 halts_exit c failed before after stop (Err handed) is halts = subst (Halts c failed before after) (sym is) halts
 
--- the last of the steps in a row
+-- The last of the steps in a row
 pub halts_last : {X Y Z : Type 0} (c : Course X) (f : X → Course Y) (failed : List ℕ) (before after : ℕ) (x : X) (result : Result Z Stop) → c.gives x → IfErr result (Halts (f x) failed before after) → IfErr result (Halts (in_row c f) failed before after)
 halts_last c f failed before after x (Ok z) gives halts = tt
 halts_last c f failed before after x (Err stop) gives halts = halts_later c f failed before after x stop gives halts
@@ -51,7 +51,7 @@ pub record IsOne {X : Type 0} (c : Course X) : Type 0 where
   pub stop : (r s : Refusal) → c.stops r → c.stops s → r ≡ s
   pub apart : (x : X) (r : Refusal) → c.gives x → c.stops r → ⊥
 
--- no step any more
+-- No step any more
 pub one_pure : {X : Type 0} (x : X) → IsOne (pure x)
 one_pure x = record {
   gift = λ y z p q. p ∙ sym q;
@@ -59,7 +59,7 @@ one_pure x = record {
   apart = λ y r p q. q;
 }
 
--- a test, where what passes it doesn't fail it
+-- A test, where what passes it doesn't fail it
 pub one_unless : (Holds Fails : Type 0) (refusal : Refusal) → (Holds → Fails → ⊥) → IsOne (unless Holds Fails refusal)
 one_unless Holds Fails refusal never = record {
   gift = λ x y p q. refl;
@@ -67,7 +67,7 @@ one_unless Holds Fails refusal never = record {
   apart = λ x r p q. never p q.1;
 }
 
--- one course, and with what it gives another
+-- One course, and with what it gives another
 pub one_then : {X Y : Type 0} (c : Course X) (f : X → Course Y) → IsOne c → ((x : X) → c.gives x → IsOne (f x)) → IsOne (in_row c f)
 unfolding in_row
 one_then c f one later = record {
@@ -94,16 +94,16 @@ one_then c f one later = record {
 abbrev pub IsSome : {X : Type 0} → Course X → Type 0
 IsSome {X = X} c = ((x : X) × c.gives x) ⊎ ((refusal : Refusal) × c.stops refusal)
 
--- no step any more
+-- No step any more
 pub some_pure : {X : Type 0} (x : X) → IsSome (pure x)
 some_pure x = inl (x, refl)
 
--- a test, which passes or fails
+-- A test, which passes or fails
 pub some_unless : (Holds Fails : Type 0) (refusal : Refusal) → Holds ⊎ Fails → IsSome (unless Holds Fails refusal)
 some_unless Holds Fails refusal (inl holds) = inl (tt, holds)
 some_unless Holds Fails refusal (inr fails) = inr (refusal, (refl, fails))
 
--- one course, and with what it gives another
+-- One course, and with what it gives another
 pub some_then : {X Y : Type 0} (c : Course X) (f : X → Course Y) → IsSome c → ((x : X) → c.gives x → IsSome (f x)) → IsSome (in_row c f)
 unfolding in_row
 some_then c f (inr stop) later = inr (stop.0, inl stop.1)

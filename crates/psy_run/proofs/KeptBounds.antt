@@ -17,15 +17,15 @@ use Rattle.psy_history.specs.Regular.{IsLawful, IsRegular}
 use Rattle.psy_history.specs.Scheduled.{IsSupplied, turns_of}
 use Rattle.psy_dates.specs.declared.plan.Plan.{Plan}
 use Rattle.psy_dates.specs.Plans.{IsPlan}
-use Rattle.psy_kernel.specs.declared.script.Script.{Script}
-use Rattle.psy_kernel.specs.Scripts.{IsScript, order_of, stalls_of}
+use Rattle.psy_history.specs.declared.told.Script.{Script}
+use Rattle.psy_history.specs.Scripts.{IsScript, order_of, stalls_of}
 use Rattle.psy_run.specs.Bounds.{KeepsBounds}
 use Rattle.psy_run.specs.Services.{meaning_of}
 use Rattle.psy_run.proofs.KeptOrders.{order_each}
 
 -- ---- actions
 
--- an action among the second ones is like one among the first
+-- An action among the second ones is like one among the first
 like_one : (rs qs : List Action) (q : Action) → AreLike rs qs → Contains qs q → (r : Action) × Contains rs r × IsLike r q
 like_one [] [] q like there = absurd (omega (arith, there.1))
 like_one [] (p ∷ qs) q like there = absurd like

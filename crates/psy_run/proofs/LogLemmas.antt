@@ -17,7 +17,7 @@ use Rattle.psy_run.proofs.WritingLemmas.{GrewByFront-append, Grew-GrewByFront, G
 
 -- ---- lines of one list
 
--- one line more
+-- One line more
 pub lines_more : (lines : List (List ℕ)) (n : ℕ) (line : List ℕ) → slice_get lines n ≡ Some line → text_of (take (n + 1) lines) ≡ text_of (take n lines) ++ line
 lines_more lines n line at =
     let less = slice_get_within lines n line at in
@@ -47,7 +47,7 @@ log-suc s n =
 pub log-next : (s : System) (n : ℕ) → log_of s (n + 1) ≡ log_of s n ++ text_of (lines_of s n)
 log-next s n = ap (log_of s) (add-one n) ∙ log-suc s n
 
--- the text of more dates begins with that of fewer
+-- The text of more dates begins with that of fewer
 pub log-more : (s : System) (dates n : ℕ) → dates ≤ n → (rest : List ℕ) × (log_of s n ≡ log_of s dates ++ rest)
 log-more s dates zero h = let none : dates ≡ 0 = omega arith in ([], rw none refl)
 log-more s dates (suc n) h = elim (eq-or-lt_of_le h) [
@@ -57,34 +57,34 @@ log-more s dates (suc n) h = elim (eq-or-lt_of_le h) [
       (before.0 ++ text_of (lines_of s n), log-suc s n ∙ ap (λ text. text ++ text_of (lines_of s n)) before.1 ∙ append_assoc (log_of s dates) before.0 (text_of (lines_of s n)))
 ]
 
--- one date more was written
+-- One date more was written
 pub Grew-date : (a b c : Option (List ℕ)) (s : System) (date : ℕ) → Grew a b (log_of s date) → Grew b c (text_of (lines_of s date)) → Grew a c (log_of s (date + 1))
 Grew-date a b c s date before lines = subst (Grew a c) (sym (log-next s date)) (Grew-trans a b c _ _ before lines)
 
--- a write of a date's lines failed
+-- A write of a date's lines failed
 pub GrewByFront-date : (a b c : Option (List ℕ)) (s : System) (date n : ℕ) → date + 1 ≤ n → Grew a b (log_of s date) → GrewByFront b c (text_of (lines_of s date)) → GrewByFront a c (log_of s n)
 GrewByFront-date a b c s date n h before lines =
     let more = log-more s (date + 1) n h in
     let here = subst (GrewByFront a c) (sym (log-next s date)) (Grew-GrewByFront a b c _ _ before lines) in
     subst (GrewByFront a c) (sym more.1) (GrewByFront-append a c (log_of s (date + 1)) more.0 here)
 
--- what is due where a date is
+-- What is due where a date is
 pub stage-date : (p : Progress) (date : ℕ) → stage_of p ≡ DateDue date → (date ≡ p.dates) × (p.cycles ≡ p.dates * p.plan.unit.quantum) × (p.dates ≢ p.plan.until + 1)
 stage-date p date e = (grind (arith, nat_tests), grind (arith, nat_tests), grind (arith, nat_tests))
 
--- the lines of the date that is done next
+-- The lines of the date that is done next
 pub lines_told-after : (p : Progress) → lines_told (after_date p) ≡ lines_of (system p) p.dates
 lines_told-after p = ap (lines_at (system p)) (add-one p.dates)
 
--- a run whose program, inputs and script are another's
+-- A run whose program, inputs and script are another's
 pub progress-parts : (p q : Progress) → p.plan ≡ q.plan → p.inputs ≡ q.inputs → p.script ≡ q.script → p ≡ record q { dates = p.dates; cycles = p.cycles; given = p.given }
 progress-parts p q plan inputs script = λ i. record { plan = plan i; inputs = inputs i; script = script i; dates = p.dates; cycles = p.cycles; given = p.given }
 
--- the cycles done so far are before the next date
+-- The cycles done so far are before the next date
 pub cycles-after : (quantum dates cycles : ℕ) → cycles ≡ dates * quantum → cycles ≤ (dates + 1) * quantum
 cycles-after quantum dates cycles is = omega (arith, is)
 
--- one line more was given of a run that is another's but for the lines given
+-- One line more was given of a run that is another's but for the lines given
 pub given-set : (p q r : Progress) → p ≡ after_line q → q ≡ record r { given = q.given } → p ≡ record r { given = p.given }
 given-set p q r after same =
     let set : ℕ → Progress = λ n. record r { given = n } in

@@ -10,9 +10,9 @@ use Rattle.psy_dates.specs.declared.plan.Plan.{Plan}
 use Rattle.psy_dates.specs.Plans.{IsPlan}
 use Rattle.psy_history.specs.Compiled.{AreInputs, IsCompiled, coded, stated}
 use Rattle.psy_history.specs.Scheduled.{turns_of}
-use Rattle.psy_kernel.specs.declared.script.Script.{Script}
+use Rattle.psy_history.specs.declared.told.Script.{Script}
 use Rattle.psy_kernel.specs.Progress.{Progress, booted, order, system}
-use Rattle.psy_kernel.specs.Scripts.{IsScript, order_of, stalls_of}
+use Rattle.psy_history.specs.Scripts.{IsScript, order_of, stalls_of}
 use Rattle.psy_kernel.specs.Texts.{agent_end, event_line, lines_of, run_text, stream_end, summary_of, text_of, variable_end}
 use Rattle.psy_log.specs.Forms.{agent_line, end_line, stream_line, variable_line}
 use Rattle.psy_meaning.specs.Actions.{System, stream_of, variable_of}
@@ -31,27 +31,27 @@ use Rattle.psy_run.proofs.PlanLemmas.{are_no_inputs}
 
 -- ---- what the law says of code and statements that are alike
 
--- two histories have the same lines
+-- Two histories have the same lines
 abbrev pub SameLines : System → System → Type 0
 SameLines a b = (date : ℕ) → events a date ≡ events b date
 
--- as many actions that are due
+-- As many actions that are due
 abbrev pub SameCounts : System → System → Type 0
 SameCounts a b = (dates until agent : ℕ) → length (due_by until (history a dates agent)) ≡ length (due_by until (history b dates agent))
 
--- the same least slacks
+-- The same least slacks
 abbrev pub SameSlacks : System → System → Type 0
 SameSlacks a b = (order : ℕ → List ℕ) (dates cycles until agent : ℕ) → slack a.unit.quantum (turns_of a order cycles) (due_by until (history a dates agent)) ≡ slack b.unit.quantum (turns_of b order cycles) (due_by until (history b dates agent))
 
--- as many messages held
+-- As many messages held
 abbrev pub SameHeld : System → System → Type 0
 SameHeld a b = (until stream : ℕ) → most_held a until stream ≡ most_held b until stream
 
--- and reach as far back
+-- And reach as far back
 abbrev pub SameReaches : System → System → Type 0
 SameReaches a b = (order : ℕ → List ℕ) (dates cycles variable : ℕ) → reach a (turns_of a order cycles) (history a dates) variable ≡ reach b (turns_of b order cycles) (history b dates) variable
 
--- all of that
+-- All of that
 pub record AreAlike (a b : System) : Type 0 where
   pub lines : SameLines a b
   pub counts : SameCounts a b
@@ -97,7 +97,7 @@ module _ (unit : Whole) (code : Code) (nexts : List (List (List ℕ))) (stalls :
 
 -- ---- what is left
 
--- the kernel of a run at its end
+-- The kernel of a run at its end
 has_run : (kernel : Progress) (inputs : List (List ℤ)) (script : Script) → IsPlan kernel.plan → kernel.inputs ≡ inputs → kernel.script ≡ script
     → HasRun kernel.plan.unit kernel.plan.nexts kernel.plan.sizes kernel.plan.until inputs script (ended kernel)
 has_run kernel inputs script plan are is = record {
@@ -113,19 +113,19 @@ has_run kernel inputs script plan are is = record {
   given = refl;
 }
 
--- a run leaves its kernel, once it has ended
+-- A run leaves its kernel, once it has ended
 pub ran_leaves : (kernel now : Progress) → CanServe (served.Ran kernel) → now ≡ ended kernel → Leaves (service_of (served.Ran kernel)) (Some now)
 ran_leaves kernel now (is, plan, are, script) over =
     let ran = has_run kernel kernel.inputs kernel.script plan refl refl in
     (now, refl, subst (HasRun kernel.plan.unit kernel.plan.nexts kernel.plan.sizes kernel.plan.until kernel.inputs kernel.script) (sym over) ran)
 
--- and so does the run of a program that was made
+-- And so does the run of a program that was made
 pub tried_leaves : (kernel now : Progress) → CanServe (served.Tried kernel) → now ≡ ended kernel → Leaves (service_of (served.Tried kernel)) (Some now)
 tried_leaves kernel now (is, plan) over =
     let ran = has_run kernel (no_inputs kernel.plan.unit) no_script plan (ap (λ (p : Progress). p.inputs) is) (ap (λ (p : Progress). p.script) is) in
     (now, refl, subst (HasRun kernel.plan.unit kernel.plan.nexts kernel.plan.sizes kernel.plan.until (no_inputs kernel.plan.unit) no_script) (sym over) ran)
 
--- what is served leaves something
+-- What is served leaves something
 pub some_left : (done : Served) → CanServe done → (left : Option Progress) × Leaves (service_of done) left
 some_left (served.Ran kernel) can = (Some (ended kernel), ran_leaves kernel (ended kernel) can refl)
 some_left (served.Checked unit sizes until) can = (None, refl)
@@ -135,13 +135,13 @@ some_left (served.Tried kernel) can = (Some (ended kernel), tried_leaves kernel 
 
 -- ---- the text of what is served
 
--- a kernel that was just booted writes the text of the statements
+-- A kernel that was just booted writes the text of the statements
 pub served_text : Always AreAlike → (kernel : Progress) → CanServe (served.Ran kernel) → run_text (system kernel) (order kernel) kernel.plan.sizes kernel.plan.until ≡ service.text_of (service_of (served.Ran kernel))
 served_text law kernel (is, plan, are, script) =
     same_text kernel.plan.unit kernel.plan.code kernel.plan.nexts (stalls_of kernel.script) kernel.inputs
     (law kernel.plan.unit kernel.plan.code kernel.plan.nexts (stalls_of kernel.script) kernel.inputs plan.compiled are) (order kernel) kernel.plan.sizes kernel.plan.until
 
--- and so does one that writes its summary alone
+-- And so does one that writes its summary alone
 pub tried_text : Always AreAlike → (kernel : Progress) → CanServe (served.Tried kernel)
     → text_of (summary_of (system kernel) (order kernel) kernel.plan.sizes kernel.plan.until) ≡ service.text_of (service_of (served.Tried kernel))
 tried_text law kernel (is, plan) =
@@ -159,7 +159,7 @@ abbrev pub Keeps : Type 0
 Keeps = (plan : Plan) (inputs : List (List ℤ)) (script : Script) → IsPlan plan → AreInputs plan.unit inputs → IsScript plan.unit script
     → KeepsBounds (meaning_of plan.unit plan.nexts inputs script) (order_of plan.unit script) plan.sizes plan.until
 
--- a script with nothing in it
+-- A script with nothing in it
 is_no_script : (unit : Whole) → IsScript unit no_script
 is_no_script unit = record {
   stalls = λ k d none. absurd (omega (arith, none));
@@ -168,7 +168,7 @@ is_no_script unit = record {
   orders_rise = λ i j d less none. absurd (omega (arith, none));
 }
 
--- what is served keeps its bounds
+-- What is served keeps its bounds
 pub is_bounded : Keeps → (done : Served) → CanServe done → IsBounded (service_of done)
 is_bounded keeps (served.Ran kernel) (is, plan, are, script) = keeps kernel.plan kernel.inputs kernel.script plan are script
 is_bounded keeps (served.Checked unit sizes until) can = tt

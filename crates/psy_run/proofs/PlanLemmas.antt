@@ -21,7 +21,7 @@ use Rattle.psy_run.proofs.SupplyLemmas.{IsSupply, edges_at}
 
 -- ---- a plan's graphs
 
--- how the actions of an agent begin and end, where these points follow
+-- How the actions of an agent begin and end, where these points follow
 timing_at : (unit : Whole) (nexts : List (List (List ℕ))) → AreAllNexts unit nexts → (number : ℕ) → number < length unit.agents
     → IsTimingOf unit number (timing_of unit (agent_at unit number) (get_or nexts number []))
 timing_at unit nexts follow number less =

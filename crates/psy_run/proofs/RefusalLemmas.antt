@@ -25,18 +25,18 @@ use Rattle.psy_run.specs.Steps.{IsLexical, IsUnparsed, IsUnlawful, IsUndrawn, Is
 
 -- ---- the text of a program
 
--- a text that has no tokens has a first fault
+-- A text that has no tokens has a first fault
 pub lexical_is : (bytes : List ℕ) (refusal : Refusal) → IsLexical bytes refusal → (kind : LexKind) × (place : ℕ) × (refusal ≡ Lexical kind place) × FirstFault bytes kind place
 lexical_is bytes (Lexical kind place) at = (kind, place, refl, at)
 lexical_is bytes _ never = absurd never
 
--- tokens that have no tree are nested too deep, or have a token at fault
+-- Tokens that have no tree are nested too deep, or have a token at fault
 pub unparsed_is : (tokens : List Token) (refusal : Refusal) → IsUnparsed tokens refusal → ((token : ℕ) × (refusal ≡ Deep token) × deep.Deep tokens token) ⊎ ((token : ℕ) × (refusal ≡ Syntax token) × deep.Shallow tokens × AtFault tokens token)
 unparsed_is tokens (Deep token) at = inl (token, refl, at)
 unparsed_is tokens (Syntax token) at = inr (token, refl, at.0, at.1)
 unparsed_is tokens _ never = absurd never
 
--- a tree that stands for no program breaks a rule, or passes a limit
+-- A tree that stands for no program breaks a rule, or passes a limit
 pub unlawful_is : (raw : Raw) (refusal : Refusal) → IsUnlawful raw refusal → ((kind : RuleKind) × (token : ℕ) × (refusal ≡ Rule kind token) × LeastFault raw kind token) ⊎ ((count : Count) × (refusal ≡ Many count) × NoFault raw × (first_passed raw ≡ Some count))
 unlawful_is raw (Rule kind token) least = inl (kind, token, refl, least)
 unlawful_is raw (Many count) passed = inr (count, refl, passed.0, passed.1)
@@ -44,27 +44,27 @@ unlawful_is raw _ never = absurd never
 
 -- ---- what a program needs
 
--- the refusal of a fault of graphs
+-- The refusal of a fault of graphs
 pub undrawn_by : GraphFault → Refusal
 undrawn_by (fault.Nodes agent) = Nodes
 undrawn_by (fault.Edges agent) = Edges
 undrawn_by fault.Memory = Cells
 
--- a program that has no graphs has a cause of it
+-- A program that has no graphs has a cause of it
 pub undrawn_is : (unit : Whole) (refusal : Refusal) → IsUndrawn unit refusal → (cause : GraphFault) × (refusal ≡ undrawn_by cause) × IsCause unit cause
 unfolding undrawn_by
 undrawn_is unit Nodes it = (fault.Nodes it.0, refl, it.1)
 undrawn_is unit Edges it = (fault.Edges it.0, refl, it.1)
 undrawn_is unit _ never = absurd never
 
--- the refusal of a fault of sizes
+-- The refusal of a fault of sizes
 pub unsized_by : SizeFault → Refusal
 unsized_by (size.LargeRing variable) = Ring
 unsized_by (size.Cells stream) = Cells
 unsized_by (size.LargeQueue stream) = Queue
 unsized_by size.Memory = Words
 
--- a program that has no sizes has a fault of them
+-- A program that has no sizes has a fault of them
 pub unsized_is : (unit : Whole) (nexts : List (List (List ℕ))) (refusal : Refusal) → IsUnsized unit nexts refusal → (cause : SizeFault) × (refusal ≡ unsized_by cause) × IsFaultBy unit nexts cause
 unfolding unsized_by
 unsized_is unit nexts Ring it = (size.LargeRing it.0, refl, it.1)
@@ -72,7 +72,7 @@ unsized_is unit nexts Queue it = (size.LargeQueue it.0, refl, it.1)
 unsized_is unit nexts Cells it = (size.Cells it.0, refl, it.1)
 unsized_is unit nexts _ never = absurd never
 
--- a demand that isn't met passes the supply over a least length
+-- A demand that isn't met passes the supply over a least length
 pub overloaded_is : (unit : Whole) (graphs : List Graph) (until : ℕ) (refusal : Refusal) → IsOverloaded unit graphs until refusal → (within : ℕ) × (demand : ℕ) × (refusal ≡ Infeasible within demand (unit.quantum * within)) × IsOverload (edges_of graphs) unit.quantum until within demand
 overloaded_is unit graphs until (Infeasible length demand supply) it = (length, demand, ap (Infeasible length demand) it.1, it.0)
 overloaded_is unit graphs until _ never = absurd never

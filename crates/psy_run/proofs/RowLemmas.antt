@@ -8,12 +8,12 @@ each_pushed P [] x each last (suc i) y at = cc
 each_pushed P (z ∷ xs) x each last zero y at = each zero y at
 each_pushed P (z ∷ xs) x each last (suc i) y at = each_pushed (λ j. P (suc j)) xs x (λ j. each (suc j)) last i y at
 
--- there is an element by each number below the length
+-- There is an element by each number below the length
 pub there : {X : Type 0} (xs : List X) (i : ℕ) → i < length xs → (x : X) × (slice_get xs i ≡ Some x)
 there [] i less = absurd (omega (arith, less))
 there (x ∷ xs) zero less = (x, refl)
 there (x ∷ xs) (suc i) less = there xs i (omega (arith, less))
 
--- an element that is read is the one by that number
+-- An element that is read is the one by that number
 pub read_is : {X : Type 0} (xs : List X) (i : ℕ) (x y : X) → i < length xs → x ≡ get_or xs i x → slice_get xs i ≡ Some y → x ≡ y
 read_is xs i x y less is at = let same : Some x ≡ Some y = ap Some is ∙ sym (slice_get-get_or xs i x less) ∙ at in cc

@@ -97,7 +97,7 @@ unsized unit nexts (size.Cells stream) is = (Cells, (stream, is))
 unsized unit nexts (size.LargeQueue stream) is = (Queue, (stream, is))
 unsized unit nexts size.Memory never = absurd never
 
--- the graph of an edge list
+-- The graph of an edge list
 graph_at : (graphs : List Graph) (number : ℕ) (edges : List Edge) → slice_get (edges_of graphs) number ≡ Some edges → (graph : Graph) × (slice_get graphs number ≡ Some graph) × (graph.edges ≡ edges)
 graph_at [] number edges at = absurd (none-some edges at)
 graph_at (graph ∷ graphs) zero edges at = (graph, refl, same_Some graph.edges edges at)

@@ -40,17 +40,17 @@ pub undrawn_edges : (unit : Whole) (f : GraphFault) (agent : ℕ) → f ≡ faul
 undrawn_edges unit f agent is (inl memory) = let no : fault.Edges agent ≡ fault.Memory = sym is ∙ memory in absurd cc
 undrawn_edges unit f agent is (inr cause) = (agent, subst (IsCause unit) is cause)
 
--- the ring that is too large
+-- The ring that is too large
 pub unsized_ring : (unit : Whole) (f : SizeFault) (variable : ℕ) → f ≡ size.LargeRing variable → (f ≡ size.Memory) ⊎ IsSizeCause unit f → (nexts : List (List (List ℕ))) → AreAllNexts unit nexts → IsUnsized unit nexts Ring
 unsized_ring unit f variable is (inl memory) nexts follow = let no : size.LargeRing variable ≡ size.Memory = sym is ∙ memory in absurd cc
 unsized_ring unit f variable is (inr cause) nexts follow = (variable, subst (IsSizeCause unit) is cause nexts follow)
 
--- the table that has too many cells
+-- The table that has too many cells
 pub unsized_cells : (unit : Whole) (f : SizeFault) (stream : ℕ) → f ≡ size.Cells stream → (f ≡ size.Memory) ⊎ IsSizeCause unit f → (nexts : List (List (List ℕ))) → AreAllNexts unit nexts → IsUnsized unit nexts Cells
 unsized_cells unit f stream is (inl memory) nexts follow = let no : size.Cells stream ≡ size.Memory = sym is ∙ memory in absurd cc
 unsized_cells unit f stream is (inr cause) nexts follow = (stream, subst (IsSizeCause unit) is cause nexts follow)
 
--- the queue that is too large
+-- The queue that is too large
 pub unsized_queue : (unit : Whole) (f : SizeFault) (stream : ℕ) → f ≡ size.LargeQueue stream → (f ≡ size.Memory) ⊎ IsSizeCause unit f → (nexts : List (List (List ℕ))) → AreAllNexts unit nexts → IsUnsized unit nexts Queue
 unsized_queue unit f stream is (inl memory) nexts follow = let no : size.LargeQueue stream ≡ size.Memory = sym is ∙ memory in absurd cc
 unsized_queue unit f stream is (inr cause) nexts follow = (stream, subst (IsSizeCause unit) is cause nexts follow)
@@ -78,7 +78,7 @@ module _ (until : ℕ) (graphs : List Graph) (lists : List (List ℕ)) (are : Ar
 
 -- ---- demand
 
--- the edges by a number are those of a graph
+-- The edges by a number are those of a graph
 pub edges_at : (graphs : List Graph) (i : ℕ) (edges : List Edge) → slice_get (edges_of graphs) i ≡ Some edges → (graph : Graph) × (slice_get graphs i ≡ Some graph) × (graph.edges ≡ edges)
 edges_at [] i edges at = cc
 edges_at (graph ∷ graphs) zero edges at = (graph, refl, cc)
@@ -140,7 +140,7 @@ supply_is unit until supply (graphs, drawn, (nexts, followed, (sizes, sized, (fe
 pub ok_no_err : {A E : Type 0} (result : Result A E) (x : A) (e : E) → result ≡ Ok x → result ≡ Err e → ⊥
 ok_no_err result x e is other = let no = sym is ∙ other in cc
 
--- a list of weights that isn't made
+-- A list of weights that isn't made
 pub unwindowed : (until : ℕ) (graphs : List Graph) (failed : List ℕ) (before after : ℕ) (s : Stop) → (s ≡ stop.Memory) ⊎ ((s ≡ stop.Refused Cells) × Any (PassesCells until) graphs) → Halts (windowing graphs until) failed before after s
 unwindowed until graphs failed before after s (inl memory) = subst (Halts (windowing graphs until) failed before after) (sym memory) halts_memory
 unwindowed until graphs failed before after s (inr (is, passes)) = subst (Halts (windowing graphs until) failed before after) (sym is) (halts_refused Cells (refl, passes))

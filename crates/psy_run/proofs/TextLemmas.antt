@@ -119,7 +119,7 @@ agents_split (a ∷ ms) (g ∷ gs) [] (suc n) = sym (no_costs (drop n ms) (drop 
 agents_split (a ∷ ms) (g ∷ gs) (l ∷ ls) (suc n) =
     ap (λ rest. agent_text a g l ++ rest) (agents_split ms gs ls n) ∙ sym (append_assoc (agent_text a g l) (graph_text (take n ms) (take n gs) (take n ls)) (graph_text (drop n ms) (drop n gs) (drop n ls)))
 
--- the text of as many as the shortest list has is the whole
+-- The text of as many as the shortest list has is the whole
 pub agents_all : (agents : List AgentDecl) (graphs : List Graph) (costs : List (List ℕ)) (n : ℕ) → n ≡ min (min (length agents) (length graphs)) (length costs)
     → graph_text (take n agents) (take n graphs) (take n costs) ≡ graph_text agents graphs costs
 agents_all [] graphs costs zero is = refl

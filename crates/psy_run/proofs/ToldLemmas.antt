@@ -5,9 +5,9 @@ use Rattle.psy_dates.specs.Plans.{IsPlan}
 use Rattle.psy_door.specs.Faults.{Rose}
 use Rattle.psy_door.specs.Files.{Files}
 use Rattle.psy_history.specs.Compiled.{AreInputs}
-use Rattle.psy_kernel.specs.declared.script.Script.{Script as Said}
+use Rattle.psy_history.specs.declared.told.Script.{Script as Said}
 use Rattle.psy_kernel.specs.Progress.{Progress, booted}
-use Rattle.psy_kernel.specs.Scripts.{IsScript}
+use Rattle.psy_history.specs.Scripts.{IsScript}
 use Rattle.psy_make.specs.Text.{made_text}
 use Rattle.psy_script.specs.declared.fault.LineKind.{LineKind}
 use Rattle.psy_script.specs.declared.fault.TextFault.{TextFault}
@@ -27,7 +27,7 @@ use Rattle.psy_run.proofs.Courses.{gives_then, halts_first, halts_later}
 
 -- ---- texts
 
--- the text of a file stops a run with its fault
+-- The text of a file stops a run with its fault
 pub halts_by_text : {X : Type 0} (course : Course X) (file : File) (failed : List ℕ) (before after : ℕ) (fault : TextFault)
     → ((kind : LineKind) (line : ℕ) → fault ≡ text.Line kind line → course.stops (Line file kind line)) → (fault ≡ text.Lines → course.stops Lines) → Halts course failed before after (stop_by file fault)
 halts_by_text course file failed before after (text.Line kind line) first many = halts_refused (Line file kind line) (first kind line refl)
@@ -36,23 +36,23 @@ halts_by_text course file failed before after text.Memory first many = halts_mem
 
 -- ---- the shelf
 
--- a count that rose from a later one on rose from an earlier one on
+-- A count that rose from a later one on rose from an earlier one on
 rose_before : (before between after : ℕ) → before ≤ between → Rose between after → Rose before after
 rose_before before between after less rose = omega arith
 
--- a stop that is counted from later on is one from earlier on
+-- A stop that is counted from later on is one from earlier on
 halts_before : {X : Type 0} (course : Course X) (failed : List ℕ) (before between after : ℕ) (stop : Stop) → before ≤ between → Halts course failed between after stop → Halts course failed before after stop
 halts_before course failed before between after _ less (halts_refused refusal stops) = halts_refused refusal stops
 halts_before course failed before between after _ less (halts_unread file reads rose) = halts_unread file reads (rose_before before between after less rose)
 halts_before course failed before between after _ less halts_memory = halts_memory
 
--- a stop behind another read, which left the files as they were and the count of faults no less
+-- A stop behind another read, which left the files as they were and the count of faults no less
 pub halts_behind : {X : Type 0} {files now : Option Files} {failed : List ℕ} {before between after : ℕ} {stop : Stop} (course : Option Files → Course X) → (before ≤ between) × (now ≡ files)
     → Halts (course now) failed between after stop → Halts (course files) failed before after stop
 halts_behind {files = files} {failed = failed} {before = before} {between = between} {after = after} {stop = stop} course left halts =
     halts_before (course files) failed before between after stop left.0 (subst (λ f. Halts (course f) failed between after stop) left.1 halts)
 
--- what is given behind it
+-- What is given behind it
 pub gives_behind : {X : Type 0} {files now : Option Files} {before between : ℕ} {x : X} (course : Option Files → Course X) → (before ≤ between) × (now ≡ files) → (course now).gives x → (course files).gives x
 gives_behind {x = x} course left gives = subst (λ f. (course f).gives x) left.1 gives
 
@@ -110,7 +110,7 @@ module _ (seed until : ℕ) (text : List ℕ) (made : text ≡ made_text seed) w
 
 -- ---- kernels that were just booted
 
--- one with inputs and a script of its program can be served
+-- One with inputs and a script of its program can be served
 pub can_run : (kernel : Progress) (unit : Whole) (lists : List (List ℤ)) (script : Said) → kernel ≡ booted kernel.plan lists script → IsPlan kernel.plan → kernel.plan.unit ≡ unit → AreInputs unit lists → IsScript unit script → CanServe (served.Ran kernel)
 can_run kernel unit lists script is plan its_unit are_inputs is_script =
     let its_inputs : kernel.inputs ≡ lists = ap (λ p. p.inputs) is in
@@ -121,11 +121,11 @@ can_run kernel unit lists script is plan its_unit are_inputs is_script =
       subst (λ u. IsScript u kernel.script) (sym its_unit) (subst (IsScript unit) (sym its_script) is_script),
     )
 
--- one without can be tried
+-- One without can be tried
 pub can_try : (kernel : Progress) (unit : Whole) (lists : List (List ℤ)) (script : Said) → kernel ≡ booted kernel.plan lists script → IsPlan kernel.plan → kernel.plan.unit ≡ unit → lists ≡ no_inputs unit → script ≡ no_script → CanServe (served.Tried kernel)
 can_try kernel unit lists script is plan its_unit none still = (is ∙ (λ i. booted kernel.plan ((none ∙ ap no_inputs (sym its_unit)) i) (still i)), plan)
 
--- what is run is the program with them
+-- What is run is the program with them
 pub ran_is : (kernel : Progress) (unit : Whole) (nexts : List (List (List ℕ))) (sizes : Sizes) (until : ℕ) (lists : List (List ℤ)) (script : Said) → kernel ≡ booted kernel.plan lists script
     → kernel.plan.unit ≡ unit → kernel.plan.nexts ≡ nexts → kernel.plan.sizes ≡ sizes → kernel.plan.until ≡ until → service_of (served.Ran kernel) ≡ Ran unit nexts sizes until lists script
 ran_is kernel unit nexts sizes until lists script is its_unit its_nexts its_sizes its_until =

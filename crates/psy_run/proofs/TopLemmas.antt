@@ -5,7 +5,7 @@ use Rattle.psy_base.specs.declared.sizes.Sizes.{Sizes}
 use Rattle.psy_door.specs.Faults.{Rose}
 use Rattle.psy_door.specs.Files.{Files}
 use Rattle.psy_door.specs.Growth.{Grew, GrewByFront}
-use Rattle.psy_kernel.specs.declared.script.Script.{Script as Said}
+use Rattle.psy_history.specs.declared.told.Script.{Script as Said}
 use Rattle.psy_kernel.specs.declared.stage.Stage.TheVariants.{Over}
 use Rattle.psy_kernel.specs.Progress.{Progress, stage_of}
 use Rattle.psy_log.specs.Forms.{read_line}

@@ -5,7 +5,7 @@ use Rattle.psy_door.specs.Files.{Files}
 use Rattle.psy_tree.specs.declared.unit.Unit.{Unit as Whole}
 use Rattle.psy_meaning.specs.Flow.{AreAllNexts}
 use Rattle.psy_graph.specs.declared.graph.Graph.{Graph}
-use Rattle.psy_kernel.specs.declared.script.Script.{Script}
+use Rattle.psy_history.specs.declared.told.Script.{Script}
 use Rattle.psy_make.specs.Text.{made_text}
 use Rattle.psy_run.specs.declared.refusal.File.TheVariants as file
 use Rattle.psy_run.specs.declared.refusal.Refusal.{Refusal}

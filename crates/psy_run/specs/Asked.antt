@@ -5,17 +5,17 @@ use Rattle.psy_script.specs.Numbers.{number_of}
 use Rattle.psy_run.specs.declared.asked.Command.{Command as Read}
 use Rattle.psy_run.specs.declared.asked.Command.TheVariants as read
 
--- the word is a date up to which a program may run: a number of 1 to 12 digits, at most 100,000
+-- The word is a date up to which a program may run: a number of 1 to 12 digits, at most 100,000
 pub record IsDate (word : List ℕ) (date : ℕ) : Type 0 where
   pub value : number_of word ≡ Some date
   pub most : date ≤ UNTIL
 
--- the word is a number from which a program may be made: one of 1 to 12 digits and of 32 bits
+-- The word is a number from which a program may be made: one of 1 to 12 digits and of 32 bits
 pub record IsSeed (word : List ℕ) (seed : ℕ) : Type 0 where
   pub value : number_of word ≡ Some seed
   pub most : seed < 2 ^ 32
 
--- a command, with the names of its files and its numbers
+-- A command, with the names of its files and its numbers
 pub data Command : Type 0 where
   Run : (program : List ℕ) (until : ℕ) (inputs script : Option (List ℕ)) → Command
   Check : (program : List ℕ) (until : ℕ) → Command
@@ -23,7 +23,7 @@ pub data Command : Type 0 where
   Make : (seed : ℕ) → Command
   Trial : (seed until : ℕ) → Command
 
--- the words ask for a command: `run PROG UNTIL [INPUTS [SCRIPT]]`, `check PROG UNTIL`, `graph PROG`, `make SEED` or `trial SEED UNTIL`
+-- The words ask for a command: `run PROG UNTIL [INPUTS [SCRIPT]]`, `check PROG UNTIL`, `graph PROG`, `make SEED` or `trial SEED UNTIL`
 pub data Asks (words : List (List ℕ)) : Command → Type 0 where
   asks_run : (program date : List ℕ) (until : ℕ) → words ≡ codes "run" ∷ program ∷ date ∷ [] → IsDate date until → Asks words (Run program until None None)
   asks_run_with_inputs : (program date inputs : List ℕ) (until : ℕ) → words ≡ codes "run" ∷ program ∷ date ∷ inputs ∷ [] → IsDate date until
@@ -36,7 +36,7 @@ pub data Asks (words : List (List ℕ)) : Command → Type 0 where
   asks_trial : (number date : List ℕ) (seed until : ℕ) → words ≡ codes "trial" ∷ number ∷ date ∷ [] → IsSeed number seed → IsDate date until
       → Asks words (Trial seed until)
 
--- the words are of no listed form
+-- The words are of no listed form
 abbrev pub AskNothing : List (List ℕ) → Type 0
 AskNothing words = (command : Command) → Asks words command → ⊥
 

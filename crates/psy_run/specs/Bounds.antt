@@ -7,14 +7,17 @@ use Rattle.psy_meaning.specs.Actions.{Action, System}
 use Rattle.psy_meaning.specs.History.{history}
 use Rattle.psy_meaning.specs.Schedule.{finish}
 use Rattle.psy_meaning.specs.Summary.{most_held, reach}
-use Rattle.psy_history.specs.Scheduled.{turns_of}
-use Rattle.psy_kernel.specs.declared.script.Script.{Script}
-use Rattle.psy_kernel.specs.Scripts.{order_of}
+use Rattle.psy_history.specs.Scheduled.{IsFinished, turns_of}
+use Rattle.psy_history.specs.declared.told.Script.{Script}
+use Rattle.psy_history.specs.Scripts.{order_of}
 use Rattle.psy_run.specs.Services.{Service, Ran, Tried, meaning_of, no_inputs, no_script}
 
 -- A run up to a date keeps its bounds.
 pub record KeepsBounds (s : System) (order : ℕ → List ℕ) (sizes : Sizes) (until : ℕ) : Type 0 where
-  -- each action that is due by then is finished, or stopped, by its deadline: its slack is a true difference
+  -- each action that is due by then has by its deadline had all its work, up to its budget: it is finished, or stopped
+  pub finished : (agent : ℕ) (r : Action) → Contains (history s (until + 1) agent) r → r.deadline ≤ until
+      → IsFinished s order (r.deadline * s.unit.quantum) r
+  -- and the cycle behind its last one is no later, so that its slack is a true difference
   pub in_time : (agent : ℕ) (r : Action) → Contains (history s (until + 1) agent) r → r.deadline ≤ until
       → finish r.agent r.number (turns_of s order (until * s.unit.quantum)) ≤ r.deadline * s.unit.quantum
   -- no ring was reached for beyond its size

@@ -4,7 +4,7 @@ use Rattle.std.specs.Prelude.{◌≡◌, ℕ, List, ◌⊎◌}
 use Rattle.psy_run.specs.declared.refusal.File.{File}
 use Rattle.psy_run.specs.declared.refusal.Refusal.{Refusal}
 
--- what a command, or some of its steps, comes to
+-- What a command, or some of its steps, comes to
 pub record Course (X : Type 0) : Type 1 where
   -- what it gives, where no step stops
   pub gives : X → Type 0
@@ -13,19 +13,19 @@ pub record Course (X : Type 0) : Type 1 where
   -- it comes to the read of this file, under this name: none of the steps before that read stops
   pub reads : File → List ℕ → Type 0
 
--- one step, which reads no file
+-- One step, which reads no file
 abbrev pub step : {X : Type 0} → (X → Type 0) → (Refusal → Type 0) → Course X
 step gives stops = record { gives = gives; stops = stops; reads = λ file name. ⊥ }
 
--- no step any more
+-- No step any more
 abbrev pub pure : {X : Type 0} → X → Course X
 pure x = step (λ y. y ≡ x) (λ refusal. ⊥)
 
--- a test that goes on where a fact holds, and else stops with this refusal
+-- A test that goes on where a fact holds, and else stops with this refusal
 abbrev pub unless : Type 0 → Type 0 → Refusal → Course (Unit {0})
 unless Holds Fails refusal = step (λ done. Holds) (λ r. (r ≡ refusal) × Fails)
 
--- one course, and with what it gives another
+-- One course, and with what it gives another
 unfoldable pub in_row : {X Y : Type 0} → Course X → (X → Course Y) → Course Y
 in_row {X = X} {Y = Y} c f = record {
   gives = λ y. (x : X) × c.gives x × (f x).gives y;
@@ -34,6 +34,6 @@ in_row {X = X} {Y = Y} c f = record {
 }
 
 infixl 10 ◌>>=◌
--- the same as an operator, so that steps are written one below the other
+-- The same as an operator, so that steps are written one below the other
 abbrev pub ◌>>=◌ : {X Y : Type 0} → Course X → (X → Course Y) → Course Y
 c >>= f = in_row c f

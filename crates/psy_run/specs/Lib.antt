@@ -1,9 +1,12 @@
 -- The definitions of this crate, by subject.
+pub mod Accepted
 pub mod Answer
 pub mod Asked
 pub mod Bounds
 pub mod Courses
+pub mod Cuts
 pub mod Outcome
+pub mod OwnLines
 pub mod Refusals
 pub mod Runs
 pub mod Services

@@ -7,7 +7,7 @@ use Rattle.psy_door.specs.Growth.{Grew, GrewByFront}
 use Rattle.psy_history.specs.Compiled.{AreInputs}
 use Rattle.psy_dates.specs.Plans.{IsPlan}
 use Rattle.psy_kernel.specs.Progress.{Progress, booted}
-use Rattle.psy_kernel.specs.Scripts.{IsScript}
+use Rattle.psy_history.specs.Scripts.{IsScript}
 use Rattle.psy_log.specs.Forms.{read_line}
 use Rattle.psy_run.specs.declared.refusal.File.{File}
 use Rattle.psy_run.specs.declared.refusal.Refusal.{Refusal}

@@ -17,7 +17,7 @@ use Rattle.psy_run.specs.declared.refusal.Refusal.{Refusal}
 use Rattle.psy_run.specs.declared.refusal.Refusal.TheVariants.{Words, TooLong, Lexical, Syntax, Deep, Rule, Many, Nodes, Edges, Ring, Queue, Cells}
 use Rattle.psy_run.specs.declared.refusal.Refusal.TheVariants.{Infeasible, Line, Lines, Cycles}
 
--- the status of each refusal
+-- The status of each refusal
 abbrev pub status_of : Refusal → ℕ
 status_of Words = 2
 status_of (TooLong file) = 7
@@ -36,13 +36,13 @@ status_of (Line file kind line) = 6
 status_of Lines = 7
 status_of Cycles = 7
 
--- what a file is called
+-- What a file is called
 abbrev pub file_name : File → List ℕ
 file_name Program = codes "program"
 file_name Inputs = codes "inputs"
 file_name Script = codes "script"
 
--- what a count is called
+-- What a count is called
 abbrev pub count_name : Count → List ℕ
 count_name Clocks = codes "clocks"
 count_name Agents = codes "agents"
@@ -52,7 +52,7 @@ count_name Functions = codes "functions"
 count_name Names = codes "names"
 count_name Points = codes "points"
 
--- the greatest number that a count may have
+-- The greatest number that a count may have
 abbrev pub count_limit : Count → ℕ
 count_limit Clocks = limit.CLOCKS
 count_limit Agents = limit.AGENTS
@@ -62,7 +62,7 @@ count_limit Functions = limit.FUNCTIONS
 count_limit Names = limit.NAMES
 count_limit Points = limit.POINTS
 
--- the line of each refusal
+-- The line of each refusal
 abbrev pub line_of : Refusal → List ℕ
 line_of Words = words_line
 line_of (TooLong file) = limit_line (file_name file) limit.FILE_BYTES
@@ -81,7 +81,7 @@ line_of (Line file kind line) = refused_line (file_name file) (line_number kind)
 line_of Lines = limit_line (codes "lines") limit.LINES
 line_of Cycles = limit_line (codes "run") limit.RUN
 
--- why a command stops at the text of a file
+-- Why a command stops at the text of a file
 abbrev pub stop_by : File → TextFault → Stop
 stop_by file (text.Line kind line) = stop.Refused (Line file kind line)
 stop_by file text.Lines = stop.Refused Lines

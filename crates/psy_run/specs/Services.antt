@@ -6,9 +6,9 @@ use Rattle.psy_graph.specs.declared.graph.Graph.{Graph}
 use Rattle.psy_history.specs.Compiled.{stated}
 use Rattle.psy_base.specs.declared.sizes.Sizes.{Sizes}
 use Rattle.psy_dates.specs.Plans.{IsPlan}
-use Rattle.psy_kernel.specs.declared.script.Script.{Script}
+use Rattle.psy_history.specs.declared.told.Script.{Script}
 use Rattle.psy_kernel.specs.Progress.{Progress, lines_told}
-use Rattle.psy_kernel.specs.Scripts.{order_of, stalls_of}
+use Rattle.psy_history.specs.Scripts.{order_of, stalls_of}
 use Rattle.psy_kernel.specs.Texts.{run_text, summary_of}
 use Rattle.psy_kernel.specs.Texts.{text_of as lines_text}
 use Rattle.psy_run.specs.declared.served.Served.{Served}

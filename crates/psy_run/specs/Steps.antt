@@ -24,7 +24,7 @@ use Rattle.psy_graph.specs.declared.graph.Graph.{Graph}
 use Rattle.psy_graph.specs.Graphs.{AreGraphs, IsCause}
 use Rattle.psy_sizes.specs.declared.fault.SizeFault.TheVariants as size
 use Rattle.psy_sizes.specs.Faults.{CanCount, IsFaultBy}
-use Rattle.psy_kernel.specs.declared.script.Script.{Script as Said}
+use Rattle.psy_history.specs.declared.told.Script.{Script as Said}
 use Rattle.psy_script.specs.Faults.{HasManyLines, IsFirst}
 use Rattle.psy_script.specs.Inputs.{AreListsOf, inputs_judge}
 use Rattle.psy_script.specs.Script.{IsScriptOf, script_judge}
@@ -48,7 +48,7 @@ reading files file name = record {
   reads = λ asked under. (asked ≡ file) × (under ≡ name);
 }
 
--- the first fault of a text
+-- The first fault of a text
 abbrev pub IsLexical : List ℕ → Refusal → Type 0
 IsLexical bytes (Lexical kind place) = faults.FirstFault bytes kind place
 IsLexical bytes _ = ⊥
@@ -57,7 +57,7 @@ IsLexical bytes _ = ⊥
 abbrev pub lexing : List ℕ → Course (List Token)
 lexing bytes = step (TokensOf bytes) (IsLexical bytes)
 
--- where they are nested too deep, or else the token at fault of those of no program
+-- Where they are nested too deep, or else the token at fault of those of no program
 abbrev pub IsUnparsed : List Token → Refusal → Type 0
 IsUnparsed tokens (Deep token) = deep.Deep tokens token
 IsUnparsed tokens (Syntax token) = deep.Shallow tokens × AtFault tokens token
@@ -67,7 +67,7 @@ IsUnparsed tokens _ = ⊥
 abbrev pub parsing : List Token → Course Raw
 parsing tokens = step (λ raw. deep.Shallow tokens × Spells raw tokens) (IsUnparsed tokens)
 
--- the least breach of a rule, or else the first count of declarations that passes its limit
+-- The least breach of a rule, or else the first count of declarations that passes its limit
 abbrev pub IsUnlawful : Raw → Refusal → Type 0
 IsUnlawful raw (Rule kind token) = LeastFault raw kind token
 IsUnlawful raw (Many count) = NoFault raw × (first_passed raw ≡ Some count)
@@ -77,7 +77,7 @@ IsUnlawful raw _ = ⊥
 abbrev pub resolving : Raw → Course Whole
 resolving raw = step (λ unit. Stands unit raw) (IsUnlawful raw)
 
--- the first agent whose graph would have more than 512 nodes, or else more than 4,096 edges
+-- The first agent whose graph would have more than 512 nodes, or else more than 4,096 edges
 abbrev pub IsUndrawn : Whole → Refusal → Type 0
 IsUndrawn unit Nodes = (agent : ℕ) × IsCause unit (fault.Nodes agent)
 IsUndrawn unit Edges = (agent : ℕ) × IsCause unit (fault.Edges agent)
@@ -87,7 +87,7 @@ IsUndrawn unit _ = ⊥
 abbrev pub graphing : Whole → Course (List Graph)
 graphing unit = step (AreGraphs unit) (IsUndrawn unit)
 
--- the first variable whose ring would have more than 65,536 places, or else the first stream whose queue would, or for which a table would
+-- The first variable whose ring would have more than 65,536 places, or else the first stream whose queue would, or for which a table would
 -- have more than 4,000,000 cells
 abbrev pub IsUnsized : Whole → List (List (List ℕ)) → Refusal → Type 0
 IsUnsized unit nexts Ring = (variable : ℕ) × IsFaultBy unit nexts (size.LargeRing variable)
@@ -126,11 +126,11 @@ PassesCells until graph = WINDOW_CELLS < length graph.nodes * (until + 1)
 abbrev pub windowing : List Graph → ℕ → Course (Unit {0})
 windowing graphs until = unless (All (HasCells until) graphs) (Any (PassesCells until) graphs) Cells
 
--- the edges of each graph
+-- The edges of each graph
 abbrev pub edges_of : List Graph → List (List Edge)
 edges_of graphs = map (λ graph. graph.edges) graphs
 
--- the least length over which the processor can't supply what the agents may demand
+-- The least length over which the processor can't supply what the agents may demand
 abbrev pub IsOverloaded : Whole → List Graph → ℕ → Refusal → Type 0
 IsOverloaded unit graphs until (Infeasible length demand supply) = IsOverload (edges_of graphs) unit.quantum until length demand
     × (supply ≡ unit.quantum * length)
@@ -140,7 +140,7 @@ IsOverloaded unit graphs until _ = ⊥
 abbrev pub demanding : Whole → List Graph → ℕ → Course (Unit {0})
 demanding unit graphs until = step (λ done. IsFeasible (edges_of graphs) unit.quantum until) (IsOverloaded unit graphs until)
 
--- the first line of an inputs file that is at fault, where there are no more than 10,000, or else that there are more
+-- The first line of an inputs file that is at fault, where there are no more than 10,000, or else that there are more
 abbrev pub IsUnlisted : Whole → List ℕ → Refusal → Type 0
 IsUnlisted unit bytes (Line file kind line) = (file ≡ Inputs) × IsFirst (inputs_judge unit) bytes kind line
 IsUnlisted unit bytes Lines = HasManyLines bytes
@@ -150,7 +150,7 @@ IsUnlisted unit bytes _ = ⊥
 abbrev pub stating : Whole → List ℕ → Course (List (List ℤ))
 stating unit bytes = step (AreListsOf unit bytes) (IsUnlisted unit bytes)
 
--- the same of a script file
+-- The same of a script file
 abbrev pub IsUnscripted : Whole → List ℕ → Refusal → Type 0
 IsUnscripted unit bytes (Line file kind line) = (file ≡ Script) × IsFirst (script_judge unit) bytes kind line
 IsUnscripted unit bytes Lines = HasManyLines bytes

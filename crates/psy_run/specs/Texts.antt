@@ -12,41 +12,41 @@ use Rattle.psy_graph.specs.declared.graph.Node.{Node}
 
 -- ---- check
 
--- a line for each of what is declared, with its size
+-- A line for each of what is declared, with its size
 abbrev pub sized_text : {X : Type 0} → (X → ℕ → List ℕ) → List X → List ℕ → List ℕ
 sized_text line (x ∷ xs) (size ∷ sizes) = line x size ++ sized_text line xs sizes
 sized_text line _ _ = []
 
--- the sizes of the rings of variables
+-- The sizes of the rings of variables
 abbrev pub rings_text : List VarDecl → List ℕ → List ℕ
 rings_text = sized_text (λ (v : VarDecl). variable_size_line v.name)
 
--- the sizes of the queues of streams
+-- The sizes of the queues of streams
 abbrev pub queues_text : List StreamDecl → List ℕ → List ℕ
 queues_text = sized_text (λ (s : StreamDecl). stream_size_line s.name)
 
--- the sizes, and the verdict
+-- The sizes, and the verdict
 abbrev pub check_text : Whole → Sizes → ℕ → List ℕ
 check_text unit sizes until = rings_text unit.variables sizes.rings ++ (queues_text unit.streams sizes.queues ++ feasible_line until)
 
 -- ---- graph
 
--- the lines of nodes, numbered from here on, with the greatest cost from the point of each
+-- The lines of nodes, numbered from here on, with the greatest cost from the point of each
 abbrev pub nodes_text : List ℕ → ℕ → List Node → List ℕ
 nodes_text costs number [] = []
 nodes_text costs number (node ∷ rest) = node_line number node.point node.phase node.budget (get_or costs node.point 0) node.due
     ++ nodes_text costs (number + 1) rest
 
--- the line of an edge
+-- The line of an edge
 abbrev pub edge_text : Edge → List ℕ
 edge_text edge = edge_line edge.from edge.to edge.len
 
--- the lines of an agent: its graph's counts, its nodes and its edges
+-- The lines of an agent: its graph's counts, its nodes and its edges
 abbrev pub agent_text : AgentDecl → Graph → List ℕ → List ℕ
 agent_text agent graph costs = agent_graph_line agent.name (length graph.nodes) (length graph.edges)
     ++ (nodes_text costs 0 graph.nodes ++ flat_map edge_text graph.edges)
 
--- the lines of all agents
+-- The lines of all agents
 abbrev pub graph_text : List AgentDecl → List Graph → List (List ℕ) → List ℕ
 graph_text (agent ∷ agents) (graph ∷ graphs) (list ∷ costs) = agent_text agent graph list ++ graph_text agents graphs costs
 graph_text _ _ _ = []

@@ -1,18 +1,26 @@
 //! Laws of the defined answer: words have one, and no other; and of runs: they keep their bounds.
-ghost use Rattle.std.specs.Prelude.{◌≡◌, ℕ, List, Some, ℤ};
-ghost use Rattle.psy_door.specs.Files.{Files};
+ghost use Rattle.std.specs.Prelude.{◌≡◌, ℕ, ◌+◌, List, Option, Some, ℤ};
+ghost use Rattle.psy_door.specs.Files.{Files, bytes_under};
 ghost use Rattle.psy_dates.specs.declared.plan.Plan.{Plan};
 ghost use Rattle.psy_dates.specs.Plans.{IsPlan};
-ghost use Rattle.psy_history.specs.Compiled.{AreInputs};
-ghost use Rattle.psy_kernel.specs.declared.script.Script.{Script};
-ghost use Rattle.psy_kernel.specs.Scripts.{IsScript, order_of};
+ghost use Rattle.psy_budget.specs.declared.charge.Stall.{Stall};
+ghost use Rattle.psy_tree.specs.declared.unit.Unit.{Unit as Whole};
+ghost use Rattle.psy_meaning.specs.History.{history};
+ghost use Rattle.psy_meaning.specs.Units.{IsOfText};
+ghost use Rattle.psy_history.specs.Compiled.{AreInputs, stated};
+ghost use Rattle.psy_history.specs.Feeding.{OverranAlike, Reaches};
+ghost use Rattle.psy_history.specs.declared.told.Script.{Script};
+ghost use Rattle.psy_history.specs.Scripts.{IsScript, order_of};
+ghost use Rattle.psy_run.specs.Accepted.{IsRunnable};
 ghost use Rattle.psy_run.specs.Answer.{Answers};
+ghost use Rattle.psy_run.specs.Asked.{Asks, Check, Run};
 ghost use Rattle.psy_run.specs.Bounds.{KeepsBounds};
+ghost use Rattle.psy_run.specs.OwnLines.{own_text};
 ghost use Rattle.psy_run.specs.Services.{meaning_of};
 
 use psy_flow::laws::{costs, nexts};
 use psy_graph::laws::one_graph;
-use psy_history::laws::{alike, on_time, queue_sizes, regular, ring_sizes};
+use psy_history::laws::{alike, isolation as histories, on_time, queue_sizes, regular, ring_sizes};
 use psy_make::laws::short;
 use psy_meaning::laws::of_text;
 use psy_parse::laws::one_tree;
@@ -52,8 +60,8 @@ pub fn some_answer()
     greatest();
 }
 
-/// A run keeps its bounds, for all inputs and every script: each action that is due by its last date is finished, or stopped, by its
-/// deadline, no ring is reached for beyond its size, and no queue holds more messages than it has places.
+/// A run keeps its bounds, for all inputs and every script: each action that is due by its last date has had all its work, up to its budget,
+/// by its deadline, no ring is reached for beyond its size, and no queue holds more messages than it has places.
 pub fn bounds()
     ensures { (plan : Plan) (inputs : List (List ℤ)) (script : Script) → IsPlan plan → AreInputs plan.unit inputs → IsScript plan.unit script
         → KeepsBounds (meaning_of plan.unit plan.nexts inputs script) (order_of plan.unit script) plan.sizes plan.until }
@@ -63,4 +71,27 @@ pub fn bounds()
     on_time();
     ring_sizes();
     queue_sizes();
+}
+
+/// The headline: where a check of a program up to a date is answered by status 0, each run of it up to that date is, whatever the inputs and
+/// the script; it writes the dated meaning of the program's statements, and keeps its bounds.
+pub fn accepted()
+    ensures { (files others : Files) (checked ran : List (List ℕ)) (program again : List ℕ) (until : ℕ) (inputs script : Option (List ℕ)) (text : List ℕ)
+        → Asks checked (Check program until) → Answers checked (Some files) 0 text
+        → Asks ran (Run again until inputs script) → bytes_under others again ≡ bytes_under files program
+        → IsRunnable ran others again until inputs script }
+{
+    bounds();
+}
+
+/// Isolation, in bytes: two runs of a program with the same inputs, each with stalls of its own. Where, of each agent that reaches another,
+/// actions with the same number both overran or both didn't, the lines of the other's stops and of its variables' values are the same.
+pub fn isolation()
+    ensures { (unit : Whole) (nexts : List (List (List ℕ))) (stalls others : ℕ → List Stall) (inputs : List (List ℤ)) (until to : ℕ)
+        → IsOfText unit → AreInputs unit inputs
+        → ((from : ℕ) → Reaches unit to from
+        → OverranAlike (history (stated unit nexts stalls inputs) (until + 1) from) (history (stated unit nexts others inputs) (until + 1) from))
+        → own_text (stated unit nexts stalls inputs) to until ≡ own_text (stated unit nexts others inputs) to until }
+{
+    histories();
 }

@@ -1,4 +1,5 @@
 //! The top call of psyc: from words and the bytes of a program to a status and a text.
+//! It may know what reads and judges texts, the door and the kernel, through their public calls.
 #![tactic(auto)]
 
 mod asked;

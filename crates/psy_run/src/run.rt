@@ -1,10 +1,11 @@
 //! The run of a kernel, and the text that it writes.
-ghost use Rattle.std.specs.Prelude.{◌≡◌, ◌+◌, ◌-◌, ◌*◌, ◌≤◌, length, OnOk, OnErr};
+ghost use Rattle.std.specs.Prelude.{◌≡◌, ◌+◌, ◌-◌, ◌*◌, ◌≤◌, length, IfErr, OnOk, OnErr};
 ghost use Rattle.psy_door.specs.Faults.{Rose};
 ghost use Rattle.psy_kernel.specs.declared.stage.Stage.TheVariants.{Over};
 ghost use Rattle.psy_kernel.specs.Progress.{booted, lines_told, order, stage_of, summary_told, system};
 ghost use Rattle.psy_kernel.specs.Texts.{log_of, run_text, summary_of, text_of};
 ghost use Rattle.psy_log.specs.Writing.{Written};
+ghost use Rattle.psy_run.specs.Cuts.{IsCutAt, run_lines};
 ghost use Rattle.psy_run.specs.Runs.{all_given, ended};
 
 use psy_door::Sink;
@@ -106,6 +107,8 @@ pub fn run_loop<S: Sink>(kernel: &mut Kernel, out: &mut S) -> Result<(), WriteFa
     ensures over { OnOk result (kernel.new ≡ ended kernel.old) }
     ensures written { Written (S.held out.old) (S.held out.new) result
         (run_text (system kernel.old) (order kernel.old) kernel.old.plan.sizes kernel.old.plan.until) }
+    ensures cut { IfErr result (λ fault. IsCutAt (S.held out.old) (S.held out.new)
+        (run_lines (system kernel.old) (order kernel.old) kernel.old.plan.sizes kernel.old.plan.until) fault.taken) }
 {
     if let Err(fault) = run_dates(kernel, out) {
         return Err(fault);
@@ -121,6 +124,8 @@ pub fn trial_loop<S: Sink>(kernel: &mut Kernel, out: &mut S) -> Result<(), Write
     ensures over { OnOk result (kernel.new ≡ ended kernel.old) }
     ensures written { Written (S.held out.old) (S.held out.new) result
         (text_of (summary_of (system kernel.old) (order kernel.old) kernel.old.plan.sizes kernel.old.plan.until)) }
+    ensures cut { IfErr result (λ fault. IsCutAt (S.held out.old) (S.held out.new)
+        (summary_of (system kernel.old) (order kernel.old) kernel.old.plan.sizes kernel.old.plan.until) fault.taken) }
 {
     pass_dates(kernel);
     write_summary(kernel, out)

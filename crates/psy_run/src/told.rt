@@ -1,7 +1,7 @@
 //! The steps on what a run is told: its inputs, its script, and how many cycles it may have.
 ghost use Rattle.std.specs.Prelude.{ℕ, ◌≡◌, ◌≤◌, List, IfOk, IfErr, option_copied};
 ghost use Rattle.psy_history.specs.Compiled.{AreInputs};
-ghost use Rattle.psy_kernel.specs.Scripts.{IsScript};
+ghost use Rattle.psy_history.specs.Scripts.{IsScript};
 ghost use Rattle.psy_meaning.specs.Units.{IsOfText};
 ghost use Rattle.psy_run.specs.Answer.{listing, scripting};
 ghost use Rattle.psy_run.specs.Outcome.{Halts};
@@ -13,9 +13,8 @@ use crate::lists::push;
 use crate::refusal::{File, Refusal, Stop};
 use crate::steps::read;
 use psy_base::{Items, Memory, limits};
-use psy_dates::Inputs;
 use psy_door::Shelf;
-use psy_kernel::Script;
+use psy_history::{Inputs, Script};
 use psy_script::{TextFault, read_inputs, read_script};
 use psy_tree::Unit;
 use std::alloc::Global;

@@ -1,20 +1,27 @@
 //! The top call.
-ghost use Rattle.std.specs.Prelude.{◌≡◌, ◌≢◌, ℕ, ◌≤◌, ◌⊎◌, List, [], map, string_bytes, Option, None, Some, IfSome, OnErr, MatchResult};
+ghost use Rattle.std.specs.Prelude.{◌≡◌, ◌≢◌, ℕ, ℤ, ◌+◌, ◌≤◌, ◌⊎◌, List, [], map, string_bytes, Option, None, Some, IfSome, OnErr, MatchResult};
+ghost use Rattle.psy_base.specs.declared.limits.TheConstants.{FILE_BYTES};
+ghost use Rattle.psy_base.specs.declared.sizes.Sizes.{Sizes};
 ghost use Rattle.psy_door.specs.Faults.{Rose};
 ghost use Rattle.psy_door.specs.Files.{Files};
 ghost use Rattle.psy_door.specs.Growth.{Grew, GrewByFront};
 ghost use Rattle.psy_kernel.specs.declared.stage.Stage.TheVariants.{Over};
+ghost use Rattle.psy_history.specs.declared.told.Script.{Script};
 ghost use Rattle.psy_kernel.specs.Progress.{Progress, stage_of};
+ghost use Rattle.psy_history.specs.Scripts.{order_of};
+ghost use Rattle.psy_kernel.specs.Texts.{run_text};
+ghost use Rattle.psy_tree.specs.declared.unit.Unit.{Unit as Whole};
 ghost use Rattle.psy_log.specs.Forms.{read_line};
 ghost use Rattle.psy_log.specs.Writing.{Written};
 ghost use Rattle.psy_run.specs.declared.refusal.File.{File as Role};
 ghost use Rattle.psy_run.specs.declared.refusal.Refusal.{Refusal as Cause};
+ghost use Rattle.psy_run.specs.declared.refusal.Refusal.TheVariants.{TooLong};
 ghost use Rattle.psy_run.specs.Answer.{Answers, answering};
 ghost use Rattle.psy_run.specs.Asked.{AskNothing};
-ghost use Rattle.psy_run.specs.Bounds.{IsBounded};
+ghost use Rattle.psy_run.specs.Bounds.{IsBounded, KeepsBounds};
 ghost use Rattle.psy_run.specs.Outcome.{CanServe, Ends, IsUnread, MayAnswer, Says};
 ghost use Rattle.psy_run.specs.Refusals.{status_of, line_of, file_name};
-ghost use Rattle.psy_run.specs.Services.{Leaves, Service, service_of, text_of};
+ghost use Rattle.psy_run.specs.Services.{Leaves, Ran, Service, meaning_of, service_of, text_of};
 
 use crate::commands::judge;
 use crate::laws::{bounds, one_answer};
@@ -173,6 +180,19 @@ pub fn psyc<F: Shelf, S: Sink>(
     ensures done { (Rose (F.faults shelf.old) (F.faults shelf.new) → ⊥) → (Rose (S.faults out.old) (S.faults out.new) → ⊥)
         → ((text : List ℕ) × Answers (map string_bytes words.now) (F.files shelf.old) result text × Grew (S.held out.old) (S.held out.new) text)
         ⊎ (result ≡ 8) }
+
+    // A run that nothing refuses is written whole, and keeps its bounds, unless memory runs out and nothing is written.
+    ensures headline { (files : Files) (unit : Whole) (nexts : List (List (List ℕ))) (sizes : Sizes) (until : ℕ) (lists : List (List ℤ)) (said : Script)
+        → F.files shelf.old ≡ Some files → (answering (map string_bytes words.now) (Some files)).gives (Ran unit nexts sizes until lists said)
+        → (Rose (F.faults shelf.old) (F.faults shelf.new) → ⊥) → (Rose (S.faults out.old) (S.faults out.new) → ⊥)
+        → ((result ≡ 0) × Grew (S.held out.old) (S.held out.new) (run_text (meaning_of unit nexts lists said) (order_of unit said) sizes until)
+        × KeepsBounds (meaning_of unit nexts lists said) (order_of unit said) sizes until)
+        ⊎ ((result ≡ 8) × Grew (S.held out.old) (S.held out.new) []) }
+
+    // A limit: the refusal's line was written; where a file was too long, the shelf took one byte more than a file may have.
+    ensures limit { result ≡ 7 → (refusal : Cause) × (answering (map string_bytes words.now) (F.files shelf.old)).stops refusal
+        × Grew (S.held out.old) (S.held out.new) (line_of refusal)
+        × ((file : Role) → refusal ≡ TooLong file → F.taken shelf.new ≡ FILE_BYTES + 1) }
 
     // Words of no listed form are refused whatever the shelf does.
     ensures words { AskNothing (map string_bytes words.now) → (result ≡ 2) ⊎ (result ≡ 4) }

@@ -11,7 +11,7 @@ use Rattle.psy_base.specs.declared.limits.TheConstants.{WORD_DIGITS}
 use Rattle.psy_tree.specs.Lexemes.{decimal_value}
 use Rattle.psy_script.specs.Numbers.{is_number}
 
--- arithmetic of a digit behind others
+-- Arithmetic of a digit behind others
 regroup : (d p v e : ℕ) → d * (p * 10) + (v * 10 + e) ≡ (d * p + v) * 10 + e
 regroup d p v e = omega arith
 
@@ -28,7 +28,7 @@ decimal_value-more digits i value within so_far =
     ap (λ v. v * 10 + (get_or digits i 0 - 48)) so_far
     ∙ sym (ap decimal_value (take_more digits i 0 within) ∙ decimal_value-push (take i digits) (get_or digits i 0))
 
--- arithmetic of a digit in front of others
+-- Arithmetic of a digit in front of others
 one_more : (d p v : ℕ) → d ≤ 9 → v < p → d * p + v < p * 10
 one_more d p v few less = omega (arith, mul-le-mul_right p few)
 

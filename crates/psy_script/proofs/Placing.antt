@@ -20,12 +20,12 @@ or_swap true false c = refl
 or_swap false true c = refl
 or_swap false false c = refl
 
--- tests in other brackets
+-- Tests in other brackets
 or_assoc : (a b c : Bool) → (a || (b || c)) ≡ ((a || b) || c)
 or_assoc true b c = refl
 or_assoc false b c = refl
 
--- and a test beside none
+-- And a test beside none
 pub or_none : (a : Bool) → (a || false) ≡ a
 or_none true = refl
 or_none false = refl
@@ -60,7 +60,7 @@ All_put : {X : Type 0} (P : X → Type 0) (before : X → X → Bool) (x : X) (y
 All_put P before x [] one all = All-cons P x [] one (All-nil P)
 All_put P before x (y ∷ ys) one all = All_put_at P (before x y) x y ys (put before x ys) one all (All_put P before x ys one (All-tail P y ys all))
 
--- and where many are.
+-- And where many are.
 All_put_all : {X : Type 0} (P : X → Type 0) (before : X → X → Bool) (xs placed : List X) → All P xs → All P placed → All P (put_all before xs placed)
 All_put_all P before [] placed all others = others
 All_put_all P before (x ∷ xs) placed all others = All_put_all P before xs (put before x placed) (All-tail P x xs all) (All_put P before x placed (All-head P x xs all) others)

@@ -10,9 +10,9 @@ use Rattle.std.specs.Ordering.{ordering_then, match_ordering}
 use Rattle.std.specs.BTreeMap.{insert_entry, is_at}
 use Rattle.std.specs.Map.{keys_of, lookup}
 use Rattle.psy_budget.specs.declared.charge.Stall.{Stall}
-use Rattle.psy_kernel.specs.declared.script.Order.{Order}
-use Rattle.psy_kernel.specs.declared.script.Script.{Script}
-use Rattle.psy_kernel.specs.Scripts.{StallBefore}
+use Rattle.psy_history.specs.declared.told.Order.{Order}
+use Rattle.psy_history.specs.declared.told.Script.{Script}
+use Rattle.psy_history.specs.Scripts.{StallBefore}
 use Rattle.psy_script.specs.declared.entry.Entry.TheVariants as entry
 use Rattle.psy_script.specs.declared.placed.Place.{Place}
 use Rattle.psy_script.specs.contracts.placed.PlaceOrd.TheImpl.{cmp-value as place}

@@ -3,7 +3,7 @@ use Rattle.std.proofs.Common.{◌≡◌, ◌∙◌, refl, sym, ap, ap₂, ℕ, B
 use Rattle.std.specs.Option.{option_to_list}
 use Rattle.std.proofs.lemmas.Grind.{flat_map-append}
 use Rattle.psy_tree.specs.declared.unit.Unit.{Unit as Whole}
-use Rattle.psy_kernel.specs.declared.script.Script.{Script}
+use Rattle.psy_history.specs.declared.told.Script.{Script}
 use Rattle.psy_script.specs.declared.entry.Entry.{Entry}
 use Rattle.psy_script.specs.declared.fault.LineKind.TheVariants.{NoSuchName, Again, Range}
 use Rattle.psy_script.specs.Entries.{clashes, entry_in, with_entry}
@@ -16,7 +16,7 @@ pub record Says (unit : Whole) (line : List ℕ) (st : Statement) : Type 0 where
   pub spoken : is_skipped line ≡ false
   pub form : statement_in (length unit.agents) (words_of line) ≡ Some st
 
--- as the code finds it
+-- As the code finds it
 pub says_so : (unit : Whole) (line : List ℕ) (st : Statement) (agents : ℕ) → false ≡ is_skipped line → Some st ≡ statement_in agents (words_of line) → agents ≡ length unit.agents → Says unit line st
 says_so unit line st agents spoken form all = record { spoken = sym spoken; form = sym (ap (λ n. statement_in n (words_of line)) all) ∙ sym form }
 
@@ -34,7 +34,7 @@ cond_some : {X : Type 0} (b : Bool) (x y : X) → cond b (Some x) None ≡ Some 
 cond_some true x y e = (refl, cc)
 cond_some {X} false x y e = absurd (let no : ◌≡◌ {A = Option X} None (Some y) = e in cc)
 
--- and one that gives nothing
+-- And one that gives nothing
 cond_none : {X : Type 0} (b : Bool) (x : X) → cond b (Some x) None ≡ None → b ≡ false
 cond_none {X} true x e = absurd (let no : ◌≡◌ {A = Option X} (Some x) None = e in cc)
 cond_none false x e = refl

@@ -8,9 +8,9 @@ use Rattle.std.proofs.lemmas.List.{length-map}
 use Rattle.std.proofs.lemmas.List.Elements.{All-append, All-cons, All-nil}
 use Rattle.psy_base.specs.declared.limits.TheConstants.{RUN, STALL}
 use Rattle.psy_tree.specs.declared.unit.Unit.{Unit as Whole}
-use Rattle.psy_kernel.specs.declared.script.Order.{Order}
-use Rattle.psy_kernel.specs.declared.script.Script.{Script}
-use Rattle.psy_kernel.specs.Scripts.{IsOrder, IsScript, IsStall, StallBefore}
+use Rattle.psy_history.specs.declared.told.Order.{Order}
+use Rattle.psy_history.specs.declared.told.Script.{Script}
+use Rattle.psy_history.specs.Scripts.{IsOrder, IsScript, IsStall, StallBefore}
 use Rattle.psy_script.specs.declared.fault.LineKind.{LineKind}
 use Rattle.psy_script.specs.declared.fault.LineKind.TheVariants.{BadLine, NoSuchName, Again, Range}
 use Rattle.psy_script.specs.Faults.{Fault, Judge, fault_or, first_behind, first_fault}
@@ -57,7 +57,7 @@ stall_with_names agents agent (Some a) (Some i) None = tt
 stall_with_names agents agent (Some a) None c = tt
 stall_with_names agents agent None i c = tt
 
--- whatever its words are.
+-- Whatever its words are.
 stall_names : (agents : ℕ) (words : List (List ℕ)) → Names agents (stall_in words)
 unfolding Names
 stall_names agents [] = tt
@@ -74,7 +74,7 @@ order_names_at agents names true None e = tt
 order_names_at agents names true (Some n) e = eqb-true (length names) agents e
 order_names_at agents names false o e = tt
 
--- so it names so many.
+-- So it names so many.
 order_names : (agents : ℕ) (words : List (List ℕ)) → Names agents (order_in agents words)
 unfolding Names
 order_names agents [] = tt
@@ -152,7 +152,7 @@ said_by unit said true o full sound = (All-nil (IsStall unit), All-nil (IsOrder 
 said_by unit said false None full sound = absurd (not_there BadLine sound)
 said_by unit said false (Some st) full sound = said_one unit said st full sound
 
--- and what is said first and then,
+-- And what is said first and then,
 said_both : (unit : Whole) (said more : List Statement) → IsSaid unit said → IsSaid unit more → IsSaid unit (said ++ more)
 unfolding IsSaid
 said_both unit said more first second = (
@@ -160,14 +160,14 @@ said_both unit said more first second = (
   subst (All (IsOrder unit)) (sym (flat_map-append (order_said unit) said more)) (All-append (IsOrder unit) (flat_map (order_said unit) said) (flat_map (order_said unit) more) first.1 second.1),
 )
 
--- and what lines say with one line more,
+-- And what lines say with one line more,
 said_line : (unit : Whole) (before : List (List ℕ)) (line : List ℕ) → script_judge unit before line ≡ None → IsSaid unit (statements unit before) → IsSaid unit (statements unit (before ++ line ∷ []))
 said_line unit before line sound all =
     subst (IsSaid unit) (sym (statements_more unit before line))
     (said_both unit (statements unit before) (option_to_list (statement_of unit line)) all
     (said_by unit (statements unit before) (is_skipped line) (statement_in (length unit.agents) (words_of line)) (statement_names (length unit.agents) (words_of line)) sound))
 
--- and what all lines say.
+-- And what all lines say.
 said_all : (unit : Whole) (lines : List (List ℕ)) → first_fault (script_judge unit) lines ≡ None → IsSaid unit (statements unit lines)
 unfolding IsSaid
 said_all unit lines sound = kept (script_judge unit) (λ ls. IsSaid unit (statements unit ls)) (said_line unit) [] lines sound (All-nil (IsStall unit), All-nil (IsOrder unit))

@@ -12,8 +12,8 @@ use Rattle.std.proofs.lemmas.List.Quantifiers.{position-Some}
 use Rattle.std.proofs.lemmas.Slice.Eq.{bytes_eq-Decides}
 use Rattle.psy_tree.specs.declared.unit.AgentDecl.{AgentDecl}
 use Rattle.psy_tree.specs.declared.unit.Unit.{Unit as Whole}
-use Rattle.psy_kernel.specs.declared.script.Order.{Order}
-use Rattle.psy_kernel.specs.declared.script.Script.{Script}
+use Rattle.psy_history.specs.declared.told.Order.{Order}
+use Rattle.psy_history.specs.declared.told.Script.{Script}
 use Rattle.psy_script.specs.declared.entry.Entry.{Entry}
 use Rattle.psy_script.specs.declared.entry.Entry.TheVariants as entry
 use Rattle.psy_script.specs.Entries.{clashes, entry_in, is_beside, place_in, repeats, with_entry}
@@ -143,7 +143,7 @@ stall_at_number : (unit : Whole) (agent : List ℕ) (action instr cycles : ℕ) 
 stall_at_number unit agent action instr cycles is (Stalls a n i c) = or_none (eqb (agent_number unit agent) (agent_number unit a) && (eqb action n && eqb instr i)) ∙ ap (λ b. b && (eqb action n && eqb instr i)) (same_number unit agent a is)
 stall_at_number unit agent action instr cycles is (Orders c agents) = refl
 
--- and the same orders begin at a cycle.
+-- And the same orders begin at a cycle.
 order_at_cycle : (unit : Whole) (cycle : ℕ) (st : Statement) → list_any (λ (o : Order). eqb cycle o.cycle) (order_said unit st) ≡ is_order_at cycle st
 order_at_cycle unit cycle (Stalls a n i c) = refl
 order_at_cycle unit cycle (Orders c agents) = or_none (eqb cycle c)

@@ -7,11 +7,11 @@ use Rattle.psy_script.proofs.LinesCut.{fails_there}
 
 -- ---- how many elements pass a test, where the first passes or fails
 
--- one more than in the rest
+-- One more than in the rest
 prefix_len-pass : {X : Type 0} (p : X → Bool) (x : X) (xs : List X) → p x ≡ true → prefix_len p (x ∷ xs) ≡ suc (prefix_len p xs)
 prefix_len-pass p x xs e = cond-true (p x) (1 + prefix_len p xs) 0 e ∙ one-add (prefix_len p xs)
 
--- none
+-- None
 prefix_len-fail : {X : Type 0} (p : X → Bool) (x : X) (xs : List X) → p x ≡ false → prefix_len p (x ∷ xs) ≡ 0
 prefix_len-fail p x xs e = cond-false (p x) (1 + prefix_len p xs) 0 e
 
@@ -30,7 +30,7 @@ pub words_of-none : (line words : List ℕ) → words ≡ drop (prefix_len is_ga
 words_of-none line [] behind end = words_of-gaps line ∙ ap words_of (sym behind)
 words_of-none line (b ∷ words) behind end = absurd (omega arith)
 
--- how many bytes stand before the next gap
+-- How many bytes stand before the next gap
 abbrev pub word_len : List ℕ → ℕ
 word_len line = prefix_len (λ b. not (is_gap b)) line
 

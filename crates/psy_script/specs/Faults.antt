@@ -5,7 +5,7 @@ use Rattle.psy_script.specs.declared.fault.LineKind.{LineKind}
 use Rattle.psy_script.specs.declared.fault.LineKind.TheVariants.{BadLine, NoSuchName, Again, Range}
 use Rattle.psy_script.specs.Lines.{lines_of}
 
--- the number by which a refusal names the kind
+-- The number by which a refusal names the kind
 abbrev pub line_number : LineKind → ℕ
 line_number BadLine = 1
 line_number NoSuchName = 2

@@ -25,7 +25,7 @@ pieces_of (b ∷ rest) = if b == 10 then [] ∷ pieces_of rest else in_front b (
 abbrev pub lines_of : List ℕ → List (List ℕ)
 lines_of text = pieces_of (without_returns text)
 
--- space or tab
+-- Space or tab
 abbrev pub is_gap : ℕ → Bool
 is_gap b = b == 32 || b == 9
 

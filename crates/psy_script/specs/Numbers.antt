@@ -2,7 +2,7 @@
 use Rattle.std.specs.Prelude.{ℕ, Bool, ◌==◌, ◌&&◌, nat_le, if◌then◌else◌, List, [], ◌∷◌, length, Option, Some, None, option_map, ℤ, pos, negsuc, neg_ℤ, int_le}
 use Rattle.std.specs.Char.{is_ascii_digit}
 use Rattle.std.specs.List.{list_all}
-use Rattle.psy_base.specs.declared.limits.TheConstants.{WORD_DIGITS}
+use Rattle.psy_base.specs.declared.limits.TheConstants.{LITERAL, WORD_DIGITS}
 use Rattle.psy_tree.specs.Lexemes.{decimal_value}
 
 -- The word is 1 to 12 decimal digits.
@@ -26,4 +26,4 @@ all_some (Some x ∷ rest) = option_map (λ xs. x ∷ xs) (all_some rest)
 
 -- The value is one of 32 bits: -2,147,483,648 to 2,147,483,647.
 abbrev pub fits_32 : ℤ → Bool
-fits_32 value = int_le (negsuc 2147483647) value && int_le value (pos 2147483647)
+fits_32 value = int_le (negsuc LITERAL) value && int_le value (pos LITERAL)

@@ -9,7 +9,7 @@ use crate::statement::Statement;
 use crate::words::cut_word;
 use psy_base::{Items, Memory};
 use psy_budget::Stall;
-use psy_kernel::Order;
+use psy_history::Order;
 use std::alloc::Global;
 
 /// A stall or an order of agents of the program.

@@ -15,7 +15,7 @@ use crate::fault::{LineKind, TextFault};
 use crate::names::Names;
 use crate::words::{cut_line, cut_word, has_many_lines, is_skipped};
 use psy_base::{Items, Memory};
-use psy_dates::Inputs;
+use psy_history::Inputs;
 use psy_tree::Unit;
 use std::alloc::Global;
 use std::marker::Model;

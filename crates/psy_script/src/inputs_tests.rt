@@ -5,7 +5,7 @@ ghost use Rattle.psy_meaning.specs.Units.{IsBare};
 use crate::{LineKind, TextFault, read_inputs};
 use psy_base::{Items, Memory, Text};
 use psy_clock::Clock;
-use psy_dates::Inputs;
+use psy_history::Inputs;
 use psy_tree::{AgentDecl, Point, Unit, VarDecl};
 use std::alloc::Global;
 use std::test::Fail;

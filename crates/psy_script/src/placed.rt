@@ -1,13 +1,13 @@
 //! The stalls and orders of the lines so far, in their order.
 ghost use Rattle.std.specs.Prelude.{◌≡◌, ◌<◌, [], false, map, IfOk, OnOk};
 ghost use Rattle.std.specs.List.{AllPairs};
-ghost use Rattle.psy_kernel.specs.Scripts.{StallBefore};
+ghost use Rattle.psy_history.specs.Scripts.{StallBefore};
 ghost use Rattle.psy_script.specs.Entries.{clashes, order_from, stall_at, with_entry};
 
 use crate::entry::{Entry, repeats};
 use psy_base::{Items, Memory};
 use psy_budget::Stall;
-use psy_kernel::{Order, Script};
+use psy_history::{Order, Script};
 use std::alloc::Global;
 use std::collections::BTreeMap;
 use std::marker::Model;
@@ -29,7 +29,7 @@ pub struct Placed {
 
 impl Model for Placed {
     ghost use Rattle.std.specs.Prelude.{map};
-    ghost use Rattle.psy_kernel.specs.declared.script.Script.{Script};
+    ghost use Rattle.psy_history.specs.declared.told.Script.{Script};
     ghost use Rattle.psy_script.specs.Entries.{order_from, stall_at};
 
     ghost Value = { Script };

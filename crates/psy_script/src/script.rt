@@ -1,6 +1,6 @@
 //! The script file.
 ghost use Rattle.std.specs.Prelude.{◌≡◌, ℕ, List, [], ◌∷◌, ◌++◌, map, None, IfOk, Err};
-ghost use Rattle.psy_kernel.specs.Scripts.{IsScript};
+ghost use Rattle.psy_history.specs.Scripts.{IsScript};
 ghost use Rattle.psy_meaning.specs.Units.{IsBare};
 ghost use Rattle.psy_script.specs.Faults.{HasManyLines, IsFirst};
 ghost use Rattle.psy_script.specs.Script.{IsScriptOf, script_in, script_judge};
@@ -13,7 +13,7 @@ use crate::placed::Placed;
 use crate::statement::read_statement;
 use crate::words::{cut_line, has_many_lines, is_skipped};
 use psy_base::Memory;
-use psy_kernel::Script;
+use psy_history::Script;
 use psy_tree::Unit;
 use std::alloc::Global;
 

@@ -6,7 +6,7 @@ use super::*;
 use psy_base::{Items, Memory, Text};
 use psy_budget::Stall;
 use psy_clock::Clock;
-use psy_kernel::Order;
+use psy_history::Order;
 use psy_tree::{AgentDecl, Point, Unit};
 use std::alloc::Global;
 use std::test::Fail;

@@ -76,7 +76,7 @@ fn word_len(line: &[u8]) -> usize
     line.iter().take_while(|b| !is_gap(**b)).count()
 }
 
-// space or tab
+// Space or tab
 fn is_gap(b: u8) -> bool
     ensures { result ≡ is_gap b }
 {

@@ -30,7 +30,7 @@ pub or_of : (a b : Bool) → a ≡ false → b ≡ false → a || b ≡ false
 or_of true b first second = cc
 or_of false b first second = second
 
--- a test of two parts, the second or the first of which fails
+-- A test of two parts, the second or the first of which fails
 pub and-false : (a b : Bool) → b ≡ false → a && b ≡ false
 and-false true b is = is
 and-false false b is = refl

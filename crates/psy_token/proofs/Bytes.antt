@@ -27,7 +27,7 @@ digit-not_blank b is = grind (arith, nat_tests)
 pub digit-not_begins : (b : ℕ) → is_ascii_digit b ≡ true → begins_word b ≡ false
 digit-not_begins b is = grind (arith, nat_tests)
 
--- a number ends where no byte of a word goes on
+-- A number ends where no byte of a word goes on
 pub goes_on-none : (rest : List ℕ) → goes_on rest ≡ false → EndsBefore is_in_word rest
 goes_on-none [] is = tt
 goes_on-none (b ∷ rest) is = is

@@ -11,7 +11,7 @@ shift_more : (at : ℕ) (found : Option ℕ) → option_map (λ n. n + at) (opti
 shift_more at None = refl
 shift_more at (Some n) = let e : n + 1 + at ≡ n + (at + 1) = omega arith in ap Some e
 
--- a place that begins no `*/` is passed
+-- A place that begins no `*/` is passed
 pub close_len-passed : (bytes : List ℕ) (at : ℕ) → at < length bytes → (get_or bytes at 0 == 42) && next_is 47 (drop (at + 1) bytes) ≡ false → close_len bytes ≡ option_map (λ n. n + at) (close_len (drop at bytes)) → close_len bytes ≡ option_map (λ n. n + (at + 1)) (close_len (drop (at + 1) bytes))
 close_len-passed bytes at within none so_far =
     let e : close_len (drop at bytes) ≡ option_map (λ n. n + 1) (close_len (drop (at + 1) bytes)) =
@@ -57,7 +57,7 @@ none_by b rest later false test none h = none_rest (close_len rest) refl none
     none_rest None is e = elim (HasClose-cons b rest h) [ inl t ↦ cc | inr there ↦ later is there ]
     none_rest (Some n) is e = cc
 
--- what has no end of a comment by the code has none
+-- What has no end of a comment by the code has none
 pub close_len-none : (bytes : List ℕ) → close_len bytes ≡ None → HasClose bytes → ⊥
 close_len-none [] none h = HasClose-nil h
 close_len-none (b ∷ rest) none h = none_by b rest (close_len-none rest) (closes b rest) refl none h
@@ -66,12 +66,12 @@ open_by : (b : ℕ) (rest : List ℕ) → (HasClose (b ∷ rest) → ⊥) → cl
 open_by b rest never later true test = absurd (never (HasClose-here b rest test))
 open_by b rest never later false test = ap (option_map (λ n. n + 1)) later
 
--- and the other way round
+-- And the other way round
 pub close_len-open : (bytes : List ℕ) → (HasClose bytes → ⊥) → close_len bytes ≡ None
 close_len-open [] never = refl
 close_len-open (b ∷ rest) never = open_by b rest never (close_len-open rest (λ (before, after, e). never (b ∷ before, after, ap (λ l. b ∷ l) e))) (closes b rest) refl
 
--- the bytes up to the first `*/`, with it, are so many
+-- The bytes up to the first `*/`, with it, are so many
 pub record Closes (bytes : List ℕ) (len : ℕ) : Type 0 where
   pub inside : List ℕ
   pub rest : List ℕ
@@ -79,7 +79,7 @@ pub record Closes (bytes : List ℕ) (len : ℕ) : Type 0 where
   pub len_is : len ≡ length inside + 2
   pub first : HasClose (inside ++ codes "*") → ⊥
 
--- whether `*/` begins before the inside is told by the inside and its end's first byte
+-- Whether `*/` begins before the inside is told by the inside and its end's first byte
 next_is-front : (c : ℕ) (inside rest : List ℕ) → next_is c (inside ++ codes "*/" ++ rest) ≡ next_is c (inside ++ codes "*")
 next_is-front c [] rest = refl
 next_is-front c (b ∷ inside) rest = refl

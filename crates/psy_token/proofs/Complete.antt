@@ -21,7 +21,7 @@ use Rattle.psy_token.proofs.Bytes.{in_word-begins, in_word-digit, in_word-neithe
 use Rattle.psy_token.proofs.Comments.{close_len-closes, close_len-open}
 use Rattle.psy_token.proofs.Spellings.{reserved-spelling, reserved-other, sign_at-some, sign_at-spelling, starts_with-true, IsWord-spelling, length-spelling}
 
--- by its first byte
+-- By its first byte
 
 front_word : (b : ℕ) (more : List ℕ) → begins_word b ≡ true → front_of (b ∷ more) ≡ word_front (b ∷ more)
 unfolding front_of
@@ -39,7 +39,7 @@ front_other : (b : ℕ) (more : List ℕ) → is_blank b ≡ false → is_in_wor
 unfolding front_of
 front_other b more blank word = cond-false _ _ _ blank ∙ cond-false _ _ _ (in_word-neither b word).0 ∙ cond-false _ _ _ (in_word-neither b word).1
 
--- words
+-- Words
 
 word_len : (word rest : List ℕ) → IsWord word → EndsBefore is_in_word rest → prefix_len is_in_word (word ++ rest) ≡ length word
 word_len [] rest is ends = absurd is
@@ -65,7 +65,7 @@ word_long all len is over =
 short_word : (word rest : List ℕ) → IsWord word → EndsBefore is_in_word rest → length word ≤ WORD_BYTES → front_of (word ++ rest) ≡ Whole (Lexeme (word_kind word) word)
 short_word word rest is ends short = front_is_word word rest is ∙ word_short (word ++ rest) (length word) word (word_len word rest is ends) (take_at word rest (length word) refl) short
 
--- numbers
+-- Numbers
 
 len_by : (b : ℕ) (more rest : List ℕ) → IsNumber (b ∷ more) → EndsBefore is_ascii_digit rest ⊎ (b ∷ more ≡ codes "0") → (t : Bool) → (b == 48) ≡ t → cond t 1 (prefix_len is_ascii_digit (b ∷ (more ++ rest))) ≡ suc (length more)
 len_by b more rest number ends true zero_first = let e : more ≡ [] = number.2 (eqb-true b 48 zero_first) in ap (λ l. suc (length l)) (sym e)
@@ -108,7 +108,7 @@ joined : (digits : List ℕ) (b : ℕ) (rest : List ℕ) → IsNumber digits →
 joined digits b rest number small (inl letter) = joined_number digits b rest number small (inl (letter_ends b (is_ascii_digit b) refl letter)) (in_word-begins b letter)
 joined digits b rest number small (inr (digit, zero_alone)) = joined_number digits b rest number small (inr zero_alone) (in_word-digit b digit)
 
--- comments
+-- Comments
 
 front_line : (more : List ℕ) → front_of (47 ∷ 47 ∷ more) ≡ line_front (47 ∷ 47 ∷ more)
 unfolding front_of
@@ -135,7 +135,7 @@ block_open : (inside : List ℕ) → (HasClose inside → ⊥) → block_front (
 unfolding block_front
 block_open inside never = ap (λ f. block_by f (47 ∷ 42 ∷ inside)) (close_len-open inside never)
 
--- signs
+-- Signs
 
 front_sign : (sign : Sign) (rest : List ℕ) → front_of (sign_spelling sign ++ rest) ≡ mark_front (sign_spelling sign ++ rest)
 unfolding front_of
@@ -236,7 +236,7 @@ unknown b rest nothing =
     front_other b rest nothing.0 nothing.1 ∙ mark_is_sign (b ∷ rest) (opens_nothing b rest nothing)
     ∙ sign_none (b ∷ rest) (nothing_by b rest nothing (sign_at (b ∷ rest)) refl)
 
--- what stands at the front
+-- What stands at the front
 
 separator : (bytes rest : List ℕ) → IsPiece (Separator bytes) rest → front_of (bytes ++ rest) ≡ Whole (Separator bytes)
 separator bytes rest (inl (b, blank, is)) = subst (λ p. front_of (p ++ rest) ≡ Whole (Separator p)) (sym is) (front_blank b rest blank)
@@ -262,12 +262,12 @@ lexeme (kinds.Sign sign) bytes rest (is, (longest, comment)) =
     subst (λ p. front_of (p ++ rest) ≡ Whole (Lexeme (kinds.Sign sign) p)) (sym is)
     (front_sign sign rest ∙ mark_is_sign (sign_spelling sign ++ rest) comment ∙ sign_whole sign rest longest)
 
--- the piece that stands before the rest is the front
+-- The piece that stands before the rest is the front
 pub front_stands : (piece : Piece) (rest : List ℕ) → IsPiece piece rest → front_of (bytes_of piece ++ rest) ≡ Whole piece
 front_stands (Separator bytes) rest stands = separator bytes rest stands
 front_stands (Lexeme kind bytes) rest stands = lexeme kind bytes rest stands
 
--- the fault is the front
+-- The fault is the front
 pub front_faulty : (fault : LexKind) (bytes : List ℕ) (behind : ℕ) → IsAtFault fault bytes behind → front_of bytes ≡ Faulty fault behind
 front_faulty BadByte bytes behind (inl (b, rest, is, nothing, at)) = ap front_of is ∙ unknown b rest nothing ∙ ap (Faulty BadByte) (sym at)
 front_faulty BadByte bytes behind (inr (digits, b, rest, is, number, small, follows, at)) = ap front_of is ∙ joined digits b rest number small follows ∙ ap (Faulty BadByte) (sym at)

@@ -6,7 +6,7 @@ use Rattle.std.proofs.lemmas.List.{length-take, get_or-take}
 use Rattle.std.proofs.lemmas.List.Sums.{prefix_len_passes}
 use Rattle.psy_tree.specs.Lexemes.{Each, EndsBefore}
 
--- a run that ends before the rest is as long as the longest
+-- A run that ends before the rest is as long as the longest
 pub prefix_len-run : (sort : ℕ → Bool) (run rest : List ℕ) → Each sort run → EndsBefore sort rest → prefix_len sort (run ++ rest) ≡ length run
 prefix_len-run sort [] [] each ends = refl
 prefix_len-run sort [] (b ∷ rest) each ends = ap (λ t. cond t (1 + prefix_len sort rest) 0) ends
@@ -15,7 +15,7 @@ prefix_len-run sort (b ∷ run) rest each ends =
     let e : 1 + prefix_len sort (run ++ rest) ≡ suc (length run) = omega arith in
     ap (λ t. cond t (1 + prefix_len sort (run ++ rest)) 0) each.0 ∙ e
 
--- the longest run is of the sort, and ends before what follows
+-- The longest run is of the sort, and ends before what follows
 pub record IsLongest (sort : ℕ → Bool) (bytes : List ℕ) (len : ℕ) : Type 0 where
   pub each : Each sort (take len bytes)
   pub ends : EndsBefore sort (drop len bytes)
@@ -30,7 +30,7 @@ pub longest : (sort : ℕ → Bool) (bytes : List ℕ) → IsLongest sort bytes 
 longest sort [] = record { each = tt; ends = tt }
 longest sort (b ∷ bytes) = longest_by sort b bytes (longest sort bytes) (sort b) refl
 
--- the bytes of a run that is no longer than the longest are of the sort
+-- The bytes of a run that is no longer than the longest are of the sort
 pub All-run : (sort : ℕ → Bool) (bytes : List ℕ) (len : ℕ) → len ≤ prefix_len sort bytes → All (λ b. IsTrue (sort b)) (take len bytes)
 All-run sort bytes len within k d h =
     let short : k < len = omega (arith, length-take len bytes) in

@@ -21,13 +21,13 @@ use Rattle.psy_token.proofs.Booleans.{or_second}
 use Rattle.psy_token.proofs.Comments.{Closes, close_len-some, close_len-none}
 use Rattle.psy_token.proofs.Spellings.{reserved-some, reserved-none, sign_at-some, sign_at-none, sign_at-longest, starts_with-true, starts_with-front, first_sign, first_sign-spelling}
 
--- the bytes end, or begin with the piece, or with a piece at fault
+-- The bytes end, or begin with the piece, or with a piece at fault
 abbrev pub Has : List ℕ → Front → Type 0
 Has bytes End = bytes ≡ []
 Has bytes (Whole piece) = (rest : List ℕ) × (bytes ≡ bytes_of piece ++ rest) × IsPiece piece rest
 Has bytes (Faulty fault behind) = IsAtFault fault bytes behind
 
--- words
+-- Words
 
 word_at : (b : ℕ) (more : List ℕ) (len : ℕ) → begins_word b ≡ true → len ≡ suc (prefix_len is_in_word more) → Each is_in_word (take len (b ∷ more)) → IsWord (take len (b ∷ more))
 word_at b more len begins is = subst (λ n. Each is_in_word (take n (b ∷ more)) → IsWord (take n (b ∷ more))) (sym is) (λ each. (begins, each.1))
@@ -58,7 +58,7 @@ pub word_has : (b : ℕ) (more : List ℕ) → begins_word b ≡ true → Has (b
 unfolding word_front
 word_has b more begins = word_by b more begins (nat_le (prefix_len is_in_word (b ∷ more)) WORD_BYTES) refl
 
--- numbers
+-- Numbers
 
 record NumberAt (bytes : List ℕ) (len : ℕ) : Type 0 where
   pub number : IsNumber (take len bytes)
@@ -112,7 +112,7 @@ pub number_has : (b : ℕ) (more : List ℕ) → is_ascii_digit b ≡ true → H
 unfolding number_front
 number_has b more digit = measured (b ∷ more) (number_len (b ∷ more)) (number_by b more digit (b == 48) refl)
 
--- comments
+-- Comments
 
 line_at : (more : List ℕ) (len : ℕ) → len ≡ suc (suc (prefix_len is_in_line more)) → Has (47 ∷ 47 ∷ more) (Whole (Separator (take len (47 ∷ 47 ∷ more))))
 line_at more len is =
@@ -148,7 +148,7 @@ block_of more = block_by_has more (close_len more) refl
 pub block_has : (bytes : List ℕ) → starts_with nat_eq bytes (codes "/*") ≡ true → Has bytes (block_front bytes)
 block_has bytes opens = subst (λ all. Has all (block_front all)) (sym (starts_with-true bytes (codes "/*") opens)) (block_of (drop 2 bytes))
 
--- signs
+-- Signs
 
 pub no_comment : (bytes : List ℕ) → starts_with nat_eq bytes (codes "//") ≡ false → starts_with nat_eq bytes (codes "/*") ≡ false → OpensComment bytes → ⊥
 no_comment bytes line block (inl (more, is)) = let e : starts_with nat_eq bytes (codes "//") ≡ true = ap (λ l. starts_with nat_eq l (codes "//")) is ∙ starts_with-front (codes "//") more in cc
@@ -171,7 +171,7 @@ pub sign_has : (b : ℕ) (more : List ℕ) → is_blank b ≡ false → is_in_wo
 unfolding sign_front
 sign_has b more blank word comment = sign_by_has b more blank word comment (sign_at (b ∷ more)) refl
 
--- the front
+-- The front
 
 mark_by : (b : ℕ) (more : List ℕ) → is_blank b ≡ false → is_in_word b ≡ false → (s t : Bool) → starts_with nat_eq (b ∷ more) (codes "//") ≡ s → starts_with nat_eq (b ∷ more) (codes "/*") ≡ t → Has (b ∷ more) (cond s (line_front (b ∷ more)) (cond t (block_front (b ∷ more)) (sign_front (b ∷ more))))
 mark_by b more blank word true t line block = line_has (b ∷ more) line
@@ -185,7 +185,7 @@ front_by b more false true u blank letter digit = word_has b more letter
 front_by b more false false true blank letter digit = number_has b more digit
 front_by b more false false false blank letter digit = mark_by b more blank (in_word-none b letter digit) (starts_with nat_eq (b ∷ more) (codes "//")) (starts_with nat_eq (b ∷ more) (codes "/*")) refl refl
 
--- the front of the bytes is what they have
+-- The front of the bytes is what they have
 pub front_has : (bytes : List ℕ) → Has bytes (front_of bytes)
 unfolding front_of
 front_has [] = refl

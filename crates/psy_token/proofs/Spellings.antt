@@ -19,12 +19,12 @@ passes_by : {X : Type 0} (test : X → Bool) (y : X) (ys : List X) (x : X) → (
 passes_by test y ys x later true passes found = let e : y ≡ x = cc in subst (λ z. test z ≡ true) e passes
 passes_by test y ys x later false fails found = later found
 
--- what is found passes the test
+-- What is found passes the test
 pub find_passes : {X : Type 0} (test : X → Bool) (xs : List X) (x : X) → find test xs ≡ Some x → test x ≡ true
 find_passes test [] x found = cc
 find_passes test (y ∷ ys) x found = passes_by test y ys x (find_passes test ys x) (test y) refl found
 
--- a reserved word is found by its spelling
+-- A reserved word is found by its spelling
 pub reserved-spelling : (word : Word) → reserved (word_spelling word) ≡ Some word
 reserved-spelling Advance = refl
 reserved-spelling After = refl
@@ -70,7 +70,7 @@ not_reserved name other (Some word) is = absurd (other word (reserved-some name 
 pub reserved-other : (name : List ℕ) → ((word : Word) → name ≢ word_spelling word) → reserved name ≡ None
 reserved-other name other = not_reserved name other (reserved name) refl
 
--- where each sign stands in the table: so many others before it
+-- Where each sign stands in the table: so many others before it
 pub sign_index : Sign → ℕ
 sign_index sign = prefix_len (λ s. not (bytes_eq (sign_spelling s) (sign_spelling sign))) SIGNS
 
@@ -106,7 +106,7 @@ listed BarBar = refl
 listed Tilde = refl
 listed Bang = refl
 
--- a sign is known by its spelling
+-- A sign is known by its spelling
 by_spelling : List ℕ → Option Sign
 by_spelling bytes = find (λ s. bytes_eq (sign_spelling s) bytes) SIGNS
 
@@ -145,7 +145,7 @@ by_spelling-spelling Bang = refl
 pub sign_spelling_injective : (s t : Sign) → sign_spelling s ≡ sign_spelling t → s ≡ t
 sign_spelling_injective s t same = let e : Some s ≡ Some t = sym (by_spelling-spelling s) ∙ ap by_spelling same ∙ by_spelling-spelling t in cc
 
--- the sign of one byte with which this one begins
+-- The sign of one byte with which this one begins
 pub first_sign : Sign → Sign
 first_sign Semicolon = Semicolon
 first_sign OpenBrace = OpenBrace
@@ -209,7 +209,7 @@ first_sign-spelling BarBar = refl
 first_sign-spelling Tilde = refl
 first_sign-spelling Bang = refl
 
--- the bytes begin with the needle
+-- The bytes begin with the needle
 pub starts_with-true : (rest needle : List ℕ) → starts_with nat_eq rest needle ≡ true → rest ≡ needle ++ drop (length needle) rest
 starts_with-true rest needle is =
     let e = (bytes_eq-Decides needle (take (length needle) rest)).0 is in
@@ -221,7 +221,7 @@ starts_with-front needle more = (bytes_eq-Decides needle (take (length needle) (
 abbrev begins_with : List ℕ → Sign → Bool
 begins_with rest sign = starts_with nat_eq rest (sign_spelling sign)
 
--- signs, the longer ones first
+-- Signs, the longer ones first
 no_longer : Sign → Sign → Bool
 no_longer s t = nat_le (length (sign_spelling t)) (length (sign_spelling s))
 
@@ -243,7 +243,7 @@ none_by test s signs i t later true first none is passes = cc
 none_by test s signs zero t later false first none is passes = let e : s ≡ t = cc in let f : test t ≡ false = subst (λ z. test z ≡ false) e first in cc
 none_by test s signs (suc i) t later false first none is passes = later i none is passes
 
--- where none is found, none passes
+-- Where none is found, none passes
 none_passes : (test : Sign → Bool) (signs : List Sign) (i : ℕ) (t : Sign) → find test signs ≡ None → slice_get signs i ≡ Some t → test t ≡ true → ⊥
 none_passes test [] i t none is passes = cc
 none_passes test (s ∷ signs) i t none is passes = none_by test s signs i t (λ j. none_passes test signs j t) (test s) refl none is passes
@@ -258,28 +258,28 @@ longer_by test x signs (suc i) s t later fall true first found is passes =
 longer_by test x signs zero s t later fall false first found is passes = let e : x ≡ t = cc in let f : test t ≡ false = subst (λ z. test z ≡ false) e first in cc
 longer_by test x signs (suc i) s t later fall false first found is passes = later i (and_right (list_all (no_longer x) signs) (falls signs) fall) found is passes
 
--- no sign that passes is longer than the one that is found
+-- No sign that passes is longer than the one that is found
 none_longer : (test : Sign → Bool) (signs : List Sign) (i : ℕ) (s t : Sign) → falls signs ≡ true → find test signs ≡ Some s → slice_get signs i ≡ Some t → test t ≡ true → length (sign_spelling t) ≤ length (sign_spelling s)
 none_longer test [] i s t fall found is passes = cc
 none_longer test (x ∷ signs) i s t fall found is passes = longer_by test x signs i s t (λ j. none_longer test signs j s t) fall (test x) refl found is passes
 
--- the sign that is found stands at the front
+-- The sign that is found stands at the front
 pub sign_at-some : (rest : List ℕ) (sign : Sign) → sign_at rest ≡ Some sign → rest ≡ sign_spelling sign ++ drop (length (sign_spelling sign)) rest
 sign_at-some rest sign found = starts_with-true rest (sign_spelling sign) (find_passes (begins_with rest) SIGNS sign found)
 
--- where none is found, none stands at the front
+-- Where none is found, none stands at the front
 pub sign_at-none : (rest : List ℕ) → sign_at rest ≡ None → (sign : Sign) (more : List ℕ) → rest ≡ sign_spelling sign ++ more → ⊥
 sign_at-none rest none sign more is =
     let passes : begins_with rest sign ≡ true = ap (λ r. begins_with r sign) is ∙ starts_with-front (sign_spelling sign) more in
     none_passes (begins_with rest) SIGNS (sign_index sign) sign none (listed sign) passes
 
--- no longer one stands there
+-- No longer one stands there
 pub sign_at-longest : (rest : List ℕ) (sign : Sign) → sign_at rest ≡ Some sign → (other : Sign) (more : List ℕ) → rest ≡ sign_spelling other ++ more → length (sign_spelling other) ≤ length (sign_spelling sign)
 sign_at-longest rest sign found other more is =
     let passes : begins_with rest other ≡ true = ap (λ r. begins_with r other) is ∙ starts_with-front (sign_spelling other) more in
     none_longer (begins_with rest) SIGNS (sign_index other) sign other SIGNS-fall found (listed other) passes
 
--- two signs of one length at the front are one sign
+-- Two signs of one length at the front are one sign
 same_length : (rest : List ℕ) (s t : Sign) (more others : List ℕ) → rest ≡ sign_spelling s ++ more → rest ≡ sign_spelling t ++ others → length (sign_spelling s) ≡ length (sign_spelling t) → s ≡ t
 same_length rest s t more others a b len =
     let e : sign_spelling s ≡ sign_spelling t = sym (take_at (sign_spelling s) more (length (sign_spelling s)) refl) ∙ ap (take (length (sign_spelling s))) (sym a ∙ b) ∙ take_at (sign_spelling t) others (length (sign_spelling s)) (sym len) in
@@ -295,7 +295,7 @@ longest_by sign rest longest (Some other) found =
     let len : length (sign_spelling other) ≡ length (sign_spelling sign) = omega (arith, at_most, at_least) in
     ap Some (same_length all other sign (drop (length (sign_spelling other)) all) rest begins refl len)
 
--- the longest sign is found
+-- The longest sign is found
 pub sign_at-spelling : (sign : Sign) (rest : List ℕ) → IsLongestSign sign rest → sign_at (sign_spelling sign ++ rest) ≡ Some sign
 sign_at-spelling sign rest longest = longest_by sign rest longest (sign_at (sign_spelling sign ++ rest)) refl
 
@@ -345,7 +345,7 @@ spelling_test Tick = refl
 spelling_test To = refl
 spelling_test While = refl
 
--- reserved words are words
+-- Reserved words are words
 pub IsWord-spelling : (word : Word) → IsWord (word_spelling word)
 IsWord-spelling word = word_by (word_spelling word) (and_left (word_test (word_spelling word)) (nat_le (length (word_spelling word)) WORD_BYTES) (spelling_test word))
 

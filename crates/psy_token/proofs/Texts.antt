@@ -14,7 +14,7 @@ use Rattle.psy_token.specs.Reading.{Front, End, Whole, Faulty, front_of, piece_b
 use Rattle.psy_token.proofs.Sound.{Has, front_has}
 use Rattle.psy_token.proofs.Complete.{front_stands, front_faulty}
 
--- one more piece
+-- One more piece
 
 text_of-push : (pieces : List Piece) (piece : Piece) (rest : List ℕ) → text_of pieces ++ (bytes_of piece ++ rest) ≡ text_of (pieces ++ piece ∷ []) ++ rest
 text_of-push pieces piece rest = sym (append_assoc (text_of pieces) (bytes_of piece) rest) ∙ ap (λ l. l ++ rest) (flat_map_more bytes_of [] pieces piece)
@@ -44,9 +44,9 @@ bytes_of-piece_by : (kind : Option Kind) (bytes : List ℕ) → bytes_of (piece_
 bytes_of-piece_by None bytes = refl
 bytes_of-piece_by (Some kind) bytes = refl
 
--- the pass
+-- The pass
 
--- what stands before `at` are pieces, with these tokens
+-- What stands before `at` are pieces, with these tokens
 abbrev pub State : List ℕ → ℕ → List Token → Type 0
 State text at tokens = (at ≤ length text) × ((pieces : List Piece) × Splits text pieces (drop at text) × (at ≡ length (text_of pieces)) × (tokens ≡ tokens_from 0 pieces))
 
@@ -72,7 +72,7 @@ State-more text at tokens kind len (within, (pieces, splits, at_is, tokens_are))
       ),
     )
 
--- at the end they are all
+-- At the end they are all
 pub State-end : (text : List ℕ) (at : ℕ) (tokens : List Token) → State text at tokens → length text ≤ at → TokensOf text tokens
 State-end text at tokens (within, (pieces, splits, at_is, tokens_are)) end = (pieces, subst (Splits text pieces) (drop_all at text end) splits, tokens_are)
 
@@ -81,12 +81,12 @@ first_fault text at tokens fault behind place (within, (pieces, splits, at_is, t
     let has : Has (drop at text) (Faulty fault behind) = subst (Has (drop at text)) is (front_has (drop at text)) in
     (pieces, drop at text, behind, splits, has, omega (arith, place_is, at_is))
 
--- the fault that is met is the first one
+-- The fault that is met is the first one
 pub IsFirstFault-met : (text : List ℕ) (at : ℕ) (tokens : List Token) (fault : LexFault) → State text at tokens → FaultGives at fault (front_of (drop at text)) → IsFirstFault text fault
 IsFirstFault-met text at tokens (answers.Lexical kind place) state (above, is) = first_fault text at tokens kind (place - at) place state (omega (arith, above)) is
 IsFirstFault-met text at tokens answers.Memory state met = tt
 
--- one way to split
+-- One way to split
 
 abbrev IsLast : Front → Type 0
 IsLast End = Unit {0}
@@ -138,7 +138,7 @@ not_both text ts f p (ps, a, are) (qs, s, n, b, y, p_is) =
     let e : End ≡ Faulty f n = sym front_end ∙ ap front_of same.1 ∙ front_faulty f s n y in
     cc
 
--- the answers
+-- The answers
 
 pub gives_tokens : (text : List ℕ) (answer : Result (List Token) LexFault) → IfOk answer (λ ts. TokensOf text ts) → IfErr answer (λ f. IsFirstFault text f) → (tokens : List Token) → TokensOf text tokens → GivesTokens answer tokens
 gives_tokens text (Ok given) good bad tokens h = TokensOf-once text given tokens good h

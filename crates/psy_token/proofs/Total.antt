@@ -12,14 +12,14 @@ use Rattle.psy_token.proofs.Sound.{Has, front_has}
 some_bytes : (bytes other : List ℕ) → bytes ≡ other → 0 < length other → 0 < length bytes
 some_bytes bytes other is some = omega (arith, ap length is)
 
--- no piece is empty
+-- No piece is empty
 piece_bytes : (piece : Piece) (rest : List ℕ) → IsPiece piece rest → 0 < length (bytes_of piece)
 piece_bytes (Separator bytes) rest (inl (b, blank, is)) = some_bytes bytes (b ∷ []) is (omega arith)
 piece_bytes (Separator bytes) rest (inr (inl (inside, is, first))) = some_bytes bytes (codes "/*" ++ inside ++ codes "*/") is (omega arith)
 piece_bytes (Separator bytes) rest (inr (inr (inside, is, each, ends))) = some_bytes bytes (codes "//" ++ inside) is (omega arith)
 piece_bytes (Lexeme kind bytes) rest (is, ends) = kind_bytes kind bytes is
 
--- the text splits into pieces up to its end, or up to a fault
+-- The text splits into pieces up to its end, or up to a fault
 Read : List ℕ → Type 0
 Read text = ((pieces : List Piece) × Splits text pieces []) ⊎ ((pieces : List Piece) × (rest : List ℕ) × (fault : LexKind) × (behind : ℕ) × Splits text pieces rest × IsAtFault fault rest behind)
 

@@ -5,15 +5,15 @@ use Rattle.psy_tree.specs.Faults.{FirstFault}
 use Rattle.psy_token.specs.declared.fault.LexFault.{LexFault}
 use Rattle.psy_token.specs.declared.fault.LexFault.TheVariants as answers
 
--- the first fault of the text is that one, but for want of memory
+-- The first fault of the text is that one, but for want of memory
 abbrev pub IsFirstFault : List ℕ → LexFault → Type 0
 IsFirstFault text (answers.Lexical kind place) = FirstFault text kind place
 IsFirstFault text answers.Memory = Unit {0}
 
--- the answer is these tokens, or want of memory
+-- The answer is these tokens, or want of memory
 abbrev pub GivesTokens : Result (List Token) LexFault → List Token → Type 0
 GivesTokens answer tokens = MatchResult answer (λ given. given ≡ tokens) (λ fault. fault ≡ answers.Memory)
 
--- the answer is that fault, or want of memory
+-- The answer is that fault, or want of memory
 abbrev pub GivesFault : Result (List Token) LexFault → LexFault → Type 0
 GivesFault answer expected = MatchResult answer (λ given. ⊥) (λ fault. (fault ≡ expected) ⊎ (fault ≡ answers.Memory))

@@ -1,4 +1,5 @@
 //! Cuts a program's text into tokens, or finds its first fault.
+//! It may know bytes and tokens; no grammar.
 #![tactic(auto)]
 
 mod comment;

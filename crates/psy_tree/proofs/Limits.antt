@@ -16,7 +16,7 @@ use Rattle.psy_tree.specs.Stands.{passes, counts, counting, is_variable, points_
 abbrev pub NonePasses : List Item → Type 0
 NonePasses items = find (passes items) counts ≡ None
 
--- one test after another
+-- One test after another
 first_none : (p : Count → Bool) (c : Count) (cs : List Count) (b : Bool) → p c ≡ b → find p (c ∷ cs) ≡ None → (p c ≡ false) × (find p cs ≡ None)
 first_none p c cs true e h = absurd (let no : Some c ≡ None = sym (ap (λ x. cond x (Some c) (find p cs)) e) ∙ h in cc)
 first_none p c cs false e h = (e, sym (ap (λ x. cond x (Some c) (find p cs)) e) ∙ h)

@@ -11,7 +11,7 @@ use Rattle.psy_tree.specs.declared.raw.RawStmt.{RawStmt}
 use Rattle.psy_tree.specs.Grammar.{Numbered, Expr, Others, Stmt, Block, Start, FunctionLocal, AgentLocal, Many, Further, Params, Parent, Shift, Declaration}
 use Rattle.psy_tree.specs.Grammar as grammar
 
--- the second list is an end of the first
+-- The second list is an end of the first
 pub data Behind : List Numbered → List Numbered → Type 0 where
   here : {ts : List Numbered} → Behind ts ts
   there : {t : Numbered} {ts rest : List Numbered} → Behind ts rest → Behind (t ∷ ts) rest
@@ -81,7 +81,7 @@ pub behind_local : {ts rest : List Numbered} {x : Local} → AgentLocal ts x res
 behind_local (grammar.AgentLocal.variable h) = behind_function_local h
 behind_local grammar.AgentLocal.array = there (there (there (there (there (there here)))))
 
--- a function's locals are spelled as those of an agent
+-- A function's locals are spelled as those of an agent
 pub agent_locals : {ts rest : List Numbered} {xs : List Local} → Many FunctionLocal ts xs rest → Many AgentLocal ts xs rest
 agent_locals grammar.Many.none = grammar.Many.none
 agent_locals (grammar.Many.more h m) = grammar.Many.more (grammar.AgentLocal.variable h) (agent_locals m)

@@ -28,7 +28,7 @@ number_bytes : (bytes : List ℕ) → IsNumber bytes → 0 < length bytes
 number_bytes [] is = absurd is
 number_bytes (b ∷ bytes) is = omega arith
 
--- no spelling is empty
+-- No spelling is empty
 pub kind_bytes : (kind : Kind) (bytes : List ℕ) → IsSpelling kind bytes → 0 < length bytes
 kind_bytes (kinds.Word w) bytes is = omega (arith, ap length is, spelled_word w)
 kind_bytes (kinds.Name name) bytes (is, word, short, other) = omega (arith, ap length is, word_bytes name word)

@@ -21,19 +21,19 @@ closes (kinds.Sign signs.CloseSquare) = true
 closes (kinds.Sign signs.CloseBrace) = true
 closes _ = false
 
--- operators are counted anew from here
+-- Operators are counted anew from here
 abbrev pub begins_anew : Kind → Bool
 begins_anew (kinds.Sign signs.Semicolon) = true
 begins_anew (kinds.Sign signs.OpenBrace) = true
 begins_anew (kinds.Sign signs.CloseBrace) = true
 begins_anew _ = false
 
--- a sign of an operator, wherever it stands
+-- A sign of an operator, wherever it stands
 abbrev pub is_operator : Kind → Bool
 is_operator (kinds.Sign s) = is_some (unary_of s) || is_some (binary_of s)
 is_operator _ = false
 
--- opening brackets less closing ones; a closing one at depth 0 leaves it there
+-- Opening brackets less closing ones; a closing one at depth 0 leaves it there
 abbrev pub bracket_depth : List Kind → ℕ
 bracket_depth [] = 0
 bracket_depth (k ∷ before) =
@@ -41,7 +41,7 @@ bracket_depth (k ∷ before) =
     else (if closes k then bracket_depth before - 1
     else bracket_depth before)
 
--- the operators since the last `;`, `{` or `}`
+-- The operators since the last `;`, `{` or `}`
 abbrev pub operators_since : List Kind → ℕ
 operators_since [] = 0
 operators_since (k ∷ before) =
@@ -49,20 +49,20 @@ operators_since (k ∷ before) =
     else (if is_operator k then suc (operators_since before)
     else operators_since before)
 
--- the tokens up to that of this number, with the last one first
+-- The tokens up to that of this number, with the last one first
 abbrev pub up_to : List Token → ℕ → List Kind
 up_to tokens n = reverse (map (λ token. token.kind) (take (suc n) tokens))
 
--- a measure is reached at this token
+-- A measure is reached at this token
 abbrev pub IsTooDeep : List Token → ℕ → Type 0
 IsTooDeep tokens n = (bracket_depth (up_to tokens n) ≡ BRACKETS) ⊎ (operators_since (up_to tokens n) ≡ OPERATORS)
 
--- it is the first token at which one is reached
+-- It is the first token at which one is reached
 pub record Deep (tokens : List Token) (n : ℕ) : Type 0 where
   pub stands : n < length tokens
   pub reached : IsTooDeep tokens n
   pub first : (earlier : ℕ) → earlier < n → IsTooDeep tokens earlier → ⊥
 
--- no token reaches one
+-- No token reaches one
 abbrev pub Shallow : List Token → Type 0
 Shallow tokens = (n : ℕ) → n < length tokens → IsTooDeep tokens n → ⊥

@@ -8,14 +8,14 @@ use Rattle.psy_tree.specs.declared.token.Sign.{Sign}
 use Rattle.psy_tree.specs.Lexemes.{is_blank, is_in_word, begins_word, sign_spelling, IsWord, IsNumber, decimal_value, EndsBefore, HasClose}
 use Rattle.psy_tree.specs.Tokens.{Piece, text_of, Splits}
 
--- the number by which a refusal names the kind
+-- The number by which a refusal names the kind
 abbrev pub lex_number : LexKind → ℕ
 lex_number lexical.BadByte = 1
 lex_number lexical.LongName = 2
 lex_number lexical.BigLiteral = 3
 lex_number lexical.OpenComment = 4
 
--- no token, blank or comment begins with this byte (comments begin as the sign `/` does)
+-- No token, blank or comment begins with this byte (comments begin as the sign `/` does)
 abbrev pub BeginsNothing : ℕ → Type 0
 BeginsNothing b = IsFalse (is_blank b) × IsFalse (is_in_word b) × ((sign : Sign) (more : List ℕ) → sign_spelling sign ≢ b ∷ more)
 

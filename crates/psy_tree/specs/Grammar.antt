@@ -25,39 +25,39 @@ use Rattle.psy_tree.specs.declared.raw.RawStmt.TheVariants.{Set, SetCell, If, Wh
 use Rattle.psy_tree.specs.declared.raw.RawExpr.{RawExpr}
 use Rattle.psy_tree.specs.declared.raw.RawExpr.TheVariants.{Number, Var, Cell, Past, Ready, Take, Unary, Binary, Call}
 
--- a token without its place: its number in the text, and what it is
+-- A token without its place: its number in the text, and what it is
 abbrev pub Numbered : Type 0
 Numbered = ℕ × Kind
 
--- the tokens with their numbers, from n on
+-- The tokens with their numbers, from n on
 abbrev pub numbered : ℕ → List Token → List Numbered
 numbered n [] = []
 numbered n (token ∷ tokens) = (n, token.kind) ∷ numbered (suc n) tokens
 
--- the token of a name
+-- The token of a name
 abbrev pub named : Name → Numbered
 named x = (x.token, kinds.Name x.text)
 
--- the token of a number
+-- The token of a number
 abbrev pub numeral : Lit → Numbered
 numeral k = (k.token, kinds.Number k.value)
 
--- token number n, where it is a reserved word
+-- Token number n, where it is a reserved word
 abbrev pub word : ℕ → Word → Numbered
 word n w = (n, kinds.Word w)
 
--- token number n, where it is a sign
+-- Token number n, where it is a sign
 abbrev pub sign : ℕ → Sign → Numbered
 sign n s = (n, kinds.Sign s)
 
--- the operator before an operand
+-- The operator before an operand
 abbrev pub unary_of : Sign → Option Op1
 unary_of signs.Minus = Some Neg
 unary_of signs.Tilde = Some Flip
 unary_of signs.Bang = Some Not
 unary_of _ = None
 
--- the operator between two operands, and its level, of which 0 is the tightest and 9 the loosest
+-- The operator between two operands, and its level, of which 0 is the tightest and 9 the loosest
 abbrev pub binary_of : Sign → Option (ℕ × Op2)
 binary_of signs.Star = Some (0, operators.Mul)
 binary_of signs.Slash = Some (0, operators.Div)
@@ -162,56 +162,56 @@ mutual
         → Stmt ts first us → Block us others rest
         → Block ts (first ∷ others) rest
 
--- a first value
+-- A first value
 pub data Start : List Numbered → Init → List Numbered → Type 0 where
   plain : {k : Lit} {rest : List Numbered} → Start (numeral k ∷ rest) (record { minus = false; value = k }) rest
   negated : {k : Lit} {n : ℕ} {rest : List Numbered} → Start (sign n signs.Minus ∷ numeral k ∷ rest) (record { minus = true; value = k }) rest
 
--- the local of a function: a variable with its first value
+-- The local of a function: a variable with its first value
 pub data FunctionLocal : List Numbered → Local → List Numbered → Type 0 where
   scalar : {x : Name} {init : Init} {n a b : ℕ} {ts rest : List Numbered}
       → Start ts init (sign b signs.Semicolon ∷ rest)
       → FunctionLocal (word n words.Int ∷ named x ∷ sign a signs.Assign ∷ ts) (Scalar x init) rest
 
--- the local of an agent: a variable, or an array with its number of cells
+-- The local of an agent: a variable, or an array with its number of cells
 pub data AgentLocal : List Numbered → Local → List Numbered → Type 0 where
   variable : {x : Local} {ts rest : List Numbered} → FunctionLocal ts x rest → AgentLocal ts x rest
   array : {x : Name} {cells : Lit} {n a b c : ℕ} {rest : List Numbered}
       → AgentLocal (word n words.Int ∷ named x ∷ sign a signs.OpenSquare ∷ numeral cells ∷ sign b signs.CloseSquare ∷ sign c signs.Semicolon ∷ rest)
       (Array x cells) rest
 
--- none or more locals, one after another
+-- None or more locals, one after another
 pub data Many (One : List Numbered → Local → List Numbered → Type 0) : List Numbered → List Local → List Numbered → Type 0 where
   none : {rest : List Numbered} → Many One rest [] rest
   more : {first : Local} {others : List Local} {ts us rest : List Numbered}
       → One ts first us → Many One us others rest
       → Many One ts (first ∷ others) rest
 
--- the parameters behind the first, and the closing bracket
+-- The parameters behind the first, and the closing bracket
 pub data Further : List Numbered → List Name → List Numbered → Type 0 where
   no_more : {n : ℕ} {rest : List Numbered} → Further (sign n signs.CloseRound ∷ rest) [] rest
   one_more : {x : Name} {others : List Name} {a b : ℕ} {ts rest : List Numbered}
       → Further ts others rest
       → Further (sign a signs.Comma ∷ word b words.Int ∷ named x ∷ ts) (x ∷ others) rest
 
--- the parameters behind the opening bracket, and the closing one
+-- The parameters behind the opening bracket, and the closing one
 pub data Params : List Numbered → List Name → List Numbered → Type 0 where
   without : {n : ℕ} {rest : List Numbered} → Params (sign n signs.CloseRound ∷ rest) [] rest
   with_first : {x : Name} {others : List Name} {n : ℕ} {ts rest : List Numbered}
       → Further ts others rest
       → Params (word n words.Int ∷ named x ∷ ts) (x ∷ others) rest
 
--- what a clock counts: ticks, or the dates of another clock
+-- What a clock counts: ticks, or the dates of another clock
 pub data Parent : List Numbered → Option Name → List Numbered → Type 0 where
   the_tick : {n : ℕ} {rest : List Numbered} → Parent (word n words.Tick ∷ rest) None rest
   a_clock : {x : Name} {rest : List Numbered} → Parent (named x ∷ rest) (Some x) rest
 
--- a clock's shift, and the semicolon
+-- A clock's shift, and the semicolon
 pub data Shift : List Numbered → Option Lit → List Numbered → Type 0 where
   without : {n : ℕ} {rest : List Numbered} → Shift (sign n signs.Semicolon ∷ rest) None rest
   shifted : {k : Lit} {a b : ℕ} {rest : List Numbered} → Shift (sign a signs.Plus ∷ numeral k ∷ sign b signs.Semicolon ∷ rest) (Some k) rest
 
--- a declaration
+-- A declaration
 pub data Declaration : List Numbered → Item → List Numbered → Type 0 where
   clock : {name : Name} {by : Lit} {parent : Option Name} {shift : Option Lit} {n a b : ℕ} {ts us rest : List Numbered}
       → Parent ts parent us → Shift us shift rest
@@ -234,14 +234,14 @@ pub data Declaration : List Numbered → Item → List Numbered → Type 0 where
       → Declaration (word n words.Agent ∷ named name ∷ word a words.On ∷ named clock ∷ word b words.Budget ∷ numeral budget ∷ sign c signs.OpenBrace
       ∷ ts) (Agent name clock budget locals body stmts) rest
 
--- declarations up to the end of the text
+-- Declarations up to the end of the text
 pub data Program : List Numbered → List Item → Type 0 where
   end : Program [] []
   next : {first : Item} {others : List Item} {ts us : List Numbered}
       → Declaration ts first us → Program us others
       → Program ts (first ∷ others)
 
--- the tree has these tokens: all of them, with their numbers in the tree
+-- The tree has these tokens: all of them, with their numbers in the tree
 pub data Spells : Raw → List Token → Type 0 where
   program : {quantum : Lit} {items : List Item} {n a : ℕ} {ts : List Numbered} {tokens : List Token}
       → numbered 0 tokens ≡ word n words.Tick ∷ numeral quantum ∷ sign a signs.Semicolon ∷ ts → Program ts items

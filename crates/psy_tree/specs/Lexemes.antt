@@ -14,28 +14,28 @@ use Rattle.psy_tree.specs.declared.token.Sign.TheVariants.{Semicolon, OpenBrace,
 use Rattle.psy_tree.specs.declared.token.Sign.TheVariants.{Assign, Plus, Minus, Star, Slash, Percent, ShiftLeft, ShiftRight, Less, LessEqual, Greater}
 use Rattle.psy_tree.specs.declared.token.Sign.TheVariants.{GreaterEqual, Equal, NotEqual, Amp, Caret, Bar, AmpAmp, BarBar, Tilde, Bang}
 
--- space, tab, line feed or carriage return
+-- Space, tab, line feed or carriage return
 abbrev pub is_blank : ℕ → Bool
 is_blank b = b == 32 || b == 9 || b == 10 || b == 13
 
--- a letter or `_`
+-- A letter or `_`
 abbrev pub begins_word : ℕ → Bool
 begins_word b = is_ascii_alphabetic b || b == 95
 
--- a letter, a digit or `_`
+-- A letter, a digit or `_`
 abbrev pub is_in_word : ℕ → Bool
 is_in_word b = begins_word b || is_ascii_digit b
 
--- each of the bytes is of that sort
+-- Each of the bytes is of that sort
 abbrev pub Each : (ℕ → Bool) → List ℕ → Type 0
 Each sort bytes = AllByRecursion (λ b. IsTrue (sort b)) bytes
 
--- none follows, or a byte of another sort
+-- None follows, or a byte of another sort
 abbrev pub EndsBefore : (ℕ → Bool) → List ℕ → Type 0
 EndsBefore sort [] = Unit {0}
 EndsBefore sort (b ∷ rest) = IsFalse (sort b)
 
--- a letter or `_`, and then letters, digits and `_`
+-- A letter or `_`, and then letters, digits and `_`
 abbrev pub IsWord : List ℕ → Type 0
 IsWord [] = ⊥
 IsWord (b ∷ bytes) = IsTrue (begins_word b) × Each is_in_word bytes
@@ -45,12 +45,12 @@ abbrev pub IsNumber : List ℕ → Type 0
 IsNumber [] = ⊥
 IsNumber (b ∷ digits) = IsTrue (is_ascii_digit b) × Each is_ascii_digit digits × (b ≡ 48 → digits ≡ [])
 
--- what digits stand for in the decimal system
+-- What digits stand for in the decimal system
 abbrev pub decimal_value : List ℕ → ℕ
 decimal_value [] = 0
 decimal_value (b ∷ digits) = (b - 48) * 10 ^ length digits + decimal_value digits
 
--- the spelling of each reserved word
+-- The spelling of each reserved word
 abbrev pub word_spelling : Word → List ℕ
 word_spelling Advance = codes "advance"
 word_spelling After = codes "after"
@@ -83,7 +83,7 @@ word_spelling Tick = codes "tick"
 word_spelling To = codes "to"
 word_spelling While = codes "while"
 
--- the spelling of each sign
+-- The spelling of each sign
 abbrev pub sign_spelling : Sign → List ℕ
 sign_spelling Semicolon = codes ";"
 sign_spelling OpenBrace = codes "{"
@@ -122,12 +122,12 @@ IsSpelling (kinds.Name name) bytes = (bytes ≡ name) × IsWord name × (length 
 IsSpelling (kinds.Number number) bytes = IsNumber bytes × (number ≡ decimal_value bytes) × (number ≤ LITERAL)
 IsSpelling (kinds.Sign sign) bytes = bytes ≡ sign_spelling sign
 
--- no longer sign stands where this one does, before the rest
+-- No longer sign stands where this one does, before the rest
 abbrev pub IsLongestSign : Sign → List ℕ → Type 0
 IsLongestSign sign rest = (other : Sign) (more : List ℕ) → sign_spelling sign ++ rest ≡ sign_spelling other ++ more
     → length (sign_spelling other) ≤ length (sign_spelling sign)
 
--- a comment begins with these bytes
+-- A comment begins with these bytes
 abbrev pub OpensComment : List ℕ → Type 0
 OpensComment bytes = ((more : List ℕ) × (bytes ≡ codes "//" ++ more)) ⊎ ((more : List ℕ) × (bytes ≡ codes "/*" ++ more))
 
@@ -142,18 +142,18 @@ EndsToken (kinds.Sign sign) rest = IsLongestSign sign rest × (OpensComment (sig
 abbrev pub HasClose : List ℕ → Type 0
 HasClose bytes = (before : List ℕ) × (after : List ℕ) × (bytes ≡ before ++ codes "*/" ++ after)
 
--- anything but a line feed
+-- Anything but a line feed
 abbrev pub is_in_line : ℕ → Bool
 is_in_line b = not (b == 10)
 
--- a blank
+-- A blank
 abbrev pub IsBlank : List ℕ → Type 0
 IsBlank bytes = (b : ℕ) × IsTrue (is_blank b) × (bytes ≡ b ∷ [])
 
--- a comment from `/*` to the next `*/`
+-- A comment from `/*` to the next `*/`
 abbrev pub IsBlockComment : List ℕ → Type 0
 IsBlockComment bytes = (inside : List ℕ) × (bytes ≡ codes "/*" ++ inside ++ codes "*/") × (HasClose (inside ++ codes "*") → ⊥)
 
--- a comment from `//` to the end of the line, before the rest
+-- A comment from `//` to the end of the line, before the rest
 abbrev pub IsLineComment : List ℕ → List ℕ → Type 0
 IsLineComment bytes rest = (inside : List ℕ) × (bytes ≡ codes "//" ++ inside) × Each is_in_line inside × EndsBefore is_in_line rest

@@ -62,7 +62,7 @@ passes items counted.Functions = nat_lt FUNCTIONS (counting is_function items)
 passes items counted.Names = list_any (λ i. nat_lt NAMES (length (slots_of i))) items
 passes items counted.Points = list_any (λ i. nat_lt POINTS (points_of i)) items
 
--- the counts in the order in which they are judged
+-- The counts in the order in which they are judged
 abbrev pub counts : List Count
 counts =
     counted.Clocks ∷ (counted.Agents ∷ (counted.Variables ∷ (counted.Streams ∷ (counted.Functions ∷ (counted.Names ∷ (counted.Points ∷ []))))))

@@ -1,5 +1,6 @@
 //! Tokens, the tree of a program's text, the unit that a tree stands for, and the definitions of
 //! these.
+//! It may know what a text is, not how one is read.
 #![tactic(auto)]
 
 mod faults;

@@ -43,7 +43,7 @@ in_front : {A : Type 0} (P : A → Type 0) → (before after : List A) (x : A) �
 in_front P [] after x h = All-head P x after h
 in_front P (y ∷ before) after x h = in_front P before after x (All-tail P y _ h)
 
--- what goes on where there is room, and can't be stuck
+-- What goes on where there is room, and can't be stuck
 room_went : (b : Bool) (m : Machine) → (if b then Went m else Stuck) ≢ Stuck → (n : Machine) × ((if b then Went m else Stuck) ≡ Went n)
 room_went true m h = (m, refl)
 room_went false m h = absurd (h refl)
@@ -52,7 +52,7 @@ send_went : (agent : AgentCode) (m : Machine) (operands : List ℤ) → within a
 send_went agent m [] h = absurd (h refl)
 send_went agent m (v ∷ below) h = room_went (has_room agent (record m { place = m.place + 1; operands = below })) (record m { place = m.place + 1; operands = below }) h
 
--- an instruction that sends goes on
+-- An instruction that sends goes on
 sends_went : (code : Code) (agent : AgentCode) (view : View) (m : Machine) (i : Instr) (sent : Sent) → call_by i m.operands ≡ Some (Send sent) → within agent (does code agent view i m) ≢ Stuck → (n : Machine) × (within agent (does code agent view i m) ≡ Went n)
 sends_went code agent view m (instr.Send stream after clock) sent e h = send_went agent m m.operands h
 sends_went code agent view m (instr.Past variable back) sent e h = cc
@@ -66,7 +66,7 @@ went_by code agent view m sent (Some i) h e = sends_went code agent view m i sen
 
 -- ---- an instruction of an action
 
--- what serves a call shows the view after it
+-- What serves a call shows the view after it
 pub view_served : (window : Window) (call : Option Call) → (window_after window call).view ≡ view_then window.view call
 view_served window None = refl
 view_served window (Some (Past variable back)) = refl
@@ -177,7 +177,7 @@ module _ (unit : Whole) (code : Code) (number : ℕ) (m : Machine) (view : View)
   pub behind_step : (answer : Step) → Answers (next_of code w.its view m) answer → IsBehind unit code number answer (machine_after (next_of code w.its view m) m) (view_then view asks)
   behind_step answer h = behind_by (next_of code w.its view m) answer refl h
 
--- the same of a machine that made a step
+-- The same of a machine that made a step
 pub behind_stepped : (unit : Whole) (code : Code) (m n : AgentMachine) (before after : Window) (answer : Step) → after ≡ window_after before (call_of code m.machine) → n ≡ stepped code before.view m → Answers (next_for code before.view m) answer → IsUnderWay unit code m.agent m.machine before.view → IsBehind unit code m.agent answer n.machine after.view
 behind_stepped unit code m n before after answer window machine answers w =
     let next : next_for code before.view m ≡ next_of code w.its before.view m.machine = rw w.action.of_code refl in
@@ -320,7 +320,7 @@ owned_found number k zero (w ∷ vs) v at e =
 owned_found number k (suc i) (w ∷ vs) v at e =
     subst (λ n. IsSome (copy_of n (owned_from number k (w ∷ vs)))) (omega arith) (found_behind (k + 1 + i) (owned_copy number k w w.owner) (owned_from number (k + 1) vs) (owned_found number (k + 1) i vs v at e))
 
--- a machine has a copy of each variable that its agent owns
+-- A machine has a copy of each variable that its agent owns
 pub has_copy : (unit : Whole) (number variable : ℕ) (m : Machine) → Owns unit number variable → HasCopies unit number m → IsSome (copy_of variable m.copies)
 has_copy unit number variable m owns has =
     let found = subst (λ n. IsSome (copy_of n (first_copies unit number))) (omega arith) (owned_found number 0 variable unit.variables owns.0 owns.1 owns.2) in
@@ -328,13 +328,13 @@ has_copy unit number variable m owns has =
 
 -- ---- between actions
 
--- after an action that ended or trapped
+-- After an action that ended or trapped
 pub after_end : (unit : Whole) (code : Code) (number : ℕ) (answer : Step) (m : Machine) (view : View) → (answer ≡ step.Went → ⊥) → IsBehind unit code number answer m view → HasCopies unit number m × RestsAfter unit code number answer m
 after_end unit code number step.Went m view other h = absurd (other refl)
 after_end unit code number (step.Ended point) m view other h = h
 after_end unit code number (step.Trapped kind) m view other h = (h, tt {0})
 
--- the machine of an agent that hasn't started
+-- The machine of an agent that hasn't started
 pub rests_first : (unit : Whole) (code : Code) (number : ℕ) (agent : AgentDecl) (m : AgentMachine) → IsSoundUnit unit → ActsAlike unit code → slice_get unit.agents number ≡ Some agent → IsNew code number m → IsStoreOf unit number agent (first_store unit number agent) → Rests unit code number m.machine
 rests_first unit code number agent m sound alike of_unit new holds =
     let its = new.0 in

@@ -1,5 +1,6 @@
 //! Trials: programs from their text to what a machine does with their code, and what is said of them before
 //! they run.
+//! It may know all of these crates.
 #![tactic(auto)]
 
 #[cfg(test)]

@@ -5,7 +5,7 @@ use Rattle.std.proofs.lemmas.List.{append-nil, append_assoc}
 use Rattle.std.proofs.lemmas.Slice.Eq.{bytes_eq-Decides}
 use Rattle.psy_view.specs.Asked.{Where, Asks, asks_where, line_of_words}
 
--- texts that aren't told apart are the same
+-- Texts that aren't told apart are the same
 pub same_text : (a b : List ℕ) → true ≡ bytes_eq a b → a ≡ b
 same_text a b e = (bytes_eq-Decides a b).0 (sym e)
 
@@ -14,7 +14,7 @@ pub asks_line : {S : Type 0} (f : S → List ℕ) (command name : List ℕ) (lin
 asks_line f command name [] some is = absurd (omega (arith, some))
 asks_line f command name (word ∷ more) some is = asks_where name (f word) (map f more) (ap (λ w. w ∷ name ∷ f word ∷ map f more) (same_text command (codes "where") is))
 
--- the words as they stood in one line: the first, and each other one behind a space
+-- The words as they stood in one line: the first, and each other one behind a space
 pub line_from : {S : Type 0} (f : S → List ℕ) (word : List ℕ) (words : List S) → line_of_words (word ∷ map f words) ≡ word ++ flat_map (λ w. codes " " ++ f w) words
 line_from f word [] = sym (append-nil word)
 line_from f word (next ∷ words) = append_assoc word (codes " ") (line_of_words (f next ∷ map f words)) ∙ ap (λ l. word ++ (codes " " ++ l)) (line_from f (f next) words)

@@ -26,13 +26,13 @@ of_view bytes _ _ _ (unlisted name notes line is first) = inr refl
 of_view bytes _ _ _ (dotted name notes is) = inl refl
 of_view bytes _ _ _ (no_graph name line is) = inr refl
 
--- a defined answer's: 2 for words of no form, and else a view's
+-- A defined answer's: 2 for words of no form, and else a view's
 of_answer : (words : List (List ℕ)) (files : Option Files) (status : ℕ) (text : List ℕ) → Answers words files status text → ((status ≡ 2) × AskNothing words) ⊎ IsOfView status
 of_answer words files _ _ (no_words nothing) = inl (refl, nothing)
 of_answer words files _ _ (viewed request bytes status text asks told within is) = inr (of_view bytes request status text is)
 of_answer words files _ _ (too_long request bytes asks told longer) = inr (inr refl)
 
--- an answer's: that, or 3 where a file couldn't be read
+-- An answer's: that, or 3 where a file couldn't be read
 of_any : (words : List (List ℕ)) (files : Option Files) (before after status : ℕ) (text : List ℕ) → MayAnswer words files before after status text
     → ((status ≡ 2) × AskNothing words) ⊎ (IsOfView status ⊎ ((status ≡ 3) × ((request : Request) × Asks words request × Rose before after × (text ≡ unread_line (file_of request)))))
 of_any words files before after _ _ (may_answer status text is) = elim (of_answer words files status text is) [
@@ -41,7 +41,7 @@ of_any words files before after _ _ (may_answer status text is) = elim (of_answe
 ]
 of_any words files before after _ _ (may_miss request asks rose) = inr (inr (refl, (request, asks, rose, refl)))
 
--- no answer's status is that one
+-- No answer's status is that one
 never : (k : ℕ) → k ≢ 0 → k ≢ 1 → k ≢ 2 → k ≢ 3 → (words : List (List ℕ)) (files : Option Files) (before after status : ℕ) (text : List ℕ) → MayAnswer words files before after status text → status ≢ k
 never k a b c d words files before after status text may e = elim (of_any words files before after status text may) [
   | inl two ↦ c (sym e ∙ two.0)

@@ -3,35 +3,35 @@ use Rattle.std.specs.Prelude.{◌≡◌, ℕ, List, [], ◌∷◌, ◌++◌, cod
 use Rattle.psy_base.specs.declared.limits.TheConstants.{FILE_BYTES}
 use Rattle.psy_view.specs.declared.asked.TheConstants.{TEXT_BYTES}
 
--- a request, with the name of its file; a line that is to be explained is told in the words behind that name
+-- A request, with the name of its file; a line that is to be explained is told in the words behind that name
 pub data Request : Type 0 where
   Where : (name line : List ℕ) → Request
   Timeline : (name : List ℕ) → Request
   Dot : (name : List ℕ) → Request
 
--- words as they stood in one line, a space between two
+-- Words as they stood in one line, a space between two
 abbrev pub line_of_words : List (List ℕ) → List ℕ
 line_of_words [] = []
 line_of_words (word ∷ []) = word
 line_of_words (word ∷ words) = word ++ codes " " ++ line_of_words words
 
--- the words ask for this: `where PROG LINE..`, `timeline LOG` or `dot GRAPH`
+-- The words ask for this: `where PROG LINE..`, `timeline LOG` or `dot GRAPH`
 pub data Asks (words : List (List ℕ)) : Request → Type 0 where
   asks_where : (name word : List ℕ) (more : List (List ℕ)) → words ≡ codes "where" ∷ name ∷ word ∷ more → Asks words (Where name (line_of_words (word ∷ more)))
   asks_timeline : (name : List ℕ) → words ≡ codes "timeline" ∷ name ∷ [] → Asks words (Timeline name)
   asks_dot : (name : List ℕ) → words ≡ codes "dot" ∷ name ∷ [] → Asks words (Dot name)
 
--- the words are of no listed form
+-- The words are of no listed form
 abbrev pub AskNothing : List (List ℕ) → Type 0
 AskNothing words = (request : Request) → Asks words request → ⊥
 
--- the name of the file that is asked about
+-- The name of the file that is asked about
 abbrev pub file_of : Request → List ℕ
 file_of (Where name line) = name
 file_of (Timeline name) = name
 file_of (Dot name) = name
 
--- how many bytes it may have: as many as psyc reads, or 16,777,216 of what psyc writes
+-- How many bytes it may have: as many as psyc reads, or 16,777,216 of what psyc writes
 abbrev pub most_of : Request → ℕ
 most_of (Where name line) = FILE_BYTES
 most_of (Timeline name) = TEXT_BYTES

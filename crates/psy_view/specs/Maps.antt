@@ -2,7 +2,7 @@
 use Rattle.std.specs.Prelude.{ℕ}
 use Rattle.psy_door.specs.Files.{Pairs}
 
--- the files, and how many calls failed
+-- The files, and how many calls failed
 pub record MapState : Type 0 where
   pub files : Pairs
   pub faults : ℕ

@@ -1,30 +1,30 @@
 -- The lines that are written where a text can't be viewed.
 use Rattle.std.specs.Prelude.{ℕ, List, ◌++◌, codes, decimal}
 
--- the words are of no listed form
+-- The words are of no listed form
 abbrev pub words_line : List ℕ
 words_line = codes "words\n"
 
--- the file can't be read
+-- The file can't be read
 abbrev pub unread_line : List ℕ → List ℕ
 unread_line name = codes "read " ++ name ++ codes "\n"
 
--- it has more bytes than it may have
+-- It has more bytes than it may have
 abbrev pub long_line : List ℕ → ℕ → List ℕ
 long_line name most = name ++ codes ": this file has more than " ++ decimal most ++ codes " bytes\n"
 
--- what stands behind the name is no refusal of a text
+-- What stands behind the name is no refusal of a text
 abbrev pub no_refusal_line : List ℕ → List ℕ
 no_refusal_line name = name ++ codes ": what is told of this file is no refusal that names a place in it\n"
 
--- the text has no such byte, token or line
+-- The text has no such byte, token or line
 abbrev pub beyond_line : List ℕ → List ℕ
 beyond_line name = name ++ codes ": this file has no such place\n"
 
--- from this line on a text isn't what that command of psyc writes
+-- From this line on a text isn't what that command of psyc writes
 abbrev pub broken_line : List ℕ → ℕ → List ℕ → List ℕ
 broken_line name line command = name ++ codes ":" ++ decimal line ++ codes ": from this line on this isn't what `psyc " ++ command ++ codes "` writes\n"
 
--- this line of a log has a name that the summary doesn't list
+-- This line of a log has a name that the summary doesn't list
 abbrev pub unlisted_line : List ℕ → ℕ → List ℕ
 unlisted_line name line = name ++ codes ":" ++ decimal line ++ codes ": the summary doesn't list this name\n"

@@ -12,7 +12,7 @@ use Rattle.psy_draw.specs.Spelling.{svg_of}
 use Rattle.psy_view.specs.Asked.{Request, Where, Timeline, Dot}
 use Rattle.psy_view.specs.Refusals.{no_refusal_line, beyond_line, broken_line, unlisted_line}
 
--- a picture of a run's notes, whose names the summary lists: an SVG file of at most 2,000,000 bytes, which shows each line of the
+-- A picture of a run's notes, whose names the summary lists: an SVG file of at most 2,000,000 bytes, which shows each line of the
 -- summary, or says that it would be too large
 pub record IsPicture (notes : List Note) (svg : List ℕ) : Type 0 where
   pub listed : first_unlisted notes ≡ None

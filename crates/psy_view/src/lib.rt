@@ -1,4 +1,5 @@
 //! `psyview`: explains what psyc refused, and draws runs and graphs that psyc wrote.
+//! It may know psy_notes, psy_where, psy_dot, psy_draw, and the door.
 #![tactic(auto)]
 
 mod asked;

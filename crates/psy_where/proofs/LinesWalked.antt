@@ -36,7 +36,7 @@ line_at-feed text place within feed = ap (λ n. n + 1) (count_by_more_yes (λ b.
 
 -- ---- the rest of a line
 
--- how many bytes of the line stand behind the place
+-- How many bytes of the line stand behind the place
 abbrev rest_len : List ℕ → ℕ → ℕ
 rest_len text place = prefix_len is_in_line (drop place text)
 

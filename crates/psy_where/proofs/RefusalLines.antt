@@ -20,7 +20,7 @@ place_told rest behind at is told = (is ∙ ap (drop 4) told ∙ sym (append-nil
 
 -- ---- the word
 
--- the words begin with different letters
+-- The words begin with different letters
 pub words_once : (what other : What) (rest more : List ℕ) → word_of what ++ codes " " ++ rest ≡ word_of other ++ codes " " ++ more → (what ≡ other) × (rest ≡ more)
 words_once Lex Lex rest more is = (refl, append_cancel_left (codes "lex ") rest more is)
 words_once Parse Parse rest more is = (refl, append_cancel_left (codes "parse ") rest more is)
@@ -41,7 +41,7 @@ sentence_of-small Script number sentence is = grind (arith, nat_tests)
 
 -- ---- the line
 
--- the line without its line feed
+-- The line without its line feed
 said : (line : List ℕ) (refusal : Refusal) (sentence : List ℕ) → Says line refusal sentence → line ≡ codes "refused " ++ word_of refusal.what ++ codes " " ++ decimal refusal.number ++ at_place (Some refusal.at)
 said line refusal sentence says = append_cancel_right line (codes "refused " ++ word_of refusal.what ++ codes " " ++ decimal refusal.number ++ at_place (Some refusal.at)) (codes "\n") says.written
 

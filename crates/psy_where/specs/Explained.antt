@@ -9,31 +9,31 @@ use Rattle.psy_where.specs.declared.recall.Refusal.{Refusal}
 use Rattle.psy_where.specs.Places.{line_at, column_at, before_at, behind_at}
 use Rattle.psy_where.specs.Refusals.{Says, IsPlaceOf}
 
--- the byte goes on a character of several bytes in UTF-8, and so has no column of its own on a screen
+-- The byte goes on a character of several bytes in UTF-8, and so has no column of its own on a screen
 abbrev pub goes_on : ℕ → Bool
 goes_on b = nat_le 128 b && nat_lt b 192
 
--- a byte as it is shown: one that a screen obeys, but for a tab, is a `?`
+-- A byte as it is shown: one that a screen obeys, but for a tab, is a `?`
 abbrev pub shown_byte : ℕ → ℕ
 shown_byte b = if (nat_lt b 32 && not (b == 9)) || b == 127 then 63 else b
 
--- bytes without a carriage return at their end
+-- Bytes without a carriage return at their end
 abbrev pub without_return : List ℕ → List ℕ
 without_return bytes = if slice_index bytes (length bytes - 1) == 13 then take (length bytes - 1) bytes else bytes
 
--- bytes of a line as they are shown
+-- Bytes of a line as they are shown
 abbrev pub shown : List ℕ → List ℕ
 shown bytes = map shown_byte bytes
 
--- what leaves the room of bytes on a screen: a tab for a tab, and else a space
+-- What leaves the room of bytes on a screen: a tab for a tab, and else a space
 abbrev pub padding : List ℕ → List ℕ
 padding bytes = map (λ b. if b == 9 then 9 else 32) (filter (λ b. not (goes_on b)) bytes)
 
--- how many columns these bytes take on a screen
+-- How many columns these bytes take on a screen
 abbrev pub columns : List ℕ → ℕ
 columns bytes = count_by (λ b. not (goes_on b)) bytes
 
--- how many columns of a line, from the place on, are marked: those of a word or a number that begins there, or of the whole line
+-- How many columns of a line, from the place on, are marked: those of a word or a number that begins there, or of the whole line
 -- of inputs or of a script; one at least
 abbrev pub marked : What → List ℕ → ℕ
 marked Inputs line = max 1 (columns line)
@@ -44,7 +44,7 @@ marked what line = max 1 (prefix_len is_in_word line)
 abbrev pub carets : ℕ → List ℕ
 carets marks = replicate marks 94
 
--- the line from a place on, without its carriage return
+-- The line from a place on, without its carriage return
 abbrev pub rest_at : List ℕ → ℕ → List ℕ
 rest_at text place = without_return (behind_at text place)
 

@@ -5,27 +5,27 @@ use Rattle.psy_tree.specs.declared.token.Token.{Token}
 use Rattle.psy_tree.specs.Lexemes.{is_in_line}
 use Rattle.psy_tree.specs.Tokens.{TokensOf}
 
--- the bytes up to the next line feed, or to the end
+-- The bytes up to the next line feed, or to the end
 abbrev pub line_front : List ℕ → List ℕ
 line_front bytes = take (prefix_len is_in_line bytes) bytes
 
--- the bytes behind the last line feed
+-- The bytes behind the last line feed
 abbrev pub line_back : List ℕ → List ℕ
 line_back bytes = reverse (line_front (reverse bytes))
 
--- the line of the byte that so many bytes come before
+-- The line of the byte that so many bytes come before
 abbrev pub line_at : List ℕ → ℕ → ℕ
 line_at text place = count_by (λ b. b == 10) (take place text) + 1
 
--- its column
+-- Its column
 abbrev pub column_at : List ℕ → ℕ → ℕ
 column_at text place = length (line_back (take place text)) + 1
 
--- the bytes of its line that stand before it
+-- The bytes of its line that stand before it
 abbrev pub before_at : List ℕ → ℕ → List ℕ
 before_at text place = line_back (take place text)
 
--- the bytes of its line from it on
+-- The bytes of its line from it on
 abbrev pub behind_at : List ℕ → ℕ → List ℕ
 behind_at text place = line_front (drop place text)
 

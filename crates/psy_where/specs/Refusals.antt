@@ -6,7 +6,7 @@ use Rattle.psy_where.specs.declared.recall.What.TheVariants.{Lex, Parse, Rule, I
 use Rattle.psy_where.specs.declared.recall.Refusal.{Refusal}
 use Rattle.psy_where.specs.Places.{IsTokenPlace, IsLinePlace}
 
--- the word for what is refused
+-- The word for what is refused
 abbrev pub word_of : What → List ℕ
 word_of Lex = codes "lex"
 word_of Parse = codes "parse"
@@ -14,7 +14,7 @@ word_of Rule = codes "rule"
 word_of Inputs = codes "inputs"
 word_of Script = codes "script"
 
--- what a refusal of each number means
+-- What a refusal of each number means
 abbrev pub sentence_of : What → ℕ → Option (List ℕ)
 sentence_of Lex number =
     if number == 1 then Some (codes "no token begins with this byte, or it may not follow the number before it")
@@ -23,7 +23,7 @@ sentence_of Lex number =
     else if number == 4 then Some (codes "this comment has no end")
     else None
 sentence_of Parse number =
-    if number == 1 then Some (codes "no program goes on like this: something is missing before it, as a `;` or a bracket, or it can't stand here, as a reserved word in place of a name")
+    if number == 1 then Some (codes "no program goes on like this: something is missing before it, as a `;`, or it can't stand here, as a reserved word")
     else if number == 2 then Some (codes "64 brackets are open here, or 256 operators stand since the last `;`, `{` or `}`")
     else None
 sentence_of Rule number =
@@ -53,7 +53,7 @@ sentence_of Script number =
     else if number == 4 then Some (codes "a number is out of its range")
     else None
 
--- the line is this refusal, and it is one that psyc writes
+-- The line is this refusal, and it is one that psyc writes
 pub record Says (line : List ℕ) (refusal : Refusal) (sentence : List ℕ) : Type 0 where
   pub written : line ++ codes "\n" ≡ refused_line (word_of refusal.what) refusal.number (Some refusal.at)
   pub means : sentence_of refusal.what refusal.number ≡ Some sentence

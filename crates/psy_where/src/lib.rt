@@ -1,4 +1,5 @@
 //! Explains a refusal of psyc: where it is in the text, by line and column, and what it means.
+//! It may know texts, tokens, and the numbers of refusals; no grammar, no rules.
 #![tactic(auto)]
 
 mod answer;

@@ -109,17 +109,17 @@ fn tokens_are_marked(rt: HostRuntime) {
         (
             "int x",
             "refused parse 1 at 2",
-            "p.psy:1:6: no program goes on like this: something is missing before it, as a `;` or a bracket, or it can't stand here, as a reserved word in place of a name\nint x\n     ^\n",
+            "p.psy:1:6: no program goes on like this: something is missing before it, as a `;`, or it can't stand here, as a reserved word\nint x\n     ^\n",
         ),
         (
             "int x\n",
             "refused parse 1 at 2",
-            "p.psy:2:1: no program goes on like this: something is missing before it, as a `;` or a bracket, or it can't stand here, as a reserved word in place of a name\n\n^\n",
+            "p.psy:2:1: no program goes on like this: something is missing before it, as a `;`, or it can't stand here, as a reserved word\n\n^\n",
         ),
         (
             "",
             "refused parse 1 at 0",
-            "p.psy:1:1: no program goes on like this: something is missing before it, as a `;` or a bracket, or it can't stand here, as a reserved word in place of a name\n\n^\n",
+            "p.psy:1:1: no program goes on like this: something is missing before it, as a `;`, or it can't stand here, as a reserved word\n\n^\n",
         ),
         (
             "x <= y",

@@ -1,4 +1,5 @@
 //! The greatest weights of the paths of a graph that fit a length, at each length up to a greatest one.
+//! It may know graphs as their edges; nothing of agents.
 #![tactic(auto)]
 
 mod fault;

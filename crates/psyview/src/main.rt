@@ -1,4 +1,5 @@
 //! `psyview`: the top call over the files of the system and standard output.
+//! It may know psy_view, and which files and sink are the real ones.
 #![tactic(auto)]
 
 use psy_door::StdSink;

@@ -8,7 +8,7 @@ use Rattle.psy_budget.specs.Charges.{IsBelow, StallsRise}
 use Rattle.psy_budget.specs.Standing.{IsAtLeast}
 use Rattle.psy_budget.proofs.charge.earlier.Goals as goal
 
--- stalls rise by action
+-- Stalls rise by action
 below : (s t : Stall) → IsBelow t.action t.instr s → s.action ≤ t.action
 below s t (inl h) = omega (arith, h)
 below s t (inr h) = omega (arith, h.0)
@@ -19,7 +19,7 @@ rising stalls rise i j d less small = elim (cases_order i j) [
   | inr other ↦ elim other [ inl first ↦ below (get_or stalls i d) (get_or stalls j d) (rise i j d first small) | inr last ↦ absurd (omega (arith, less, last)) ]
 ]
 
--- a stall of this action or of a later one
+-- A stall of this action or of a later one
 not_below : (s : Stall) (action : ℕ) → action ≤ s.action → IsAtLeast action 0 s
 not_below s action more = elim (cases_order action s.action) [
   | inl same ↦ inr (sym same, omega arith)

@@ -19,7 +19,7 @@ returns-then-stalls-place-2-clause-cycles c =
     (one_more c.args.action c.args.instr c.args.stalls.now c.args.place (get_or c.args.stalls.now c.args.place nothing) c.requires.rise c.requires.split
     (slice_get-get_or c.args.stalls.now c.args.place nothing c.if-place-stalls.true) c.if-stalls-place.true c.if-stalls-place-2.true).1
 
--- no stall before the instruction stands at the place
+-- No stall before the instruction stands at the place
 none : (c : goal.Joined-else-place-stalls) → (s : Stall) → slice_get c.args.stalls.now c.args.place ≡ Some s → s.action ≡ c.args.action → s.instr ≡ c.args.instr → ⊥
 none c s at a i =
     let is : get_or c.args.stalls.now c.args.place nothing ≡ s = get_or_from_slice_get c.args.stalls.now c.args.place s nothing at in

@@ -82,7 +82,7 @@ enter_all-requires-clause-room c =
     ∙ ap (λ xs. Some (settled_then date (first_date (timing_in plan (stream_at plan.unit stream).receiver)) (get_or xs (stream_at plan.unit stream).receiver nowhere) (get_or c.deref-4.result.now stream 0) queue)) c.deref-3.ensures.value
     ∙ ap (λ xs. Some (settled_then date (first_date (timing_in plan (stream_at plan.unit stream).receiver)) (get_or old.seats.items (stream_at plan.unit stream).receiver nowhere) (get_or xs stream 0) queue)) c.deref-4.ensures.value))))
 
--- what is shared behind the date
+-- What is shared behind the date
 abbrev new_of : goal.After-shared-8-1 → Shared
 new_of c = record c.args.shared.now {
   rings = with_items c.args.shared.now.rings c.publish_all.new.rings;
@@ -94,7 +94,7 @@ new_of c = record c.args.shared.now {
   date = Some c.args.date;
 }
 
--- what each call changed
+-- What each call changed
 moved_by : (c : goal.After-shared-8-1) → Moved c.args.plan.now c.args.shared.now.inputs.lists c.args.date c.args.shared.now (new_of c)
 moved_by c =
     let plan = c.args.plan.now in

@@ -16,7 +16,7 @@ use Rattle.psy_dates.proofs.enters.enter_sends.Goals as goal
 abbrev none : Sent
 none = record { stream = 0; value = pos 0; after = 0; clock = 0 }
 
--- what is left to enter has room, told by its first message and the rest
+-- What is left to enter has room, told by its first message and the rest
 room_told : (s : System) (agent end : ℕ) (sends : List Sent) (number : ℕ) (queues : List Queued) → number < length sends → HaveRoom (λ stream. messages_from s stream agent end number (drop number sends)) queues
     → HaveRoom (with_first (get_or sends number none).stream (message_of s agent end number (get_or sends number none)) (λ to. messages_from s to agent end (number + 1) (drop (number + 1) sends))) queues
 room_told s agent end sends number queues l room stream queue is = subst (λ xs. length xs + length queue.messages ≤ queue.size) (left_is s agent end sends none number stream l) (room stream queue is)

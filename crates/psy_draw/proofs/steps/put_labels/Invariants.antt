@@ -2,6 +2,6 @@
 use Rattle.std.proofs.Common.{length}
 use Rattle.psy_draw.proofs.steps.put_labels.Given as goal
 
--- the columns that are left
+-- The columns that are left
 abbrev pub decreases-loop-column : goal.decreases-loop-column
 decreases-loop-column l = length l.rest

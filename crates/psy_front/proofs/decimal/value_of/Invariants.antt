@@ -5,7 +5,7 @@ use Rattle.psy_tree.specs.Lexemes.{Each}
 use Rattle.std.specs.Char.{is_ascii_digit}
 use Rattle.psy_front.proofs.decimal.value_of.Given as goal
 
--- the value so far goes on to that of all digits
+-- The value so far goes on to that of all digits
 abbrev pub invariant-loop-digit : goal.invariant-loop-digit
 invariant-loop-digit l = record {
   each : Each is_ascii_digit (drop l.digit-index l.digits);

@@ -15,7 +15,7 @@ use Rattle.psy_graph.proofs.Explored.{graph_is, edges_fit, passes_edges}
 use Rattle.psy_graph.proofs.agents.graph_by.Goals as goal
 use Rattle.psy_graph.proofs.agents.graph_by.Goals.{After-as_slice}
 
--- the places as they are drawn
+-- The places as they are drawn
 are : (c : After-as_slice) → ArePlaces (timing_by c.args.times.now) c.as_slice.result.now
 are c = subst (ArePlaces (timing_by c.args.times.now)) (sym c.as_slice.ensures) c.in_ok-places.ensures.places
 

@@ -26,7 +26,7 @@ agent_of c =
     slice_get_read c.as_slice.result.now (length c.as_slice.result.now) c.args.number agent refl (omega (arith, c.requires.number, ap length c.as_slice.ensures)) c.index-as_slice-number.is in
     (c.requires.text, subst (λ xs. slice_get xs c.args.number ≡ Some agent) c.as_slice.ensures at)
 
--- the timing as it is told
+-- The timing as it is told
 told : (c : After-as_slice-4) → timing c.as_slice-2.result.now c.as_slice-3.result.now c.as_slice-4.result.now ≡ timing_of c.args.unit.now c.index-as_slice-number.result c.in_ok-nexts.nexts
 told c =
     ap (λ xs. timing xs c.as_slice-3.result.now c.as_slice-4.result.now) c.as_slice-2.ensures

@@ -11,6 +11,6 @@ invariant-writing g l =
       grew : Grew (g.S.Sink.held l.fn.out) (g.S.Sink.held l.out) (take l.taken l.piece);
     }
 
--- what is left to write
+-- What is left to write
 abbrev pub decreases-writing : goal.decreases-writing
 decreases-writing g l = length l.piece - l.taken

@@ -4,7 +4,7 @@ use Rattle.std.specs.Prelude.{slice_get}
 use Rattle.psy_machine.specs.Copying.{IsFirst}
 use Rattle.psy_machine.proofs.copies.index_of.Given as goal
 
--- the index of the entries from a place on
+-- The index of the entries from a place on
 abbrev pub invariant-loop-place : goal.invariant-loop-place
 invariant-loop-place l = record {
   within : l.place ≤ length l.entries;

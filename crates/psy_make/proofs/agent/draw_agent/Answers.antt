@@ -3,11 +3,11 @@ use Rattle.std.proofs.Common.{◌≡◌, ℕ, suc, ◌+◌, ◌*◌, ◌/◌, �
 use Rattle.psy_make.specs.Generator.{next, drawn, draw}
 use Rattle.psy_make.proofs.agent.draw_agent.Goals as goal
 
--- a draw goes on from the i-th number to the one behind it
+-- A draw goes on from the i-th number to the one behind it
 drawn_next : (seed i j x y : ℕ) → i + 1 ≡ j → x ≡ drawn seed i → y ≡ next x → y ≡ drawn seed j
 drawn_next seed i j x y behind at is = let last : j ≡ suc i = omega arith in rw last (is ∙ ap next at)
 
--- and gives what that one gives
+-- And gives what that one gives
 draw_next : (seed i j x n y : ℕ) → i + 1 ≡ j → x ≡ drawn seed i → y ≡ next x / 2 ^ 16 % n → y ≡ draw seed j n
 draw_next seed i j x n y behind at is = is ∙ ap (λ x. x / 2 ^ 16 % n) (drawn_next seed i j x (next x) behind at refl)
 

@@ -6,7 +6,7 @@ use Rattle.psy_make.specs.declared.agent.Agent.{Agent}
 use Rattle.psy_make.specs.Generator.{agent_of}
 use Rattle.psy_make.proofs.agent.draw_agents.Goals as goal
 
--- one agent more was drawn
+-- One agent more was drawn
 agents_more : (seed i : ℕ) (before now : List Agent) (a : Agent) → before ≡ map (agent_of seed) (range_with_len 0 i) → a ≡ agent_of seed i → now ≡ before ++ a ∷ [] → now ≡ map (agent_of seed) (range_with_len 0 (i + 1))
 agents_more seed i before now a are is pushed = pushed ∙ rw (are, is, map-range_with_len_more (agent_of seed) 0 i i (omega arith)) refl
 

@@ -3,7 +3,7 @@ use Rattle.std.proofs.Common.{◌≡◌, ◌+◌, ◌*◌, ◌≤◌}
 use Rattle.psy_parse.specs.Reading.{left, climb_at, others_at}
 use Rattle.psy_parse.proofs.expr.+expr.Given as goal
 
--- at one depth a function calls those below it alone
+-- At one depth a function calls those below it alone
 abbrev pub decreases-operand : goal.decreases-operand
 decreases-operand l = 8 * l.depth + 4
 
@@ -25,7 +25,7 @@ decreases-climb l = 8 * l.depth
 abbrev pub decreases-expr : goal.decreases-expr
 decreases-expr l = 8 * l.depth
 
--- what is left to read gives what there was to read in the beginning
+-- What is left to read gives what there was to read in the beginning
 abbrev pub invariant-climb-loop-depth : goal.invariant-climb-loop-depth
 invariant-climb-loop-depth l = record {
   depth : l.depth ≤ l.fn.depth;

@@ -3,7 +3,7 @@ use Rattle.std.proofs.Common.{◌≡◌, []}
 use Rattle.psy_parse.specs.Reading.{left, locals_at}
 use Rattle.psy_parse.proofs.item.locals.Given as goal
 
--- what is left to read gives what there was to read in the beginning
+-- What is left to read gives what there was to read in the beginning
 abbrev pub invariant-loop-depth : goal.invariant-loop-depth
 invariant-loop-depth l = locals_at l.arrays l.depth l.locals (left l.rest) ≡ locals_at l.arrays l.fn.depth [] (left l.fn.cursor)
 

@@ -3,7 +3,7 @@ use Rattle.std.proofs.Common.{◌≡◌, ◌+◌, ◌*◌, ◌≤◌}
 use Rattle.psy_parse.specs.Reading.{left, block_at}
 use Rattle.psy_parse.proofs.stmt.+stmt.Given as goal
 
--- at one depth a function calls those below it alone
+-- At one depth a function calls those below it alone
 abbrev pub decreases-stmt : goal.decreases-stmt
 decreases-stmt l = 4 * l.depth + 3
 
@@ -19,7 +19,7 @@ decreases-block_in_braces l = 4 * l.depth + 1
 abbrev pub decreases-block : goal.decreases-block
 decreases-block l = 4 * l.depth
 
--- what is left to read gives what there was to read in the beginning
+-- What is left to read gives what there was to read in the beginning
 abbrev pub invariant-block-loop-depth : goal.invariant-block-loop-depth
 invariant-block-loop-depth l = record {
   depth : l.depth ≤ l.fn.depth;

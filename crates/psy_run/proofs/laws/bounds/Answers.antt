@@ -1,7 +1,7 @@
 -- What is left of the proof of `laws::bounds`.
 use Rattle.std.proofs.Common.{◌+◌, ◌*◌, arith}
 use Rattle.psy_history.specs.Compiled.{coded}
-use Rattle.psy_kernel.specs.Scripts.{order_of, stalls_of}
+use Rattle.psy_history.specs.Scripts.{order_of, stalls_of}
 use Rattle.psy_run.proofs.KeptBounds.{keeps_bounds}
 use Rattle.psy_run.proofs.laws.bounds.Goals as goal
 

@@ -10,6 +10,6 @@ invariant-lines l =
       within : l.kernel.given ≤ length (lines_told l.fn.kernel);
     }
 
--- the lines that are left
+-- The lines that are left
 abbrev pub decreases-lines : goal.decreases-lines
 decreases-lines l = length (lines_told l.fn.kernel) - l.kernel.given

@@ -13,6 +13,6 @@ invariant-stages l =
       over : l.kernel.dates ≡ l.fn.kernel.plan.until + 1 → l.kernel.cycles ≡ l.fn.kernel.plan.until * l.fn.kernel.plan.unit.quantum;
     }
 
--- the dates and cycles that are left
+-- The dates and cycles that are left
 abbrev pub decreases-stages : goal.decreases-stages
 decreases-stages l = (l.fn.kernel.plan.until + 1 - l.kernel.dates) + (l.fn.kernel.plan.until * l.fn.kernel.plan.unit.quantum - l.kernel.cycles)

@@ -17,6 +17,6 @@ invariant-stages g l =
       grew : Grew (g.S.Sink.held l.fn.out) (g.S.Sink.held l.out) (log_of (system l.fn.kernel) l.kernel.dates);
     }
 
--- the dates and cycles that are left
+-- The dates and cycles that are left
 abbrev pub decreases-stages : goal.decreases-stages
 decreases-stages g l = (l.fn.kernel.plan.until + 1 - l.kernel.dates) + (l.fn.kernel.plan.until * l.fn.kernel.plan.unit.quantum - l.kernel.cycles)

@@ -14,6 +14,6 @@ invariant-lines g l =
       grew : Grew (g.S.Sink.held l.fn.out) (g.S.Sink.held l.out) (text_of (take l.kernel.given (lines_told l.fn.kernel)));
     }
 
--- the lines that are left
+-- The lines that are left
 abbrev pub decreases-lines : goal.decreases-lines
 decreases-lines g l = length (lines_told l.fn.kernel) - l.kernel.given

@@ -13,6 +13,6 @@ invariant-lines g l =
       grew : Grew (g.S.Sink.held l.fn.out) (g.S.Sink.held l.out) (text_of (take l.place (summary_told l.kernel)));
     }
 
--- the lines that are left
+-- The lines that are left
 abbrev pub decreases-lines : goal.decreases-lines
 decreases-lines g l = length (summary_told l.kernel) - l.place

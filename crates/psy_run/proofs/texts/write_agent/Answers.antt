@@ -7,7 +7,7 @@ use Rattle.psy_run.specs.Texts.{nodes_text, edge_text}
 use Rattle.psy_run.proofs.WritingLemmas.{GrewByFront-append, Grew-GrewByFront, Written-append}
 use Rattle.psy_run.proofs.texts.write_agent.Goals as goal
 
--- an agent's first line, by what it counts
+-- An agent's first line, by what it counts
 line_is : {name other : List ℕ} {n m e f : ℕ} → name ≡ other → n ≡ m → e ≡ f → agent_graph_line name n e ≡ agent_graph_line other m f
 line_is p q r = λ i. agent_graph_line (p i) (q i) (r i)
 

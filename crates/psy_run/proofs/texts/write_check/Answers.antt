@@ -9,11 +9,11 @@ use Rattle.psy_run.specs.Texts.{rings_text, queues_text}
 use Rattle.psy_run.proofs.WritingLemmas.{GrewByFront-append, Grew-GrewByFront, Written-append}
 use Rattle.psy_run.proofs.texts.write_check.Goals as goal
 
--- the sizes of rings, by what is listed
+-- The sizes of rings, by what is listed
 rings_are : {variables others : List VarDecl} {rings sizes : List ℕ} → variables ≡ others → rings ≡ sizes → rings_text variables rings ≡ rings_text others sizes
 rings_are p q = λ i. rings_text (p i) (q i)
 
--- the sizes of queues, by what is listed
+-- The sizes of queues, by what is listed
 queues_are : {streams others : List StreamDecl} {queues sizes : List ℕ} → streams ≡ others → queues ≡ sizes → queues_text streams queues ≡ queues_text others sizes
 queues_are p q = λ i. queues_text (p i) (q i)
 

@@ -8,7 +8,7 @@ use Rattle.psy_run.proofs.TextLemmas.{agents_more, agents_split, agents_all}
 use Rattle.psy_run.proofs.WritingLemmas.{Grew-item, GrewByFront-item}
 use Rattle.psy_run.proofs.texts.write_graph.Goals as goal
 
--- the text of an agent, by its parts
+-- The text of an agent, by its parts
 text_is : {agent other : AgentDecl} {graph drawn : Graph} {list costs : List ℕ} → agent ≡ other → graph ≡ drawn → list ≡ costs → agent_text agent graph list ≡ agent_text other drawn costs
 text_is p q r = λ i. agent_text (p i) (q i) (r i)
 

@@ -1,6 +1,6 @@
 -- What is left of the proof of `told::inputs_of`.
 use Rattle.std.proofs.Common.{sym, subst}
-use Rattle.psy_dates.specs.declared.plan.Inputs.{Inputs as Lists}
+use Rattle.psy_history.specs.declared.told.Inputs.{Inputs as Lists}
 use Rattle.psy_history.specs.Compiled.{AreInputs}
 use Rattle.psy_run.specs.declared.refusal.File.TheVariants.{Inputs}
 use Rattle.psy_run.specs.declared.refusal.Stop.TheVariants.{Memory}

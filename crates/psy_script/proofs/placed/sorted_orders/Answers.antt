@@ -1,7 +1,7 @@
 -- What is left of the proof of `placed::sorted_orders`.
 use Rattle.std.proofs.Common.{◌≡◌, ◌<◌, subst, map, rules}
 use Rattle.std.specs.List.{AllPairs}
-use Rattle.psy_kernel.specs.declared.script.Order.{Order}
+use Rattle.psy_history.specs.declared.told.Order.{Order}
 use Rattle.psy_script.specs.Entries.{order_from}
 use Rattle.psy_script.proofs.PutEntries.{orders_rise}
 use Rattle.psy_script.proofs.placed.sorted_orders.Goals as goal

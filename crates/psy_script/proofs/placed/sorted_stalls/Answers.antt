@@ -1,7 +1,7 @@
 -- What is left of the proof of `placed::sorted_stalls`.
 use Rattle.std.proofs.Common.{◌≡◌, subst, map, rules}
 use Rattle.std.specs.List.{AllPairs}
-use Rattle.psy_kernel.specs.Scripts.{StallBefore}
+use Rattle.psy_history.specs.Scripts.{StallBefore}
 use Rattle.psy_script.specs.Entries.{stall_at}
 use Rattle.psy_script.proofs.PutEntries.{stalls_rise}
 use Rattle.psy_script.proofs.placed.sorted_stalls.Goals as goal

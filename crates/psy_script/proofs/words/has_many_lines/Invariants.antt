@@ -4,7 +4,7 @@ use Rattle.psy_base.specs.declared.limits.TheConstants.{LINES}
 use Rattle.psy_script.specs.Lines.{lines_of}
 use Rattle.psy_script.proofs.words.has_many_lines.Given as goal
 
--- the lines that are read, and those that follow
+-- The lines that are read, and those that follow
 abbrev pub invariant-loop-cut : goal.invariant-loop-cut
 invariant-loop-cut l = record {
   few : l.lines ≤ LINES;

@@ -9,7 +9,7 @@ use Rattle.psy_sizes.proofs.Sharing.{Shares, periods_before, period_of, no_point
 use Rattle.psy_sizes.proofs.divisors.shared_divisor.Goals as goal
 use Rattle.psy_sizes.proofs.divisors.shared_divisor.Goals.{After-common_divisor}
 
--- what is shared with one point more
+-- What is shared with one point more
 more : (c : After-common_divisor) → Shares (periods_before c.args.clocks.now c.args.points.now (c.points.point + 1)) c.args.period (c.points.shared / c.common_divisor.result * c.common_divisor-common.result)
 more c =
     let clocks = c.args.clocks.now in

@@ -24,7 +24,7 @@ agent_of c =
     slice_get_read c.as_slice.result.now (length c.as_slice.result.now) c.args.number agent refl (omega (arith, c.requires.number, ap length c.as_slice.ensures)) c.index-as_slice-number.is in
     (c.requires.text, subst (λ xs. slice_get xs c.args.number ≡ Some agent) c.as_slice.ensures at)
 
--- what is shared with the cycle of the agent
+-- What is shared with the cycle of the agent
 shared_is : (c : After-as_slice-4) (timing : Timing) (graph : Graph) → IsTimingOf c.args.unit.now c.args.number timing → (drawn : IsGraphOf timing graph) →
     (1 ≤ drawn.drawn.cycle) × IsGcd drawn.drawn.cycle c.args.clock.period c.shared_divisor-shared.result
 shared_is c timing graph told drawn =

@@ -4,7 +4,7 @@ use Rattle.psy_base.specs.declared.limits.TheConstants.{LITERAL}
 use Rattle.psy_tree.specs.Lexemes.{decimal_value}
 use Rattle.psy_token.proofs.number.decimal_value.Given as goal
 
--- the value so far, before the digits that are left
+-- The value so far, before the digits that are left
 abbrev pub invariant-loop-digit : goal.invariant-loop-digit
 invariant-loop-digit l = record {
   small : l.value ≤ LITERAL;

@@ -3,6 +3,6 @@ use Rattle.std.proofs.Common.{◌≡◌, take}
 use Rattle.std.specs.List.{flat_map}
 use Rattle.psy_view.proofs.refusals.joined.Given as goal
 
--- the pieces so far
+-- The pieces so far
 abbrev pub invariant-loop-piece : goal.invariant-loop-piece
 invariant-loop-piece l = l.line.items ≡ flat_map (λ piece. piece.now) (take l.piece-index l.pieces)

@@ -5,7 +5,7 @@ use Rattle.psy_base.specs.declared.edge.Edge.{Edge}
 use Rattle.psy_window.specs.Windows.{IsEdge}
 use Rattle.psy_window.proofs.tests.short_advances_weigh_most.Goals as goal
 
--- an edge before others
+-- An edge before others
 before : (e : Edge) (es : List Edge) → IsEdge 3 e → All (IsEdge 3) es → All (IsEdge 3) (e ∷ es)
 before e es edge edges = All-cons (IsEdge 3) e es edge edges
 

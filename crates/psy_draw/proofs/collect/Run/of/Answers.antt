@@ -9,7 +9,7 @@ use Rattle.psy_draw.proofs.Failing.{failing_found, failing_never}
 use Rattle.psy_draw.proofs.Refused.{number_is}
 use Rattle.psy_draw.proofs.collect.Run.of.Goals as goal
 
--- what a place past the end would hold
+-- What a place past the end would hold
 past : Note
 past = note.StopOverrun 0 (record { ref_ptr = (0, 0); now = [] })
 

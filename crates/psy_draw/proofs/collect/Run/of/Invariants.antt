@@ -4,6 +4,6 @@ use Rattle.psy_log.specs.declared.note.Note.{Note}
 use Rattle.psy_draw.specs.Tables.{is_among}
 use Rattle.psy_draw.proofs.collect.Run.of.Given as goal
 
--- the names so far are listed
+-- The names so far are listed
 abbrev pub invariant-loop-index : goal.invariant-loop-index
 invariant-loop-index l = (k : ℕ) (d : Note) → k < l.index → is_among l.listed (get_or l.notes k d) ≡ true

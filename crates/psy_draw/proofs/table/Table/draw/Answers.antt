@@ -5,7 +5,7 @@ use Rattle.psy_draw.specs.Showing.{Grows, ShowsRow}
 use Rattle.psy_draw.proofs.Shown.{grown, grows_on, row_at, row_kept, rows_kept}
 use Rattle.psy_draw.proofs.table.Table.draw.Goals as goal
 
--- what a place past the end would hold
+-- What a place past the end would hold
 past : Row
 past = record { name = record { ref_ptr = (0, 0); now = [] }; first = 0; second = None }
 

@@ -4,7 +4,7 @@ use Rattle.psy_draw.specs.declared.row.Row.{Row}
 use Rattle.psy_draw.specs.Showing.{Grows, ShowsRow}
 use Rattle.psy_draw.proofs.table.Table.draw.Given as goal
 
--- the rows so far are shown
+-- The rows so far are shown
 abbrev pub invariant-loop-row : goal.invariant-loop-row
 invariant-loop-row l = record {
   grows : Grows l.fn.page l.page;

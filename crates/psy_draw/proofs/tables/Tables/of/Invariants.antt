@@ -4,7 +4,7 @@ use Rattle.std.specs.List.{flat_map}
 use Rattle.psy_draw.specs.Showing.{agent_rows, stream_rows, variable_rows}
 use Rattle.psy_draw.proofs.tables.Tables.of.Given as goal
 
--- the rows so far
+-- The rows so far
 abbrev pub invariant-loop-note : goal.invariant-loop-note
 invariant-loop-note l = record {
   agents : l.tables.agents.rows.items ≡ flat_map agent_rows (take l.note-index l.notes);

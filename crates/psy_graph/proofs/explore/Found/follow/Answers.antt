@@ -12,7 +12,7 @@ use Rattle.psy_graph.proofs.Finding.{worked, done_more, all_done}
 use Rattle.psy_graph.proofs.explore.Found.follow.Goals as goal
 use Rattle.psy_graph.proofs.explore.Found.follow.Goals.{After-index-from}
 
--- the place that is followed, in the work
+-- The place that is followed, in the work
 from_is : (c : After-index-from) (d : Place) → c.index-from.result.now ≡ get_or c.args.self.now.work.items c.args.at d
 from_is c d = get_or_read c.args.self.now.work.items c.args.at c.index-from.result.now c.requires.at c.index-from.ensures d
 

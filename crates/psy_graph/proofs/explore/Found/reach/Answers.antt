@@ -21,7 +21,7 @@ use Rattle.psy_graph.proofs.explore.Found.reach.Goals.{After-index-from, After-e
 abbrev place : ℕ → ℕ → Place
 place point phase = record { point = point; phase = phase }
 
--- the place that is followed, in the work
+-- The place that is followed, in the work
 from_is : (c : After-index-from) (d : Place) → c.index-from.result.now ≡ get_or c.args.self.now.work.items c.args.at d
 from_is c d = get_or_read c.args.self.now.work.items c.args.at c.index-from.result.now c.requires.at c.index-from.ensures d
 
@@ -44,7 +44,7 @@ from_follows c =
     let d = c.index-from.result.now in
     subst (λ p. Contains (following (timing_by c.args.times.now) p.point) c.args.to) (sym (from_is c d)) (c.requires.follows d)
 
--- the place that is found
+-- The place that is found
 found_place : (c : After-end-end) → place c.args.to (c.end-end.result % c.args.modulus) ≡ follower (timing_by c.args.times.now) c.index-from.result.now c.args.to
 found_place c =
     let near = from_near (goal.at.After-end-end c).After-index-from in

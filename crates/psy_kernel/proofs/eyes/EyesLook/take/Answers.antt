@@ -16,7 +16,7 @@ use Rattle.psy_kernel.proofs.Sets.{get_set_other, get_set_same}
 use Rattle.psy_kernel.proofs.StreamsLeft.{IsLeft, left_first, left_none, messages_are, none_lists, seen_few, served, taken_lists}
 use Rattle.psy_kernel.proofs.eyes.EyesLook.take.Goals as goal
 
--- the eyes, and the stream from which they take
+-- The eyes, and the stream from which they take
 module _ (eyes : Eyes) (stream : ℕ) where
   abbrev taken : List ℕ
   taken = eyes.taken.now.items

@@ -9,8 +9,8 @@ use Rattle.psy_meaning.specs.Actions.{System}
 use Rattle.psy_meaning.specs.History.{history}
 use Rattle.psy_dates.specs.Standing.{SharedStands, dates_done}
 use Rattle.psy_kernel.specs.declared.kernel.Figure.{Figure}
-use Rattle.psy_kernel.specs.declared.script.Order.{Order}
-use Rattle.psy_kernel.specs.Scripts.{stalls_of}
+use Rattle.psy_history.specs.declared.told.Order.{Order}
+use Rattle.psy_history.specs.Scripts.{stalls_of}
 use Rattle.psy_kernel.specs.Standing.{AgentStands, AreInForce, DeedsStand, InTick, given_at, most_held_in}
 use Rattle.psy_kernel.specs.Starting.{first_charge}
 use Rattle.psy_kernel.proofs.Booted.{first_stands, made_at, replicated_at, view_booted}

@@ -19,7 +19,7 @@ use Rattle.psy_kernel.specs.Cycles.{BoxStands, IsGiven, OneStands}
 use Rattle.psy_kernel.specs.declared.kernel.Figure.{Figure}
 use Rattle.psy_kernel.specs.declared.kernel.Kernel.TheInside.{Inside}
 use Rattle.psy_kernel.specs.Progress.{Progress}
-use Rattle.psy_kernel.specs.Scripts.{order_of, stalls_of}
+use Rattle.psy_history.specs.Scripts.{order_of, stalls_of}
 use Rattle.psy_kernel.specs.Seeing.{sight_in}
 use Rattle.psy_kernel.specs.Standing.{AreInForce, IsChosen, KernelStands, progress_of}
 use Rattle.psy_kernel.proofs.CyclesGiven.{Takes, early, given_between, idle_between, is_given, known, near, on_date, reached_given, started_at, takes}
@@ -37,7 +37,7 @@ is_on : (b : Bool) → not b ≡ false → b ≡ true
 is_on true e = refl
 is_on false e = sym e
 
--- the last action of the chosen agent, and what it has and sees
+-- The last action of the chosen agent, and what it has and sees
 module _ (k : Inside) (is : KernelStands k) (d : IsDue k) (agent : ℕ) (pick : IsPick k.ready (order_of k.plan.unit k.script k.cycles) agent) (date : ℕ) (date_is : date ≡ dates_done k.shared.date - 1) where
   abbrev r : Action
   r = (takes k is d agent pick).0

@@ -10,7 +10,7 @@ use Rattle.psy_history.specs.Scheduled.{turns_of}
 use Rattle.psy_dates.specs.Standing.{SharedStands, dates_done}
 use Rattle.psy_kernel.specs.declared.stage.Stage.TheVariants.{CycleDue}
 use Rattle.psy_kernel.specs.Progress.{Progress, after_date, stage_of}
-use Rattle.psy_kernel.specs.Scripts.{stalls_of}
+use Rattle.psy_history.specs.Scripts.{stalls_of}
 use Rattle.psy_kernel.specs.Standing.{AgentStands, DeedsStand, InTick, given_at, most_held_in}
 use Rattle.psy_kernel.specs.Starting.{IsDoneBelow, charge_at, deadline_at, held_at, seat_at, starts_at}
 use Rattle.psy_kernel.proofs.Dated.{cycle_after, date_due, over_after}

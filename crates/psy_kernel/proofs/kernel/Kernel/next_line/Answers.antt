@@ -2,7 +2,7 @@
 use Rattle.std.proofs.Common.{◌≡◌, ◌+◌, ◌*◌, ◌≤◌, ℕ, length, slice_get, Some, refl, ap, subst, arith}
 use Rattle.psy_history.specs.Scheduled.{turns_of}
 use Rattle.psy_kernel.specs.Progress.{Progress, after_line, lines_told, order, system}
-use Rattle.psy_kernel.specs.Scripts.{stalls_of}
+use Rattle.psy_history.specs.Scripts.{stalls_of}
 use Rattle.psy_kernel.specs.Standing.{KernelStands, progress_of}
 use Rattle.psy_kernel.proofs.GivenLines.{all_given, date_within, given_few, given_more, given_same, next_given, stands_at, stands_now}
 use Rattle.psy_kernel.proofs.StreamsTold.{shown_few}

@@ -2,7 +2,7 @@
 use Rattle.std.proofs.Common.{◌≡◌, ◌<◌, ◌≤◌, ◌^◌, length, slice_get, sym, ap, subst, ◌∙◌, arith}
 use Rattle.psy_kernel.specs.Progress.{order, stage_of, summary_told, system}
 use Rattle.psy_kernel.specs.declared.stage.Stage.TheVariants.{Over}
-use Rattle.psy_kernel.specs.Scripts.{stalls_of}
+use Rattle.psy_history.specs.Scripts.{stalls_of}
 use Rattle.psy_kernel.specs.Standing.{progress_of}
 use Rattle.psy_kernel.specs.Telling.{figured_lines}
 use Rattle.psy_kernel.proofs.FewLines.{summary-few}

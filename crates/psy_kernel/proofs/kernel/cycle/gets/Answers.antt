@@ -1,6 +1,6 @@
 -- What is left of the proof of `kernel::cycle::gets`.
 use Rattle.std.proofs.Common.{◌+◌}
-use Rattle.psy_kernel.specs.Scripts.{order_of, stalls_of}
+use Rattle.psy_history.specs.Scripts.{order_of, stalls_of}
 use Rattle.psy_history.specs.Scheduled.{IsSupplied}
 use Rattle.psy_kernel.specs.Cycles.{run_of}
 use Rattle.psy_kernel.proofs.GetsCycle as known

@@ -36,11 +36,11 @@ use Rattle.psy_kernel.proofs.OneAgent.{count_few, goes_on, in_action, moved, ove
 use Rattle.psy_kernel.proofs.kernel.cycle.go.Goals.{in-Ended, in-Trapped, in-Spent}
 use Rattle.psy_kernel.proofs.kernel.cycle.go.Goals as goal
 
--- the cycles of a run fit
+-- The cycles of a run fit
 fits : (cycle until quantum : ℕ) → cycle < until * quantum → until ≤ 4294967295 → quantum ≤ 1000000 → cycle + 1 < 18446744073709551616
 fits cycle until quantum run most small = omega (arith, run, mul-le until quantum 4294967295 1000000 most small)
 
--- what the action looks at
+-- What the action looks at
 scene_of : (unit : Whole) (rings : List (List ℤ)) (queues : List Queued) (agent start date : ℕ) (variables : List VarDecl) (clocks : List Clock) (streams : List StreamDecl) → variables ≡ unit.variables → clocks ≡ unit.clocks → streams ≡ unit.streams
     → (scene : Sight) → scene ≡ record { rings = rings; variables = variables; clocks = clocks; queues = queues; streams = streams; agent = agent; start = start; date = date } → scene ≡ sight_in unit rings queues agent start date
 scene_of unit rings queues agent start date variables clocks streams a b c scene is =
@@ -48,7 +48,7 @@ scene_of unit rings queues agent start date variables clocks streams a b c scene
     ∙ ap (λ cs. sight_in (record unit { clocks = cs; streams = streams }) rings queues agent start date) b
     ∙ ap (λ ss. sight_in (record unit { streams = ss }) rings queues agent start date) c
 
--- the action that gets the cycle, what it sees and what it has done
+-- The action that gets the cycle, what it sees and what it has done
 module _ (plan : Plan) (cycle agent date : ℕ) (charge : Charged) (machine : AgentMachine) (figure : Figure) (seat : Seat) (ended : List ℤ) (sight : Sight) (taken : List ℕ) (outbox : Outboxed)
     (inputs : List (List ℤ)) (stalls : ℕ → List Stall) (turns : List (Option Turn)) (r : Action) (before : List Action) (waits : Option ℕ)
     (given : IsGiven plan inputs stalls turns date cycle agent r before charge machine waits figure seat ended sight taken outbox) where
@@ -86,7 +86,7 @@ module _ (plan : Plan) (cycle agent date : ℕ) (charge : Charged) (machine : Ag
         → (other : Gone) → result ≡ other → HasDoneBy s plan.code r had sends taken' other
     did result sends taken' law other e = subst (HasDoneBy s plan.code r had sends taken') e (law acts shown seen given.acts.did)
 
--- what the eyes hold last is what they leave
+-- What the eyes hold last is what they leave
 same_box : (s : System) (code : Code) (turns : List (Option Turn)) (date agent : ℕ) (actions : List Action) (sends sends' : List Sent) (taken taken' : List ℕ) → sends ≡ sends' → taken ≡ taken'
     → BoxStands s code turns date agent actions sends taken → BoxStands s code turns date agent actions sends' taken'
 same_box s code turns date agent actions sends sends' taken taken' a b box = subst (λ ss. BoxStands s code turns date agent actions ss taken') a (subst (BoxStands s code turns date agent actions sends) b box)
@@ -94,7 +94,7 @@ same_box s code turns date agent actions sends sends' taken taken' a b box = sub
 same_count : (taken taken' : List ℕ) (stream : ℕ) (n : Option ℕ) → taken ≡ taken' → slice_get taken stream ≡ n → slice_get taken' stream ≡ n
 same_count taken taken' stream n e at = sym (ap (λ ns. slice_get ns stream) e) ∙ at
 
--- a stream that another agent receives isn't the agent's
+-- A stream that another agent receives isn't the agent's
 not_mine : (sight : Sight) (stream : ℕ) (decl : StreamDecl) → slice_get sight.streams stream ≡ Some decl → (decl.receiver ≡ sight.agent → ⊥) → is_mine sight stream ≡ Some true → ⊥
 not_mine sight stream decl at other mine =
     let test : Some (decl.receiver == sight.agent) ≡ Some true =

@@ -16,7 +16,7 @@ use Rattle.psy_kernel.specs.Seeing.{clock_in}
 use Rattle.psy_kernel.proofs.Sets.{get_set_other, get_set_same}
 use Rattle.psy_kernel.proofs.kernel.cycle.note.Goals as goal
 
--- what is reached for after a look stands in place of what was before
+-- What is reached for after a look stands in place of what was before
 set_at : (s : System) (start date looked back : ℕ) (reaches : List (Option ℕ)) (new : Option ℕ) (variable : ℕ) (n : Option ℕ) → slice_get reaches variable ≡ Some n
     → ((m : Option ℕ) → slice_get reaches looked ≡ Some m → new ≡ greater (age_at s looked back start date) m)
     → slice_get (slice_set reaches looked new) variable ≡ Some (reach_by s variable start date (Some (looked, back)) n)

@@ -1,7 +1,7 @@
 -- What is left of the proof of `kernel::cycle::passed_by`.
 use Rattle.std.proofs.Common.{List, length, refl, ap, ◌∙◌, arith}
 use Rattle.std.proofs.lemmas.Option.{get_or_from_slice_get, slice_get_read, slice_get_within}
-use Rattle.psy_kernel.specs.declared.script.Order.{Order}
+use Rattle.psy_history.specs.declared.told.Order.{Order}
 use Rattle.psy_kernel.proofs.OrdersInForce.{no_more, one_more}
 use Rattle.psy_kernel.proofs.kernel.cycle.passed_by.Goals.{else-passed-orders-via-then-passed-orders+else-orders-passed, else-passed-orders-via-else-passed-orders}
 use Rattle.psy_kernel.proofs.kernel.cycle.passed_by.Goals as goal

@@ -9,7 +9,7 @@ use Rattle.psy_queue.proofs.Orders.{insert_is, in_order_placed}
 use Rattle.psy_queue.proofs.queue.Queue.enter.Goals as goal
 use Rattle.psy_queue.proofs.queue.Queue.enter.Goals.{After-insert}
 
--- the queue as its fields have it
+-- The queue as its fields have it
 viewed : (c : After-insert) → c.args.self.now ≡ queued c.self.inside
 viewed c = cc
 

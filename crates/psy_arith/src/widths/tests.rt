@@ -1,0 +1,371 @@
+//! The operators at each width, with its corners.
+use super::{apply1, apply2, narrow};
+use crate::{Op1, Op2, Trap};
+
+#[test]
+fn two_operands_of_eight_bits(rt: HostRuntime) {
+    const MIN: i8 = i8::MIN;
+    const MAX: i8 = i8::MAX;
+    let cases = [
+        (Op2::Mul, MIN, -1, Ok(MIN)),
+        (Op2::Mul, MAX, MAX, Ok(1)),
+        (Op2::Mul, 16, 16, Ok(0)),
+        (Op2::Mul, 16, 8, Ok(MIN)),
+        (Op2::Div, MIN, -1, Ok(MIN)),
+        (Op2::Div, MIN, MAX, Ok(-1)),
+        (Op2::Div, -7, 2, Ok(-3)),
+        (Op2::Div, 7, -2, Ok(-3)),
+        (Op2::Div, MIN, 0, Err(Trap::Divide)),
+        (Op2::Rem, MIN, -1, Ok(0)),
+        (Op2::Rem, -7, 2, Ok(-1)),
+        (Op2::Rem, 7, -2, Ok(1)),
+        (Op2::Rem, MAX, MIN, Ok(MAX)),
+        (Op2::Rem, 0, 0, Err(Trap::Divide)),
+        (Op2::Add, MAX, 1, Ok(MIN)),
+        (Op2::Add, MIN, MIN, Ok(0)),
+        (Op2::Sub, MIN, 1, Ok(MAX)),
+        (Op2::Sub, 0, MIN, Ok(MIN)),
+        (Op2::Add, 100, 100, Ok(-56)),
+        (Op2::Shl, 1, 7, Ok(MIN)),
+        (Op2::Shl, 1, 8, Ok(1)),
+        (Op2::Shl, 1, 9, Ok(2)),
+        (Op2::Shl, 1, -1, Ok(MIN)),
+        (Op2::Shl, 1, MIN, Ok(1)),
+        (Op2::Shl, MAX, 1, Ok(-2)),
+        (Op2::Shr, MIN, 7, Ok(-1)),
+        (Op2::Shr, MIN, 8, Ok(MIN)),
+        (Op2::Shr, MIN, 9, Ok(-64)),
+        (Op2::Shr, -8, 9, Ok(-4)),
+        (Op2::Shr, MAX, -1, Ok(0)),
+        (Op2::Shr, -1, 1, Ok(-1)),
+        (Op2::Lt, MIN, MAX, Ok(1)),
+        (Op2::Lt, MAX, MIN, Ok(0)),
+        (Op2::Le, MIN, MIN, Ok(1)),
+        (Op2::Gt, -1, MIN, Ok(1)),
+        (Op2::Ge, MIN, -1, Ok(0)),
+        (Op2::Eq, MIN, MIN, Ok(1)),
+        (Op2::Eq, MIN, 0, Ok(0)),
+        (Op2::Ne, MIN, 0, Ok(1)),
+        (Op2::And, -1, MIN, Ok(MIN)),
+        (Op2::Xor, -1, MIN, Ok(MAX)),
+        (Op2::Or, MIN, MAX, Ok(-1)),
+        (Op2::AndAnd, MIN, MIN, Ok(1)),
+        (Op2::AndAnd, MIN, 0, Ok(0)),
+        (Op2::OrOr, 0, MIN, Ok(1)),
+        (Op2::OrOr, 0, 0, Ok(0)),
+    ];
+    for (op, a, b, want) in cases {
+        let value = apply2::<8>(op, i64::from(a), i64::from(b));
+        assert_eq!(rt; value, want.map(i64::from), "{op:?} of {a} and {b}");
+    }
+}
+
+#[test]
+fn one_operand_of_eight_bits(rt: HostRuntime) {
+    const MIN: i8 = i8::MIN;
+    const MAX: i8 = i8::MAX;
+    let cases = [
+        (Op1::Neg, 0, 0),
+        (Op1::Neg, 1, -1),
+        (Op1::Neg, -1, 1),
+        (Op1::Neg, MIN, MIN),
+        (Op1::Neg, MAX, -127),
+        (Op1::Flip, 0, -1),
+        (Op1::Flip, 1, -2),
+        (Op1::Flip, -1, 0),
+        (Op1::Flip, MIN, MAX),
+        (Op1::Flip, MAX, MIN),
+        (Op1::Not, 0, 1),
+        (Op1::Not, 1, 0),
+        (Op1::Not, -1, 0),
+        (Op1::Not, MIN, 0),
+        (Op1::Not, MAX, 0),
+    ];
+    for (op, a, want) in cases {
+        let value = apply1::<8>(op, i64::from(a));
+        assert_eq!(rt; value, i64::from(want), "{op:?} of {a}");
+    }
+}
+
+#[test]
+fn two_operands_of_sixteen_bits(rt: HostRuntime) {
+    const MIN: i16 = i16::MIN;
+    const MAX: i16 = i16::MAX;
+    let cases = [
+        (Op2::Mul, MIN, -1, Ok(MIN)),
+        (Op2::Mul, MAX, MAX, Ok(1)),
+        (Op2::Mul, 256, 256, Ok(0)),
+        (Op2::Mul, 256, 128, Ok(MIN)),
+        (Op2::Div, MIN, -1, Ok(MIN)),
+        (Op2::Div, MIN, MAX, Ok(-1)),
+        (Op2::Div, -7, 2, Ok(-3)),
+        (Op2::Div, 7, -2, Ok(-3)),
+        (Op2::Div, MIN, 0, Err(Trap::Divide)),
+        (Op2::Rem, MIN, -1, Ok(0)),
+        (Op2::Rem, -7, 2, Ok(-1)),
+        (Op2::Rem, 7, -2, Ok(1)),
+        (Op2::Rem, MAX, MIN, Ok(MAX)),
+        (Op2::Rem, 0, 0, Err(Trap::Divide)),
+        (Op2::Add, MAX, 1, Ok(MIN)),
+        (Op2::Add, MIN, MIN, Ok(0)),
+        (Op2::Sub, MIN, 1, Ok(MAX)),
+        (Op2::Sub, 0, MIN, Ok(MIN)),
+        (Op2::Shl, 1, 15, Ok(MIN)),
+        (Op2::Shl, 1, 16, Ok(1)),
+        (Op2::Shl, 1, 17, Ok(2)),
+        (Op2::Shl, 1, -1, Ok(MIN)),
+        (Op2::Shl, 1, MIN, Ok(1)),
+        (Op2::Shl, MAX, 1, Ok(-2)),
+        (Op2::Shr, MIN, 15, Ok(-1)),
+        (Op2::Shr, MIN, 16, Ok(MIN)),
+        (Op2::Shr, MIN, 17, Ok(-16_384)),
+        (Op2::Shr, -8, 17, Ok(-4)),
+        (Op2::Shr, MAX, -1, Ok(0)),
+        (Op2::Shr, -1, 1, Ok(-1)),
+        (Op2::Lt, MIN, MAX, Ok(1)),
+        (Op2::Lt, MAX, MIN, Ok(0)),
+        (Op2::Le, MIN, MIN, Ok(1)),
+        (Op2::Gt, -1, MIN, Ok(1)),
+        (Op2::Ge, MIN, -1, Ok(0)),
+        (Op2::Eq, MIN, MIN, Ok(1)),
+        (Op2::Eq, MIN, 0, Ok(0)),
+        (Op2::Ne, MIN, 0, Ok(1)),
+        (Op2::And, -1, MIN, Ok(MIN)),
+        (Op2::Xor, -1, MIN, Ok(MAX)),
+        (Op2::Or, MIN, MAX, Ok(-1)),
+        (Op2::AndAnd, MIN, MIN, Ok(1)),
+        (Op2::AndAnd, MIN, 0, Ok(0)),
+        (Op2::OrOr, 0, MIN, Ok(1)),
+        (Op2::OrOr, 0, 0, Ok(0)),
+    ];
+    for (op, a, b, want) in cases {
+        let value = apply2::<16>(op, i64::from(a), i64::from(b));
+        assert_eq!(rt; value, want.map(i64::from), "{op:?} of {a} and {b}");
+    }
+}
+
+#[test]
+fn one_operand_of_sixteen_bits(rt: HostRuntime) {
+    const MIN: i16 = i16::MIN;
+    const MAX: i16 = i16::MAX;
+    let cases = [
+        (Op1::Neg, 0, 0),
+        (Op1::Neg, 1, -1),
+        (Op1::Neg, -1, 1),
+        (Op1::Neg, MIN, MIN),
+        (Op1::Neg, MAX, -32_767),
+        (Op1::Flip, 0, -1),
+        (Op1::Flip, 1, -2),
+        (Op1::Flip, -1, 0),
+        (Op1::Flip, MIN, MAX),
+        (Op1::Flip, MAX, MIN),
+        (Op1::Not, 0, 1),
+        (Op1::Not, 1, 0),
+        (Op1::Not, -1, 0),
+        (Op1::Not, MIN, 0),
+        (Op1::Not, MAX, 0),
+    ];
+    for (op, a, want) in cases {
+        let value = apply1::<16>(op, i64::from(a));
+        assert_eq!(rt; value, i64::from(want), "{op:?} of {a}");
+    }
+}
+
+#[test]
+fn two_operands_of_thirty_two_bits(rt: HostRuntime) {
+    const MIN: i32 = i32::MIN;
+    const MAX: i32 = i32::MAX;
+    let cases = [
+        (Op2::Mul, MIN, -1, Ok(MIN)),
+        (Op2::Mul, MAX, MAX, Ok(1)),
+        (Op2::Mul, 65_536, 65_536, Ok(0)),
+        (Op2::Mul, 65_536, 32_768, Ok(MIN)),
+        (Op2::Div, MIN, -1, Ok(MIN)),
+        (Op2::Div, MIN, MAX, Ok(-1)),
+        (Op2::Div, -7, 2, Ok(-3)),
+        (Op2::Div, 7, -2, Ok(-3)),
+        (Op2::Div, MIN, 0, Err(Trap::Divide)),
+        (Op2::Rem, MIN, -1, Ok(0)),
+        (Op2::Rem, -7, 2, Ok(-1)),
+        (Op2::Rem, 7, -2, Ok(1)),
+        (Op2::Rem, MAX, MIN, Ok(MAX)),
+        (Op2::Rem, 0, 0, Err(Trap::Divide)),
+        (Op2::Add, MAX, 1, Ok(MIN)),
+        (Op2::Add, MIN, MIN, Ok(0)),
+        (Op2::Sub, MIN, 1, Ok(MAX)),
+        (Op2::Sub, 0, MIN, Ok(MIN)),
+        (Op2::Shl, 1, 31, Ok(MIN)),
+        (Op2::Shl, 1, 32, Ok(1)),
+        (Op2::Shl, 1, 33, Ok(2)),
+        (Op2::Shl, 1, -1, Ok(MIN)),
+        (Op2::Shl, 1, MIN, Ok(1)),
+        (Op2::Shl, MAX, 1, Ok(-2)),
+        (Op2::Shr, MIN, 31, Ok(-1)),
+        (Op2::Shr, MIN, 32, Ok(MIN)),
+        (Op2::Shr, MIN, 33, Ok(-1_073_741_824)),
+        (Op2::Shr, -8, 33, Ok(-4)),
+        (Op2::Shr, MAX, -1, Ok(0)),
+        (Op2::Shr, -1, 1, Ok(-1)),
+        (Op2::Lt, MIN, MAX, Ok(1)),
+        (Op2::Lt, MAX, MIN, Ok(0)),
+        (Op2::Le, MIN, MIN, Ok(1)),
+        (Op2::Gt, -1, MIN, Ok(1)),
+        (Op2::Ge, MIN, -1, Ok(0)),
+        (Op2::Eq, MIN, MIN, Ok(1)),
+        (Op2::Eq, MIN, 0, Ok(0)),
+        (Op2::Ne, MIN, 0, Ok(1)),
+        (Op2::And, -1, MIN, Ok(MIN)),
+        (Op2::Xor, -1, MIN, Ok(MAX)),
+        (Op2::Or, MIN, MAX, Ok(-1)),
+        (Op2::AndAnd, MIN, MIN, Ok(1)),
+        (Op2::AndAnd, MIN, 0, Ok(0)),
+        (Op2::OrOr, 0, MIN, Ok(1)),
+        (Op2::OrOr, 0, 0, Ok(0)),
+    ];
+    for (op, a, b, want) in cases {
+        let value = apply2::<32>(op, i64::from(a), i64::from(b));
+        assert_eq!(rt; value, want.map(i64::from), "{op:?} of {a} and {b}");
+    }
+}
+
+#[test]
+fn one_operand_of_thirty_two_bits(rt: HostRuntime) {
+    const MIN: i32 = i32::MIN;
+    const MAX: i32 = i32::MAX;
+    let cases = [
+        (Op1::Neg, 0, 0),
+        (Op1::Neg, 1, -1),
+        (Op1::Neg, -1, 1),
+        (Op1::Neg, MIN, MIN),
+        (Op1::Neg, MAX, -2_147_483_647),
+        (Op1::Flip, 0, -1),
+        (Op1::Flip, 1, -2),
+        (Op1::Flip, -1, 0),
+        (Op1::Flip, MIN, MAX),
+        (Op1::Flip, MAX, MIN),
+        (Op1::Not, 0, 1),
+        (Op1::Not, 1, 0),
+        (Op1::Not, -1, 0),
+        (Op1::Not, MIN, 0),
+        (Op1::Not, MAX, 0),
+    ];
+    for (op, a, want) in cases {
+        let value = apply1::<32>(op, i64::from(a));
+        assert_eq!(rt; value, i64::from(want), "{op:?} of {a}");
+    }
+}
+
+#[test]
+fn two_operands_of_sixty_four_bits(rt: HostRuntime) {
+    const MIN: i64 = i64::MIN;
+    const MAX: i64 = i64::MAX;
+    let cases = [
+        (Op2::Mul, MIN, -1, Ok(MIN)),
+        (Op2::Mul, MAX, MAX, Ok(1)),
+        (Op2::Mul, 4_294_967_296, 4_294_967_296, Ok(0)),
+        (Op2::Mul, 4_294_967_296, 2_147_483_648, Ok(MIN)),
+        (Op2::Div, MIN, -1, Ok(MIN)),
+        (Op2::Div, MIN, MAX, Ok(-1)),
+        (Op2::Div, -7, 2, Ok(-3)),
+        (Op2::Div, 7, -2, Ok(-3)),
+        (Op2::Div, MIN, 0, Err(Trap::Divide)),
+        (Op2::Rem, MIN, -1, Ok(0)),
+        (Op2::Rem, -7, 2, Ok(-1)),
+        (Op2::Rem, 7, -2, Ok(1)),
+        (Op2::Rem, MAX, MIN, Ok(MAX)),
+        (Op2::Rem, 0, 0, Err(Trap::Divide)),
+        (Op2::Add, MAX, 1, Ok(MIN)),
+        (Op2::Add, MIN, MIN, Ok(0)),
+        (Op2::Sub, MIN, 1, Ok(MAX)),
+        (Op2::Sub, 0, MIN, Ok(MIN)),
+        (Op2::Shl, 1, 63, Ok(MIN)),
+        (Op2::Shl, 1, 64, Ok(1)),
+        (Op2::Shl, 1, 65, Ok(2)),
+        (Op2::Shl, 1, -1, Ok(MIN)),
+        (Op2::Shl, 1, MIN, Ok(1)),
+        (Op2::Shl, MAX, 1, Ok(-2)),
+        (Op2::Shr, MIN, 63, Ok(-1)),
+        (Op2::Shr, MIN, 64, Ok(MIN)),
+        (Op2::Shr, MIN, 65, Ok(-4_611_686_018_427_387_904)),
+        (Op2::Shr, -8, 65, Ok(-4)),
+        (Op2::Shr, MAX, -1, Ok(0)),
+        (Op2::Shr, -1, 1, Ok(-1)),
+        (Op2::Lt, MIN, MAX, Ok(1)),
+        (Op2::Lt, MAX, MIN, Ok(0)),
+        (Op2::Le, MIN, MIN, Ok(1)),
+        (Op2::Gt, -1, MIN, Ok(1)),
+        (Op2::Ge, MIN, -1, Ok(0)),
+        (Op2::Eq, MIN, MIN, Ok(1)),
+        (Op2::Eq, MIN, 0, Ok(0)),
+        (Op2::Ne, MIN, 0, Ok(1)),
+        (Op2::And, -1, MIN, Ok(MIN)),
+        (Op2::Xor, -1, MIN, Ok(MAX)),
+        (Op2::Or, MIN, MAX, Ok(-1)),
+        (Op2::AndAnd, MIN, MIN, Ok(1)),
+        (Op2::AndAnd, MIN, 0, Ok(0)),
+        (Op2::OrOr, 0, MIN, Ok(1)),
+        (Op2::OrOr, 0, 0, Ok(0)),
+    ];
+    for (op, a, b, want) in cases {
+        assert_eq!(rt; apply2::<64>(op, a, b), want, "{op:?} of {a} and {b}");
+    }
+}
+
+#[test]
+fn one_operand_of_sixty_four_bits(rt: HostRuntime) {
+    const MIN: i64 = i64::MIN;
+    const MAX: i64 = i64::MAX;
+    let cases = [
+        (Op1::Neg, 0, 0),
+        (Op1::Neg, 1, -1),
+        (Op1::Neg, -1, 1),
+        (Op1::Neg, MIN, MIN),
+        (Op1::Neg, MAX, -9_223_372_036_854_775_807),
+        (Op1::Flip, 0, -1),
+        (Op1::Flip, 1, -2),
+        (Op1::Flip, -1, 0),
+        (Op1::Flip, MIN, MAX),
+        (Op1::Flip, MAX, MIN),
+        (Op1::Not, 0, 1),
+        (Op1::Not, 1, 0),
+        (Op1::Not, -1, 0),
+        (Op1::Not, MIN, 0),
+        (Op1::Not, MAX, 0),
+    ];
+    for (op, a, want) in cases {
+        assert_eq!(rt; apply1::<64>(op, a), want, "{op:?} of {a}");
+    }
+}
+
+#[test]
+fn numbers_are_narrowed(rt: HostRuntime) {
+    const MIN: i64 = i64::MIN;
+    const MAX: i64 = i64::MAX;
+    let cases = [
+        (0, 0, 0, 0),
+        (-1, -1, -1, -1),
+        (127, 127, 127, 127),
+        (128, -128, 128, 128),
+        (200, -56, 200, 200),
+        (255, -1, 255, 255),
+        (256, 0, 256, 256),
+        (-129, 127, -129, -129),
+        (32_767, -1, 32_767, 32_767),
+        (32_768, 0, -32_768, 32_768),
+        (-32_769, -1, 32_767, -32_769),
+        (65_535, -1, -1, 65_535),
+        (2_147_483_647, -1, -1, 2_147_483_647),
+        (2_147_483_648, 0, 0, -2_147_483_648),
+        (-2_147_483_649, -1, -1, 2_147_483_647),
+        (4_294_967_296, 0, 0, 0),
+        (4_294_967_297, 1, 1, 1),
+        (MAX, -1, -1, -1),
+        (MIN, 0, 0, 0),
+    ];
+    for (a, eight, sixteen, thirty_two) in cases {
+        assert_eq!(rt; narrow::<8>(a), eight, "{a} in 8 bits");
+        assert_eq!(rt; narrow::<16>(a), sixteen, "{a} in 16 bits");
+        assert_eq!(rt; narrow::<32>(a), thirty_two, "{a} in 32 bits");
+        assert_eq!(rt; narrow::<64>(a), a, "{a} in 64 bits");
+    }
+}

@@ -1,0 +1,20 @@
+-- Where a write failed: the lines before the one that failed were written, and a front of it.
+use Rattle.std.specs.Prelude.{◌≡◌, ℕ, ◌+◌, ◌<◌, List, ◌∷◌, ◌++◌, length, take, Option}
+use Rattle.std.specs.List.{flat_map, range_with_len}
+use Rattle.psy_base.specs.declared.sizes.Sizes.{Sizes}
+use Rattle.psy_door.specs.Growth.{Grew}
+use Rattle.psy_meaning.specs.Actions.{System}
+use Rattle.psy_kernel.specs.Texts.{lines_of, summary_of, text_of}
+
+-- The lines of a run up to a date: those of each date, then the summary
+abbrev pub run_lines : System → (ℕ → List ℕ) → Sizes → ℕ → List (List ℕ)
+run_lines s order sizes until = flat_map (lines_of s) (range_with_len 0 (until + 1)) ++ summary_of s order sizes until
+
+-- A sink grew by lines, the first of these, and by so many bytes of the next, which weren't all.
+pub record IsCutAt (old new : Option (List ℕ)) (lines : List (List ℕ)) (taken : ℕ) : Type 0 where
+  pub before : List (List ℕ)
+  pub line : List ℕ
+  pub behind : List (List ℕ)
+  pub all : lines ≡ before ++ (line ∷ behind)
+  pub short : taken < length line
+  pub grew : Grew old new (text_of before ++ take taken line)
