@@ -145,7 +145,7 @@ fn refusals_of_words_and_files_are_said(rt: HostRuntime) {
 fn refusals_of_texts_are_said(rt: HostRuntime) {
     says! { &rt;
         Note::Refused { what: b"lex", number: 1, at: Some(0) } => "refused lex 1 at 0\n";
-        Note::Refused { what: b"parse", number: 1, at: None } => "refused parse 1\n";
+        Note::Refused { what: b"parse", number: 1, at: Some(3) } => "refused parse 1 at 3\n";
         Note::Refused { what: b"parse", number: 2, at: Some(1) } => "refused parse 2 at 1\n";
         Note::Refused { what: b"rule", number: 12, at: Some(31) } => "refused rule 12 at 31\n";
         Note::Refused { what: b"inputs", number: 4, at: Some(10_000) } => "refused inputs 4 at 10000\n";

@@ -1,18 +1,17 @@
 -- Each expression that is spelled is read again, if what follows it can't be a part of it.
-use Rattle.std.proofs.Common.{◌≡◌, ℕ, zero, suc, ◌<◌, ◌≤◌, ◌+◌, List, [], ◌∷◌, ◌++◌, length, Option, Some, None, Result, Ok, Err, Bool, true, false, cond, leb, refl, sym, ap, subst, ◌∙◌, append_assoc, arith}
-use Rattle.std.proofs.lemmas.Bool.{leb-true, leb-false, le-leb, lt-leb}
+use Rattle.std.proofs.Common.{◌≡◌, ℕ, zero, suc, ◌<◌, ◌≤◌, List, [], ◌∷◌, ◌++◌, length, Option, Some, None, Ok, Bool, true, false, cond, leb, refl, sym, ap, ◌∙◌, append_assoc, arith}
+use Rattle.std.proofs.lemmas.Bool.{leb-true, le-leb, lt-leb}
 use Rattle.std.proofs.lemmas.List.{append-nil}
 use Rattle.psy_arith.specs.declared.operators.Op2.{Op2}
 use Rattle.psy_tree.specs.declared.token.Kind.TheVariants as kinds
-use Rattle.psy_tree.specs.declared.token.Word.TheVariants as words
 use Rattle.psy_tree.specs.declared.token.Sign.{Sign}
 use Rattle.psy_tree.specs.declared.token.Sign.TheVariants as signs
 use Rattle.psy_tree.specs.declared.raw.RawExpr.{RawExpr}
 use Rattle.psy_tree.specs.declared.raw.RawExpr.TheVariants.{Binary}
-use Rattle.psy_tree.specs.Grammar.{Numbered, named, numeral, word, sign, unary_of, binary_of, Expr, Others}
+use Rattle.psy_tree.specs.Grammar.{Numbered, sign, unary_of, binary_of, Expr, Others}
 use Rattle.psy_tree.specs.Grammar.Expr.{number, variable, cell, call_of_none, call, past, ready, take, in_parentheses, unary, tighter, binary}
 use Rattle.psy_tree.specs.Grammar.Others.{no_more, one_more}
-use Rattle.psy_parse.specs.Reading.{◌>>=◌, given, name_at, number_at, after_number, after_word, after_sign, word_at, sign_at, unary_at_front, binary_at_front, in_brackets_at, past_at, args_at, behind_name_at, primary_at, operand_at, expr_at, climb_at, others_at}
+use Rattle.psy_parse.specs.Reading.{given, name_at, number_at, after_number, after_word, after_sign, word_at, sign_at, unary_at_front, binary_at_front, in_brackets_at, past_at, args_at, behind_name_at, primary_at, operand_at, expr_at, climb_at, others_at}
 
 -- What follows an expression of operators of levels below this one
 pub record Closed (level : ℕ) (rest : List Numbered) : Type 0 where
@@ -73,7 +72,7 @@ not_bracket signs.OpenSquare p n ts e = absurd cc
 not_bracket _ p n ts e = (refl, refl)
 
 -- An operator is found by levels looser than its own, and by no other
-found_above : (level own : ℕ) (op : Op2) (s : Sign) (n : ℕ) (ts : List Numbered) → binary_of s ≡ Some (own, op) → own < level → binary_at_front level (sign n s ∷ ts) ≡ Some (own, op, ts)
+pub found_above : (level own : ℕ) (op : Op2) (s : Sign) (n : ℕ) (ts : List Numbered) → binary_of s ≡ Some (own, op) → own < level → binary_at_front level (sign n s ∷ ts) ≡ Some (own, op, ts)
 unfolding binary_at_front
 found_above level own op s n ts e lt = rw (e, lt-leb level own lt) refl
 
@@ -81,7 +80,7 @@ not_found : (own : ℕ) (op : Op2) (s : Sign) (n : ℕ) (ts : List Numbered) →
 unfolding binary_at_front
 not_found own op s n ts e = rw (e, le-leb own own (omega arith)) refl
 
-is_none : {A : Type 0} (b : Bool) (x : A) → cond b None (Some x) ≡ None → b ≡ true
+pub is_none : {A : Type 0} (b : Bool) (x : A) → cond b None (Some x) ≡ None → b ≡ true
 is_none true x e = refl
 is_none false x e = absurd cc
 

@@ -1,15 +1,15 @@
 -- Each statement that is spelled is read again, if no `else` follows it.
-use Rattle.std.proofs.Common.{◌≡◌, ℕ, zero, suc, ◌<◌, ◌≤◌, List, [], ◌∷◌, ◌++◌, length, Option, Some, None, Result, Ok, Err, refl, sym, ap, ◌∙◌, append_assoc, arith}
+use Rattle.std.proofs.Common.{◌≡◌, ℕ, zero, suc, ◌<◌, ◌≤◌, List, [], ◌∷◌, ◌++◌, length, None, Ok, refl, sym, ap, append_assoc, arith}
 use Rattle.std.proofs.lemmas.List.{append-nil}
 use Rattle.psy_tree.specs.declared.token.Word.TheVariants as words
 use Rattle.psy_tree.specs.declared.token.Sign.TheVariants as signs
 use Rattle.psy_tree.specs.declared.raw.RawExpr.{RawExpr}
 use Rattle.psy_tree.specs.declared.raw.RawStmt.{RawStmt}
-use Rattle.psy_tree.specs.Grammar.{Numbered, named, numeral, word, sign, Expr, Stmt, Block}
+use Rattle.psy_tree.specs.Grammar.{Numbered, Expr, Stmt, Block}
 use Rattle.psy_tree.specs.Grammar.Stmt.{set, set_cell, if_alone, if_else, while_timed, while_bounded, send, advance, advance_budget, return}
 use Rattle.psy_tree.specs.Grammar.Block.{close, next}
-use Rattle.psy_parse.specs.Reading.{◌>>=◌, name_at, number_at, after_number, after_word, after_sign, word_at, sign_at, binary_at_front, optional_at, expr_at, test_at, block_in_braces_at, if_at, while_at, send_at, advance_at, return_at, set_at, set_cell_at, stmt_at, block_at}
-use Rattle.psy_parse.proofs.Again.{Closed, shorter, complete}
+use Rattle.psy_parse.specs.Reading.{name_at, number_at, after_number, after_word, after_sign, word_at, sign_at, binary_at_front, optional_at, expr_at, test_at, block_in_braces_at, if_at, while_at, send_at, advance_at, return_at, set_at, set_cell_at, stmt_at, block_at}
+use Rattle.psy_parse.proofs.Again.{shorter, complete}
 
 mutual
   pub shorter_stmt : {ts rest : List Numbered} {s : RawStmt} → Stmt ts s rest → length rest < length ts

@@ -1,5 +1,5 @@
 -- A text is nested too deep at one token at most.
-use Rattle.std.proofs.Common.{◌≡◌, ℕ, zero, suc, ◌+◌, ◌<◌, ◌≤◌, List, length, ◌⊎◌, inl, inr, below_more, add-one, arith}
+use Rattle.std.proofs.Common.{◌≡◌, ℕ, zero, suc, ◌<◌, ◌≤◌, List, length, ◌⊎◌, inl, inr, below_more, arith}
 use Rattle.std.proofs.lemmas.Bool.Decides.{eqb_tells, leb_tells}
 use Rattle.psy_base.specs.declared.limits.TheConstants.{BRACKETS, OPERATORS}
 use Rattle.psy_tree.specs.declared.token.Token.{Token}

@@ -1,5 +1,5 @@
 -- The tokens before a place, with the last one first.
-use Rattle.std.proofs.Common.{◌≡◌, ℕ, zero, suc, ◌+◌, ◌<◌, List, [], ◌∷◌, ◌++◌, length, take, get_or, map, reverse, refl, sym, ap, ◌∙◌, arith, add-one, inl, inr}
+use Rattle.std.proofs.Common.{◌≡◌, ℕ, ◌+◌, ◌<◌, List, [], ◌∷◌, length, take, get_or, map, reverse, sym, ap, ◌∙◌, add-one, inl, inr}
 use Rattle.std.proofs.lemmas.List.{take_more, map-append, reverse-append}
 use Rattle.psy_base.specs.declared.limits.TheConstants.{BRACKETS, OPERATORS}
 use Rattle.psy_tree.specs.declared.token.Token.{Token}

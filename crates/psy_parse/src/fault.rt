@@ -9,9 +9,10 @@ use thiserror::Error;
 /// Why tokens have no tree.
 #[derive(Debug, Drop, Error)]
 pub enum ParseFault {
-    /// The tokens are not those of a program.
-    #[error("not a program")]
-    Syntax,
+    /// The number of the token at fault, counted from 0: the first that no program has behind the
+    /// tokens before it, or the number of the tokens where a program may begin with all of them.
+    #[error("no program at token {0}")]
+    Syntax(u32),
     /// The number of the first token at which the text is nested too deep, counted from 0.
     #[error("nested too deep at token {0}")]
     Deep(u32),

@@ -14,6 +14,3 @@ mod stmt;
 
 pub use fault::ParseFault;
 pub use program::parse;
-
-#[cfg(test)]
-mod tests;

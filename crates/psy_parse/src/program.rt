@@ -3,6 +3,7 @@ ghost use Rattle.std.specs.Prelude.{◌≡◌, ℕ, ◌≤◌, ◌⊎◌, ◌↔
 ghost use Rattle.psy_tree.specs.declared.raw.Raw.{Raw as tree};
 ghost use Rattle.psy_tree.specs.Grammar.{Spells};
 ghost use Rattle.psy_tree.specs.Deep.{Deep as deep_at, Shallow};
+ghost use Rattle.psy_parse.specs.Fault.{NoTree, AtFault};
 
 use crate::cursor::Cursor;
 use crate::deep::first_too_deep;
@@ -21,10 +22,10 @@ pub fn parse(alloc: Global, tokens: &[Token]) -> Result<Raw, ParseFault>
     ensures shallow { IfOk result (λ raw. Shallow tokens.now) }
     // Nested too deep is exactly what reaches a measure, at the first token that does.
     ensures deep { (n : ℕ) → ((result ≡ Err (ParseFault.Deep n)) ↔ deep_at tokens.now n) }
-    // Not a program is exactly what reaches none and has no tree.
-    ensures syntax { result ≡ Err ParseFault.Syntax → Shallow tokens.now × ((raw : tree) → Spells raw tokens.now → ⊥) }
-    ensures no_tree { Shallow tokens.now → ((raw : tree) → Spells raw tokens.now → ⊥)
-        → (result ≡ Err ParseFault.Syntax) ⊎ (result ≡ Err ParseFault.Memory) }
+    // Not a program is exactly what reaches none and has no tree, and the token is that at fault.
+    ensures syntax { (n : ℕ) → result ≡ Err (ParseFault.Syntax n) → Shallow tokens.now × NoTree tokens.now }
+    ensures at_fault { (n : ℕ) → result ≡ Err (ParseFault.Syntax n) → AtFault tokens.now n }
+    ensures no_tree { Shallow tokens.now → NoTree tokens.now → ((n : ℕ) × (result ≡ Err (ParseFault.Syntax n))) ⊎ (result ≡ Err ParseFault.Memory) }
 {
     if let Some(token) = first_too_deep(tokens) {
         return Err(ParseFault::Deep(token));
@@ -36,6 +37,6 @@ pub fn parse(alloc: Global, tokens: &[Token]) -> Result<Raw, ParseFault>
     match text(alloc, tokens.len() + 1, cursor) {
         Ok(raw) => Ok(raw),
         Err(Failure::Memory) => Err(ParseFault::Memory),
-        Err(Failure::Stuck(_)) => Err(ParseFault::Syntax),
+        Err(Failure::Stuck(left)) => Err(ParseFault::Syntax((tokens.len() - left) as u32)),
     }
 }

@@ -23,7 +23,7 @@ fn first<'a>(cursor: Cursor<'a>) -> Option<(&'a Kind, Cursor<'a>)>
 }
 
 /// Reading can't go on here.
-#[tactic(auto, using(psy_tree::proofs::TokenCounts::length_of_numbered))]
+#[tactic(auto, using(crate::proofs::Numbers::length_of_numbered))]
 pub fn stuck(cursor: Cursor) -> Failure
     ensures { result ≡ Failure.Stuck (length (left cursor.entry)) }
 {

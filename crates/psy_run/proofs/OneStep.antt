@@ -18,6 +18,7 @@ use Rattle.psy_tree.specs.Grammar.{Spells}
 use Rattle.psy_tree.specs.Rules.{LeastFault, NoFault}
 use Rattle.psy_tree.specs.Stands.{Stands, first_passed}
 use Rattle.psy_tree.specs.Tokens.{TokensOf}
+use Rattle.psy_parse.specs.Fault.{NoTree, AtFault}
 use Rattle.psy_flow.specs.Agents.{IsAgentOf}
 use Rattle.psy_meaning.specs.BufferSizes.{AreSizes}
 use Rattle.psy_meaning.specs.Flow.{AreAllNexts, IsCut, HasCost}
@@ -37,7 +38,7 @@ use Rattle.psy_script.specs.Script.{IsScriptOf, script_judge}
 use Rattle.psy_run.specs.declared.refusal.File.{File}
 use Rattle.psy_run.specs.declared.refusal.File.TheVariants.{Inputs, Script}
 use Rattle.psy_run.specs.declared.refusal.Refusal.{Refusal}
-use Rattle.psy_run.specs.declared.refusal.Refusal.TheVariants.{Lexical, Deep, Rule, Many, Cells, Infeasible, Line, Lines, Cycles}
+use Rattle.psy_run.specs.declared.refusal.Refusal.TheVariants.{Lexical, Deep, Syntax, Rule, Many, Cells, Infeasible, Line, Lines, Cycles}
 use Rattle.psy_run.specs.Answer.{following}
 use Rattle.psy_run.specs.Courses.{step}
 use Rattle.psy_run.specs.Steps.{reading, lexing, parsing, resolving, graphing, sizing, costing, AreCosts, windowing, HasCells, PassesCells, demanding, edges_of, stating, directing, pacing}
@@ -56,6 +57,8 @@ pub record StepsAgree : Type 0 where
   pub tree : (tokens : List Token) (raw other : Raw) → Spells raw tokens → Spells other tokens → raw ≡ other
   pub first_deep : (tokens : List Token) (n other : ℕ) → deep.Deep tokens n → deep.Deep tokens other → n ≡ other
   pub deep_or_shallow : (tokens : List Token) (n : ℕ) → deep.Deep tokens n → deep.Shallow tokens → ⊥
+  pub fault : (tokens : List Token) (n other : ℕ) → AtFault tokens n → AtFault tokens other → n ≡ other
+  pub tree_or_fault : (tokens : List Token) (n : ℕ) → AtFault tokens n → NoTree tokens
   pub unit : (raw : Raw) (unit other : Whole) → Stands unit raw → Stands other raw → unit ≡ other
   pub rule : (raw : Raw) (kind other : RuleKind) (token elsewhere : ℕ) → LeastFault raw kind token → LeastFault raw other elsewhere → (kind ≡ other) × (token ≡ elsewhere)
   pub count : (raw : Raw) (count other : Count) → first_passed raw ≡ Some count → first_passed raw ≡ Some other → count ≡ other
@@ -120,16 +123,16 @@ module _ (agree : StepsAgree) where
     stop = λ r s p q. elim (unparsed_is tokens r p) [
       | inl a ↦ elim (unparsed_is tokens s q) [
         | inl b ↦ a.1 ∙ ap Deep (agree.first_deep tokens a.0 b.0 a.2 b.2) ∙ sym b.1
-        | inr b ↦ absurd (agree.deep_or_shallow tokens a.0 a.2 b.1)
+        | inr b ↦ absurd (agree.deep_or_shallow tokens a.0 a.2 b.2)
       ]
       | inr a ↦ elim (unparsed_is tokens s q) [
-        | inl b ↦ absurd (agree.deep_or_shallow tokens b.0 b.2 a.1)
-        | inr b ↦ a.0 ∙ sym b.0
+        | inl b ↦ absurd (agree.deep_or_shallow tokens b.0 b.2 a.2)
+        | inr b ↦ a.1 ∙ ap Syntax (agree.fault tokens a.0 b.0 a.3 b.3) ∙ sym b.1
       ]
     ];
     apart = λ x r p q. elim (unparsed_is tokens r q) [
       | inl a ↦ agree.deep_or_shallow tokens a.0 a.2 p.0
-      | inr a ↦ a.2 x p.1
+      | inr a ↦ agree.tree_or_fault tokens a.0 a.3 x p.1
     ];
   }
 

@@ -8,9 +8,9 @@ use Rattle.psy_tree.specs.declared.token.Token.{Token}
 use Rattle.psy_tree.specs.declared.unit.Unit.{Unit as Whole}
 use Rattle.psy_tree.specs.Deep as deep
 use Rattle.psy_tree.specs.Faults.{FirstFault}
-use Rattle.psy_tree.specs.Grammar.{Spells}
 use Rattle.psy_tree.specs.Rules.{LeastFault, NoFault}
 use Rattle.psy_tree.specs.Stands.{first_passed}
+use Rattle.psy_parse.specs.Fault.{AtFault}
 use Rattle.psy_meaning.specs.Demand.{IsOverload}
 use Rattle.psy_graph.specs.declared.fault.GraphFault.{GraphFault}
 use Rattle.psy_graph.specs.declared.fault.GraphFault.TheVariants as fault
@@ -30,10 +30,10 @@ pub lexical_is : (bytes : List ℕ) (refusal : Refusal) → IsLexical bytes refu
 lexical_is bytes (Lexical kind place) at = (kind, place, refl, at)
 lexical_is bytes _ never = absurd never
 
--- Tokens that have no tree are nested too deep, or are those of no program
-pub unparsed_is : (tokens : List Token) (refusal : Refusal) → IsUnparsed tokens refusal → ((token : ℕ) × (refusal ≡ Deep token) × deep.Deep tokens token) ⊎ ((refusal ≡ Syntax) × deep.Shallow tokens × ((raw : Raw) → Spells raw tokens → ⊥))
+-- Tokens that have no tree are nested too deep, or have a token at fault
+pub unparsed_is : (tokens : List Token) (refusal : Refusal) → IsUnparsed tokens refusal → ((token : ℕ) × (refusal ≡ Deep token) × deep.Deep tokens token) ⊎ ((token : ℕ) × (refusal ≡ Syntax token) × deep.Shallow tokens × AtFault tokens token)
 unparsed_is tokens (Deep token) at = inl (token, refl, at)
-unparsed_is tokens Syntax none = inr (refl, none.0, none.1)
+unparsed_is tokens (Syntax token) at = inr (token, refl, at.0, at.1)
 unparsed_is tokens _ never = absurd never
 
 -- A tree that stands for no program breaks a rule, or passes a limit

@@ -20,6 +20,7 @@ use Rattle.psy_tree.specs.Grammar.{Spells}
 use Rattle.psy_tree.specs.Rules.{LeastFault, NoFault}
 use Rattle.psy_tree.specs.Stands.{Stands, first_passed}
 use Rattle.psy_tree.specs.Tokens.{TokensOf}
+use Rattle.psy_parse.specs.Fault.{NoTree, AtFault}
 use Rattle.psy_flow.specs.Agents.{IsAgentOf}
 use Rattle.psy_meaning.specs.BufferSizes.{AreSizes}
 use Rattle.psy_meaning.specs.Flow.{AreAllNexts, AreNexts, IsCut, HasCost}
@@ -56,7 +57,8 @@ use Rattle.std.proofs.lemmas.Option.{get_or_from_slice_get, slice_get_within}
 pub record StepsEnd : Type 0 where
   pub tokens_or_lexical : (text : List ℕ) → ((tokens : List Token) × TokensOf text tokens) ⊎ ((kind : LexKind) × (place : ℕ) × FirstFault text kind place)
   pub deep_or_shallow : (tokens : List Token) → ((n : ℕ) × deep.Deep tokens n) ⊎ deep.Shallow tokens
-  pub tree_or_none : (tokens : List Token) → ((raw : Raw) × Spells raw tokens) ⊎ ((raw : Raw) → Spells raw tokens → ⊥)
+  pub tree_or_none : (tokens : List Token) → ((raw : Raw) × Spells raw tokens) ⊎ NoTree tokens
+  pub fault : (tokens : List Token) → NoTree tokens → (n : ℕ) × AtFault tokens n
   pub verdict : (raw : Raw) → ((unit : Whole) × Stands unit raw) ⊎ (((kind : RuleKind) × (token : ℕ) × LeastFault raw kind token) ⊎ ((count : Count) × NoFault raw × (first_passed raw ≡ Some count)))
   pub of_text : TextsHold
   pub short : (seed : ℕ) → length (made_text seed) ≤ FILE_BYTES
@@ -113,7 +115,7 @@ module _ (ends : StepsEnd) where
     | inl at ↦ inr (Deep at.0, at.1)
     | inr shallow ↦ elim (ends.tree_or_none tokens) [
       | inl tree ↦ inl (tree.0, (shallow, tree.1))
-      | inr none ↦ inr (Syntax, (shallow, none))
+      | inr none ↦ let at = ends.fault tokens none in inr (Syntax at.0, (shallow, at.1))
     ]
   ]
 

@@ -49,7 +49,7 @@ is_status : (refusal : Refusal) → IsStatus refusal (status_of refusal)
 is_status Words = of_words
 is_status (TooLong file) = seven (TooLong file)
 is_status (Lexical kind place) = one (Lexical kind place)
-is_status Syntax = one Syntax
+is_status (Syntax token) = one (Syntax token)
 is_status (Deep token) = one (Deep token)
 is_status (Rule kind token) = one (Rule kind token)
 is_status (Many count) = seven (Many count)

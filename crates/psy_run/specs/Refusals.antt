@@ -22,7 +22,7 @@ abbrev pub status_of : Refusal → ℕ
 status_of Words = 2
 status_of (TooLong file) = 7
 status_of (Lexical kind place) = 1
-status_of Syntax = 1
+status_of (Syntax token) = 1
 status_of (Deep token) = 1
 status_of (Rule kind token) = 1
 status_of (Many count) = 7
@@ -67,7 +67,7 @@ abbrev pub line_of : Refusal → List ℕ
 line_of Words = words_line
 line_of (TooLong file) = limit_line (file_name file) limit.FILE_BYTES
 line_of (Lexical kind place) = refused_line (codes "lex") (lex_number kind) (Some place)
-line_of Syntax = refused_line (codes "parse") 1 None
+line_of (Syntax token) = refused_line (codes "parse") 1 (Some token)
 line_of (Deep token) = refused_line (codes "parse") 2 (Some token)
 line_of (Rule kind token) = refused_line (codes "rule") (rule_number kind) (Some token)
 line_of (Many count) = limit_line (count_name count) (count_limit count)

@@ -15,6 +15,7 @@ use Rattle.psy_tree.specs.Grammar.{Spells}
 use Rattle.psy_tree.specs.Rules.{LeastFault, NoFault}
 use Rattle.psy_tree.specs.Stands.{Stands, first_passed}
 use Rattle.psy_tree.specs.Tokens.{TokensOf}
+use Rattle.psy_parse.specs.Fault.{AtFault}
 use Rattle.psy_meaning.specs.BufferSizes.{AreSizes}
 use Rattle.psy_meaning.specs.Demand.{IsFeasible, IsOverload}
 use Rattle.psy_meaning.specs.Flow.{IsCut, HasCost}
@@ -56,10 +57,10 @@ IsLexical bytes _ = ⊥
 abbrev pub lexing : List ℕ → Course (List Token)
 lexing bytes = step (TokensOf bytes) (IsLexical bytes)
 
--- Where they are nested too deep, or else are those of no program
+-- Where they are nested too deep, or else the token at fault of those of no program
 abbrev pub IsUnparsed : List Token → Refusal → Type 0
 IsUnparsed tokens (Deep token) = deep.Deep tokens token
-IsUnparsed tokens Syntax = deep.Shallow tokens × ((raw : Raw) → Spells raw tokens → ⊥)
+IsUnparsed tokens (Syntax token) = deep.Shallow tokens × AtFault tokens token
 IsUnparsed tokens _ = ⊥
 
 -- The tree of tokens

@@ -1,5 +1,5 @@
 //! Why a command isn't served.
-ghost use Rattle.std.specs.Prelude.{◌≡◌, ◌≤◌, length};
+ghost use Rattle.std.specs.Prelude.{◌≡◌, ◌≤◌, length, Some as some};
 ghost use Rattle.psy_base.specs.declared.limits.TheConstants.{WORD_BYTES};
 ghost use Rattle.psy_run.specs.Refusals.{status_of, line_of, file_name, count_name, count_limit};
 ghost use Rattle.psy_log.specs.Forms.{name_of, limit_line, read_line, refused_line};
@@ -48,8 +48,8 @@ pub enum Refusal {
     },
     /// The text is nested too deep at the token of this number.
     Deep(u32),
-    /// The tokens aren't those of a program.
-    Syntax,
+    /// The tokens aren't those of a program, and that of this number is at fault.
+    Syntax(u32),
     /// The program breaks a rule at the token of this number.
     Rule {
         kind: RuleKind,
@@ -109,8 +109,10 @@ impl Refusal {
         ensures { result ≡ status_of self }
     {
         match self {
-            Refusal::Lexical { .. } | Refusal::Deep(_) | Refusal::Syntax | Refusal::Rule { .. } =>
-                1,
+            Refusal::Lexical { .. }
+            | Refusal::Deep(_)
+            | Refusal::Syntax(_)
+            | Refusal::Rule { .. } => 1,
             Refusal::Words => 2,
             Refusal::Infeasible { .. } => 5,
             Refusal::Line { .. } => 6,
@@ -133,10 +135,10 @@ impl Refusal {
         match self {
             Refusal::Words => line(&Note::Words),
             Refusal::TooLong(file) => limit(file.name(), limits::FILE_BYTES as u64),
-            Refusal::Lexical { kind, place } => refused(b"lex", kind.number(), Some(place)),
-            Refusal::Deep(token) => refused(b"parse", 2, Some(token)),
-            Refusal::Syntax => refused(b"parse", 1, None),
-            Refusal::Rule { kind, token } => refused(b"rule", kind.number(), Some(token)),
+            Refusal::Lexical { kind, place } => refused(b"lex", kind.number(), place),
+            Refusal::Deep(token) => refused(b"parse", 2, token),
+            Refusal::Syntax(token) => refused(b"parse", 1, token),
+            Refusal::Rule { kind, token } => refused(b"rule", kind.number(), token),
             Refusal::Many(count) => limit(count_word(count), most_of(count)),
             Refusal::Nodes => limit(b"nodes", u64::from(limits::NODES)),
             Refusal::Edges => limit(b"edges", u64::from(limits::EDGES)),
@@ -148,7 +150,7 @@ impl Refusal {
                 demand,
                 supply,
             } => infeasible(length, demand, supply),
-            Refusal::Line { file, kind, line } => refused(file.name(), kind.number(), Some(line)),
+            Refusal::Line { file, kind, line } => refused(file.name(), kind.number(), line),
             Refusal::Lines => limit(b"lines", limits::LINES as u64),
             Refusal::Cycles => limit(b"run", limits::RUN),
         }
@@ -179,10 +181,11 @@ fn limit(name: &[u8], number: u64) -> Line
     line(&Note::Limit { name, number })
 }
 
-fn refused(what: &[u8], number: u32, at: Option<u32>) -> Line
+fn refused(what: &[u8], number: u32, at: u32) -> Line
     requires { length what.now ≤ WORD_BYTES }
-    ensures { result ≡ refused_line what.now number at }
+    ensures { result ≡ refused_line what.now number (some at) }
 {
+    let at = Some(at);
     line(&Note::Refused { what, number, at })
 }
 

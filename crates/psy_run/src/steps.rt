@@ -56,7 +56,7 @@ fn parse(alloc: Global, tokens: &Items<Token>) -> Result<Raw, Stop>
     match psy_parse::parse(alloc, tokens.as_slice()) {
         Ok(raw) => Ok(raw),
         Err(ParseFault::Deep(token)) => Err(Stop::Refused(Refusal::Deep(token))),
-        Err(ParseFault::Syntax) => Err(Stop::Refused(Refusal::Syntax)),
+        Err(ParseFault::Syntax(token)) => Err(Stop::Refused(Refusal::Syntax(token))),
         Err(ParseFault::Memory) => Err(Stop::Memory),
     }
 }

@@ -4,3 +4,4 @@ mod code;
 mod depths;
 mod exchanges;
 mod flow;
+mod trees;

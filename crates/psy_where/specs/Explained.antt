@@ -1,6 +1,6 @@
 -- What is written for a refusal: where it is, what it means, the line, and a mark below.
 use Rattle.std.specs.Prelude.{◌≡◌, ℕ, ◌-◌, ◌==◌, Bool, ◌&&◌, ◌||◌, not, nat_le, nat_lt, if◌then◌else◌, List, ◌++◌, map, length, take, slice_index}
-use Rattle.std.specs.Prelude.{codes, decimal, replicate, filter, count_by, max, None, Some, ◌⊎◌}
+use Rattle.std.specs.Prelude.{codes, decimal, replicate, filter, count_by, max}
 use Rattle.std.specs.List.{prefix_len}
 use Rattle.psy_tree.specs.Lexemes.{is_in_word}
 use Rattle.psy_where.specs.declared.recall.What.{What}
@@ -55,17 +55,11 @@ explanation name text what sentence place =
     ++ shown (before_at text place ++ rest_at text place) ++ codes "\n"
     ++ padding (before_at text place) ++ carets (marked what (rest_at text place)) ++ codes "\n"
 
--- `NAME: SENTENCE`, where no place is told
-abbrev pub unplaced : List ℕ → List ℕ → List ℕ
-unplaced name sentence = name ++ codes ": " ++ sentence ++ codes "\n"
-
 -- The line is a refusal of the text in a file of this name, and this explains it: its place is where it says.
 abbrev pub Explains : List ℕ → List ℕ → List ℕ → List ℕ → Type 0
 Explains name text line answer =
-    (refusal : Refusal) × (sentence : List ℕ) × Says line refusal sentence
-    × (((refusal.at ≡ None) × (answer ≡ unplaced name sentence))
-    ⊎ ((number : ℕ) × (place : ℕ) × (refusal.at ≡ Some number) × IsPlaceOf refusal.what text number place
-    × (answer ≡ explanation name text refusal.what sentence place)))
+    (refusal : Refusal) × (sentence : List ℕ) × (place : ℕ) × Says line refusal sentence × IsPlaceOf refusal.what text refusal.at place
+    × (answer ≡ explanation name text refusal.what sentence place)
 
 -- The line is no refusal that psyc writes of a text.
 abbrev pub IsNone : List ℕ → Type 0
@@ -74,5 +68,4 @@ IsNone line = (refusal : Refusal) (sentence : List ℕ) → Says line refusal se
 -- The line is a refusal, but the text has no such place.
 abbrev pub IsBeyond : List ℕ → List ℕ → Type 0
 IsBeyond text line =
-    (refusal : Refusal) × (sentence : List ℕ) × (number : ℕ) × Says line refusal sentence × (refusal.at ≡ Some number)
-    × ((place : ℕ) → IsPlaceOf refusal.what text number place → ⊥)
+    (refusal : Refusal) × (sentence : List ℕ) × Says line refusal sentence × ((place : ℕ) → IsPlaceOf refusal.what text refusal.at place → ⊥)

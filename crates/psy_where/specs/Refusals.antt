@@ -23,7 +23,7 @@ sentence_of Lex number =
     else if number == 4 then Some (codes "this comment has no end")
     else None
 sentence_of Parse number =
-    if number == 1 then Some (codes "this is no program: something is missing, as a `;` or a bracket, or stands where it can't, as a reserved word in place of a name")
+    if number == 1 then Some (codes "no program goes on like this: something is missing before it, as a `;`, or it can't stand here, as a reserved word")
     else if number == 2 then Some (codes "64 brackets are open here, or 256 operators stand since the last `;`, `{` or `}`")
     else None
 sentence_of Rule number =
@@ -53,17 +53,11 @@ sentence_of Script number =
     else if number == 4 then Some (codes "a number is out of its range")
     else None
 
--- A place is told, but for a text that is no program
-abbrev pub TellsPlace : What → ℕ → Option ℕ → Type 0
-TellsPlace what number (Some at) = at < 2 ^ 32
-TellsPlace Parse number None = number ≡ 1
-TellsPlace what number None = ⊥
-
 -- The line is this refusal, and it is one that psyc writes
 pub record Says (line : List ℕ) (refusal : Refusal) (sentence : List ℕ) : Type 0 where
-  pub written : line ++ codes "\n" ≡ refused_line (word_of refusal.what) refusal.number refusal.at
+  pub written : line ++ codes "\n" ≡ refused_line (word_of refusal.what) refusal.number (Some refusal.at)
   pub means : sentence_of refusal.what refusal.number ≡ Some sentence
-  pub placed : TellsPlace refusal.what refusal.number refusal.at
+  pub small : refusal.at < 2 ^ 32
 
 -- The place in the text of which a refusal of this kind tells the number: a byte, a token, or a line.
 abbrev pub IsPlaceOf : What → List ℕ → ℕ → ℕ → Type 0

@@ -3,7 +3,7 @@ ghost use Rattle.std.specs.Prelude.{◌≡◌, ◌+◌, ◌++◌, ◌≤◌, IfO
 ghost use Rattle.psy_base.specs.declared.limits.TheConstants.{FILE_BYTES};
 ghost use Rattle.psy_where.specs.declared.fault.WhereFault.{WhereFault};
 ghost use Rattle.psy_where.specs.declared.recall.What.{What};
-ghost use Rattle.psy_where.specs.Explained.{Explains, IsNone, IsBeyond, explanation, unplaced};
+ghost use Rattle.psy_where.specs.Explained.{Explains, IsNone, IsBeyond, explanation};
 
 use crate::fault::WhereFault;
 use crate::mark::{add_carets, add_padding, add_shown, without_return};
@@ -14,8 +14,7 @@ use itoa::Buffer;
 use std::alloc::{AllocError, Global};
 
 /// Explains a refusal, `line`, of a text of at most 262,144 bytes that stands in a file of this name: `NAME:LINE:COLUMN: ` and
-/// what it means, the line, and a mark
-/// under the place.
+/// what it means, the line, and a mark under the place.
 pub fn explain(alloc: Global, name: &[u8], text: &[u8], line: &[u8]) -> Result<Vec<u8>, WhereFault>
     requires { length text.now ≤ FILE_BYTES }
     ensures explains { IfOk result (λ answer. Explains name.now text.now line.now answer.items) }
@@ -25,25 +24,9 @@ pub fn explain(alloc: Global, name: &[u8], text: &[u8], line: &[u8]) -> Result<V
     let Some(told) = read_refusal(line) else {
         return Err(WhereFault::NoRefusal);
     };
-    match told.refusal.at {
-        None => Ok(unplaced(alloc, name, told.sentence)?),
-        Some(number) => {
-            let what = told.refusal.what;
-            let place = place(alloc, what, text, number)?;
-            Ok(explanation(alloc, name, text, what, told.sentence, place)?)
-        }
-    }
-}
-
-// `NAME: SENTENCE`
-fn unplaced(alloc: Global, name: &[u8], sentence: &[u8]) -> Result<Vec<u8>, AllocError>
-    ensures { IfOk result (λ answer. answer.items ≡ unplaced name.now sentence.now) }
-{
-    let mut out = Vec::from_slice(alloc, name)?;
-    out.extend_from_slice(b": ")?;
-    out.extend_from_slice(sentence)?;
-    out.push(b'\n')?;
-    Ok(out)
+    let what = told.refusal.what;
+    let place = place(alloc, what, text, told.refusal.at)?;
+    Ok(explanation(alloc, name, text, what, told.sentence, place)?)
 }
 
 // `NAME:LINE:COLUMN: SENTENCE`, the line, and carets

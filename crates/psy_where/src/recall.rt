@@ -1,9 +1,9 @@
 //! Refusals, as psyc writes them.
-ghost use Rattle.std.specs.Prelude.{◌≡◌, ◌++◌, ◌<◌, ◌^◌, List, ℕ, Option, IfSome, codes, decimal};
+ghost use Rattle.std.specs.Prelude.{◌≡◌, ◌++◌, ◌<◌, ◌^◌, List, ℕ, IfSome, Some, codes, decimal};
 ghost use Rattle.std.specs.Char.{is_ascii_digit};
 ghost use Rattle.psy_front.specs.Fronts.{Cuts};
 ghost use Rattle.psy_log.specs.Forms.{at_place};
-ghost use Rattle.psy_where.specs.Refusals.{Says, TellsPlace, word_of};
+ghost use Rattle.psy_where.specs.Refusals.{Says, word_of};
 ghost use Rattle.psy_where.specs.Explained.{IsNone};
 
 use crate::sentence::sentence;
@@ -20,12 +20,12 @@ pub enum What {
     Script,
 }
 
-/// A refusal: what was refused, the number of its cause, and the byte, token or line, where one is told.
+/// A refusal: what was refused, the number of its cause, and the byte, token or line.
 #[derive(Clone, Copy, Debug, PartialEq, Eq)]
 pub struct Refusal {
     pub what: What,
     pub number: u32,
-    pub at: Option<u32>,
+    pub at: u32,
 }
 
 // A refusal, and what it means.
@@ -35,7 +35,7 @@ pub struct Told {
     pub sentence: &'static [u8],
 }
 
-/// The refusal that a line is, `refused WHAT NUMBER at PLACE` or `refused parse 1`. None exactly where it is none.
+/// The refusal that a line is, `refused WHAT NUMBER at PLACE`. None exactly where it is none.
 pub fn read_refusal(line: &[u8]) -> Option<Told>
     ensures some { IfSome result (λ told. Says line.now told.refusal told.sentence.now) }
     ensures none { result ≡ None → IsNone line.now }
@@ -43,7 +43,7 @@ pub fn read_refusal(line: &[u8]) -> Option<Told>
     let (what, rest) = read_what(line.strip_prefix(b"refused ")?)?;
     let (number, rest) = read_number(rest)?;
     let sentence = sentence(what, number)?;
-    let at = read_place(what, number, rest)?;
+    let at = read_place(rest)?;
     Some(Told {
         refusal: Refusal { what, number, at },
         sentence,
@@ -82,21 +82,11 @@ fn read_number(text: &[u8]) -> Option<(u32, &[u8])>
     Some((number, rest))
 }
 
-// The place behind a refusal's number, to the end of the line; no place where none is told and none has to be.
-fn read_place(what: What, number: u32, rest: &[u8]) -> Option<Option<u32>>
-    ensures some { IfSome result (λ at. (rest.now ≡ at_place at) × TellsPlace what number at) }
-    ensures none { result ≡ None → (at : Option ℕ) → rest.now ≡ at_place at → TellsPlace what number at → ⊥ }
+// The place behind a refusal's number, to the end of the line.
+fn read_place(rest: &[u8]) -> Option<u32>
+    ensures some { IfSome result (λ at. rest.now ≡ at_place (Some at)) }
+    ensures none { result ≡ None → (at : ℕ) → at < 2 ^ 32 → rest.now ≡ at_place (Some at) → ⊥ }
 {
-    if rest.is_empty() {
-        return match (what, number) {
-            (What::Parse, 1) => Some(None),
-            _ => None,
-        };
-    }
     let (at, rest) = read_number(rest.strip_prefix(b" at ")?)?;
-    if rest.is_empty() {
-        Some(Some(at))
-    } else {
-        None
-    }
+    if rest.is_empty() { Some(at) } else { None }
 }

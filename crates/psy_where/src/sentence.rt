@@ -36,7 +36,7 @@ fn parsing(number: u32) -> Option<&'static [u8]>
 {
     match number {
         1 => Some(
-            b"this is no program: something is missing, as a `;` or a bracket, or stands where it can't, as a reserved word in place of a name",
+            b"no program goes on like this: something is missing before it, as a `;`, or it can't stand here, as a reserved word",
         ),
         2 => Some(
             b"64 brackets are open here, or 256 operators stand since the last `;`, `{` or `}`",

@@ -1,5 +1,5 @@
 -- What each loop of `deep::first_too_deep` keeps.
-use Rattle.std.proofs.Common.{◌≡◌, ℕ, ◌<◌, take, map, reverse}
+use Rattle.std.proofs.Common.{◌≡◌, ℕ, ◌<◌}
 use Rattle.psy_base.specs.declared.limits.TheConstants.{BRACKETS, OPERATORS}
 use Rattle.psy_tree.specs.Deep.{bracket_depth, operators_since, IsTooDeep}
 use Rattle.psy_parse.proofs.Front.{front}

@@ -1,5 +1,5 @@
 -- What each loop of `item::further_params` keeps.
-use Rattle.std.proofs.Common.{◌≡◌, []}
+use Rattle.std.proofs.Common.{◌≡◌}
 use Rattle.psy_parse.specs.Reading.{left, further_at}
 use Rattle.psy_parse.proofs.item.further_params.Given as goal
 

@@ -7,6 +7,7 @@ returns c words files = Answers-some (record {
   tokens_or_lexical = c.one_reading.ensures.either;
   deep_or_shallow = c.one_tree.ensures.depth;
   tree_or_none = c.one_tree.ensures.some;
+  fault = c.one_tree.ensures.fault;
   verdict = c.one_verdict.ensures.some;
   of_text = c.of_text.ensures.unit;
   short = c.short.ensures;

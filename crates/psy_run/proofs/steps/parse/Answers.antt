@@ -12,7 +12,9 @@ returns-in-Err-Deep-clause-err c failed before after =
 
 pub returns-in-Err-Syntax-clause-err : goal.returns-in-Err-Syntax-clause-err
 returns-in-Err-Syntax-clause-err c failed before after =
-    halts_refused Syntax (subst (λ tokens. IsUnparsed tokens Syntax) c.as_slice.ensures (c.parse.ensures.syntax (c.in-Err-Syntax.is ∙ ap Err c.in-Err-Syntax.field-0-is)))
+    let token = c.in-Err-Syntax.token in
+    let is = c.in-Err-Syntax.is ∙ ap Err c.in-Err-Syntax.field-0-is in
+    halts_refused (Syntax token) (subst (λ tokens. IsUnparsed tokens (Syntax token)) c.as_slice.ensures ((c.parse.ensures.syntax token is).0, c.parse.ensures.at_fault token is))
 
 pub returns-in-Err-Memory-clause-err : goal.returns-in-Err-Memory-clause-err
 returns-in-Err-Memory-clause-err c failed before after = halts_memory
