@@ -15,8 +15,6 @@ mod resolution;
 mod scope;
 mod slots;
 mod statements;
-#[cfg(test)]
-mod tests;
 mod uses;
 mod walk;
 

@@ -9,8 +9,6 @@ mod number;
 mod pass;
 mod scan;
 mod spelling;
-#[cfg(test)]
-mod tests;
 
 pub use fault::LexFault;
 pub use number::decimal_value;

@@ -4,4 +4,5 @@ mod code;
 mod depths;
 mod exchanges;
 mod flow;
+mod tokens;
 mod trees;

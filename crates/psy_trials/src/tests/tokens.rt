@@ -1,7 +1,7 @@
 //! Tokens of small texts.
-use crate::laws::one_reading;
-use crate::{LexFault, lex};
 use psy_base::limits::FILE_BYTES;
+use psy_token::laws::one_reading;
+use psy_token::{LexFault, lex};
 use psy_tree::{Kind, Sign, Token, Word};
 use std::alloc::Global;
 use std::test::Fail;
