@@ -249,8 +249,8 @@ module _ (code_of : Whole → Code) (laws : AreLaws code_of) where
   serving_read words files _ done (asks_run_with_script program date inputs script until is asked) gives = running_read files program until (Some inputs) (Some script) done asked.most gives
   serving_read words files _ done (asks_check program date until is asked) gives = checking_read files program until done gives
   serving_read words files _ done (asks_graph program is) gives = drawing_read files program done gives
-  serving_read words files _ done (asks_make number seed is) gives = subst IsReadBack (sym gives) tt
-  serving_read words files _ done (asks_trial number date seed until is asked) gives = trying_read seed until done asked.most gives
+  serving_read words files _ done (asks_make number seed is asked) gives = subst IsReadBack (sym gives) tt
+  serving_read words files _ done (asks_trial number date seed until is seeded asked) gives = trying_read seed until done asked.most gives
 
   -- Whatever words ask for
   pub answer_read : (words : List (List ℕ)) (files : Option Files) (done : Service) → (answering words files).gives done → IsReadBack done
