@@ -8,10 +8,11 @@ use Rattle.psy_base.specs.declared.edge.Edge.{Edge}
 use Rattle.psy_base.specs.Paths.{IsGreatestWeight}
 use Rattle.psy_window.specs.declared.span.Span.{Span}
 use Rattle.psy_window.specs.declared.span.Span.TheVariants.{DueLast, FirstFree}
-use Rattle.psy_window.specs.Table.{last_of, IsCell, IsThrough, IsRow, IsTable, IsTop, behind}
+use Rattle.psy_window.specs.Table.{last_of, IsCell, IsThrough, IsRow, IsTop, behind}
 use Rattle.psy_window.specs.Windows.{IsEdge, Fits}
-use Rattle.psy_window.proofs.Cells.{through_none, through_alone, through_on, row_more, table_more}
+use Rattle.psy_window.proofs.Cells.{through_none, through_alone, through_on, row_more}
 use Rattle.psy_window.proofs.Paths.{within_nil}
+use Rattle.psy_window.proofs.Tables.{IsTable, table_more}
 use Rattle.psy_window.proofs.Tops.{top_none, top_more, greatest_due, greatest_free}
 
 abbrev no_edge : Edge

@@ -1,10 +1,11 @@
 -- The table: by length, then node, the greatest weight of a path that begins at the node and is that long at most.
 -- Of the last edge its due counts where the span asks for it, else its length.
-use Rattle.std.specs.Prelude.{◌≡◌, ◌⊎◌, ℕ, ◌+◌, ◌*◌, ◌<◌, ◌≤◌, List, ◌∷◌, length, get_or}
+use Rattle.std.specs.Prelude.{◌≡◌, ◌⊎◌, ℕ, ◌+◌, ◌-◌, ◌*◌, ◌<◌, ◌≤◌, ◌==◌, nat_le, min, if◌then◌else◌, List, ◌∷◌, length, get_or}
 use Rattle.std.specs.List.{Contains}
 use Rattle.psy_base.specs.declared.edge.Edge.{Edge}
 use Rattle.psy_base.specs.declared.limits.TheConstants.{BUDGET}
 use Rattle.psy_base.specs.Paths.{IsPathFrom, DueBy, weight_of, length_of}
+use Rattle.psy_window.specs.declared.layout.Layout.{Layout}
 use Rattle.psy_window.specs.declared.span.Span.{Span}
 use Rattle.psy_window.specs.declared.span.Span.TheVariants.{DueLast, FirstFree}
 
@@ -36,10 +37,24 @@ pub record IsThrough (graph : List Edge) (span : Span) (within : ℕ) (e : Edge)
 abbrev pub IsRow : List Edge → ℕ → ℕ → Span → ℕ → List ℕ → Type 0
 IsRow graph seen nodes span within row = (node : ℕ) → node < nodes → IsCell graph seen span within node (get_or row node 0)
 
--- The table up to and without a row: its rows one after another.
-pub record IsTable (graph : List Edge) (nodes : ℕ) (span : Span) (rows : ℕ) (table : List ℕ) : Type 0 where
-  pub size : length table ≡ rows * nodes
-  pub cells : (within node : ℕ) → within < rows → node < nodes → IsCell graph (length graph) span within node (get_or table (within * nodes + node) 0)
+-- The row so many lengths back, of a table of so many rows of which this one is next: the rows go round.
+abbrev pub row_back : ℕ → ℕ → ℕ → ℕ
+row_back rows next back = if nat_le back next then next - back else next + rows - back
+
+-- The row behind the next one
+abbrev pub row_after : ℕ → ℕ → ℕ
+row_after rows next = if next + 1 == rows then 0 else next + 1
+
+-- The rows of the lengths right below this one, as many as are kept.
+pub record KeepsRows (graph : List Edge) (span : Span) (within : ℕ) (layout : Layout) (table : List ℕ) : Type 0 where
+  pub size : length table ≡ layout.rows * layout.nodes
+  pub next : layout.next < layout.rows
+  pub cells : (back node : ℕ) → 1 ≤ back → back ≤ layout.rows → back ≤ within → node < layout.nodes
+      → IsCell graph (length graph) span (within - back) node (get_or table (row_back layout.rows layout.next back * layout.nodes + node) 0)
+
+-- An edge leads back over no more rows than these, where it isn't longer than the length.
+abbrev pub Reaches : ℕ → ℕ → Edge → Type 0
+Reaches within rows e = min e.len within ≤ rows
 
 -- An edge's weight together with the cell of the node where it ends.
 abbrev pub behind : List ℕ → Edge → ℕ

@@ -5,6 +5,7 @@
 mod fault;
 mod greatest;
 pub mod laws;
+mod layout;
 mod span;
 mod table;
 #[cfg(test)]

@@ -4,51 +4,50 @@ ghost use Rattle.std.specs.Result.{IsErrOf};
 ghost use Rattle.psy_base.specs.declared.limits.TheConstants.{WINDOW_CELLS};
 ghost use Rattle.psy_base.specs.Paths.{IsGreatestWeight};
 ghost use Rattle.psy_window.specs.Windows.{IsEdge, Fits};
+ghost use Rattle.psy_window.specs.Table.{Reaches};
 
 use crate::fault::WindowFault;
 use crate::greatest::greatest;
+use crate::layout::{Layout, longest, put_row, row_after};
 use crate::span::Span;
 use crate::table::fill_row;
 use psy_base::limits::WINDOW_CELLS;
 use psy_base::{Edge, Items, Memory};
 use std::alloc::Global;
 
-/// The table goes on by a row.
-fn add_row(table: &mut Vec<u64>, row: &[u64]) -> Result<(), Memory>
-    ensures { OnOk result (table.new.items ≡ table.old.items ++ row.now) }
-{
-    table.extend_from_slice(row)?;
-    Ok(())
-}
-
 /// The weights of the lengths from 0 to `top`, each by its row, which then goes to the table.
 fn add_weights(
     weights: &mut Vec<u64>,
-    table: &mut Vec<u64>,
+    table: &mut [u64],
     row: &mut [u64],
-    nodes: u32,
+    layout: Layout,
     edges: &[Edge],
     span: Span,
     top: u32,
 ) -> Result<(), Memory>
-    requires edges { All (IsEdge nodes) edges.now }
-    requires cells { nodes * (top + 1) ≤ WINDOW_CELLS }
-    requires row { length row.old ≡ nodes }
-    requires table { table.old.items ≡ [] }
+    requires edges { All (IsEdge layout.nodes) edges.now }
+    requires cells { layout.nodes * (top + 1) ≤ WINDOW_CELLS }
+    requires reach { All (Reaches top layout.rows) edges.now }
+    requires next { layout.next < layout.rows }
+    requires row { length row.old ≡ layout.nodes }
+    requires table { length table.old ≡ layout.rows * layout.nodes }
     requires weights { weights.old.items ≡ [] }
     ensures length { OnOk result (length weights.new.items ≡ top + 1) }
     ensures greatest { OnOk result ((within : ℕ) → within < top + 1 → IsGreatestWeight edges.now (Fits span within) (slice_index weights.new.items within)) }
     ensures small { OnOk result (All (λ w. w < 2 ^ 50) weights.new.items) }
 {
+    let mut next = layout.next;
     for within in 0..top as usize + 1 {
-        fill_row(row, table, nodes, edges, span, within as u32);
-        weights.push(greatest(row, nodes, edges, span, within as u32))?;
-        add_row(table, row)?;
+        let layout = Layout { next, ..layout };
+        fill_row(row, table, layout, edges, span, within as u32);
+        weights.push(greatest(row, layout.nodes, edges, span, within as u32))?;
+        put_row(table, next as usize * layout.nodes as usize, row);
+        next = row_after(layout);
     }
     Ok(())
 }
 
-/// The weights, by a table of the lengths.
+/// The weights, by a table that keeps as many rows as an edge can lead back over.
 fn by_table(
     alloc: Global,
     edges: &[Edge],
@@ -62,16 +61,21 @@ fn by_table(
     ensures greatest { IfOk result (λ ws. (within : ℕ) → within < top + 1 → IsGreatestWeight edges.now (Fits span within) (slice_index ws within)) }
     ensures small { IfOk result (All (λ w. w < 2 ^ 50)) }
 {
-    let lengths = top as usize + 1;
-    let mut weights = Vec::with_capacity(alloc, lengths)?;
-    let mut table = Vec::with_capacity(alloc, lengths * nodes as usize)?;
+    let layout = Layout {
+        nodes,
+        rows: longest(edges, top).max(1),
+        next: 0,
+    };
+    let mut weights = Vec::with_capacity(alloc, top as usize + 1)?;
+    let mut table = vec![in alloc; 0; layout.rows as usize * nodes as usize]?;
     let mut row = vec![in alloc; 0; nodes as usize]?;
-    add_weights(&mut weights, &mut table, &mut row, nodes, edges, span, top)?;
+    add_weights(&mut weights, &mut table, &mut row, layout, edges, span, top)?;
     Ok(Items::from_vec(weights))
 }
 
 /// The greatest weight of a path that fits a length, at each length from 0 to `top`. It refuses a table of too many
-/// cells, one for each node and length, before it makes it.
+/// cells, one for each node and length, before it makes it; at a time it keeps as many rows of it as the longest edge
+/// leads back over, and the one that it makes.
 pub fn weights(
     alloc: Global,
     edges: &[Edge],

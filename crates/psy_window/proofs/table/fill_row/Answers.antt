@@ -17,6 +17,6 @@ loop-at-preserved c =
     let at = c.loop-at.at in
     let row = c.loop-at.row in
     let e = get_or edges at no_edge in
-    let edge : IsEdge c.args.nodes e = All-get_or (IsEdge c.args.nodes) edges at no_edge c.loop-at-test.true c.requires.edges in
-    let P : ℕ → Type 0 = λ v. IsRow edges (at + 1) c.args.nodes c.args.span c.args.within (set row e.from v) in
-    subst P (sym c.max.ensures) (row_more edges at c.args.nodes c.args.span c.args.within c.through-weight.result row e (omega (arith, c.loop-at.auto.row, c.fill.ensures.len, c.requires.row)) c.loop-at-test.true (get_or_default edges at no_edge e c.loop-at-test.true) edge.from (c.through-weight.ensures no_edge) c.loop-at.invariant)
+    let edge : IsEdge c.args.layout.nodes e = All-get_or (IsEdge c.args.layout.nodes) edges at no_edge c.loop-at-test.true c.requires.edges in
+    let P : ℕ → Type 0 = λ v. IsRow edges (at + 1) c.args.layout.nodes c.args.span c.args.within (set row e.from v) in
+    subst P (sym c.max.ensures) (row_more edges at c.args.layout.nodes c.args.span c.args.within c.through-weight.result row e (omega (arith, c.loop-at.auto.row, c.fill.ensures.len, c.requires.row)) c.loop-at-test.true (get_or_default edges at no_edge e c.loop-at-test.true) edge.from (c.through-weight.ensures no_edge) c.loop-at.invariant)

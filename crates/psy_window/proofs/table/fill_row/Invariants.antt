@@ -3,4 +3,4 @@ use Rattle.psy_window.specs.Table.{IsRow}
 use Rattle.psy_window.proofs.table.fill_row.Given as goal
 
 abbrev pub invariant-loop-at : goal.invariant-loop-at
-invariant-loop-at l = IsRow l.edges l.at l.nodes l.span l.within l.row
+invariant-loop-at l = IsRow l.edges l.at l.layout.nodes l.span l.within l.row
