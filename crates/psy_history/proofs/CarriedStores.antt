@@ -1,5 +1,5 @@
 -- What an agent may carry is a store of it, its cells joined; and the other way round.
-use Rattle.std.proofs.Common.{◌≡◌, ℕ, ◌<◌, ◌≤◌, All, List, [], ◌∷◌, ◌++◌, map, length, refl, sym, ap, ap₂, ◌∙◌, subst, arith}
+use Rattle.std.proofs.Common.{◌≡◌, ℕ, ◌<◌, All, List, [], ◌∷◌, ◌++◌, map, length, refl, sym, ap, ap₂, ◌∙◌, arith}
 use Rattle.std.specs.Prelude.{ℤ, FitsSigned, drop, take}
 use Rattle.std.specs.Int.{w32}
 use Rattle.std.specs.List.{flat_map}

@@ -1,7 +1,7 @@
 -- The code of a program of a text goes well by the ways of its statements.
 use Rattle.std.proofs.Common.{◌≡◌, ℕ, ◌+◌, ◌<◌, ◌≤◌, ◌==◌, true, false, List, [], ◌∷◌, ◌++◌, Option, Some, None, map, length, get_or, refl, sym, ap, subst, ◌∙◌, inl, inr, append-nil, append_assoc, arith}
-use Rattle.std.specs.Prelude.{Bool, ℤ, cond, replicate, slice_get}
-use Rattle.std.specs.List.{All, Contains, count_by}
+use Rattle.std.specs.Prelude.{Bool, ℤ, cond, slice_get}
+use Rattle.std.specs.List.{Contains, count_by}
 use Rattle.std.specs.Int.{◌∣◌}
 use Rattle.std.proofs.lemmas.Nat.Gcd.{dvd-zero}
 use Rattle.std.proofs.lemmas.Bool.{cases_Bool, cases_lt, eq-eqb}
@@ -14,16 +14,16 @@ use Rattle.psy_budget.specs.declared.charge.Stall.{Stall}
 use Rattle.psy_code.specs.declared.code.AgentCode.{AgentCode}
 use Rattle.psy_code.specs.declared.code.Code.{Code}
 use Rattle.psy_code.specs.declared.look.Sent.{Sent}
-use Rattle.psy_code.specs.Execution.{Run, RunState, RanTo, Running, TrappedBy, call_of, run_code}
+use Rattle.psy_code.specs.Execution.{Run, RunState, RanTo, Running, call_of, run_code}
 use Rattle.psy_code.specs.Lasting.{GoesOn, IsOver, Lasted}
 use Rattle.psy_code.specs.Views.{Call, Deeds, Looked, Past, Ready, Send, ServesAll, Take, View, found_in, nothing_done}
 use Rattle.psy_tree.specs.declared.unit.AgentDecl.{AgentDecl}
 use Rattle.psy_tree.specs.declared.unit.Unit.{Unit as Whole}
 use Rattle.psy_tree.specs.declared.unit.VarDecl.{VarDecl}
 use Rattle.psy_meaning.specs.Actions.{Next, System, first_action, timing}
-use Rattle.psy_meaning.specs.Alike.{EndsAs, IsViewOf, SameAs, begun as begun_with, first_store, is_there, started}
+use Rattle.psy_meaning.specs.Alike.{EndsAs, IsViewOf, begun as begun_with, first_store, is_there, started}
 use Rattle.psy_meaning.specs.Executors.{Carried, agent_at, agent_code_at, by_code, carried_by, machine_at, store_of}
-use Rattle.psy_meaning.specs.Flow.{AreNexts, IsMostSends, IsWayFrom}
+use Rattle.psy_meaning.specs.Flow.{AreNexts, IsWayFrom}
 use Rattle.psy_meaning.specs.Graph.{periods}
 use Rattle.psy_meaning.specs.Kept.{AreDeedsOf, IsKept, IsLookOf, IsSentOf, Receives}
 use Rattle.psy_meaning.specs.QueueSizes.{all_sendings, delay_of, sendings_in, sendings_to}
@@ -31,12 +31,12 @@ use Rattle.psy_meaning.specs.Rest.{rest}
 use Rattle.psy_meaning.specs.States.{Final, Halts, State}
 use Rattle.psy_meaning.specs.States as by
 use Rattle.psy_meaning.specs.Statements.{Piece, act}
-use Rattle.psy_meaning.specs.Timing.{MayStart, Timing, budget_at, first, first_date, following, later}
+use Rattle.psy_meaning.specs.Timing.{MayStart, Timing, first, first_date, following, later}
 use Rattle.psy_meaning.specs.Ways.{IsFrontOf, IsWay, Meter, Sending, met_by, sending_of}
 use Rattle.psy_history.specs.Compiled.{AreInputs, IsCompiled, coded}
 use Rattle.psy_history.specs.Regular.{MayAsk, MayStartAlike}
 use Rattle.psy_history.specs.Runs.{GoesWell, IsOpened, IsRun, MayCarry, StandsWell}
-use Rattle.psy_history.specs.Ways.{HasMost, IsSentBy, OfText, SendsAtMost, is_sent, is_some_sending, sends_in}
+use Rattle.psy_history.specs.Ways.{HasMost, IsSentBy, OfText, SendsAtMost, is_sent, is_some_sending}
 use Rattle.psy_history.proofs.CarriedStores.{carries_of, may_carry}
 use Rattle.psy_history.proofs.GoingOn.{looked_at, sent_there}
 use Rattle.psy_history.proofs.Growth.{opens_with}
@@ -46,7 +46,7 @@ use Rattle.psy_history.proofs.Members.{all_members, contains_map, contains_none,
 use Rattle.psy_history.proofs.OutboxSizes.{count_none}
 use Rattle.psy_history.proofs.Seeing.{Fits, zero_fits}
 use Rattle.psy_history.proofs.Sights.{SeesAs, same_running, sees_as, there_found}
-use Rattle.psy_history.proofs.Stores.{AreStoreLaws, Carries, EndsAlike, ends_alike, first_carried, of_unit}
+use Rattle.psy_history.proofs.Stores.{AreStoreLaws, EndsAlike, ends_alike, first_carried, of_unit}
 use Rattle.psy_history.proofs.Timings.{followed, follows, has_head}
 use Rattle.psy_history.proofs.ViewsServe.{made_of}
 

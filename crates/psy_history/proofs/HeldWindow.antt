@@ -1,15 +1,14 @@
 -- The dates for which a message may be held: a message that is held entered less than so many dates before.
-use Rattle.std.proofs.Common.{◌≡◌, ℕ, suc, ◌+◌, ◌-◌, ◌*◌, ◌<◌, ◌≤◌, All, Bool, true, false, List, [], ◌∷◌, map, length, Option, Some, None, refl, ap, ◌∙◌, inl, inr, arith}
-use Rattle.std.specs.Prelude.{◌==◌, ◌&&◌, not, nat_le, if◌then◌else◌}
+use Rattle.std.proofs.Common.{◌≡◌, ℕ, suc, ◌+◌, ◌-◌, ◌*◌, ◌<◌, ◌≤◌, All, Bool, true, false, List, [], ◌∷◌, Option, Some, None, refl, ap, ◌∙◌, inl, inr, arith}
+use Rattle.std.specs.Prelude.{◌&&◌, not, nat_le, if◌then◌else◌}
 use Rattle.std.specs.List.{Contains}
-use Rattle.std.proofs.lemmas.Bool.{eq-eqb, leb-false, ltb-true}
-use Rattle.std.proofs.lemmas.List.Elements.{All-head, All-tail, Contains-get_or}
+use Rattle.std.proofs.lemmas.Bool.{leb-false, ltb-true}
+use Rattle.std.proofs.lemmas.List.Elements.{All-head, All-tail}
 use Rattle.psy_base.specs.declared.message.Message.{Message}
 use Rattle.psy_clock.specs.declared.clock.Clock.{Clock}
 use Rattle.psy_clock.specs.Dates.{IsClock, after_date, from_date}
 use Rattle.psy_code.specs.declared.look.Sent.{Sent}
 use Rattle.psy_meaning.specs.Actions.{Action, Next, System, Verdict, Done, Overran, Trapped, clock_of, is_done, next_by, next_of, stream_of, timing}
-use Rattle.psy_meaning.specs.Executors.{agent_at}
 use Rattle.psy_meaning.specs.Flow.{IsGreatest}
 use Rattle.psy_meaning.specs.History.{history}
 use Rattle.psy_meaning.specs.QueueSizes.{MayLast, delay_of, lasting_of}
@@ -19,7 +18,7 @@ use Rattle.psy_meaning.specs.Visible.{is_fresh, message_of, swept}
 use Rattle.psy_meaning.specs.Ways.{sending_of}
 use Rattle.psy_history.specs.Regular.{IsLawful, IsRegular}
 use Rattle.psy_history.proofs.Deadlines.{deadline_least, some_follows}
-use Rattle.psy_history.proofs.Members.{contains_map, contains_none, filter_in, flat_map_in, front_or_behind, get_or_holds}
+use Rattle.psy_history.proofs.Members.{contains_none, front_or_behind, get_or_holds}
 use Rattle.psy_history.proofs.NextStarts.{next_late, regular_head}
 use Rattle.psy_history.proofs.SentMessages.{HasStreams}
 use Rattle.psy_history.proofs.Timings.{every_tick}

@@ -8,8 +8,7 @@ use Rattle.psy_budget.specs.Charges.{cycle_of}
 use Rattle.psy_code.specs.declared.code.Code.{Code}
 use Rattle.psy_code.specs.Views.{Looked}
 use Rattle.psy_tree.specs.declared.unit.Unit.{Unit as Whole}
-use Rattle.psy_meaning.specs.Actions.{Action, History, Next, System}
-use Rattle.psy_meaning.specs.Executors.{by_statements}
+use Rattle.psy_meaning.specs.Actions.{Action, History, System}
 use Rattle.psy_meaning.specs.History.{history}
 use Rattle.psy_meaning.specs.Schedule.{Turn, cycle_of_unit, units, work}
 use Rattle.psy_meaning.specs.Summary.{age_in, ages_of, greatest_of, reach}
@@ -17,7 +16,6 @@ use Rattle.psy_history.specs.Compiled.{coded, stated}
 use Rattle.psy_history.specs.Likeness.{AreLike, IsLike, looks_within}
 use Rattle.psy_history.specs.Scheduled.{turns_of}
 use Rattle.psy_history.proofs.Given.{given_within}
-use Rattle.psy_history.proofs.Growth.{opens_with}
 use Rattle.psy_history.proofs.LikeActions.{flat_map_like, flat_map_same}
 use Rattle.psy_history.proofs.UnitCycles.{no_unit}
 

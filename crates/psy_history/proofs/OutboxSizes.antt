@@ -11,7 +11,7 @@ use Rattle.psy_base.specs.declared.limits.TheConstants.{QUEUE}
 use Rattle.psy_code.specs.declared.code.AgentCode.{AgentCode}
 use Rattle.psy_code.specs.declared.code.Code.{Code}
 use Rattle.psy_code.specs.declared.look.Sent.{Sent}
-use Rattle.psy_code.specs.Execution.{Machine, Run, RunState, Running, call_of, deeds_then, run_by, run_code, state_then}
+use Rattle.psy_code.specs.Execution.{Run, RunState, Running, call_of, deeds_then, run_by, run_code, state_then}
 use Rattle.psy_code.specs.Views.{Send}
 use Rattle.psy_meaning.specs.Actions.{Action, System, timing}
 use Rattle.psy_meaning.specs.Executors.{agent_code_at}

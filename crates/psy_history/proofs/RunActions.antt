@@ -7,10 +7,9 @@ use Rattle.std.proofs.lemmas.Option.{slice_get-get_or}
 use Rattle.psy_base.specs.declared.message.Message.{Message}
 use Rattle.psy_code.specs.declared.code.AgentCode.{AgentCode}
 use Rattle.psy_code.specs.declared.code.Code.{Code}
-use Rattle.psy_code.specs.declared.look.Sent.{Sent}
-use Rattle.psy_code.specs.Execution.{NoRun, RanTo, Run, RunState, Running, TrappedBy, call_of, run_code}
+use Rattle.psy_code.specs.Execution.{NoRun, RanTo, Run, RunState, Running, TrappedBy, run_code}
 use Rattle.psy_code.specs.Lasting.{IsOver, Lasted, StandsAt}
-use Rattle.psy_code.specs.Views.{Send, View}
+use Rattle.psy_code.specs.Views.{View}
 use Rattle.psy_tree.specs.declared.unit.AgentDecl.{AgentDecl}
 use Rattle.psy_meaning.specs.Actions.{Action, Next, System, Done, charge_of, next_by, timing}
 use Rattle.psy_meaning.specs.Alike.{IsViewOf, started}
@@ -20,7 +19,7 @@ use Rattle.psy_meaning.specs.History.{executed}
 use Rattle.psy_meaning.specs.Kept.{IsSentOf}
 use Rattle.psy_meaning.specs.Timing.{MayStart, Timing, budget_at, deadline, end_date, first, following, later}
 use Rattle.psy_history.specs.Regular.{IsRegular, MayAsk, MayStartAlike}
-use Rattle.psy_history.specs.Runs.{GoesWell, IsRun, MayCarry, StandsWell, run_from}
+use Rattle.psy_history.specs.Runs.{GoesWell, IsRun, MayCarry, StandsWell}
 use Rattle.psy_history.specs.Ways.{IsSentBy, SendsAtMost, Ways}
 use Rattle.psy_history.proofs.AskedCalls.{deeds_of, sends_as, sent_asked_for}
 use Rattle.psy_history.proofs.Deadlines.{deadline_least, due_late}

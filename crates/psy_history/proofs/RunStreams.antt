@@ -1,5 +1,5 @@
 -- The streams of a run.
-use Rattle.std.proofs.Common.{ℕ, ◌≤◌, arith}
+use Rattle.std.proofs.Common.{◌≤◌, arith}
 use Rattle.std.proofs.lemmas.List.Elements.{All-weaker}
 use Rattle.psy_code.specs.declared.code.Code.{Code}
 use Rattle.psy_tree.specs.declared.unit.StreamDecl.{StreamDecl}

@@ -1,18 +1,15 @@
 -- The code of a run's actions runs on within their budgets, and asks on the way what it may.
-use Rattle.std.proofs.Common.{◌≡◌, ◌≢◌, ℕ, zero, suc, ◌+◌, ◌-◌, ◌<◌, ◌≤◌, All, List, length, Some, refl, sym, ap, subst, ◌∙◌, inl, inr, add-one, zero-add, arith}
-use Rattle.std.specs.Prelude.{IsSome, replicate, slice_get}
+use Rattle.std.proofs.Common.{◌≡◌, ◌≢◌, ℕ, zero, suc, ◌+◌, ◌-◌, ◌<◌, ◌≤◌, All, Some, refl, sym, ap, subst, ◌∙◌, inl, inr, add-one, zero-add, arith}
+use Rattle.std.specs.Prelude.{replicate, slice_get}
 use Rattle.std.proofs.lemmas.List.{length-replicate}
 use Rattle.std.proofs.lemmas.List.Elements.{All-weaker}
 use Rattle.psy_code.specs.declared.code.AgentCode.{AgentCode}
 use Rattle.psy_code.specs.declared.code.Code.{Code}
-use Rattle.psy_code.specs.Execution.{Next, Went, Ended, Trapped, Stuck, NoRun, RanTo, Run, RunState, Running, TrappedBy, call_of, copy_of, go_on, next_of as next_machine, run_by, run_code, run_one, standing, state_then}
+use Rattle.psy_code.specs.Execution.{Next, Went, Ended, Trapped, Stuck, NoRun, RanTo, Run, RunState, Running, TrappedBy, call_of, go_on, next_of as next_machine, run_by, run_code, run_one, standing, state_then}
 use Rattle.psy_code.specs.Lasting.{IsOver}
-use Rattle.psy_code.specs.Views.{Call}
-use Rattle.psy_tree.specs.declared.unit.VarDecl.{VarDecl}
-use Rattle.psy_meaning.specs.Actions.{Action, System, timing}
+use Rattle.psy_meaning.specs.Actions.{Action, System}
 use Rattle.psy_meaning.specs.Executors.{agent_code_at, carried_by, machine_at}
 use Rattle.psy_meaning.specs.History.{history}
-use Rattle.psy_meaning.specs.Timing.{budget_at}
 use Rattle.psy_history.specs.Regular.{Goes, MayAsk, Runs, begun_by}
 use Rattle.psy_history.specs.Runs.{GoesWell, IsRun, MayCarry, StandsWell}
 use Rattle.psy_history.specs.Ways.{Ways}

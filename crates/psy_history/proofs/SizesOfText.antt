@@ -1,6 +1,5 @@
 -- The sizes of rings, queues and outboxes by the ways of a program's statements are those by the statements.
-use Rattle.std.proofs.Common.{◌≡◌, ℕ, zero, suc, ◌<◌, List, [], ◌∷◌, Some, length, get_or, refl, arith}
-use Rattle.std.specs.Prelude.{slice_get}
+use Rattle.std.proofs.Common.{ℕ, zero, suc, ◌<◌, List, [], ◌∷◌, length, get_or, arith}
 use Rattle.std.proofs.lemmas.Option.{slice_get-get_or}
 use Rattle.psy_base.specs.declared.edge.Edge.{Edge}
 use Rattle.psy_tree.specs.declared.unit.Unit.{Unit as Whole}

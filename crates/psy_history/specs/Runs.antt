@@ -1,5 +1,5 @@
 -- What a run of any code keeps: the premise of the laws of a run. It speaks of no statement.
-use Rattle.std.specs.Prelude.{◌≡◌, ℕ, ◌<◌, ◌≤◌, false, List, [], length, map, Some, FitsSigned, ⊤}
+use Rattle.std.specs.Prelude.{◌≡◌, ℕ, ◌<◌, ◌≤◌, false, [], length, map, Some, FitsSigned, ⊤}
 use Rattle.std.specs.Int.{w32}
 use Rattle.std.specs.List.{All, Contains}
 use Rattle.psy_code.specs.declared.code.Code.{Code}
