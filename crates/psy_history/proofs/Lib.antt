@@ -5,7 +5,6 @@ mod Asking
 mod Bounds
 mod CarriedStores
 mod ClockDates
-mod CodeHistories
 mod CompiledRuns
 mod Cuts
 mod CyclesInTime

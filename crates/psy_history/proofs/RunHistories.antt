@@ -70,6 +70,13 @@ module _ (s : System) (ways : Ways) (code : Code) (laws : AreRunLaws code) (run 
 
   -- ---- what is kept
 
+  -- The next action can start, and sees a view of its agent.
+  pub next_ready : (date agent : ℕ) (n : Next) → next_of s agent (history s date agent) ≡ Some n → IsReady s ways code laws run agent n
+  next_ready date agent n is = (keeps date agent).next n is
+
+  pub next_sees : (date agent start : ℕ) → IsViewOf s.unit agent (view_of s (history s date) agent start (seen_at s (history s date) start))
+  next_sees date agent start = seeing date (keeps date) agent start
+
   pub all_own : (dates agent : ℕ) → All (IsOwn s ways code agent) (history s dates agent)
   all_own dates agent = (keeps dates agent).own
 

@@ -41,14 +41,6 @@ pub record IsReady (unit : Whole) (agent : ℕ) (n : Next) : Type 0 where
   pub known : n.point < length (agent_at unit agent).points
   pub carries : Carries unit agent n.carried
 
--- An action of an agent begins at one of its points with a store of its own, and sees what it may.
-pub record IsOwn (unit : Whole) (agent : ℕ) (r : Action) : Type 0 where
-  pub agent_is : r.agent ≡ agent
-  pub less : agent < length unit.agents
-  pub known : r.point < length (agent_at unit agent).points
-  pub carries : Carries unit agent r.before
-  pub sees : IsViewOf unit agent r.view
-
 -- An action that begins so ends by its statements, which keep the store, and by its code as they do.
 pub record EndsAlike (unit : Whole) (code : Code) (agent point : ℕ) (carried : Carried) (view : View) : Type 0 where
   pub final : Final
@@ -72,13 +64,6 @@ module _ (unit : Whole) (code : Code) (nexts : List (List (List ℕ))) (laws : A
 
   pub first_carried : (agent : ℕ) → agent < length unit.agents → (by_code code).first agent ≡ carried_in (first_store unit agent (agent_at unit agent))
   first_carried agent less = rw ((alike agent less).cells, (alike agent less).copies) refl
-
-  pub first_ready : (agent : ℕ) → agent < length unit.agents → IsReady unit agent (first_action unit nexts (by_code code) agent)
-  first_ready agent less = record {
-    less = less;
-    known = omega (arith, (laws.sound.agents agent (agent_at unit agent) (of_unit agent less)).points);
-    carries = record { store = first_store unit agent (agent_at unit agent); holds = laws.first agent (agent_at unit agent) (of_unit agent less); is = first_carried agent less };
-  }
 
   -- ---- how actions end
 

@@ -114,6 +114,8 @@ pub fn alike()
     sound();
     keeps();
     lasting();
+    distances();
+    compiled();
 }
 
 /// What each action of a lawful system is given: no cycle before it starts, and no more than its work.
