@@ -13,7 +13,7 @@ use Rattle.psy_code.specs.Views.{View}
 use Rattle.psy_tree.specs.declared.unit.AgentDecl.{AgentDecl}
 use Rattle.psy_meaning.specs.Actions.{Action, Next, System, Done, charge_of, next_by, timing}
 use Rattle.psy_meaning.specs.Alike.{IsViewOf, started}
-use Rattle.psy_meaning.specs.Executors.{Acted, Carried, Fate, Reached, Unfinished, acted_as, agent_at, agent_code_at, machine_at}
+use Rattle.psy_meaning.specs.Executors.{Acted, Carried, Reached, acted_as, agent_at, agent_code_at, machine_at}
 use Rattle.psy_meaning.specs.Executors as fate
 use Rattle.psy_meaning.specs.History.{executed}
 use Rattle.psy_meaning.specs.Kept.{IsSentOf}

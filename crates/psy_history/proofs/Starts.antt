@@ -1,29 +1,20 @@
 -- How an action came to its verdict; and that the same comes of the code and of the statements of an action that starts where its agent may go on.
-use Rattle.std.proofs.Common.{◌≡◌, ℕ, ◌≤◌, All, List, Some, inl, inr, refl, sym, ap, subst, ◌∙◌}
-use Rattle.std.specs.Prelude.{FitsSigned, nat_lt, ℤ}
-use Rattle.std.specs.Int.{w32}
+use Rattle.std.proofs.Common.{◌≡◌, ℕ, List, inl, inr, refl, sym, subst}
+use Rattle.std.specs.Prelude.{nat_lt, ℤ}
 use Rattle.std.proofs.lemmas.Bool.{cases_Bool}
-use Rattle.psy_base.specs.declared.message.Message.{Message}
 use Rattle.psy_budget.specs.declared.charge.Stall.{Stall}
 use Rattle.psy_code.specs.declared.code.Code.{Code}
 use Rattle.psy_code.specs.Views.{View}
 use Rattle.psy_tree.specs.declared.unit.AgentDecl.{AgentDecl}
 use Rattle.psy_tree.specs.declared.unit.Unit.{Unit as Whole}
-use Rattle.psy_meaning.specs.Actions.{Action, Next, System, Done, Overran, charge_of, next_by, timing, verdict_by, verdict_of}
-use Rattle.psy_meaning.specs.Alike.{IsViewOf, begun, started}
-use Rattle.psy_meaning.specs.Executors.{Acted, Fate, Reached, Unfinished, acted_by, agent_at, agent_code_at, by_statements, machine_at, store_of}
+use Rattle.psy_meaning.specs.Actions.{Next, System, Done, Overran, timing, verdict_by, verdict_of}
+use Rattle.psy_meaning.specs.Alike.{IsViewOf, started}
+use Rattle.psy_meaning.specs.Executors.{Acted, Fate, Reached, Unfinished, acted_by, agent_at, agent_code_at, by_statements, machine_at}
 use Rattle.psy_meaning.specs.Executors as fate
-use Rattle.psy_meaning.specs.History.{executed}
-use Rattle.psy_meaning.specs.Kept.{IsAdvanceOf, IsKept, IsSentOf}
-use Rattle.psy_meaning.specs.Rest.{rest}
-use Rattle.psy_meaning.specs.States.{Halts, State}
-use Rattle.psy_meaning.specs.States as by
-use Rattle.psy_meaning.specs.Statements.{act}
+use Rattle.psy_meaning.specs.States.{Halts}
 use Rattle.psy_meaning.specs.Timing.{Timing, budget_at, end_date}
 use Rattle.psy_history.specs.Compiled.{IsCompiled, coded}
-use Rattle.psy_history.proofs.Growth.{next_done}
 use Rattle.psy_history.proofs.OneAction.{AreWithin, within_budget}
-use Rattle.psy_history.proofs.Seeing.{LeavesFit}
 use Rattle.psy_history.proofs.Stores.{AreStoreLaws, EndsAlike, IsReady, ends_alike}
 
 -- ---- verdicts

@@ -10,7 +10,7 @@ use Rattle.psy_code.specs.Lasting.{IsOver, Lasted}
 use Rattle.psy_code.specs.Views.{View}
 use Rattle.psy_tree.specs.declared.unit.AgentDecl.{AgentDecl}
 use Rattle.psy_tree.specs.declared.unit.Unit.{Unit as Whole}
-use Rattle.psy_meaning.specs.Actions.{Action, Next, first_action}
+use Rattle.psy_meaning.specs.Actions.{Next}
 use Rattle.psy_meaning.specs.Alike.{AgentAlike, EndsAs, IsStoreOf, IsViewOf, begun, first_store, started}
 use Rattle.psy_meaning.specs.Executors.{Carried, agent_at, agent_code_at, by_code, carried_in, machine_at, store_of}
 use Rattle.psy_meaning.specs.Kept.{IsKept}

@@ -1,11 +1,10 @@
 -- What is known of the pending action that gets a cycle, in the run of a plan.
 use Rattle.std.proofs.Common.{◌≡◌, ◌⊎◌, refl, sym, ap, ◌∙◌, subst, inl, inr, arith, add-one}
-use Rattle.std.specs.Prelude.{ℕ, zero, suc, ◌+◌, ◌*◌, ◌<◌, ◌≤◌, ◌==◌, if◌then◌else◌, Bool, true, false, List, [], ◌∷◌, length, get_or, Option, Some, None, slice_get, ℤ}
+use Rattle.std.specs.Prelude.{ℕ, zero, suc, ◌+◌, ◌*◌, ◌<◌, ◌≤◌, ◌==◌, if◌then◌else◌, Bool, true, false, List, [], ◌∷◌, length, get_or, Option, Some, None, ℤ}
 use Rattle.std.specs.List.{All, Contains}
 use Rattle.std.proofs.lemmas.Bool.{cases_lt, both_ways, eqb-true}
 use Rattle.std.proofs.lemmas.Nat.{mul-le}
 use Rattle.std.proofs.lemmas.List.Elements.{All-cons, All-head, All-nil, All-weaker}
-use Rattle.std.proofs.lemmas.Option.{slice_get-get_or}
 use Rattle.psy_budget.specs.declared.charge.Stall.{Stall}
 use Rattle.psy_dates.specs.declared.plan.Plan.{Plan}
 use Rattle.psy_dates.specs.Plans.{IsPlan, system_of}
@@ -14,11 +13,10 @@ use Rattle.psy_history.specs.Scheduled.{IsFinished, IsSupplied, turns_of}
 use Rattle.psy_history.specs.Ways.{OfText}
 use Rattle.psy_meaning.specs.Actions.{Action, History, Next, System, charge_of, next_of, timing, verdict_of}
 use Rattle.psy_meaning.specs.Executors.{agent_at}
-use Rattle.psy_meaning.specs.Flow.{AreNexts, IsNext}
 use Rattle.psy_meaning.specs.History.{action_of, history, with_start}
 use Rattle.psy_meaning.specs.Schedule.{Turn, is_pending}
 use Rattle.psy_meaning.specs.Timing.{following, point_at}
-use Rattle.psy_meaning.specs.Units.{HasHead, IsBareAgent, IsBarePoint, IsOfText}
+use Rattle.psy_meaning.specs.Units.{HasHead, IsBareAgent, IsBarePoint}
 use Rattle.psy_tree.specs.declared.unit.AgentDecl.{AgentDecl}
 use Rattle.psy_tree.specs.declared.unit.Point.{Point}
 use Rattle.psy_tree.specs.declared.unit.Unit.{Unit as Whole}
