@@ -1,5 +1,5 @@
 -- The values committed up to a date, and the copies that are kept, where they were so for the dates before.
-use Rattle.std.proofs.Common.{◌≡◌, ℕ, suc, ◌-◌, ◌<◌, ◌≤◌, Bool, true, false, List, [], ◌∷◌, length, Option, Some, None, refl, sym, ap, subst, ◌∙◌, inl, inr, arith}
+use Rattle.std.proofs.Common.{◌≡◌, ℕ, ◌+◌, suc, ◌-◌, ◌<◌, ◌≤◌, Bool, true, false, List, [], ◌∷◌, length, Option, Some, None, refl, sym, ap, subst, ◌∙◌, inl, inr, arith}
 use Rattle.std.specs.Prelude.{nat_le, ◌==◌, ◌≢◌, if◌then◌else◌, ℤ}
 use Rattle.std.proofs.lemmas.Bool.{true≢false, cases_Bool, cases_eq, cases_order, cond-true, cond-false, eq-eqb, ne_eqb, le-leb, lt-leb}
 use Rattle.psy_meaning.specs.Actions.{Action, Next, System, Verdict, Done, Trapped, Overran, is_done, next_by, next_of}
@@ -7,7 +7,7 @@ use Rattle.psy_meaning.specs.Executors.{Carried, copy_in}
 use Rattle.psy_meaning.specs.History.{action_of, history}
 use Rattle.psy_meaning.specs.Schedule.{Turn, is_pending, units}
 use Rattle.psy_meaning.specs.Visible.{commit, committed_in}
-use Rattle.psy_history.specs.Regular.{IsLawful, WasStarted}
+use Rattle.psy_history.specs.Regular.{IsLawful, WasStarted, first_number}
 use Rattle.psy_dates.specs.declared.seat.Phase.{Phase}
 use Rattle.psy_dates.specs.declared.seat.Phase.TheVariants as phase
 use Rattle.psy_dates.specs.declared.seat.Seat.{Seat}
@@ -121,7 +121,7 @@ module _ (s : System) (lawful : IsLawful s) (date : ℕ) (turns : List (Option T
       from [] is waits stood kept = cond-false (ends_at date (Some seat)) copy value (ap (λ p. ends_by p (seat.end == date)) waits) ∙ stood ∙ sym (ap (committed_in s variable date) is)
       from (r ∷ before) is stands stood kept = by_verdict r before is seat stands late variable value copy r.verdict refl stood kept ∙ sym (ap (committed_in s variable date) is)
 
-  pub kept_moves : ((number : ℕ) → length (history s date agent) ≤ number → units agent number turns ≡ 0) → (variable : ℕ) (copy : ℤ) → ((n : Next) → next_of s agent (history s date agent) ≡ Some n → length (history s date agent) ≤ n.number) → KeepsCopy (date - 1) turns variable (history s date agent) copy → KeepsCopy date turns variable (history s (suc date) agent) copy
+  pub kept_moves : ((number : ℕ) → first_number s agent + length (history s date agent) ≤ number → units agent number turns ≡ 0) → (variable : ℕ) (copy : ℤ) → ((n : Next) → next_of s agent (history s date agent) ≡ Some n → first_number s agent + length (history s date agent) ≤ n.number) → KeepsCopy (date - 1) turns variable (history s date agent) copy → KeepsCopy date turns variable (history s (suc date) agent) copy
   kept_moves unstarted variable copy numbered kept = from (next_of s agent (history s date agent)) refl
     where
       before : (actions : List Action) → KeepsCopy (date - 1) turns variable actions copy → KeepsCopy date turns variable actions copy

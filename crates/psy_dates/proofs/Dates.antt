@@ -14,7 +14,7 @@ use Rattle.psy_meaning.specs.QueueSizes.{stream_at}
 use Rattle.psy_meaning.specs.Schedule.{Turn, units}
 use Rattle.psy_meaning.specs.Timing.{first_date}
 use Rattle.psy_meaning.specs.Units.{IsBare, OwnedWithin}
-use Rattle.psy_history.specs.Regular.{IsLawful}
+use Rattle.psy_history.specs.Regular.{IsLawful, first_number}
 use Rattle.psy_dates.specs.declared.plan.Plan.{Plan}
 use Rattle.psy_dates.specs.declared.seat.Phase.TheVariants as phase
 use Rattle.psy_dates.specs.declared.seat.Seat.{Seat}
@@ -39,12 +39,12 @@ waits_not : phase.Waiting ≡ phase.Ended → ⊥
 waits_not e = cc
 
 -- An agent has done fewer actions than there were dates
-pub seat_numbered : (s : System) → IsLawful s → (date agent : ℕ) (turns : List (Option Turn)) (seat : Seat) → date ≤ 2 ^ 40 → SeatStands (date - 1) turns (history s date agent) seat → IsNumbered seat
-seat_numbered s lawful date agent turns seat early = from (history s date agent) refl
+pub seat_numbered : (s : System) → IsLawful s → (date agent : ℕ) (turns : List (Option Turn)) (seat : Seat) → first_number s agent ≡ 0 → date ≤ 2 ^ 40 → SeatStands (date - 1) turns (history s date agent) seat → IsNumbered seat
+seat_numbered s lawful date agent turns seat none early = from (history s date agent) refl
   where
     from : (actions : List Action) → history s date agent ≡ actions → SeatStands (date - 1) turns actions seat → IsNumbered seat
     from [] is waits = λ ended. absurd (waits_not (sym waits ∙ ended))
-    from (r ∷ before) is stands = λ ended. omega (arith, early, stands.number, (was_started s lawful date agent r before is).number, few s lawful date agent r before is)
+    from (r ∷ before) is stands = λ ended. omega (arith, none, early, stands.number, (was_started s lawful date agent r before is).number, few s lawful date agent r before is)
 
 -- What a date changes
 pub record Moved (plan : Plan) (inputs : List (List ℤ)) (date : ℕ) (old new : Shared) : Type 0 where
@@ -66,7 +66,7 @@ pub record Moved (plan : Plan) (inputs : List (List ℤ)) (date : ℕ) (old new 
 
 module _ (plan : Plan) (inputs : List (List ℤ)) (stalls : ℕ → List Stall) (bare : IsBare plan.unit) (lawful : IsLawful (system_of plan inputs stalls)) (laws : AreStreamLaws (system_of plan inputs stalls)) (date : ℕ) (turns : List (Option Turn))
     (goes : (variable : ℕ) → IsClock (publishing (system_of plan inputs stalls) variable) → Goes (system_of plan inputs stalls) date variable)
-    (unstarted : (agent number : ℕ) → length (history (system_of plan inputs stalls) date agent) ≤ number → units agent number turns ≡ 0)
+    (unstarted : (agent number : ℕ) → first_number (system_of plan inputs stalls) agent + length (history (system_of plan inputs stalls) date agent) ≤ number → units agent number turns ≡ 0)
     (old new : Shared) (due : NoneActs date old.seats.items) (stands : SharedStands (system_of plan inputs stalls) turns date old) (moved : Moved plan inputs date old new) where
   abbrev s : System
   s = system_of plan inputs stalls

@@ -1,22 +1,18 @@
 -- An agent's seat tells whether its last action ends at a date, and what its streams lose there.
-use Rattle.std.proofs.Common.{◌≡◌, ℕ, suc, ◌-◌, ◌<◌, ◌≤◌, Bool, true, false, not, ◌&&◌, List, [], ◌∷◌, length, Option, Some, None, refl, sym, ap, subst, ◌∙◌, inl, inr, arith}
-use Rattle.std.specs.Prelude.{drop, filter, if◌then◌else◌, nat_le, nat_lt, ◌==◌, ◌≢◌}
-use Rattle.std.proofs.lemmas.Bool.{cases_Bool, cond-true, cond-false, ne_eqb, leb-true, leb-false, le-leb, lt-leb}
-use Rattle.psy_base.specs.declared.message.Message.{Message}
-use Rattle.psy_meaning.specs.Actions.{Action, Next, System, Verdict, Done, Trapped, Overran, is_done, next_by, next_of, timing}
+use Rattle.std.proofs.Common.{◌≡◌, ℕ, ◌-◌, ◌≤◌, Bool, true, false, not, ◌&&◌, List, ◌∷◌, Option, Some, None, refl, sym, ap, subst, ◌∙◌, inl, inr, arith}
+use Rattle.std.specs.Prelude.{nat_le, ◌==◌, ◌≢◌}
+use Rattle.std.proofs.lemmas.Bool.{cases_Bool, ne_eqb, leb-true, le-leb}
+use Rattle.psy_meaning.specs.Actions.{Action, System, Verdict, Done, Trapped, Overran, is_done, next_by, next_of}
 use Rattle.psy_meaning.specs.History.{history}
 use Rattle.psy_meaning.specs.Schedule.{Turn, is_pending}
-use Rattle.psy_meaning.specs.Timing.{first_date}
-use Rattle.psy_meaning.specs.Visible.{taken}
-use Rattle.psy_queue.specs.Order.{Queued}
-use Rattle.psy_history.specs.Queues.{ends_at as ended_at, given_up, settled_by, sweeps}
+use Rattle.psy_history.specs.Queues.{ends_at as ended_at, sweeps}
 use Rattle.psy_history.specs.Regular.{IsLawful}
 use Rattle.psy_dates.specs.declared.seat.Phase.{Phase}
 use Rattle.psy_dates.specs.declared.seat.Phase.TheVariants as phase
 use Rattle.psy_dates.specs.declared.seat.Seat.{Seat}
-use Rattle.psy_dates.specs.Messages.{gone_by, settled_then, sweeps_by}
+use Rattle.psy_dates.specs.Messages.{gone_by, sweeps_by}
 use Rattle.psy_dates.specs.Moves.{ends_at, ends_by}
-use Rattle.psy_dates.specs.Standing.{KeepsTakes, SeatOf, SeatStands, TellsEnd, phase_by, phase_of}
+use Rattle.psy_dates.specs.Standing.{SeatOf, TellsEnd, phase_by, phase_of}
 use Rattle.psy_dates.proofs.Histories.{is_regular}
 use Rattle.psy_dates.proofs.Phases.{of_done, of_stopped}
 

@@ -10,7 +10,7 @@ use Rattle.psy_meaning.specs.Schedule.{Turn, units}
 use Rattle.psy_meaning.specs.Timing.{Timing}
 use Rattle.psy_meaning.specs.Visible.{taken}
 use Rattle.psy_history.specs.Queues.{ends_at as ended_at}
-use Rattle.psy_history.specs.Regular.{IsLawful}
+use Rattle.psy_history.specs.Regular.{IsLawful, first_number}
 use Rattle.psy_dates.specs.declared.seat.Phase.{Phase}
 use Rattle.psy_dates.specs.declared.seat.Phase.TheVariants as phase
 use Rattle.psy_dates.specs.declared.seat.Seat.{Seat}
@@ -105,7 +105,7 @@ module _ (s : System) (lawful : IsLawful s) (date : ℕ) (turns : List (Option T
           ] in
           λ ended. cond-false (ends_at date (Some seat)) nothing x goes ∙ here (ended_before date (date - 1) turns r ended)
 
-  pub kept_moves : ((number : ℕ) → length (history s date agent) ≤ number → units agent number turns ≡ 0) → Kept nothing of date turns (history s (suc date) agent) kept_then
+  pub kept_moves : ((number : ℕ) → first_number s agent + length (history s date agent) ≤ number → units agent number turns ≡ 0) → Kept nothing of date turns (history s (suc date) agent) kept_then
   kept_moves unstarted = from (next_of s agent (history s date agent)) refl
     where
       acts_not : phase.Acting ≡ phase.Ended → ⊥

@@ -11,7 +11,6 @@ pub mod Phases
 pub mod Publications
 pub mod QueuesThen
 pub mod Seats
-pub mod SentAsked
 pub mod StreamLaws
 pub mod StreamsThen
 pub mod Values

@@ -6,7 +6,7 @@ use Rattle.psy_meaning.specs.Actions.{Action, Next, System, Verdict, Done, Trapp
 use Rattle.psy_meaning.specs.History.{action_of, history}
 use Rattle.psy_meaning.specs.Schedule.{Turn, is_pending, units}
 use Rattle.psy_meaning.specs.Timing.{deadline, first_date}
-use Rattle.psy_history.specs.Regular.{IsLawful}
+use Rattle.psy_history.specs.Regular.{IsLawful, first_number, number_of}
 use Rattle.psy_dates.specs.declared.seat.Phase.{Phase}
 use Rattle.psy_dates.specs.declared.seat.Phase.TheVariants as phase
 use Rattle.psy_dates.specs.declared.seat.Seat.{Seat}
@@ -20,15 +20,15 @@ keeps : (date other : ℕ) (turns : List (Option Turn)) (r : Action) (seat : Sea
 keeps date other turns r seat stands e = record { phase = stands.phase ∙ sym e; number = stands.number; point = stands.point; start = stands.start; deadline = stands.deadline; ends = stands.ends }
 
 -- Where an action's cycles are none before it starts
-module _ (s : System) (lawful : IsLawful s) (date : ℕ) (turns : List (Option Turn)) (agent : ℕ) (unstarted : (number : ℕ) → length (history s date agent) ≤ number → units agent number turns ≡ 0) where
+module _ (s : System) (lawful : IsLawful s) (date : ℕ) (turns : List (Option Turn)) (agent : ℕ) (unstarted : (number : ℕ) → first_number s agent + length (history s date agent) ≤ number → units agent number turns ≡ 0) where
   -- the action that starts
-  pub acting : (n : Next) → next_of s agent (history s date agent) ≡ Some n → n.start ≡ date → length (history s date agent) ≤ n.number → phase_of date turns (action_of s (history s date) agent n) ≡ phase.Acting
+  pub acting : (n : Next) → next_of s agent (history s date agent) ≡ Some n → n.start ≡ date → first_number s agent + length (history s date agent) ≤ n.number → phase_of date turns (action_of s (history s date) agent n) ≡ phase.Acting
   acting n next at new =
       let r = action_of s (history s date) agent n in
       let is = is_regular s lawful (suc date) agent r (history s date agent) (starts s date agent n next at) in
       of_started date turns r (omega (arith, is.due, at)) is.granted is.charged (unstarted n.number new)
 
-  begins : (n : Next) → next_of s agent (history s date agent) ≡ Some n → n.start ≡ date → length (history s date agent) ≤ n.number → SeatStands date turns (history s (suc date) agent) (begun_at (timing s agent) date n.number n.point)
+  begins : (n : Next) → next_of s agent (history s date agent) ≡ Some n → n.start ≡ date → first_number s agent + length (history s date agent) ≤ n.number → SeatStands date turns (history s (suc date) agent) (begun_at (timing s agent) date n.number n.point)
   begins n next at new =
       let r = action_of s (history s date) agent n in
       let seat = begun_at (timing s agent) date n.number n.point in
@@ -52,7 +52,7 @@ module _ (s : System) (lawful : IsLawful s) (date : ℕ) (turns : List (Option T
       elim (cases_eq (first_date its) date) [
         | inl at ↦ (
             let is : seat_then its date seat ≡ begun_at its date n.number n.point = by ∙ cond-true (first_date its == date) _ _ (eq-eqb (first_date its) date at) ∙ ap (λ k. begun_at its date k 0) (sym number) ∙ ap (begun_at its date n.number) (sym point) in
-            subst (SeatStands date turns (history s (suc date) agent)) (sym is) (begins n next (start ∙ at) (omega (arith, ap length none))))
+            subst (SeatStands date turns (history s (suc date) agent)) (sym is) (begins n next (start ∙ at) (omega (arith, ap length none, ap number_of starts))))
         | inr later ↦ (
             let is : seat_then its date seat ≡ seat = by ∙ cond-false (first_date its == date) _ _ (ne_eqb (first_date its) date later) in
             let same = stays s date agent n next (λ at. later (sym start ∙ at)) ∙ none in

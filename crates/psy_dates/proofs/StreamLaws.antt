@@ -1,7 +1,7 @@
--- What is known of the streams of a history, by the laws of histories of code.
+-- What is known of the streams of a history, by the laws of a run.
 use Rattle.std.proofs.Common.{◌≡◌, ℕ, ◌+◌, ◌<◌, ◌≤◌, List, ◌∷◌, All, length, Some, ap, subst, arith, length-take}
 use Rattle.std.specs.Prelude.{filter, nat_le, slice_get, take, ℤ}
-use Rattle.std.proofs.lemmas.List.Elements.{All-head}
+use Rattle.std.proofs.lemmas.List.Elements.{All-head, All-weaker}
 use Rattle.psy_base.specs.declared.limits.TheConstants.{QUEUE}
 use Rattle.psy_base.specs.declared.message.Message.{Message}
 use Rattle.psy_budget.specs.declared.charge.Stall.{Stall}
@@ -12,12 +12,12 @@ use Rattle.psy_meaning.specs.Actions.{Action, System}
 use Rattle.psy_meaning.specs.History.{history}
 use Rattle.psy_meaning.specs.Kept.{IsSentOf}
 use Rattle.psy_meaning.specs.QueueSizes.{IsQueueSize}
-use Rattle.psy_history.specs.Compiled.{AreInputs, IsCompiled, coded}
 use Rattle.psy_history.specs.Queues.{entered, entering, queue_of, settled}
-use Rattle.psy_history.specs.Regular.{IsLawful, Runs}
+use Rattle.psy_history.specs.Runs.{IsRun}
+use Rattle.psy_history.specs.Ways.{IsSentBy, OfText, Ways}
+use Rattle.psy_history.specs.WaySizes as by_ways
 use Rattle.psy_dates.specs.declared.plan.Plan.{Plan}
 use Rattle.psy_dates.specs.Plans.{system_of}
-use Rattle.psy_dates.proofs.SentAsked.{sends_fit}
 
 -- What is known of a history's streams
 pub record AreStreamLaws (s : System) : Type 0 where
@@ -26,30 +26,31 @@ pub record AreStreamLaws (s : System) : Type 0 where
   pub held : (date stream size : ℕ) → stream < length s.unit.streams → IsQueueSize s.unit s.nexts stream size → size ≤ QUEUE → length (queue_of s date stream) ≤ size
   pub fit : (date agent : ℕ) (r : Action) (before : List Action) → history s date agent ≡ r ∷ before → All (IsSentOf s.unit) r.deeds.sends
 
--- What holds of each history of code
-abbrev OfEach : (System → Code → Type 0) → Type 0
-OfEach Holds = (unit : Whole) (code : Code) (nexts : List (List (List ℕ))) (stalls : ℕ → List Stall) (inputs : List (List ℤ)) → IsCompiled unit code nexts → AreInputs unit inputs → Holds (coded unit code nexts stalls inputs) code
+-- What holds of each run
+abbrev OfEach : (System → Ways → Type 0) → Type 0
+OfEach Holds = (s : System) (ways : Ways) (code : Code) → IsRun s ways code → Holds s ways
 
 -- The receiver's action finds in front of a stream what it saw.
 abbrev Looks : System → Type 0
 Looks s = (date stream agent : ℕ) (decl : StreamDecl) (r : Action) (before : List Action) → slice_get s.unit.streams stream ≡ Some decl → decl.receiver ≡ agent → history s (date + 1) agent ≡ r ∷ before → date < r.deadline
     → (filter (λ (m : Message). nat_le m.visible r.start) (queue_of s (date + 1) stream) ≡ r.seen stream) × (take (length (r.seen stream)) (queue_of s (date + 1) stream) ≡ r.seen stream)
 
-pub stream_laws : (plan : Plan) (inputs : List (List ℤ)) (stalls : ℕ → List Stall) → IsCompiled plan.unit plan.code plan.nexts → AreInputs plan.unit inputs
-    → OfEach (λ s code. IsLawful s)
-    → OfEach (λ s code. (dates agent : ℕ) → All (Runs s code) (history s dates agent))
-    → OfEach (λ s code. (date stream : ℕ) → stream < length s.unit.streams → queue_of s (date + 1) stream ≡ entered (entering s date stream) (settled s date stream (queue_of s date stream)))
-    → OfEach (λ s code. Looks s)
-    → OfEach (λ s code. (date stream size : ℕ) → stream < length s.unit.streams → IsQueueSize s.unit s.nexts stream size → size ≤ QUEUE → length (queue_of s date stream) ≤ size)
+pub stream_laws : (plan : Plan) (inputs : List (List ℤ)) (stalls : ℕ → List Stall) → IsRun (system_of plan inputs stalls) (OfText plan.unit) plan.code
+    → ((unit : Whole) (nexts : List (List (List ℕ))) (stream size : ℕ) → IsQueueSize unit nexts stream size → by_ways.IsQueueSize unit (OfText unit) nexts stream size)
+    → OfEach (λ s ways. (dates agent : ℕ) → All (λ r. All (IsSentBy ways s.unit) r.deeds.sends) (history s dates agent))
+    → OfEach (λ s ways. (date stream : ℕ) → stream < length s.unit.streams → queue_of s (date + 1) stream ≡ entered (entering s date stream) (settled s date stream (queue_of s date stream)))
+    → OfEach (λ s ways. Looks s)
+    → OfEach (λ s ways. (date stream size : ℕ) → stream < length s.unit.streams → by_ways.IsQueueSize s.unit ways s.nexts stream size → size ≤ QUEUE → length (queue_of s date stream) ≤ size)
     → AreStreamLaws (system_of plan inputs stalls)
-stream_laws plan inputs stalls compiled given lawful runs next look held =
+stream_laws plan inputs stalls run of_text sends next look held =
     let s = system_of plan inputs stalls in
+    let ways = OfText plan.unit in
     record {
-      next = next plan.unit plan.code plan.nexts stalls inputs compiled given;
+      next = next s ways plan.code run;
       look = λ date stream agent decl r before at is there early.
-          (let first = (look plan.unit plan.code plan.nexts stalls inputs compiled given date stream agent decl r before at is there early).1 in omega (arith, ap length first, length-take (length (r.seen stream)) (queue_of s (date + 1) stream)));
-      held = held plan.unit plan.code plan.nexts stalls inputs compiled given;
+          (let first = (look s ways plan.code run date stream agent decl r before at is there early).1 in omega (arith, ap length first, length-take (length (r.seen stream)) (queue_of s (date + 1) stream)));
+      held = λ date stream size less is small. held s ways plan.code run date stream size less (of_text plan.unit plan.nexts stream size is) small;
       fit = λ date agent r before is.
-          sends_fit plan.unit plan.code plan.nexts stalls inputs (lawful plan.unit plan.code plan.nexts stalls inputs compiled given) date agent r before is
-          (All-head (Runs s plan.code) r before (subst (All (Runs s plan.code)) is (runs plan.unit plan.code plan.nexts stalls inputs compiled given date agent)));
+          All-weaker (IsSentBy ways plan.unit) (IsSentOf plan.unit) (λ sent by. by.fits) r.deeds.sends
+          (All-head (λ (x : Action). All (IsSentBy ways plan.unit) x.deeds.sends) r before (subst (All (λ (x : Action). All (IsSentBy ways plan.unit) x.deeds.sends)) is (sends s ways plan.code run date agent)));
     }

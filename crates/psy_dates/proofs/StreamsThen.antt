@@ -1,29 +1,26 @@
 -- What the agents share of streams stands for the history up to a date, where it stood for the dates before.
-use Rattle.std.proofs.Common.{◌≡◌, ℕ, zero, suc, ◌+◌, ◌-◌, ◌<◌, ◌≤◌, Bool, true, false, List, [], ◌∷◌, All, length, get_or, Option, Some, None, refl, sym, ap, subst, ◌∙◌, add-one, inl, inr, arith, length-take}
-use Rattle.std.specs.Prelude.{filter, if◌then◌else◌, nat_le, slice_get, take, ◌==◌, ℤ}
-use Rattle.std.specs.List.{count_by, flat_map, range_with_len}
+use Rattle.std.proofs.Common.{◌≡◌, ℕ, suc, ◌+◌, ◌-◌, ◌<◌, ◌≤◌, Bool, true, false, List, [], ◌∷◌, All, length, get_or, Option, Some, refl, sym, ap, subst, ◌∙◌, inl, inr, arith, length-take}
+use Rattle.std.specs.Prelude.{if◌then◌else◌, slice_get, ◌==◌, ℤ}
+use Rattle.std.specs.List.{count_by}
 use Rattle.std.proofs.lemmas.Bool.{cases_lt, eqb-true}
-use Rattle.std.proofs.lemmas.List.Elements.{All-head}
 use Rattle.std.proofs.lemmas.Option.{get_or_from_slice_get, same_Some, slice_get-get_or, slice_get_past, slice_get_within}
-use Rattle.psy_base.specs.declared.limits.TheConstants.{QUEUE}
 use Rattle.psy_base.specs.declared.message.Message.{Message}
 use Rattle.psy_budget.specs.declared.charge.Stall.{Stall}
-use Rattle.psy_code.specs.declared.code.Code.{Code}
 use Rattle.psy_code.specs.declared.look.Sent.{Sent}
 use Rattle.psy_code.specs.Views.{found_in}
 use Rattle.psy_queue.specs.Order.{Queued}
 use Rattle.psy_tree.specs.declared.unit.StreamDecl.{StreamDecl}
-use Rattle.psy_meaning.specs.Actions.{Action, Next, System, Verdict, Done, Trapped, Overran, first_action, next_of, stream_of}
+use Rattle.psy_meaning.specs.Actions.{Action, Next, System, Verdict, Done, Trapped, Overran, first_action}
 use Rattle.psy_meaning.specs.Executors.{by_code}
 use Rattle.psy_meaning.specs.History.{history}
 use Rattle.psy_meaning.specs.Kept.{IsSentOf}
-use Rattle.psy_meaning.specs.QueueSizes.{IsQueueSize, stream_at}
+use Rattle.psy_meaning.specs.QueueSizes.{stream_at}
 use Rattle.psy_meaning.specs.Schedule.{Turn, units}
 use Rattle.psy_meaning.specs.Timing.{first_date}
 use Rattle.psy_meaning.specs.Units.{IsBare}
 use Rattle.psy_meaning.specs.Visible.{message_of, messages_from, taken}
-use Rattle.psy_history.specs.Queues.{ends_at as ended_at, entered, entering, entering_of, queue_of, settled, settled_by}
-use Rattle.psy_history.specs.Regular.{IsLawful, Runs}
+use Rattle.psy_history.specs.Queues.{ends_at as ended_at, entered, entering, entering_of, queue_of, settled}
+use Rattle.psy_history.specs.Regular.{IsLawful, first_number}
 use Rattle.psy_dates.specs.declared.plan.Plan.{Plan}
 use Rattle.psy_dates.specs.declared.seat.Phase.TheVariants as phase
 use Rattle.psy_dates.specs.declared.seat.Seat.{Seat}
@@ -203,7 +200,7 @@ module _ (plan : Plan) (inputs : List (List ℤ)) (stalls : ℕ → List Stall) 
 
   -- No action had a cycle before it starts.
   abbrev pub Unstarted : Type 0
-  Unstarted = (agent number : ℕ) → length (history s date agent) ≤ number → units agent number turns ≡ 0
+  Unstarted = (agent number : ℕ) → first_number s agent + length (history s date agent) ≤ number → units agent number turns ≡ 0
 
   -- What an agent sent is cleared where its action ends.
   abbrev pub Boxes : List Outboxed → Type 0

@@ -16,7 +16,7 @@ use crate::plan::Plan;
 use crate::rings::publish_all;
 use crate::settles::settle_all;
 use crate::shared::Shared;
-use psy_history::laws::{given, queue_sizes, queues, regular, rings};
+use psy_history::laws::{compiled, given, queue_sizes, queues, regular, rings};
 
 /// Does a date. The actions that end there commit. Of each stream whose receiver ends there what it took goes, and what has expired where
 /// the receiver starts there or is silent. The messages of the actions that end there enter. Each variable whose clock has that date
@@ -50,6 +50,7 @@ pub fn at_date(shared: &mut Shared, plan: &Plan, date: u64)
         → slice_get shared.new.taken.items stream ≡ slice_get shared.old.taken.items stream) }
     ensures inputs { shared.new.inputs ≡ shared.old.inputs }
 {
+    compiled();
     given();
     regular();
     rings();

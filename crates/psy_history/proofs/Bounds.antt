@@ -7,7 +7,7 @@ use Rattle.psy_meaning.specs.Actions.{Action, Next, System, next_by, next_of}
 use Rattle.psy_meaning.specs.Schedule.{work}
 use Rattle.psy_history.specs.Asked.{Drawn, IsNode, IsStep}
 use Rattle.psy_history.specs.Regular.{IsRegular}
-use Rattle.psy_history.proofs.Edges.{step_in, step_some, step_done}
+use Rattle.psy_history.proofs.Edges.{step_some, step_done}
 use Rattle.psy_history.proofs.Growth.{next_done}
 use Rattle.psy_history.proofs.PathShifts.{due_front, due_moved}
 
@@ -73,7 +73,7 @@ module _ (s : System) (graphs : List (List Edge)) (agent : ℕ) (g : Drawn s gra
       in_front : (to : ℕ) (e : Edge) (path : List Edge) → IsStep s graphs agent g r.point r.start to e → IsPathFrom g.edges e.to path → DueBy by r.start (e ∷ path) → e.weight + weight_of path ≤ bound
       in_front to e path step from fits =
           let at : IsNode s graphs agent g n.point n.start e.from = subst (λ p. IsNode s graphs agent g p n.start e.from) point (subst (λ t. IsNode s graphs agent g r.point t e.from) start step.from) in
-          covered.next rests n e.from (e ∷ path) is at (step_in s graphs agent g r.point r.start to e step, refl, from) (subst (λ t. DueBy by t (e ∷ path)) start fits)
+          covered.next rests n e.from (e ∷ path) is at (step.there, refl, from) (subst (λ t. DueBy by t (e ∷ path)) start fits)
 
   -- Pending and due by the date, the last action still asks something.
   pub covered_some : (had : ℕ) (before : List Action) (r : Action) (bound : ℕ) → IsRegular s agent r → had < work r → r.deadline ≤ by → Covered had (r ∷ before) bound → 1 ≤ bound

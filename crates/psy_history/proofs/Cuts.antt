@@ -17,7 +17,7 @@ cut_joined (cells ∷ slots) =
     ap₂ (λ head tail. head ∷ tail) (take_at cells rest (length cells) refl)
     (ap (cut (map length slots)) (drop_at cells rest (length cells) refl) ∙ cut_joined slots)
 
-lengths_of : (slots : List Slots) → map length (map (λ (s : Slots). replicate s.cells s.init) slots) ≡ map (λ (s : Slots). s.cells) slots
+pub lengths_of : (slots : List Slots) → map length (map (λ (s : Slots). replicate s.cells s.init) slots) ≡ map (λ (s : Slots). s.cells) slots
 lengths_of [] = refl
 lengths_of (s ∷ slots) = ap₂ (λ head tail. head ∷ tail) (length-replicate s.cells s.init) (lengths_of slots)
 

@@ -14,7 +14,7 @@ use Rattle.psy_history.specs.Scheduled.{IsSupplied, turns_of}
 use Rattle.psy_history.proofs.Finishes.{as_many, started_by}
 use Rattle.psy_history.proofs.Growth.{stays_started}
 use Rattle.psy_history.proofs.KeptDates.{due_finished}
-use Rattle.psy_history.proofs.Numbers.{BeginAtZero, agent_of, one_of_number}
+use Rattle.psy_history.proofs.Numbers.{agent_of, one_of_number}
 use Rattle.psy_history.proofs.StartedActions.{start_below}
 use Rattle.psy_history.proofs.Turns.{next_is_pending, next_of_number, next_turn, units_rise}
 
@@ -40,14 +40,11 @@ date_begins cycle quantum some = elim (cases_lt cycle (cycle / quantum * quantum
 ]
 
 module _ (s : System) (order : ℕ → List ℕ) (until : ℕ) (supplied : IsSupplied s order until) (dates agent : ℕ) (r : Action) (there : Contains (history s dates agent) r) where
-  zero_first : BeginAtZero s
-  zero_first a n e = (supplied.lawful.opening a n e).2
-
   behind_start : (cycle : ℕ) → is_of r.agent r.number (next_turn s order cycle) ≡ true → r.start ≤ cycle / s.unit.quantum
   behind_start cycle turn =
-      let known : r.agent ≡ agent = agent_of s zero_first dates agent r there in
-      let (q, begun, of_number, less) = next_of_number s zero_first order cycle agent r.number (subst (λ n. is_of n r.number (next_turn s order cycle) ≡ true) known turn) in
-      let same : q ≡ r = one_of_number s zero_first (cycle / s.unit.quantum + 1) dates agent q r begun there of_number in
+      let known : r.agent ≡ agent = agent_of s dates agent r there in
+      let (q, begun, of_number, less) = next_of_number s order cycle agent r.number (subst (λ n. is_of n r.number (next_turn s order cycle) ≡ true) known turn) in
+      let same : q ≡ r = one_of_number s (cycle / s.unit.quantum + 1) dates agent q r begun there of_number in
       let early = start_below s supplied.lawful (cycle / s.unit.quantum + 1) agent r (subst (Contains (history s (cycle / s.unit.quantum + 1) agent)) same begun) in
       omega (arith, early)
 
@@ -63,7 +60,7 @@ module _ (s : System) (order : ℕ → List ℕ) (until : ℕ) (supplied : IsSup
         let finished = due_finished s order until supplied date agent r (omega (arith, below)) begun due in
         let all = ltb-false (units r.agent r.number (turns_of s order (date * s.unit.quantum))) (work r) finished in
         let more = units_rise s order r.agent r.number (date * s.unit.quantum) cycle (date_begins cycle s.unit.quantum supplied.quantum) in
-        let fewer = next_is_pending s zero_first order cycle dates agent r there turn in
+        let fewer = next_is_pending s order cycle dates agent r there turn in
         absurd (omega (arith, all, more, fewer))
         )
   ]

@@ -50,7 +50,7 @@ module _ (s : System) (order : ℕ → List ℕ) (lawful : IsLawful s) (dates ag
   another : (cycles : ℕ) → IsFinished s order cycles r → is_of r.agent r.number (next_turn s order cycles) ≡ false
   another cycles finished = elim (cases_Bool (is_of r.agent r.number (next_turn s order cycles))) [
     | inl t ↦ (
-        let fewer = next_is_pending s (λ a n e. (lawful.opening a n e).2) order cycles dates agent r there t in
+        let fewer = next_is_pending s order cycles dates agent r there t in
         let all = ltb-false (units r.agent r.number (turns_of s order cycles)) (work r) finished in
         absurd (omega (arith, fewer, all))
         )

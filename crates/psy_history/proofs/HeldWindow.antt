@@ -1,25 +1,24 @@
 -- The dates for which a message may be held: a message that is held entered less than so many dates before.
-use Rattle.std.proofs.Common.{◌≡◌, ℕ, suc, ◌+◌, ◌-◌, ◌*◌, ◌<◌, ◌≤◌, All, Bool, true, false, List, [], ◌∷◌, map, length, Option, Some, None, refl, ap, ◌∙◌, inl, inr, arith}
-use Rattle.std.specs.Prelude.{◌==◌, ◌&&◌, not, nat_le, if◌then◌else◌}
+use Rattle.std.proofs.Common.{◌≡◌, ℕ, suc, ◌+◌, ◌-◌, ◌*◌, ◌<◌, ◌≤◌, All, Bool, true, false, List, [], ◌∷◌, Option, Some, None, refl, ap, ◌∙◌, inl, inr, arith}
+use Rattle.std.specs.Prelude.{◌&&◌, not, nat_le, if◌then◌else◌}
 use Rattle.std.specs.List.{Contains}
-use Rattle.std.proofs.lemmas.Bool.{eq-eqb, leb-false, ltb-true}
-use Rattle.std.proofs.lemmas.List.Elements.{All-head, All-tail, Contains-get_or}
+use Rattle.std.proofs.lemmas.Bool.{leb-false, ltb-true}
+use Rattle.std.proofs.lemmas.List.Elements.{All-head, All-tail}
 use Rattle.psy_base.specs.declared.message.Message.{Message}
 use Rattle.psy_clock.specs.declared.clock.Clock.{Clock}
 use Rattle.psy_clock.specs.Dates.{IsClock, after_date, from_date}
 use Rattle.psy_code.specs.declared.look.Sent.{Sent}
 use Rattle.psy_meaning.specs.Actions.{Action, Next, System, Verdict, Done, Overran, Trapped, clock_of, is_done, next_by, next_of, stream_of, timing}
-use Rattle.psy_meaning.specs.Executors.{agent_at}
 use Rattle.psy_meaning.specs.Flow.{IsGreatest}
 use Rattle.psy_meaning.specs.History.{history}
-use Rattle.psy_meaning.specs.QueueSizes.{MayLast, all_sendings, delay_of, longest_delay, lasting_of, sendings_in, sendings_to}
+use Rattle.psy_meaning.specs.QueueSizes.{MayLast, delay_of, lasting_of}
 use Rattle.psy_meaning.specs.Summary.{most_of}
 use Rattle.psy_meaning.specs.Timing.{end_date, first_date, following}
 use Rattle.psy_meaning.specs.Visible.{is_fresh, message_of, swept}
-use Rattle.psy_meaning.specs.Ways.{Sending, sending_of}
+use Rattle.psy_meaning.specs.Ways.{sending_of}
 use Rattle.psy_history.specs.Regular.{IsLawful, IsRegular}
 use Rattle.psy_history.proofs.Deadlines.{deadline_least, some_follows}
-use Rattle.psy_history.proofs.Members.{contains_map, contains_none, filter_in, flat_map_in, front_or_behind, get_or_holds}
+use Rattle.psy_history.proofs.Members.{contains_none, front_or_behind, get_or_holds}
 use Rattle.psy_history.proofs.NextStarts.{next_late, regular_head}
 use Rattle.psy_history.proofs.SentMessages.{HasStreams}
 use Rattle.psy_history.proofs.Timings.{every_tick}
@@ -54,7 +53,8 @@ module _ (s : System) (lawful : IsLawful s) (receiver longest : ℕ) (greatest :
       let end = end_date times r.start point in
       let behind = deadline_least times r.point r.start point follows in
       let ticks : r.start + (end - r.start) ≡ end = omega (arith, behind, regular.due, regular.deadline) in
-      let most = greatest.most (end - r.start) (inr (r.point, r.start, point, regular.starts, follows, ticks)) in
+      let alike = regular.alike point follows in
+      let most = greatest.most (end - r.start) (inr (r.point, regular.starts.met, point, regular.starts.may, follows, omega (arith, alike, ticks))) in
       omega (arith, most, ticks)
 
   -- Nor does one until it is due.
@@ -95,10 +95,6 @@ pub record AreNear : Type 0 where
   pub after : (c : Clock) (t k : ℕ) → IsClock c → 1 ≤ k → after_date c t k ≤ t + k * c.period
   pub from : (c : Clock) (t k : ℕ) → IsClock c → from_date c t k < t + (k + 1) * c.period
 
--- What an action that reached a point sent is of its agent's text.
-abbrev pub SendsOfText : System → ℕ → Action → Type 0
-SendsOfText s agent r = (point end : ℕ) → r.verdict ≡ Done point end → (sent : Sent) → Contains r.deeds.sends sent → Contains (sendings_in (agent_at s.unit agent).stmts) (sending_of sent)
-
 module _ (s : System) (streams : HasStreams s) (near : AreNear) (stream : ℕ) where
   -- each clock is lawful
   clock_is : (clock : ℕ) → IsClock (clock_of s clock)
@@ -113,25 +109,18 @@ module _ (s : System) (streams : HasStreams s) (near : AreNear) (stream : ℕ) w
       let most = near.after (clock_of s decl.clock) 0 decl.keep is (streams.keeps stream) in
       omega (arith, behind, most)
 
-  -- The sends to the stream that an action did are of the text.
-  pub sending_there : (agent : ℕ) (sent : Sent) → agent < length s.unit.agents → Contains (sendings_in (agent_at s.unit agent).stmts) (sending_of sent) → sent.stream ≡ stream → Contains (all_sendings s.unit stream) (sending_of sent)
-  sending_there agent sent known of to =
-      flat_map_in (sendings_to stream) s.unit.agents (agent_at s.unit agent) (sending_of sent) (Contains-get_or s.unit.agents agent _ known)
-      (filter_in (λ (x : Sending). x.stream == stream) (sendings_in (agent_at s.unit agent).stmts) (sending_of sent) of (eq-eqb sent.stream stream to))
-
-  -- A message expires no later than the delays and the time for which it lasts say.
-  pub expires_near : (agent end number : ℕ) (sent : Sent) → sent.stream ≡ stream → Contains (all_sendings s.unit stream) (sending_of sent) → (message_of s agent end number sent).expiry ≤ end + longest_delay s.unit stream + lasting_of s.unit stream
-  expires_near agent end number sent to there =
+  -- A message expires no later than the delay of its send and the time for which it lasts say.
+  pub expires_near : (agent end number delay : ℕ) (sent : Sent) → sent.stream ≡ stream → delay_of s.unit (sending_of sent) ≤ delay → (message_of s agent end number sent).expiry ≤ end + delay + lasting_of s.unit stream
+  expires_near agent end number delay sent to soon =
       let decl = stream_of s sent.stream in
       let visible = from_date (clock_of s sent.clock) end sent.after in
-      let delay = most_above (map (delay_of s.unit) (all_sendings s.unit stream)) (delay_of s.unit (sending_of sent)) (contains_map (delay_of s.unit) (all_sendings s.unit stream) (sending_of sent) there) in
       let seen = near.from (clock_of s sent.clock) end sent.after (clock_is sent.clock) in
       let kept = near.after (clock_of s decl.clock) visible decl.keep (clock_is decl.clock) (streams.keeps sent.stream) in
       let same : lasting_of s.unit sent.stream ≡ lasting_of s.unit stream = ap (lasting_of s.unit) to in
-      omega (arith, delay, seen, kept, same)
+      omega (arith, soon, seen, kept, same)
 
   -- One that hasn't expired entered in the window.
-  pub fresh_near : (date longest entry : ℕ) (m : Message) (o : Option ℕ) → IsNear date longest o → m.expiry ≤ entry + longest_delay s.unit stream + lasting_of s.unit stream → is_fresh o m ≡ true
-      → date < entry + (longest_delay s.unit stream + lasting_of s.unit stream + longest - 1)
-  fresh_near date longest entry m None soon by fresh = omega (arith, soon, some_lasting)
-  fresh_near date longest entry m (Some last) soon by fresh = omega (arith, soon, by, ltb-true last m.expiry fresh)
+  pub fresh_near : (date longest entry delay : ℕ) (m : Message) (o : Option ℕ) → IsNear date longest o → m.expiry ≤ entry + delay + lasting_of s.unit stream → is_fresh o m ≡ true
+      → date < entry + (delay + lasting_of s.unit stream + longest - 1)
+  fresh_near date longest entry delay m None soon by fresh = omega (arith, soon, some_lasting)
+  fresh_near date longest entry delay m (Some last) soon by fresh = omega (arith, soon, by, ltb-true last m.expiry fresh)

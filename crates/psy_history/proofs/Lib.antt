@@ -1,12 +1,11 @@
 -- The lemmas of this crate, by subject.
-mod ActionSends
 mod ActsAlike
+mod AskedCalls
 mod Asking
 mod Bounds
+mod CarriedStores
 mod ClockDates
-mod CodeHistories
-mod CodedQueues
-mod CodedStreams
+mod CompiledRuns
 mod Cuts
 mod CyclesInTime
 mod Deadlines
@@ -33,7 +32,6 @@ mod LikeReaches
 mod LikeSchedules
 mod LikeViews
 mod LookAges
-mod LooksAsked
 mod LooksOfCode
 mod Members
 mod MessageOrder
@@ -52,11 +50,16 @@ mod QueueLooks
 mod QueueSteps
 mod Reached
 mod Reaches
-mod Regulars
 mod RingReaches
 mod RingValues
-mod RunsToEnds
+mod RunActions
+mod RunHistories
+mod RunLooks
+mod RunQueues
+mod RunStreams
+mod RunsWithin
 mod SameActions
+mod SamePhases
 mod Seeing
 mod SendEdges
 mod SendWeights
@@ -64,6 +67,7 @@ mod SentInTime
 mod SentMessages
 mod SettledMessages
 mod Sights
+mod SizesOfText
 mod Soonest
 mod StartedActions
 mod Starts
@@ -77,3 +81,4 @@ mod Totals
 mod Turns
 mod UnitCycles
 mod ViewsAlike
+mod ViewsServe

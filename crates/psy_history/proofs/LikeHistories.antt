@@ -14,14 +14,18 @@ use Rattle.psy_meaning.specs.Executors.{Acted, Carried, Fate}
 use Rattle.psy_meaning.specs.History.{action_of, executed, history, recorded, with_start}
 use Rattle.psy_meaning.specs.Timing.{Timing, budget_at, first_date}
 use Rattle.psy_meaning.specs.Visible.{seen_at, view_of}
-use Rattle.psy_history.specs.Compiled.{AreInputs, IsCompiled, coded, stated}
+use Rattle.psy_history.specs.Compiled.{IsCompiled, coded, stated}
 use Rattle.psy_history.specs.Likeness.{AreLike, IsLike}
-use Rattle.psy_history.proofs.CodeHistories.{next_ready, next_sees}
+use Rattle.psy_history.specs.Runs.{IsRun}
+use Rattle.psy_history.specs.Ways.{OfText}
+use Rattle.psy_history.proofs.CarriedStores.{carries_of}
 use Rattle.psy_history.proofs.LikeActions.{by_pairs, like_same, same_by}
 use Rattle.psy_history.proofs.LikeViews.{seen_same, view_same}
 use Rattle.psy_history.proofs.OneAction.{ArePast, AreWithin}
+use Rattle.psy_history.proofs.RunActions.{AreRunLaws, point_known}
+use Rattle.psy_history.proofs.RunHistories.{next_ready, next_sees}
 use Rattle.psy_history.proofs.Starts.{acted_alike}
-use Rattle.psy_history.proofs.Stores.{AreStoreLaws, first_carried}
+use Rattle.psy_history.proofs.Stores.{AreStoreLaws, IsReady, first_carried}
 
 overran : (timing : Timing) (start budget charge : ℕ) (fate : Fate) → budget < charge → verdict_of timing start budget charge fate ≡ Overran
 overran timing start budget charge fate h = ap (λ b. if b then Overran else verdict_by timing start fate) (lt-ltb budget charge h)
@@ -57,7 +61,7 @@ module _ (unit : Whole) (code : Code) (nexts : List (List (List ℕ))) (stalls :
   recorded_like agent n view seen a b (inl e) = like_same (recorded of_code agent n view seen a) (recorded of_stmts agent n view seen b) (ap (recorded of_stmts agent n view seen) e)
   recorded_like agent n view seen a b (inr past) = recorded_past agent n view seen a b past
 
-  module _ (laws : AreStoreLaws unit code) (compiled : IsCompiled unit code nexts) (given : AreInputs unit inputs) where
+  module _ (laws : AreStoreLaws unit code) (compiled : IsCompiled unit code nexts) (runs : AreRunLaws code) (run : IsRun of_code (OfText unit) code) where
     -- ---- where the next action starts
 
     starts_like : (agent : ℕ) (its : Option AgentDecl) → slice_get unit.agents agent ≡ its → of_code.opening.starts agent ≡ of_stmts.opening.starts agent
@@ -83,9 +87,14 @@ module _ (unit : Whole) (code : Code) (nexts : List (List (List ℕ))) (stalls :
       action_like n is =
           let seen = seen_at of_code h n.start in
           let view = view_of of_code h agent n.start seen in
-          let ready = next_ready unit code nexts stalls inputs laws compiled given date agent n is in
-          let sees = next_sees unit code nexts stalls inputs laws compiled given date agent n.start in
-          let within = acted_alike unit code nexts stalls inputs laws compiled agent n ready view seen sees in
+          let next = next_ready of_code (OfText unit) code runs run date agent n is in
+          let ready : IsReady unit agent n = record {
+            less = next.less;
+            known = point_known of_code (OfText unit) code runs run agent next.less n.point next.alike.met next.alike.may;
+            carries = carries_of unit code nexts laws compiled agent next.less n.carried next.carries;
+          } in
+          let sees = next_sees of_code (OfText unit) code runs run date agent n.start in
+          let within = acted_alike unit code nexts stalls inputs laws compiled agent n ready view sees in
           let budget = budget_at (timing of_stmts agent) n.point in
           let both = recorded_like agent n view seen (of_code.executor.act agent n.point n.carried view budget) (of_stmts.executor.act agent n.point n.carried view budget) within in
           let same : executed of_stmts agent n view seen ≡ action_of of_stmts k agent n =

@@ -8,8 +8,7 @@ use Rattle.psy_budget.specs.Charges.{cycle_of}
 use Rattle.psy_code.specs.declared.code.Code.{Code}
 use Rattle.psy_code.specs.Views.{Looked}
 use Rattle.psy_tree.specs.declared.unit.Unit.{Unit as Whole}
-use Rattle.psy_meaning.specs.Actions.{Action, History, Next, System}
-use Rattle.psy_meaning.specs.Executors.{by_statements}
+use Rattle.psy_meaning.specs.Actions.{Action, History, System}
 use Rattle.psy_meaning.specs.History.{history}
 use Rattle.psy_meaning.specs.Schedule.{Turn, cycle_of_unit, units, work}
 use Rattle.psy_meaning.specs.Summary.{age_in, ages_of, greatest_of, reach}
@@ -17,9 +16,7 @@ use Rattle.psy_history.specs.Compiled.{coded, stated}
 use Rattle.psy_history.specs.Likeness.{AreLike, IsLike, looks_within}
 use Rattle.psy_history.specs.Scheduled.{turns_of}
 use Rattle.psy_history.proofs.Given.{given_within}
-use Rattle.psy_history.proofs.Growth.{opens_with}
 use Rattle.psy_history.proofs.LikeActions.{flat_map_like, flat_map_same}
-use Rattle.psy_history.proofs.Numbers.{BeginAtZero}
 use Rattle.psy_history.proofs.UnitCycles.{no_unit}
 
 -- ---- lists
@@ -82,13 +79,10 @@ module _ (unit : Whole) (code : Code) (nexts : List (List (List ℕ))) (stalls :
       ∙ ap (λ looks. flat_map (ages_at of_stmts done variable q) (filter test looks)) h.looks
       ∙ sym (ages_within of_stmts done variable q few)
 
-  zero_first : BeginAtZero of_stmts
-  zero_first agent n is = ap (λ (m : Next). m.number) (sym (opens_with unit nexts (by_statements unit) stalls inputs agent n is).1)
-
   pub reach_same : (h : History) (order : ℕ → List ℕ) (cycles dates variable : ℕ) → ((agent : ℕ) → AreLike (h agent) (history of_stmts dates agent)) → reach of_code (turns_of of_stmts order cycles) h variable ≡ reach of_stmts (turns_of of_stmts order cycles) (history of_stmts dates) variable
   reach_same h order cycles dates variable like =
       let done = turns_of of_stmts order cycles in
       ap greatest_of (flat_map_same (λ agent. flat_map (ages_of of_code done variable) (h agent)) (λ agent. flat_map (ages_of of_stmts done variable) (history of_stmts dates agent))
       (λ agent. flat_map_like (ages_of of_code done variable) (ages_of of_stmts done variable) (h agent) (history of_stmts dates agent)
-      (λ r q there l. ages_same done variable r q (given_within of_stmts zero_first order dates cycles agent q there) l) (like agent))
+      (λ r q there l. ages_same done variable r q (given_within of_stmts order dates cycles agent q there) l) (like agent))
       (range_with_len 0 (length unit.agents)))

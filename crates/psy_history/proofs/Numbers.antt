@@ -1,18 +1,18 @@
--- The numbers of an agent's actions, from 0 on: they tell one action from the others, whatever the dates.
+-- The numbers of an agent's actions, from that of its first one on: they tell one action from the others, whatever the dates.
 use Rattle.std.proofs.Common.{◌≡◌, ℕ, suc, ◌+◌, ◌<◌, ◌≤◌, List, [], ◌∷◌, length, Some, sym, ap, ◌∙◌, subst, inl, inr, arith}
 use Rattle.std.specs.List.{Contains}
 use Rattle.psy_meaning.specs.Actions.{Action, Next, System, next_of}
 use Rattle.psy_meaning.specs.History.{action_of, history}
-use Rattle.psy_history.specs.Regular.{WereStarted}
+use Rattle.psy_history.specs.Regular.{WereStarted, first_number, number_of as number_in}
 use Rattle.psy_history.proofs.Growth.{at_each_date, next_done, stays_started}
 use Rattle.psy_history.proofs.Members.{contains_none, front_or_behind}
 
 -- ---- actions that were started
 
-number_below : (s : System) (dates agent : ℕ) (actions : List Action) (r : Action) → WereStarted s dates agent actions → Contains actions r → r.number < length actions
+number_below : (s : System) (dates agent : ℕ) (actions : List Action) (r : Action) → WereStarted s dates agent actions → Contains actions r → r.number < first_number s agent + length actions
 number_below s dates agent [] r were c = absurd (contains_none r c)
 number_below s dates agent (p ∷ before) r (was, were) c = elim (front_or_behind p before r c) [
-  | inl e ↦ subst (λ (q : Action). q.number < suc (length before)) e (omega (arith, was.number))
+  | inl e ↦ subst (λ (q : Action). q.number < first_number s agent + suc (length before)) e (omega (arith, was.number))
   | inr there ↦ omega (arith, number_below s dates agent before r were there)
 ]
 
@@ -46,15 +46,11 @@ were_later s date agent (r ∷ before) (was, were) =
 pub few : (s : System) (dates agent : ℕ) → length (history s dates agent) ≤ dates
 few s = at_each_date s (λ dates agent actions. length actions ≤ dates) (λ agent. omega arith) (λ date agent actions few. omega (arith, few)) (λ date agent n few next at. omega (arith, few agent))
 
--- ---- a system whose agents begin with action 0
+-- ---- the actions of a system
 
--- Each agent's first action has number 0.
-abbrev pub BeginAtZero : System → Type 0
-BeginAtZero s = (agent : ℕ) (n : Next) → s.opening.starts agent ≡ Some n → n.number ≡ 0
-
-module _ (s : System) (zero_first : BeginAtZero s) where
-  pub next_number : (dates agent : ℕ) (actions : List Action) (n : Next) → WereStarted s dates agent actions → next_of s agent actions ≡ Some n → n.number ≡ length actions
-  next_number dates agent [] n were e = zero_first agent n e
+module _ (s : System) where
+  pub next_number : (dates agent : ℕ) (actions : List Action) (n : Next) → WereStarted s dates agent actions → next_of s agent actions ≡ Some n → n.number ≡ first_number s agent + length actions
+  next_number dates agent [] n were e = (let is = ap number_in e in omega (arith, is))
   next_number dates agent (r ∷ before) n (was, were) e = omega (arith, (next_done r.number r.after r.verdict n e).1, was.number)
 
   pub were_started : (dates agent : ℕ) → WereStarted s dates agent (history s dates agent)
@@ -66,7 +62,7 @@ module _ (s : System) (zero_first : BeginAtZero s) where
   pub agent_of : (dates agent : ℕ) (r : Action) → Contains (history s dates agent) r → r.agent ≡ agent
   agent_of dates agent r c = agent_is s dates agent (history s dates agent) r (were_started dates agent) c
 
-  pub number_of : (dates agent : ℕ) (r : Action) → Contains (history s dates agent) r → r.number < length (history s dates agent)
+  pub number_of : (dates agent : ℕ) (r : Action) → Contains (history s dates agent) r → r.number < first_number s agent + length (history s dates agent)
   number_of dates agent r c = number_below s dates agent (history s dates agent) r (were_started dates agent) c
 
   -- of whatever dates, an agent has one action of a number

@@ -7,9 +7,8 @@ use Rattle.psy_code.specs.Execution.{RanTo, Run, RunState, TrappedBy, run_code}
 use Rattle.psy_code.specs.Lasting.{IsOver, Lasted}
 use Rattle.psy_code.specs.Views.{Deeds}
 use Rattle.psy_meaning.specs.Alike.{EndsAs}
-use Rattle.psy_meaning.specs.Executors.{Acted, Carried, Reached, Unfinished, acted_as, acted_by}
-use Rattle.psy_meaning.specs.Executors as fate
-use Rattle.psy_meaning.specs.States.{Final, Halts, State}
+use Rattle.psy_meaning.specs.Executors.{Acted, Carried, Unfinished, acted_as, acted_by}
+use Rattle.psy_meaning.specs.States.{Final, Halts}
 use Rattle.psy_meaning.specs.States as by
 use Rattle.psy_history.proofs.LateLooks.{looks_before, looks_below, over_stays}
 
@@ -58,21 +57,3 @@ module _ (code : Code) (its : AgentCode) (lasting : (s t : RunState) (n : ℕ) �
       within_by t s.deeds.steps (RanTo point t) (acted_by budget carried (Halts (by.Ended point s))) ran refl (ap (λ (d : Deeds). d.steps) same.deeds) (sym same.deeds) (rw (same.cells, same.copies, same.deeds) refl)
   within_budget (by.Trapped kind s) (t, ran, same) =
       within_by t s.deeds.steps (TrappedBy kind t) (acted_by budget carried (Halts (by.Trapped kind s))) ran refl (ap (λ (d : Deeds). d.steps) same.deeds) (sym same.deeds) (rw (same.cells, same.copies, same.deeds) refl)
-
-  costs_by : (final : Final) → EndsAs (Halts final) (run_code code its start) → 1 ≤ (acted_by budget carried (Halts final)).deeds.steps
-  costs_by (by.Ended point s) (t, ran, same) = some_steps code its start t s.deeds.steps (subst (λ r. IsOver r t) (sym ran) refl)
-  costs_by (by.Trapped kind s) (t, ran, same) = some_steps code its start t s.deeds.steps (subst (λ r. IsOver r t) (sym ran) refl)
-
-  pub costs_some : (a : Acted) (final : Final) → EndsAs (Halts final) (run_code code its start) → AreWithin budget a (acted_by budget carried (Halts final)) → 1 ≤ a.deeds.steps
-  costs_some a final ends (inl same) = subst (λ (b : Acted). 1 ≤ b.deeds.steps) (sym same) (costs_by final ends)
-  costs_some a final ends (inr past) = omega (arith, past.this)
-
--- ---- where the code reached a point, so did the statements
-
-pub reached_within : (budget : ℕ) (carried : Carried) (a : Acted) (final : Final) (to : ℕ) → AreWithin budget a (acted_by budget carried (Halts final)) → a.fate ≡ Reached to → (s : State) × (final ≡ by.Ended to s) × (a ≡ acted_by budget carried (Halts (by.Ended to s)))
-reached_within budget carried a final to (inr past) reached = (let not : Unfinished ≡ Reached to = sym past.unfinished ∙ reached in absurd cc)
-reached_within budget carried a (by.Ended p s) to (inl same) reached =
-    let is : Reached p ≡ Reached to = ap (λ (b : Acted). b.fate) (sym same) ∙ reached in
-    let at : p ≡ to = cc in
-    (s, ap (λ q. by.Ended q s) at, same ∙ ap (λ q. acted_by budget carried (Halts (by.Ended q s))) at)
-reached_within budget carried a (by.Trapped kind s) to (inl same) reached = (let not : fate.Trapped kind ≡ Reached to = ap (λ (b : Acted). b.fate) (sym same) ∙ reached in absurd cc)

@@ -11,13 +11,14 @@ use Rattle.psy_meaning.specs.Actions.{Action, History, System}
 use Rattle.psy_meaning.specs.History.{action_of, history}
 use Rattle.psy_meaning.specs.Schedule.{Turn, cycle_of_unit, is_of, turn_of, units}
 use Rattle.psy_meaning.specs.Summary.{age_in, ages_of, greater, reach}
+use Rattle.psy_history.specs.Regular.{first_number}
 use Rattle.psy_history.specs.Rings.{age_at}
 use Rattle.psy_history.specs.Scheduled.{turns_of}
 use Rattle.psy_history.proofs.Given.{given_unstarted}
 use Rattle.psy_history.proofs.Greatest.{greatest_same}
 use Rattle.psy_history.proofs.Growth.{grown, stays_started}
 use Rattle.psy_history.proofs.Members.{contains_behind, contains_front, contains_none, filter_from, filter_in, flat_map_from, flat_map_in, front_or_behind}
-use Rattle.psy_history.proofs.Numbers.{BeginAtZero, agent_of, next_number, were_started}
+use Rattle.psy_history.proofs.Numbers.{agent_of, next_number, were_started}
 use Rattle.psy_history.proofs.UnitCycles.{no_unit, unit_stays}
 
 -- ---- one age
@@ -153,7 +154,7 @@ pub reach_none : (s : System) (h : History) (variable : ℕ) → reach s [] h va
 reach_none s h variable = greatest_same (all_ages s [] h variable) [] (λ n c. absurd (none-some _ (reached_in s [] h variable n c).executed), λ n c. absurd (contains_none n c))
 
 -- The actions that a date starts have no unit in the cycles before it.
-module _ (s : System) (zero_first : BeginAtZero s) (order : ℕ → List ℕ) (date cycles variable : ℕ) (some : 1 ≤ s.unit.quantum) (within : cycles ≤ date * s.unit.quantum) where
+module _ (s : System) (order : ℕ → List ℕ) (date cycles variable : ℕ) (some : 1 ≤ s.unit.quantum) (within : cycles ≤ date * s.unit.quantum) where
   abbrev done : List (Option Turn)
   done = turns_of s order cycles
 
@@ -162,10 +163,10 @@ module _ (s : System) (zero_first : BeginAtZero s) (order : ℕ → List ℕ) (d
     | inl (same, other) ↦ subst (λ actions. Contains actions r) same there
     | inr (next, is_next, at, more) ↦ elim (front_or_behind (action_of s (history s date) agent next) (history s date agent) r (subst (λ actions. Contains actions r) more there)) [
       | inl e ↦ (
-          let number = next_number s zero_first date agent (history s date agent) next (were_started s zero_first date agent) is_next in
-          let high : length (history s date agent) ≤ r.number = omega (arith, number, ap (λ (q : Action). q.number) e) in
-          let none = given_unstarted s zero_first order date cycles agent r.number some within high in
-          let known : r.agent ≡ agent = agent_of s zero_first (suc date) agent r there in
+          let number = next_number s date agent (history s date agent) next (were_started s date agent) is_next in
+          let high : first_number s agent + length (history s date agent) ≤ r.number = omega (arith, number, ap (λ (q : Action). q.number) e) in
+          let none = given_unstarted s order date cycles agent r.number some within high in
+          let known : r.agent ≡ agent = agent_of s (suc date) agent r there in
           let few : units r.agent r.number done ≤ unit = rw known (omega (arith, none)) in
           absurd (none-some cycle (sym (no_unit r.agent r.number unit done few) ∙ had)))
       | inr before ↦ before

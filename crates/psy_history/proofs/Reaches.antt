@@ -1,31 +1,29 @@
 -- A cycle that pays an instruction: rings are reached for as far back as that one asks.
 use Rattle.std.proofs.Common.{◌≡◌, ◌≢◌, ℕ, suc, ◌+◌, ◌-◌, ◌/◌, ◌<◌, ◌==◌, List, ◌∷◌, length, Option, Some, None, refl, sym, ap, ◌∙◌, subst, inl, inr, arith}
-use Rattle.std.specs.Prelude.{ℤ}
 use Rattle.std.specs.List.{Contains}
-use Rattle.std.proofs.lemmas.Bool.{cases_Bool, cases_lt, eqb-false, eqb-true}
+use Rattle.std.proofs.lemmas.Bool.{cases_Bool, eqb-false, eqb-true}
 use Rattle.std.proofs.lemmas.List.Elements.{All-contains}
 use Rattle.std.proofs.lemmas.Option.{get_or_from_slice_get, none-some, same_Some}
-use Rattle.psy_budget.specs.declared.charge.Stall.{Stall}
 use Rattle.psy_budget.specs.Charges.{cycle_of}
 use Rattle.psy_code.specs.declared.code.AgentCode.{AgentCode}
 use Rattle.psy_code.specs.declared.code.Code.{Code}
 use Rattle.psy_code.specs.Execution.{NoRun, RanTo, Run, RunState, Running, Stuck, TrappedBy, call_of, go_on, next_of as next_machine, run_code}
 use Rattle.psy_code.specs.Lasting.{IsOver}
 use Rattle.psy_code.specs.Views.{Call, Looked, Past, Ready, Send, Take}
-use Rattle.psy_tree.specs.declared.unit.Unit.{Unit as Whole}
 use Rattle.psy_meaning.specs.Actions.{Action, History, System}
 use Rattle.psy_meaning.specs.Executors.{agent_code_at}
 use Rattle.psy_meaning.specs.History.{history}
 use Rattle.psy_meaning.specs.Schedule.{Turn, turn_of, units}
 use Rattle.psy_meaning.specs.Summary.{greater, reach}
-use Rattle.psy_history.specs.Compiled.{coded}
 use Rattle.psy_history.specs.Regular.{IsLawful, IsRegular, Runs, begun_by}
 use Rattle.psy_history.specs.Rings.{age_at, reach_with}
+use Rattle.psy_history.specs.Runs.{IsRun}
+use Rattle.psy_history.specs.Ways.{Ways}
 use Rattle.psy_history.proofs.LateLooks.{over_stays, parts}
-use Rattle.psy_history.proofs.LooksAsked.{looks_are}
 use Rattle.psy_history.proofs.LooksOfCode.{asked_look, look_asked, looks_of, none_ahead}
-use Rattle.psy_history.proofs.Numbers.{BeginAtZero, agent_of, one_of_number}
+use Rattle.psy_history.proofs.Numbers.{agent_of, one_of_number}
 use Rattle.psy_history.proofs.Reached.{IsNow, IsReached, before_or_now, reach_one_more, reach_same, reached_stays}
+use Rattle.psy_history.proofs.RunLooks.{before_end, looks_are}
 use Rattle.psy_history.proofs.UnitCycles.{one_paid, unit_now}
 
 -- ---- what an action of the code looks at
@@ -36,14 +34,8 @@ over_runs (RanTo point s) last over = λ e. cc
 over_runs (TrappedBy kind s) last over = λ e. cc
 over_runs NoRun last over = absurd over
 
-module _ (unit : Whole) (code : Code) (nexts : List (List (List ℕ))) (stalls : ℕ → List Stall) (inputs : List (List ℤ)) (lawful : IsLawful (coded unit code nexts stalls inputs)) (dates agent : ℕ) (r : Action) (there : Contains (history (coded unit code nexts stalls inputs) dates agent) r) where
-  abbrev system : System
-  system = coded unit code nexts stalls inputs
-
-  zero_first : BeginAtZero system
-  zero_first a n e = (lawful.opening a n e).2
-
-  module _ (runs : Runs system code r) (instr : ℕ) (state : RunState) (running : run_code code (agent_code_at code r.agent) (begun_by (agent_code_at code r.agent) r) instr ≡ Running state) (paid : instr < r.budget) where
+module _ (s : System) (ways : Ways) (code : Code) (run : IsRun s ways code) (lawful : IsLawful s) (dates agent : ℕ) (r : Action) (there : Contains (history s dates agent) r) where
+  module _ (runs : Runs s ways code r) (instr : ℕ) (state : RunState) (running : run_code code (agent_code_at code r.agent) (begun_by (agent_code_at code r.agent) r) instr ≡ Running state) (paid : instr < r.budget) where
     abbrev its : AgentCode
     its = runs.its
 
@@ -59,27 +51,24 @@ module _ (unit : Whole) (code : Code) (nexts : List (List (List ℕ))) (stalls :
     at_instr : after instr ≡ Running state
     at_instr = subst (λ i. run_code code i (begun_by i r) instr ≡ Running state) same_code running
 
-    runs_on : (n : ℕ) → after n ≢ NoRun
-    runs_on n = elim (cases_lt n runs.steps) [
-      | inl less ↦ (let on = (runs.on_the_way n less).running in λ stuck. let not = sym on ∙ stuck in cc)
-      | inr most ↦ over_runs (after n) runs.last (subst (λ run. IsOver run runs.last) (sym (over_stays code its runs.steps n start runs.last most runs.over)) runs.over)
+    runs_on : after r.budget ≢ NoRun
+    runs_on = elim runs.ends [
+      | inl over ↦ over_runs (after r.budget) runs.last (subst (λ run. IsOver run runs.last) (sym (over_stays code its runs.steps r.budget start runs.last runs.within over)) over)
+      | inr spent ↦ (let on : after r.budget ≡ Running runs.last = subst (λ n. after n ≡ Running runs.last) spent.0 spent.1 in λ stuck. let not = sym on ∙ stuck in cc)
     ]
 
-    before_end : instr < runs.steps
-    before_end = elim (cases_lt instr runs.steps) [
-      | inl less ↦ less
-      | inr most ↦ absurd (subst (λ run. IsOver run runs.last) (sym (over_stays code its runs.steps instr start runs.last most runs.over) ∙ at_instr) runs.over)
-    ]
+    early : instr < runs.steps
+    early = before_end s ways code r runs instr state at_instr paid
 
     -- the state there is the one that goes on
-    goes_there : (runs.on_the_way instr before_end).state ≡ state
-    goes_there = (let e = sym (runs.on_the_way instr before_end).running ∙ at_instr in cc)
+    goes_there : (runs.on_the_way instr early).state ≡ state
+    goes_there = (let e = sym (runs.on_the_way instr early).running ∙ at_instr in cc)
 
     counted : state.deeds.steps ≡ instr
-    counted = subst (λ (t : RunState). t.deeds.steps ≡ instr) goes_there (runs.on_the_way instr before_end).counted
+    counted = subst (λ (t : RunState). t.deeds.steps ≡ instr) goes_there (runs.on_the_way instr early).counted
 
     able : next_machine code its state.view state.machine ≢ Stuck
-    able = subst (λ (t : RunState). next_machine code its t.view t.machine ≢ Stuck) goes_there (runs.on_the_way instr before_end).able
+    able = subst (λ (t : RunState). next_machine code its t.view t.machine ≢ Stuck) goes_there (runs.on_the_way instr early).able
 
     abbrev rest : ℕ
     rest = r.budget - instr - 1
@@ -90,7 +79,7 @@ module _ (unit : Whole) (code : Code) (nexts : List (List (List ℕ))) (stalls :
         ap after sum ∙ parts code its instr (suc rest) start ∙ ap (λ run. go_on run (λ t. run_code code its t (suc rest))) at_instr
 
     looks_here : r.deeds.looks ≡ looks_of (run_code code its state (suc rest))
-    looks_here = looks_are unit code nexts stalls inputs lawful dates agent r there runs ∙ ap looks_of cut
+    looks_here = looks_are s ways code run lawful dates agent r there runs ∙ ap looks_of cut
 
     -- what it looks at under the number of an instruction, that one asks for,
     asks_for : (look : Looked) → Contains r.deeds.looks look → look.number ≡ instr → call_of code state.machine ≡ Some (Past look.variable look.back)
@@ -102,36 +91,36 @@ module _ (unit : Whole) (code : Code) (nexts : List (List (List ℕ))) (stalls :
     is_looked variable back asks =
         subst (λ n. Contains r.deeds.looks (record { number = n; variable = variable; back = back })) counted
         (subst (λ looks. Contains looks (record { number = state.deeds.steps; variable = variable; back = back })) (sym looks_here)
-        (asked_look code its rest state variable back asks able (λ stuck. runs_on r.budget (cut ∙ stuck))))
+        (asked_look code its rest state variable back asks able (λ stuck. runs_on (cut ∙ stuck))))
 
     -- ---- how far back it reaches
 
-    module _ (turns : List (Option Turn)) (variable : ℕ) (has : units r.agent r.number turns ≡ cycle_of (stalls r.agent) r.number instr) where
+    module _ (turns : List (Option Turn)) (variable : ℕ) (has : units r.agent r.number turns ≡ cycle_of (s.stalls r.agent) r.number instr) where
       abbrev h : History
-      h = history system dates
+      h = history s dates
 
       abbrev with_this : List (Option Turn)
       with_this = turn_of (Some r) ∷ turns
 
       -- a look that the next cycle executes is of this action, and the instruction asks for it
-      now_asked : (n : ℕ) (it : IsReached system with_this h variable n) → IsNow system turns r it.r it.look it.cycle → (it.r ≡ r) × (call_of code state.machine ≡ Some (Past variable it.look.back))
+      now_asked : (n : ℕ) (it : IsReached s with_this h variable n) → IsNow s turns r it.r it.look it.cycle → (it.r ≡ r) × (call_of code state.machine ≡ Some (Past variable it.look.back))
       now_asked n it now =
-          let place : it.agent ≡ agent = sym (agent_of system zero_first dates it.agent it.r it.there) ∙ sym now.agent ∙ agent_of system zero_first dates agent r there in
-          let same : it.r ≡ r = one_of_number system zero_first dates dates agent it.r r (subst (λ a. Contains (h a) it.r) place it.there) there (sym now.number) in
-          let number : it.look.number ≡ instr = one_paid (stalls r.agent) r.number it.look.number instr (sym now.unit ∙ has) in
+          let place : it.agent ≡ agent = sym (agent_of s dates it.agent it.r it.there) ∙ sym now.agent ∙ agent_of s dates agent r there in
+          let same : it.r ≡ r = one_of_number s dates dates agent it.r r (subst (λ a. Contains (h a) it.r) place it.there) there (sym now.number) in
+          let number : it.look.number ≡ instr = one_paid (s.stalls r.agent) r.number it.look.number instr (sym now.unit ∙ has) in
           let asks = asks_for it.look (subst (λ (q : Action). Contains q.deeds.looks it.look) same it.looked) number in
           (same, subst (λ v. call_of code state.machine ≡ Some (Past v it.look.back)) it.at asks)
 
-      no_further : ((back : ℕ) → call_of code state.machine ≡ Some (Past variable back) → ⊥) → reach system with_this h variable ≡ reach system turns h variable
-      no_further none = reach_same system with_this turns h h variable
-          (λ n it. elim (before_or_now system turns h variable r n it) [ inl before ↦ before | inr now ↦ absurd (none it.look.back (now_asked n it now).1) ])
-          (reached_stays system turns h variable (turn_of (Some r)))
+      no_further : ((back : ℕ) → call_of code state.machine ≡ Some (Past variable back) → ⊥) → reach s with_this h variable ≡ reach s turns h variable
+      no_further none = reach_same s with_this turns h h variable
+          (λ n it. elim (before_or_now s turns h variable r n it) [ inl before ↦ before | inr now ↦ absurd (none it.look.back (now_asked n it now).1) ])
+          (reached_stays s turns h variable (turn_of (Some r)))
 
-      known : agent < length unit.agents
-      known = (All-contains (IsRegular system agent) (history system dates agent) r (lawful.actions dates agent).each there).known
+      known : agent < length s.unit.agents
+      known = (All-contains (IsRegular s agent) (history s dates agent) r (lawful.actions dates agent).each there).known
 
-      further : (back : ℕ) → call_of code state.machine ≡ Some (Past variable back) → reach system with_this h variable ≡ greater (age_at system variable back r.start (length turns / unit.quantum)) (reach system turns h variable)
-      further back asks = reach_one_more system with_this turns h h variable (age_at system variable back r.start (length turns / unit.quantum))
+      further : (back : ℕ) → call_of code state.machine ≡ Some (Past variable back) → reach s with_this h variable ≡ greater (age_at s variable back r.start (length turns / s.unit.quantum)) (reach s turns h variable)
+      further back asks = reach_one_more s with_this turns h h variable (age_at s variable back r.start (length turns / s.unit.quantum))
           (record {
             agent = agent;
             known = known;
@@ -141,10 +130,10 @@ module _ (unit : Whole) (code : Code) (nexts : List (List (List ℕ))) (stalls :
             looked = is_looked variable back asks;
             at = refl;
             cycle = length turns;
-            executed = unit_now r turns (cycle_of (stalls r.agent) r.number instr) has;
+            executed = unit_now r turns (cycle_of (s.stalls r.agent) r.number instr) has;
             is = refl;
           })
-          (λ n it. elim (before_or_now system turns h variable r n it) [
+          (λ n it. elim (before_or_now s turns h variable r n it) [
             | inl before ↦ inr before
             | inr now ↦ (
                 let (same, asked) = now_asked n it now in
@@ -152,9 +141,9 @@ module _ (unit : Whole) (code : Code) (nexts : List (List (List ℕ))) (stalls :
                 let as_far : it.look.back ≡ back = cc in
                 inl (rw (it.is, same, it.at, as_far, sym now.cycle_is) refl))
           ])
-          (reached_stays system turns h variable (turn_of (Some r)))
+          (reached_stays s turns h variable (turn_of (Some r)))
 
-      pub reach_paid : (call : Option Call) → call_of code state.machine ≡ call → reach system with_this h variable ≡ reach_with system variable r.start (length turns / unit.quantum) call (reach system turns h variable)
+      pub reach_paid : (call : Option Call) → call_of code state.machine ≡ call → reach s with_this h variable ≡ reach_with s variable r.start (length turns / s.unit.quantum) call (reach s turns h variable)
       reach_paid None e = no_further (λ back asks. none-some (Past variable back) (sym e ∙ asks))
       reach_paid (Some (Past looked back)) e = elim (cases_Bool (looked == variable)) [
         | inl t ↦ rw t (further back (subst (λ v. call_of code state.machine ≡ Some (Past v back)) (eqb-true looked variable t) e))

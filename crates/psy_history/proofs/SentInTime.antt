@@ -10,15 +10,16 @@ use Rattle.psy_base.specs.declared.limits.TheConstants.{QUEUE}
 use Rattle.psy_base.specs.declared.message.Message.{Message}
 use Rattle.psy_base.specs.Paths.{FitsFirstFree, IsGreatestWeight, IsPathFrom, length_of, weight_of}
 use Rattle.psy_meaning.specs.Actions.{Action, Next, System, Verdict, Done, Overran, Trapped, next_by, next_of, timing}
-use Rattle.psy_meaning.specs.Executors.{agent_at}
 use Rattle.psy_meaning.specs.Graph.{Spot, IsGraph, spot_at}
-use Rattle.psy_meaning.specs.QueueSizes.{AreSendEdges}
-use Rattle.psy_meaning.specs.Timing as may
+use Rattle.psy_meaning.specs.Timing.{end_date}
 use Rattle.psy_meaning.specs.Visible.{messages_by}
 use Rattle.psy_history.specs.Regular.{IsRegular, WereStarted}
+use Rattle.psy_history.specs.Ways.{Ways}
+use Rattle.psy_history.specs.WaySizes.{AreSendEdges}
 use Rattle.psy_history.proofs.Growth.{next_done}
 use Rattle.psy_history.proofs.MessagesOfSends.{many_from, of_send}
 use Rattle.psy_history.proofs.PassingMessages.{filter_none}
+use Rattle.psy_history.proofs.SamePhases.{goes_alike}
 use Rattle.psy_history.proofs.SendWeights.{IsNodeAt, SendsByWay, node_at, send_step, sends_to}
 
 -- It has entered by this date, and fewer dates than these lie behind.
@@ -81,13 +82,13 @@ module _ (s : System) (stream date window : ℕ) where
         let earlier = none_recent before were (All-tail (IsRegular s agent) r before all) was.next was.is_next (omega (arith, start, regular.due, ends.2, old)) in
         omega (arith, with_own r before, earlier, own_none r n.point n.start done (λ by after. omega (arith, after, old)))
 
-    module _ (spots : List Spot) (edges sent : List Edge) (graph : IsGraph (timing s agent) spots edges) (sends : AreSendEdges s.unit.functions (agent_at s.unit agent) stream spots edges sent)
+    module _ (ways : Ways) (spots : List Spot) (edges sent : List Edge) (graph : IsGraph (timing s agent) spots edges) (sends : AreSendEdges ways agent stream spots edges sent)
         (bound : ℕ) (greatest : IsGreatestWeight sent (FitsFirstFree (window - 1)) bound) (small : bound ≤ QUEUE) where
       abbrev IsNode : ℕ → ℕ → ℕ → Type 0
-      IsNode = IsNodeAt s agent stream spots edges sent graph sends
+      IsNode = IsNodeAt s ways agent stream spots edges sent graph sends
 
       -- The messages in time, and a path of later actions, weigh no more than the bound: the path grows at its front.
-      with_path : (actions : List Action) → WereStarted s dates agent actions → All (IsRegular s agent) actions → All (SendsByWay s agent stream) actions
+      with_path : (actions : List Action) → WereStarted s dates agent actions → All (IsRegular s agent) actions → All (SendsByWay ways agent) actions
           → (n : Next) (node : ℕ) (path : List Edge) → next_of s agent actions ≡ Some n → IsNode n.point n.start node → IsPathFrom sent node path → n.start + length_of path ≤ date → FitsFirstFree (window - 1) path
           → sent_in_time s stream date window actions + weight_of path ≤ bound
       with_path [] were all by_way n node path is at from within fits = omega (arith, greatest.most path (node, from) fits)
@@ -96,29 +97,29 @@ module _ (s : System) (stream date window : ℕ) where
           let done = (next_done r.number r.after r.verdict n is).0 in
           elim (cases_lt date (n.start + window)) [
             | inl recent ↦ (
-                let (f, step) = send_step s agent stream spots edges sent graph sends window bound greatest small r regular (All-head (SendsByWay s agent stream) r before by_way) n.point n.start node done at in
+                let (f, step) = send_step s ways agent stream spots edges sent graph sends window bound greatest small r regular (All-head (SendsByWay ways agent) r before by_way) n.point n.start node done at in
                 let start : r.start ≡ was.next.start = ap (λ (x : Action). x.start) was.made in
                 let began : IsNode was.next.point was.next.start f.from = step.from ∙ ap (λ (x : Action). Some (spot_at graph.cycle x.point x.start)) was.made in
                 let rest : IsPathFrom sent f.to path = subst (λ k. IsPathFrom sent k path) (sym step.into) from in
                 let earlier : sent_in_time s stream date window before + (f.weight + weight_of path) ≤ bound =
-                with_path before were (All-tail (IsRegular s agent) r before all) (All-tail (SendsByWay s agent stream) r before by_way) was.next f.from (f ∷ path) was.is_next began (step.there, refl, rest)
+                with_path before were (All-tail (IsRegular s agent) r before all) (All-tail (SendsByWay ways agent) r before by_way) was.next f.from (f ∷ path) was.is_next began (step.there, refl, rest)
                 (omega (arith, start, step.ends, within)) (omega (arith, within, recent)) in
                 omega (arith, with_own r before, own_few r n.point n.start done, step.weight, earlier))
             | inr old ↦ omega (arith, none_recent (r ∷ before) (was, were) all n is old, greatest.most path (node, from) fits)
           ]
 
       -- behind the last one
-      without_last : (r : Action) (before : List Action) → WereStarted s dates agent (r ∷ before) → All (IsRegular s agent) (r ∷ before) → All (SendsByWay s agent stream) (r ∷ before) → r.start ≤ date → sent_in_time s stream date window before ≤ bound
+      without_last : (r : Action) (before : List Action) → WereStarted s dates agent (r ∷ before) → All (IsRegular s agent) (r ∷ before) → All (SendsByWay ways agent) (r ∷ before) → r.start ≤ date → sent_in_time s stream date window before ≤ bound
       without_last r before (was, were) all by_way by =
           let regular = All-head (IsRegular s agent) r before all in
-          let (node, at) = node_at s agent stream spots edges sent graph sends r.point r.start regular.starts in
+          let (node, at) = node_at s ways agent stream spots edges sent graph sends r.point r.start regular.starts in
           let start : r.start ≡ was.next.start = ap (λ (x : Action). x.start) was.made in
           let began : IsNode was.next.point was.next.start node = at ∙ ap (λ (x : Action). Some (spot_at graph.cycle x.point x.start)) was.made in
-          let most = with_path before were (All-tail (IsRegular s agent) r before all) (All-tail (SendsByWay s agent stream) r before by_way) was.next node [] was.is_next began (tt {0}) (omega (arith, start, by)) (tt {0}) in
+          let most = with_path before were (All-tail (IsRegular s agent) r before all) (All-tail (SendsByWay ways agent) r before by_way) was.next node [] was.is_next began (tt {0}) (omega (arith, start, by)) (tt {0}) in
           omega (arith, most)
 
       -- all of them
-      pub most_in_time : (actions : List Action) → WereStarted s dates agent actions → All (IsRegular s agent) actions → All (SendsByWay s agent stream) actions → dates ≤ suc date → sent_in_time s stream date window actions ≤ bound
+      pub most_in_time : (actions : List Action) → WereStarted s dates agent actions → All (IsRegular s agent) actions → All (SendsByWay ways agent) actions → dates ≤ suc date → sent_in_time s stream date window actions ≤ bound
       most_in_time [] were all by_way by = omega arith
       most_in_time (r ∷ before) (was, were) all by_way by = from r.verdict refl
         where
@@ -136,7 +137,7 @@ module _ (s : System) (stream date window : ℕ) where
             | inl late ↦ omega (arith, with_own r before, own_none r point end done (λ by after. omega (arith, by, late)), others)
             | inr ended ↦ (
                 let ends = regular.ends point end done in
-                let (node, at) = node_at s agent stream spots edges sent graph sends point (may.end_date (timing s agent) r.start point) (may.later r.point r.start point regular.starts ends.0) in
+                let (node, at) = node_at s ways agent stream spots edges sent graph sends point (end_date (timing s agent) r.start point) (goes_alike s agent r regular point ends.0) in
                 let next : Next = record { number = r.number + 1; point = point; start = end; carried = r.after } in
                 let there : IsNode point end node = subst (λ t. IsNode point t node) (sym ends.1) at in
                 let most = with_path (r ∷ before) (was, were) all by_way next node [] (ap (next_by r.number r.after) done) there (tt {0}) (omega (arith, ended)) (tt {0}) in

@@ -1,30 +1,21 @@
--- What comes of an action of a program's code that starts where its agent may go on.
-use Rattle.std.proofs.Common.{◌≡◌, ℕ, ◌≤◌, All, List, Some, inl, inr, refl, sym, ap, subst, ◌∙◌}
-use Rattle.std.specs.Prelude.{FitsSigned, nat_lt, ℤ}
-use Rattle.std.specs.Int.{w32}
+-- How an action came to its verdict; and that the same comes of the code and of the statements of an action that starts where its agent may go on.
+use Rattle.std.proofs.Common.{◌≡◌, ℕ, List, inl, inr, refl, sym, subst}
+use Rattle.std.specs.Prelude.{nat_lt, ℤ}
 use Rattle.std.proofs.lemmas.Bool.{cases_Bool}
-use Rattle.psy_base.specs.declared.message.Message.{Message}
 use Rattle.psy_budget.specs.declared.charge.Stall.{Stall}
 use Rattle.psy_code.specs.declared.code.Code.{Code}
 use Rattle.psy_code.specs.Views.{View}
 use Rattle.psy_tree.specs.declared.unit.AgentDecl.{AgentDecl}
 use Rattle.psy_tree.specs.declared.unit.Unit.{Unit as Whole}
-use Rattle.psy_meaning.specs.Actions.{Action, Next, System, Done, Overran, charge_of, next_by, timing, verdict_by, verdict_of}
-use Rattle.psy_meaning.specs.Alike.{IsViewOf, begun, started}
-use Rattle.psy_meaning.specs.Executors.{Acted, Fate, Reached, Unfinished, acted_by, agent_at, agent_code_at, by_statements, machine_at, store_of}
+use Rattle.psy_meaning.specs.Actions.{Next, System, Done, Overran, timing, verdict_by, verdict_of}
+use Rattle.psy_meaning.specs.Alike.{IsViewOf, started}
+use Rattle.psy_meaning.specs.Executors.{Acted, Fate, Reached, Unfinished, acted_by, agent_at, agent_code_at, by_statements, machine_at}
 use Rattle.psy_meaning.specs.Executors as fate
-use Rattle.psy_meaning.specs.History.{executed}
-use Rattle.psy_meaning.specs.Kept.{IsAdvanceOf, IsKept, IsSentOf}
-use Rattle.psy_meaning.specs.Rest.{rest}
-use Rattle.psy_meaning.specs.States.{Halts, State}
-use Rattle.psy_meaning.specs.States as by
-use Rattle.psy_meaning.specs.Statements.{act}
+use Rattle.psy_meaning.specs.States.{Halts}
 use Rattle.psy_meaning.specs.Timing.{Timing, budget_at, end_date}
 use Rattle.psy_history.specs.Compiled.{IsCompiled, coded}
-use Rattle.psy_history.proofs.Growth.{next_done}
-use Rattle.psy_history.proofs.OneAction.{AreWithin, costs_some, reached_within, within_budget}
-use Rattle.psy_history.proofs.Seeing.{LeavesFit}
-use Rattle.psy_history.proofs.Stores.{AreStoreLaws, Carries, EndsAlike, IsOwn, IsReady, ends_alike}
+use Rattle.psy_history.proofs.OneAction.{AreWithin, within_budget}
+use Rattle.psy_history.proofs.Stores.{AreStoreLaws, EndsAlike, IsReady, ends_alike}
 
 -- ---- verdicts
 
@@ -43,7 +34,7 @@ done_of times start budget charge f p e h = elim (cases_Bool (nat_lt budget char
 -- ---- an action
 
 module _ (unit : Whole) (code : Code) (nexts : List (List (List ℕ))) (stalls : ℕ → List Stall) (inputs : List (List ℤ)) (laws : AreStoreLaws unit code) (compiled : IsCompiled unit code nexts)
-    (agent : ℕ) (n : Next) (ready : IsReady unit agent n) (view : View) (seen : ℕ → List Message) (sees : IsViewOf unit agent view) where
+    (agent : ℕ) (n : Next) (ready : IsReady unit agent n) (view : View) (sees : IsViewOf unit agent view) where
   abbrev system : System
   system = coded unit code nexts stalls inputs
 
@@ -59,9 +50,6 @@ module _ (unit : Whole) (code : Code) (nexts : List (List (List ℕ))) (stalls :
   abbrev acted : Acted
   acted = system.executor.act agent n.point n.carried view budget
 
-  abbrev r : Action
-  r = executed system agent n view seen
-
   it : EndsAlike unit code agent n.point n.carried view
   it = ends_alike unit code nexts laws compiled agent n.point n.carried view ready.less ready.known ready.carries sees
 
@@ -73,47 +61,3 @@ module _ (unit : Whole) (code : Code) (nexts : List (List (List ℕ))) (stalls :
   -- the same came of the statements
   pub acted_alike : AreWithin budget acted ((by_statements unit).act agent n.point n.carried view budget)
   acted_alike = subst (λ o. AreWithin budget acted (acted_by budget n.carried o)) (sym it.acts) within
-
-  pub costs : 1 ≤ acted.deeds.steps
-  costs =
-      let its = agent_code_at code agent in
-      costs_some code its (laws.lasted its) (started (machine_at its n.point n.carried) view) refl budget n.carried acted it.final it.ends within
-
-  -- ---- where it reached a point
-
-  reached : (to : ℕ) → acted.fate ≡ Reached to → (s : State) × (it.final ≡ by.Ended to s) × (acted ≡ acted_by budget n.carried (Halts (by.Ended to s)))
-  reached to h = reached_within budget n.carried acted it.final to within h
-
-  pub acts_to : (to : ℕ) → acted.fate ≡ Reached to → (s : State) × (act unit.functions (rest decl.stmts n.point) (begun (store_of decl n.carried) view) ≡ Halts (by.Ended to s))
-  acts_to to h = (let (s, ends, same) = reached to h in (s, it.acts ∙ ap Halts ends))
-
-  -- what was done is what the statements did
-  pub deeds_to : (to : ℕ) → acted.fate ≡ Reached to → (s : State) × (act unit.functions (rest decl.stmts n.point) (begun (store_of decl n.carried) view) ≡ Halts (by.Ended to s)) × (acted.deeds ≡ s.deeds)
-  deeds_to to h = (let (s, ends, same) = reached to h in (s, it.acts ∙ ap Halts ends, ap (λ (a : Acted). a.deeds) same))
-
-  kept_at : (to : ℕ) → acted.fate ≡ Reached to → IsAdvanceOf decl to × Carries unit agent acted.carried × All (IsSentOf unit) acted.deeds.sends
-  kept_at to h =
-      let (s, ends, same) = reached to h in
-      let kept : IsKept unit agent decl (by.Ended to s) = subst (IsKept unit agent decl) ends it.kept in
-      let carries : Carries unit agent acted.carried = record { store = s.store; holds = kept.1; is = ap (λ (a : Acted). a.carried) same } in
-      (kept.0, carries, subst (All (IsSentOf unit)) (sym (ap (λ (a : Acted). a.deeds.sends) same)) kept.2.sends)
-
-  pub done : (p e : ℕ) → r.verdict ≡ Done p e → (acted.fate ≡ Reached p) × (e ≡ end_date times n.start p)
-  done p e h = done_of times n.start budget (charge_of system agent n.number acted.deeds.steps) acted.fate p e h
-
-  pub own : IsOwn unit agent r
-  own = record { agent_is = refl; less = ready.less; known = ready.known; carries = ready.carries; sees = sees }
-
-  pub leaves : LeavesFit unit r
-  leaves = record {
-    copies = λ p e h.
-        let carries = (kept_at p (done p e h).0).1 in
-        subst (λ c. All (λ x. FitsSigned w32 x.value) c.copies) (sym carries.is) carries.holds.copies;
-    sends = λ p e h. (kept_at p (done p e h).0).2;
-  }
-
-  pub goes_on : (m : Next) → next_by r.number r.after r.verdict ≡ Some m → IsReady unit agent m
-  goes_on m h =
-      let (is, number, carried) = next_done r.number r.after r.verdict m h in
-      let kept = kept_at m.point (done m.point m.start is).0 in
-      record { less = ready.less; known = kept.0.1; carries = subst (Carries unit agent) (sym carried) kept.1 }

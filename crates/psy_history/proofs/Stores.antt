@@ -10,7 +10,7 @@ use Rattle.psy_code.specs.Lasting.{IsOver, Lasted}
 use Rattle.psy_code.specs.Views.{View}
 use Rattle.psy_tree.specs.declared.unit.AgentDecl.{AgentDecl}
 use Rattle.psy_tree.specs.declared.unit.Unit.{Unit as Whole}
-use Rattle.psy_meaning.specs.Actions.{Action, Next, first_action}
+use Rattle.psy_meaning.specs.Actions.{Next}
 use Rattle.psy_meaning.specs.Alike.{AgentAlike, EndsAs, IsStoreOf, IsViewOf, begun, first_store, started}
 use Rattle.psy_meaning.specs.Executors.{Carried, agent_at, agent_code_at, by_code, carried_in, machine_at, store_of}
 use Rattle.psy_meaning.specs.Kept.{IsKept}
@@ -41,14 +41,6 @@ pub record IsReady (unit : Whole) (agent : ℕ) (n : Next) : Type 0 where
   pub known : n.point < length (agent_at unit agent).points
   pub carries : Carries unit agent n.carried
 
--- An action of an agent begins at one of its points with a store of its own, and sees what it may.
-pub record IsOwn (unit : Whole) (agent : ℕ) (r : Action) : Type 0 where
-  pub agent_is : r.agent ≡ agent
-  pub less : agent < length unit.agents
-  pub known : r.point < length (agent_at unit agent).points
-  pub carries : Carries unit agent r.before
-  pub sees : IsViewOf unit agent r.view
-
 -- An action that begins so ends by its statements, which keep the store, and by its code as they do.
 pub record EndsAlike (unit : Whole) (code : Code) (agent point : ℕ) (carried : Carried) (view : View) : Type 0 where
   pub final : Final
@@ -72,13 +64,6 @@ module _ (unit : Whole) (code : Code) (nexts : List (List (List ℕ))) (laws : A
 
   pub first_carried : (agent : ℕ) → agent < length unit.agents → (by_code code).first agent ≡ carried_in (first_store unit agent (agent_at unit agent))
   first_carried agent less = rw ((alike agent less).cells, (alike agent less).copies) refl
-
-  pub first_ready : (agent : ℕ) → agent < length unit.agents → IsReady unit agent (first_action unit nexts (by_code code) agent)
-  first_ready agent less = record {
-    less = less;
-    known = omega (arith, (laws.sound.agents agent (agent_at unit agent) (of_unit agent less)).points);
-    carries = record { store = first_store unit agent (agent_at unit agent); holds = laws.first agent (agent_at unit agent) (of_unit agent less); is = first_carried agent less };
-  }
 
   -- ---- how actions end
 

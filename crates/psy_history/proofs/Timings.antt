@@ -1,4 +1,4 @@
--- Points of an agent of a text: their budgets, which may follow which, and that actions end behind their starts.
+-- Points of an agent: their budgets, which may follow which, and that actions end behind their starts.
 use Rattle.std.proofs.Common.{◌≡◌, ℕ, zero, suc, ◌<◌, ◌≤◌, List, [], ◌∷◌, length, get_or, Some, refl, ap, subst, arith}
 use Rattle.std.specs.Prelude.{slice_get}
 use Rattle.std.specs.List.{Contains}
@@ -10,7 +10,7 @@ use Rattle.psy_tree.specs.declared.unit.Point.{Point}
 use Rattle.psy_tree.specs.declared.unit.Unit.{Unit as Whole}
 use Rattle.psy_meaning.specs.Flow.{AreNexts, IsNext}
 use Rattle.psy_meaning.specs.Timing.{Timing, timing_of, budget_at, clock_at, end_date, following, point_at}
-use Rattle.psy_meaning.specs.Units.{HasHead, IsBareAgent, IsBarePoint, IsOfText}
+use Rattle.psy_meaning.specs.Units.{HasHead, IsBare, IsBareAgent, IsBarePoint}
 use Rattle.psy_history.proofs.Members.{get_or_holds}
 
 -- ---- parts by number
@@ -29,6 +29,10 @@ module _ (unit : Whole) (agent : AgentDecl) where
   counted (head ∷ rest) h zero d inner less = absurd (omega (arith, inner))
   counted (head ∷ rest) h (suc k) d inner less = (h.1 k d (omega (arith, less))).count.0
 
+  some_points : (points : List Point) → HasHead agent points (IsBarePoint unit) → 0 < length points
+  some_points [] h = absurd h
+  some_points (head ∷ rest) h = omega arith
+
   granted_in : 1 ≤ agent.budget → (points : List Point) → HasHead agent points (IsBarePoint unit) → (point : ℕ) (d : Point) → point < length points → 1 ≤ (get_or points point d).budget
   granted_in own [] h point d less = absurd h
   granted_in own (head ∷ rest) h zero d less = let e : head.budget ≡ agent.budget = ap (λ p. p.budget) h.0 in omega (arith, own, e)
@@ -39,25 +43,29 @@ module _ (unit : Whole) (agent : AgentDecl) where
 abbrev pub ComesLate : Type 0
 ComesLate = (c : Clock) (t k : ℕ) → IsClock c → 1 ≤ k → t < after_date c t k
 
-module _ (unit : Whole) (number : ℕ) (agent : AgentDecl) (nexts : List (List ℕ)) (text : IsOfText unit) (of_unit : slice_get unit.agents number ≡ Some agent) (are : AreNexts unit.functions agent nexts) where
+module _ (unit : Whole) (number : ℕ) (agent : AgentDecl) (nexts : List (List ℕ)) where
   abbrev times : Timing
   times = timing_of unit agent nexts
 
-  bare : IsBareAgent unit agent
-  bare = subst (IsBareAgent unit) (get_or_from_slice_get unit.agents number agent agent of_unit) (text.bare.agents number agent (slice_get_within unit.agents number agent of_unit))
+  module _ (whole : IsBare unit) (of_unit : slice_get unit.agents number ≡ Some agent) where
+    bare : IsBareAgent unit agent
+    bare = subst (IsBareAgent unit) (get_or_from_slice_get unit.agents number agent agent of_unit) (whole.agents number agent (slice_get_within unit.agents number agent of_unit))
 
-  pub granted : (point : ℕ) → point < length agent.points → 1 ≤ budget_at times point
-  granted point less = granted_in unit agent bare.budget.0 agent.points bare.points point _ less
+    pub granted : (point : ℕ) → point < length agent.points → 1 ≤ budget_at times point
+    granted point less = granted_in unit agent bare.budget.0 agent.points bare.points point _ less
 
-  -- what follows a point is what its code may reach
-  follows : (point to : ℕ) → Contains (following times point) to → IsNext unit.functions agent point to
-  follows point to c = (are.each point (get_or nexts point []) (listed nexts point to c) to).0 c
+    -- The head of the body is a point.
+    pub has_head : 0 < length agent.points
+    has_head = some_points unit agent agent.points bare.points
 
-  pub followed : (point to : ℕ) → point < length agent.points → IsNext unit.functions agent point to → Contains (following times point) to
-  followed point to less next = (are.each point (get_or nexts point []) (slice_get-get_or nexts point [] (omega (arith, less, are.length))) to).1 next
+    pub ends_late : ComesLate → (start to : ℕ) → 1 ≤ to → to < length agent.points → start < end_date times start to
+    ends_late late start to some within =
+        late (clock_at times (point_at times to).clock) start (point_at times to).count (get_or_holds IsClock unit.clocks (point_at times to).clock _ every_tick whole.clocks) (counted unit agent agent.points bare.points to _ some within)
 
-  module _ (late : ComesLate) (within : (point to : ℕ) → IsNext unit.functions agent point to → (1 ≤ to) × (to < length agent.points)) where
-    pub ends_late : (point start to : ℕ) → Contains (following times point) to → start < end_date times start to
-    ends_late point start to c =
-        let inner = within point to (follows point to c) in
-        late (clock_at times (point_at times to).clock) start (point_at times to).count (get_or_holds IsClock unit.clocks (point_at times to).clock _ every_tick text.bare.clocks) (counted unit agent agent.points bare.points to _ inner.0 inner.1)
+  module _ (are : AreNexts unit.functions agent nexts) where
+    -- what follows a point is what its code may reach
+    pub follows : (point to : ℕ) → Contains (following times point) to → IsNext unit.functions agent point to
+    follows point to c = (are.each point (get_or nexts point []) (listed nexts point to c) to).0 c
+
+    pub followed : (point to : ℕ) → point < length agent.points → IsNext unit.functions agent point to → Contains (following times point) to
+    followed point to less next = (are.each point (get_or nexts point []) (slice_get-get_or nexts point [] (omega (arith, less, are.length))) to).1 next

@@ -8,7 +8,7 @@ use Rattle.psy_meaning.specs.History.{history}
 use Rattle.psy_meaning.specs.Schedule.{Turn, is_of, pending, soonest, turn_of, units, work}
 use Rattle.psy_history.specs.Scheduled.{turns_of}
 use Rattle.psy_history.proofs.Growth.{kept_on}
-use Rattle.psy_history.proofs.Numbers.{BeginAtZero, agent_of, one_of_number}
+use Rattle.psy_history.proofs.Numbers.{agent_of, one_of_number}
 use Rattle.psy_history.proofs.Soonest.{IsSoonest, pending_from, soonest_is, units_more}
 
 -- ---- the next cycle
@@ -21,7 +21,7 @@ turn_cases : (found : Option Action) (agent number : ℕ) → is_of agent number
 turn_cases None agent number e = cc
 turn_cases (Some q) agent number e = (let both = and_parts (q.agent == agent) (q.number == number) e in (q, refl, eqb-true q.agent agent both.0, eqb-true q.number number both.1))
 
-module _ (s : System) (zero_first : BeginAtZero s) (order : ℕ → List ℕ) (cycles : ℕ) where
+module _ (s : System) (order : ℕ → List ℕ) (cycles : ℕ) where
   -- where it goes to an action of this number, it is a pending one of those started
   pub next_of_number : (agent number : ℕ) → is_of agent number (next_turn s order cycles) ≡ true →
       (q : Action) × Contains (history s (cycles / s.unit.quantum + 1) agent) q × (q.number ≡ number) × (units q.agent q.number (turns_of s order cycles) < work q)
@@ -31,15 +31,15 @@ module _ (s : System) (zero_first : BeginAtZero s) (order : ℕ → List ℕ) (c
       let (q, found, of_agent, of_number) = turn_cases (soonest actions) agent number e in
       let first = subst (IsSoonest actions) found (soonest_is actions) in
       let (place, there, less) = pending_from (order cycles) (turns_of s order cycles) (history s dates) q first.0 in
-      let same : place ≡ agent = sym (agent_of s zero_first dates place q there) ∙ of_agent in
+      let same : place ≡ agent = sym (agent_of s dates place q there) ∙ of_agent in
       (q, subst (λ n. Contains (history s dates n) q) same there, of_number, less)
 
   -- where it goes to an action, that one was pending
   pub next_is_pending : (dates agent : ℕ) (r : Action) → Contains (history s dates agent) r → is_of r.agent r.number (next_turn s order cycles) ≡ true → units r.agent r.number (turns_of s order cycles) < work r
   next_is_pending dates agent r c e =
-      let known : r.agent ≡ agent = agent_of s zero_first dates agent r c in
+      let known : r.agent ≡ agent = agent_of s dates agent r c in
       let (q, there, of_number, less) = next_of_number agent r.number (subst (λ n. is_of n r.number (next_turn s order cycles) ≡ true) known e) in
-      let same : q ≡ r = one_of_number s zero_first (cycles / s.unit.quantum + 1) dates agent q r there c of_number in
+      let same : q ≡ r = one_of_number s (cycles / s.unit.quantum + 1) dates agent q r there c of_number in
       subst (λ (x : Action). units x.agent x.number (turns_of s order cycles) < work x) same less
 
 -- ---- units don't fall

@@ -5,9 +5,10 @@ use Rattle.std.specs.List.{All, Contains, range_with_len}
 use Rattle.psy_base.specs.declared.edge.Edge.{Edge}
 use Rattle.psy_base.specs.Paths.{DueBy, IsPathFrom, weight_of}
 use Rattle.psy_meaning.specs.Actions.{Action, History, Next, System, next_of, timing}
-use Rattle.psy_meaning.specs.Graph.{IsEdgeOf, IsGraph, Spot, spot_at}
+use Rattle.psy_meaning.specs.Graph.{IsGraph, Spot, spot_at}
 use Rattle.psy_meaning.specs.History.{history}
 use Rattle.psy_meaning.specs.Schedule.{Turn, is_pending, units}
+use Rattle.psy_meaning.specs.Timing.{budget_at, deadline, end_date, following}
 use Rattle.psy_history.specs.Scheduled.{IsFinished, turns_of}
 
 -- The graph of an agent, with what its nodes stand for
@@ -23,8 +24,14 @@ module _ (s : System) (graphs : List (List Edge)) (agent : ℕ) (g : Drawn s gra
   IsNode point start node = slice_get g.spots node ≡ Some (spot_at g.graph.cycle point start)
 
   -- The edge of an action that starts there and then, and reaches a point
-  abbrev pub IsStep : ℕ → ℕ → ℕ → Edge → Type 0
-  IsStep point start to e = IsEdgeOf (timing s agent) g.graph.cycle g.spots point start to e
+  pub record IsStep (point start to : ℕ) (e : Edge) : Type 0 where
+    pub there : Contains g.edges e
+    pub follows : Contains (following (timing s agent) point) to
+    pub from : IsNode point start e.from
+    pub into : IsNode to (end_date (timing s agent) start to) e.to
+    pub len : start + e.len ≡ end_date (timing s agent) start to
+    pub due : start + e.due ≡ deadline (timing s agent) point start
+    pub weight : e.weight ≡ budget_at (timing s agent) point
 
   -- What may follow the agent's present action, as a path of its graph whose last action is due by a date: nothing; what follows from
   -- where a pending action may end; or, where its actions are finished, the next one and what follows that. Behind an action that

@@ -6,5 +6,8 @@ pub mod Queues
 pub mod Regular
 pub mod Rings
 pub mod Likeness
+pub mod Runs
 pub mod Scheduled
 pub mod Scripts
+pub mod Ways
+pub mod WaySizes

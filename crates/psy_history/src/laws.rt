@@ -18,11 +18,11 @@ ghost use Rattle.psy_tree.specs.declared.unit.Unit.{Unit as Whole};
 ghost use Rattle.psy_tree.specs.declared.unit.VarDecl.{VarDecl};
 ghost use Rattle.psy_meaning.specs.Actions.{Action, Done, History, System, publishing};
 ghost use Rattle.psy_meaning.specs.Executors.{agent_at, agent_code_at};
-ghost use Rattle.psy_meaning.specs.Flow.{IsGreatest, MayLook};
+ghost use Rattle.psy_meaning.specs.Flow.{IsGreatest};
 ghost use Rattle.psy_meaning.specs.History.{history};
 ghost use Rattle.psy_meaning.specs.Lines.{events, is_date, publications, stops_of};
-ghost use Rattle.psy_meaning.specs.QueueSizes.{AreQueues, HasSendsTo, IsQueueSize};
-ghost use Rattle.psy_meaning.specs.RingSizes.{IsRingSize};
+ghost use Rattle.psy_meaning.specs.QueueSizes as queues_by_text;
+ghost use Rattle.psy_meaning.specs.RingSizes as by_text;
 ghost use Rattle.psy_meaning.specs.Schedule.{Turn, finish, turn_of, units, work};
 ghost use Rattle.psy_meaning.specs.Units.{IsOfText};
 ghost use Rattle.psy_meaning.specs.Summary.{due_by, most_held, reach, slack};
@@ -32,29 +32,51 @@ ghost use Rattle.psy_history.specs.Compiled.{AreInputs, IsCompiled, coded, state
 ghost use Rattle.psy_history.specs.Feeding.{AreSame, OverranAlike, Reaches};
 ghost use Rattle.psy_history.specs.Likeness.{AreLike};
 ghost use Rattle.psy_history.specs.Queues.{entered, entering, queue_of, settled};
-ghost use Rattle.psy_history.specs.Regular.{IsLawful, Runs, begun_by};
+ghost use Rattle.psy_history.specs.Regular.{IsLawful, Runs, begun_by, first_number};
 ghost use Rattle.psy_history.specs.Rings.{age_at, reach_with, ring_of};
+ghost use Rattle.psy_history.specs.Runs.{IsRun};
 ghost use Rattle.psy_history.specs.Scheduled.{IsFinished, IsSupplied, turns_of};
+ghost use Rattle.psy_history.specs.Ways.{IsSentBy, Looks, OfText, Ways};
+ghost use Rattle.psy_history.specs.WaySizes.{AreQueues, HasSendsTo, IsQueueSize, IsRingSize};
 
 use psy_clock::laws::{dates, distances};
 use psy_code::laws::lasting;
 use psy_meaning::laws::{follows, keeps, sendings, sound, traps, ways};
 
-/// The history of a program's code is regular, and the code of its actions runs to an end.
-pub fn regular()
-    ensures lawful { (unit : Whole) (code : Code) (nexts : List (List (List ℕ))) (stalls : ℕ → List Stall) (inputs : List (List ℤ))
-        → IsCompiled unit code nexts → AreInputs unit inputs → IsLawful (coded unit code nexts stalls inputs) }
-    ensures runs { (unit : Whole) (code : Code) (nexts : List (List (List ℕ))) (stalls : ℕ → List Stall) (inputs : List (List ℤ))
-        → IsCompiled unit code nexts → AreInputs unit inputs
-        → (dates agent : ℕ) → All (Runs (coded unit code nexts stalls inputs) code) (history (coded unit code nexts stalls inputs) dates agent) }
+/// The code of a program of a text goes well by the ways of its statements, wherever its agents may start; and the sizes of its rings, queues
+/// and outboxes by these ways are those by its statements.
+pub fn compiled()
+    ensures run { (unit : Whole) (code : Code) (nexts : List (List (List ℕ))) (stalls : ℕ → List Stall) (inputs : List (List ℤ))
+        → IsCompiled unit code nexts → AreInputs unit inputs → IsRun (coded unit code nexts stalls inputs) (OfText unit) code }
+    ensures numbers { (unit : Whole) (code : Code) (nexts : List (List (List ℕ))) (stalls : ℕ → List Stall) (inputs : List (List ℤ)) (agent : ℕ)
+        → first_number (coded unit code nexts stalls inputs) agent ≡ 0 }
+    ensures ring { (unit : Whole) (nexts : List (List (List ℕ))) (variable size : ℕ) → by_text.IsRingSize unit nexts variable size
+        → IsRingSize unit (OfText unit) nexts variable size }
+    ensures queue { (unit : Whole) (nexts : List (List (List ℕ))) (stream size : ℕ) → queues_by_text.IsQueueSize unit nexts stream size
+        → IsQueueSize unit (OfText unit) nexts stream size }
+    ensures outbox { (unit : Whole) (code : Code) (nexts : List (List (List ℕ))) (agent size : ℕ) → IsCompiled unit code nexts
+        → agent < length unit.agents → IsGreatest (queues_by_text.HasSendsTo unit (agent_at unit agent)) size
+        → IsGreatest (HasSendsTo unit (OfText unit) nexts agent) size }
 {
     sound();
     keeps();
     ways();
     traps();
+    sendings();
+    lasting();
+    follows();
+}
+
+/// The history of a run is regular, its code runs on within its actions' budgets, and they send what the ways send.
+pub fn regular()
+    ensures lawful { (s : System) (ways : Ways) (code : Code) → IsRun s ways code → IsLawful s }
+    ensures runs { (s : System) (ways : Ways) (code : Code) → IsRun s ways code
+        → (dates agent : ℕ) → All (Runs s ways code) (history s dates agent) }
+    ensures sends { (s : System) (ways : Ways) (code : Code) → IsRun s ways code
+        → (dates agent : ℕ) → All (λ r. All (IsSentBy ways s.unit) r.deeds.sends) (history s dates agent) }
+{
     lasting();
     distances();
-    follows();
 }
 
 /// Code that acts as a program's statements has their history, but for what actions do beyond their budgets; so it has the same
@@ -93,6 +115,8 @@ pub fn alike()
     sound();
     keeps();
     lasting();
+    distances();
+    compiled();
 }
 
 /// What each action of a lawful system is given: no cycle before it starts, and no more than its work.
@@ -100,7 +124,7 @@ pub fn given()
     ensures within { (s : System) (order : ℕ → List ℕ) (dates cycles agent : ℕ) (r : Action) → IsLawful s → 1 ≤ s.unit.quantum
         → Contains (history s dates agent) r → units r.agent r.number (turns_of s order cycles) ≤ work r }
     ensures unstarted { (s : System) (order : ℕ → List ℕ) (date cycles agent number : ℕ) → IsLawful s → 1 ≤ s.unit.quantum
-        → cycles ≤ date * s.unit.quantum → length (history s date agent) ≤ number → units agent number (turns_of s order cycles) ≡ 0 }
+        → cycles ≤ date * s.unit.quantum → first_number s agent + length (history s date agent) ≤ number → units agent number (turns_of s order cycles) ≡ 0 }
 {}
 
 /// Where the processor can supply the demand up to a date, each action that is due by then is finished, or stopped, by its deadline
@@ -143,15 +167,13 @@ pub fn reaches()
     ensures stalled { (s : System) (turns : List (Option Turn)) (dates agent variable : ℕ) (r : Action) → IsLawful s → Contains (history s dates agent) r
         → ((instr : ℕ) → units r.agent r.number turns ≡ cycle_of (s.stalls r.agent) r.number instr → ⊥)
         → reach s (turn_of (Some r) ∷ turns) (history s dates) variable ≡ reach s turns (history s dates) variable }
-    ensures paid { (unit : Whole) (code : Code) (nexts : List (List (List ℕ))) (stalls : ℕ → List Stall) (inputs : List (List ℤ))
-        → IsCompiled unit code nexts → AreInputs unit inputs
+    ensures paid { (s : System) (ways : Ways) (code : Code) → IsRun s ways code
         → (turns : List (Option Turn)) (dates agent variable instr : ℕ) (r : Action) (state : RunState)
-        → Contains (history (coded unit code nexts stalls inputs) dates agent) r
+        → Contains (history s dates agent) r
         → run_code code (agent_code_at code r.agent) (begun_by (agent_code_at code r.agent) r) instr ≡ Running state
-        → units r.agent r.number turns ≡ cycle_of (stalls r.agent) r.number instr → instr < r.budget
-        → reach (coded unit code nexts stalls inputs) (turn_of (Some r) ∷ turns) (history (coded unit code nexts stalls inputs) dates) variable
-        ≡ reach_with (coded unit code nexts stalls inputs) variable r.start (length turns / unit.quantum) (call_of code state.machine)
-        (reach (coded unit code nexts stalls inputs) turns (history (coded unit code nexts stalls inputs) dates) variable) }
+        → units r.agent r.number turns ≡ cycle_of (s.stalls r.agent) r.number instr → instr < r.budget
+        → reach s (turn_of (Some r) ∷ turns) (history s dates) variable
+        ≡ reach_with s variable r.start (length turns / s.unit.quantum) (call_of code state.machine) (reach s turns (history s dates) variable) }
     ensures date { (s : System) (order : ℕ → List ℕ) (date cycles variable : ℕ) → IsLawful s → 1 ≤ s.unit.quantum → cycles ≤ date * s.unit.quantum
         → reach s (turns_of s order cycles) (history s (date + 1)) variable ≡ reach s (turns_of s order cycles) (history s date) variable }
 {
@@ -161,17 +183,15 @@ pub fn reaches()
 /// Where the processor can supply the demand up to a date, no ring is reached for beyond its size: neither by a look at a date before the
 /// deadline of its action, nor in all cycles up to that date.
 pub fn ring_sizes()
-    ensures look { (s : System) (order : ℕ → List ℕ) (until dates agent variable back size date : ℕ) (decl : VarDecl) (r : Action)
+    ensures look { (s : System) (ways : Ways) (order : ℕ → List ℕ) (until dates agent variable back size date : ℕ) (decl : VarDecl) (r : Action)
         → IsSupplied s order until → Contains (history s dates agent) r
-        → slice_get s.unit.variables variable ≡ Some decl → MayLook s.unit.functions (agent_at s.unit agent) r.point variable → back < decl.depth
-        → IsRingSize s.unit s.nexts variable size
+        → slice_get s.unit.variables variable ≡ Some decl → Looks ways agent r.point variable → back < decl.depth
+        → IsRingSize s.unit ways s.nexts variable size
         → r.start ≤ date → date < r.deadline → age_at s variable back r.start date < size }
-    ensures reached { (unit : Whole) (code : Code) (nexts : List (List (List ℕ))) (stalls : ℕ → List Stall) (inputs : List (List ℤ))
-        → IsCompiled unit code nexts → AreInputs unit inputs
-        → (order : ℕ → List ℕ) (until cycles variable size n : ℕ) → IsSupplied (coded unit code nexts stalls inputs) order until
-        → cycles ≤ until * unit.quantum → IsRingSize unit nexts variable size
-        → reach (coded unit code nexts stalls inputs) (turns_of (coded unit code nexts stalls inputs) order cycles)
-        (history (coded unit code nexts stalls inputs) (until + 1)) variable ≡ Some n → n < size }
+    ensures reached { (s : System) (ways : Ways) (code : Code) → IsRun s ways code
+        → (order : ℕ → List ℕ) (until cycles variable size n : ℕ) → IsSupplied s order until
+        → cycles ≤ until * s.unit.quantum → IsRingSize s.unit ways s.nexts variable size
+        → reach s (turns_of s order cycles) (history s (until + 1)) variable ≡ Some n → n < size }
 {
     regular();
 }
@@ -180,30 +200,22 @@ pub fn ring_sizes()
 /// or is silent; then the messages of the actions that end there enter. The receiver's action finds at each date before its deadline, and
 /// before its end, the messages that it saw at its start in front of all others. A message that becomes visible is held.
 pub fn queues()
-    ensures next { (unit : Whole) (code : Code) (nexts : List (List (List ℕ))) (stalls : ℕ → List Stall) (inputs : List (List ℤ))
-        → IsCompiled unit code nexts → AreInputs unit inputs
-        → (date stream : ℕ) → stream < length unit.streams
-        → queue_of (coded unit code nexts stalls inputs) (date + 1) stream
-        ≡ entered (entering (coded unit code nexts stalls inputs) date stream)
-        (settled (coded unit code nexts stalls inputs) date stream (queue_of (coded unit code nexts stalls inputs) date stream)) }
-    ensures look { (unit : Whole) (code : Code) (nexts : List (List (List ℕ))) (stalls : ℕ → List Stall) (inputs : List (List ℤ))
-        → IsCompiled unit code nexts → AreInputs unit inputs
-        → (date stream agent : ℕ) (decl : StreamDecl) (r : Action) (before : List Action) → slice_get unit.streams stream ≡ Some decl → decl.receiver ≡ agent
-        → history (coded unit code nexts stalls inputs) (date + 1) agent ≡ r ∷ before → date < r.deadline
-        → (filter (λ (m : Message). nat_le m.visible r.start) (queue_of (coded unit code nexts stalls inputs) (date + 1) stream) ≡ r.seen stream)
-        × (take (length (r.seen stream)) (queue_of (coded unit code nexts stalls inputs) (date + 1) stream) ≡ r.seen stream) }
-    ensures ended { (unit : Whole) (code : Code) (nexts : List (List (List ℕ))) (stalls : ℕ → List Stall) (inputs : List (List ℤ))
-        → IsCompiled unit code nexts → AreInputs unit inputs
-        → (date stream agent point end : ℕ) (decl : StreamDecl) (r : Action) (before : List Action) → slice_get unit.streams stream ≡ Some decl
-        → decl.receiver ≡ agent
-        → history (coded unit code nexts stalls inputs) (date + 1) agent ≡ r ∷ before → r.verdict ≡ Done point end → date < end
-        → take (length (r.seen stream)) (queue_of (coded unit code nexts stalls inputs) (date + 1) stream) ≡ r.seen stream }
-    ensures shows { (unit : Whole) (code : Code) (nexts : List (List (List ℕ))) (stalls : ℕ → List Stall) (inputs : List (List ℤ))
-        → IsCompiled unit code nexts → AreInputs unit inputs
-        → (date stream : ℕ) → stream < length unit.streams
-        → filter (λ (m : Message). m.visible == date) (messages (coded unit code nexts stalls inputs)
-        (history (coded unit code nexts stalls inputs) (date + 1)) stream)
-        ≡ filter (λ (m : Message). m.visible == date) (queue_of (coded unit code nexts stalls inputs) (date + 1) stream) }
+    ensures next { (s : System) (ways : Ways) (code : Code) → IsRun s ways code
+        → (date stream : ℕ) → stream < length s.unit.streams
+        → queue_of s (date + 1) stream ≡ entered (entering s date stream) (settled s date stream (queue_of s date stream)) }
+    ensures look { (s : System) (ways : Ways) (code : Code) → IsRun s ways code
+        → (date stream agent : ℕ) (decl : StreamDecl) (r : Action) (before : List Action) → slice_get s.unit.streams stream ≡ Some decl
+        → decl.receiver ≡ agent → history s (date + 1) agent ≡ r ∷ before → date < r.deadline
+        → (filter (λ (m : Message). nat_le m.visible r.start) (queue_of s (date + 1) stream) ≡ r.seen stream)
+        × (take (length (r.seen stream)) (queue_of s (date + 1) stream) ≡ r.seen stream) }
+    ensures ended { (s : System) (ways : Ways) (code : Code) → IsRun s ways code
+        → (date stream agent point end : ℕ) (decl : StreamDecl) (r : Action) (before : List Action) → slice_get s.unit.streams stream ≡ Some decl
+        → decl.receiver ≡ agent → history s (date + 1) agent ≡ r ∷ before → r.verdict ≡ Done point end → date < end
+        → take (length (r.seen stream)) (queue_of s (date + 1) stream) ≡ r.seen stream }
+    ensures shows { (s : System) (ways : Ways) (code : Code) → IsRun s ways code
+        → (date stream : ℕ) → stream < length s.unit.streams
+        → filter (λ (m : Message). m.visible == date) (messages s (history s (date + 1)) stream)
+        ≡ filter (λ (m : Message). m.visible == date) (queue_of s (date + 1) stream) }
 {
     distances();
     regular();
@@ -211,20 +223,14 @@ pub fn queues()
 
 /// No stream ever holds more messages than its queue has places, where that is no more than a queue may have.
 pub fn queue_sizes()
-    ensures held { (unit : Whole) (code : Code) (nexts : List (List (List ℕ))) (stalls : ℕ → List Stall) (inputs : List (List ℤ))
-        → IsCompiled unit code nexts → AreInputs unit inputs
-        → (date stream size : ℕ) → stream < length unit.streams → IsQueueSize unit nexts stream size → size ≤ QUEUE
-        → length (queue_of (coded unit code nexts stalls inputs) date stream) ≤ size }
-    ensures most { (unit : Whole) (code : Code) (nexts : List (List (List ℕ))) (stalls : ℕ → List Stall) (inputs : List (List ℤ))
-        → IsCompiled unit code nexts → AreInputs unit inputs
-        → (until stream size : ℕ) → stream < length unit.streams → IsQueueSize unit nexts stream size → size ≤ QUEUE
-        → most_held (coded unit code nexts stalls inputs) until stream ≤ size }
+    ensures held { (s : System) (ways : Ways) (code : Code) → IsRun s ways code
+        → (date stream size : ℕ) → stream < length s.unit.streams → IsQueueSize s.unit ways s.nexts stream size → size ≤ QUEUE
+        → length (queue_of s date stream) ≤ size }
+    ensures most { (s : System) (ways : Ways) (code : Code) → IsRun s ways code
+        → (until stream size : ℕ) → stream < length s.unit.streams → IsQueueSize s.unit ways s.nexts stream size → size ≤ QUEUE
+        → most_held s until stream ≤ size }
 {
-    sound();
-    keeps();
     lasting();
-    ways();
-    sendings();
     distances();
     regular();
 }
@@ -232,26 +238,20 @@ pub fn queue_sizes()
 /// What an action has done on the way: it never sends more than its agent's outbox holds, where no queue has more places than it may; and it
 /// has taken the first of the messages that it saw.
 pub fn deeds()
-    ensures sends { (unit : Whole) (code : Code) (nexts : List (List (List ℕ))) (stalls : ℕ → List Stall) (inputs : List (List ℤ))
-        → IsCompiled unit code nexts → AreInputs unit inputs
-        → (queues : List ℕ) → AreQueues unit nexts queues → All (λ size. size ≤ QUEUE) queues
-        → (dates agent size instr : ℕ) (r : Action) (state : RunState) (sent : Sent) → IsGreatest (HasSendsTo unit (agent_at unit agent)) size
-        → Contains (history (coded unit code nexts stalls inputs) dates agent) r
+    ensures sends { (s : System) (ways : Ways) (code : Code) → IsRun s ways code
+        → (queues : List ℕ) → AreQueues s.unit ways s.nexts queues → All (λ size. size ≤ QUEUE) queues
+        → (dates agent size instr : ℕ) (r : Action) (state : RunState) (sent : Sent) → IsGreatest (HasSendsTo s.unit ways s.nexts agent) size
+        → Contains (history s dates agent) r
         → run_code code (agent_code_at code agent) (begun_by (agent_code_at code agent) r) instr ≡ Running state
-        → call_of code state.machine ≡ Some (Send sent) → length state.deeds.sends < size }
-    ensures takes { (unit : Whole) (code : Code) (nexts : List (List (List ℕ))) (stalls : ℕ → List Stall) (inputs : List (List ℤ))
-        → IsCompiled unit code nexts → AreInputs unit inputs
-        → (dates agent stream instr : ℕ) (decl : StreamDecl) (r : Action) (state : RunState) → slice_get unit.streams stream ≡ Some decl → decl.receiver ≡ agent
-        → Contains (history (coded unit code nexts stalls inputs) dates agent) r
+        → call_of code state.machine ≡ Some (Send sent) → instr < r.budget → length state.deeds.sends < size }
+    ensures takes { (s : System) (ways : Ways) (code : Code) → IsRun s ways code
+        → (dates agent stream instr : ℕ) (decl : StreamDecl) (r : Action) (state : RunState) → slice_get s.unit.streams stream ≡ Some decl
+        → decl.receiver ≡ agent → Contains (history s dates agent) r
         → run_code code (agent_code_at code agent) (begun_by (agent_code_at code agent) r) instr ≡ Running state
         → messages_of state.view stream ≡ Some (map (λ (m : Message). m.value) (drop (count_by (λ t. t == stream) state.deeds.takes) (r.seen stream))) }
 {
-    sound();
-    keeps();
-    ways();
-    traps();
-    sendings();
     lasting();
+    distances();
     regular();
 }
 

@@ -14,7 +14,7 @@ use Rattle.psy_meaning.specs.Actions.{Action, System}
 use Rattle.psy_meaning.specs.History.{history}
 use Rattle.psy_meaning.specs.Schedule.{Turn, is_pending, units}
 use Rattle.psy_history.specs.Compiled.{coded}
-use Rattle.psy_history.specs.Regular.{IsLawful}
+use Rattle.psy_history.specs.Regular.{IsLawful, first_number}
 use Rattle.psy_dates.specs.declared.seat.Seat.{Seat}
 use Rattle.psy_dates.specs.Standing.{SeatStands}
 use Rattle.psy_kernel.specs.declared.kernel.Figure.{Figure}
@@ -62,7 +62,7 @@ module _ (unit : Whole) (code : Code) (nexts : List (List (List ℕ))) (stalls :
   of_code = coded unit code nexts stalls inputs
 
   module _ (date until : ℕ) (turns : List (Option Turn)) (lawful : IsLawful of_code) (small : date ≤ 2 ^ 32)
-      (unstarted : (agent number : ℕ) → length (history of_code date agent) ≤ number → units agent number turns ≡ 0)
+      (unstarted : (agent number : ℕ) → first_number of_code agent + length (history of_code date agent) ≤ number → units agent number turns ≡ 0)
       (in_time : (agent : ℕ) (r : Action) → Contains (history of_code date agent) r → r.deadline ≤ date → is_pending turns r ≡ false)
       (machines : List AgentMachine) (charges : List Charged) (ready : List (Option ℕ)) (figures : List Figure)
       (charged : length charges ≡ length unit.agents) (waiting : length ready ≡ length unit.agents)

@@ -13,7 +13,9 @@ use Rattle.psy_meaning.specs.History.{history}
 use Rattle.psy_meaning.specs.Schedule.{is_pending, units}
 use Rattle.psy_meaning.specs.Summary.{reach}
 use Rattle.psy_history.specs.Compiled.{AreInputs, IsCompiled, coded}
-use Rattle.psy_history.specs.Regular.{IsLawful}
+use Rattle.psy_history.specs.Regular.{IsLawful, first_number}
+use Rattle.psy_history.specs.Runs.{IsRun}
+use Rattle.psy_history.specs.Ways.{OfText, Ways}
 use Rattle.psy_history.specs.Scheduled.{IsFinished, IsSupplied, turns_of}
 use Rattle.psy_dates.specs.declared.seat.Seat.{Seat}
 use Rattle.psy_dates.specs.declared.shared.Shared.{Shared}
@@ -35,7 +37,7 @@ use Rattle.psy_kernel.proofs.ToldPlaces.{none_first}
 
 -- No action that isn't started had a cycle.
 abbrev pub Unstarted : Type 0
-Unstarted = (s : System) (order : ℕ → List ℕ) (date cycles agent number : ℕ) → IsLawful s → 1 ≤ s.unit.quantum → cycles ≤ date * s.unit.quantum → length (history s date agent) ≤ number → units agent number (turns_of s order cycles) ≡ 0
+Unstarted = (s : System) (order : ℕ → List ℕ) (date cycles agent number : ℕ) → IsLawful s → 1 ≤ s.unit.quantum → cycles ≤ date * s.unit.quantum → first_number s agent + length (history s date agent) ≤ number → units agent number (turns_of s order cycles) ≡ 0
 
 -- Each action that is due is finished, or stopped.
 abbrev pub InTime : Type 0
@@ -46,9 +48,13 @@ abbrev pub LeavesReach : Type 0
 LeavesReach = (s : System) (order : ℕ → List ℕ) (date cycles variable : ℕ) → IsLawful s → 1 ≤ s.unit.quantum → cycles ≤ date * s.unit.quantum
     → reach s (turns_of s order cycles) (history s (date + 1)) variable ≡ reach s (turns_of s order cycles) (history s date) variable
 
--- The code of a compiled program is lawful.
+-- Compiled code runs well by the ways of its statements.
+abbrev pub RunsWell : Type 0
+RunsWell = (unit : Whole) (code : Code) (nexts : List (List (List ℕ))) (stalls : ℕ → List Stall) (inputs : List (List ℤ)) → IsCompiled unit code nexts → AreInputs unit inputs → IsRun (coded unit code nexts stalls inputs) (OfText unit) code
+
+-- Runs are lawful.
 abbrev pub Lawful : Type 0
-Lawful = (unit : Whole) (code : Code) (nexts : List (List (List ℕ))) (stalls : ℕ → List Stall) (inputs : List (List ℤ)) → IsCompiled unit code nexts → AreInputs unit inputs → IsLawful (coded unit code nexts stalls inputs)
+Lawful = (s : System) (ways : Ways) (code : Code) → IsRun s ways code → IsLawful s
 
 -- The kernel stands before this date, which is due.
 pub record IsDue (k : Inside) (date : ℕ) : Type 0 where
@@ -60,13 +66,13 @@ pub record IsDue (k : Inside) (date : ℕ) : Type 0 where
   pub no_cycle : Unstarted
   pub in_time : InTime
 
-pub is_due : (k : Inside) (p : Progress) (date : ℕ) → KernelStands k → progress_of k ≡ p → stage_of p ≡ DateDue p.dates → date ≡ p.dates → date ≤ 2 ^ 32 → Lawful → Unstarted → InTime → IsDue k date
-is_due k p date h view due is_date small lawful no_cycle in_time = record {
+pub is_due : (k : Inside) (p : Progress) (date : ℕ) → KernelStands k → progress_of k ≡ p → stage_of p ≡ DateDue p.dates → date ≡ p.dates → date ≤ 2 ^ 32 → RunsWell → Lawful → Unstarted → InTime → IsDue k date
+is_due k p date h view due is_date small well lawful no_cycle in_time = record {
   stands = h;
   is_date = is_date ∙ ap (λ (q : Progress). q.dates) (sym view);
   due = subst (λ q. stage_of q ≡ DateDue q.dates) (sym view) due;
   small = small;
-  lawful = lawful k.plan.unit k.plan.code k.plan.nexts (stalls_of k.script) k.shared.inputs.lists h.plan.compiled h.inputs;
+  lawful = lawful (system (progress_of k)) (OfText k.plan.unit) k.plan.code (well k.plan.unit k.plan.code k.plan.nexts (stalls_of k.script) k.shared.inputs.lists h.plan.compiled h.inputs);
   no_cycle = no_cycle;
   in_time = in_time;
 }
@@ -113,7 +119,7 @@ module _ (k : Inside) (date : ℕ) (at : IsDue k date) where
   small : date ≤ 2 ^ 32
   small = at.small
 
-  unstarted : (agent number : ℕ) → length (history its date agent) ≤ number → units agent number (turns_of its ties k.cycles) ≡ 0
+  unstarted : (agent number : ℕ) → first_number its agent + length (history its date agent) ≤ number → units agent number (turns_of its ties k.cycles) ≡ 0
   unstarted agent number more = at.no_cycle its ties date k.cycles agent number lawful quantum_some (omega (arith, filled)) more
 
   in_time : (agent : ℕ) (r : Action) → Contains (history its date agent) r → r.deadline ≤ date → is_pending (turns_of its ties k.cycles) r ≡ false

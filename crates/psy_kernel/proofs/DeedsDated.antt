@@ -1,5 +1,5 @@
 -- What actions sent and took, at a date: one that starts there has done nothing, and what one that goes on did stays.
-use Rattle.std.proofs.Common.{◌≡◌, ℕ, suc, ◌<◌, ◌≤◌, ◌&&◌, Bool, true, false, not, nat_le, List, [], ◌∷◌, length, Option, Some, slice_get, refl, sym, ap, subst, ◌∙◌, inl, inr, arith}
+use Rattle.std.proofs.Common.{◌≡◌, ℕ, ◌+◌, suc, ◌<◌, ◌≤◌, ◌&&◌, Bool, true, false, not, nat_le, List, [], ◌∷◌, length, Option, Some, slice_get, refl, sym, ap, subst, ◌∙◌, inl, inr, arith}
 use Rattle.std.specs.List.{All, Contains}
 use Rattle.std.proofs.lemmas.Bool.{cases_lt}
 use Rattle.std.proofs.lemmas.Bool.Decides.{nat_tests}
@@ -12,7 +12,7 @@ use Rattle.psy_meaning.specs.Actions.{Action, Next, System, is_done, is_silent, 
 use Rattle.psy_meaning.specs.Executors.{agent_code_at}
 use Rattle.psy_meaning.specs.History.{action_of, history}
 use Rattle.psy_meaning.specs.Schedule.{Turn, is_pending, units}
-use Rattle.psy_history.specs.Regular.{IsLawful, IsRegular, WereStarted, begun_by}
+use Rattle.psy_history.specs.Regular.{IsLawful, IsRegular, WereStarted, begun_by, first_number}
 use Rattle.psy_dates.specs.declared.seat.Phase.TheVariants as phase
 use Rattle.psy_dates.specs.declared.seat.Seat.{Seat}
 use Rattle.psy_dates.specs.Outboxes.{Outboxed}
@@ -45,7 +45,7 @@ HaveStayed s date seats boxes_before boxes taken_before taken = (agent : ℕ) �
     × ((stream : ℕ) (decl : StreamDecl) → slice_get s.unit.streams stream ≡ Some decl → decl.receiver ≡ agent → slice_get taken stream ≡ slice_get taken_before stream)
 
 module _ (s : System) (code : Code) (date : ℕ) (turns : List (Option Turn)) (lawful : IsLawful s)
-    (unstarted : (agent number : ℕ) → length (history s date agent) ≤ number → units agent number turns ≡ 0)
+    (unstarted : (agent number : ℕ) → first_number s agent + length (history s date agent) ≤ number → units agent number turns ≡ 0)
     (in_time : (agent : ℕ) (r : Action) → Contains (history s date agent) r → r.deadline ≤ date → is_pending turns r ≡ false)
     (seats : List Seat) (seated : length seats ≡ length s.unit.agents)
     (sits : (agent : ℕ) (seat : Seat) → slice_get seats agent ≡ Some seat → SeatStands date turns (history s (suc date) agent) seat)
@@ -73,7 +73,7 @@ module _ (s : System) (code : Code) (date : ℕ) (turns : List (Option Turn)) (l
       let r = action_of s (history s date) agent n in
       let regular = All-head (IsRegular s agent) r (actions agent) (subst (All (IsRegular s agent)) grew (lawful.actions (suc date) agent).each) in
       let started = (subst (WereStarted s (suc date) agent) grew (lawful.actions (suc date) agent).were_started).0 in
-      let none : units r.agent r.number turns ≡ 0 = unstarted r.agent r.number (omega (arith, started.number, ap (λ a. length (actions a)) regular.agent_is)) in
+      let none : units r.agent r.number turns ≡ 0 = unstarted r.agent r.number (omega (arith, started.number, ap (λ a. first_number s a + length (actions a)) regular.agent_is)) in
       let sitting : SeatOf date turns r (seat_of agent) = subst (λ rs. SeatStands date turns rs (seat_of agent)) grew (sits agent (seat_of agent) (there agent l)) in
       let begins = begun agent (seat_of agent, there agent l, acting date turns r (seat_of agent) sitting (omega (arith, regular.due, now)) pending, sitting.start ∙ now) in
       let its = agent_code_at code r.agent in

@@ -1,23 +1,22 @@
 -- What is known of the pending action that gets a cycle, in the run of a plan.
 use Rattle.std.proofs.Common.{◌≡◌, ◌⊎◌, refl, sym, ap, ◌∙◌, subst, inl, inr, arith, add-one}
-use Rattle.std.specs.Prelude.{ℕ, zero, suc, ◌+◌, ◌*◌, ◌<◌, ◌≤◌, ◌==◌, if◌then◌else◌, Bool, true, false, List, [], ◌∷◌, length, get_or, Option, Some, None, slice_get, ℤ}
+use Rattle.std.specs.Prelude.{ℕ, zero, suc, ◌+◌, ◌*◌, ◌<◌, ◌≤◌, ◌==◌, if◌then◌else◌, Bool, true, false, List, [], ◌∷◌, length, get_or, Option, Some, None, ℤ}
 use Rattle.std.specs.List.{All, Contains}
 use Rattle.std.proofs.lemmas.Bool.{cases_lt, both_ways, eqb-true}
 use Rattle.std.proofs.lemmas.Nat.{mul-le}
 use Rattle.std.proofs.lemmas.List.Elements.{All-cons, All-head, All-nil, All-weaker}
-use Rattle.std.proofs.lemmas.Option.{slice_get-get_or}
 use Rattle.psy_budget.specs.declared.charge.Stall.{Stall}
 use Rattle.psy_dates.specs.declared.plan.Plan.{Plan}
 use Rattle.psy_dates.specs.Plans.{IsPlan, system_of}
-use Rattle.psy_history.specs.Regular.{AreRegular, IsLawful, IsRegular, Runs, WasStarted, WereStarted}
+use Rattle.psy_history.specs.Regular.{AreRegular, IsLawful, IsRegular, Runs, WasStarted, WereStarted, first_number}
 use Rattle.psy_history.specs.Scheduled.{IsFinished, IsSupplied, turns_of}
+use Rattle.psy_history.specs.Ways.{OfText}
 use Rattle.psy_meaning.specs.Actions.{Action, History, Next, System, charge_of, next_of, timing, verdict_of}
 use Rattle.psy_meaning.specs.Executors.{agent_at}
-use Rattle.psy_meaning.specs.Flow.{AreNexts, IsNext}
 use Rattle.psy_meaning.specs.History.{action_of, history, with_start}
 use Rattle.psy_meaning.specs.Schedule.{Turn, is_pending}
 use Rattle.psy_meaning.specs.Timing.{following, point_at}
-use Rattle.psy_meaning.specs.Units.{HasHead, IsBareAgent, IsBarePoint, IsOfText}
+use Rattle.psy_meaning.specs.Units.{HasHead, IsBareAgent, IsBarePoint}
 use Rattle.psy_tree.specs.declared.unit.AgentDecl.{AgentDecl}
 use Rattle.psy_tree.specs.declared.unit.Point.{Point}
 use Rattle.psy_tree.specs.declared.unit.Unit.{Unit as Whole}
@@ -30,11 +29,11 @@ use Rattle.psy_kernel.proofs.OrdersInForce.{lists_order}
 
 -- ---- the numbers of an agent's actions
 
-numbers_below : (s : System) (dates agent : ℕ) (actions : List Action) → WereStarted s dates agent actions → All (λ (q : Action). q.number < length actions) actions
-numbers_below s dates agent [] h = All-nil (λ (q : Action). q.number < 0)
+numbers_below : (s : System) (dates agent : ℕ) (actions : List Action) → WereStarted s dates agent actions → All (λ (q : Action). q.number < first_number s agent + length actions) actions
+numbers_below s dates agent [] h = All-nil (λ (q : Action). q.number < first_number s agent + 0)
 numbers_below s dates agent (r ∷ before) h =
-    All-cons (λ (q : Action). q.number < length (r ∷ before)) r before (let e : r.number ≡ length before = h.0.number in omega (arith, e))
-    (All-weaker (λ (q : Action). q.number < length before) (λ (q : Action). q.number < length (r ∷ before)) (λ q less. omega (arith, less)) before (numbers_below s dates agent before h.1))
+    All-cons (λ (q : Action). q.number < first_number s agent + length (r ∷ before)) r before (let e : r.number ≡ first_number s agent + length before = h.0.number in omega (arith, e))
+    (All-weaker (λ (q : Action). q.number < first_number s agent + length before) (λ (q : Action). q.number < first_number s agent + length (r ∷ before)) (λ q less. omega (arith, less)) before (numbers_below s dates agent before h.1))
 
 -- An agent's last action at a date starts there, or it is the last one of the dates before
 started_by : (s : System) (h : History) (date agent : ℕ) (actions : List Action) (n : Option Next) (r : Action) (before : List Action) → with_start s h date agent actions n ≡ r ∷ before → (actions ≡ r ∷ before) ⊎ (r.start ≡ date)
@@ -55,10 +54,9 @@ points_bare unit agent [] h point inner less d = absurd h
 points_bare unit agent (head ∷ rest) h zero inner less d = absurd (omega (arith, inner))
 points_bare unit agent (head ∷ rest) h (suc point) inner less d = h.1 point d (omega (arith, less))
 
-listed : (nexts : List (List ℕ)) (point to : ℕ) → Contains (get_or nexts point []) to → slice_get nexts point ≡ Some (get_or nexts point [])
-listed [] point to c = absurd (omega (arith, c.1))
-listed (list ∷ nexts) zero to c = refl
-listed (list ∷ nexts) (suc point) to c = listed nexts point to c
+-- What follows a point of an agent is a point of an `advance`.
+abbrev pub PointsFollow : System → Type 0
+PointsFollow s = (agent point to : ℕ) → agent < length s.unit.agents → Contains (following (timing s agent) point) to → (1 ≤ to) × (to < length (agent_at s.unit agent).points)
 
 module _ (plan : Plan) (inputs : List (List ℤ)) (stalls : ℕ → List Stall) (is : IsPlan plan) where
   abbrev s : System
@@ -67,21 +65,10 @@ module _ (plan : Plan) (inputs : List (List ℤ)) (stalls : ℕ → List Stall) 
   bare_agent : (agent : ℕ) → agent < length plan.unit.agents → IsBareAgent plan.unit (agent_at plan.unit agent)
   bare_agent agent less = is.compiled.text.bare.agents agent (record { name = []; clock = 0; budget = 0; slots = []; points = []; stmts = [] }) less
 
-  agent_known : (agent : ℕ) → agent < length plan.unit.agents → slice_get plan.unit.agents agent ≡ Some (agent_at plan.unit agent)
-  agent_known agent less = slice_get-get_or plan.unit.agents agent (record { name = []; clock = 0; budget = 0; slots = []; points = []; stmts = [] }) less
-
-  its_nexts : (agent : ℕ) → agent < length plan.unit.agents → AreNexts plan.unit.functions (agent_at plan.unit agent) (get_or plan.nexts agent [])
-  its_nexts agent less =
-      is.compiled.followed.each agent (agent_at plan.unit agent) (get_or plan.nexts agent []) (agent_known agent less)
-      (slice_get-get_or plan.nexts agent [] (omega (arith, less, is.compiled.followed.count)))
-
   -- an action that reached a point may end there
-  may_end : ((unit : Whole) (number : ℕ) (agent : AgentDecl) → IsOfText unit × (slice_get unit.agents number ≡ Some agent) → (point to : ℕ) → IsNext unit.functions agent point to → (1 ≤ to) × (to < length agent.points))
-      → (agent from to start : ℕ) → agent < length plan.unit.agents → Contains (following (timing s agent) from) to → start ≤ 1099511627776 → MayEnd (timing s agent) start to
+  may_end : PointsFollow s → (agent from to start : ℕ) → agent < length plan.unit.agents → Contains (following (timing s agent) from) to → start ≤ 1099511627776 → MayEnd (timing s agent) start to
   may_end law agent from to start less follows early =
-      let its = its_nexts agent less in
-      let next = (its.each from (following (timing s agent) from) (listed (get_or plan.nexts agent []) from to follows) to).0 follows in
-      let inner = law plan.unit agent (agent_at plan.unit agent) (is.compiled.text, agent_known agent less) from to next in
+      let inner = law agent from to less follows in
       let point = points_bare plan.unit (agent_at plan.unit agent) (agent_at plan.unit agent).points (bare_agent agent less).points to inner.0 inner.1 (record { count = 1; clock = 0; budget = 0 }) in
       record {
         known = inner.1;
@@ -131,8 +118,8 @@ module _ (plan : Plan) (inputs : List (List ℤ)) (stalls : ℕ → List Stall) 
         by (r ∷ before) e = law s order plan.until date cycle agent r before supply (omega (arith, inside)) low e
 
     pub gets : ((s : System) (order : ℕ → List ℕ) (until date agent : ℕ) (r : Action) → IsSupplied s order until → date ≤ until → Contains (history s date agent) r → r.deadline ≤ date → IsFinished s order (date * s.unit.quantum) r)
-        → ((unit : Whole) (number : ℕ) (agent : AgentDecl) → IsOfText unit × (slice_get unit.agents number ≡ Some agent) → (point to : ℕ) → IsNext unit.functions agent point to → (1 ≤ to) × (to < length agent.points))
-        → plan.until ≤ 4294967295 → (agent : ℕ) (r : Action) (before : List Action) → history s (date + 1) agent ≡ r ∷ before → All (Runs s plan.code) (history s (date + 1) agent) → is_pending turns r ≡ true
+        → PointsFollow s
+        → plan.until ≤ 4294967295 → (agent : ℕ) (r : Action) (before : List Action) → history s (date + 1) agent ≡ r ∷ before → All (Runs s (OfText plan.unit) plan.code) (history s (date + 1) agent) → is_pending turns r ≡ true
         → GetsCycle s plan.code turns plan.until date cycle agent r before
     gets due within most agent r before e all_run pending =
         let are : AreRegular s (date + 1) agent (r ∷ before) = subst (AreRegular s (date + 1) agent) e (supply.lawful.actions (date + 1) agent) in
@@ -147,11 +134,11 @@ module _ (plan : Plan) (inputs : List (List ℤ)) (stalls : ℕ → List Stall) 
             after = t.1;
             charge = t.2;
             verdict = t.3;
-            runs = All-head (Runs s plan.code) r before (subst (All (Runs s plan.code)) e all_run);
+            runs = All-head (Runs s (OfText plan.unit) plan.code) r before (subst (All (Runs s (OfText plan.unit) plan.code)) e all_run);
           };
           agent_is = its.agent_is;
           pending = pending;
-          numbers = All-weaker (λ (q : Action). q.number < length before) (λ (q : Action). q.number < r.number) (λ q less. omega (arith, less, w.number)) before (numbers_below s (date + 1) agent before are.were_started.1);
+          numbers = All-weaker (λ (q : Action). q.number < first_number s agent + length before) (λ (q : Action). q.number < r.number) (λ q less. omega (arith, less, w.number)) before (numbers_below s (date + 1) agent before are.were_started.1);
           few = omega (arith, are.few, inside);
           started = omega (arith, start, w.at);
           later = later;

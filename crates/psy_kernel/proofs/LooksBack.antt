@@ -2,6 +2,7 @@
 use Rattle.std.proofs.Common.{◌≡◌, refl, sym, ap, ◌∙◌, subst, arith}
 use Rattle.std.specs.Prelude.{ℕ, ◌+◌, ◌*◌, ◌/◌, ◌==◌, ◌<◌, ◌≤◌, List, [], ◌∷◌, drop, filter, length, map, nat_le, take, Option, Some, None, slice_get, ℤ, pos}
 use Rattle.std.specs.List.{All, Contains, count_by}
+use Rattle.std.proofs.lemmas.List.Elements.{All-contains}
 use Rattle.std.proofs.lemmas.Option.{slice_get_within}
 use Rattle.psy_base.specs.declared.limits.TheConstants.{QUEUE}
 use Rattle.psy_base.specs.declared.message.Message.{Message}
@@ -14,16 +15,19 @@ use Rattle.psy_code.specs.Execution.{RunState, Running, call_of, run_code}
 use Rattle.psy_code.specs.Views.{Send, messages_of, past_of}
 use Rattle.psy_dates.specs.declared.plan.Plan.{Plan}
 use Rattle.psy_dates.specs.Plans.{IsPlan, system_of}
-use Rattle.psy_history.specs.Compiled.{AreInputs, IsCompiled, coded}
+use Rattle.psy_history.specs.Compiled.{IsCompiled}
 use Rattle.psy_history.specs.Queues.{queue_of}
-use Rattle.psy_history.specs.Regular.{IsLawful, begun_by}
+use Rattle.psy_history.specs.Regular.{IsLawful, IsRegular, begun_by}
 use Rattle.psy_history.specs.Rings.{age_at, reach_with, ring_of}
+use Rattle.psy_history.specs.Runs.{IsRun}
 use Rattle.psy_history.specs.Scheduled.{IsSupplied, turns_of}
+use Rattle.psy_history.specs.Ways.{Looks, OfText, Ways}
+use Rattle.psy_history.specs.WaySizes as by_ways
 use Rattle.psy_meaning.specs.Actions.{Action, System, publishing, variable_of}
 use Rattle.psy_meaning.specs.Executors.{agent_at, agent_code_at}
-use Rattle.psy_meaning.specs.Flow.{IsGreatest, MayLook}
+use Rattle.psy_meaning.specs.Flow.{IsGreatest}
 use Rattle.psy_meaning.specs.History.{history}
-use Rattle.psy_meaning.specs.QueueSizes.{AreQueues, HasSendsTo}
+use Rattle.psy_meaning.specs.QueueSizes.{HasSendsTo, IsQueueSize}
 use Rattle.psy_meaning.specs.RingSizes.{IsRingSize}
 use Rattle.psy_meaning.specs.Schedule.{Turn, turn_of, units}
 use Rattle.psy_meaning.specs.Summary.{reach}
@@ -38,62 +42,45 @@ use Rattle.psy_kernel.specs.Standing.{charge_after}
 use Rattle.psy_kernel.proofs.CyclesDone.{as_many, tick_of_cycle}
 use Rattle.psy_kernel.proofs.LooksMade.{near, reached}
 use Rattle.psy_kernel.proofs.OneAgent.{early}
+use Rattle.psy_kernel.proofs.PaidCycles.{paid_few}
 use Rattle.psy_kernel.proofs.QueueViews.{acts}
 use Rattle.psy_kernel.proofs.RingViews.{shows, size_of}
 
--- ---- what is known of all histories
+-- ---- what is known of all runs
 
-abbrev pub AgesLaw : Type 0
-AgesLaw =
-    (s : System) (order : ℕ → List ℕ) (until dates agent variable back size date : ℕ) (decl : VarDecl) (r : Action) → IsSupplied s order until → Contains (history s dates agent) r
-    → slice_get s.unit.variables variable ≡ Some decl → MayLook s.unit.functions (agent_at s.unit agent) r.point variable → back < decl.depth → IsRingSize s.unit s.nexts variable size
-    → r.start ≤ date → date < r.deadline → age_at s variable back r.start date < size
-
-abbrev pub ValuesLaw : Type 0
-ValuesLaw =
-    (s : System) (date agent variable back size : ℕ) (decl : VarDecl) (r : Action) → IsLawful s → IsClock (publishing s variable) → Contains (history s (date + 1) agent) r
-    → slice_get s.unit.variables variable ≡ Some decl → back < decl.depth → age_at s variable back r.start date < size
-    → slice_get (ring_of s (date + 1) variable size) (age_at s variable back r.start date) ≡ past_of r.view variable back
-
-abbrev pub StallsLaw : Type 0
-StallsLaw =
-    (s : System) (turns : List (Option Turn)) (dates agent variable : ℕ) (r : Action) → IsLawful s → Contains (history s dates agent) r
-    → ((instr : ℕ) → units r.agent r.number turns ≡ cycle_of (s.stalls r.agent) r.number instr → ⊥)
-    → reach s (turn_of (Some r) ∷ turns) (history s dates) variable ≡ reach s turns (history s dates) variable
-
-abbrev pub PaysLaw : Type 0
-PaysLaw =
-    (unit : Whole) (code : Code) (nexts : List (List (List ℕ))) (stalls : ℕ → List Stall) (inputs : List (List ℤ)) → IsCompiled unit code nexts → AreInputs unit inputs
-    → (turns : List (Option Turn)) (dates agent variable instr : ℕ) (r : Action) (state : RunState) → Contains (history (coded unit code nexts stalls inputs) dates agent) r
-    → run_code code (agent_code_at code r.agent) (begun_by (agent_code_at code r.agent) r) instr ≡ Running state
-    → units r.agent r.number turns ≡ cycle_of (stalls r.agent) r.number instr → instr < r.budget
-    → reach (coded unit code nexts stalls inputs) (turn_of (Some r) ∷ turns) (history (coded unit code nexts stalls inputs) dates) variable
-    ≡ reach_with (coded unit code nexts stalls inputs) variable r.start (length turns / unit.quantum) (call_of code state.machine) (reach (coded unit code nexts stalls inputs) turns (history (coded unit code nexts stalls inputs) dates) variable)
-
-abbrev pub FrontsLaw : Type 0
-FrontsLaw =
-    (unit : Whole) (code : Code) (nexts : List (List (List ℕ))) (stalls : ℕ → List Stall) (inputs : List (List ℤ)) → IsCompiled unit code nexts → AreInputs unit inputs
-    → (date stream agent : ℕ) (decl : StreamDecl) (r : Action) (before : List Action) → slice_get unit.streams stream ≡ Some decl → decl.receiver ≡ agent
-    → history (coded unit code nexts stalls inputs) (date + 1) agent ≡ r ∷ before → date < r.deadline
-    → (filter (λ (m : Message). nat_le m.visible r.start) (queue_of (coded unit code nexts stalls inputs) (date + 1) stream) ≡ r.seen stream)
-    × (take (length (r.seen stream)) (queue_of (coded unit code nexts stalls inputs) (date + 1) stream) ≡ r.seen stream)
-
-abbrev pub SendsLaw : Type 0
-SendsLaw =
-    (unit : Whole) (code : Code) (nexts : List (List (List ℕ))) (stalls : ℕ → List Stall) (inputs : List (List ℤ)) → IsCompiled unit code nexts → AreInputs unit inputs
-    → (queues : List ℕ) → AreQueues unit nexts queues → All (λ size. size ≤ QUEUE) queues
-    → (dates agent size instr : ℕ) (r : Action) (state : RunState) (sent : Sent) → IsGreatest (HasSendsTo unit (agent_at unit agent)) size
-    → Contains (history (coded unit code nexts stalls inputs) dates agent) r
-    → run_code code (agent_code_at code agent) (begun_by (agent_code_at code agent) r) instr ≡ Running state
-    → call_of code state.machine ≡ Some (Send sent) → length state.deeds.sends < size
-
-abbrev pub TakesLaw : Type 0
-TakesLaw =
-    (unit : Whole) (code : Code) (nexts : List (List (List ℕ))) (stalls : ℕ → List Stall) (inputs : List (List ℤ)) → IsCompiled unit code nexts → AreInputs unit inputs
-    → (dates agent stream instr : ℕ) (decl : StreamDecl) (r : Action) (state : RunState) → slice_get unit.streams stream ≡ Some decl → decl.receiver ≡ agent
-    → Contains (history (coded unit code nexts stalls inputs) dates agent) r
-    → run_code code (agent_code_at code agent) (begun_by (agent_code_at code agent) r) instr ≡ Running state
-    → messages_of state.view stream ≡ Some (map (λ (m : Message). m.value) (drop (count_by (λ t. t == stream) state.deeds.takes) (r.seen stream)))
+pub record AreLooksLaws : Type 0 where
+  pub ages : (s : System) (ways : Ways) (order : ℕ → List ℕ) (until dates agent variable back size date : ℕ) (decl : VarDecl) (r : Action) → IsSupplied s order until → Contains (history s dates agent) r
+      → slice_get s.unit.variables variable ≡ Some decl → Looks ways agent r.point variable → back < decl.depth → by_ways.IsRingSize s.unit ways s.nexts variable size
+      → r.start ≤ date → date < r.deadline → age_at s variable back r.start date < size
+  pub values : (s : System) (date agent variable back size : ℕ) (decl : VarDecl) (r : Action) → IsLawful s → IsClock (publishing s variable) → Contains (history s (date + 1) agent) r
+      → slice_get s.unit.variables variable ≡ Some decl → back < decl.depth → age_at s variable back r.start date < size
+      → slice_get (ring_of s (date + 1) variable size) (age_at s variable back r.start date) ≡ past_of r.view variable back
+  pub stalls : (s : System) (turns : List (Option Turn)) (dates agent variable : ℕ) (r : Action) → IsLawful s → Contains (history s dates agent) r
+      → ((instr : ℕ) → units r.agent r.number turns ≡ cycle_of (s.stalls r.agent) r.number instr → ⊥)
+      → reach s (turn_of (Some r) ∷ turns) (history s dates) variable ≡ reach s turns (history s dates) variable
+  pub pays : (s : System) (ways : Ways) (code : Code) → IsRun s ways code
+      → (turns : List (Option Turn)) (dates agent variable instr : ℕ) (r : Action) (state : RunState) → Contains (history s dates agent) r
+      → run_code code (agent_code_at code r.agent) (begun_by (agent_code_at code r.agent) r) instr ≡ Running state
+      → units r.agent r.number turns ≡ cycle_of (s.stalls r.agent) r.number instr → instr < r.budget
+      → reach s (turn_of (Some r) ∷ turns) (history s dates) variable ≡ reach_with s variable r.start (length turns / s.unit.quantum) (call_of code state.machine) (reach s turns (history s dates) variable)
+  pub fronts : (s : System) (ways : Ways) (code : Code) → IsRun s ways code
+      → (date stream agent : ℕ) (decl : StreamDecl) (r : Action) (before : List Action) → slice_get s.unit.streams stream ≡ Some decl → decl.receiver ≡ agent
+      → history s (date + 1) agent ≡ r ∷ before → date < r.deadline
+      → (filter (λ (m : Message). nat_le m.visible r.start) (queue_of s (date + 1) stream) ≡ r.seen stream) × (take (length (r.seen stream)) (queue_of s (date + 1) stream) ≡ r.seen stream)
+  pub sends : (s : System) (ways : Ways) (code : Code) → IsRun s ways code
+      → (queues : List ℕ) → by_ways.AreQueues s.unit ways s.nexts queues → All (λ size. size ≤ QUEUE) queues
+      → (dates agent size instr : ℕ) (r : Action) (state : RunState) (sent : Sent) → IsGreatest (by_ways.HasSendsTo s.unit ways s.nexts agent) size → Contains (history s dates agent) r
+      → run_code code (agent_code_at code agent) (begun_by (agent_code_at code agent) r) instr ≡ Running state
+      → call_of code state.machine ≡ Some (Send sent) → instr < r.budget → length state.deeds.sends < size
+  pub takes : (s : System) (ways : Ways) (code : Code) → IsRun s ways code
+      → (dates agent stream instr : ℕ) (decl : StreamDecl) (r : Action) (state : RunState) → slice_get s.unit.streams stream ≡ Some decl → decl.receiver ≡ agent → Contains (history s dates agent) r
+      → run_code code (agent_code_at code agent) (begun_by (agent_code_at code agent) r) instr ≡ Running state
+      → messages_of state.view stream ≡ Some (map (λ (m : Message). m.value) (drop (count_by (λ t. t == stream) state.deeds.takes) (r.seen stream)))
+  -- sizes by the statements are those by their ways
+  pub rings : (unit : Whole) (nexts : List (List (List ℕ))) (variable size : ℕ) → IsRingSize unit nexts variable size → by_ways.IsRingSize unit (OfText unit) nexts variable size
+  pub queues : (unit : Whole) (nexts : List (List (List ℕ))) (stream size : ℕ) → IsQueueSize unit nexts stream size → by_ways.IsQueueSize unit (OfText unit) nexts stream size
+  pub outboxes : (unit : Whole) (code : Code) (nexts : List (List (List ℕ))) (agent size : ℕ) → IsCompiled unit code nexts → agent < length unit.agents
+      → IsGreatest (HasSendsTo unit (agent_at unit agent)) size → IsGreatest (by_ways.HasSendsTo unit (OfText unit) nexts agent) size
 
 -- ---- the action that gets the cycle
 
@@ -103,9 +90,12 @@ clock_lawful plan is s e variable less =
     let bare : IsBare s.unit = subst IsBare (sym e) is.compiled.text.bare in
     bare.clocks (variable_of s variable).clock (record { period = 1; first = 0 }) (IsBareVariable.clock (bare.variables variable (record { name = []; owner = None; clock = 0; init = pos 0; depth = 0 }) less))
 
-module _ (plan : Plan) (inputs : List (List ℤ)) (stalls : ℕ → List Stall) (is : IsPlan plan) (of_inputs : AreInputs plan.unit inputs) (script : Script) (date cycle : ℕ) (low : date * plan.unit.quantum ≤ cycle) (high : cycle < (date + 1) * plan.unit.quantum) where
+module _ (plan : Plan) (inputs : List (List ℤ)) (stalls : ℕ → List Stall) (is : IsPlan plan) (run : IsRun (system_of plan inputs stalls) (OfText plan.unit) plan.code) (script : Script) (date cycle : ℕ) (low : date * plan.unit.quantum ≤ cycle) (high : cycle < (date + 1) * plan.unit.quantum) where
   abbrev s : System
   s = system_of plan inputs stalls
+
+  abbrev ways : Ways
+  ways = OfText plan.unit
 
   abbrev order : ℕ → List ℕ
   order = order_of plan.unit script
@@ -113,29 +103,34 @@ module _ (plan : Plan) (inputs : List (List ℤ)) (stalls : ℕ → List Stall) 
   abbrev turns : List (Option Turn)
   turns = turns_of s order cycle
 
-  pub looks : AgesLaw → ValuesLaw → StallsLaw → PaysLaw → FrontsLaw → SendsLaw → TakesLaw → IsSupplied s order plan.until → (agent : ℕ) (r : Action) (before : List Action) → history s (date + 1) agent ≡ r ∷ before
+  pub looks : AreLooksLaws → IsSupplied s order plan.until → (agent : ℕ) (r : Action) (before : List Action) → history s (date + 1) agent ≡ r ∷ before
       → GetsCycle s plan.code turns plan.until date cycle agent r before → LooksBack s plan.code turns date r
-  looks ages values stalls_reach pays fronts sends takes supply agent r before e g =
+  looks laws supply agent r before e g =
       let had : ℕ = units r.agent r.number turns in
       let in_agent : Contains (history s (date + 1) agent) r = subst (λ actions. Contains actions r) (sym e) (0, omega arith, refl) in
       let in_own : Contains (history s (date + 1) r.agent) r = subst (λ n. Contains (history s (date + 1) n) r) (sym g.agent_is) in_agent in
+      let known : r.agent < length plan.unit.agents = IsRegular.known (All-contains (IsRegular s r.agent) (history s (date + 1) r.agent) r (supply.lawful.actions (date + 1) r.agent).each in_own) in
+      let soon = early s plan.code turns plan.until date cycle agent r before g in
+      let paid = (charge_after s r had).paid in
+      let left : paid < r.budget = (let few = paid_few (s.stalls r.agent) r.number r.budget had (omega (arith, soon)) in omega (arith, few, soon)) in
+      let queued : by_ways.AreQueues plan.unit ways plan.nexts plan.sizes.queues = record { count = is.buffers.queues.count; each = λ stream size at. laws.queues plan.unit plan.nexts stream size (is.buffers.queues.each stream size at) } in
       let at_date : length turns / plan.unit.quantum ≡ date = ap (λ n. n / plan.unit.quantum) (as_many s order cycle) ∙ tick_of_cycle s order date cycle low high in
       record {
-        acts = λ rings queues taken outbox ringed queued as_many size did. acts s plan.code r had date rings queues queued taken as_many outbox did
-            (λ stream decl at own. fronts plan.unit plan.code plan.nexts stalls inputs is.compiled of_inputs date stream r.agent decl r before at own (ap (history s (date + 1)) g.agent_is ∙ e) g.later)
-            (λ stream decl state at own running. takes plan.unit plan.code plan.nexts stalls inputs is.compiled of_inputs (date + 1) r.agent stream (charge_after s r had).paid decl r state at own in_own running)
-            (λ state sent running call. sends plan.unit plan.code plan.nexts stalls inputs is.compiled of_inputs plan.sizes.queues is.buffers.queues is.buffers.small_queues (date + 1) r.agent outbox.size (charge_after s r had).paid r state sent size in_own running call)
+        acts = λ rings queues taken outbox ringed filled as_many size did. acts s plan.code r had date rings queues filled taken as_many outbox did
+            (λ stream decl at own. laws.fronts s ways plan.code run date stream r.agent decl r before at own (ap (history s (date + 1)) g.agent_is ∙ e) g.later)
+            (λ stream decl state at own running. laws.takes s ways plan.code run (date + 1) r.agent stream paid decl r state at own in_own running)
+            (λ state sent running call. laws.sends s ways plan.code run plan.sizes.queues queued is.buffers.small_queues (date + 1) r.agent outbox.size paid r state sent (laws.outboxes plan.unit plan.code plan.nexts r.agent outbox.size is.compiled known size) in_own running call left)
             (λ messages. shows s date r rings ringed messages
-            (λ variable back size decl at may inner sized. ages s order plan.until (date + 1) r.agent variable back size date decl r supply in_own at may inner sized g.started g.later)
-            (λ variable back size decl at inner near. values s date r.agent variable back size decl r supply.lawful (clock_lawful plan is s refl variable (slice_get_within s.unit.variables variable decl at)) in_own at inner near));
-        near = near s plan.code r g.of_code had (early s plan.code turns plan.until date cycle agent r before g) date (λ variable back may. (
+            (λ variable back size decl at may inner sized. laws.ages s ways order plan.until (date + 1) r.agent variable back size date decl r supply in_own at may inner (laws.rings plan.unit plan.nexts variable size sized) g.started g.later)
+            (λ variable back size decl at inner near. laws.values s date r.agent variable back size decl r supply.lawful (clock_lawful plan is s refl variable (slice_get_within s.unit.variables variable decl at)) in_own at inner near));
+        near = near s plan.code r g.of_code had soon date (λ variable back may. (
           slice_get_within s.unit.variables variable may.0 may.1,
           (let size = size_of plan is variable (slice_get_within s.unit.variables variable may.0 may.1) in
-              let less = ages s order plan.until (date + 1) r.agent variable back size.0 date may.0 r supply in_own may.1 may.3 may.2 size.1 g.started g.later in
+              let less = laws.ages s ways order plan.until (date + 1) r.agent variable back size.0 date may.0 r supply in_own may.1 may.3 may.2 (laws.rings plan.unit plan.nexts variable size.0 size.1) g.started g.later in
               omega (arith, less, size.2)),
         ));
-        reached = λ variable. reached s plan.code r g.of_code had (early s plan.code turns plan.until date cycle agent r before g) date variable (reach s turns (history s (date + 1)) variable) (reach s (turn_of (Some r) ∷ turns) (history s (date + 1)) variable)
-            (stalls_reach s turns (date + 1) r.agent variable r supply.lawful in_own)
-            (λ instr state running at within. pays plan.unit plan.code plan.nexts stalls inputs is.compiled of_inputs turns (date + 1) r.agent variable instr r state in_own running at within
+        reached = λ variable. reached s plan.code r g.of_code had soon date variable (reach s turns (history s (date + 1)) variable) (reach s (turn_of (Some r) ∷ turns) (history s (date + 1)) variable)
+            (laws.stalls s turns (date + 1) r.agent variable r supply.lawful in_own)
+            (λ instr state running at within. laws.pays s ways plan.code run turns (date + 1) r.agent variable instr r state in_own running at within
             ∙ ap (λ n. reach_with s variable r.start n (call_of plan.code state.machine) (reach s turns (history s (date + 1)) variable)) at_date);
       }

@@ -8,6 +8,7 @@ use Rattle.psy_code.specs.declared.code.Code.{Code}
 use Rattle.psy_code.specs.Execution.{RunState, Running, call_of, run_code}
 use Rattle.psy_code.specs.Views.{Call, Past, Ready, Take, Send}
 use Rattle.psy_history.specs.Regular.{MayAsk, begun_by}
+use Rattle.psy_history.specs.Ways.{OfText}
 use Rattle.psy_history.specs.Rings.{reach_with}
 use Rattle.psy_meaning.specs.Actions.{Action, System}
 use Rattle.psy_meaning.specs.Executors.{agent_code_at}
@@ -15,7 +16,7 @@ use Rattle.psy_meaning.specs.Schedule.{work}
 use Rattle.psy_kernel.specs.Acting.{IsOfCode, LooksBy, look_of}
 use Rattle.psy_kernel.specs.Cycles.{IsNear, reach_by}
 use Rattle.psy_kernel.specs.Standing.{charge_after}
-use Rattle.psy_kernel.proofs.PaidCycles.{not_spent, paid_at, stalled_at}
+use Rattle.psy_kernel.proofs.PaidCycles.{not_spent, paid_at, paid_few, stalled_at}
 use Rattle.psy_kernel.proofs.RunsOn.{asks}
 use Rattle.psy_kernel.proofs.Verdicts.{is_whole}
 
@@ -26,27 +27,30 @@ module _ (s : System) (code : Code) (r : Action) (of_code : IsOfCode s code r) (
   abbrev paid : ℕ
   paid = (charge_after s r had).paid
 
+  left : paid < r.budget
+  left = (let few = paid_few (s.stalls r.agent) r.number r.budget had (omega (arith, within)) in omega (arith, few, within))
+
   abbrev now : Tick
   now = tick_of (charge_after s r had)
 
   -- ---- how far back it goes
 
-  near_of : ((variable back : ℕ) → MayAsk s.unit r.agent r.point (Some (Past variable back)) → IsNear s r.start date (Some (variable, back)))
-      → (call : Option Call) → MayAsk s.unit r.agent r.point call → IsNear s r.start date (look_of call)
+  near_of : ((variable back : ℕ) → MayAsk (OfText s.unit) s.unit r.agent r.point (Some (Past variable back)) → IsNear s r.start date (Some (variable, back)))
+      → (call : Option Call) → MayAsk (OfText s.unit) s.unit r.agent r.point call → IsNear s r.start date (look_of call)
   near_of law None may = tt {0}
   near_of law (Some (Past variable back)) may = law variable back may
   near_of law (Some (Ready stream)) may = tt {0}
   near_of law (Some (Take stream)) may = tt {0}
   near_of law (Some (Send sent)) may = tt {0}
 
-  near_by : ((variable back : ℕ) → MayAsk s.unit r.agent r.point (Some (Past variable back)) → IsNear s r.start date (Some (variable, back)))
+  near_by : ((variable back : ℕ) → MayAsk (OfText s.unit) s.unit r.agent r.point (Some (Past variable back)) → IsNear s r.start date (Some (variable, back)))
       → (look : Option (ℕ × ℕ)) (t : Tick) → LooksBy code r paid look t → IsNear s r.start date look
   near_by law look tick.Paid h =
-      subst (IsNear s r.start date) (sym h.2) (near_of law (call_of code h.0.machine) (asks _ _ _ _ _ _ (is_whole s code r of_code) paid h.0 h.1))
+      subst (IsNear s r.start date) (sym h.2) (near_of law (call_of code h.0.machine) (asks _ _ _ _ _ _ (is_whole s code r of_code) paid left h.0 h.1))
   near_by law look tick.Stalled h = subst (IsNear s r.start date) (sym h) (tt {0})
   near_by law look tick.Spent h = subst (IsNear s r.start date) (sym h) (tt {0})
 
-  pub near : ((variable back : ℕ) → MayAsk s.unit r.agent r.point (Some (Past variable back)) → IsNear s r.start date (Some (variable, back)))
+  pub near : ((variable back : ℕ) → MayAsk (OfText s.unit) s.unit r.agent r.point (Some (Past variable back)) → IsNear s r.start date (Some (variable, back)))
       → (look : Option (ℕ × ℕ)) → LooksBy code r paid look now → IsNear s r.start date look
   near law look h = near_by law look now h
 

@@ -96,6 +96,10 @@ module _ (stalls : List Stall) (number budget : ℕ) where
   pub up_to_next : (u : ℕ) → u ≤ budget → u ≤ cycle_of stalls number (paid u)
   up_to_next u less = subst (λ a. u ≤ cycle_of stalls a (paid u)) action_is (has_paid u less).up_to
 
+  -- no more instructions are paid than cycles were had
+  pub paid_few : (u : ℕ) → u ≤ budget → paid u ≤ u
+  paid_few u less = omega (arith, (has_paid u less).before)
+
   same_tick : (u : ℕ) → u ≤ budget → tick_of (charge u (paid u)) ≡ tick_of (ticked begun u)
   same_tick u less = ap tick_of (sym (has_paid u less).is)
 

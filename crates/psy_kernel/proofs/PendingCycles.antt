@@ -8,6 +8,7 @@ use Rattle.psy_budget.specs.Charges.{Charged, after_tick, cycle_of, tick_of}
 use Rattle.psy_code.specs.declared.code.Code.{Code}
 use Rattle.psy_code.specs.declared.look.Sent.{Sent}
 use Rattle.psy_code.specs.Execution.{RunState, Run, Running, Next, Went, Ended, Trapped, Stuck, call_of, deeds_then, next_of, run_by, run_code, state_then}
+use Rattle.psy_code.specs.Lasting.{IsOver}
 use Rattle.psy_code.specs.Views.{View, Call, PermitsAll, Window}
 use Rattle.psy_machine.specs.declared.machine.Step.{Step}
 use Rattle.psy_machine.specs.declared.machine.Step.TheVariants as step
@@ -19,8 +20,8 @@ use Rattle.psy_kernel.specs.declared.kernel.advance.Gone.{Gone}
 use Rattle.psy_kernel.specs.declared.kernel.advance.Gone.TheVariants as gone
 use Rattle.psy_kernel.specs.Acting.{AfterCycle, AreDone, HasDoneBy, InAction, IsGone, IsLookIn, IsOfCode, ShowsAs, look_of}
 use Rattle.psy_kernel.specs.Standing.{HasDone, IsRunning, charge_after}
-use Rattle.psy_kernel.proofs.PaidCycles.{not_spent as is_granted, paid_at, paid_next, spent_is, stalled_next, up_to_next}
-use Rattle.psy_kernel.proofs.RunsOn.{able as can_go, answers_alike, asks as asks_of, at_end, early, next_run, noted_after, pasts, permits, served}
+use Rattle.psy_kernel.proofs.PaidCycles.{not_spent as is_granted, paid_at, paid_few, paid_next, spent_is, stalled_next, up_to_next}
+use Rattle.psy_kernel.proofs.RunsOn.{able as can_go, answers_alike, asks as asks_of, at_end, early, next_run, noted_after, over_then, pasts, permits, served}
 use Rattle.psy_kernel.proofs.Verdicts.{comes_to, ended, is_whole, its, less_charge, of_code, overran, runs as runs_of, start, trapped}
 
 -- An action that isn't over goes on, or its budget is spent.
@@ -34,8 +35,7 @@ goes_on : (s : System) (code : Code) (r : Action) → IsOfCode s code r → (had
     → IsGone s code r had machine (on_or_spent (charge_after s r (suc had)))
 goes_on s code r w had machine less running =
     let within : suc had ≤ r.budget = omega (arith, less) in
-    let before = early _ _ _ _ _ _ (is_whole s code r w) (charge_after s r (suc had)).paid running.0 running.1 in
-    let more : suc had < r.charge = less_charge s code r w (suc had) _ within before (up_to_next (s.stalls r.agent) r.number r.budget (suc had) within) in
+    let more : suc had < r.charge = less_charge s code r w (suc had) _ running.0 within running.1 (up_to_next (s.stalls r.agent) r.number r.budget (suc had) within) in
     let test = spent_is (s.stalls r.agent) r.number r.budget (suc had) within in
     elim (cases_eq (suc had) r.budget) [
       | inl same ↦ rw (test ∙ eq-eqb (suc had) r.budget same) (omega (arith, more, same), overran s code r w (omega (arith, more, same)))
@@ -48,6 +48,9 @@ module _ (s : System) (code : Code) (r : Action) (had : ℕ) (charge : Charged) 
 
   abbrev paid : ℕ
   paid = (charge_after s r had).paid
+
+  left : paid < r.budget
+  left = (let few = paid_few (s.stalls r.agent) r.number r.budget had (omega (arith, less)) in omega (arith, few, less))
 
   abbrev state : RunState
   state = w.running.0
@@ -72,16 +75,16 @@ module _ (s : System) (code : Code) (r : Action) (had : ℕ) (charge : Charged) 
 
   alike : (window : Window) → ShowsAs s code r paid window → AnswerAlike window.view state.view call
   alike window shows =
-      answers_alike s code r paid window shows state w.running.1 (pasts _ _ _ _ _ _ (is_whole s code r w.of_code) paid state w.running.1) call (asks_of _ _ _ _ _ _ (is_whole s code r w.of_code) paid state w.running.1)
+      answers_alike s code r paid window shows state w.running.1 (pasts _ _ _ _ _ _ (is_whole s code r w.of_code) paid left state w.running.1) call (asks_of _ _ _ _ _ _ (is_whole s code r w.of_code) paid left state w.running.1)
 
   pub able : (window : Window) → ShowsAs s code r paid window → next_for code window.view machine ≢ Stuck
-  able window shows e = can_go _ _ _ _ _ _ (is_whole s code r w.of_code) paid state w.running.1 window.view (alike window shows) (sym (next_is window.view) ∙ e)
+  able window shows e = can_go _ _ _ _ _ _ (is_whole s code r w.of_code) paid left state w.running.1 window.view (alike window shows) (sym (next_is window.view) ∙ e)
 
   pub permitted : (window : Window) → ShowsAs s code r paid window → PermitsAll window (call_of code machine.machine)
   permitted window shows =
       subst (PermitsAll window) call_is
-      (permits s code r paid window shows state w.running.1 call refl (asks_of _ _ _ _ _ _ (is_whole s code r w.of_code) paid state w.running.1) (alike window shows)
-      (served _ _ _ _ _ _ (is_whole s code r w.of_code) paid state w.running.1))
+      (permits s code r paid window shows state w.running.1 call refl (asks_of _ _ _ _ _ _ (is_whole s code r w.of_code) paid left state w.running.1) (alike window shows)
+      (served _ _ _ _ _ _ (is_whole s code r w.of_code) paid left state w.running.1))
 
   charge_by : (t : Tick) → tick_of charge ≡ t → after_tick charge t ≡ charge_after s r (suc had)
   charge_by t e = ap (after_tick charge) (sym e) ∙ ap (λ (c : Charged). after_tick c (tick_of c)) w.charged
@@ -142,12 +145,15 @@ module _ (s : System) (code : Code) (r : Action) (had : ℕ) (charge : Charged) 
     at = paid_at (s.stalls r.agent) r.number r.budget had less (tick_by tick.Paid paying)
 
     runs : (next : Next) → next_for code view machine ≡ next → run (suc paid) ≡ run_by state call next
-    runs next e = next_run _ _ _ _ _ _ (is_whole s code r w.of_code) paid state w.running.1 view (alike window shows) ∙ ap (run_by state call) (sym (next_is view) ∙ e)
+    runs next e = next_run _ _ _ _ _ _ (is_whole s code r w.of_code) paid left state w.running.1 view (alike window shows) ∙ ap (run_by state call) (sym (next_is view) ∙ e)
 
     is_last : (after : Run) → run (suc paid) ≡ after → ((t : RunState) → after ≡ Running t → ⊥) → (runs_of s code r w.of_code).steps ≡ suc paid
     is_last after e halts =
         let going = is_whole s code r w.of_code in
-        at_end _ _ _ _ _ _ going paid (early _ _ _ _ _ _ going paid state w.running.1) (λ t h. halts t (sym e ∙ h))
+        at_end _ _ _ _ _ _ going paid (early _ _ _ _ _ _ going paid left state w.running.1) (λ t h. halts t (sym e ∙ h))
+
+    is_over : (after : Run) (e : run (suc paid) ≡ after) (halts : (t : RunState) → after ≡ Running t → ⊥) → IsOver (run (runs_of s code r w.of_code).steps) (runs_of s code r w.of_code).last
+    is_over after e halts = over_then _ _ _ _ _ _ (is_whole s code r w.of_code) (suc paid) (is_last after e halts) (λ t h. halts t (sym e ∙ h))
 
     gone_after : (next : Next) (answer : Step) → next_for code view machine ≡ next → Answers next answer → (after : AgentMachine) → after.machine ≡ machine_after next machine.machine → IsGone s code r had after (gone_by (charge_after s r (suc had)) answer)
     gone_after (Went m) answer e answers after same =
@@ -155,10 +161,10 @@ module _ (s : System) (code : Code) (r : Action) (had : ℕ) (charge : Charged) 
         rw answers (goes_on s code r w.of_code had after less running)
     gone_after (Ended point m) answer e answers after same =
         let ran = runs (Ended point m) e in
-        rw answers (ended s code r w.of_code had paid less at (is_last _ ran (λ t h. cc)) point _ ran after same)
+        rw answers (ended s code r w.of_code had paid less at (is_last _ ran (λ t h. cc)) (is_over _ ran (λ t h. cc)) point _ ran after same)
     gone_after (Trapped kind) answer e answers after same =
         let ran = runs (Trapped kind) e in
-        rw answers (trapped s code r w.of_code had paid less at (is_last _ ran (λ t h. cc)) kind _ ran after)
+        rw answers (trapped s code r w.of_code had paid less at (is_last _ ran (λ t h. cc)) (is_over _ ran (λ t h. cc)) kind _ ran after)
     gone_after Stuck answer e answers after same = absurd answers
 
     pub after_paid : (c : Charged) → c ≡ after_tick charge tick.Paid → (answer : Step) → Answers (next_for code view machine) answer → (after : AgentMachine) → after ≡ stepped code view machine → (result : Gone) → result ≡ gone_by c answer
@@ -179,7 +185,7 @@ module _ (s : System) (code : Code) (r : Action) (had : ℕ) (charge : Charged) 
           rw answers (on_done sends taken (subst (λ n. HasDone s code r n sends taken) (sym more_paid) on) (c.consumed == c.budget))
       did_after (Ended point m) answer e answers c =
           let ran = runs (Ended point m) e in
-          let deeds : r.deeds ≡ deeds_then state.deeds call = w.of_code.deeds ∙ ap (λ (a : Acted). a.deeds) (comes_to s code r w.of_code had paid less at (is_last _ ran (λ t h. cc)) _ ran) in
+          let deeds : r.deeds ≡ deeds_then state.deeds call = w.of_code.deeds ∙ ap (λ (a : Acted). a.deeds) (comes_to s code r w.of_code had paid less at (is_last _ ran (λ t h. cc)) (is_over _ ran (λ t h. cc)) _ ran) in
           rw answers (subst (λ d. AreDone s r d sends taken) (sym deeds) did)
       did_after (Trapped kind) answer e answers c = rw answers (tt {0})
       did_after Stuck answer e answers c = absurd answers

@@ -13,6 +13,7 @@ use Rattle.psy_code.specs.Views.{Past, Send, messages_of, past_of}
 use Rattle.psy_dates.specs.Outboxes.{Outboxed}
 use Rattle.psy_history.specs.Queues.{queue_of}
 use Rattle.psy_history.specs.Regular.{MayAsk, begun_by}
+use Rattle.psy_history.specs.Ways.{OfText}
 use Rattle.psy_meaning.specs.Actions.{Action, System, stream_of}
 use Rattle.psy_meaning.specs.Executors.{agent_code_at}
 use Rattle.psy_meaning.specs.Kept.{Receives}
@@ -60,7 +61,7 @@ module _ (s : System) (code : Code) (r : Action) (had date : ℕ) (rings : List 
     → messages_of state.view stream ≡ Some (map (λ (m : Message). m.value) (drop (count_by (λ t. t == stream) state.deeds.takes) (r.seen stream))))
     (sends : (state : RunState) (sent : Sent) → run_code code (agent_code_at code r.agent) (begun_by (agent_code_at code r.agent) r) (charge_after s r had).paid ≡ Running state
     → call_of code state.machine ≡ Some (Send sent) → length state.deeds.sends < outbox.size)
-    (pasts : (messages : List (Option (List ℤ))) (variable back : ℕ) → MayAsk s.unit r.agent r.point (Some (Past variable back)) → past_of (view_in rings s.unit.variables s.unit.clocks r.start date messages) variable back ≡ past_of r.view variable back) where
+    (pasts : (messages : List (Option (List ℤ))) (variable back : ℕ) → MayAsk (OfText s.unit) s.unit r.agent r.point (Some (Past variable back)) → past_of (view_in rings s.unit.variables s.unit.clocks r.start date messages) variable back ≡ past_of r.view variable back) where
   abbrev sight : Sight
   sight = sight_in s.unit rings queues r.agent r.start date
 

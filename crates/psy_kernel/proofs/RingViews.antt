@@ -8,6 +8,7 @@ use Rattle.psy_code.specs.Views.{Past, past_of}
 use Rattle.psy_dates.specs.declared.plan.Plan.{Plan}
 use Rattle.psy_dates.specs.Plans.{IsPlan}
 use Rattle.psy_history.specs.Regular.{MayAsk}
+use Rattle.psy_history.specs.Ways.{OfText}
 use Rattle.psy_history.specs.Rings.{age_at, ring_of}
 use Rattle.psy_meaning.specs.Actions.{Action, System, variable_of}
 use Rattle.psy_meaning.specs.Executors.{agent_at}
@@ -57,7 +58,7 @@ module _ (s : System) (date : ℕ) (r : Action) (rings : List (List ℤ)) (stand
   -- what is found at each age that a ring has is what the action saw
   pub shows : ((variable back size : ℕ) (decl : VarDecl) → slice_get s.unit.variables variable ≡ Some decl → MayLook s.unit.functions (agent_at s.unit r.agent) r.point variable → back < decl.depth → IsRingSize s.unit s.nexts variable size → age_at s variable back r.start date < size)
       → ((variable back size : ℕ) (decl : VarDecl) → slice_get s.unit.variables variable ≡ Some decl → back < decl.depth → age_at s variable back r.start date < size → slice_get (ring_of s (date + 1) variable size) (age_at s variable back r.start date) ≡ past_of r.view variable back)
-      → (variable back : ℕ) → MayAsk s.unit r.agent r.point (Some (Past variable back)) → past_of (view_in rings s.unit.variables s.unit.clocks r.start date messages) variable back ≡ past_of r.view variable back
+      → (variable back : ℕ) → MayAsk (OfText s.unit) s.unit r.agent r.point (Some (Past variable back)) → past_of (view_in rings s.unit.variables s.unit.clocks r.start date messages) variable back ≡ past_of r.view variable back
   shows ages values variable back asks =
       let decl : VarDecl = asks.0 in
       let there : variable < length s.unit.variables = slice_get_within s.unit.variables variable decl asks.1 in

@@ -1,5 +1,5 @@
--- A run of an action's code from its beginning to its end, under any view that shows it what it may look at.
-use Rattle.std.proofs.Common.{◌≡◌, ◌≢◌, ℕ, zero, suc, ◌+◌, ◌-◌, ◌<◌, ◌≤◌, Option, Some, None, slice_get, refl, sym, ap, ◌∙◌, subst, inl, inr, arith}
+-- A run of an action's code within its budget, under any view that shows it what it may look at.
+use Rattle.std.proofs.Common.{◌≡◌, ◌≢◌, ◌⊎◌, ℕ, zero, suc, ◌+◌, ◌-◌, ◌<◌, ◌≤◌, Option, Some, None, slice_get, refl, sym, ap, ◌∙◌, subst, inl, inr, arith}
 use Rattle.std.specs.Prelude.{IsSome, length}
 use Rattle.std.proofs.lemmas.Bool.{cases_lt}
 use Rattle.psy_code.specs.declared.code.AgentCode.{AgentCode}
@@ -11,6 +11,7 @@ use Rattle.psy_machine.specs.Stepping.{window_after}
 use Rattle.psy_meaning.specs.Actions.{Action, System}
 use Rattle.psy_meaning.specs.Executors.{agent_code_at}
 use Rattle.psy_history.specs.Regular.{AnswerAlike, Goes, MayAsk, begun_by}
+use Rattle.psy_history.specs.Ways.{OfText}
 use Rattle.psy_kernel.specs.Acting.{ShowsAs, look_of}
 
 pub same_state : (s t : RunState) → Running s ≡ Running t → s ≡ t
@@ -44,7 +45,7 @@ module _ (code : Code) (its : AgentCode) where
 
 module _ (s : System) (code : Code) (r : Action) (paid : ℕ) (window : Window) (shows : ShowsAs s code r paid window) (state : RunState) (running : run_code code (agent_code_at code r.agent) (begun_by (agent_code_at code r.agent) r) paid ≡ Running state) where
   -- it answers what the action asks as its own view does
-  pub answers_alike : state.view.pasts ≡ r.view.pasts → (call : Option Call) → MayAsk s.unit r.agent r.point call → AnswerAlike window.view state.view call
+  pub answers_alike : state.view.pasts ≡ r.view.pasts → (call : Option Call) → MayAsk (OfText s.unit) s.unit r.agent r.point call → AnswerAlike window.view state.view call
   answers_alike pasts None asks = tt {0}
   answers_alike pasts (Some (Past variable back)) asks = shows.pasts variable back asks ∙ sym (ap (λ lists. found_in (slice_get lists variable) (λ values. slice_get values back)) pasts)
   answers_alike pasts (Some (Ready stream)) asks = ap (λ messages. found_in messages (λ values. Some (length values))) (shows.messages state running stream asks)
@@ -53,12 +54,12 @@ module _ (s : System) (code : Code) (r : Action) (paid : ℕ) (window : Window) 
   answers_alike pasts (Some (Send sent)) asks = tt {0}
 
   -- it permits what that view serves
-  pub permits : (call : Option Call) → call_of code state.machine ≡ call → MayAsk s.unit r.agent r.point call → AnswerAlike window.view state.view call → ServesAll state.view call → PermitsAll window call
+  pub permits : (call : Option Call) → call_of code state.machine ≡ call → MayAsk (OfText s.unit) s.unit r.agent r.point call → AnswerAlike window.view state.view call → ServesAll state.view call → PermitsAll window call
   permits None is asks alike served = tt {0}
   permits (Some (Past variable back)) is asks alike served = (subst IsSome (sym alike) served, tt {0})
   permits (Some (Ready stream)) is asks alike served = (subst IsSome (sym (shows.messages state running stream asks)) served, tt {0})
   permits (Some (Take stream)) is asks alike served = (subst IsSome (sym (shows.messages state running stream asks)) served, tt {0})
-  permits (Some (Send sent)) is asks alike served = (tt {0}, (omega (arith, asks.stream, shows.streams), omega (arith, asks.clock, shows.clocks), shows.room state running sent is))
+  permits (Some (Send sent)) is asks alike served = (tt {0}, (omega (arith, asks.fits.stream, shows.streams), omega (arith, asks.fits.clock, shows.clocks), shows.room state running sent is))
 
 -- A window that noted no look notes that of a call
 pub noted_after : (window : Window) (call : Option Call) → window.noted ≡ None → (window_after window call).noted ≡ look_of call
@@ -68,23 +69,28 @@ noted_after window (Some (Ready stream)) fresh = fresh
 noted_after window (Some (Take stream)) fresh = fresh
 noted_after window (Some (Send sent)) fresh = fresh
 
--- ---- a run that is over after so many instructions, and goes on till then
+-- ---- a run that is over after so many instructions, or goes on until its budget is spent
 
 pub record IsWhole (s : System) (code : Code) (its : AgentCode) (r : Action) (steps : ℕ) (last : RunState) : Type 0 where
-  pub over : IsOver (run_code code its (begun_by its r) steps) last
+  pub within : steps ≤ r.budget
+  pub ends : IsOver (run_code code its (begun_by its r) steps) last ⊎ ((steps ≡ r.budget) × (run_code code its (begun_by its r) steps ≡ Running last))
   pub counted : last.deeds.steps ≡ steps
-  pub on_the_way : (n : ℕ) → n < steps → Goes s code its r n
+  pub on_the_way : (n : ℕ) → n < steps → Goes s (OfText s.unit) code its r n
 
 module _ (s : System) (code : Code) (its : AgentCode) (r : Action) (steps : ℕ) (last : RunState) (whole : IsWhole s code its r steps last) where
   abbrev run : ℕ → Run
   run n = run_code code its (begun_by its r) n
 
-  -- a run that goes on isn't at its end
-  pub early : (n : ℕ) (t : RunState) → run n ≡ Running t → n < steps
-  early n t e = elim (cases_lt n steps) [
+  -- a run that goes on isn't at its end,
+  pub before_over : IsOver (run steps) last → (n : ℕ) (t : RunState) → run n ≡ Running t → n < steps
+  before_over over n t e = elim (cases_lt n steps) [
     | inl less ↦ less
-    | inr more ↦ absurd (not_over t last (run steps) (sym (stays_over code its last steps n (begun_by its r) more whole.over) ∙ e) whole.over)
+    | inr more ↦ absurd (not_over t last (run steps) (sym (stays_over code its last steps n (begun_by its r) more over) ∙ e) over)
   ]
+
+  -- nor where its budget is not yet spent
+  pub early : (n : ℕ) → n < r.budget → (t : RunState) → run n ≡ Running t → n < steps
+  early n left t e = elim whole.ends [ inl over ↦ before_over over n t e | inr spent ↦ omega (arith, left, spent.0) ]
 
   pub at_end : (n : ℕ) → n < steps → ((t : RunState) → run (suc n) ≡ Running t → ⊥) → steps ≡ suc n
   at_end n less halts = elim (cases_lt (suc n) steps) [
@@ -92,16 +98,20 @@ module _ (s : System) (code : Code) (its : AgentCode) (r : Action) (steps : ℕ)
     | inr more ↦ omega (arith, less, more)
   ]
 
+  -- where it doesn't go on, it is over
+  pub over_then : (n : ℕ) → steps ≡ n → ((t : RunState) → run n ≡ Running t → ⊥) → IsOver (run steps) last
+  over_then n is halts = elim whole.ends [ inl over ↦ over | inr spent ↦ absurd (halts last (ap run (sym is) ∙ spent.1)) ]
+
   -- the next instruction of a run that goes on
-  module _ (n : ℕ) (t : RunState) (running : run n ≡ Running t) where
-    goes : Goes s code its r n
-    goes = whole.on_the_way n (early n t running)
+  module _ (n : ℕ) (left : n < r.budget) (t : RunState) (running : run n ≡ Running t) where
+    goes : Goes s (OfText s.unit) code its r n
+    goes = whole.on_the_way n (early n left t running)
 
     same : goes.state ≡ t
     same = same_state goes.state t (sym goes.running ∙ running)
 
-    pub asks : MayAsk s.unit r.agent r.point (call_of code t.machine)
-    asks = subst (λ (t : RunState). MayAsk s.unit r.agent r.point (call_of code t.machine)) same goes.asks
+    pub asks : MayAsk (OfText s.unit) s.unit r.agent r.point (call_of code t.machine)
+    asks = subst (λ (t : RunState). MayAsk (OfText s.unit) s.unit r.agent r.point (call_of code t.machine)) same goes.asks
 
     pub served : ServesAll t.view (call_of code t.machine)
     served = subst (λ (t : RunState). ServesAll t.view (call_of code t.machine)) same goes.served

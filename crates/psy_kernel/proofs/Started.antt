@@ -22,7 +22,7 @@ use Rattle.psy_meaning.specs.History.{action_of, history, with_start}
 use Rattle.psy_meaning.specs.Schedule.{Turn, is_pending, units, work}
 use Rattle.psy_meaning.specs.Summary.{due_by, slack}
 use Rattle.psy_history.specs.Compiled.{coded}
-use Rattle.psy_history.specs.Regular.{IsLawful, IsRegular, WereStarted, begun_by}
+use Rattle.psy_history.specs.Regular.{IsLawful, IsRegular, WereStarted, begun_by, first_number, number_of}
 use Rattle.psy_dates.specs.declared.seat.Phase.TheVariants as phase
 use Rattle.psy_dates.specs.declared.seat.Seat.{Seat}
 use Rattle.psy_dates.specs.Standing.{SeatOf, SeatStands, phase_by}
@@ -101,6 +101,14 @@ module _ (unit : Whole) (code : Code) (nexts : List (List (List ℕ))) (stalls :
   abbrev of_code : System
   of_code = coded unit code nexts stalls inputs
 
+  zero_or_none : (agent : ℕ) (o : Option AgentDecl) → number_of (found_in o (λ a. Some (first_action unit nexts (by_code code) agent))) ≡ 0
+  zero_or_none agent None = refl
+  zero_or_none agent (Some a) = refl
+
+  -- Each agent begins with action 0.
+  first_is_zero : (agent : ℕ) → first_number of_code agent ≡ 0
+  first_is_zero agent = zero_or_none agent (slice_get unit.agents agent)
+
   begins_first : (agent : ℕ) (machine : AgentMachine) (n : Next) → IsNew code agent machine → next_of of_code agent [] ≡ Some n → machine.machine ≡ machine_at (agent_code_at code agent) n.point n.carried
   begins_first agent machine n new e =
       let its = new.0 in
@@ -119,7 +127,7 @@ module _ (unit : Whole) (code : Code) (nexts : List (List (List ℕ))) (stalls :
   -- ---- the agent
 
   module _ (date until agent : ℕ) (turns : List (Option Turn)) (lawful : IsLawful of_code) (small : date ≤ 2 ^ 32)
-      (unstarted : (number : ℕ) → length (history of_code date agent) ≤ number → units agent number turns ≡ 0)
+      (unstarted : (number : ℕ) → first_number of_code agent + length (history of_code date agent) ≤ number → units agent number turns ≡ 0)
       (in_time : (r : Action) → Contains (history of_code date agent) r → r.deadline ≤ date → is_pending turns r ≡ false) where
     abbrev actions : List Action
     actions = history of_code date agent
@@ -156,7 +164,7 @@ module _ (unit : Whole) (code : Code) (nexts : List (List (List ℕ))) (stalls :
         let started = subst (WereStarted of_code date agent) is (lawful.actions date agent).were_started in
         let had = units r.agent r.number turns in
         let kept = ticked_keeps (record { stalls = stalls r.agent; started = r.number + 1; budget = r.budget; consumed = 0; paid = 0 }) had in
-        (ap (λ (c : Charged). c.stalls) h ∙ kept.0 ∙ ap stalls regular.agent_is, ap (λ (c : Charged). c.started) h ∙ kept.1 ∙ omega (arith, started.0.number))
+        (ap (λ (c : Charged). c.stalls) h ∙ kept.0 ∙ ap stalls regular.agent_is, ap (λ (c : Charged). c.started) h ∙ kept.1 ∙ omega (arith, started.0.number, first_is_zero agent))
 
     -- ---- the next action starts
 
@@ -169,8 +177,8 @@ module _ (unit : Whole) (code : Code) (nexts : List (List (List ℕ))) (stalls :
         let r = action_of of_code (history of_code date) agent n in
         let regular = All-head (IsRegular of_code agent) r actions (subst (All (IsRegular of_code agent)) grew (lawful.actions (suc date) agent).each) in
         let started = (subst (WereStarted of_code (suc date) agent) grew (lawful.actions (suc date) agent).were_started).0 in
-        let number : r.number ≡ length actions = started.number in
-        let none : units agent r.number turns ≡ 0 = unstarted r.number (omega (arith, number)) in
+        let none : units agent r.number turns ≡ 0 = unstarted r.number (omega (arith, started.number)) in
+        let number : r.number ≡ length actions = omega (arith, started.number, first_is_zero agent) in
         let pending : is_pending turns r ≡ true = pends turns r none regular.granted regular.charged in
         let counts = charge_counts actions charge refl h.charged in
         let few : length actions ≤ date = (lawful.actions date agent).few in

@@ -1,7 +1,7 @@
 -- What an action is charged and comes to, where it is what its code came to.
 use Rattle.std.proofs.Common.{◌≡◌, ℕ, suc, ◌+◌, ◌<◌, ◌≤◌, List, Some, IsSome, slice_get, sym, ap, ◌∙◌, subst, inl, inr, arith}
 use Rattle.std.specs.Prelude.{if◌then◌else◌}
-use Rattle.std.proofs.lemmas.Bool.{cases_lt, lt-ltb, le-ltb}
+use Rattle.std.proofs.lemmas.Bool.{lt-ltb, le-ltb}
 use Rattle.std.proofs.lemmas.Option.{get_or_from_slice_get}
 use Rattle.psy_arith.specs.declared.operators.Trap.{Trap}
 use Rattle.psy_budget.specs.declared.charge.Stall.{Stall}
@@ -16,11 +16,13 @@ use Rattle.psy_meaning.specs.Actions.{Action, System, Overran, timing, verdict_b
 use Rattle.psy_meaning.specs.Executors.{Acted, Carried, acted_as, agent_code_at, carried_by, machine_at}
 use Rattle.psy_meaning.specs.Schedule.{work}
 use Rattle.psy_meaning.specs.Timing.{end_date}
+use Rattle.psy_tree.specs.declared.unit.VarDecl.{VarDecl}
 use Rattle.psy_history.specs.Regular.{Runs, begun_by}
+use Rattle.psy_history.specs.Ways.{OfText}
 use Rattle.psy_kernel.specs.declared.kernel.advance.Gone.TheVariants as gone
 use Rattle.psy_kernel.specs.Acting.{IsGone, IsOfCode, came_to}
 use Rattle.psy_kernel.proofs.PaidCycles.{more_stalled}
-use Rattle.psy_kernel.proofs.RunsOn.{IsWhole, stays_over}
+use Rattle.psy_kernel.proofs.RunsOn.{IsWhole, before_over, stays_over}
 
 -- What was done by a run that is over
 acted_over : (budget : ℕ) (before : Carried) (run : Run) (t : RunState) → IsOver run t → (acted_as budget before run).deeds.steps ≡ t.deeds.steps
@@ -30,7 +32,7 @@ acted_over budget before (Running s) t over = absurd over
 acted_over budget before NoRun t over = absurd over
 
 module _ (s : System) (code : Code) (r : Action) (w : IsOfCode s code r) where
-  abbrev pub runs : Runs s code r
+  abbrev pub runs : Runs s (OfText s.unit) code r
   runs = w.runs
 
   abbrev pub its : AgentCode
@@ -49,30 +51,37 @@ module _ (s : System) (code : Code) (r : Action) (w : IsOfCode s code r) where
   of_code = runs.of_code ∙ ap Some same_code
 
   pub is_whole : IsWhole s code its r runs.steps runs.last
-  is_whole = subst (λ (c : AgentCode). IsWhole s code c r runs.steps runs.last) same_code (record { over = runs.over; counted = runs.counted; on_the_way = runs.on_the_way })
+  is_whole = subst (λ (c : AgentCode). IsWhole s code c r runs.steps runs.last) same_code (record { within = runs.within; ends = runs.ends; counted = runs.counted; on_the_way = runs.on_the_way })
 
   -- ---- its cost and charge
 
-  in_budget : runs.steps ≤ r.budget → came_to code r ≡ acted_as r.budget r.before (run_code code its start runs.steps)
-  in_budget few = ap (acted_as r.budget r.before) (stays_over code its runs.last runs.steps r.budget start few is_whole.over)
+  in_budget : came_to code r ≡ acted_as r.budget r.before (run_code code its start runs.steps)
+  in_budget = elim is_whole.ends [
+    | inl over ↦ ap (acted_as r.budget r.before) (stays_over code its runs.last runs.steps r.budget start is_whole.within over)
+    | inr spent ↦ ap (λ n. acted_as r.budget r.before (run_code code its start n)) (sym spent.0)
+  ]
 
-  cost_in_budget : runs.steps ≤ r.budget → r.deeds.steps ≡ runs.steps
-  cost_in_budget few =
-      ap (λ (d : Deeds). d.steps) w.deeds ∙ ap (λ (a : Acted). a.deeds.steps) (in_budget few)
-      ∙ acted_over r.budget r.before (run_code code its start runs.steps) runs.last is_whole.over ∙ is_whole.counted
+  -- where its code is over, it costs its instructions,
+  cost_over : IsOver (run_code code its start runs.steps) runs.last → r.deeds.steps ≡ runs.steps
+  cost_over over =
+      ap (λ (d : Deeds). d.steps) w.deeds ∙ ap (λ (a : Acted). a.deeds.steps) in_budget
+      ∙ acted_over r.budget r.before (run_code code its start runs.steps) runs.last over ∙ is_whole.counted
 
-  cost_past_budget : r.budget < runs.steps → r.deeds.steps ≡ r.budget + 1
-  cost_past_budget many =
-      ap (λ (d : Deeds). d.steps) w.deeds ∙ ap (λ (run : Run). (acted_as r.budget r.before run).deeds.steps) (is_whole.on_the_way r.budget many).running
+  -- and else one cycle more than its budget
+  cost_spent : run_code code its start runs.steps ≡ Running runs.last → r.deeds.steps ≡ r.budget + 1
+  cost_spent running =
+      ap (λ (d : Deeds). d.steps) w.deeds ∙ ap (λ (a : Acted). a.deeds.steps) in_budget ∙ ap (λ (run : Run). (acted_as r.budget r.before run).deeds.steps) running
 
   charge_is : (cost : ℕ) → r.deeds.steps ≡ cost → r.charge ≡ cost + stalled stalls r.number cost
   charge_is cost e = w.charge ∙ ap (λ n. n + stalled stalls r.number n) e
 
-  -- before its last instruction is paid it had fewer cycles than its charge
-  pub less_charge : (had paid : ℕ) → had ≤ r.budget → paid < runs.steps → had ≤ cycle_of stalls r.number paid → had < r.charge
-  less_charge had paid within before up_to = elim (cases_lt r.budget runs.steps) [
-    | inl many ↦ omega (arith, within, charge_is (r.budget + 1) (cost_past_budget many))
-    | inr few ↦ omega (arith, up_to, before, charge_is runs.steps (cost_in_budget few), more_stalled r.number (paid + 1) runs.steps stalls (omega (arith, before)))
+  -- while its code runs on it had fewer cycles than its charge
+  pub less_charge : (had paid : ℕ) (t : RunState) → had ≤ r.budget → run_code code its start paid ≡ Running t → had ≤ cycle_of stalls r.number paid → had < r.charge
+  less_charge had paid t most running up_to = elim is_whole.ends [
+    | inl over ↦ (
+        let before = before_over s code its r runs.steps runs.last is_whole over paid t running in
+        omega (arith, up_to, before, charge_is runs.steps (cost_over over), more_stalled r.number (paid + 1) runs.steps stalls (omega (arith, before))))
+    | inr spent ↦ omega (arith, most, charge_is (r.budget + 1) (cost_spent spent.1))
   ]
 
   pub overran : r.budget < r.charge → r.verdict ≡ Overran
@@ -80,18 +89,15 @@ module _ (s : System) (code : Code) (r : Action) (w : IsOfCode s code r) where
 
   -- ---- the cycle that pays its last instruction
 
-  module _ (had paid : ℕ) (less : had < r.budget) (at : had ≡ cycle_of stalls r.number paid) (is_last : runs.steps ≡ suc paid) where
-    few : runs.steps ≤ r.budget
-    few = omega (arith, less, at, is_last)
-
+  module _ (had paid : ℕ) (less : had < r.budget) (at : had ≡ cycle_of stalls r.number paid) (is_last : runs.steps ≡ suc paid) (over : IsOver (run_code code its start runs.steps) runs.last) where
     charge_had : r.charge ≡ suc had
-    charge_had = omega (arith, at, charge_is (paid + 1) (cost_in_budget few ∙ is_last ∙ omega arith))
+    charge_had = omega (arith, at, charge_is (paid + 1) (cost_over over ∙ is_last ∙ omega arith))
 
     worked : suc had ≡ work r
     worked = omega (arith, charge_had, less)
 
     pub comes_to : (run : Run) → run_code code its start (suc paid) ≡ run → came_to code r ≡ acted_as r.budget r.before run
-    comes_to run e = in_budget few ∙ ap (acted_as r.budget r.before) (ap (run_code code its start) is_last ∙ e)
+    comes_to run e = in_budget ∙ ap (acted_as r.budget r.before) (ap (run_code code its start) is_last ∙ e)
 
     decided : (run : Run) → run_code code its start (suc paid) ≡ run → r.verdict ≡ verdict_by (timing s r.agent) r.start (acted_as r.budget r.before run).fate
     decided run e =
@@ -103,7 +109,7 @@ module _ (s : System) (code : Code) (r : Action) (w : IsOfCode s code r) where
       ran_to = ap (run_code code its start) is_last ∙ ran
 
       last_is : runs.last ≡ t
-      last_is = subst (λ (run : Run). IsOver run runs.last) ran_to is_whole.over
+      last_is = subst (λ (run : Run). IsOver run runs.last) ran_to over
 
       stands : t.machine ≡ machine_at its point (carried_by t.machine)
       stands =
@@ -111,13 +117,18 @@ module _ (s : System) (code : Code) (r : Action) (w : IsOfCode s code r) where
           (subst (λ (c : AgentCode). run_code code c (begun_by c r) runs.steps ≡ RanTo point runs.last → runs.last.machine ≡ machine_at c point (carried_by runs.last.machine)) same_code (runs.stands point))
           ran_to
 
+      has_owned : (variable : ℕ) (v : VarDecl) → slice_get s.unit.variables variable ≡ Some v → v.owner ≡ Some r.agent → IsSome (copy_of variable runs.last.machine.copies)
+      has_owned variable v found owned =
+          subst (λ (c : AgentCode). run_code code c (begun_by c r) runs.steps ≡ RanTo point runs.last → IsSome (copy_of variable runs.last.machine.copies)) same_code
+          (λ e. runs.copies point variable v e found owned) (ran_to ∙ ap (RanTo point) (sym last_is))
+
       pub ended : (machine : AgentMachine) → machine.machine ≡ t.machine → IsGone s code r had machine (gone.Ended point)
       ended machine e = (
         worked,
         end_date (timing s r.agent) r.start point,
         decided (RanTo point t) ran,
         e ∙ stands ∙ ap (machine_at its point) (sym (w.after ∙ ap (λ (a : Acted). a.carried) (comes_to (RanTo point t) ran))),
-        λ variable v found owned. subst (λ (m : Machine). IsSome (copy_of variable m.copies)) (ap (λ (t : RunState). t.machine) last_is ∙ sym e) (runs.copies variable v found owned),
+        λ variable v found owned. subst (λ (m : Machine). IsSome (copy_of variable m.copies)) (ap (λ (t : RunState). t.machine) last_is ∙ sym e) (has_owned variable v found owned),
       )
 
     pub trapped : (kind : Trap) (t : RunState) → run_code code its start (suc paid) ≡ TrappedBy kind t → (machine : AgentMachine) → IsGone s code r had machine (gone.Trapped kind)

@@ -16,6 +16,7 @@ use Rattle.psy_meaning.specs.Executors.{Acted, acted_as, agent_code_at, machine_
 use Rattle.psy_meaning.specs.Kept.{Receives}
 use Rattle.psy_meaning.specs.Schedule.{work}
 use Rattle.psy_history.specs.Regular.{MayAsk, Runs, begun_by}
+use Rattle.psy_history.specs.Ways.{OfText}
 use Rattle.psy_kernel.specs.declared.kernel.advance.Gone.{Gone}
 use Rattle.psy_kernel.specs.declared.kernel.advance.Gone.TheVariants as gone
 use Rattle.psy_kernel.specs.Seeing.{Sight, seen_by}
@@ -31,7 +32,7 @@ pub record IsOfCode (s : System) (code : Code) (r : Action) : Type 0 where
   pub after : r.after ≡ (came_to code r).carried
   pub charge : r.charge ≡ charge_of s r.agent r.number r.deeds.steps
   pub verdict : r.verdict ≡ verdict_of (timing s r.agent) r.start r.budget r.charge (came_to code r).fate
-  pub runs : Runs s code r
+  pub runs : Runs s (OfText s.unit) code r
 
 -- An action that had so many cycles, fewer than its work, with its charge and machine
 pub record InAction (s : System) (code : Code) (r : Action) (had : ℕ) (charge : Charged) (machine : AgentMachine) : Type 0 where
@@ -44,7 +45,8 @@ pub record InAction (s : System) (code : Code) (r : Action) (had : ℕ) (charge 
 -- After so many paid instructions a window shows an action what it may look at as it saw it from the start, and of the streams that its
 -- agent receives what it has left; it has the program's streams and clocks, and room for the send that comes next.
 pub record ShowsAs (s : System) (code : Code) (r : Action) (paid : ℕ) (window : Window) : Type 0 where
-  pub pasts : (variable back : ℕ) → MayAsk s.unit r.agent r.point (Some (Past variable back)) → past_of window.view variable back ≡ past_of r.view variable back
+  pub pasts : (variable back : ℕ) → MayAsk (OfText s.unit) s.unit r.agent r.point (Some (Past variable back))
+      → past_of window.view variable back ≡ past_of r.view variable back
   pub messages : (state : RunState) → run_code code (agent_code_at code r.agent) (begun_by (agent_code_at code r.agent) r) paid ≡ Running state
       → (stream : ℕ) → Receives s.unit r.agent stream → messages_of window.view stream ≡ messages_of state.view stream
   pub streams : window.streams ≡ length s.unit.streams

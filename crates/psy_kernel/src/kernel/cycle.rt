@@ -35,9 +35,8 @@ use psy_arith::Trap;
 use psy_budget::Charge;
 use psy_dates::{Outbox, Phase, Plan, Seat};
 use psy_history::Order;
-use psy_history::laws::{deeds, on_time, queues, reaches, regular, ring_sizes, rings};
+use psy_history::laws::{compiled, deeds, on_time, queues, reaches, regular, ring_sizes, rings};
 use psy_machine::Machine;
-use psy_meaning::laws::{follows, sound};
 use psy_queue::Queue;
 use psy_ready::Ready;
 use psy_ring::Ring;
@@ -303,6 +302,7 @@ fn gets(until: u32)
     ensures lawful { (plan : Plan) (inputs : List (List ℤ)) (script : Script) → IsPlan plan → AreInputs plan.unit inputs
         → IsLawful (run_of plan inputs script) }
 {
+    compiled();
     regular();
     on_time();
     rings();
@@ -310,8 +310,6 @@ fn gets(until: u32)
     reaches();
     queues();
     deeds();
-    sound();
-    follows();
 }
 
 impl Kernel {

@@ -9,7 +9,7 @@ use super::Kernel;
 use crate::stage::Stage;
 use psy_budget::Charge;
 use psy_dates::{Phase, Seat, at_date};
-use psy_history::laws::{given, on_time, reaches, regular};
+use psy_history::laws::{compiled, given, on_time, reaches, regular};
 use psy_queue::Queue;
 use psy_ready::Ready;
 use psy_tree::{AgentDecl, Point};
@@ -79,6 +79,7 @@ impl Kernel {
         ensures earlier { self.old.dates ≢ self.old.plan.until → stage_of self.new ≡ Stage.CycleDue (self.old.dates * self.old.plan.unit.quantum) }
     {
         given();
+        compiled();
         regular();
         on_time();
         reaches();

@@ -15,7 +15,7 @@ ghost use Rattle.psy_kernel.specs.Telling.{IsNextTold, IsShownBy, IsToldBy, Tell
 use super::Kernel;
 use psy_clock::Clock;
 use psy_dates::{Phase, Plan, Seat, Shared};
-use psy_history::laws::{queue_sizes, queues, regular};
+use psy_history::laws::{compiled, queue_sizes, queues, regular};
 use psy_log::{Line, Note};
 use psy_queue::Queue;
 use psy_tree::VarDecl;
@@ -112,6 +112,7 @@ fn tell_place(plan: &Plan, shared: &Shared, date: u64, place: usize, line: &mut 
         (told_by (system_of plan.now shared.now.inputs.lists stalls) date place) result line.old line.new }
     ensures kept { IsFalse result → line.new ≡ line.old }
 {
+    compiled();
     regular();
     let agents = plan.unit.agents.as_slice();
     if place < agents.len() {
@@ -176,6 +177,7 @@ fn tell_stream(
     ensures room { IsTrue result → shown + 1 < 2 ^ 32 }
     ensures kept { IsFalse result → line.new ≡ line.old }
 {
+    compiled();
     queues();
     tell_message(
         &shared.queues[stream],
@@ -268,6 +270,7 @@ impl Kernel {
         ensures some { IsTrue result → (slice_get (lines_told self.old) self.old.given ≡ Some line.new) × (self.new ≡ after_line self.old) }
         ensures none { IsFalse result → (self.old.given ≡ length (lines_told self.old)) × (self.new ≡ self.old) × (line.new ≡ line.old) }
     {
+        compiled();
         regular();
         queues();
         queue_sizes();

@@ -1,16 +1,16 @@
 -- What is left of the proof of `date::at_date`.
-use Rattle.std.proofs.Common.{◌≡◌, ℕ, ◌+◌, ◌<◌, ◌≤◌, ◌*◌, ◌^◌, List, [], All, Some, length, get_or, refl, sym, ap, subst, ◌∙◌, arith}
+use Rattle.std.proofs.Common.{◌≡◌, ℕ, ◌<◌, ◌≤◌, ◌*◌, ◌^◌, List, [], All, Some, length, get_or, refl, sym, ap, subst, ◌∙◌, arith}
 use Rattle.std.specs.Prelude.{slice_get, if◌then◌else◌, ℤ, pos}
 use Rattle.std.specs.Vec.{with_items}
 use Rattle.std.proofs.lemmas.List.{with_items_is}
 use Rattle.std.proofs.lemmas.Option.{slice_get-get_or}
-use Rattle.psy_budget.specs.declared.charge.Stall.{Stall}
 use Rattle.psy_queue.specs.Order.{Queued}
 use Rattle.psy_tree.specs.declared.unit.VarDecl.{VarDecl}
 use Rattle.psy_meaning.specs.Kept.{IsSentOf}
 use Rattle.psy_meaning.specs.QueueSizes.{stream_at}
 use Rattle.psy_meaning.specs.Timing.{first_date}
 use Rattle.psy_history.specs.Scheduled.{turns_of}
+use Rattle.psy_history.specs.Ways.{OfText}
 use Rattle.psy_dates.specs.declared.seat.Seat.{Seat}
 use Rattle.psy_dates.specs.declared.shared.Shared.{Shared}
 use Rattle.psy_dates.specs.Messages.{HaveRoom, nowhere, sends_of, sent_from, settled_then, with_entered}
@@ -18,7 +18,6 @@ use Rattle.psy_dates.specs.Moves.{IsNumbered, commits_at, ends_at, owner_of, tim
 use Rattle.psy_dates.specs.Outboxes.{Outboxed}
 use Rattle.psy_dates.specs.Plans.{system_of}
 use Rattle.psy_dates.specs.Publications.{ring_then}
-use Rattle.psy_dates.specs.Standing.{Begins, GoesOn}
 use Rattle.psy_dates.proofs.Dates.{Moved, seat_numbered, shared_moves}
 use Rattle.psy_dates.proofs.StreamLaws.{stream_laws}
 use Rattle.psy_dates.proofs.StreamsThen.{box_begun, box_goes, has_room, holds_taken, sends_of_unit, take_begun, take_goes}
@@ -32,8 +31,9 @@ move_all-requires-clause-numbered c =
     let s = system_of plan inputs stalls in
     let seats = c.args.shared.now.seats.items in
     let early : c.args.date ≤ 2 ^ 40 = omega arith in
-    let lawful = c.regular.ensures.lawful plan.unit plan.code plan.nexts stalls inputs c.requires.plan.compiled c.requires.inputs in
-    let numbered : All IsNumbered seats = λ k d l. seat_numbered s lawful c.args.date k (turns_of s order (c.args.date * plan.unit.quantum)) (get_or seats k d) early (stands.seats k (get_or seats k d) (slice_get-get_or seats k d l)) in
+    let run = c.compiled.ensures.run plan.unit plan.code plan.nexts stalls inputs c.requires.plan.compiled c.requires.inputs in
+    let lawful = c.regular.ensures.lawful s (OfText plan.unit) plan.code run in
+    let numbered : All IsNumbered seats = λ k d l. seat_numbered s lawful c.args.date k (turns_of s order (c.args.date * plan.unit.quantum)) (get_or seats k d) (c.compiled.ensures.numbers plan.unit plan.code plan.nexts stalls inputs k) early (stands.seats k (get_or seats k d) (slice_get-get_or seats k d l)) in
     subst (All IsNumbered) (sym c.deref_mut-7.ensures.value) numbered
 
 pub settle_all-requires-clause-held : goal.settle_all-requires-clause-held
@@ -43,8 +43,9 @@ settle_all-requires-clause-held c stream queue at ends =
     let inputs = old.inputs.lists in
     let (stalls, order, stands) = c.requires.stands in
     let s = system_of plan inputs stalls in
-    let lawful = c.regular.ensures.lawful plan.unit plan.code plan.nexts stalls inputs c.requires.plan.compiled c.requires.inputs in
-    let laws = stream_laws plan inputs stalls c.requires.plan.compiled c.requires.inputs c.regular.ensures.lawful c.regular.ensures.runs c.queues.ensures.next c.queues.ensures.look c.queue_sizes.ensures.held in
+    let run = c.compiled.ensures.run plan.unit plan.code plan.nexts stalls inputs c.requires.plan.compiled c.requires.inputs in
+    let lawful = c.regular.ensures.lawful s (OfText plan.unit) plan.code run in
+    let laws = stream_laws plan inputs stalls run c.compiled.ensures.queue c.regular.ensures.sends c.queues.ensures.next c.queues.ensures.look c.queue_sizes.ensures.held in
     subst (λ xs. get_or xs stream 0 ≤ length queue.messages) (sym c.deref-4.ensures.value)
     (holds_taken plan inputs stalls c.requires.plan.compiled.text.bare lawful laws c.args.date (turns_of s order (c.args.date * plan.unit.quantum)) old c.requires.due stands stream queue
     (ap (λ xs. slice_get xs stream) (sym c.deref_mut-2.ensures.value) ∙ at) (ap (λ xs. ends_at c.args.date (slice_get xs (stream_at plan.unit stream).receiver)) (sym c.deref-3.ensures.value) ∙ ends))
@@ -56,8 +57,9 @@ enter_all-requires-clause-sent c agent ends =
     let inputs = old.inputs.lists in
     let (stalls, order, stands) = c.requires.stands in
     let s = system_of plan inputs stalls in
-    let lawful = c.regular.ensures.lawful plan.unit plan.code plan.nexts stalls inputs c.requires.plan.compiled c.requires.inputs in
-    let laws = stream_laws plan inputs stalls c.requires.plan.compiled c.requires.inputs c.regular.ensures.lawful c.regular.ensures.runs c.queues.ensures.next c.queues.ensures.look c.queue_sizes.ensures.held in
+    let run = c.compiled.ensures.run plan.unit plan.code plan.nexts stalls inputs c.requires.plan.compiled c.requires.inputs in
+    let lawful = c.regular.ensures.lawful s (OfText plan.unit) plan.code run in
+    let laws = stream_laws plan inputs stalls run c.compiled.ensures.queue c.regular.ensures.sends c.queues.ensures.next c.queues.ensures.look c.queue_sizes.ensures.held in
     subst (λ xs. All (IsSentOf plan.unit) (sends_of xs agent)) (sym c.deref-6.ensures.value)
     (sends_of_unit plan inputs stalls c.requires.plan.compiled.text.bare lawful laws c.args.date (turns_of s order (c.args.date * plan.unit.quantum)) old c.requires.due stands agent
     (ap (λ xs. ends_at c.args.date (slice_get xs agent)) (sym c.deref-5.ensures.value) ∙ ends))
@@ -70,8 +72,9 @@ enter_all-requires-clause-room c =
     let date = c.args.date in
     let (stalls, order, stands) = c.requires.stands in
     let s = system_of plan inputs stalls in
-    let lawful = c.regular.ensures.lawful plan.unit plan.code plan.nexts stalls inputs c.requires.plan.compiled c.requires.inputs in
-    let laws = stream_laws plan inputs stalls c.requires.plan.compiled c.requires.inputs c.regular.ensures.lawful c.regular.ensures.runs c.queues.ensures.next c.queues.ensures.look c.queue_sizes.ensures.held in
+    let run = c.compiled.ensures.run plan.unit plan.code plan.nexts stalls inputs c.requires.plan.compiled c.requires.inputs in
+    let lawful = c.regular.ensures.lawful s (OfText plan.unit) plan.code run in
+    let laws = stream_laws plan inputs stalls run c.compiled.ensures.queue c.regular.ensures.sends c.queues.ensures.next c.queues.ensures.look c.queue_sizes.ensures.held in
     let now : (with_items old.queues c.settle_all.new.queues).items ≡ c.settle_all.new.queues = with_items_is old.queues c.settle_all.new.queues (c.settle_all.auto.queues ∙ c.deref_mut-2.ensures.len) in
     let sent : List Seat → List Outboxed → ℕ → _ = λ seats outboxes. sent_from (system_of plan [] (λ agent. [])) date seats outboxes 0 (length plan.unit.agents) in
     subst (HaveRoom (sent c.deref-5.result.now c.deref-6.result.now)) (sym (c.deref_mut-3.ensures.value ∙ now))
@@ -166,8 +169,9 @@ returns-clause-stands c stalls order stands =
     let date = c.args.date in
     let s = system_of plan inputs stalls in
     let bare = c.requires.plan.compiled.text.bare in
-    let lawful = c.regular.ensures.lawful plan.unit plan.code plan.nexts stalls inputs c.requires.plan.compiled c.requires.inputs in
-    let laws = stream_laws plan inputs stalls c.requires.plan.compiled c.requires.inputs c.regular.ensures.lawful c.regular.ensures.runs c.queues.ensures.next c.queues.ensures.look c.queue_sizes.ensures.held in
+    let run = c.compiled.ensures.run plan.unit plan.code plan.nexts stalls inputs c.requires.plan.compiled c.requires.inputs in
+    let lawful = c.regular.ensures.lawful s (OfText plan.unit) plan.code run in
+    let laws = stream_laws plan inputs stalls run c.compiled.ensures.queue c.regular.ensures.sends c.queues.ensures.next c.queues.ensures.look c.queue_sizes.ensures.held in
     let cycles = date * plan.unit.quantum in
     let upto : cycles ≤ date * plan.unit.quantum = omega arith in
     shared_moves plan inputs stalls bare lawful laws date (turns_of s order cycles) (λ variable clock size. c.rings.ensures.next s date variable size lawful clock) (λ agent number new. c.given.ensures.unstarted s order date cycles agent number lawful bare.quantum.0 upto new) old (new_of c) c.requires.due stands (moved_by c)
@@ -179,8 +183,9 @@ returns-clause-begun c agent begins =
     let inputs = old.inputs.lists in
     let (stalls, order, stands) = c.requires.stands in
     let s = system_of plan inputs stalls in
-    let lawful = c.regular.ensures.lawful plan.unit plan.code plan.nexts stalls inputs c.requires.plan.compiled c.requires.inputs in
-    let laws = stream_laws plan inputs stalls c.requires.plan.compiled c.requires.inputs c.regular.ensures.lawful c.regular.ensures.runs c.queues.ensures.next c.queues.ensures.look c.queue_sizes.ensures.held in
+    let run = c.compiled.ensures.run plan.unit plan.code plan.nexts stalls inputs c.requires.plan.compiled c.requires.inputs in
+    let lawful = c.regular.ensures.lawful s (OfText plan.unit) plan.code run in
+    let laws = stream_laws plan inputs stalls run c.compiled.ensures.queue c.regular.ensures.sends c.queues.ensures.next c.queues.ensures.look c.queue_sizes.ensures.held in
     let turns = turns_of s order (c.args.date * plan.unit.quantum) in
     let moved = moved_by c in
     let new = new_of c in (
@@ -195,8 +200,9 @@ returns-clause-going c agent goes =
     let inputs = old.inputs.lists in
     let (stalls, order, stands) = c.requires.stands in
     let s = system_of plan inputs stalls in
-    let lawful = c.regular.ensures.lawful plan.unit plan.code plan.nexts stalls inputs c.requires.plan.compiled c.requires.inputs in
-    let laws = stream_laws plan inputs stalls c.requires.plan.compiled c.requires.inputs c.regular.ensures.lawful c.regular.ensures.runs c.queues.ensures.next c.queues.ensures.look c.queue_sizes.ensures.held in
+    let run = c.compiled.ensures.run plan.unit plan.code plan.nexts stalls inputs c.requires.plan.compiled c.requires.inputs in
+    let lawful = c.regular.ensures.lawful s (OfText plan.unit) plan.code run in
+    let laws = stream_laws plan inputs stalls run c.compiled.ensures.queue c.regular.ensures.sends c.queues.ensures.next c.queues.ensures.look c.queue_sizes.ensures.held in
     let turns = turns_of s order (c.args.date * plan.unit.quantum) in
     let moved = moved_by c in
     let new = new_of c in (

@@ -10,6 +10,7 @@ use Rattle.psy_history.proofs.LikeHistories.{histories_like}
 use Rattle.psy_history.proofs.LikeReaches.{reach_same}
 use Rattle.psy_history.proofs.LikeLines.{events_same, most_held_same}
 use Rattle.psy_history.proofs.LikeSchedules.{due_like, slack_same, turns_same}
+use Rattle.psy_history.proofs.RunActions.{AreRunLaws}
 use Rattle.psy_history.proofs.Stores.{AreStoreLaws}
 use Rattle.psy_history.proofs.laws.alike.Goals as goal
 
@@ -22,7 +23,13 @@ returns-clause-actions c unit code nexts stalls inputs compiled are =
       first = λ number agent. c.keeps.ensures.first unit number agent sound;
       lasted = λ its. c.lasting.ensures.lasted code its;
     } in
-    histories_like unit code nexts stalls inputs laws compiled are
+    let runs : AreRunLaws code = record {
+      lasted = λ its s t n. c.lasting.ensures.lasted code its s t n;
+      ended = λ its s t n point. c.lasting.ensures.ended code its s t n point;
+      late = c.distances.ensures.late;
+      again = c.distances.ensures.again;
+    } in
+    histories_like unit code nexts stalls inputs laws compiled runs (c.compiled.ensures.run unit code nexts stalls inputs compiled are)
 
 pub returns-clause-lines : goal.returns-clause-lines
 returns-clause-lines c unit code nexts stalls inputs compiled are date = events_same unit code nexts stalls inputs (returns-clause-actions c unit code nexts stalls inputs compiled are) date

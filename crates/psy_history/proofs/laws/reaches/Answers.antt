@@ -3,7 +3,6 @@ use Rattle.std.proofs.Common.{refl}
 use Rattle.std.proofs.lemmas.List.Elements.{All-contains}
 use Rattle.psy_code.specs.Execution.{call_of}
 use Rattle.psy_meaning.specs.History.{history}
-use Rattle.psy_history.specs.Compiled.{coded}
 use Rattle.psy_history.specs.Regular.{Runs}
 use Rattle.psy_history.proofs.Reached.{reach_date, reach_none, reach_stalled}
 use Rattle.psy_history.proofs.Reaches.{reach_paid}
@@ -19,11 +18,10 @@ pub returns-clause-stalled : goal.returns-clause-stalled
 returns-clause-stalled c s turns dates agent variable r lawful there none = reach_stalled s turns (history s dates) variable r none
 
 pub returns-clause-paid : goal.returns-clause-paid
-returns-clause-paid c unit code nexts stalls inputs compiled given turns dates agent variable instr r state there running has paid =
-    let s = coded unit code nexts stalls inputs in
-    let lawful = c.regular.ensures.lawful unit code nexts stalls inputs compiled given in
-    let runs = All-contains (Runs s code) (history s dates agent) r (c.regular.ensures.runs unit code nexts stalls inputs compiled given dates agent) there in
-    reach_paid unit code nexts stalls inputs lawful dates agent r there runs instr state running paid turns variable has (call_of code state.machine) refl
+returns-clause-paid c s ways code run turns dates agent variable instr r state there running has paid =
+    let lawful = c.regular.ensures.lawful s ways code run in
+    let runs = All-contains (Runs s ways code) (history s dates agent) r (c.regular.ensures.runs s ways code run dates agent) there in
+    reach_paid s ways code run lawful dates agent r there runs instr state running paid turns variable has (call_of code state.machine) refl
 
 pub returns-clause-date : goal.returns-clause-date
-returns-clause-date c s order date cycles variable lawful some within = reach_date s (λ a n e. (lawful.opening a n e).2) order date cycles variable some within
+returns-clause-date c s order date cycles variable lawful some within = reach_date s order date cycles variable some within

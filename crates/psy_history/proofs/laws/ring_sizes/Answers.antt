@@ -8,10 +8,10 @@ use Rattle.psy_history.proofs.RingReaches.{reach_below}
 use Rattle.psy_history.proofs.laws.ring_sizes.Goals as goal
 
 pub returns-clause-look : goal.returns-clause-look
-returns-clause-look c s order until dates agent variable back size date decl r supplied there declared may low ring begun early =
+returns-clause-look c s ways order until dates agent variable back size date decl r supplied there declared looks low ring begun early =
     let its = All-contains (IsRegular s agent) (history s dates agent) r (supplied.lawful.actions dates agent).each there in
-    age_below s supplied.graphs supplied.drawn agent variable decl declared r its back size date may low ring early
+    age_below s ways supplied.graphs supplied.drawn agent variable decl declared r its back size date looks low ring early
 
 pub returns-clause-reached : goal.returns-clause-reached
-returns-clause-reached c unit code nexts stalls inputs compiled given order until cycles variable size n supplied early ring is =
-    reach_below unit code nexts stalls inputs order until cycles variable size n supplied early ring (c.regular.ensures.runs unit code nexts stalls inputs compiled given) (until + 1) is
+returns-clause-reached c s ways code run order until cycles variable size n supplied early ring is =
+    reach_below s ways code run order until cycles variable size n supplied early ring (c.regular.ensures.runs s ways code run) (until + 1) is

@@ -2,6 +2,7 @@
 use Rattle.std.proofs.Common.{◌+◌, ◌*◌, arith}
 use Rattle.psy_history.specs.Compiled.{coded}
 use Rattle.psy_history.specs.Scripts.{order_of, stalls_of}
+use Rattle.psy_history.specs.Ways.{OfText}
 use Rattle.psy_run.proofs.KeptBounds.{keeps_bounds}
 use Rattle.psy_run.proofs.laws.bounds.Goals as goal
 
@@ -10,14 +11,17 @@ returns c plan inputs script is are its =
     let ties = order_of plan.unit script in
     let stalls = stalls_of script in
     let cycles = plan.until * plan.unit.quantum in
+    let s = coded plan.unit plan.code plan.nexts stalls inputs in
+    let ways = OfText plan.unit in
+    let run = c.compiled.ensures.run plan.unit plan.code plan.nexts stalls inputs is.compiled are in
     keeps_bounds plan inputs script is its (record {
-      lawful = c.regular.ensures.lawful plan.unit plan.code plan.nexts stalls inputs is.compiled are;
+      lawful = c.regular.ensures.lawful s ways plan.code run;
       actions = c.alike.ensures.actions plan.unit plan.code plan.nexts stalls inputs is.compiled are;
       schedule = c.alike.ensures.schedule plan.unit plan.code plan.nexts stalls inputs is.compiled are ties;
       reaches = c.alike.ensures.reaches plan.unit plan.code plan.nexts stalls inputs is.compiled are ties (plan.until + 1) cycles;
       held = c.alike.ensures.held plan.unit plan.code plan.nexts stalls inputs is.compiled are plan.until;
-      finishes = λ agent r supplied. c.on_time.ensures.finishes (coded plan.unit plan.code plan.nexts stalls inputs) ties plan.until cycles agent r supplied (omega arith);
-      worked = λ agent r supplied. c.on_time.ensures.finished (coded plan.unit plan.code plan.nexts stalls inputs) ties plan.until (plan.until + 1) agent r supplied;
-      reached = λ variable size n supplied. c.ring_sizes.ensures.reached plan.unit plan.code plan.nexts stalls inputs is.compiled are ties plan.until cycles variable size n supplied (omega arith);
-      most = c.queue_sizes.ensures.most plan.unit plan.code plan.nexts stalls inputs is.compiled are plan.until;
+      finishes = λ agent r supplied. c.on_time.ensures.finishes s ties plan.until cycles agent r supplied (omega arith);
+      worked = λ agent r supplied. c.on_time.ensures.finished s ties plan.until (plan.until + 1) agent r supplied;
+      reached = λ variable size n supplied sized. c.ring_sizes.ensures.reached s ways plan.code run ties plan.until cycles variable size n supplied (omega arith) (c.compiled.ensures.ring plan.unit plan.nexts variable size sized);
+      most = λ stream size less sized. c.queue_sizes.ensures.most s ways plan.code run plan.until stream size less (c.compiled.ensures.queue plan.unit plan.nexts stream size sized);
     })

@@ -21,20 +21,20 @@ pub at_date-requires-clause-due : goal.at_date-requires-clause-due
 at_date-requires-clause-due c =
     let k = c.self.inside in
     let date = c.dates-date.result in
-    none_due k date (is_due k c.args.self.now date c.self.invariant c.self.view_is c.requires.due c.dates-date.ensures.dates c.dates-date.ensures.few c.regular.ensures.lawful c.given.ensures.unstarted c.on_time.ensures.due)
+    none_due k date (is_due k c.args.self.now date c.self.invariant c.self.view_is c.requires.due c.dates-date.ensures.dates c.dates-date.ensures.few c.compiled.ensures.run c.regular.ensures.lawful c.given.ensures.unstarted c.on_time.ensures.due)
 
 pub at_date-requires-clause-stands : goal.at_date-requires-clause-stands
 at_date-requires-clause-stands c =
     let k = c.self.inside in
     let date = c.dates-date.result in
-    let due = is_due k c.args.self.now date c.self.invariant c.self.view_is c.requires.due c.dates-date.ensures.dates c.dates-date.ensures.few c.regular.ensures.lawful c.given.ensures.unstarted c.on_time.ensures.due in
+    let due = is_due k c.args.self.now date c.self.invariant c.self.view_is c.requires.due c.dates-date.ensures.dates c.dates-date.ensures.few c.compiled.ensures.run c.regular.ensures.lawful c.given.ensures.unstarted c.on_time.ensures.due in
     (stalls_of k.script, ties k date due, before_filled k date due)
 
 pub hold_all-requires : goal.hold_all-requires
 hold_all-requires c =
     let k = c.self.inside in
     let date = c.dates-date.result in
-    let due = is_due k c.args.self.now date c.self.invariant c.self.view_is c.requires.due c.dates-date.ensures.dates c.dates-date.ensures.few c.regular.ensures.lawful c.given.ensures.unstarted c.on_time.ensures.due in
+    let due = is_due k c.args.self.now date c.self.invariant c.self.view_is c.requires.due c.dates-date.ensures.dates c.dates-date.ensures.few c.compiled.ensures.run c.regular.ensures.lawful c.given.ensures.unstarted c.on_time.ensures.due in
     let done = c.at_date.ensures.stands (stalls_of k.script) (ties k date due) (before_filled k date due) in
     c.self.invariant.holding ∙ sym done.queued ∙ sym (ap length c.as_slice.ensures.value)
 
@@ -42,7 +42,7 @@ pub start_all-requires-clause-seated : goal.start_all-requires-clause-seated
 start_all-requires-clause-seated c =
     let k = c.self.inside in
     let date = c.dates-date.result in
-    let due = is_due k c.args.self.now date c.self.invariant c.self.view_is c.requires.due c.dates-date.ensures.dates c.dates-date.ensures.few c.regular.ensures.lawful c.given.ensures.unstarted c.on_time.ensures.due in
+    let due = is_due k c.args.self.now date c.self.invariant c.self.view_is c.requires.due c.dates-date.ensures.dates c.dates-date.ensures.few c.compiled.ensures.run c.regular.ensures.lawful c.given.ensures.unstarted c.on_time.ensures.due in
     let done = c.at_date.ensures.stands (stalls_of k.script) (ties k date due) (before_filled k date due) in
     ap length c.as_slice-2.ensures.value ∙ done.seated ∙ sym (ap length c.as_slice-3.ensures)
 
@@ -50,7 +50,7 @@ pub start_all-requires-clause-free : goal.start_all-requires-clause-free
 start_all-requires-clause-free c =
     let k = c.self.inside in
     let date = c.dates-date.result in
-    let due = is_due k c.args.self.now date c.self.invariant c.self.view_is c.requires.due c.dates-date.ensures.dates c.dates-date.ensures.few c.regular.ensures.lawful c.given.ensures.unstarted c.on_time.ensures.due in
+    let due = is_due k c.args.self.now date c.self.invariant c.self.view_is c.requires.due c.dates-date.ensures.dates c.dates-date.ensures.few c.compiled.ensures.run c.regular.ensures.lawful c.given.ensures.unstarted c.on_time.ensures.due in
     let done = c.at_date.ensures.stands (stalls_of k.script) (ties k date due) (before_filled k date due) in
     subst (λ seats. (agent : ℕ) → starts_at date (seat_at seats agent) ≡ true → pending_deadline k.ready agent ≡ None) (sym c.as_slice-2.ensures.value) (free k date due c.at_date.new.shared done)
 
@@ -60,7 +60,7 @@ invariant_of-self c =
     let h = c.self.invariant in
     let unit = k.plan.unit in
     let date = c.dates-date.result in
-    let due = is_due k c.args.self.now date h c.self.view_is c.requires.due c.dates-date.ensures.dates c.dates-date.ensures.few c.regular.ensures.lawful c.given.ensures.unstarted c.on_time.ensures.due in
+    let due = is_due k c.args.self.now date h c.self.view_is c.requires.due c.dates-date.ensures.dates c.dates-date.ensures.few c.compiled.ensures.run c.regular.ensures.lawful c.given.ensures.unstarted c.on_time.ensures.due in
     let order = ties k date due in
     let s : List (List ℤ) → System = coded unit k.plan.code k.plan.nexts (stalls_of k.script) in
     let shared = c.at_date.new.shared in
@@ -115,7 +115,7 @@ pub returns-clause-state : goal.returns-clause-state
 returns-clause-state c =
     let k = c.self.inside in
     let date = c.dates-date.result in
-    let due = is_due k c.args.self.now date c.self.invariant c.self.view_is c.requires.due c.dates-date.ensures.dates c.dates-date.ensures.few c.regular.ensures.lawful c.given.ensures.unstarted c.on_time.ensures.due in
+    let due = is_due k c.args.self.now date c.self.invariant c.self.view_is c.requires.due c.dates-date.ensures.dates c.dates-date.ensures.few c.compiled.ensures.run c.regular.ensures.lawful c.given.ensures.unstarted c.on_time.ensures.due in
     let shared = c.at_date.new.shared in
     let done = c.at_date.ensures.stands (stalls_of k.script) (ties k date due) (before_filled k date due) in
     view_after k shared.inputs.lists (dates_done shared.date) (ap (λ i. i.lists) c.at_date.ensures.inputs) (done.date ∙ ap (λ d. d + 1) (c.dates-date.ensures.dates ∙ ap (λ (p : Progress). p.dates) (sym c.self.view_is))) ∙ ap after_date c.self.view_is

@@ -1,6 +1,7 @@
 -- What is left of the proof of `kernel::Kernel::next_line`.
 use Rattle.std.proofs.Common.{◌≡◌, ◌+◌, ◌*◌, ◌≤◌, ℕ, length, slice_get, Some, refl, ap, subst, arith}
 use Rattle.psy_history.specs.Scheduled.{turns_of}
+use Rattle.psy_history.specs.Ways.{OfText}
 use Rattle.psy_kernel.specs.Progress.{Progress, after_line, lines_told, order, system}
 use Rattle.psy_history.specs.Scripts.{stalls_of}
 use Rattle.psy_kernel.specs.Standing.{KernelStands, progress_of}
@@ -22,11 +23,13 @@ overflow_add-self c =
     let w = c.self.invariant in
     let date = c.in-Some.date in
     let lists = k.shared.inputs.lists in
+    let run = c.compiled.ensures.run k.plan.unit k.plan.code k.plan.nexts (stalls_of k.script) lists w.plan.compiled w.inputs in
+    let ways = OfText k.plan.unit in
     let few : k.given ≤ k.place + k.place + k.place * 65536 + 65536 =
-    given_few k w date c.in-Some.is (c.regular.ensures.lawful k.plan.unit k.plan.code k.plan.nexts (stalls_of k.script) lists w.plan.compiled w.inputs)
+    given_few k w date c.in-Some.is (c.regular.ensures.lawful (system (progress_of k)) ways k.plan.code run)
     (λ stream within. shown_few (system (progress_of k)) (turns_of (system (progress_of k)) (order (progress_of k)) k.cycles) date k.shared (stands_now k w date c.in-Some.is) stream
-    (c.queues.ensures.shows k.plan.unit k.plan.code k.plan.nexts (stalls_of k.script) lists w.plan.compiled w.inputs date stream within)
-    (λ size. c.queue_sizes.ensures.held k.plan.unit k.plan.code k.plan.nexts (stalls_of k.script) lists w.plan.compiled w.inputs (date + 1) stream size within) within) in
+    (c.queues.ensures.shows (system (progress_of k)) ways k.plan.code run date stream within)
+    (λ size is small. c.queue_sizes.ensures.held (system (progress_of k)) ways k.plan.code run (date + 1) stream size within (c.compiled.ensures.queue k.plan.unit k.plan.nexts stream size is) small) within) in
     let bare = w.plan.compiled.text.bare in
     omega (arith, few, w.place, bare.agent_limit, bare.variable_limit, bare.stream_limit)
 

@@ -1,29 +1,64 @@
 -- What is left of the proof of `kernel::cycle::gets`.
 use Rattle.std.proofs.Common.{◌+◌}
-use Rattle.psy_history.specs.Scripts.{order_of, stalls_of}
+use Rattle.std.specs.Prelude.{ℕ, List, ◌∷◌, ◌≡◌, ℤ, true}
+use Rattle.psy_dates.specs.declared.plan.Plan.{Plan}
+use Rattle.psy_dates.specs.Plans.{IsPlan}
+use Rattle.psy_history.specs.declared.told.Script.{Script}
+use Rattle.psy_history.specs.Compiled.{AreInputs}
+use Rattle.psy_history.specs.Runs.{IsRun}
 use Rattle.psy_history.specs.Scheduled.{IsSupplied}
-use Rattle.psy_kernel.specs.Cycles.{run_of}
+use Rattle.psy_history.specs.Scripts.{order_of, stalls_of}
+use Rattle.psy_history.specs.Ways.{OfText}
+use Rattle.psy_meaning.specs.Actions.{Action}
+use Rattle.psy_meaning.specs.History.{history}
+use Rattle.psy_meaning.specs.Schedule.{is_pending}
+use Rattle.psy_kernel.specs.Cycles.{GetsCycle, IsCycleOf, run_of, run_turns}
 use Rattle.psy_kernel.proofs.GetsCycle as known
-use Rattle.psy_kernel.proofs.LooksBack.{looks}
+use Rattle.psy_kernel.proofs.LooksBack.{AreLooksLaws, looks}
 use Rattle.psy_kernel.proofs.kernel.cycle.gets.Goals as goal
+
+-- The run of a plan's code, with these inputs and this script
+run_is : (c : goal.After-deeds) (plan : Plan) (inputs : List (List ℤ)) (script : Script) → IsPlan plan → AreInputs plan.unit inputs → IsRun (run_of plan inputs script) (OfText plan.unit) plan.code
+run_is c plan inputs script of_plan of_inputs = c.compiled.ensures.run plan.unit plan.code plan.nexts (stalls_of script) inputs of_plan.compiled of_inputs
+
+supply_of : (c : goal.After-deeds) (plan : Plan) (inputs : List (List ℤ)) (script : Script) (date cycle : ℕ) → IsCycleOf plan inputs script date cycle → IsSupplied (run_of plan inputs script) (order_of plan.unit script) plan.until
+supply_of c plan inputs script date cycle h =
+    known.supplied plan inputs (stalls_of script) h.of_plan script h.of_script (c.regular.ensures.lawful (run_of plan inputs script) (OfText plan.unit) plan.code (run_is c plan inputs script h.of_plan h.of_inputs))
+
+gets_by : (c : goal.After-deeds) (plan : Plan) (inputs : List (List ℤ)) (script : Script) (date cycle agent : ℕ) (r : Action) (before : List Action) → IsCycleOf plan inputs script date cycle
+    → history (run_of plan inputs script) (date + 1) agent ≡ r ∷ before → is_pending (run_turns plan inputs script cycle) r ≡ true
+    → GetsCycle (run_of plan inputs script) plan.code (run_turns plan inputs script cycle) plan.until date cycle agent r before
+gets_by c plan inputs script date cycle agent r before h is pending =
+    let run = run_is c plan inputs script h.of_plan h.of_inputs in
+    known.gets plan inputs (stalls_of script) h.of_plan script h.of_script (supply_of c plan inputs script date cycle h) date cycle h.before h.low h.high c.on_time.ensures.due run.points h.most agent r before is
+    (c.regular.ensures.runs (run_of plan inputs script) (OfText plan.unit) plan.code run (date + 1) agent) pending
 
 pub returns-clause-over : goal.returns-clause-over
 returns-clause-over c = λ plan inputs script date cycle agent h.
-    let supply : IsSupplied (run_of plan inputs script) (order_of plan.unit script) plan.until = known.supplied plan inputs (stalls_of script) h.of_plan script h.of_script (c.regular.ensures.lawful plan.unit plan.code plan.nexts (stalls_of script) inputs h.of_plan.compiled h.of_inputs) in
-    known.all_over plan inputs (stalls_of script) h.of_plan script h.of_script supply date cycle h.before h.low h.high c.on_time.ensures.earlier agent
+    known.all_over plan inputs (stalls_of script) h.of_plan script h.of_script (supply_of c plan inputs script date cycle h) date cycle h.before h.low h.high c.on_time.ensures.earlier agent
 
 pub returns-clause-gets : goal.returns-clause-gets
-returns-clause-gets c = λ plan inputs script date cycle agent r before h is pending.
-    let supply : IsSupplied (run_of plan inputs script) (order_of plan.unit script) plan.until = known.supplied plan inputs (stalls_of script) h.of_plan script h.of_script (c.regular.ensures.lawful plan.unit plan.code plan.nexts (stalls_of script) inputs h.of_plan.compiled h.of_inputs) in
-    known.gets plan inputs (stalls_of script) h.of_plan script h.of_script supply date cycle h.before h.low h.high c.on_time.ensures.due (λ unit number agent its point to next. c.follows.ensures.inner unit number agent point to (c.sound.ensures.unit its.0.text.0 unit its.0.text.1) its.1 next) h.most agent r before is
-    (c.regular.ensures.runs plan.unit plan.code plan.nexts (stalls_of script) inputs h.of_plan.compiled h.of_inputs (date + 1) agent) pending
+returns-clause-gets c = λ plan inputs script date cycle agent r before h is pending. gets_by c plan inputs script date cycle agent r before h is pending
 
 pub returns-clause-looks : goal.returns-clause-looks
 returns-clause-looks c = λ plan inputs script date cycle agent r before h is pending.
-    let supply : IsSupplied (run_of plan inputs script) (order_of plan.unit script) plan.until = known.supplied plan inputs (stalls_of script) h.of_plan script h.of_script (c.regular.ensures.lawful plan.unit plan.code plan.nexts (stalls_of script) inputs h.of_plan.compiled h.of_inputs) in
-    looks plan inputs (stalls_of script) h.of_plan h.of_inputs script date cycle h.low h.high c.ring_sizes.ensures.look c.rings.ensures.look c.reaches.ensures.stalled c.reaches.ensures.paid c.queues.ensures.look c.deeds.ensures.sends c.deeds.ensures.takes supply agent r before is
-    (known.gets plan inputs (stalls_of script) h.of_plan script h.of_script supply date cycle h.before h.low h.high c.on_time.ensures.due (λ unit number agent its point to next. c.follows.ensures.inner unit number agent point to (c.sound.ensures.unit its.0.text.0 unit its.0.text.1) its.1 next) h.most agent r before is
-    (c.regular.ensures.runs plan.unit plan.code plan.nexts (stalls_of script) inputs h.of_plan.compiled h.of_inputs (date + 1) agent) pending)
+    let run = run_is c plan inputs script h.of_plan h.of_inputs in
+    let laws : AreLooksLaws = record {
+      ages = c.ring_sizes.ensures.look;
+      values = c.rings.ensures.look;
+      stalls = c.reaches.ensures.stalled;
+      pays = c.reaches.ensures.paid;
+      fronts = c.queues.ensures.look;
+      sends = c.deeds.ensures.sends;
+      takes = c.deeds.ensures.takes;
+      rings = c.compiled.ensures.ring;
+      queues = c.compiled.ensures.queue;
+      outboxes = c.compiled.ensures.outbox;
+    } in
+    looks plan inputs (stalls_of script) h.of_plan run script date cycle h.low h.high laws (supply_of c plan inputs script date cycle h) agent r before is (gets_by c plan inputs script date cycle agent r before h is pending)
 
 pub returns-clause-idle : goal.returns-clause-idle
 returns-clause-idle c = c.reaches.ensures.idle
+
+pub returns-clause-lawful : goal.returns-clause-lawful
+returns-clause-lawful c = λ plan inputs script of_plan of_inputs. c.regular.ensures.lawful (run_of plan inputs script) (OfText plan.unit) plan.code (run_is c plan inputs script of_plan of_inputs)

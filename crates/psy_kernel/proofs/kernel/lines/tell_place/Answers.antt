@@ -7,6 +7,7 @@ use Rattle.psy_tree.specs.declared.unit.AgentDecl.{AgentDecl}
 use Rattle.psy_tree.specs.declared.unit.VarDecl.{VarDecl}
 use Rattle.psy_meaning.specs.Executors.{agent_at}
 use Rattle.psy_dates.specs.Plans.{system_of}
+use Rattle.psy_history.specs.Ways.{OfText}
 use Rattle.psy_kernel.specs.Telling.{TellsValue, variable_at}
 use Rattle.psy_kernel.proofs.Named.{agent_found, variable_found}
 use Rattle.psy_kernel.proofs.PlacesTold.{agent_told, variable_told}
@@ -27,7 +28,7 @@ returns-then-place-agents-clause-told c =
     c.bytes.ensures ∙ ap (λ (a : AgentDecl). a.name) (agent_found plan.unit c.args.place c.as_slice-agents.result.now c.index-agents-place.result c.as_slice-agents.ensures within) in
     λ stalls turns stands.
     agent_told (system_of plan shared.inputs.lists stalls) turns c.args.date shared stands c.args.place c.tell_stop.result c.args.line.now c.tell_stop.new.line c.index.result.now c.bytes.result.now
-    ((c.regular.ensures.lawful plan.unit plan.code plan.nexts stalls shared.inputs.lists c.requires.plan.compiled c.requires.inputs).actions (c.args.date + 1) c.args.place)
+    ((c.regular.ensures.lawful (system_of plan shared.inputs.lists stalls) (OfText plan.unit) plan.code (c.compiled.ensures.run plan.unit plan.code plan.nexts stalls shared.inputs.lists c.requires.plan.compiled c.requires.inputs)).actions (c.args.date + 1) c.args.place)
     among at named c.tell_stop.ensures.told
 
 pub returns-clause-told : goal.returns-clause-told

@@ -4,6 +4,7 @@ use Rattle.std.proofs.lemmas.Option.{slice_get_read}
 use Rattle.psy_tree.specs.declared.unit.StreamDecl.{StreamDecl}
 use Rattle.psy_meaning.specs.QueueSizes.{stream_at}
 use Rattle.psy_dates.specs.Plans.{system_of}
+use Rattle.psy_history.specs.Ways.{OfText}
 use Rattle.psy_kernel.proofs.Named.{stream_found}
 use Rattle.psy_kernel.proofs.StreamsTold.{stream_told}
 use Rattle.psy_kernel.proofs.kernel.lines.tell_stream.Goals as goal
@@ -20,5 +21,5 @@ returns-clause-told c =
     c.bytes.ensures ∙ ap (λ (d : StreamDecl). d.name) (stream_found plan.unit stream c.as_slice.result.now stream c.index-as_slice-stream.result c.as_slice.ensures refl among) in
     λ stalls turns stands.
     stream_told (system_of plan shared.inputs.lists stalls) turns c.args.date shared stands stream
-    (c.queues.ensures.shows plan.unit plan.code plan.nexts stalls shared.inputs.lists c.requires.plan.compiled c.requires.inputs c.args.date stream c.requires.within)
+    (c.queues.ensures.shows (system_of plan shared.inputs.lists stalls) (OfText plan.unit) plan.code (c.compiled.ensures.run plan.unit plan.code plan.nexts stalls shared.inputs.lists c.requires.plan.compiled c.requires.inputs) c.args.date stream c.requires.within)
     c.args.shown c.args.line.now c.tell_message.new.line c.tell_message.result c.index.result.now c.bytes.result.now at named c.tell_message.ensures.told

@@ -1,0 +1,97 @@
+-- The history of a run: at each date its agents go on with what they may carry, and their actions are regular and send what the ways send.
+use Rattle.std.proofs.Common.{◌≡◌, ℕ, List, [], ◌∷◌, Some, subst, sym}
+use Rattle.std.specs.List.{All}
+use Rattle.std.proofs.lemmas.List.Elements.{All-cons, All-nil, All-weaker}
+use Rattle.psy_code.specs.declared.code.Code.{Code}
+use Rattle.psy_meaning.specs.Actions.{Action, Next, System, next_of}
+use Rattle.psy_meaning.specs.Alike.{IsViewOf}
+use Rattle.psy_meaning.specs.History.{action_of, history}
+use Rattle.psy_meaning.specs.Visible.{seen_at, view_of}
+use Rattle.psy_history.specs.Regular.{IsLawful, IsRegular}
+use Rattle.psy_history.specs.Runs.{IsRun, MayCarry}
+use Rattle.psy_history.specs.Ways.{IsSentBy, Ways}
+use Rattle.psy_history.proofs.Growth.{at_each_date}
+use Rattle.psy_history.proofs.Numbers.{few, were_started}
+use Rattle.psy_history.proofs.RunActions.{AreRunLaws, IsReady, by_way, goes_on, leaves, regular, sends}
+use Rattle.psy_history.proofs.Seeing.{LeavesFit, MessageFits, sees}
+use Rattle.psy_history.proofs.SendWeights.{SendsByWay}
+
+-- An action of a run: regular, begun with what its agent may carry and see, it sends what the ways send, and where it reached a point no
+-- more than on a way there.
+pub record IsOwn (s : System) (ways : Ways) (code : Code) (agent : ℕ) (r : Action) : Type 0 where
+  pub regular : IsRegular s agent r
+  pub carries : MayCarry s.unit code agent r.before
+  pub sees : IsViewOf s.unit agent r.view
+  pub sends : All (IsSentBy ways s.unit) r.deeds.sends
+  pub by_way : SendsByWay ways agent r
+
+module _ (s : System) (ways : Ways) (code : Code) (laws : AreRunLaws code) (run : IsRun s ways code) where
+  -- What is kept of the actions of an agent, and of where it goes on.
+  record Keeps (agent : ℕ) (actions : List Action) : Type 0 where
+    own : All (IsOwn s ways code agent) actions
+    leave : All (LeavesFit s.unit) actions
+    next : (n : Next) → next_of s agent actions ≡ Some n → IsReady s ways code laws run agent n
+
+  seeing : (date : ℕ) → ((agent : ℕ) → Keeps agent (history s date agent)) → (agent start : ℕ) → IsViewOf s.unit agent (view_of s (history s date) agent start (seen_at s (history s date) start))
+  seeing date all agent start =
+      sees s run.opened.committed (λ stream. subst (All MessageFits) (sym (run.opened.messages stream)) (All-nil MessageFits)) run.inputs.values run.inits (history s date) (λ a. (all a).leave) agent start
+
+  keeps_none : (agent : ℕ) → Keeps agent []
+  keeps_none agent = record {
+    own = All-nil (IsOwn s ways code agent);
+    leave = All-nil (LeavesFit s.unit);
+    next = λ n is. let (less, alike) = run.opened.starts agent n is in record { less = less; alike = alike; carries = run.opened.carries agent n is };
+  }
+
+  keeps_more : (date agent : ℕ) (n : Next) → ((agent : ℕ) → Keeps agent (history s date agent)) → next_of s agent (history s date agent) ≡ Some n → Keeps agent (action_of s (history s date) agent n ∷ history s date agent)
+  keeps_more date agent n all is =
+      let h = history s date in
+      let r : Action = action_of s h agent n in
+      let before = all agent in
+      let ready = before.next n is in
+      let seen = seen_at s h n.start in
+      let view = view_of s h agent n.start seen in
+      let fits = seeing date all agent n.start in
+      let own : IsOwn s ways code agent r = record {
+        regular = regular s ways code laws run agent n ready view seen fits;
+        carries = ready.carries;
+        sees = fits;
+        sends = sends s ways code laws run agent n ready view seen fits;
+        by_way = by_way s ways code laws run agent n ready view seen fits;
+      } in
+      record {
+        own = All-cons (IsOwn s ways code agent) r (h agent) own before.own;
+        leave = All-cons (LeavesFit s.unit) r (h agent) (leaves s ways code laws run agent n ready view seen fits) before.leave;
+        next = goes_on s ways code laws run agent n ready view seen fits;
+      }
+
+  keeps : (dates agent : ℕ) → Keeps agent (history s dates agent)
+  keeps = at_each_date s (λ date. Keeps) keeps_none (λ date agent actions kept. kept) (λ date agent n all is at. keeps_more date agent n all is)
+
+  -- ---- what is kept
+
+  -- The next action can start, and sees a view of its agent.
+  pub next_ready : (date agent : ℕ) (n : Next) → next_of s agent (history s date agent) ≡ Some n → IsReady s ways code laws run agent n
+  next_ready date agent n is = (keeps date agent).next n is
+
+  pub next_sees : (date agent start : ℕ) → IsViewOf s.unit agent (view_of s (history s date) agent start (seen_at s (history s date) start))
+  next_sees date agent start = seeing date (keeps date) agent start
+
+  pub all_own : (dates agent : ℕ) → All (IsOwn s ways code agent) (history s dates agent)
+  all_own dates agent = (keeps dates agent).own
+
+  pub all_sent : (dates agent : ℕ) → All (λ r. All (IsSentBy ways s.unit) r.deeds.sends) (history s dates agent)
+  all_sent dates agent = All-weaker (IsOwn s ways code agent) (λ r. All (IsSentBy ways s.unit) r.deeds.sends) (λ r own. own.sends) (history s dates agent) (all_own dates agent)
+
+  pub all_by_way : (dates agent : ℕ) → All (SendsByWay ways agent) (history s dates agent)
+  all_by_way dates agent = All-weaker (IsOwn s ways code agent) (SendsByWay ways agent) (λ r own. own.by_way) (history s dates agent) (all_own dates agent)
+
+  pub lawful : IsLawful s
+  lawful = record {
+    opening = run.opened.starts;
+    actions = λ dates agent. record {
+      were_started = were_started s dates agent;
+      each = All-weaker (IsOwn s ways code agent) (IsRegular s agent) (λ r own. own.regular) (history s dates agent) (all_own dates agent);
+      few = few s dates agent;
+    };
+  }

@@ -1,0 +1,107 @@
+-- The sizes of rings, queues and outboxes by the ways of a program's code.
+use Rattle.std.specs.Prelude.{◌≡◌, ◌⊎◌, ℕ, zero, suc, ◌+◌, ◌-◌, ◌<◌, ◌≤◌, Bool, true, false, List, length, Some, slice_get}
+use Rattle.std.specs.List.{Contains}
+use Rattle.psy_base.specs.declared.edge.Edge.{Edge}
+use Rattle.psy_base.specs.Paths.{FitsFirstFree, IsGreatestWeight}
+use Rattle.psy_tree.specs.declared.unit.Unit.{Unit as Whole}
+use Rattle.psy_tree.specs.declared.unit.VarDecl.{VarDecl}
+use Rattle.psy_meaning.specs.Executors.{agent_at}
+use Rattle.psy_meaning.specs.Flow.{IsGreatest}
+use Rattle.psy_meaning.specs.Graph.{Spot, IsGraph}
+use Rattle.psy_meaning.specs.QueueSizes.{MayLast, lasting_of, stream_at}
+use Rattle.psy_meaning.specs.RingSizes.{IsDueIn, agent_timing, dates_between}
+use Rattle.psy_meaning.specs.Timing.{clock_at, following}
+use Rattle.psy_history.specs.Ways.{HasMost, Looks, Ways, delay_by, is_sent}
+
+-- ---- rings
+
+-- So many dates of a variable stand behind the start and before the deadline of an action that may look at it.
+abbrev pub MayPass : Whole → Ways → List (List (List ℕ)) → ℕ → ℕ → Type 0
+MayPass unit ways nexts variable dates =
+    (agent point date due : ℕ) × (decl : VarDecl)
+    × (agent < length unit.agents)
+    × Looks ways agent point variable
+    × IsDueIn (agent_timing unit nexts agent) point date due
+    × (slice_get unit.variables variable ≡ Some decl)
+    × (dates ≡ dates_between (clock_at (agent_timing unit nexts agent) decl.clock) date (date + due - 1))
+
+-- The size of a variable's ring: its depth, and the most of its dates that may pass; no more where none may.
+pub record IsRingSize (unit : Whole) (ways : Ways) (nexts : List (List (List ℕ))) (variable size : ℕ) : Type 0 where
+  pub most : ℕ
+  pub one : (most ≡ 0) ⊎ MayPass unit ways nexts variable most
+  pub all : (dates : ℕ) → MayPass unit ways nexts variable dates → dates ≤ most
+  pub decl : VarDecl
+  pub declared : slice_get unit.variables variable ≡ Some decl
+  pub sum : size ≡ decl.depth + most
+
+-- By variable, the sizes of the rings
+pub record AreRings (unit : Whole) (ways : Ways) (nexts : List (List (List ℕ))) (sizes : List ℕ) : Type 0 where
+  pub count : length sizes ≡ length unit.variables
+  pub each : (variable size : ℕ) → slice_get sizes variable ≡ Some size → IsRingSize unit ways nexts variable size
+
+-- ---- queues
+
+-- The dates for which a message of a stream may be held: from the end of its sender's action until it is visible, until it expires, and
+-- until its receiver starts again.
+abbrev pub IsWindow : Whole → Ways → List (List (List ℕ)) → ℕ → ℕ → Type 0
+IsWindow unit ways nexts stream window =
+    (longest : ℕ) × IsGreatest (MayLast (agent_timing unit nexts (stream_at unit stream).receiver)) longest
+    × (window ≡ delay_by ways stream + lasting_of unit stream + longest - 1)
+
+-- An edge of an agent's graph whose weight is the most sends to a stream on a way from its point to the next
+pub record IsSendEdge (ways : Ways) (agent stream : ℕ) (spots : List Spot) (e sent : Edge) : Type 0 where
+  pub same : sent ≡ record e { weight = sent.weight }
+  pub most : (from to : Spot) → slice_get spots e.from ≡ Some from → slice_get spots e.to ≡ Some to
+      → HasMost ways agent from.point to.point stream sent.weight
+
+-- All edges of a graph, weighted by their sends
+pub record AreSendEdges (ways : Ways) (agent stream : ℕ) (spots : List Spot) (edges sent : List Edge) : Type 0 where
+  pub count : length sent ≡ length edges
+  pub each : (place : ℕ) (e f : Edge) → slice_get edges place ≡ Some e → slice_get sent place ≡ Some f → IsSendEdge ways agent stream spots e f
+
+-- The most messages that an agent sends to a stream by actions that end within so many dates in a row
+abbrev pub IsSpread : Whole → Ways → List (List (List ℕ)) → ℕ → ℕ → ℕ → ℕ → Type 0
+IsSpread unit ways nexts stream window agent n =
+    (spots : List Spot) × (edges sent : List Edge)
+    × IsGraph (agent_timing unit nexts agent) spots edges
+    × AreSendEdges ways agent stream spots edges sent
+    × IsGreatestWeight sent (FitsFirstFree (window - 1)) n
+
+-- The same, summed over the first so many agents
+abbrev pub IsSpreadBelow : Whole → Ways → List (List (List ℕ)) → ℕ → ℕ → ℕ → ℕ → Type 0
+IsSpreadBelow unit ways nexts stream window zero n = n ≡ 0
+IsSpreadBelow unit ways nexts stream window (suc agent) n =
+    (others one : ℕ) × IsSpreadBelow unit ways nexts stream window agent others × IsSpread unit ways nexts stream window agent one × (n ≡ others + one)
+
+-- The size of a stream's queue, where somebody sends to it; nothing where nobody does.
+abbrev pub IsSizeFor : Whole → Ways → List (List (List ℕ)) → ℕ → ℕ → Bool → Type 0
+IsSizeFor unit ways nexts stream size false = size ≡ 0
+IsSizeFor unit ways nexts stream size true = (window : ℕ) × IsWindow unit ways nexts stream window
+    × IsSpreadBelow unit ways nexts stream window (length unit.agents) size
+
+-- The size of a stream's queue
+abbrev pub IsQueueSize : Whole → Ways → List (List (List ℕ)) → ℕ → ℕ → Type 0
+IsQueueSize unit ways nexts stream size = IsSizeFor unit ways nexts stream size (is_sent ways stream)
+
+-- By stream, the sizes of the queues
+pub record AreQueues (unit : Whole) (ways : Ways) (nexts : List (List (List ℕ))) (sizes : List ℕ) : Type 0 where
+  pub count : length sizes ≡ length unit.streams
+  pub each : (stream size : ℕ) → slice_get sizes stream ≡ Some size → IsQueueSize unit ways nexts stream size
+
+-- ---- outboxes
+
+-- The most sends to each of the first so many streams on a way from one point of an agent to another, summed
+abbrev pub AreSendsBelow : Ways → ℕ → ℕ → ℕ → ℕ → ℕ → Type 0
+AreSendsBelow ways agent from to zero n = n ≡ 0
+AreSendsBelow ways agent from to (suc stream) n =
+    (others one : ℕ) × AreSendsBelow ways agent from to stream others × HasMost ways agent from to stream one × (n ≡ others + one)
+
+-- So many messages may be sent, at most, from some point of an agent to one that may follow it.
+abbrev pub HasSendsTo : Whole → Ways → List (List (List ℕ)) → ℕ → ℕ → Type 0
+HasSendsTo unit ways nexts agent n = (from to : ℕ) × (from < length (agent_at unit agent).points)
+    × Contains (following (agent_timing unit nexts agent) from) to × AreSendsBelow ways agent from to (length unit.streams) n
+
+-- By agent, the sizes of the outboxes: the most messages of one action
+pub record AreOutboxes (unit : Whole) (ways : Ways) (nexts : List (List (List ℕ))) (sizes : List ℕ) : Type 0 where
+  pub count : length sizes ≡ length unit.agents
+  pub each : (agent size : ℕ) → slice_get sizes agent ≡ Some size → IsGreatest (HasSendsTo unit ways nexts agent) size
