@@ -1,5 +1,5 @@
 -- What words come to keeps its bounds; and what a check accepts can be run.
-use Rattle.std.proofs.Common.{◌≡◌, ◌∙◌, refl, sym, ap, subst, ℕ, ◌*◌, ◌≤◌, List, length, Option, None, Some, ℤ}
+use Rattle.std.proofs.Common.{◌≡◌, ◌∙◌, refl, sym, subst, ℕ, ◌*◌, ◌≤◌, List, length, Option, None, Some, ℤ}
 use Rattle.psy_base.specs.declared.limits.TheConstants.{FILE_BYTES, RUN}
 use Rattle.psy_dates.specs.declared.plan.Plan.{Plan}
 use Rattle.psy_dates.specs.Plans.{IsPlan}
@@ -17,12 +17,11 @@ use Rattle.psy_script.specs.Inputs.{AreListsOf}
 use Rattle.psy_script.specs.Script.{IsScriptOf}
 use Rattle.psy_tree.specs.declared.unit.Unit.{Unit as Whole}
 use Rattle.psy_run.specs.Accepted.{IsRunnable}
-use Rattle.psy_run.specs.Answer.{Answers, refused, served, Supply, compiling, translating, supplying, listing, scripting, running, trying, serving, answering}
+use Rattle.psy_run.specs.Answer.{Answers, refused, served, Supply, compiling, supplying, listing, scripting, running, trying, serving, answering}
 use Rattle.psy_run.specs.Asked.{Asks, Command, Run, Check, Graph, Make, Trial}
 use Rattle.psy_run.specs.Bounds.{IsBounded, KeepsBounds}
 use Rattle.psy_run.specs.Courses.{in_row}
-use Rattle.psy_run.specs.Refusals.{status_of}
-use Rattle.psy_run.specs.Services.{Service, Ran, Checked, Drawn, Made, Tried, meaning_of, no_inputs, no_script}
+use Rattle.psy_run.specs.Services.{Service, Ran, meaning_of, no_inputs, no_script}
 use Rattle.psy_run.proofs.AskingForms.{one_asking}
 use Rattle.psy_run.proofs.Courses.{gives_then}
 use Rattle.psy_run.proofs.MeaningText.{Keeps, is_no_script}

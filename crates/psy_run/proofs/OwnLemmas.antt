@@ -1,5 +1,5 @@
 -- The lines of an agent are those of its stops and of its variables' values: where these are the same, so are the lines.
-use Rattle.std.proofs.Common.{◌≡◌, ◌∙◌, refl, sym, ap, ap₂, subst, ℕ, zero, suc, ◌+◌, ◌<◌, ◌≤◌, ◌==◌, Bool, true, false, if◌then◌else◌, List, [], ◌∷◌, ◌++◌, map, filter, length, get_or, slice_get, ◌⊎◌, Option, None, Some, ℤ, All, eqb-true, arith, add-one, inl, inr}
+use Rattle.std.proofs.Common.{◌≡◌, ◌∙◌, refl, sym, ap, ap₂, subst, ℕ, zero, suc, ◌+◌, ◌<◌, ◌≤◌, ◌==◌, Bool, true, false, if◌then◌else◌, List, [], ◌∷◌, ◌++◌, map, filter, length, slice_get, ◌⊎◌, Option, None, Some, ℤ, All, eqb-true, arith, inl, inr}
 use Rattle.std.specs.List.{Contains, flat_map, range_with_len}
 use Rattle.std.proofs.lemmas.List.Elements.{All-cons, All-head, All-nil, All-tail, filter-append, filter_agree}
 use Rattle.std.proofs.lemmas.Option.{slice_get-get_or}
