@@ -182,6 +182,7 @@ declaration_part n m le pre ends ts =
 abbrev pub Nothing : List Numbered → Type 0
 Nothing us = us ≡ []
 
+-- The tokens up to the end are declarations
 abbrev Programs : Front → List Item → Type 0
 Programs mid items = Program (mid []) items
 

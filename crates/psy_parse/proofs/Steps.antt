@@ -15,6 +15,7 @@ use Rattle.psy_parse.specs.Reading.{◌>>=◌, given, stuck, is_end}
 abbrev pub Front : Type 0
 Front = List Numbered → List Numbered
 
+-- What follows stands at its end
 abbrev pub IsFront : Front → Type 0
 IsFront front = (us : List Numbered) → front us ≡ front [] ++ us
 
@@ -88,6 +89,7 @@ pub data Seen {X J : Type 0} (peek : List Numbered → Option X) (token : J → 
   here : (j : J) {us : List Numbered} → Seen peek token found (token j ∷ us) (Some (found j us))
   elsewhere : {us : List Numbered} → peek us ≡ None → ((vs : List Numbered) → SameHead us vs → peek vs ≡ None) → Seen peek token found us None
 
+-- It is found where it is next, and nothing while another token is
 pub record Looks {X J : Type 0} (peek : List Numbered → Option X) (token : J → Numbered) (found : J → List Numbered → X) : Type 0 where
   pub finds : (j : J) (us : List Numbered) → peek (token j ∷ us) ≡ Some (found j us)
   pub seen : (us : List Numbered) → Seen peek token found us (peek us)
@@ -97,6 +99,7 @@ pub data Met {X J : Type 0} (read : List Numbered → Result X ℕ) (token : J �
   met : (j : J) {us : List Numbered} → Met read token found (token j ∷ us) (Ok (found j us))
   missed : {us : List Numbered} → ((vs : List Numbered) → SameHead us vs → read vs ≡ Err (length vs)) → Met read token found us (Err (length us))
 
+-- It is read where it is next, and reading is stuck while another token is
 pub record Meets {X J : Type 0} (read : List Numbered → Result X ℕ) (token : J → Numbered) (found : J → List Numbered → X) : Type 0 where
   pub finds : (j : J) (us : List Numbered) → read (token j ∷ us) ≡ Ok (found j us)
   pub meets : (us : List Numbered) → Met read token found us (read us)
