@@ -2,6 +2,7 @@
 /// What came of a call.
 #[derive(Drop)]
 pub struct Answer {
+    /// The status that was answered.
     pub status: u8,
     /// The text that was written.
     pub text: Vec<u8>,

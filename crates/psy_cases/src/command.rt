@@ -6,7 +6,9 @@ use std::alloc::Global;
 /// What a command is asked: its words, the files that it may read, and how its devices fail.
 #[derive(Drop)]
 pub struct Asked<'a> {
+    /// The words of the command line.
     pub words: &'a [String],
+    /// The files that it may read, by name.
     pub files: Vec<(Text, Vec<u8>)>,
     /// The devices are those whose calls never fail.
     pub is_clean: bool,

@@ -30,6 +30,7 @@ pub enum Fault {
     /// A word of a command isn't text.
     #[error("a word isn't text in UTF-8")]
     NoText,
+    /// Want of memory.
     #[error("out of memory")]
     Memory,
 }
