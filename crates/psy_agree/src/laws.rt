@@ -6,13 +6,12 @@ ghost use Rattle.psy_run.specs.Answer.{answering};
 ghost use Rattle.psy_run.specs.Services.{Service};
 ghost use Rattle.psy_agree.specs.Readable.{IsReadBack};
 
-use psy_gen::laws::alike;
 use psy_graph::laws::one_graph;
 use psy_history::laws::values;
 use psy_make::laws::short;
-use psy_meaning::laws::{of_text, sound};
+use psy_meaning::laws::of_text;
 use psy_notes::laws::one_reading;
-use psy_run::laws::bounds;
+use psy_run::laws::bounded;
 use psy_script::laws::lawful;
 
 /// Whatever psyc writes for a run, a trial or graphs, for whatever words and files, psyview reads.
@@ -20,12 +19,10 @@ pub fn read_back()
     ensures { (words : List (List ℕ)) (files : Option Files) (done : Service) → (answering words files).gives done → IsReadBack done }
 {
     of_text();
-    sound();
     short();
-    alike();
     one_graph();
     values();
     lawful();
-    bounds();
+    bounded();
     one_reading();
 }
