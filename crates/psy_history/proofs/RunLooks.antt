@@ -26,7 +26,7 @@ looks_done (RanTo point s) = refl
 looks_done (TrappedBy kind s) = refl
 looks_done NoRun = refl
 
--- the looks of the run of an action's code
+-- The looks of the run of an action's code
 abbrev pub looked : Code → AgentCode → Action → List Looked
 looked code its r = looks_of (run_code code its (begun_by its r) r.budget)
 

@@ -21,7 +21,9 @@ ghost use Rattle.psy_run.specs.Services.{Service, meaning_of};
 use psy_flow::laws::{costs, nexts};
 use psy_gen::laws::alike as generated;
 use psy_graph::laws::one_graph;
-use psy_history::laws::{alike, compiled, isolation as histories, on_time, queue_sizes, regular, ring_sizes};
+use psy_history::laws::{
+    alike, compiled, isolation as histories, on_time, queue_sizes, regular, ring_sizes,
+};
 use psy_make::laws::short;
 use psy_meaning::laws::{of_text, sound};
 use psy_parse::laws::one_tree;
