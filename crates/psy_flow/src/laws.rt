@@ -2,11 +2,14 @@
 
 ghost use Rattle.std.specs.Prelude.{◌≡◌, ◌<◌, ◌≤◌, ◌⊎◌, ℕ, List, length};
 ghost use Rattle.psy_base.specs.declared.limits.TheConstants.{COST};
+ghost use Rattle.psy_base.specs.declared.ways.SendWay.{SendWay};
 ghost use Rattle.psy_tree.specs.declared.unit.AgentDecl.{AgentDecl};
 ghost use Rattle.psy_tree.specs.declared.unit.Unit.{Unit as Whole};
 ghost use Rattle.psy_meaning.specs.Flow.{AreNexts, HasCost, IsCut, IsMostSends, IsNext, MayLook};
+ghost use Rattle.psy_meaning.specs.ListedWays.{IsSendWay};
 ghost use Rattle.psy_flow.specs.Agents.{IsAgentOf, IsKnown};
 
+use psy_meaning::laws::named as can_name;
 use psy_meaning::laws::{follows, sound};
 
 /// An agent of a text is sound, and goes on from each of its points.
@@ -53,4 +56,15 @@ pub fn sends()
         → IsMostSends unit.functions agent from to stream n → IsMostSends unit.functions agent from to stream m → n ≡ m }
 {
     known();
+}
+
+/// What the ways from a point of an agent of a text look at and send to is there, and a way with sends to a point ends there.
+pub fn named()
+    ensures looks { (unit : Whole) (number : ℕ) (agent : AgentDecl) (point variable : ℕ) → IsAgentOf unit number agent
+        → MayLook unit.functions agent point variable → variable < length unit.variables }
+    ensures sends { (unit : Whole) (number : ℕ) (agent : AgentDecl) (point : ℕ) (way : SendWay) → IsAgentOf unit number agent
+        → IsSendWay unit.functions agent point way → (way.stream < length unit.streams) × IsNext unit.functions agent point way.to }
+{
+    known();
+    can_name();
 }

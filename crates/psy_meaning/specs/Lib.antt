@@ -7,6 +7,7 @@ pub mod Expressions
 pub mod Flow
 pub mod Graph
 pub mod Kept
+pub mod ListedWays
 pub mod Paths
 pub mod QueueSizes
 pub mod Rest
