@@ -6,7 +6,7 @@ ghost use Rattle.psy_meaning.specs.QueueSizes.{longest_delay, period_of, sending
 ghost use Rattle.psy_meaning.specs.Units.{IsOfText};
 ghost use Rattle.psy_flow.specs.Listed.{delay_among};
 
-use crate::lists::push;
+use crate::pushes::push;
 use psy_base::{Items, Memory};
 use psy_tree::{Stmt, Unit};
 use std::alloc::Global;

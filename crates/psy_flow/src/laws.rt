@@ -3,10 +3,13 @@
 ghost use Rattle.std.specs.Prelude.{◌≡◌, ◌<◌, ◌≤◌, ◌⊎◌, ℕ, List, length};
 ghost use Rattle.psy_base.specs.declared.limits.TheConstants.{COST};
 ghost use Rattle.psy_base.specs.declared.ways.SendWay.{SendWay};
+ghost use Rattle.psy_base.specs.declared.ways.Ways.{Ways};
+ghost use Rattle.psy_code.specs.declared.code.Code.{Code};
 ghost use Rattle.psy_tree.specs.declared.unit.AgentDecl.{AgentDecl};
 ghost use Rattle.psy_tree.specs.declared.unit.Unit.{Unit as Whole};
+ghost use Rattle.psy_meaning.specs.CodeWays.{AreCodeWays};
 ghost use Rattle.psy_meaning.specs.Flow.{AreNexts, HasCost, IsCut, IsMostSends, IsNext, MayLook};
-ghost use Rattle.psy_meaning.specs.ListedWays.{IsSendWay};
+ghost use Rattle.psy_meaning.specs.ListedWays.{AreWaysOf, IsSendWay};
 ghost use Rattle.psy_flow.specs.Agents.{IsAgentOf, IsKnown};
 
 use psy_meaning::laws::named as can_name;
@@ -68,3 +71,9 @@ pub fn named()
     known();
     can_name();
 }
+
+/// The ways of a program's statements are one value, and so are those of its code.
+pub fn one_list()
+    ensures text { (unit : Whole) (ways others : Ways) → AreWaysOf unit ways → AreWaysOf unit others → ways ≡ others }
+    ensures code { (unit : Whole) (code : Code) (ways others : Ways) → AreCodeWays unit code ways → AreCodeWays unit code others → ways ≡ others }
+{}

@@ -8,7 +8,7 @@ ghost use Rattle.psy_flow.specs.Agents.{IsOfSome, IsAgentOf};
 ghost use Rattle.psy_flow.specs.Listed.{AreAgentWays};
 
 use crate::delays::delays;
-use crate::lists::push;
+use crate::pushes::push;
 use crate::looking::looks_from;
 use crate::next::next_points;
 use crate::sending::sends_from;

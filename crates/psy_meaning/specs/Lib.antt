@@ -1,6 +1,7 @@
 -- The definitions of this crate, by subject.
 pub mod Alike
 pub mod BufferSizes
+pub mod CodeWays
 pub mod Demand
 pub mod Depths
 pub mod Expressions
