@@ -9,6 +9,7 @@ mod memory;
 mod message;
 mod sizes;
 mod text;
+mod ways;
 
 pub use edge::Edge;
 pub use memory::Memory;
@@ -16,3 +17,4 @@ pub use message::Message;
 pub use sizes::Sizes;
 pub use sqlite_items::{Boxed, Items};
 pub use text::Text;
+pub use ways::{SendWay, Ways};

@@ -6,15 +6,19 @@ mod Capped
 mod CappedCosts
 mod CostRows
 mod Cuts
+mod DelaysAmong
 mod Greatest
 mod Homes
 mod Layers
 mod Limits
 mod Lists
+mod LooksBelow
 mod MarkedNumbers
 mod Marks
 mod MostWays
 mod NextPoints
+mod OneList
+mod Ordered
 mod PointTops
 mod ReachPieces
 mod ReachRests
@@ -23,6 +27,7 @@ mod ReachVariants
 mod Related
 mod Rests
 mod Rows
+mod SendsUpTo
 mod Silent
 mod Sizes
 mod Still
@@ -30,3 +35,4 @@ mod Throughs
 mod TopsOf
 mod Turnings
 mod Uncapped
+mod WayRows

@@ -38,7 +38,7 @@ looks_same variable m n h = ap (count_by (λ (l : Looked). l.variable == variabl
 
 -- ---- what is counted is there
 
-abbrev Counted : {X : Type 0} → (X → Bool) → List X → Type 0
+abbrev pub Counted : {X : Type 0} → (X → Bool) → List X → Type 0
 Counted {X} p xs = (x : X) × Contains xs x × (p x ≡ true)
 
 counted_at : {X : Type 0} (p : X → Bool) (x : X) (xs : List X) (b : Bool) → p x ≡ b → 0 < count_by p (x ∷ xs) → (0 < count_by p xs → Counted p xs) → Counted p (x ∷ xs)
@@ -47,7 +47,7 @@ counted_at p x xs false e h further =
     let (y, c, holds) = further (omega (arith, h, sum_by-cons (λ y. cond (p y) 1 0) x xs, ap {B = ℕ} (λ b. cond b 1 0) e)) in
     (y, (suc c.0, omega (arith, c.1), c.2), holds)
 
-counted : {X : Type 0} (p : X → Bool) (xs : List X) → 0 < count_by p xs → Counted p xs
+pub counted : {X : Type 0} (p : X → Bool) (xs : List X) → 0 < count_by p xs → Counted p xs
 counted p [] h = absurd (omega (arith, h))
 counted p (x ∷ xs) h = counted_at p x xs (p x) refl h (counted p xs)
 

@@ -2,5 +2,6 @@
 pub mod Agents
 pub mod Behind
 pub mod Counted
+pub mod Listed
 pub mod Reach
 pub mod Tops

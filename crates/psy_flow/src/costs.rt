@@ -5,7 +5,7 @@ ghost use Rattle.psy_base.specs.declared.limits.TheConstants.{FUNCTIONS};
 ghost use Rattle.psy_flow.specs.Tops.{limit_of, called, call_most, stmts_tops, capped_from};
 
 use crate::gauge::Gauge;
-use crate::ways::tops_of_stmts;
+use crate::counts::tops_of_stmts;
 use psy_base::limits;
 use psy_tree::FunctionDecl;
 

@@ -2,11 +2,17 @@
 
 ghost use Rattle.std.specs.Prelude.{◌≡◌, ◌<◌, ◌≤◌, ◌⊎◌, ℕ, List, length};
 ghost use Rattle.psy_base.specs.declared.limits.TheConstants.{COST};
+ghost use Rattle.psy_base.specs.declared.ways.SendWay.{SendWay};
+ghost use Rattle.psy_base.specs.declared.ways.Ways.{Ways};
+ghost use Rattle.psy_code.specs.declared.code.Code.{Code};
 ghost use Rattle.psy_tree.specs.declared.unit.AgentDecl.{AgentDecl};
 ghost use Rattle.psy_tree.specs.declared.unit.Unit.{Unit as Whole};
+ghost use Rattle.psy_meaning.specs.CodeWays.{AreCodeWays};
 ghost use Rattle.psy_meaning.specs.Flow.{AreNexts, HasCost, IsCut, IsMostSends, IsNext, MayLook};
+ghost use Rattle.psy_meaning.specs.ListedWays.{AreWaysOf, IsSendWay};
 ghost use Rattle.psy_flow.specs.Agents.{IsAgentOf, IsKnown};
 
+use psy_meaning::laws::named as can_name;
 use psy_meaning::laws::{follows, sound};
 
 /// An agent of a text is sound, and goes on from each of its points.
@@ -54,3 +60,20 @@ pub fn sends()
 {
     known();
 }
+
+/// What the ways from a point of an agent of a text look at and send to is there, and a way with sends to a point ends there.
+pub fn named()
+    ensures looks { (unit : Whole) (number : ℕ) (agent : AgentDecl) (point variable : ℕ) → IsAgentOf unit number agent
+        → MayLook unit.functions agent point variable → variable < length unit.variables }
+    ensures sends { (unit : Whole) (number : ℕ) (agent : AgentDecl) (point : ℕ) (way : SendWay) → IsAgentOf unit number agent
+        → IsSendWay unit.functions agent point way → (way.stream < length unit.streams) × IsNext unit.functions agent point way.to }
+{
+    known();
+    can_name();
+}
+
+/// The ways of a program's statements are one value, and so are those of its code.
+pub fn one_list()
+    ensures text { (unit : Whole) (ways others : Ways) → AreWaysOf unit ways → AreWaysOf unit others → ways ≡ others }
+    ensures code { (unit : Whole) (code : Code) (ways others : Ways) → AreCodeWays unit code ways → AreCodeWays unit code others → ways ≡ others }
+{}

@@ -5,20 +5,26 @@
 
 mod calls;
 mod costs;
+mod counts;
+mod delays;
 mod depths;
 mod expressions;
 mod flow;
 mod gauge;
 pub mod laws;
+mod listed;
+mod looking;
 mod next;
 mod points;
+mod pushes;
 mod reach;
+mod sending;
 mod stack;
 mod statements;
 mod tops;
-mod ways;
 
 pub use depths::Depths;
 pub use flow::{looks, most_sends, worst};
+pub use listed::ways;
 pub use next::next_points;
 pub use stack::depth_of_stack;

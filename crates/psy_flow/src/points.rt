@@ -7,7 +7,7 @@ ghost use Rattle.psy_flow.specs.Behind.{IsBehind};
 
 use crate::gauge::Gauge;
 use crate::tops::Tops;
-use crate::ways::{tops_of_stmt, tops_of_stmts};
+use crate::counts::{tops_of_stmt, tops_of_stmts};
 use psy_tree::Stmt;
 
 /// What comes of going to an `advance` by its number, counted from 0 in the order of the text.

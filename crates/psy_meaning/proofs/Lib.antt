@@ -33,6 +33,7 @@ pub mod SoundParts
 pub mod SoundPaths
 mod SoundStmts
 pub mod SoundUnits
+mod SoundWays
 mod StatementRuns
 mod Suited
 mod TextNames

@@ -1,12 +1,14 @@
 -- The definitions of this crate, by subject.
 pub mod Alike
 pub mod BufferSizes
+pub mod CodeWays
 pub mod Demand
 pub mod Depths
 pub mod Expressions
 pub mod Flow
 pub mod Graph
 pub mod Kept
+pub mod ListedWays
 pub mod Paths
 pub mod QueueSizes
 pub mod Rest

@@ -3,7 +3,7 @@
 ghost use Rattle.std.specs.Prelude.{◌≡◌, ◌<◌, ◌≤◌, ◌*◌, ℕ, List, length, slice_get, Some};
 ghost use Rattle.std.specs.List.{Contains};
 ghost use Rattle.psy_arith.specs.declared.operators.Trap.{Trap};
-ghost use Rattle.psy_base.specs.declared.limits.TheConstants.{FILE_BYTES};
+ghost use Rattle.psy_base.specs.declared.limits.TheConstants.{AFTER, FILE_BYTES};
 ghost use Rattle.psy_tree.specs.declared.raw.Raw.{Raw};
 ghost use Rattle.psy_tree.specs.declared.token.Token.{Token};
 ghost use Rattle.psy_tree.specs.declared.unit.AgentDecl.{AgentDecl};
@@ -12,10 +12,10 @@ ghost use Rattle.psy_tree.specs.declared.unit.Unit.{Unit as Whole};
 ghost use Rattle.psy_tree.specs.Grammar.{Spells};
 ghost use Rattle.psy_tree.specs.Stands.{Stands};
 ghost use Rattle.psy_tree.specs.Tokens.{TokensOf};
-ghost use Rattle.psy_code.specs.Views.{View, nothing_done};
+ghost use Rattle.psy_code.specs.Views.{Looked, View, nothing_done};
 ghost use Rattle.psy_meaning.specs.Alike.{IsStoreOf, IsViewOf, begun, first_store};
 ghost use Rattle.psy_meaning.specs.Flow.{IsNext};
-ghost use Rattle.psy_meaning.specs.Kept.{IsAdvanceOf, IsKept};
+ghost use Rattle.psy_meaning.specs.Kept.{IsAdvanceOf, IsKept, IsLookOf};
 ghost use Rattle.psy_meaning.specs.QueueSizes.{sendings_in};
 ghost use Rattle.psy_meaning.specs.States.{State, Store, Final, Ended, Trapped, Halts};
 ghost use Rattle.psy_meaning.specs.Rest.{rest};
@@ -44,6 +44,17 @@ pub fn sendings()
     ensures { (unit : Whole) (number : ℕ) (agent : AgentDecl) (from to : ℕ) (met : Meter) (sending : Sending) → IsSoundUnit unit
         → slice_get unit.agents number ≡ Some agent → IsWay unit.functions (rest agent.stmts from) to met → Contains met.sends sending
         → Contains (sendings_in agent.stmts) sending }
+{}
+
+/// What a way of a sound unit's agent looks at and sends to can be named: a look is at a variable that there is, back by less than its depth; a
+/// send is to a stream and by a clock that there are, and isn't delayed too long.
+pub fn named()
+    ensures looks { (unit : Whole) (number : ℕ) (agent : AgentDecl) (from to : ℕ) (met : Meter) (look : Looked) → IsSoundUnit unit
+        → slice_get unit.agents number ≡ Some agent → IsWay unit.functions (rest agent.stmts from) to met → Contains met.looks look
+        → IsLookOf unit look }
+    ensures sends { (unit : Whole) (number : ℕ) (agent : AgentDecl) (from to : ℕ) (met : Meter) (sending : Sending) → IsSoundUnit unit
+        → slice_get unit.agents number ≡ Some agent → IsWay unit.functions (rest agent.stmts from) to met → Contains met.sends sending
+        → (sending.stream < length unit.streams) × (sending.clock < length unit.clocks) × (sending.after ≤ AFTER) }
 {}
 
 /// An action of a sound unit's agent ends at an `advance` or traps, from any of its points.

@@ -1,4 +1,4 @@
--- What is left of the proof of `ways::+stmt`.
+-- What is left of the proof of `counts::+stmt`.
 use Rattle.std.proofs.Common.{◌≡◌, ◌+◌, take, sym, ap, ◌∙◌}
 use Rattle.psy_tree.specs.declared.unit.Stmt.{Stmt}
 use Rattle.psy_tree.specs.declared.unit.Stmt.TheVariants as stmt
@@ -8,7 +8,7 @@ use Rattle.psy_flow.proofs.Layers.{tops_if_else, tops_bounded}
 use Rattle.psy_flow.proofs.Limits.{step_is, falling_step_is, sum_step_is, or_else_is, behind_is, and_on_is}
 use Rattle.psy_flow.proofs.Throughs.{through_more}
 use Rattle.psy_flow.proofs.Turnings.{turning_like}
-use Rattle.psy_flow.proofs.ways.+stmt.Goals as goal
+use Rattle.psy_flow.proofs.counts.+stmt.Goals as goal
 
 pub tops_of_stmt-returns-in-Some : goal.tops_of_stmt-returns-in-Some
 tops_of_stmt-returns-in-Some t c =

@@ -1,8 +1,8 @@
--- What is left of the proof of `ways::+expr`.
+-- What is left of the proof of `counts::+expr`.
 use Rattle.std.proofs.Common.{sym, arith}
 use Rattle.psy_flow.specs.Tops.{called, expr_most}
 use Rattle.psy_flow.proofs.Lists.{total_more}
-use Rattle.psy_flow.proofs.ways.+expr.Goals as goal
+use Rattle.psy_flow.proofs.counts.+expr.Goals as goal
 
 pub most_of_exprs-loop-expr-preserved : goal.most_of_exprs-loop-expr-preserved
 most_of_exprs-loop-expr-preserved t c =

@@ -1,9 +1,9 @@
--- What is left of the proof of `ways::turning`.
+-- What is left of the proof of `counts::turning`.
 use Rattle.std.proofs.Common.{◌≡◌, ◌+◌, ◌-◌, ◌*◌, min, ap, ◌∙◌}
 use Rattle.psy_flow.specs.Tops.{limit_of, in_step, falling, or_else}
 use Rattle.psy_flow.proofs.Limits.{sum_is, min-mul-min, sum_steps_is}
 use Rattle.psy_flow.proofs.Turnings.{capped_once, capped_on}
-use Rattle.psy_flow.proofs.ways.turning.Goals as goal
+use Rattle.psy_flow.proofs.counts.turning.Goals as goal
 
 pub returns-in-None : goal.returns-in-None
 returns-in-None c =

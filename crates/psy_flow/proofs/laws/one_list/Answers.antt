@@ -1,0 +1,9 @@
+-- What is left of the proof of `laws::one_list`.
+use Rattle.psy_flow.proofs.OneList.{one_of_text, one_of_code}
+use Rattle.psy_flow.proofs.laws.one_list.Goals as goal
+
+pub returns-clause-text : goal.returns-clause-text
+returns-clause-text c = one_of_text
+
+pub returns-clause-code : goal.returns-clause-code
+returns-clause-code c = one_of_code

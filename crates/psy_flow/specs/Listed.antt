@@ -1,0 +1,63 @@
+-- The lists of an agent's ways while they grow.
+use Rattle.std.specs.Prelude.{◌≡◌, ◌⊎◌, ◌↔◌, ℕ, ◌<◌, ◌==◌, nat_lt, Bool, if◌then◌else◌, List, [], ◌∷◌, filter, map, length, Some, slice_get}
+use Rattle.std.specs.List.{AllPairs, Contains}
+use Rattle.psy_base.specs.Extremes.{most_of}
+use Rattle.psy_base.specs.declared.ways.SendWay.{SendWay}
+use Rattle.psy_tree.specs.declared.unit.AgentDecl.{AgentDecl}
+use Rattle.psy_tree.specs.declared.unit.FunctionDecl.{FunctionDecl}
+use Rattle.psy_tree.specs.declared.unit.Unit.{Unit as Whole}
+use Rattle.psy_meaning.specs.Flow.{AreNexts, MayLook}
+use Rattle.psy_meaning.specs.ListedWays.{AreLooks, AreSends, IsSendWay, IsWayBefore}
+use Rattle.psy_meaning.specs.QueueSizes.{delay_of}
+use Rattle.psy_meaning.specs.Ways.{Sending}
+use Rattle.psy_flow.specs.declared.listed.AgentWays.{AgentWays}
+
+-- ---- looks
+
+-- The number, or none
+abbrev pub if_so : Bool → ℕ → List ℕ
+if_so so n = if so then n ∷ [] else []
+
+-- Those of the first so many variables at which a way looks
+pub record AreLooksBelow (functions : List FunctionDecl) (agent : AgentDecl) (point below : ℕ) (variables : List ℕ) : Type 0 where
+  pub rise : AllPairs (λ a b. a < b) variables
+  pub each : (variable : ℕ) → Contains variables variable ↔ ((variable < below) × MayLook functions agent point variable)
+
+-- ---- sends
+
+-- The way, where there is a send on it
+abbrev pub some_way : SendWay → List SendWay
+some_way way = if nat_lt 0 way.most then way ∷ [] else []
+
+-- It ends at an earlier point, or at this one and is to one of the first so many streams.
+abbrev pub IsUpTo : ℕ → ℕ → SendWay → Type 0
+IsUpTo to streams way = (way.to < to) ⊎ ((way.to ≡ to) × (way.stream < streams))
+
+-- All such sends of the ways from a point
+pub record AreSendsUpTo (functions : List FunctionDecl) (agent : AgentDecl) (point to streams : ℕ) (sends : List SendWay) : Type 0 where
+  pub rise : AllPairs IsWayBefore sends
+  pub each : (way : SendWay) → Contains sends way ↔ (IsUpTo to streams way × IsSendWay functions agent point way)
+
+-- All sends of the ways from a point to some points
+pub record AreSendsAmong (functions : List FunctionDecl) (agent : AgentDecl) (point : ℕ) (nexts : List ℕ) (sends : List SendWay) : Type 0 where
+  pub rise : AllPairs IsWayBefore sends
+  pub each : (way : SendWay) → Contains sends way ↔ (Contains nexts way.to × IsSendWay functions agent point way)
+
+-- ---- delays
+
+-- The greatest delay of those of some sends that go to a stream
+abbrev pub delay_among : Whole → ℕ → List Sending → ℕ
+delay_among unit stream sendings = most_of (map (delay_of unit) (filter (λ (s : Sending). s.stream == stream) sendings))
+
+-- ---- an agent
+
+-- By point of an agent, things of this kind
+pub record AreOf {X : Type 0} (agent : AgentDecl) (Are : ℕ → X → Type 0) (lists : List X) : Type 0 where
+  pub count : length lists ≡ length agent.points
+  pub each : (point : ℕ) (one : X) → slice_get lists point ≡ Some one → Are point one
+
+-- By point of an agent, its ways
+pub record AreAgentWays (functions : List FunctionDecl) (agent : AgentDecl) (ways : AgentWays) : Type 0 where
+  pub nexts : AreNexts functions agent ways.nexts
+  pub looks : AreOf agent (AreLooks functions agent) ways.looks
+  pub sends : AreOf agent (AreSends functions agent) ways.sends

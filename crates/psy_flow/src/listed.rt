@@ -1,0 +1,80 @@
+//! The ways of a program's actions, as lists.
+
+ghost use Rattle.std.specs.Prelude.{◌≡◌, ℕ, length, IfOk};
+ghost use Rattle.psy_tree.specs.declared.unit.Unit.{Unit as Whole};
+ghost use Rattle.psy_meaning.specs.ListedWays.{AreWaysOf};
+ghost use Rattle.psy_meaning.specs.Units.{IsOfText};
+ghost use Rattle.psy_flow.specs.Agents.{IsOfSome, IsAgentOf};
+ghost use Rattle.psy_flow.specs.Listed.{AreAgentWays};
+
+use crate::delays::delays;
+use crate::pushes::push;
+use crate::looking::looks_from;
+use crate::next::next_points;
+use crate::sending::sends_from;
+use psy_base::{Items, Memory, SendWay, Ways};
+use psy_tree::{AgentDecl, Unit};
+use std::alloc::Global;
+
+/// The ways of an agent's actions, by point.
+#[derive(Debug, Drop)]
+pub struct AgentWays {
+    /// Where they end.
+    pub nexts: Items<Items<u32>>,
+    /// At what they look.
+    pub looks: Items<Items<u32>>,
+    /// What they send.
+    pub sends: Items<Items<SendWay>>,
+}
+
+// The ways of an agent of a program with so many variables and streams.
+fn ways_of(alloc: Global, agent: &AgentDecl, variables: u32, streams: u32) -> Result<AgentWays, Memory>
+    requires text { IsOfSome agent.now }
+    ensures { IfOk result (λ ways. (unit : Whole) (number : ℕ) → IsAgentOf unit number agent.now → length unit.variables ≡ variables
+        → length unit.streams ≡ streams → AreAgentWays unit.functions agent.now ways) }
+{
+    let mut nexts = Items::new(alloc);
+    let mut looks = Items::new(alloc);
+    let mut sends = Items::new(alloc);
+    'points: for point in 0..agent.points.len() as u32 {
+        let to = next_points(alloc, agent, point)?;
+        let looked = looks_from(alloc, agent, point, variables)?;
+        let sent = sends_from(alloc, agent, point, to.as_slice(), streams)?;
+        push(&mut nexts, to)?;
+        push(&mut looks, looked)?;
+        push(&mut sends, sent)?;
+    }
+    Ok(AgentWays {
+        nexts,
+        looks,
+        sends,
+    })
+}
+
+/// The ways of a program's actions by its statements: from each point of each agent the points where they end, the variables at which they
+/// look, and the most sends to each stream on the ways to each of these points; and by stream the greatest delay of the sends to it. The only
+/// error is want of memory.
+pub fn ways(alloc: Global, unit: &Unit) -> Result<Ways, Memory>
+    requires text { IsOfText unit.now }
+    ensures { IfOk result (AreWaysOf unit.now) }
+{
+    let variables = unit.variables.len() as u32;
+    let streams = unit.streams.len() as u32;
+    let mut nexts = Items::new(alloc);
+    let mut looks = Items::new(alloc);
+    let mut sends = Items::new(alloc);
+    'agents: for number in 0..unit.agents.len() {
+        let agent = &unit.agents.as_slice()[number];
+        let own = ways_of(alloc, agent, variables, streams)?;
+        push(&mut nexts, own.nexts)?;
+        push(&mut looks, own.looks)?;
+        push(&mut sends, own.sends)?;
+    }
+    let delays = delays(alloc, unit)?;
+    Ok(Ways {
+        nexts,
+        looks,
+        sends,
+        delays,
+    })
+}
