@@ -1,7 +1,8 @@
 -- What contracts see of the forms in memory.
-use Rattle.std.specs.Prelude.{◌≡◌, ℕ, ◌+◌, ◌-◌, ◌<◌, ◌^◌, List, ◌++◌, length, take, min, Contains, ◌⊎◌, Option, None, Some, Bool, ◌&&◌, nat_le, if◌then◌else◌}
+use Rattle.std.specs.Prelude.{◌≡◌, ℕ, ◌+◌, ◌-◌, ◌<◌, ◌^◌, List, ◌++◌, length, take, min, Contains, ◌⊎◌, Option, None, Some, Bool, ◌&&◌, nat_le, if◌then◌else◌, Result, Ok, MatchResult}
 use Rattle.std.specs.FinMap.{get}
 use Rattle.psy_door.specs.Files.{Pairs, files_of}
+use Rattle.psy_door.specs.declared.sink.Failed.{Failed}
 
 -- One more, up to the counter's last value
 abbrev pub counted_up : ℕ → ℕ
@@ -42,6 +43,20 @@ fitting sink piece = min piece (min sink.most (sink.room - length sink.bytes))
 abbrev pub WriteFails : SinkState → List ℕ → Type 0
 WriteFails sink piece = Contains sink.fails sink.calls ⊎ ((0 < length piece) × (length sink.bytes ≡ sink.room))
 
+-- The sink after a call that took the first n bytes of a piece, and after one that failed
+abbrev pub after_taking : SinkState → ℕ → List ℕ → SinkState
+after_taking sink n piece = record sink { bytes = sink.bytes ++ take n piece; calls = counted_up sink.calls }
+
+abbrev pub after_failing : SinkState → SinkState
+after_failing sink = record sink { calls = counted_up sink.calls; faults = counted_up sink.faults }
+
+-- What a call with a piece answers, and as what it leaves the sink: it fails exactly where it is to fail, and takes all that fits
+abbrev pub SinkCalls : SinkState → List ℕ → Result ℕ Failed → SinkState → Type 0
+SinkCalls sink piece result now =
+    MatchResult result
+    (λ n. (WriteFails sink piece → ⊥) × (n ≡ fitting sink (length piece)) × (now ≡ after_taking sink n piece))
+    (λ _. WriteFails sink piece × (now ≡ after_failing sink))
+
 -- Bytes in a room of fixed size, and whether all that was written was kept
 pub record CleanSinkState : Type 0 where
   pub bytes : List ℕ
@@ -58,6 +73,10 @@ written sink piece = record sink {
   bytes = sink.bytes ++ kept sink piece;
   whole = sink.whole && nat_le (length sink.bytes + length piece) sink.room;
 }
+
+-- A call with a piece takes all of it.
+abbrev pub CleanSinkCalls : CleanSinkState → List ℕ → Result ℕ Failed → CleanSinkState → Type 0
+CleanSinkCalls sink piece result now = (result ≡ Ok (length piece)) × (now ≡ written sink piece)
 
 -- The bytes, as long as all were kept
 abbrev pub told : CleanSinkState → Option (List ℕ)

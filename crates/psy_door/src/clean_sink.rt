@@ -1,6 +1,6 @@
 //! A sink in memory whose calls never fail.
 ghost use Rattle.std.specs.Prelude.{◌≡◌, true, [], length, IfOk};
-ghost use Rattle.psy_door.specs.States.{written, told};
+ghost use Rattle.psy_door.specs.States.{CleanSinkCalls, written, told};
 
 use crate::sink::{Failed, Sink};
 use psy_base::Memory;
@@ -51,6 +51,8 @@ impl Sink for CleanSink {
     ghost held = { told };
 
     ghost faults = { λ _. 0 };
+
+    ghost calls = { CleanSinkCalls };
 
     fn write(&mut self, piece: &[u8]) -> Result<usize, Failed>
         ensures all { result ≡ Ok (length piece.now) }

@@ -66,6 +66,7 @@ pub trait Shelf {
         ensures whole { IfOk result (λ bytes.
             WhereTold (files self.old) (λ held. bytes.items ≡ bytes_under held name.now)) }
         ensures failed { result ≡ Err FetchFault.Failed → Rose (faults self.old) (faults self.new) }
+        ensures unfailed { result ≢ Err FetchFault.Failed → faults self.new ≡ faults self.old }
         ensures named { result ≡ Err FetchFault.Failed → failed_name self.new ≡ name.now }
         ensures same_name { result ≢ Err FetchFault.Failed → failed_name self.new ≡ failed_name self.old }
         ensures too_long { result ≡ Err FetchFault.TooLong → taken self.new ≡ FILE_BYTES + 1 }

@@ -1,6 +1,6 @@
 //! A sink in memory with a fixed room, some of whose calls fail.
-ghost use Rattle.std.specs.Prelude.{◌≡◌, ◌+◌, ◌<◌, ◌≤◌, Some, [], ◌++◌, length, take, IfOk, OnErr, IsErr, ◌↔◌};
-ghost use Rattle.psy_door.specs.States.{SinkState, WriteFails, fitting, counted_up};
+ghost use Rattle.std.specs.Prelude.{◌≡◌, ◌+◌, ◌<◌, ◌≤◌, Some, [], ◌++◌, length, take, IfOk, OnOk, OnErr, IsErr, ◌↔◌};
+ghost use Rattle.psy_door.specs.States.{SinkCalls, SinkState, WriteFails, fitting, counted_up};
 
 use crate::counts;
 use crate::sink::{Failed, Sink};
@@ -83,8 +83,11 @@ impl Sink for SinkVec {
 
     ghost faults = { λ s. s.faults };
 
+    ghost calls = { SinkCalls };
+
     fn write(&mut self, piece: &[u8]) -> Result<usize, Failed>
         ensures counted { self.old.faults ≤ self.new.faults }
+        ensures unfailed { OnOk result (self.new.faults ≡ self.old.faults) }
         ensures some { IfOk result (λ n. 0 < length piece.now → 0 < n) }
         ensures fails { IsErr result ↔ WriteFails self.old piece.now }
         ensures fitting { IfOk result (λ n. n ≡ fitting self.old (length piece.now)) }

@@ -1,5 +1,5 @@
 //! Standard output, or another writer of the system.
-ghost use Rattle.std.specs.Prelude.{◌≡◌, ◌<◌, ◌≤◌, None, length, IfOk, IfSome, OnOk, OnErr};
+ghost use Rattle.std.specs.Prelude.{◌≡◌, ◌<◌, ◌≤◌, None, ⊤, length, IfOk, IfSome, OnOk, OnErr};
 ghost use Rattle.psy_door.specs.States.{counted_up};
 
 use crate::sink::{Failed, Sink};
@@ -48,6 +48,9 @@ impl<W: Write> Sink for StdSink<W> {
     ghost held = { λ _. None };
 
     ghost faults = { λ faults. faults };
+
+    // Nothing is told of its calls.
+    ghost calls = { λ _ _ _ _. ⊤ };
 
     fn write(&mut self, piece: &[u8]) -> Result<usize, Failed>
         ensures counted { self.old ≤ self.new }

@@ -1,5 +1,5 @@
 -- How the bytes of a sink grow over several writes.
-use Rattle.std.proofs.Common.{◌∙◌, ap, ℕ, List, ◌++◌, Option, None, Some, append_assoc}
+use Rattle.std.proofs.Common.{◌∙◌, sym, ap, ℕ, List, [], ◌++◌, Option, None, Some, append_assoc, append-nil}
 use Rattle.psy_door.specs.Growth.{Grew}
 
 pub Grew-trans : (a b c : Option (List ℕ)) (p q : List ℕ) → Grew a b p → Grew b c q → Grew a c (p ++ q)
@@ -8,3 +8,7 @@ Grew-trans None None (Some z) p q first second = absurd second
 Grew-trans (Some x) None (Some z) p q first second = absurd second
 Grew-trans None (Some y) (Some z) p q first second = absurd first
 Grew-trans (Some x) (Some y) (Some z) p q first second = second ∙ ap (λ bytes. bytes ++ q) first ∙ append_assoc x p q
+
+pub Grew-nothing : (a : Option (List ℕ)) → Grew a a []
+Grew-nothing None = tt
+Grew-nothing (Some x) = sym (append-nil x)

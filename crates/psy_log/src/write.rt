@@ -1,8 +1,8 @@
 //! How a whole piece of text goes to a sink.
-ghost use Rattle.std.specs.Prelude.{◌≡◌, ◌<◌, ◌≤◌, length, take, OnOk, IfErr, OnErr};
+ghost use Rattle.std.specs.Prelude.{◌≡◌, ◌<◌, ◌≤◌, [], length, take, drop, OnOk, IfErr, OnErr};
 ghost use Rattle.psy_door.specs.Faults.{Rose};
 ghost use Rattle.psy_door.specs.Growth.{Grew};
-ghost use Rattle.psy_log.specs.Writing.{Written};
+ghost use Rattle.psy_log.specs.Writing.{Calls, Written};
 
 use psy_door::Sink;
 use thiserror::Error;
@@ -21,7 +21,11 @@ pub fn write_all_of<S: Sink>(out: &mut S, piece: &[u8]) -> Result<(), WriteFault
     ensures written { Written (S.held out.old) (S.held out.new) result piece.now }
     ensures front { IfErr result (λ fault. Grew (S.held out.old) (S.held out.new) (take fault.taken piece.now)) }
     ensures short { IfErr result (λ fault. fault.taken < length piece.now) }
+    ensures unfailed { OnOk result (S.faults out.new ≡ S.faults out.old) }
     ensures failed { OnErr result (Rose (S.faults out.old) (S.faults out.new)) }
+
+    // Each call is given all that is left of the piece, and none follows one that failed.
+    ensures calls { Calls S.calls out.old piece.now result out.new }
 {
     let mut taken = 0;
     'writing: while taken < piece.len() {
