@@ -1,4 +1,4 @@
-"""Programs near the limits of graphs. Each keeps the rules, and each action's budget is one cycle.
+"""Programs near the limits of graphs. Each keeps the rules, and each action's budget is one cycle where nothing else is said.
 
 The nodes of a graph are the pairs of a point and a date modulo the least common multiple of the periods
 of the clocks that the agent's advances name, as far as they can be reached; an edge leads to each point
@@ -40,6 +40,24 @@ def each_to_each(points, agents=1):
     """Agents whose actions, of one phase, may end at any point but the head: points * (points - 1) edges each."""
     body = choice(points - 1)
     return HEAD + "".join(agent(number, "one", body) for number in range(agents))
+
+
+def by_phases(points, phases, agents=1):
+    """Agents of so many points of a clock of one tick, each with its own length and budget, and one of a slow clock, whose period is the
+    number of phases: each may follow each, so that points + 1 edges leave each of points * phases + 2 nodes, or a few nodes fewer."""
+    ways = [f"advance {1 + point} on one budget {100 + 37 * point};" for point in range(points)] + ["advance 1 on slow budget 500;"]
+
+    def nested(ways):
+        half = len(ways) // 2
+        return ways[0] if len(ways) == 1 else f"if (n) {{ {nested(ways[:half])} }} else {{ {nested(ways[half:])} }}"
+
+    clocks = f"tick 1000000;\nclock one = 1 * tick;\nclock slow = {phases} * tick;\n"
+    return clocks + "".join(agent(number, "one", nested(ways)) for number in range(agents))
+
+
+def without_horizon(text):
+    """The program with budgets that together pass the processor, so that there is no length from which on it has enough."""
+    return text.replace(" budget 1 ", " budget 1000000 ")
 
 
 def in_a_row(points, size):

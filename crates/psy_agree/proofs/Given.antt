@@ -98,7 +98,7 @@ module _ (laws : AreLaws) where
 
   sized_of : (unit : Whole) (until : ℕ) (supply : Supply) → (supplying unit until).gives supply → AreSizes unit supply.nexts supply.sizes
   unfolding in_row
-  sized_of unit until supply (graphs, drawn, (nexts, followed, (sizes, sized, (few, held, (done, feasible, same))))) = subst (λ (s : Supply). AreSizes unit s.nexts s.sizes) (sym same) sized.0
+  sized_of unit until supply (graphs, drawn, (nexts, followed, (sizes, sized, (lines, rated, (extent, looked, (few, held, (done, feasible, same))))))) = subst (λ (s : Supply). AreSizes unit s.nexts s.sizes) (sym same) sized.0
 
   -- ---- what is written
 

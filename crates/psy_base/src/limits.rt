@@ -80,7 +80,7 @@ pub const SENDS: u64 = 65_537;
 pub const WORD_DIGITS: usize = 12;
 
 /// The last date of a run.
-pub const UNTIL: u32 = 100_000;
+pub const UNTIL: u32 = 1_000_000;
 
 /// Nodes of one agent's action graph.
 pub const NODES: u32 = 512;
@@ -142,7 +142,7 @@ mod tests {
             (BRACKETS, 64, "open brackets"),
             (OPERATORS, 256, "operators"),
             (OPEN_CALLS, 64, "open calls"),
-            (UNTIL, 100_000, "last date"),
+            (UNTIL, 1_000_000, "last date"),
             (NODES, 512, "nodes of a graph"),
             (EDGES, 4_096, "edges of a graph"),
             (RING, 65_536, "places of a ring"),

@@ -29,7 +29,7 @@ use std::alloc::Global;
 /// and the streams. All of them together have at most 48,000 columns, none of less than a pixel: of several values in one
 /// column a line goes over the first, the least, the greatest and the last, and several messages are one mark. Where a
 /// file would be longer, which that of a run within the limits never is, it is one that says so. Notes that are no part of a
-/// run are skipped, and dates past 100,000 are drawn there.
+/// run are skipped, and dates past 1,000,000 are drawn there.
 pub fn timeline(alloc: Global, notes: &[Note]) -> Result<Vec<u8>, DrawFault>
     ensures unlisted { (n : ℕ) → result ≡ Err (DrawFault.Unlisted n) → first_unlisted notes.now ≡ Some n }
     ensures listed { OnOk result (first_unlisted notes.now ≡ None) }

@@ -5,6 +5,7 @@ pub mod Demands
 pub mod Excesses
 pub mod Existence
 pub mod Goings
+pub mod LeastCovers
 pub mod Passed
 pub mod Potentials
 pub mod Steps

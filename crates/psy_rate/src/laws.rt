@@ -1,12 +1,12 @@
 //! Laws of the definitions, each the contract of a function that does nothing.
 
-ghost use Rattle.std.specs.Prelude.{◌≡◌, ℕ, ◌+◌, ◌*◌, ◌≤◌, List, All, length};
+ghost use Rattle.std.specs.Prelude.{◌≡◌, ◌⊎◌, ℕ, ◌+◌, ◌*◌, ◌≤◌, List, All, length};
 ghost use Rattle.psy_base.specs.declared.edge.Edge.{Edge};
 ghost use Rattle.psy_base.specs.declared.limits.TheConstants.{EDGES};
 ghost use Rattle.psy_meaning.specs.Demand.{IsDemand};
 ghost use Rattle.psy_rate.specs.declared.line.Rate.{Rate};
 ghost use Rattle.psy_rate.specs.Lines.{IsRateOf, AreRates, AreAll};
-ghost use Rattle.psy_rate.specs.Horizons.{rate_of, intercept_of, IsHorizon, AreFeasible, HaveDemands};
+ghost use Rattle.psy_rate.specs.Horizons.{rate_of, intercept_of, Covers, IsHorizonOf, IsHorizon, AreFeasible, HaveDemands};
 ghost use Rattle.psy_window.specs.Windows.{IsEdge};
 
 use crate::line::SCALE;
@@ -24,4 +24,12 @@ pub fn always()
 pub fn rates()
     ensures some { (graph : List Edge) (nodes : ℕ) → All (IsEdge nodes) graph → length graph ≤ EDGES → (line : Rate) × IsRateOf graph line }
     ensures one { (graph : List Edge) (line other : Rate) → IsRateOf graph line → IsRateOf graph other → line ≡ other }
+{}
+
+/// The lines of a group have one horizon, or none.
+pub fn horizons()
+    ensures some { (quantum : ℕ) (lines : List Rate) → ((length : ℕ) × IsHorizonOf quantum lines length)
+        ⊎ ((length : ℕ) → Covers quantum lines length → ⊥) }
+    ensures one { (quantum : ℕ) (lines : List Rate) (length other : ℕ) → IsHorizonOf quantum lines length → IsHorizonOf quantum lines other
+        → length ≡ other }
 {}

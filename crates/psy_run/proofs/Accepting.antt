@@ -1,4 +1,4 @@
--- What words come to keeps its bounds; and what a check accepts can be run.
+-- What words come to keeps its bounds; what a check tells is borne out, and what it accepts can be run.
 use Rattle.std.proofs.Common.{◌≡◌, ◌∙◌, refl, sym, subst, ℕ, ◌*◌, ◌≤◌, List, length, Option, None, Some, ℤ}
 use Rattle.psy_base.specs.declared.limits.TheConstants.{FILE_BYTES, RUN}
 use Rattle.psy_dates.specs.declared.plan.Plan.{Plan}
@@ -19,7 +19,7 @@ use Rattle.psy_tree.specs.declared.unit.Unit.{Unit as Whole}
 use Rattle.psy_run.specs.Accepted.{IsRunnable}
 use Rattle.psy_run.specs.Answer.{Answers, refused, served, Supply, compiling, supplying, listing, scripting, running, trying, serving, answering}
 use Rattle.psy_run.specs.Asked.{Asks, Command, Run, Check, Graph, Make, Trial}
-use Rattle.psy_run.specs.Bounds.{IsBounded, KeepsBounds}
+use Rattle.psy_run.specs.Bounds.{IsBounded, IsBorneOut, KeepsBounds}
 use Rattle.psy_run.specs.Courses.{in_row}
 use Rattle.psy_run.specs.Services.{Service, Ran, meaning_of, no_inputs, no_script}
 use Rattle.psy_run.proofs.AskingForms.{one_asking}
@@ -28,7 +28,7 @@ use Rattle.psy_run.proofs.MeaningText.{Keeps, is_no_script}
 use Rattle.psy_run.proofs.OneAnswer.{compiled, translated}
 use Rattle.psy_run.proofs.OneStep.{TextsHold}
 use Rattle.psy_run.proofs.PlanLemmas.{are_no_inputs, is_feasible_for}
-use Rattle.psy_run.proofs.SupplyLemmas.{supply_is}
+use Rattle.psy_run.proofs.SupplyLemmas.{AllMet, supply_is}
 use Rattle.psy_run.proofs.TopLemmas.{AllBounded, status_some}
 
 -- ---- bounds
@@ -42,6 +42,7 @@ pub record RunsHold : Type 0 where
   pub inputs : (unit : Whole) (text : List ℕ) (lists : List (List ℤ)) → AreListsOf unit text lists → AreInputs unit lists
   pub script : (unit : Whole) (text : List ℕ) (said : Said) → IsScriptOf unit text said → IsScript unit said
   pub keeps : Keeps
+  pub met : AllMet
 
 module _ (hold : RunsHold) where
   -- A program that is supplied has a plan, and so keeps its bounds.
@@ -49,7 +50,7 @@ module _ (hold : RunsHold) where
       → KeepsBounds (meaning_of unit supply.nexts lists said) (order_of unit said) supply.sizes until
   supplied_bounded unit until supply lists said text supplied are script =
       let plan : Plan = record { unit = unit; code = code_of unit; nexts = supply.nexts; sizes = supply.sizes; until = until } in
-      let is = supply_is unit until supply supplied in
+      let is = supply_is hold.met unit until supply text supplied in
       let planned : IsPlan plan = record {
         compiled = record { text = text; alike = hold.alike unit text; followed = is.followed };
         buffers = is.sized;
@@ -92,6 +93,23 @@ module _ (hold : RunsHold) where
   pub answering_bounded : (words : List (List ℕ)) (files : Option Files) (done : Service) → (answering words files).gives done → IsBounded done
   unfolding in_row
   answering_bounded words files done (command, asks, gives) = serving_bounded files command done gives
+
+-- ---- what a check tells
+
+module _ (of_text : TextsHold) (met : AllMet) where
+  serving_borne_out : (files : Option Files) (command : Command) (done : Service) → (serving files command).gives done → IsBorneOut done
+  unfolding in_row
+  serving_borne_out files (Run name until inputs script) done (unit, made, (supply, supplied, (lists, listed, (said, told, (paced, fits, is))))) = subst IsBorneOut (sym is) tt
+  serving_borne_out files (Check name until) done (unit, made, (supply, supplied, is)) =
+      let its = supply_is met unit until supply (compiled of_text files name unit made) supplied in
+      subst IsBorneOut (sym is) (supply.graphs, its.drawn, its.rated, its.met)
+  serving_borne_out files (Graph name) done (unit, made, (graphs, drawn, (costs, found, is))) = subst IsBorneOut (sym is) tt
+  serving_borne_out files (Make seed) done is = subst IsBorneOut (sym is) tt
+  serving_borne_out files (Trial seed until) done (unit, made, (supply, supplied, (paced, fits, is))) = subst IsBorneOut (sym is) tt
+
+  pub answering_borne_out : (words : List (List ℕ)) (files : Option Files) (done : Service) → (answering words files).gives done → IsBorneOut done
+  unfolding in_row
+  answering_borne_out words files done (command, asks, gives) = serving_borne_out files command done gives
 
 -- ---- what is accepted
 

@@ -14,7 +14,8 @@ use Rattle.psy_run.specs.Answer.{translating, supplying, following, trying}
 use Rattle.psy_run.specs.Courses.{Course, in_row}
 use Rattle.psy_run.specs.Outcome.{Halts, halts_refused, halts_unread, halts_memory, Says, TookLimit, IsPastLimit}
 use Rattle.psy_run.specs.Refusals.{status_of, line_of, file_name}
-use Rattle.psy_run.specs.Steps.{lexing, parsing, graphing, sizing, windowing, demanding, stating, directing, pacing}
+use Rattle.psy_run.specs.Extents.{length_of as top_of}
+use Rattle.psy_run.specs.Steps.{lexing, parsing, graphing, sizing, rating, extending, windowing, demanding, stating, directing, pacing}
 
 -- ---- courses that read no file
 
@@ -47,8 +48,10 @@ supplying_never_long unit until =
     never_long_then (graphing unit) _ (graphing_never_long unit)
     (λ graphs. never_long_then (following unit) _ (λ file stops. stops)
     (λ nexts. never_long_then (sizing unit nexts) _ (λ file stops. stops)
-    (λ sizes. never_long_then (windowing graphs until) _ (λ file stops. not_cells file stops.0)
-    (λ few. never_long_then (demanding unit graphs until) _ (λ file stops. stops) (λ done file stops. stops)))))
+    (λ sizes. never_long_then (rating graphs) _ (λ file stops. stops)
+    (λ lines. never_long_then (extending unit lines until) _ (λ file stops. stops)
+    (λ extent. never_long_then (windowing graphs (top_of extent)) _ (λ file stops. not_cells file stops.0)
+    (λ few. never_long_then (demanding unit graphs (top_of extent)) _ (λ file stops. stops) (λ done file stops. stops)))))))
 
 pub pacing_never_long : (unit : Whole) (until : ℕ) → IsNeverLong (pacing unit until)
 pacing_never_long unit until file stops = not_cycles file stops.0

@@ -128,7 +128,7 @@ tried_leaves kernel now (is, plan) over =
 -- What is served leaves something
 pub some_left : (done : Served) → CanServe done → (left : Option Progress) × Leaves (service_of done) left
 some_left (served.Ran kernel) can = (Some (ended kernel), ran_leaves kernel (ended kernel) can refl)
-some_left (served.Checked unit sizes until) can = (None, refl)
+some_left (served.Checked unit sizes lines extent) can = (None, refl)
 some_left (served.Drawn unit graphs costs) can = (None, refl)
 some_left (served.Made text) can = (None, refl)
 some_left (served.Tried kernel) can = (Some (ended kernel), tried_leaves kernel (ended kernel) can refl)
@@ -171,7 +171,7 @@ is_no_script unit = record {
 -- What is served keeps its bounds
 pub is_bounded : Keeps → (done : Served) → CanServe done → IsBounded (service_of done)
 is_bounded keeps (served.Ran kernel) (is, plan, are, script) = keeps kernel.plan kernel.inputs kernel.script plan are script
-is_bounded keeps (served.Checked unit sizes until) can = tt
+is_bounded keeps (served.Checked unit sizes lines extent) can = tt
 is_bounded keeps (served.Drawn unit graphs costs) can = tt
 is_bounded keeps (served.Made text) can = tt
 is_bounded keeps (served.Tried kernel) (is, plan) = keeps kernel.plan (no_inputs kernel.plan.unit) no_script plan (are_no_inputs kernel.plan.unit) (is_no_script kernel.plan.unit)

@@ -9,11 +9,12 @@ use Rattle.psy_run.specs.declared.refusal.File.TheVariants as file
 use Rattle.psy_run.specs.Answer.{Answers, refused, served, answering, serving, translating, compiling, supplying, listing, scripting, running, checking, drawing, making, trying}
 use Rattle.psy_run.specs.Asked.{Command, Run, Check, Graph as Draw, Make, Trial}
 use Rattle.psy_run.specs.Courses.{in_row}
+use Rattle.psy_run.specs.Extents.{length_of}
 use Rattle.psy_run.specs.Refusals.{status_of, line_of}
 use Rattle.psy_run.specs.Services.{Ran, Checked, Drawn, Made, Tried, no_inputs, no_script, text_of}
 use Rattle.psy_run.proofs.AskingForms.{one_asking}
 use Rattle.psy_run.proofs.Courses.{IsOne, one_pure, one_then}
-use Rattle.psy_run.proofs.OneStep.{StepsAgree, TextsHold, one_reading, one_lexing, one_parsing, one_resolving, one_graphing, one_sizing, one_costing, one_windowing, one_demanding, one_following, one_stating, one_directing, one_pacing}
+use Rattle.psy_run.proofs.OneStep.{StepsAgree, TextsHold, one_reading, one_lexing, one_parsing, one_resolving, one_graphing, one_sizing, one_costing, one_rating, one_extending, one_windowing, one_demanding, one_following, one_stating, one_directing, one_pacing}
 
 -- A program of a short text is one of a text.
 pub translated : TextsHold → (bytes : List ℕ) (unit : Whole) → length bytes ≤ FILE_BYTES → (translating bytes).gives unit → IsOfText unit
@@ -38,9 +39,11 @@ module _ (agree : StepsAgree) (files : Files) where
   one_supplying unit until of = one_then _ _ (one_graphing agree unit of) (λ graphs drawn.
       one_then _ _ (one_following agree unit) (λ nexts follow.
       one_then _ _ (one_sizing agree unit graphs nexts of drawn follow) (λ sizes sized.
-      one_then _ _ (one_windowing graphs until) (λ few held.
-      one_then _ _ (one_demanding unit graphs until) (λ done feasible.
-      one_pure (record { graphs = graphs; nexts = nexts; sizes = sizes }))))))
+      one_then _ _ (one_rating agree graphs) (λ lines rated.
+      one_then _ _ (one_extending unit lines until) (λ extent looked.
+      one_then _ _ (one_windowing graphs (length_of extent)) (λ few held.
+      one_then _ _ (one_demanding unit graphs (length_of extent)) (λ done feasible.
+      one_pure (record { graphs = graphs; nexts = nexts; sizes = sizes; lines = lines; extent = extent }))))))))
 
   one_listing : (unit : Whole) (inputs : Option (List ℕ)) → IsOne (listing (Some files) unit inputs)
   one_listing unit None = one_pure (no_inputs unit)
@@ -61,7 +64,7 @@ module _ (agree : StepsAgree) (files : Files) where
   one_checking : (name : List ℕ) (until : ℕ) → IsOne (checking (Some files) name until)
   one_checking name until = one_then _ _ (one_compiling name) (λ unit made.
       one_then _ _ (one_supplying unit until (compiled agree.of_text (Some files) name unit made)) (λ supply supplied.
-      one_pure (Checked unit supply.sizes until)))
+      one_pure (Checked unit supply.sizes supply.lines supply.extent)))
 
   one_drawing : (name : List ℕ) → IsOne (drawing (Some files) name)
   one_drawing name = one_then _ _ (one_compiling name) (λ unit made.

@@ -31,6 +31,8 @@ use Rattle.psy_graph.specs.Graphs.{AreGraphs, IsCause, IsTimingOf}
 use Rattle.psy_sizes.specs.declared.fault.SizeFault.{SizeFault}
 use Rattle.psy_sizes.specs.Faults.{CanCount, IsFaultBy}
 use Rattle.psy_make.specs.Text.{made_text}
+use Rattle.psy_rate.specs.declared.line.Rate.{Rate}
+use Rattle.psy_rate.specs.Lines.{IsRateOf, AreRates}
 use Rattle.psy_script.specs.declared.fault.LineKind.{LineKind}
 use Rattle.psy_script.specs.Faults.{Judge, Fault, IsLawful, IsFirst, HasManyLines}
 use Rattle.psy_script.specs.Inputs.{AreListsOf, inputs_judge}
@@ -40,8 +42,11 @@ use Rattle.psy_run.specs.declared.refusal.File.TheVariants.{Inputs, Script}
 use Rattle.psy_run.specs.declared.refusal.Refusal.{Refusal}
 use Rattle.psy_run.specs.declared.refusal.Refusal.TheVariants.{Lexical, Deep, Syntax, Rule, Many, Cells, Infeasible, Line, Lines, Cycles}
 use Rattle.psy_run.specs.Answer.{following}
+use Rattle.psy_run.specs.declared.extent.Extent.{Extent}
+use Rattle.psy_run.specs.declared.extent.Extent.TheVariants.{Horizon, LastDate}
+use Rattle.psy_run.specs.Extents.{IsExtent}
 use Rattle.psy_run.specs.Courses.{step}
-use Rattle.psy_run.specs.Steps.{reading, lexing, parsing, resolving, graphing, sizing, costing, AreCosts, windowing, HasCells, PassesCells, demanding, edges_of, stating, directing, pacing}
+use Rattle.psy_run.specs.Steps.{reading, lexing, parsing, resolving, graphing, sizing, costing, AreCosts, rating, extending, windowing, HasCells, PassesCells, demanding, edges_of, stating, directing, pacing}
 use Rattle.psy_run.proofs.Courses.{IsOne, one_unless}
 use Rattle.psy_run.proofs.RefusalLemmas.{lexical_is, unparsed_is, unlawful_is, undrawn_by, undrawn_is, unsized_by, unsized_is, overloaded_is}
 
@@ -75,6 +80,7 @@ pub record StepsAgree : Type 0 where
   pub sizes_or_fault : (unit : Whole) (graphs : List Graph) (nexts : List (List (List ℕ))) (sizes : Sizes) (fault : SizeFault) → IsOfText unit → AreGraphs unit graphs → AreAllNexts unit nexts → AreSizes unit nexts sizes → CanCount unit nexts → IsFaultBy unit nexts fault → ⊥
   pub size_fault : (unit : Whole) (graphs : List Graph) (nexts : List (List (List ℕ))) (fault other : SizeFault) → IsOfText unit → AreGraphs unit graphs → AreAllNexts unit nexts → IsFaultBy unit nexts fault → IsFaultBy unit nexts other → fault ≡ other
   pub cost : (unit : Whole) (number : ℕ) (agent : AgentDecl) (point cost other : ℕ) → IsAgentOf unit number agent → IsCut (HasCost unit.functions agent point) COST cost → IsCut (HasCost unit.functions agent point) COST other → cost ≡ other
+  pub line : (graph : List Edge) (line other : Rate) → IsRateOf graph line → IsRateOf graph other → line ≡ other
 
 -- ---- lists
 
@@ -205,6 +211,38 @@ module _ (agree : StepsAgree) where
   }
 
 -- ---- its demand
+
+one_lines : ((graph : List Edge) (line other : Rate) → IsRateOf graph line → IsRateOf graph other → line ≡ other) → (graphs : List (List Edge)) (lines others : List Rate) → AreRates graphs lines → AreRates graphs others → lines ≡ others
+one_lines one [] [] [] are are' = refl
+one_lines one [] [] (other ∷ others) are are' = absurd are'
+one_lines one [] (line ∷ lines) others are are' = absurd are
+one_lines one (graph ∷ graphs) [] others are are' = absurd are
+one_lines one (graph ∷ graphs) (line ∷ lines) [] are are' = absurd are'
+one_lines one (graph ∷ graphs) (line ∷ lines) (other ∷ others) are are' = λ i. one graph line other are.0 are'.0 i ∷ one_lines one graphs lines others are.1 are'.1 i
+
+pub one_rating : StepsAgree → (graphs : List Graph) → IsOne (rating graphs)
+one_rating agree graphs = record {
+  gift = one_lines agree.line (edges_of graphs);
+  stop = λ r s p q. absurd p;
+  apart = λ x r p q. q;
+}
+
+one_extent : (quantum until : ℕ) (lines : List Rate) (extent other : Extent) → IsExtent quantum lines until extent → IsExtent quantum lines until other → extent ≡ other
+one_extent quantum until lines (Horizon length) (Horizon less) (is, within) (is', within') =
+    let most = is.least less is'.covers in
+    let least = is'.least length is.covers in
+    let same : length ≡ less = omega (arith, most, least) in
+    ap Horizon same
+one_extent quantum until lines (Horizon length) (LastDate date) (is, within) (same, none) = let behind = none length is in absurd (omega (arith, within, behind))
+one_extent quantum until lines (LastDate date) (Horizon length) (same, none) (is, within) = let behind = none length is in absurd (omega (arith, within, behind))
+one_extent quantum until lines (LastDate date) (LastDate other) (same, none) (same', none') = ap LastDate (same ∙ sym same')
+
+pub one_extending : (unit : Whole) (lines : List Rate) (until : ℕ) → IsOne (extending unit lines until)
+one_extending unit lines until = record {
+  gift = one_extent unit.quantum until lines;
+  stop = λ r s p q. absurd p;
+  apart = λ x r p q. q;
+}
 
 pub one_windowing : (graphs : List Graph) (until : ℕ) → IsOne (windowing graphs until)
 one_windowing graphs until = one_unless (All (HasCells until) graphs) (Any (PassesCells until) graphs) Cells (λ all any.

@@ -7,12 +7,13 @@ use Rattle.psy_make.specs.Text.{made_text}
 use Rattle.psy_run.specs.declared.refusal.File.TheVariants as file
 use Rattle.psy_run.specs.Answer.{Answers, refused, served, answering, serving, translating, compiling, supplying, listing, scripting, running, checking, drawing, making, trying}
 use Rattle.psy_run.specs.Asked.{Command, Run, Check, Graph as Draw, Make, Trial}
+use Rattle.psy_run.specs.Extents.{length_of}
 use Rattle.psy_run.specs.Refusals.{status_of, line_of}
 use Rattle.psy_run.specs.Services.{Ran, Checked, Drawn, Made, Tried, no_inputs, no_script, text_of}
 use Rattle.psy_run.proofs.AskingForms.{some_asking}
 use Rattle.psy_run.proofs.Courses.{IsSome, some_pure, some_then}
 use Rattle.psy_run.proofs.OneAnswer.{translated, compiled}
-use Rattle.psy_run.proofs.SomeStep.{StepsEnd, some_reading, some_lexing, some_parsing, some_resolving, some_graphing, some_sizing, some_costing, some_windowing, some_demanding, some_following, some_stating, some_directing, some_pacing}
+use Rattle.psy_run.proofs.SomeStep.{StepsEnd, some_reading, some_lexing, some_parsing, some_resolving, some_graphing, some_sizing, some_costing, some_rating, some_extending, some_windowing, some_demanding, some_following, some_stating, some_directing, some_pacing}
 
 module _ (ends : StepsEnd) (files : Files) where
   some_translating : (bytes : List ℕ) → IsSome (translating bytes)
@@ -27,9 +28,11 @@ module _ (ends : StepsEnd) (files : Files) where
   some_supplying unit until of = some_then _ _ (some_graphing ends unit of) (λ graphs drawn.
       some_then _ _ (some_following ends unit of) (λ nexts follow.
       some_then _ _ (some_sizing ends unit graphs nexts of drawn follow) (λ sizes sized.
-      some_then _ _ (some_windowing graphs until) (λ few held.
-      some_then _ _ (some_demanding ends unit graphs until of drawn) (λ done feasible.
-      some_pure (record { graphs = graphs; nexts = nexts; sizes = sizes }))))))
+      some_then _ _ (some_rating ends unit graphs of drawn) (λ lines rated.
+      some_then _ _ (some_extending ends unit lines until) (λ extent looked.
+      some_then _ _ (some_windowing graphs (length_of extent)) (λ few held.
+      some_then _ _ (some_demanding ends unit graphs (length_of extent) of drawn) (λ done feasible.
+      some_pure (record { graphs = graphs; nexts = nexts; sizes = sizes; lines = lines; extent = extent }))))))))
 
   some_listing : (unit : Whole) (inputs : Option (List ℕ)) → IsSome (listing (Some files) unit inputs)
   some_listing unit None = some_pure (no_inputs unit)
@@ -50,7 +53,7 @@ module _ (ends : StepsEnd) (files : Files) where
   some_checking : (name : List ℕ) (until : ℕ) → IsSome (checking (Some files) name until)
   some_checking name until = some_then _ _ (some_compiling name) (λ unit made.
       some_then _ _ (some_supplying unit until (compiled ends.of_text (Some files) name unit made)) (λ supply supplied.
-      some_pure (Checked unit supply.sizes until)))
+      some_pure (Checked unit supply.sizes supply.lines supply.extent)))
 
   some_drawing : (name : List ℕ) → IsSome (drawing (Some files) name)
   some_drawing name = some_then _ _ (some_compiling name) (λ unit made.

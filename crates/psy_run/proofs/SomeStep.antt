@@ -3,7 +3,7 @@ use Rattle.std.proofs.Common.{◌≡◌, ◌∙◌, sym, subst, refl, ℕ, zero,
 use Rattle.std.specs.List.{All, Any}
 use Rattle.std.proofs.lemmas.Option.{same_Some, none-some}
 use Rattle.psy_base.specs.declared.edge.Edge.{Edge}
-use Rattle.psy_base.specs.declared.limits.TheConstants.{COST, FILE_BYTES, LINES, RUN, WINDOW_CELLS}
+use Rattle.psy_base.specs.declared.limits.TheConstants.{COST, EDGES, FILE_BYTES, LINES, RUN, WINDOW_CELLS}
 use Rattle.psy_base.specs.declared.sizes.Sizes.{Sizes}
 use Rattle.psy_base.specs.Paths.{FitsDueLast, IsGreatestWeight}
 use Rattle.psy_door.specs.Files.{Files, bytes_under}
@@ -25,7 +25,7 @@ use Rattle.psy_flow.specs.Agents.{IsAgentOf}
 use Rattle.psy_meaning.specs.BufferSizes.{AreSizes}
 use Rattle.psy_meaning.specs.Flow.{AreAllNexts, AreNexts, IsCut, HasCost}
 use Rattle.psy_meaning.specs.Units.{IsOfText}
-use Rattle.psy_meaning.proofs.Demands.{demand-some, feasible-or-overload}
+use Rattle.psy_meaning.proofs.Demands.{feasible-or-overload}
 use Rattle.psy_window.specs.declared.span.Span.{Span}
 use Rattle.psy_window.specs.declared.span.Span.TheVariants.{DueLast}
 use Rattle.psy_window.specs.Windows.{IsEdge, Fits}
@@ -47,10 +47,15 @@ use Rattle.psy_run.specs.declared.refusal.Refusal.{Refusal}
 use Rattle.psy_run.specs.declared.refusal.Refusal.TheVariants.{TooLong, Lexical, Syntax, Deep, Rule, Many, Nodes, Edges, Ring, Queue, Cells, Infeasible, Line, Lines, Cycles}
 use Rattle.psy_run.specs.Answer.{following}
 use Rattle.psy_run.specs.Courses.{step}
-use Rattle.psy_run.specs.Steps.{reading, lexing, parsing, resolving, graphing, IsUndrawn, IsUnsized, sizing, costing, AreCosts, windowing, HasCells, PassesCells, demanding, edges_of, stating, directing, pacing}
+use Rattle.psy_run.specs.declared.extent.Extent.TheVariants.{Horizon, LastDate}
+use Rattle.psy_rate.specs.declared.line.Rate.{Rate}
+use Rattle.psy_rate.specs.Horizons.{Covers, IsHorizonOf}
+use Rattle.psy_rate.specs.Lines.{IsRateOf, AreRates}
+use Rattle.psy_run.specs.Steps.{reading, lexing, parsing, resolving, graphing, IsUndrawn, IsUnsized, sizing, costing, AreCosts, rating, extending, windowing, HasCells, PassesCells, demanding, edges_of, stating, directing, pacing}
 use Rattle.psy_run.proofs.Courses.{IsSome, some_unless}
 use Rattle.psy_run.proofs.Decisions.{most_or_more, all_or_any, list_of}
 use Rattle.psy_run.proofs.OneStep.{IsUntold, TextsHold}
+use Rattle.psy_run.proofs.SupplyLemmas.{edges_fit, some_demand, no_horizon, nearer_is}
 use Rattle.std.proofs.lemmas.Option.{get_or_from_slice_get, slice_get_within}
 
 -- What the laws of the steps say of some end.
@@ -69,6 +74,8 @@ pub record StepsEnd : Type 0 where
   pub sizes_or_fault : (unit : Whole) (graphs : List Graph) (nexts : List (List (List ℕ))) → IsOfText unit → AreGraphs unit graphs → AreAllNexts unit nexts
       → ((sizes : Sizes) × AreSizes unit nexts sizes × CanCount unit nexts) ⊎ ((fault : SizeFault) × IsFaultBy unit nexts fault)
   pub greatest : (graph : List Edge) (nodes : ℕ) (span : Span) (within : ℕ) → All (IsEdge nodes) graph → (n : ℕ) × IsGreatestWeight graph (Fits span within) n
+  pub line : (graph : List Edge) (nodes : ℕ) → All (IsEdge nodes) graph → length graph ≤ EDGES → (line : Rate) × IsRateOf graph line
+  pub horizon : (quantum : ℕ) (lines : List Rate) → ((length : ℕ) × IsHorizonOf quantum lines length) ⊎ ((length : ℕ) → Covers quantum lines length → ⊥)
 
 -- ---- the file
 
@@ -97,11 +104,13 @@ unsized unit nexts (size.Cells stream) is = (Cells, (stream, is))
 unsized unit nexts (size.LargeQueue stream) is = (Queue, (stream, is))
 unsized unit nexts size.Memory never = absurd never
 
--- The graph of an edge list
-graph_at : (graphs : List Graph) (number : ℕ) (edges : List Edge) → slice_get (edges_of graphs) number ≡ Some edges → (graph : Graph) × (slice_get graphs number ≡ Some graph) × (graph.edges ≡ edges)
-graph_at [] number edges at = absurd (none-some edges at)
-graph_at (graph ∷ graphs) zero edges at = (graph, refl, same_Some graph.edges edges at)
-graph_at (graph ∷ graphs) (suc number) edges at = graph_at graphs number edges at
+-- Graphs have lines where each has one.
+lines_some : (graphs : List (List Edge)) → ((number : ℕ) (edges : List Edge) → slice_get graphs number ≡ Some edges → (line : Rate) × IsRateOf edges line) → (lines : List Rate) × AreRates graphs lines
+lines_some [] each = ([], tt)
+lines_some (graph ∷ graphs) each =
+    let first = each 0 graph refl in
+    let others = lines_some graphs (λ number edges at. each (suc number) edges at) in
+    (first.0 ∷ others.0, (first.1, others.1))
 
 module _ (ends : StepsEnd) where
   pub some_lexing : (bytes : List ℕ) → IsSome (lexing bytes)
@@ -175,16 +184,22 @@ module _ (ends : StepsEnd) where
     | inr cause ↦ inr (unsized unit nexts cause.0 cause.1)
   ]
 
-  -- each graph has a greatest weight of the paths that fit a length
-  some_weight : (unit : Whole) (graphs : List Graph) → IsOfText unit → AreGraphs unit graphs → (within number : ℕ) (edges : List Edge) → slice_get (edges_of graphs) number ≡ Some edges → (n : ℕ) × IsGreatestWeight edges (FitsDueLast within) n
-  some_weight unit graphs of are within number edges at =
-      let (graph, its, same) = graph_at graphs number edges at in
-      let fit = subst (λ g. All (IsEdge (length g.nodes)) g.edges) (get_or_from_slice_get graphs number graph graph its) (ends.edges unit graphs of are number graph (slice_get_within graphs number graph its)) in
-      subst (λ es. (n : ℕ) × IsGreatestWeight es (FitsDueLast within) n) same (ends.greatest graph.edges (length graph.nodes) DueLast within fit)
+  pub some_rating : (unit : Whole) (graphs : List Graph) → IsOfText unit → AreGraphs unit graphs → IsSome (rating graphs)
+  some_rating unit graphs of are = inl (lines_some (edges_of graphs) (λ number edges at.
+      let (nodes, fit, few) = edges_fit ends.edges unit graphs of are number edges at in ends.line edges nodes fit few))
+
+  pub some_extending : (unit : Whole) (lines : List Rate) (until : ℕ) → IsSome (extending unit lines until)
+  some_extending unit lines until = elim (ends.horizon unit.quantum lines) [
+    | inl (horizon, is) ↦ elim (most_or_more horizon until) [
+      | inl within ↦ inl (Horizon horizon, (is, within))
+      | inr behind ↦ inl (LastDate until, nearer_is unit.quantum until horizon lines (LastDate until) is (refl, behind))
+    ]
+    | inr none ↦ inl (LastDate until, no_horizon unit.quantum until lines none)
+  ]
 
   pub some_demanding : (unit : Whole) (graphs : List Graph) (until : ℕ) → IsOfText unit → AreGraphs unit graphs → IsSome (demanding unit graphs until)
   some_demanding unit graphs until of are =
-      elim (feasible-or-overload (edges_of graphs) unit.quantum until (λ within above below. demand-some (edges_of graphs) within (some_weight unit graphs of are within))) [
+      elim (feasible-or-overload (edges_of graphs) unit.quantum until (λ within above below. some_demand ends.edges unit graphs of are ends.greatest within)) [
         | inl feasible ↦ inl (tt, feasible)
         | inr over ↦ inr (Infeasible over.0 over.1 (unit.quantum * over.0), (over.2, refl))
       ]

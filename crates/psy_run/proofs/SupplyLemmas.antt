@@ -1,8 +1,10 @@
--- What the steps on action graphs come to: the graphs, the lists of weights, the demand.
-use Rattle.std.proofs.Common.{◌≡◌, ◌∙◌, ◌⊎◌, inl, inr, refl, sym, subst, ℕ, zero, suc, ◌+◌, ◌^◌, ◌<◌, List, [], ◌∷◌, length, get_or, slice_get, slice_index, Some, All, Any, arith, Result, Ok, Err}
+-- What the steps on action graphs come to: the graphs, the lines, the lists of weights, the demand.
+use Rattle.std.proofs.Common.{◌≡◌, ◌∙◌, ◌⊎◌, inl, inr, refl, sym, subst, ℕ, zero, suc, ◌+◌, ◌*◌, ◌^◌, ◌<◌, ◌≤◌, List, [], ◌∷◌, length, get_or, slice_get, slice_index, Some, All, Any, arith, Result, Ok, Err}
 use Rattle.std.proofs.lemmas.List.{length-map}
-use Rattle.std.proofs.lemmas.Option.{slice_get-get_or}
+use Rattle.std.proofs.lemmas.List.Elements.{All-nil, All-cons, All-head}
+use Rattle.std.proofs.lemmas.Option.{slice_get-get_or, slice_get_within, get_or_from_slice_get}
 use Rattle.psy_base.specs.declared.edge.Edge.{Edge}
+use Rattle.psy_base.specs.declared.limits.TheConstants.{EDGES}
 use Rattle.psy_base.specs.declared.sizes.Sizes.{Sizes}
 use Rattle.psy_base.specs.Paths.{FitsDueLast, IsGreatestWeight}
 use Rattle.psy_tree.specs.declared.unit.Unit.{Unit as Whole}
@@ -13,20 +15,31 @@ use Rattle.psy_graph.specs.declared.fault.GraphFault.TheVariants as fault
 use Rattle.psy_graph.specs.declared.graph.Graph.{Graph}
 use Rattle.psy_graph.specs.Graphs.{AreGraphs, IsCause, IsSmall}
 use Rattle.psy_meaning.specs.BufferSizes.{AreSizes}
-use Rattle.psy_meaning.specs.Demand.{IsFeasible, IsOverload}
+use Rattle.psy_meaning.specs.Demand.{IsDemand, IsFeasible, IsOverload, Suffices}
+use Rattle.psy_meaning.specs.Units.{IsOfText}
 use Rattle.psy_meaning.specs.Flow.{AreAllNexts}
-use Rattle.psy_meaning.proofs.Demands.{AreGreatest, feasible-is, overload-is}
+use Rattle.psy_meaning.proofs.Demands.{AreGreatest, feasible-is, overload-is, demand-some, feasible-or-overload, feasible-no-overload, overload-one}
+use Rattle.psy_rate.specs.declared.line.Rate.{Rate}
+use Rattle.psy_rate.specs.Horizons.{Covers, IsHorizonOf, IsHorizon, AreFeasible, HaveDemands}
+use Rattle.psy_rate.specs.Lines.{IsRateOf, AreRates, AreAll}
 use Rattle.psy_sizes.specs.declared.fault.SizeFault.{SizeFault}
 use Rattle.psy_sizes.specs.declared.fault.SizeFault.TheVariants as size
 use Rattle.psy_sizes.specs.Faults.{IsCause as IsSizeCause}
-use Rattle.psy_run.specs.declared.refusal.Refusal.TheVariants.{Nodes, Edges, Ring, Queue, Cells}
+use Rattle.psy_window.specs.declared.span.Span.{Span}
+use Rattle.psy_window.specs.declared.span.Span.TheVariants.{DueLast}
+use Rattle.psy_window.specs.Windows.{IsEdge, Fits}
+use Rattle.psy_run.specs.declared.extent.Extent.{Extent}
+use Rattle.psy_run.specs.declared.extent.Extent.TheVariants.{Horizon, LastDate}
+use Rattle.psy_run.specs.declared.refusal.Refusal.TheVariants.{Nodes, Edges, Ring, Queue, Cells, Infeasible}
 use Rattle.psy_run.specs.declared.refusal.Stop.{Stop}
 use Rattle.psy_run.specs.declared.refusal.Stop.TheVariants as stop
 use Rattle.psy_run.specs.Answer.{Supply, supplying}
+use Rattle.psy_run.specs.Bounds.{IsMet}
 use Rattle.psy_run.specs.Courses.{in_row}
+use Rattle.psy_run.specs.Extents.{IsExtent, IsNearer, length_of as top_of}
 use Rattle.psy_run.specs.Outcome.{Halts, halts_refused, halts_memory}
-use Rattle.psy_run.specs.Steps.{graphing, sizing, windowing, demanding, edges_of, HasCells, PassesCells, IsUndrawn, IsUnsized}
-use Rattle.psy_run.specs.Tables.{AreAllWeights}
+use Rattle.psy_run.specs.Steps.{graphing, sizing, rating, extending, windowing, demanding, edges_of, HasCells, PassesCells, IsUndrawn, IsUnsized}
+use Rattle.psy_run.specs.Tables.{AreAllWeights, IsLine, AreLines}
 use Rattle.psy_run.proofs.Courses.{gives_then, halts_first, halts_later}
 use Rattle.psy_run.proofs.RowLemmas.{there}
 
@@ -57,6 +70,38 @@ unsized_queue unit f stream is (inr cause) nexts follow = (stream, subst (IsSize
 
 pub small_graphs : (unit : Whole) (graphs : List Graph) → AreGraphs unit graphs → All IsSmall graphs
 small_graphs unit graphs are k d less = (are.each k (get_or graphs k d) (slice_get-get_or graphs k d less)).3
+
+-- ---- lines
+
+pub are_rates : (graphs : List Graph) (lines : List Rate) → AreLines graphs lines → AreRates (edges_of graphs) lines
+are_rates [] [] are = tt
+are_rates [] (line ∷ lines) are = absurd (omega (arith, are.count))
+are_rates (graph ∷ graphs) [] are = absurd (omega (arith, are.count))
+are_rates (graph ∷ graphs) (line ∷ lines) are =
+    ((are.each 0 graph line refl refl).its, are_rates graphs lines (record { count = omega (arith, are.count); each = λ i. are.each (suc i) }))
+
+module _ (graphs : List Graph) (lines : List Rate) (are : AreLines graphs lines) where
+  line_at : (k : ℕ) (d : Rate) → k < length lines → (graph : Graph) × IsLine graph (get_or lines k d)
+  line_at k d less =
+      let graph = there graphs k (omega (arith, less, are.count)) in
+      (graph.0, are.each k graph.0 (get_or lines k d) graph.1 (slice_get-get_or lines k d less))
+
+  pub all_rates_small : All (λ line. line.rate ≤ 2 ^ 40) lines
+  all_rates_small k d less = (line_at k d less).1.rate
+
+  pub all_intercepts_small : All (λ line. line.intercept < 2 ^ 50) lines
+  all_intercepts_small k d less = (line_at k d less).1.intercept
+
+-- ---- up to which length the demand is looked at
+
+-- Without a horizon it is looked at up to the last date.
+pub no_horizon : (quantum until : ℕ) (lines : List Rate) → ((length : ℕ) → Covers quantum lines length → ⊥) → IsExtent quantum lines until (LastDate until)
+no_horizon quantum until lines none = (refl, λ length is. absurd (none length is.covers))
+
+-- With one, up to which of both comes first
+pub nearer_is : (quantum until horizon : ℕ) (lines : List Rate) (extent : Extent) → IsHorizonOf quantum lines horizon → IsNearer horizon until extent → IsExtent quantum lines until extent
+nearer_is quantum until horizon lines (Horizon length) is (same, within) = (subst (IsHorizonOf quantum lines) (sym same) is, omega (arith, same, within))
+nearer_is quantum until horizon lines (LastDate date) is (same, behind) = (same, λ length other. let least : horizon ≤ length = is.least length other.covers in omega (arith, behind, least))
 
 -- ---- lists of weights
 
@@ -98,42 +143,139 @@ pub demand_passes : (until quantum within passed : ℕ) (graphs : List Graph) (l
 demand_passes until quantum within passed graphs lists are (above, below, is, passes, least) =
     overload-is (edges_of graphs) lists quantum until within passed (are.count ∙ sym (length-map graphs (λ graph. graph.edges))) (are_greatest until graphs lists are) above below is passes least
 
+-- The graph of a list of edges is one of the text's, so its edges lead from node to node; and they are few.
+module _ (edges : (unit : Whole) (graphs : List Graph) → IsOfText unit → AreGraphs unit graphs → All (λ graph. All (IsEdge (length graph.nodes)) graph.edges) graphs)
+    (unit : Whole) (graphs : List Graph) (text : IsOfText unit) (are : AreGraphs unit graphs) where
+  pub edges_fit : (number : ℕ) (list : List Edge) → slice_get (edges_of graphs) number ≡ Some list → (nodes : ℕ) × All (IsEdge nodes) list × (length list ≤ EDGES)
+  edges_fit number list at =
+      let (graph, its, same) = edges_at graphs number list at in
+      let less : number < length graphs = slice_get_within graphs number graph its in
+      let here = get_or_from_slice_get graphs number graph graph its in
+      let fit = subst (λ g. All (IsEdge (length g.nodes)) g.edges) here (edges unit graphs text are number graph less) in
+      let few : length graph.edges ≤ EDGES = subst (λ g. length g.edges ≤ EDGES) here (small_graphs unit graphs are number graph less).1 in
+      subst (λ es. (nodes : ℕ) × All (IsEdge nodes) es × (length es ≤ EDGES)) same (length graph.nodes, fit, few)
+
+  module _ (greatest : (graph : List Edge) (nodes : ℕ) (span : Span) (within : ℕ) → All (IsEdge nodes) graph → (n : ℕ) × IsGreatestWeight graph (Fits span within) n) where
+    -- each graph has a greatest weight of the paths that fit a length
+    pub some_weight : (within number : ℕ) (list : List Edge) → slice_get (edges_of graphs) number ≡ Some list → (n : ℕ) × IsGreatestWeight list (FitsDueLast within) n
+    some_weight within number list at = let (nodes, fit, few) = edges_fit number list at in greatest list nodes DueLast within fit
+
+    -- so the demand over each length is there
+    pub some_demand : (within : ℕ) → (demand : ℕ) × IsDemand (edges_of graphs) within demand
+    some_demand within = demand-some (edges_of graphs) within (some_weight within)
+
+-- ---- other lengths
+
+-- What the laws say of lines and demands
+pub record LinesHold : Type 0 where
+  pub every : (groups : List (List (List Edge))) (lines : List (List Rate)) (quantum horizon : ℕ) → HaveDemands groups → AreAll groups lines → IsHorizon quantum lines horizon → AreFeasible groups quantum horizon
+      → (top : ℕ) → AreFeasible groups quantum top
+  pub edges : (unit : Whole) (graphs : List Graph) → IsOfText unit → AreGraphs unit graphs → All (λ graph. All (IsEdge (length graph.nodes)) graph.edges) graphs
+  pub greatest : (graph : List Edge) (nodes : ℕ) (span : Span) (within : ℕ) → All (IsEdge nodes) graph → (n : ℕ) × IsGreatestWeight graph (Fits span within) n
+
+-- The one item of a list
+one_item : {X : Type 0} (P : X → Type 0) (x : X) → P x → All P (x ∷ [])
+one_item P x is = All-cons P x [] is (All-nil P)
+
+module _ (hold : LinesHold) (unit : Whole) (graphs : List Graph) (lines : List Rate) (until : ℕ) (text : IsOfText unit) (drawn : AreGraphs unit graphs) (rated : AreRates (edges_of graphs) lines) where
+  demands : (within : ℕ) → (demand : ℕ) × IsDemand (edges_of graphs) within demand
+  demands = some_demand hold.edges unit graphs text drawn hold.greatest
+
+  -- Where the demand is supplied up to the horizon, it is over every length.
+  always_met : (horizon : ℕ) → IsHorizonOf unit.quantum lines horizon → IsFeasible (edges_of graphs) unit.quantum horizon → (top : ℕ) → IsFeasible (edges_of graphs) unit.quantum top
+  always_met horizon is feasible top within some most =
+      let own : (own : ℕ) × IsHorizonOf unit.quantum lines own × (own ≤ horizon) = (horizon, is, omega arith) in
+      let horizons : IsHorizon unit.quantum (lines ∷ []) horizon = record {
+        each = one_item (λ ls. (own : ℕ) × IsHorizonOf unit.quantum ls own × (own ≤ horizon)) lines own;
+        one = inr (lines, (0, omega arith, refl), is);
+      } in
+      let have = one_item (λ gs. (length : ℕ) → (demand : ℕ) × IsDemand gs length demand) (edges_of graphs) demands in
+      All-head (λ gs. Suffices gs unit.quantum within) (edges_of graphs) []
+      (hold.every (edges_of graphs ∷ []) (lines ∷ []) unit.quantum horizon have (rated, tt) horizons
+      (λ length above below. one_item (λ gs. Suffices gs unit.quantum length) (edges_of graphs) (feasible length above below)) top within some most)
+
+  -- What is supplied up to the length that is looked at is supplied up to the last date, and the verdict is true.
+  pub looked_met : (extent : Extent) → IsExtent unit.quantum lines until extent → IsFeasible (edges_of graphs) unit.quantum (top_of extent) → IsFeasible (edges_of graphs) unit.quantum until × IsMet unit graphs extent
+  looked_met (Horizon horizon) (is, within) feasible = (always_met horizon is feasible until, always_met horizon is feasible)
+  looked_met (LastDate date) (same, none) feasible = (subst (IsFeasible (edges_of graphs) unit.quantum) same feasible, feasible)
+
+  -- The least length over which it isn't is the same up to both.
+  pub looked_overload : (within demand : ℕ) (extent : Extent) → IsExtent unit.quantum lines until extent → IsOverload (edges_of graphs) unit.quantum (top_of extent) within demand → IsOverload (edges_of graphs) unit.quantum until within demand
+  looked_overload within demand (Horizon horizon) (is, near) over =
+      record { some = over.some; within = omega (arith, over.within, near); is_demand = over.is_demand; passes = over.passes; least = over.least }
+  looked_overload within demand (LastDate date) (same, none) over = subst (λ top. IsOverload (edges_of graphs) unit.quantum top within demand) same over
+
+  pub overload_looked : (within demand : ℕ) (extent : Extent) → IsExtent unit.quantum lines until extent → IsOverload (edges_of graphs) unit.quantum until within demand → IsOverload (edges_of graphs) unit.quantum (top_of extent) within demand
+  overload_looked within demand (LastDate date) (same, none) over = subst (λ top. IsOverload (edges_of graphs) unit.quantum top within demand) (sym same) over
+  overload_looked within demand (Horizon horizon) (is, near) over =
+      elim (feasible-or-overload (edges_of graphs) unit.quantum horizon (λ length above below. demands length)) [
+        | inl feasible ↦ absurd (feasible-no-overload (edges_of graphs) unit.quantum until within demand (always_met horizon is feasible until) over)
+        | inr (least, passed, first) ↦ (
+            let same = overload-one (edges_of graphs) unit.quantum until least within passed demand (looked_overload least passed (Horizon horizon) (is, near) first) over in
+            subst (λ length. IsOverload (edges_of graphs) unit.quantum horizon length demand) same.0 (subst (IsOverload (edges_of graphs) unit.quantum horizon least) same.1 first))
+      ]
+
 -- ---- the chain
 
 module _ (unit : Whole) (until : ℕ) (failed : List ℕ) (before after : ℕ) (s : Stop) where
   pub supply_undrawn : Halts (graphing unit) failed before after s → Halts (supplying unit until) failed before after s
   supply_undrawn halts = halts_first _ _ failed before after s halts
 
-  module _ (graphs : List Graph) (nexts : List (List (List ℕ))) where
-    pub supply_unsized : AreGraphs unit graphs → AreAllNexts unit nexts → Halts (sizing unit nexts) failed before after s → Halts (supplying unit until) failed before after s
-    supply_unsized are follow halts = halts_later _ _ failed before after graphs s are (halts_later _ _ failed before after nexts s follow (halts_first _ _ failed before after s halts))
+  module _ (graphs : List Graph) (nexts : List (List (List ℕ))) (are : AreGraphs unit graphs) (follow : AreAllNexts unit nexts) where
+    pub supply_unsized : Halts (sizing unit nexts) failed before after s → Halts (supplying unit until) failed before after s
+    supply_unsized halts = halts_later _ _ failed before after graphs s are (halts_later _ _ failed before after nexts s follow (halts_first _ _ failed before after s halts))
 
-    module _ (sizes : Sizes) where
-      pub supply_unwindowed : AreGraphs unit graphs → AreAllNexts unit nexts → (sizing unit nexts).gives sizes → Halts (windowing graphs until) failed before after s → Halts (supplying unit until) failed before after s
-      supply_unwindowed are follow sized halts =
-          halts_later _ _ failed before after graphs s are (halts_later _ _ failed before after nexts s follow (halts_later _ _ failed before after sizes s sized (halts_first _ _ failed before after s halts)))
-
-      pub supply_overloaded : AreGraphs unit graphs → AreAllNexts unit nexts → (sizing unit nexts).gives sizes → All (HasCells until) graphs → Halts (demanding unit graphs until) failed before after s → Halts (supplying unit until) failed before after s
-      supply_overloaded are follow sized cells halts =
+    module _ (sizes : Sizes) (lines : List Rate) (extent : Extent) (sized : (sizing unit nexts).gives sizes) (rated : AreRates (edges_of graphs) lines) (looked : IsExtent unit.quantum lines until extent) where
+      pub supply_unwindowed : Halts (windowing graphs (top_of extent)) failed before after s → Halts (supplying unit until) failed before after s
+      supply_unwindowed halts =
           halts_later _ _ failed before after graphs s are (halts_later _ _ failed before after nexts s follow (halts_later _ _ failed before after sizes s sized
-          (halts_later _ _ failed before after tt s cells (halts_first _ _ failed before after s halts))))
+          (halts_later _ _ failed before after lines s rated (halts_later _ _ failed before after extent s looked (halts_first _ _ failed before after s halts)))))
 
-pub supply_gives : (unit : Whole) (until : ℕ) (supply : Supply) → AreGraphs unit supply.graphs → AreAllNexts unit supply.nexts → (sizing unit supply.nexts).gives supply.sizes → All (HasCells until) supply.graphs
-    → IsFeasible (edges_of supply.graphs) unit.quantum until → (supplying unit until).gives supply
-supply_gives unit until supply are follow sized cells feasible =
-    gives_then _ _ supply.graphs supply are (gives_then _ _ supply.nexts supply follow (gives_then _ _ supply.sizes supply sized (gives_then _ _ tt supply cells (gives_then _ _ tt supply feasible refl))))
+      pub supply_overloaded : All (HasCells (top_of extent)) graphs → Halts (demanding unit graphs (top_of extent)) failed before after s → Halts (supplying unit until) failed before after s
+      supply_overloaded cells halts =
+          halts_later _ _ failed before after graphs s are (halts_later _ _ failed before after nexts s follow (halts_later _ _ failed before after sizes s sized
+          (halts_later _ _ failed before after lines s rated (halts_later _ _ failed before after extent s looked (halts_later _ _ failed before after tt s cells (halts_first _ _ failed before after s halts))))))
+
+pub supply_gives : (unit : Whole) (until : ℕ) (supply : Supply) → AreGraphs unit supply.graphs → AreAllNexts unit supply.nexts → (sizing unit supply.nexts).gives supply.sizes → AreRates (edges_of supply.graphs) supply.lines
+    → IsExtent unit.quantum supply.lines until supply.extent → All (HasCells (top_of supply.extent)) supply.graphs → IsFeasible (edges_of supply.graphs) unit.quantum (top_of supply.extent) → (supplying unit until).gives supply
+supply_gives unit until supply are follow sized rated looked cells feasible =
+    gives_then _ _ supply.graphs supply are (gives_then _ _ supply.nexts supply follow (gives_then _ _ supply.sizes supply sized (gives_then _ _ supply.lines supply rated (gives_then _ _ supply.extent supply looked
+    (gives_then _ _ tt supply cells (gives_then _ _ tt supply feasible refl))))))
+
+-- What is supplied up to the length that is looked at is supplied up to the last date, and the verdict is true.
+abbrev pub AllMet : Type 0
+AllMet = (unit : Whole) (graphs : List Graph) (lines : List Rate) (until : ℕ) (extent : Extent) → IsOfText unit → AreGraphs unit graphs → AreRates (edges_of graphs) lines → IsExtent unit.quantum lines until extent
+    → IsFeasible (edges_of graphs) unit.quantum (top_of extent) → IsFeasible (edges_of graphs) unit.quantum until × IsMet unit graphs extent
 
 -- What a program has that is supplied
 pub record IsSupply (unit : Whole) (until : ℕ) (supply : Supply) : Type 0 where
   pub drawn : AreGraphs unit supply.graphs
   pub followed : AreAllNexts unit supply.nexts
   pub sized : AreSizes unit supply.nexts supply.sizes
+  pub rated : AreRates (edges_of supply.graphs) supply.lines
   pub feasible : IsFeasible (edges_of supply.graphs) unit.quantum until
+  pub met : IsMet unit supply.graphs supply.extent
 
-pub supply_is : (unit : Whole) (until : ℕ) (supply : Supply) → (supplying unit until).gives supply → IsSupply unit until supply
+pub supply_is : AllMet → (unit : Whole) (until : ℕ) (supply : Supply) → IsOfText unit → (supplying unit until).gives supply → IsSupply unit until supply
 unfolding in_row
-supply_is unit until supply (graphs, drawn, (nexts, followed, (sizes, sized, (few, held, (done, feasible, same))))) =
-    subst (IsSupply unit until) (sym same) (record { drawn = drawn; followed = followed; sized = sized.0; feasible = feasible })
+supply_is all_met unit until supply text (graphs, drawn, (nexts, followed, (sizes, sized, (lines, rated, (extent, looked, (few, held, (done, feasible, same))))))) =
+    let both = all_met unit graphs lines until extent text drawn rated looked feasible in
+    subst (IsSupply unit until) (sym same) (record { drawn = drawn; followed = followed; sized = sized.0; rated = rated; feasible = both.0; met = both.1 })
+
+-- Where the supply stops for the demand, the line tells the least length up to the last date over which it isn't supplied.
+pub supply_infeasible : LinesHold → (unit : Whole) (until length demand supply : ℕ) → IsOfText unit → (supplying unit until).stops (Infeasible length demand supply)
+    → (graphs : List Graph) × AreGraphs unit graphs × IsOverload (edges_of graphs) unit.quantum until length demand × (supply ≡ unit.quantum * length)
+unfolding in_row
+supply_infeasible hold unit until within demand supply text (inr (graphs, drawn, inr (nexts, followed, inr (sizes, sized, inr (lines, rated, inr (extent, looked, inr (few, held, inl (over, is)))))))) =
+    (graphs, drawn, looked_overload hold unit graphs lines until text drawn rated within demand extent looked over, is)
+supply_infeasible hold unit until within demand supply text (inl never) = absurd never
+supply_infeasible hold unit until within demand supply text (inr (graphs, drawn, inl never)) = absurd never
+supply_infeasible hold unit until within demand supply text (inr (graphs, drawn, inr (nexts, followed, inl never))) = absurd never
+supply_infeasible hold unit until within demand supply text (inr (graphs, drawn, inr (nexts, followed, inr (sizes, sized, inl never)))) = absurd never
+supply_infeasible hold unit until within demand supply text (inr (graphs, drawn, inr (nexts, followed, inr (sizes, sized, inr (lines, rated, inl never))))) = absurd never
+supply_infeasible hold unit until within demand supply text (inr (graphs, drawn, inr (nexts, followed, inr (sizes, sized, inr (lines, rated, inr (extent, looked, inl (cells, passes))))))) =
+    let no : Infeasible within demand supply ≡ Cells = cells in absurd cc
+supply_infeasible hold unit until within demand supply text (inr (graphs, drawn, inr (nexts, followed, inr (sizes, sized, inr (lines, rated, inr (extent, looked, inr (few, held, inr (done, fits, never)))))))) = absurd never
 
 -- ---- outcomes
 

@@ -6,7 +6,7 @@ use Rattle.psy_tree.specs.declared.unit.AgentDecl.{AgentDecl}
 use Rattle.psy_graph.specs.declared.graph.Graph.{Graph}
 use Rattle.psy_graph.specs.declared.graph.Node.{Node}
 use Rattle.psy_log.specs.Forms.{node_line}
-use Rattle.psy_run.specs.Texts.{nodes_text, agent_text, graph_text, sized_text}
+use Rattle.psy_run.specs.Texts.{nodes_text, agent_text, graph_text, paired_text}
 
 -- ---- texts of the items of one list
 
@@ -17,37 +17,37 @@ items_more text xs i x less =
 pub items_split : {X : Type 0} (text : X → List ℕ) (xs : List X) (n : ℕ) → flat_map text xs ≡ flat_map text (take n xs) ++ flat_map text (drop n xs)
 items_split text xs n = ap (flat_map text) (sym (take-append-drop n xs)) ∙ flat_map-append text (take n xs) (drop n xs)
 
--- ---- what is declared, with sizes
+-- ---- what is declared, with what was found of it
 
-module _ {X : Type 0} (line : X → ℕ → List ℕ) where
-  sizes_next : (xs : List X) (sizes : List ℕ) (i : ℕ) (x : X) (size : ℕ) → i < length xs → i < length sizes
-      → sized_text line (take (suc i) xs) (take (suc i) sizes) ≡ sized_text line (take i xs) (take i sizes) ++ line (get_or xs i x) (get_or sizes i size)
+module _ {X Y : Type 0} (line : X → Y → List ℕ) where
+  sizes_next : (xs : List X) (sizes : List Y) (i : ℕ) (x : X) (size : Y) → i < length xs → i < length sizes
+      → paired_text line (take (suc i) xs) (take (suc i) sizes) ≡ paired_text line (take i xs) (take i sizes) ++ line (get_or xs i x) (get_or sizes i size)
   sizes_next [] sizes i x size less less' = absurd (omega (arith, less))
   sizes_next (y ∷ ys) [] i x size less less' = absurd (omega (arith, less'))
   sizes_next (y ∷ ys) (s ∷ ss) zero x size less less' = append-nil (line y s)
   sizes_next (y ∷ ys) (s ∷ ss) (suc i) x size less less' =
       ap (λ rest. line y s ++ rest) (sizes_next ys ss i x size (omega (arith, less)) (omega (arith, less')))
-      ∙ sym (append_assoc (line y s) (sized_text line (take i ys) (take i ss)) (line (get_or ys i x) (get_or ss i size)))
+      ∙ sym (append_assoc (line y s) (paired_text line (take i ys) (take i ss)) (line (get_or ys i x) (get_or ss i size)))
 
-  pub sizes_more : (xs : List X) (sizes : List ℕ) (i : ℕ) (x : X) (size : ℕ) → i < length xs → i < length sizes
-      → sized_text line (take (i + 1) xs) (take (i + 1) sizes) ≡ sized_text line (take i xs) (take i sizes) ++ line (get_or xs i x) (get_or sizes i size)
+  pub sizes_more : (xs : List X) (sizes : List Y) (i : ℕ) (x : X) (size : Y) → i < length xs → i < length sizes
+      → paired_text line (take (i + 1) xs) (take (i + 1) sizes) ≡ paired_text line (take i xs) (take i sizes) ++ line (get_or xs i x) (get_or sizes i size)
   sizes_more xs sizes i x size less less' =
       let on : i + 1 ≡ suc i = omega arith in
-      ap (λ n. sized_text line (take n xs) (take n sizes)) on ∙ sizes_next xs sizes i x size less less'
+      ap (λ n. paired_text line (take n xs) (take n sizes)) on ∙ sizes_next xs sizes i x size less less'
 
-  no_sizes : (xs : List X) → sized_text line xs [] ≡ []
+  no_sizes : (xs : List X) → paired_text line xs [] ≡ []
   no_sizes [] = refl
   no_sizes (x ∷ xs) = refl
 
-  pub sizes_split : (xs : List X) (sizes : List ℕ) (n : ℕ) → sized_text line xs sizes ≡ sized_text line (take n xs) (take n sizes) ++ sized_text line (drop n xs) (drop n sizes)
+  pub sizes_split : (xs : List X) (sizes : List Y) (n : ℕ) → paired_text line xs sizes ≡ paired_text line (take n xs) (take n sizes) ++ paired_text line (drop n xs) (drop n sizes)
   sizes_split xs sizes zero = refl
   sizes_split [] sizes (suc n) = refl
   sizes_split (x ∷ xs) [] (suc n) = sym (no_sizes (drop n xs))
   sizes_split (x ∷ xs) (s ∷ ss) (suc n) =
-      ap (λ rest. line x s ++ rest) (sizes_split xs ss n) ∙ sym (append_assoc (line x s) (sized_text line (take n xs) (take n ss)) (sized_text line (drop n xs) (drop n ss)))
+      ap (λ rest. line x s ++ rest) (sizes_split xs ss n) ∙ sym (append_assoc (line x s) (paired_text line (take n xs) (take n ss)) (paired_text line (drop n xs) (drop n ss)))
 
   -- the text of as many as the shorter list has is the whole
-  pub sizes_all : (xs : List X) (sizes : List ℕ) (n : ℕ) → n ≡ min (length xs) (length sizes) → sized_text line (take n xs) (take n sizes) ≡ sized_text line xs sizes
+  pub sizes_all : (xs : List X) (sizes : List Y) (n : ℕ) → n ≡ min (length xs) (length sizes) → paired_text line (take n xs) (take n sizes) ≡ paired_text line xs sizes
   sizes_all [] sizes zero is = refl
   sizes_all [] sizes (suc n) is = refl
   sizes_all (x ∷ xs) [] zero is = refl

@@ -24,7 +24,8 @@ use Rattle.psy_run.specs.Courses.{Course, in_row}
 use Rattle.psy_run.specs.Outcome.{Halts, halts_refused, halts_unread, halts_memory, Seen, coming, IsUnread, MayAnswer, may_refuse, may_miss, may_serve, Ends, ends_memory, ends_said, ends_cut, Says}
 use Rattle.psy_run.specs.Refusals.{status_of, line_of, file_name}
 use Rattle.psy_run.specs.Services.{Service, Ran, Checked, Drawn, Made, Tried, HasRun, Leaves, no_inputs, no_script, text_of}
-use Rattle.psy_run.specs.Steps.{reading, lexing, parsing, graphing, sizing, costing, windowing, demanding, pacing}
+use Rattle.psy_run.specs.Extents.{length_of as top_of}
+use Rattle.psy_run.specs.Steps.{reading, lexing, parsing, graphing, sizing, costing, rating, extending, windowing, demanding, pacing}
 
 -- ---- the statuses of refusals
 
@@ -179,7 +180,10 @@ supplying_never unit until =
     never_then (graphing unit) _ (λ stops. stops)
     (λ graphs. never_then (following unit) _ (λ stops. stops)
     (λ nexts. never_then (sizing unit nexts) _ (λ stops. stops)
-    (λ sizes. never_then (windowing graphs until) _ (λ stops. apart Cells (λ e. absurd (omega arith)) stops.0) (λ done. never_then (demanding unit graphs until) _ (λ stops. stops) (λ again stops. stops)))))
+    (λ sizes. never_then (rating graphs) _ (λ stops. stops)
+    (λ lines. never_then (extending unit lines until) _ (λ stops. stops)
+    (λ extent. never_then (windowing graphs (top_of extent)) _ (λ stops. apart Cells (λ e. absurd (omega arith)) stops.0)
+    (λ done. never_then (demanding unit graphs (top_of extent)) _ (λ stops. stops) (λ again stops. stops)))))))
 
 listing_never : (files : Option Files) (unit : Whole) (inputs : Option (List ℕ)) → Never (listing files unit inputs)
 listing_never files unit None = λ stops. stops
@@ -267,7 +271,7 @@ over_at unit nexts sizes until inputs script p ran = by (p.dates == p.plan.until
 over_of : (done : Service) (left : Option Progress) → Leaves done left → IfSome left (λ kernel. stage_of kernel ≡ Over)
 over_of (Ran unit nexts sizes until inputs script) left (p, is, ran) = subst (λ l. IfSome l (λ kernel. stage_of kernel ≡ Over)) (sym is) (over_at unit nexts sizes until inputs script p ran)
 over_of (Tried unit nexts sizes until) left (p, is, ran) = subst (λ l. IfSome l (λ kernel. stage_of kernel ≡ Over)) (sym is) (over_at unit nexts sizes until (no_inputs unit) no_script p ran)
-over_of (Checked unit sizes until) left is = subst (λ l. IfSome l (λ kernel. stage_of kernel ≡ Over)) (sym is) tt
+over_of (Checked unit sizes lines extent) left is = subst (λ l. IfSome l (λ kernel. stage_of kernel ≡ Over)) (sym is) tt
 over_of (Drawn unit graphs costs) left is = subst (λ l. IfSome l (λ kernel. stage_of kernel ≡ Over)) (sym is) tt
 over_of (Made text) left is = subst (λ l. IfSome l (λ kernel. stage_of kernel ≡ Over)) (sym is) tt
 

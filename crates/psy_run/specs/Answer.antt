@@ -7,13 +7,17 @@ use Rattle.psy_meaning.specs.Flow.{AreAllNexts}
 use Rattle.psy_graph.specs.declared.graph.Graph.{Graph}
 use Rattle.psy_history.specs.declared.told.Script.{Script}
 use Rattle.psy_make.specs.Text.{made_text}
+use Rattle.psy_rate.specs.declared.line.Rate.{Rate}
+use Rattle.psy_run.specs.declared.extent.Extent.{Extent}
 use Rattle.psy_run.specs.declared.refusal.File.TheVariants as file
 use Rattle.psy_run.specs.declared.refusal.Refusal.{Refusal}
 use Rattle.psy_run.specs.Asked.{Command, Run, Check, Graph as Draw, Make, Trial}
 use Rattle.psy_run.specs.Courses.{Course, step, pure, ◌>>=◌}
+use Rattle.psy_run.specs.Extents.{length_of}
 use Rattle.psy_run.specs.Refusals.{status_of, line_of}
 use Rattle.psy_run.specs.Services.{Service, Ran, Checked, Drawn, Made, Tried, no_inputs, no_script, text_of}
-use Rattle.psy_run.specs.Steps.{asking, reading, lexing, parsing, resolving, graphing, sizing, costing, windowing, demanding, stating, directing, pacing}
+use Rattle.psy_run.specs.Steps.{asking, reading, lexing, parsing, resolving, graphing, sizing, costing, rating, extending, windowing, demanding, pacing}
+use Rattle.psy_run.specs.Steps.{stating, directing}
 
 -- ---- the commands
 
@@ -34,11 +38,14 @@ compiling files name = do
 abbrev pub following : Whole → Course (List (List (List ℕ)))
 following unit = step (AreAllNexts unit) (λ refusal. ⊥)
 
--- What a program that the processor can run has: its graphs, the points that follow each of its points, and the sizes of its buffers
+-- What a program that the processor can run has: its graphs, the points that follow each of its points, the sizes of its buffers, the lines above its
+-- agents' demands, and up to which length their demand was looked at
 pub record Supply : Type 0 where
   pub graphs : List Graph
   pub nexts : List (List (List ℕ))
   pub sizes : Sizes
+  pub lines : List Rate
+  pub extent : Extent
 
 -- That, where the processor can supply what the program's agents may demand up to this date
 abbrev pub supplying : Whole → ℕ → Course Supply
@@ -46,9 +53,11 @@ supplying unit until = do
   graphs ← graphing unit
   nexts ← following unit
   sizes ← sizing unit nexts
-  _ ← windowing graphs until
-  _ ← demanding unit graphs until
-  pure (record { graphs = graphs; nexts = nexts; sizes = sizes })
+  lines ← rating graphs
+  extent ← extending unit lines until
+  _ ← windowing graphs (length_of extent)
+  _ ← demanding unit graphs (length_of extent)
+  pure (record { graphs = graphs; nexts = nexts; sizes = sizes; lines = lines; extent = extent })
 
 -- By variable, the lists that the inputs file states; without a file there is none.
 abbrev pub listing : Option Files → Whole → Option (List ℕ) → Course (List (List ℤ))
@@ -79,7 +88,7 @@ abbrev pub checking : Option Files → List ℕ → ℕ → Course Service
 checking files name until = do
   unit ← compiling files name
   supply ← supplying unit until
-  pure (Checked unit supply.sizes until)
+  pure (Checked unit supply.sizes supply.lines supply.extent)
 
 -- `graph PROG`
 abbrev pub drawing : Option Files → List ℕ → Course Service

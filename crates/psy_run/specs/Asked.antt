@@ -5,7 +5,7 @@ use Rattle.psy_script.specs.Numbers.{number_of}
 use Rattle.psy_run.specs.declared.asked.Command.{Command as Read}
 use Rattle.psy_run.specs.declared.asked.Command.TheVariants as read
 
--- The word is a date up to which a program may run: a number of 1 to 12 digits, at most 100,000
+-- The word is a date up to which a program may run: a number of 1 to 12 digits, at most 1,000,000
 pub record IsDate (word : List ℕ) (date : ℕ) : Type 0 where
   pub value : number_of word ≡ Some date
   pub most : date ≤ UNTIL

@@ -1,4 +1,4 @@
--- What each run keeps, and its summary shows.
+-- What each run keeps, and its summary shows; and what a check tells.
 use Rattle.std.specs.Prelude.{◌≡◌, ℕ, ◌+◌, ◌*◌, ◌<◌, ◌≤◌, List, length, Some, get_or, ⊤, ℤ}
 use Rattle.std.specs.List.{Contains}
 use Rattle.psy_base.specs.declared.sizes.Sizes.{Sizes}
@@ -10,7 +10,14 @@ use Rattle.psy_history.specs.Summary.{most_held, reach}
 use Rattle.psy_history.specs.Scheduled.{IsFinished, turns_of}
 use Rattle.psy_history.specs.declared.told.Script.{Script}
 use Rattle.psy_history.specs.Scripts.{order_of}
-use Rattle.psy_run.specs.Services.{Service, Ran, Tried, meaning_of, no_inputs, no_script}
+use Rattle.psy_graph.specs.declared.graph.Graph.{Graph}
+use Rattle.psy_graph.specs.Graphs.{AreGraphs}
+use Rattle.psy_meaning.specs.Demand.{IsFeasible}
+use Rattle.psy_rate.specs.Lines.{AreRates}
+use Rattle.psy_run.specs.declared.extent.Extent.{Extent}
+use Rattle.psy_run.specs.declared.extent.Extent.TheVariants.{Horizon, LastDate}
+use Rattle.psy_run.specs.Services.{Service, Ran, Checked, Tried, meaning_of, no_inputs, no_script}
+use Rattle.psy_run.specs.Steps.{edges_of}
 
 -- A run up to a date keeps its bounds.
 pub record KeepsBounds (s : System) (order : ℕ → List ℕ) (sizes : Sizes) (until : ℕ) : Type 0 where
@@ -31,3 +38,14 @@ abbrev pub IsBounded : Service → Type 0
 IsBounded (Ran unit nexts sizes until inputs script) = KeepsBounds (meaning_of unit nexts inputs script) (order_of unit script) sizes until
 IsBounded (Tried unit nexts sizes until) = KeepsBounds (meaning_of unit nexts (no_inputs unit) no_script) (order_of unit no_script) sizes until
 IsBounded service = ⊤
+
+-- What the verdict of a check tells of the demand: where it was looked at up to the horizon, the processor supplies it over every length, whatever
+-- the last date; else over each length up to that date.
+abbrev pub IsMet : Whole → List Graph → Extent → Type 0
+IsMet unit graphs (Horizon length) = (top : ℕ) → IsFeasible (edges_of graphs) unit.quantum top
+IsMet unit graphs (LastDate date) = IsFeasible (edges_of graphs) unit.quantum date
+
+-- What a check tells is borne out: its lines are those of the agents' graphs, and their demand is met.
+abbrev pub IsBorneOut : Service → Type 0
+IsBorneOut (Checked unit sizes lines extent) = (graphs : List Graph) × AreGraphs unit graphs × AreRates (edges_of graphs) lines × IsMet unit graphs extent
+IsBorneOut service = ⊤

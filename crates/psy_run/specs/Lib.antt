@@ -5,11 +5,13 @@ pub mod Asked
 pub mod Bounds
 pub mod Courses
 pub mod Cuts
+pub mod Extents
 pub mod Outcome
 pub mod OwnLines
 pub mod Refusals
 pub mod Runs
 pub mod Services
 pub mod Steps
+pub mod Supplies
 pub mod Texts
 pub mod Tables

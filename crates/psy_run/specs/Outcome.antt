@@ -85,7 +85,7 @@ Says old now before after answer status text = ((answer ≡ status) × Grew old 
 abbrev pub CanServe : Served → Type 0
 CanServe (served.Ran kernel) = (kernel ≡ booted kernel.plan kernel.inputs kernel.script) × IsPlan kernel.plan × AreInputs kernel.plan.unit kernel.inputs
     × IsScript kernel.plan.unit kernel.script
-CanServe (served.Checked unit sizes until) = IsBare unit
+CanServe (served.Checked unit sizes lines extent) = IsBare unit
 CanServe (served.Drawn unit graphs costs) = IsBare unit × All IsSmall graphs
 CanServe (served.Made text) = ⊤
 CanServe (served.Tried kernel) = (kernel ≡ booted kernel.plan (no_inputs kernel.plan.unit) no_script) × IsPlan kernel.plan

@@ -10,15 +10,17 @@ use Rattle.psy_history.specs.declared.told.Script.{Script}
 use Rattle.psy_kernel.specs.Progress.{Progress, lines_told}
 use Rattle.psy_history.specs.Scripts.{order_of, stalls_of}
 use Rattle.psy_kernel.specs.Texts.{run_text, summary_of, text_of as lines_text}
+use Rattle.psy_rate.specs.declared.line.Rate.{Rate}
+use Rattle.psy_run.specs.declared.extent.Extent.{Extent}
 use Rattle.psy_run.specs.declared.served.Served.{Served}
 use Rattle.psy_run.specs.declared.served.Served.TheVariants as served
 use Rattle.psy_run.specs.Texts.{check_text, graph_text}
 
 -- What a command does: it runs a program, whose points may be followed by these and whose buffers have these sizes, up to a date, with
--- inputs and a script; it checks one; it draws its graphs; it makes the text of one; or it runs one that was made.
+-- inputs and a script; it checks one, with these lines above its demand; it draws its graphs; it makes the text of one; or it runs one that was made.
 pub data Service : Type 0 where
   Ran : (unit : Whole) (nexts : List (List (List ℕ))) (sizes : Sizes) (until : ℕ) (inputs : List (List ℤ)) (script : Script) → Service
-  Checked : (unit : Whole) (sizes : Sizes) (until : ℕ) → Service
+  Checked : (unit : Whole) (sizes : Sizes) (lines : List Rate) (extent : Extent) → Service
   Drawn : (unit : Whole) (graphs : List Graph) (costs : List (List ℕ)) → Service
   Made : (text : List ℕ) → Service
   Tried : (unit : Whole) (nexts : List (List (List ℕ))) (sizes : Sizes) (until : ℕ) → Service
@@ -42,7 +44,7 @@ meaning_of unit nexts inputs script = stated unit nexts (stalls_of script) input
 -- The text of what is done. That of a run is the one of the dated meaning, which knows no code and no schedule but for the summary.
 abbrev pub text_of : Service → List ℕ
 text_of (Ran unit nexts sizes until inputs script) = run_text (meaning_of unit nexts inputs script) (order_of unit script) sizes until
-text_of (Checked unit sizes until) = check_text unit sizes until
+text_of (Checked unit sizes lines extent) = check_text unit sizes lines extent
 text_of (Drawn unit graphs costs) = graph_text unit.agents graphs costs
 text_of (Made text) = text
 text_of (Tried unit nexts sizes until) = lines_text (summary_of (meaning_of unit nexts (no_inputs unit) no_script) (order_of unit no_script) sizes until)
@@ -74,7 +76,7 @@ Leaves service left = left ≡ None
 -- What was made ready for it: a kernel that was just booted, or what is written
 abbrev pub service_of : Served → Service
 service_of (served.Ran kernel) = Ran kernel.plan.unit kernel.plan.nexts kernel.plan.sizes kernel.plan.until kernel.inputs kernel.script
-service_of (served.Checked unit sizes until) = Checked unit sizes until
+service_of (served.Checked unit sizes lines extent) = Checked unit sizes lines extent
 service_of (served.Drawn unit graphs costs) = Drawn unit graphs costs
 service_of (served.Made text) = Made text.items
 service_of (served.Tried kernel) = Tried kernel.plan.unit kernel.plan.nexts kernel.plan.sizes kernel.plan.until

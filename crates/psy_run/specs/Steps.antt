@@ -22,6 +22,8 @@ use Rattle.psy_meaning.specs.Flow.{IsCut, HasCost}
 use Rattle.psy_graph.specs.declared.fault.GraphFault.TheVariants as fault
 use Rattle.psy_graph.specs.declared.graph.Graph.{Graph}
 use Rattle.psy_graph.specs.Graphs.{AreGraphs, IsCause}
+use Rattle.psy_rate.specs.declared.line.Rate.{Rate}
+use Rattle.psy_rate.specs.Lines.{AreRates}
 use Rattle.psy_sizes.specs.declared.fault.SizeFault.TheVariants as size
 use Rattle.psy_sizes.specs.Faults.{CanCount, IsFaultBy}
 use Rattle.psy_history.specs.declared.told.Script.{Script as Said}
@@ -35,6 +37,8 @@ use Rattle.psy_run.specs.declared.refusal.Refusal.TheVariants.{Words, TooLong, L
 use Rattle.psy_run.specs.declared.refusal.Refusal.TheVariants.{Infeasible, Line, Lines, Cycles}
 use Rattle.psy_run.specs.Asked.{Command, Asks, AskNothing}
 use Rattle.psy_run.specs.Courses.{Course, step, unless}
+use Rattle.psy_run.specs.declared.extent.Extent.{Extent}
+use Rattle.psy_run.specs.Extents.{IsExtent}
 
 -- What the words ask for
 abbrev pub asking : List (List ℕ) → Course Command
@@ -114,31 +118,39 @@ pub record AreAllCosts (unit : Whole) (costs : List (List ℕ)) : Type 0 where
 abbrev pub costing : Whole → Course (List (List ℕ))
 costing unit = step (AreAllCosts unit) (λ refusal. ⊥)
 
--- The tables by which the demand is found have at most 4,000,000 cells each: a graph's nodes times the lengths from 0 on.
-abbrev pub HasCells : ℕ → Graph → Type 0
-HasCells until graph = length graph.nodes * (until + 1) ≤ WINDOW_CELLS
-
--- One of them would have more.
-abbrev pub PassesCells : ℕ → Graph → Type 0
-PassesCells until graph = WINDOW_CELLS < length graph.nodes * (until + 1)
-
--- All tables have at most so many.
-abbrev pub windowing : List Graph → ℕ → Course (Unit {0})
-windowing graphs until = unless (All (HasCells until) graphs) (Any (PassesCells until) graphs) Cells
-
 -- The edges of each graph
 abbrev pub edges_of : List Graph → List (List Edge)
 edges_of graphs = map (λ graph. graph.edges) graphs
 
+-- The lines above the demands of the agents, which hold for every length: each graph has one.
+abbrev pub rating : List Graph → Course (List Rate)
+rating graphs = step (AreRates (edges_of graphs)) (λ refusal. ⊥)
+
+-- The length up to which the next two steps look: the horizon of the lines, or the last date where there is no horizon by then
+abbrev pub extending : Whole → List Rate → ℕ → Course Extent
+extending unit lines until = step (IsExtent unit.quantum lines until) (λ refusal. ⊥)
+
+-- The tables by which the demand is found have at most 4,000,000 cells each: a graph's nodes times the lengths from 0 on.
+abbrev pub HasCells : ℕ → Graph → Type 0
+HasCells top graph = length graph.nodes * (top + 1) ≤ WINDOW_CELLS
+
+-- One of them would have more.
+abbrev pub PassesCells : ℕ → Graph → Type 0
+PassesCells top graph = WINDOW_CELLS < length graph.nodes * (top + 1)
+
+-- All tables have at most so many.
+abbrev pub windowing : List Graph → ℕ → Course (Unit {0})
+windowing graphs top = unless (All (HasCells top) graphs) (Any (PassesCells top) graphs) Cells
+
 -- The least length over which the processor can't supply what the agents may demand
 abbrev pub IsOverloaded : Whole → List Graph → ℕ → Refusal → Type 0
-IsOverloaded unit graphs until (Infeasible length demand supply) = IsOverload (edges_of graphs) unit.quantum until length demand
+IsOverloaded unit graphs top (Infeasible length demand supply) = IsOverload (edges_of graphs) unit.quantum top length demand
     × (supply ≡ unit.quantum * length)
-IsOverloaded unit graphs until _ = ⊥
+IsOverloaded unit graphs top _ = ⊥
 
--- The processor demand criterion up to the last date
+-- The processor demand criterion up to a length
 abbrev pub demanding : Whole → List Graph → ℕ → Course (Unit {0})
-demanding unit graphs until = step (λ done. IsFeasible (edges_of graphs) unit.quantum until) (IsOverloaded unit graphs until)
+demanding unit graphs top = step (λ done. IsFeasible (edges_of graphs) unit.quantum top) (IsOverloaded unit graphs top)
 
 -- The first line of an inputs file that is at fault, where there are no more than 10,000, or else that there are more
 abbrev pub IsUnlisted : Whole → List ℕ → Refusal → Type 0

@@ -10,6 +10,7 @@ ghost use Rattle.psy_run.specs.Answer.{supplying, running, checking, drawing, ma
 ghost use Rattle.psy_run.specs.Asked.{Command as Asked, Asks};
 ghost use Rattle.psy_run.specs.Outcome.{CanServe, Halts, TookLimit};
 ghost use Rattle.psy_run.specs.Services.{service_of};
+ghost use Rattle.psy_run.specs.Supplies.{supply_of};
 
 use crate::asked::{Command, read_words};
 use crate::costs::all_costs;
@@ -38,7 +39,7 @@ fn boot(
     script: Script,
 ) -> Result<Kernel, Memory>
     requires text { IsOfText unit }
-    requires supplied { (graphs : List Graph) × (supplying unit until).gives (record { graphs = graphs; nexts = supply.nexts; sizes = supply.sizes }) }
+    requires supplied { (graphs : List Graph) × (supplying unit until).gives (supply_of graphs supply) }
     requires inputs { AreInputs unit inputs.lists }
     requires script { IsScript unit script }
     ensures booted { IfOk result (λ kernel. kernel ≡ booted kernel.plan inputs.lists script) }
@@ -93,7 +94,8 @@ fn check<F: Shelf>(alloc: Global, shelf: &mut F, name: &str, until: u32) -> Resu
     Ok(Served::Checked {
         unit,
         sizes: supply.sizes,
-        until,
+        lines: supply.lines,
+        extent: supply.extent,
     })
 }
 

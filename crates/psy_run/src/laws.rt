@@ -1,5 +1,5 @@
-//! Laws of the defined answer: words have one, and no other; and of runs: they keep their bounds.
-ghost use Rattle.std.specs.Prelude.{◌≡◌, ℕ, ◌+◌, List, Option, Some, ℤ};
+//! Laws of the defined answer: words have one, and no other; of runs: they keep their bounds; and of checks: what they tell is borne out.
+ghost use Rattle.std.specs.Prelude.{◌≡◌, ℕ, ◌+◌, ◌*◌, List, Option, Some, ℤ};
 ghost use Rattle.psy_door.specs.Files.{Files, bytes_under};
 ghost use Rattle.psy_dates.specs.declared.plan.Plan.{Plan};
 ghost use Rattle.psy_dates.specs.Plans.{IsPlan};
@@ -12,11 +12,20 @@ ghost use Rattle.psy_history.specs.Feeding.{OverranAlike, Reaches};
 ghost use Rattle.psy_history.specs.declared.told.Script.{Script};
 ghost use Rattle.psy_history.specs.Scripts.{IsScript, order_of};
 ghost use Rattle.psy_run.specs.Accepted.{IsRunnable};
-ghost use Rattle.psy_run.specs.Answer.{Answers, answering};
+ghost use Rattle.psy_graph.specs.declared.graph.Graph.{Graph};
+ghost use Rattle.psy_graph.specs.Graphs.{AreGraphs};
+ghost use Rattle.psy_meaning.specs.Demand.{IsFeasible, IsOverload};
+ghost use Rattle.psy_rate.specs.declared.line.Rate.{Rate};
+ghost use Rattle.psy_rate.specs.Lines.{AreRates};
+ghost use Rattle.psy_run.specs.declared.extent.Extent.{Extent};
+ghost use Rattle.psy_run.specs.declared.refusal.Refusal.TheVariants.{Infeasible};
+ghost use Rattle.psy_run.specs.Answer.{Answers, answering, supplying};
 ghost use Rattle.psy_run.specs.Asked.{Asks, Check, Run};
-ghost use Rattle.psy_run.specs.Bounds.{IsBounded, KeepsBounds};
+ghost use Rattle.psy_run.specs.Bounds.{IsBounded, IsBorneOut, IsMet, KeepsBounds};
+ghost use Rattle.psy_run.specs.Extents.{IsExtent, length_of};
 ghost use Rattle.psy_run.specs.OwnLines.{own_text};
 ghost use Rattle.psy_run.specs.Services.{Service, meaning_of};
+ghost use Rattle.psy_run.specs.Steps.{edges_of};
 
 use psy_flow::laws::{costs, nexts};
 use psy_gen::laws::alike as generated;
@@ -27,6 +36,7 @@ use psy_history::laws::{
 use psy_make::laws::short;
 use psy_meaning::laws::{of_text, sound};
 use psy_parse::laws::one_tree;
+use psy_rate::laws::{always, horizons, rates};
 use psy_rules::laws::one_verdict;
 use psy_script::laws::lawful;
 use psy_sizes::laws::one_size;
@@ -46,6 +56,7 @@ pub fn one_answer()
     one_graph();
     costs();
     one_size();
+    rates();
 }
 
 /// Words have some answer, where files are told.
@@ -62,6 +73,8 @@ pub fn some_answer()
     nexts();
     one_size();
     greatest();
+    rates();
+    horizons();
 }
 
 /// A run keeps its bounds, for all inputs and every script: each action that is due by its last date has had all its work, up to its budget,
@@ -89,6 +102,33 @@ pub fn bounded()
     one_graph();
     lawful();
     bounds();
+    extents();
+}
+
+/// Up to which length the demand is looked at: what is supplied up to it is supplied up to the last date, and over every length where it is the
+/// horizon. The least length over which the demand isn't supplied is the same up to both, and it is what a refusal tells.
+pub fn extents()
+    ensures met { (unit : Whole) (graphs : List Graph) (lines : List Rate) (until : ℕ) (extent : Extent) → IsOfText unit → AreGraphs unit graphs
+        → AreRates (edges_of graphs) lines → IsExtent unit.quantum lines until extent → IsFeasible (edges_of graphs) unit.quantum (length_of extent)
+        → IsFeasible (edges_of graphs) unit.quantum until × IsMet unit graphs extent }
+    ensures passed { (unit : Whole) (graphs : List Graph) (lines : List Rate) (until length demand : ℕ) (extent : Extent) → IsOfText unit
+        → AreGraphs unit graphs → AreRates (edges_of graphs) lines → IsExtent unit.quantum lines until extent
+        → IsOverload (edges_of graphs) unit.quantum until length demand → IsOverload (edges_of graphs) unit.quantum (length_of extent) length demand }
+    ensures refused { (unit : Whole) (until length demand supply : ℕ) → IsOfText unit → (supplying unit until).stops (Infeasible length demand supply)
+        → (graphs : List Graph) × AreGraphs unit graphs × IsOverload (edges_of graphs) unit.quantum until length demand
+        × (supply ≡ unit.quantum * length) }
+{
+    always();
+    one_graph();
+    greatest();
+}
+
+/// What a check tells is borne out: its lines are those of the agents' graphs, and their demand is met, over every length where it says so.
+pub fn borne_out()
+    ensures { (words : List (List ℕ)) (files : Option Files) (done : Service) → (answering words files).gives done → IsBorneOut done }
+{
+    of_text();
+    extents();
 }
 
 /// The headline: where a check of a program up to a date is answered by status 0, each run of it up to that date is, whatever the inputs and

@@ -5,10 +5,12 @@
 mod asked;
 mod commands;
 mod costs;
+mod extent;
 pub mod laws;
 mod lists;
 mod nexts;
 mod plan;
+mod rates;
 mod refusal;
 mod run;
 mod served;

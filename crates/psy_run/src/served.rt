@@ -1,7 +1,9 @@
 //! What the commands come to.
+use crate::extent::Extent;
 use psy_base::{Items, Sizes};
 use psy_graph::Graph;
 use psy_kernel::Kernel;
+use psy_rate::Rate;
 use psy_tree::Unit;
 
 /// What a command does, once nothing refuses it.
@@ -9,11 +11,12 @@ use psy_tree::Unit;
 pub enum Served {
     /// Runs a program: its kernel, just booted.
     Ran(Kernel),
-    /// Writes the sizes of a program's rings and queues, and that its demand can be met up to a date.
+    /// Writes the sizes of a program's rings and queues, the lines above the demands of its agents, and over which lengths the demand is met.
     Checked {
         unit: Unit,
         sizes: Sizes,
-        until: u32,
+        lines: Items<Rate>,
+        extent: Extent,
     },
     /// Writes the graphs of a program's agents, with the greatest costs by agent and point, in instructions.
     Drawn {

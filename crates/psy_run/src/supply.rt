@@ -8,25 +8,32 @@ ghost use Rattle.psy_meaning.specs.Flow.{AreAllNexts};
 ghost use Rattle.psy_meaning.specs.Units.{IsOfText};
 ghost use Rattle.psy_run.specs.Answer.{supplying};
 ghost use Rattle.psy_run.specs.Outcome.{Halts};
+ghost use Rattle.psy_run.specs.Supplies.{supply_of};
 ghost use Rattle.psy_run.specs.Steps.{graphing, sizing, demanding, PassesCells};
 ghost use Rattle.psy_run.specs.Tables.{IsDrawn, AreWeights, AreAllWeights};
 
+use crate::extent::{Extent, extent_of};
 use crate::lists::push;
 use crate::nexts::all_nexts;
+use crate::rates::lines_of;
 use crate::refusal::{Refusal, Stop};
 use psy_base::{Items, Sizes};
 use psy_demand::{Verdict, feasible};
 use psy_graph::{Graph, GraphFault, build};
+use psy_rate::Rate;
 use psy_sizes::SizeFault;
 use psy_tree::Unit;
 use psy_window::{Span, WindowFault, weights};
 use std::alloc::Global;
 
-/// What a program that the processor can run needs: by agent the points that follow each of its points, and the sizes of its buffers.
+/// What a program that the processor can run needs: by agent the points that follow each of its points, and the sizes of its buffers; with the lines
+/// above the demands of its agents, and up to which length the demand was looked at.
 #[derive(Drop)]
 pub struct Supplied {
     pub nexts: Items<Items<Items<u32>>>,
     pub sizes: Sizes,
+    pub lines: Items<Rate>,
+    pub extent: Extent,
 }
 
 /// The action graphs of a program's agents.
@@ -63,14 +70,14 @@ fn sizes(alloc: Global, unit: &Unit, graphs: &Items<Graph>) -> Result<Sizes, Sto
 }
 
 // The greatest budgets of an agent's paths whose last action is due within each length up to this one.
-fn weights_of(alloc: Global, graph: &Graph, until: u32) -> Result<Items<u64>, Stop>
+fn weights_of(alloc: Global, graph: &Graph, top: u32) -> Result<Items<u64>, Stop>
     requires edges { IsDrawn graph.now }
     requires few { IsSmall graph.now }
-    ensures ok { IfOk result (AreWeights until graph.now) }
-    ensures err { IfErr result (λ stop. (stop ≡ Stop.Memory) ⊎ ((stop ≡ Stop.Refused Refusal.Cells) × PassesCells until graph.now)) }
+    ensures ok { IfOk result (AreWeights top graph.now) }
+    ensures err { IfErr result (λ stop. (stop ≡ Stop.Memory) ⊎ ((stop ≡ Stop.Refused Refusal.Cells) × PassesCells top graph.now)) }
 {
     let nodes = graph.nodes.len() as u32;
-    match weights(alloc, graph.edges.as_slice(), nodes, Span::DueLast, until) {
+    match weights(alloc, graph.edges.as_slice(), nodes, Span::DueLast, top) {
         Ok(weights) => Ok(weights),
         Err(WindowFault::Cells) => Err(Stop::Refused(Refusal::Cells)),
         Err(WindowFault::Memory) => Err(Stop::Memory),
@@ -78,30 +85,30 @@ fn weights_of(alloc: Global, graph: &Graph, until: u32) -> Result<Items<u64>, St
 }
 
 // The same of all agents.
-fn all_weights(alloc: Global, graphs: &Items<Graph>, until: u32) -> Result<Items<Items<u64>>, Stop>
+fn all_weights(alloc: Global, graphs: &Items<Graph>, top: u32) -> Result<Items<Items<u64>>, Stop>
     requires edges { All IsDrawn graphs.now }
     requires few { All IsSmall graphs.now }
-    ensures ok { IfOk result (AreAllWeights until graphs.now) }
-    ensures err { IfErr result (λ stop. (stop ≡ Stop.Memory) ⊎ ((stop ≡ Stop.Refused Refusal.Cells) × Any (PassesCells until) graphs.now)) }
+    ensures ok { IfOk result (AreAllWeights top graphs.now) }
+    ensures err { IfErr result (λ stop. (stop ≡ Stop.Memory) ⊎ ((stop ≡ Stop.Refused Refusal.Cells) × Any (PassesCells top) graphs.now)) }
 {
     let mut lists = Items::new(alloc);
     'graphs: for graph in graphs.as_slice() {
-        let list = weights_of(alloc, graph, until)?;
+        let list = weights_of(alloc, graph, top)?;
         push(&mut lists, list)?;
     }
     Ok(lists)
 }
 
 // Whether the processor can supply the demand over each length up to this one, by the lists of all agents.
-fn demand(unit: &Unit, lists: &Items<Items<u64>>, until: u32) -> Result<(), Stop>
+fn demand(unit: &Unit, lists: &Items<Items<u64>>, top: u32) -> Result<(), Stop>
     requires few { length lists.now ≤ AGENTS }
-    requires long { All (λ list. length list ≡ until + 1) lists.now }
+    requires long { All (λ list. length list ≡ top + 1) lists.now }
     requires small { All (All (λ weight. weight < 2 ^ 50)) lists.now }
-    ensures ok { (graphs : List Drawn) → AreAllWeights until graphs lists.now → IfOk result (λ done. (demanding unit.now graphs until).gives done) }
-    ensures err { (graphs : List Drawn) (failed : List ℕ) (before after : ℕ) → AreAllWeights until graphs lists.now
-        → IfErr result (Halts (demanding unit.now graphs until) failed before after) }
+    ensures ok { (graphs : List Drawn) → AreAllWeights top graphs lists.now → IfOk result (λ done. (demanding unit.now graphs top).gives done) }
+    ensures err { (graphs : List Drawn) (failed : List ℕ) (before after : ℕ) → AreAllWeights top graphs lists.now
+        → IfErr result (Halts (demanding unit.now graphs top) failed before after) }
 {
-    match feasible(lists.as_slice(), unit.quantum, until) {
+    match feasible(lists.as_slice(), unit.quantum, top) {
         Verdict::Yes => Ok(()),
         Verdict::No { length, demand } => {
             let supply = u64::from(unit.quantum) * u64::from(length);
@@ -114,18 +121,26 @@ fn demand(unit: &Unit, lists: &Items<Items<u64>>, until: u32) -> Result<(), Stop
     }
 }
 
-/// Whether the processor can run a program: its buffers keep their limits, and what its agents may demand over each length up to a date is
-/// supplied.
+/// Whether the processor can run a program: its buffers keep their limits, and what its agents may demand over each length up to the horizon, or
+/// up to a date where that comes first, is supplied.
 pub fn supply(alloc: Global, unit: &Unit, until: u32) -> Result<Supplied, Stop>
     requires text { IsOfText unit.now }
     ensures ok { IfOk result (λ supply. (graphs : List Drawn)
-        × (supplying unit.now until).gives (record { graphs = graphs; nexts = supply.nexts; sizes = supply.sizes })) }
+        × (supplying unit.now until).gives (supply_of graphs supply)) }
     ensures err { (failed : List ℕ) (before after : ℕ) → IfErr result (Halts (supplying unit.now until) failed before after) }
 {
     let graphs = graphs(alloc, unit)?;
     let nexts = all_nexts(alloc, unit)?;
     let sizes = sizes(alloc, unit, &graphs)?;
-    let lists = all_weights(alloc, &graphs, until)?;
-    demand(unit, &lists, until)?;
-    Ok(Supplied { nexts, sizes })
+    let lines = lines_of(alloc, &graphs)?;
+    let extent = extent_of(lines.as_slice(), unit.quantum, until);
+    let top = extent.length();
+    let lists = all_weights(alloc, &graphs, top)?;
+    demand(unit, &lists, top)?;
+    Ok(Supplied {
+        nexts,
+        sizes,
+        lines,
+        extent,
+    })
 }

@@ -8,12 +8,14 @@ ghost use Rattle.psy_meaning.specs.Units.{IsBare};
 ghost use Rattle.std.specs.List.{All};
 ghost use Rattle.std.specs.Prelude.{get_or};
 ghost use Rattle.psy_graph.specs.Graphs.{IsSmall};
-ghost use Rattle.psy_run.specs.Texts.{rings_text, queues_text, check_text, nodes_text, edge_text, agent_text, graph_text};
+ghost use Rattle.psy_run.specs.Texts.{rings_text, queues_text, rates_text, verdict_text, check_text, nodes_text, edge_text, agent_text, graph_text};
 
+use crate::extent::Extent;
 use psy_base::{Edge, Items, Sizes};
 use psy_door::Sink;
 use psy_graph::{Graph, Node};
 use psy_log::{Line, Note, WriteFault, write_all_of};
+use psy_rate::Rate;
 use psy_tree::{AgentDecl, StreamDecl, Unit, VarDecl};
 
 /// Writes the line that says a note.
@@ -76,17 +78,56 @@ fn write_queues<S: Sink>(
     Ok(())
 }
 
-/// Writes the sizes of a program's rings and queues, and that its demand can be met up to this date.
+// Writes the lines above the demands of agents, in their order.
+fn write_rates<S: Sink>(agents: &[AgentDecl], lines: &[Rate], out: &mut S) -> Result<(), WriteFault>
+    requires { All (λ agent. length agent.name ≤ WORD_BYTES) agents.now }
+    ensures counted { S.faults out.old ≤ S.faults out.new }
+    ensures failed { OnErr result (Rose (S.faults out.old) (S.faults out.new)) }
+    ensures written { Written (S.held out.old) (S.held out.new) result (rates_text agents.now lines.now) }
+{
+    let count = agents.len().min(lines.len());
+    'agents: for number in 0..count {
+        let agent = &agents[number];
+        let line = lines[number];
+        let note = Note::Rate {
+            agent: agent.name.bytes(),
+            rate: line.rate,
+            intercept: line.intercept,
+        };
+        if let Err(fault) = write_note(out, &note) {
+            return Err(fault);
+        }
+    }
+    Ok(())
+}
+
+// Writes over which lengths the demand is met.
+fn write_verdict<S: Sink>(extent: Extent, out: &mut S) -> Result<(), WriteFault>
+    ensures counted { S.faults out.old ≤ S.faults out.new }
+    ensures failed { OnErr result (Rose (S.faults out.old) (S.faults out.new)) }
+    ensures written { Written (S.held out.old) (S.held out.new) result (verdict_text extent) }
+{
+    let note = match extent {
+        Extent::Horizon(_) => Note::Always,
+        Extent::LastDate(date) => Note::Feasible {
+            until: u64::from(date),
+        },
+    };
+    write_note(out, &note)
+}
+
+/// Writes the sizes of a program's rings and queues, the lines above the demands of its agents, and over which lengths the demand is met.
 pub fn write_check<S: Sink>(
     unit: &Unit,
     sizes: &Sizes,
-    until: u32,
+    lines: &[Rate],
+    extent: Extent,
     out: &mut S,
 ) -> Result<(), WriteFault>
     requires { IsBare unit.now }
     ensures counted { S.faults out.old ≤ S.faults out.new }
     ensures failed { OnErr result (Rose (S.faults out.old) (S.faults out.new)) }
-    ensures written { Written (S.held out.old) (S.held out.new) result (check_text unit.now sizes.now until) }
+    ensures written { Written (S.held out.old) (S.held out.new) result (check_text unit.now sizes.now lines.now extent) }
 {
     if let Err(fault) = write_rings(unit.variables.as_slice(), sizes.rings.as_slice(), out) {
         return Err(fault);
@@ -94,12 +135,10 @@ pub fn write_check<S: Sink>(
     if let Err(fault) = write_queues(unit.streams.as_slice(), sizes.queues.as_slice(), out) {
         return Err(fault);
     }
-    write_note(
-        out,
-        &Note::Feasible {
-            until: u64::from(until),
-        },
-    )
+    if let Err(fault) = write_rates(unit.agents.as_slice(), lines, out) {
+        return Err(fault);
+    }
+    write_verdict(extent, out)
 }
 
 // Writes the line of a node, with the greatest cost from its point.

@@ -16,13 +16,13 @@ ghost use Rattle.psy_run.specs.declared.refusal.File.{File as Role};
 ghost use Rattle.psy_run.specs.declared.refusal.Refusal.{Refusal as Cause};
 ghost use Rattle.psy_run.specs.Answer.{Answers, answering};
 ghost use Rattle.psy_run.specs.Asked.{AskNothing};
-ghost use Rattle.psy_run.specs.Bounds.{IsBounded, KeepsBounds};
+ghost use Rattle.psy_run.specs.Bounds.{IsBounded, IsBorneOut, KeepsBounds};
 ghost use Rattle.psy_run.specs.Outcome.{CanServe, Ends, IsPastLimit, IsUnread, MayAnswer, Says};
 ghost use Rattle.psy_run.specs.Refusals.{status_of, line_of, file_name};
 ghost use Rattle.psy_run.specs.Services.{Leaves, Ran, Service, meaning_of, service_of, text_of};
 
 use crate::commands::judge;
-use crate::laws::{bounded, bounds, one_answer};
+use crate::laws::{borne_out, bounded, bounds, one_answer};
 use crate::refusal::{Stop, unread_line};
 use crate::run::{run_loop, trial_loop};
 use crate::served::Served;
@@ -115,7 +115,12 @@ fn serve<S: Sink>(served: Served, out: &mut S, left: &mut Option<Kernel>) -> Res
     bounds();
     match served {
         Served::Ran(kernel) => run(kernel, out, left),
-        Served::Checked { unit, sizes, until } => write_check(&unit, &sizes, until, out),
+        Served::Checked {
+            unit,
+            sizes,
+            lines,
+            extent,
+        } => write_check(&unit, &sizes, lines.as_slice(), extent, out),
         Served::Drawn {
             unit,
             graphs,
@@ -223,6 +228,11 @@ pub fn psyc<F: Shelf, S: Sink>(
     // finished behind its deadline, no ring was reached for beyond its size, no queue held more than its places.
     ensures left { result ≡ 0 → (done : Service) × (answering (map string_bytes words.now) (F.files shelf.old)).gives done
         × Grew (S.held out.old) (S.held out.new) (text_of done) × Leaves done left.new × IsBounded done }
+
+    // What a check tells is borne out: its lines are those of the agents' graphs; and where it says that the demand is always supplied, it is over
+    // every length, whatever the last date, else over each length up to that date.
+    ensures borne_out { result ≡ 0 → (done : Service) × (answering (map string_bytes words.now) (F.files shelf.old)).gives done
+        × Grew (S.held out.old) (S.held out.new) (text_of done) × IsBorneOut done }
     ensures over { IfSome left.new (λ kernel. stage_of kernel ≡ Over) }
     ensures none_left { result ≢ 0 → left.new ≡ None }
     ensures shelf { (F.faults shelf.old ≤ F.faults shelf.new) × (F.files shelf.new ≡ F.files shelf.old) }
@@ -230,6 +240,7 @@ pub fn psyc<F: Shelf, S: Sink>(
 {
     one_answer();
     bounded();
+    borne_out();
     *left = None;
     answer(alloc, words, shelf, out, left)
 }

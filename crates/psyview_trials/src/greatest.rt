@@ -39,7 +39,7 @@ fn the_greatest_run_is_drawn(rt: HostRuntime) -> Result<(), Fail> {
         notes.push(Note::StopOverrun { date: 0, agent })?;
     }
     for turn in 0..250u32 {
-        let date = u64::from(turn) * 400;
+        let date = u64::from(turn) * 4_000;
         let value = if turn % 2 == 0 { i32::MIN } else { i32::MAX };
         for variable in variables.as_slice() {
             notes.push(Note::Value {
@@ -56,7 +56,7 @@ fn the_greatest_run_is_drawn(rt: HostRuntime) -> Result<(), Fail> {
             })?;
         }
     }
-    notes.push(Note::End { until: 100_000 })?;
+    notes.push(Note::End { until: 1_000_000 })?;
     for agent in agents.as_slice() {
         notes.push(Note::AgentEnd {
             agent,

@@ -1,6 +1,7 @@
 -- What is left of the proof of `commands::check`.
 use Rattle.std.proofs.Common.{refl, []}
 use Rattle.psy_run.specs.Answer.{compiling, supplying}
+use Rattle.psy_run.specs.Supplies.{supply_of}
 use Rattle.psy_run.proofs.Courses.{gives_then, halts_exit, halts_first, halts_later}
 use Rattle.psy_run.proofs.LongFiles.{took_exit, took_never, supplying_never_long}
 use Rattle.psy_run.proofs.commands.check.Goals as goal
@@ -17,7 +18,7 @@ returns-clause-ok g c =
     let supply = c.in_ok-supply.supply in
     let (graphs, gives) = c.in_ok-supply.ensures.ok in
     gives_then (compiling _ _) _ _ _ c.in_ok-unit.ensures.ok
-    (gives_then (supplying _ _) _ (record { graphs = graphs; nexts = supply.nexts; sizes = supply.sizes }) _ gives refl)
+    (gives_then (supplying _ _) _ (supply_of graphs supply) _ gives refl)
 
 pub returns-in_err-unit-clause-long : goal.returns-in_err-unit-clause-long
 returns-in_err-unit-clause-long g c = took_exit _ _ _ c.from_residual.ensures.1 c.in_err-unit.ensures.long

@@ -3,6 +3,7 @@ use Rattle.std.specs.Prelude.{[], option_copied}
 use Rattle.psy_run.specs.Answer.{compiling, supplying, listing, scripting}
 use Rattle.psy_run.specs.Outcome.{halts_memory}
 use Rattle.psy_run.specs.Steps.{pacing}
+use Rattle.psy_run.specs.Supplies.{supply_of}
 use Rattle.psy_run.proofs.Courses.{halts_exit, halts_first, halts_later}
 use Rattle.psy_run.proofs.ToldLemmas.{halts_behind, gives_behind, run_unlisted, run_unscripted, run_unpaced, run_gives, can_run, ran_is}
 use Rattle.psy_run.proofs.LongFiles.{took_exit, took_for_memory, took_never, supplying_never_long, pacing_never_long}
@@ -22,7 +23,7 @@ returns-in_err-inputs-clause-err g c =
     let (graphs, gives) = c.in_ok-supply.ensures.ok in
     let inputs = option_copied c.args.inputs in
     halts_exit _ _ _ _ _ _ c.from_residual-in_err-inputs.ensures.1
-    (run_unlisted _ c.args.name.now c.args.until inputs (option_copied c.args.script) unit (record { graphs = graphs; nexts = supply.nexts; sizes = supply.sizes }) c.in_ok-unit.ensures.ok gives _ _ _ _
+    (run_unlisted _ c.args.name.now c.args.until inputs (option_copied c.args.script) unit (supply_of graphs supply) c.in_ok-unit.ensures.ok gives _ _ _ _
     (halts_behind (λ files. listing files unit inputs) c.in_ok-unit.ensures.shelf c.in_err-inputs.ensures.err))
 
 pub returns-in_err-script-clause-err : goal.returns-in_err-script-clause-err
@@ -34,7 +35,7 @@ returns-in_err-script-clause-err g c =
     let script = option_copied c.args.script in
     let listed = gives_behind (λ files. listing files unit inputs) c.in_ok-unit.ensures.shelf c.in_ok-inputs.ensures.ok in
     halts_exit _ _ _ _ _ _ c.from_residual-in_err-script.ensures.1
-    (run_unscripted _ c.args.name.now c.args.until inputs script unit (record { graphs = graphs; nexts = supply.nexts; sizes = supply.sizes }) c.in_ok-unit.ensures.ok gives _ listed _ _ _ _
+    (run_unscripted _ c.args.name.now c.args.until inputs script unit (supply_of graphs supply) c.in_ok-unit.ensures.ok gives _ listed _ _ _ _
     (halts_behind (λ files. scripting files unit script) c.in_ok-unit.ensures.shelf (halts_behind (λ files. scripting files unit script) c.in_ok-inputs.ensures.shelf c.in_err-script.ensures.err)))
 
 pub returns-in_err-pace-clause-err : goal.returns-in_err-pace-clause-err
@@ -47,7 +48,7 @@ returns-in_err-pace-clause-err g c =
     let listed = gives_behind (λ files. listing files unit inputs) c.in_ok-unit.ensures.shelf c.in_ok-inputs.ensures.ok in
     let scripted = gives_behind (λ files. scripting files unit script) c.in_ok-unit.ensures.shelf (gives_behind (λ files. scripting files unit script) c.in_ok-inputs.ensures.shelf c.in_ok-script.ensures.ok) in
     halts_exit _ _ _ _ _ _ c.from_residual-in_err-pace.ensures.1
-    (run_unpaced _ c.args.name.now c.args.until inputs script unit (record { graphs = graphs; nexts = supply.nexts; sizes = supply.sizes }) c.in_ok-unit.ensures.ok gives _ listed _ scripted _ _ _ _ (c.in_err-pace.ensures.err _ _ _))
+    (run_unpaced _ c.args.name.now c.args.until inputs script unit (supply_of graphs supply) c.in_ok-unit.ensures.ok gives _ listed _ scripted _ _ _ _ (c.in_err-pace.ensures.err _ _ _))
 
 pub returns-in-Ok-clause-ok : goal.returns-in-Ok-clause-ok
 returns-in-Ok-clause-ok g c =
@@ -59,7 +60,7 @@ returns-in-Ok-clause-ok g c =
     let listed = gives_behind (λ files. listing files unit inputs) c.in_ok-unit.ensures.shelf c.in_ok-inputs.ensures.ok in
     let scripted = gives_behind (λ files. scripting files unit script) c.in_ok-unit.ensures.shelf (gives_behind (λ files. scripting files unit script) c.in_ok-inputs.ensures.shelf c.in_ok-script.ensures.ok) in
     let its = c.in-Ok.ensures in
-    run_gives _ c.args.name.now c.args.until inputs script unit (record { graphs = graphs; nexts = supply.nexts; sizes = supply.sizes }) c.in_ok-unit.ensures.ok gives _ listed _ scripted _
+    run_gives _ c.args.name.now c.args.until inputs script unit (supply_of graphs supply) c.in_ok-unit.ensures.ok gives _ listed _ scripted _
     c.in_ok-pace.ensures.ok (ran_is _ _ _ _ _ _ _ its.booted its.its_unit its.its_nexts its.its_sizes its.its_until)
 
 pub returns-in-Ok-clause-can : goal.returns-in-Ok-clause-can

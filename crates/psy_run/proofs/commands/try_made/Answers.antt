@@ -4,6 +4,7 @@ use Rattle.psy_history.specs.Compiled.{AreInputs}
 use Rattle.psy_run.specs.declared.refusal.Stop.TheVariants.{Memory}
 use Rattle.psy_run.specs.Outcome.{halts_memory}
 use Rattle.psy_run.specs.Services.{Tried}
+use Rattle.psy_run.specs.Supplies.{supply_of}
 use Rattle.psy_run.proofs.Courses.{halts_exit}
 use Rattle.psy_run.proofs.PlanLemmas.{are_no_inputs}
 use Rattle.psy_run.proofs.ToldLemmas.{trial_untranslated, trial_unsupplied, trial_unpaced, trial_gives, can_try}
@@ -25,7 +26,7 @@ returns-in_err-pace-clause-err c failed before after =
     let supply = c.in_ok-supply.supply in
     let (graphs, gives) = c.in_ok-supply.ensures.ok in
     halts_exit _ _ _ _ _ _ c.from_residual-in_err-pace.ensures.1
-    (trial_unpaced c.args.seed c.args.until _ c.in_ok-text.ensures _ c.in_ok-unit.ensures.ok (record { graphs = graphs; nexts = supply.nexts; sizes = supply.sizes }) gives _ _ _ _ (c.in_err-pace.ensures.err _ _ _))
+    (trial_unpaced c.args.seed c.args.until _ c.in_ok-text.ensures _ c.in_ok-unit.ensures.ok (supply_of graphs supply) gives _ _ _ _ (c.in_err-pace.ensures.err _ _ _))
 
 pub returns-in_err-inputs-clause-err : goal.returns-in_err-inputs-clause-err
 returns-in_err-inputs-clause-err c failed before after = halts_exit _ _ _ _ Memory _ c.from_residual-in_err-inputs.ensures.1 halts_memory
@@ -40,7 +41,7 @@ returns-in-Ok-clause-ok c =
     let plan = c.in-Ok.kernel.plan in
     let its = c.in-Ok.ensures in
     let same : Tried plan.unit plan.nexts plan.sizes plan.until ≡ Tried c.in_ok-unit.unit supply.nexts supply.sizes c.args.until = λ i. Tried (its.its_unit i) (its.its_nexts i) (its.its_sizes i) (its.its_until i) in
-    trial_gives c.args.seed c.args.until _ c.in_ok-text.ensures _ c.in_ok-unit.ensures.ok (record { graphs = graphs; nexts = supply.nexts; sizes = supply.sizes }) gives _ c.in_ok-pace.ensures.ok same
+    trial_gives c.args.seed c.args.until _ c.in_ok-text.ensures _ c.in_ok-unit.ensures.ok (supply_of graphs supply) gives _ c.in_ok-pace.ensures.ok same
 
 pub returns-in-Ok-clause-can : goal.returns-in-Ok-clause-can
 returns-in-Ok-clause-can c =

@@ -11,4 +11,5 @@ returns c words files = answering_bounded (record {
   inputs = c.lawful.ensures.inputs;
   script = c.lawful.ensures.script;
   keeps = c.bounds.ensures;
+  met = c.extents.ensures.met;
 }) words files

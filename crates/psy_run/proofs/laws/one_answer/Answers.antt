@@ -28,4 +28,5 @@ returns c words files = Answers-unique (record {
   sizes_or_fault = c.one_size.ensures.apart;
   size_fault = c.one_size.ensures.cause;
   cost = c.costs.ensures.one;
+  line = c.rates.ensures.one;
 }) files words

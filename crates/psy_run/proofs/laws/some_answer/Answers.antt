@@ -17,4 +17,6 @@ returns c words files = Answers-some (record {
   next = c.nexts.ensures.some;
   sizes_or_fault = c.one_size.ensures.some;
   greatest = c.greatest.ensures.some;
+  line = c.rates.ensures.some;
+  horizon = c.horizons.ensures.some;
 }) files words

@@ -14,8 +14,8 @@ graphs-preserved c =
     let i = c.graphs.graph-index in
     let within : i < length graphs = omega (arith, c.graphs-test.true, ap length c.as_slice-graph-items.ensures) in
     let read : item ≡ get_or graphs i item = c.graph-item.is ∙ ap (λ gs. get_or gs i item) c.as_slice-graph-items.ensures in
-    let P : ℕ → List ℕ → Type 0 = λ n list'. (graph : Graph) → slice_get graphs n ≡ Some graph → AreWeights c.args.until graph list' in
-    let here : P i list = λ graph at. subst (λ g. AreWeights c.args.until g list) (read_is graphs i item graph within read at) c.in_ok-list.ensures.ok in
+    let P : ℕ → List ℕ → Type 0 = λ n list'. (graph : Graph) → slice_get graphs n ≡ Some graph → AreWeights c.args.top graph list' in
+    let here : P i list = λ graph at. subst (λ g. AreWeights c.args.top g list) (read_is graphs i item graph within read at) c.in_ok-list.ensures.ok in
     let last : P (length lists) list = subst (λ n. P n list) (sym c.graphs.invariant.count) here in
     record {
       count = omega (arith, ap length c.in_ok-push.ensures, length-append lists (list ∷ []), c.graphs.invariant.count);

@@ -8,5 +8,5 @@ abbrev pub invariant-graphs : goal.invariant-graphs
 invariant-graphs l =
     record {
       count : length l.lists ≡ l.graph-index;
-      each : (i : ℕ) (list : List ℕ) → slice_get l.lists i ≡ Some list → (graph : Graph) → slice_get l.graphs i ≡ Some graph → AreWeights l.until graph list;
+      each : (i : ℕ) (list : List ℕ) → slice_get l.lists i ≡ Some list → (graph : Graph) → slice_get l.graphs i ≡ Some graph → AreWeights l.top graph list;
     }

@@ -9,14 +9,14 @@ use Rattle.psy_run.proofs.supply.demand.Goals as goal
 
 pub returns-in-Yes-clause-ok : goal.returns-in-Yes-clause-ok
 returns-in-Yes-clause-ok c graphs are =
-    let fits = subst (λ lists. DemandFits lists c.args.unit.now.quantum c.args.until) c.as_slice.ensures c.in-Yes.ensures in
-    demand_fits c.args.until c.args.unit.now.quantum graphs c.args.lists.now are fits
+    let fits = subst (λ lists. DemandFits lists c.args.unit.now.quantum c.args.top) c.as_slice.ensures c.in-Yes.ensures in
+    demand_fits c.args.top c.args.unit.now.quantum graphs c.args.lists.now are fits
 
 pub returns-in-No-clause-err : goal.returns-in-No-clause-err
 returns-in-No-clause-err c graphs failed before after are =
     let within = c.in-No.length in
     let passed = c.in-No.demand in
-    let no = subst (λ lists. IsVerdict lists c.args.unit.now.quantum c.args.until (verdict.No within passed)) c.as_slice.ensures c.in-No.ensures in
+    let no = subst (λ lists. IsVerdict lists c.args.unit.now.quantum c.args.top (verdict.No within passed)) c.as_slice.ensures c.in-No.ensures in
     let supply = c.from.result * c.from-in-No.result in
     let product : supply ≡ c.args.unit.now.quantum * within = λ i. c.from.ensures i * c.from-in-No.ensures i in
-    halts_refused (Infeasible within passed supply) (demand_passes c.args.until c.args.unit.now.quantum within passed graphs c.args.lists.now are no, product)
+    halts_refused (Infeasible within passed supply) (demand_passes c.args.top c.args.unit.now.quantum within passed graphs c.args.lists.now are no, product)

@@ -33,6 +33,11 @@ returns-clause-memory g c = ends_for_memory _ _ _ _ _ _ _ c.answer.ensures.ends
 pub returns-clause-left : goal.returns-clause-left
 returns-clause-left g c = ends_left _ _ _ _ _ _ _ c.answer.ensures.ends
 
+pub returns-clause-borne_out : goal.returns-clause-borne_out
+returns-clause-borne_out g c zero =
+    let (done, gives, grew, leaves, bounded) = ends_left _ _ _ _ _ _ _ c.answer.ensures.ends zero in
+    (done, gives, grew, c.borne_out.ensures _ _ done gives)
+
 pub returns-clause-over : goal.returns-clause-over
 returns-clause-over g c = ends_over _ _ _ _ _ _ _ c.answer.ensures.ends
 

@@ -1,0 +1,46 @@
+//! The lines above the demands of a program's agents.
+ghost use Rattle.std.specs.Prelude.{◌≡◌, IfOk, IfErr};
+ghost use Rattle.std.specs.List.{All};
+ghost use Rattle.psy_graph.specs.Graphs.{IsSmall};
+ghost use Rattle.psy_run.specs.Tables.{IsDrawn, IsLine, AreLines};
+
+use crate::lists::push;
+use crate::refusal::Stop;
+use psy_base::{Items, Memory};
+use psy_graph::Graph;
+use psy_rate::{Rate, certify};
+use std::alloc::Global;
+
+// The line above the demand of an agent.
+fn line_of(alloc: Global, graph: &Graph) -> Result<Rate, Memory>
+    requires edges { IsDrawn graph.now }
+    requires few { IsSmall graph.now }
+    ensures { IfOk result (IsLine graph.now) }
+{
+    let nodes = graph.nodes.len() as u32;
+    certify(alloc, graph.edges.as_slice(), nodes)
+}
+
+// The lines above the demands of all agents.
+fn lines_of_all(alloc: Global, graphs: &Items<Graph>) -> Result<Items<Rate>, Memory>
+    requires edges { All IsDrawn graphs.now }
+    requires few { All IsSmall graphs.now }
+    ensures { IfOk result (AreLines graphs.now) }
+{
+    let mut lines = Items::new(alloc);
+    'graphs: for graph in graphs.as_slice() {
+        let line = line_of(alloc, graph)?;
+        push(&mut lines, line)?;
+    }
+    Ok(lines)
+}
+
+/// The lines above the demands of all agents, by their graphs.
+pub fn lines_of(alloc: Global, graphs: &Items<Graph>) -> Result<Items<Rate>, Stop>
+    requires edges { All IsDrawn graphs.now }
+    requires few { All IsSmall graphs.now }
+    ensures ok { IfOk result (AreLines graphs.now) }
+    ensures err { IfErr result (λ stop. stop ≡ Stop.Memory) }
+{
+    Ok(lines_of_all(alloc, graphs)?)
+}

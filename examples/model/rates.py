@@ -1,0 +1,86 @@
+"""The line above each agent's demand, the length from which on the processor is above all lines, and the demand itself, as they are defined."""
+from functools import lru_cache
+
+from meaning import next_points, pieces
+from sizes import common
+
+SCALE = 1 << 20  # parts of a cycle, in which lines are told
+
+
+def edges_of(program, agent):
+    """The actions of an agent: where each begins and ends, how long it lasts, when it is due, and its budget. A place is a point, and a date within
+    the common cycle of the clocks."""
+    cycle = common(point.clock.period for point in agent.points[1:])
+    found, seen, open_ = [], set(), [(0, agent.clock.first)]
+    while open_:
+        point, date = open_.pop()
+        place = point, date % cycle
+        if place in seen:
+            continue
+        seen.add(place)
+        ends = {to: agent.points[to].clock.after(date, agent.points[to].count) for to in next_points(pieces(agent, point))[0]}
+        due = min(ends.values()) - date
+        found += [(place, (to, end % cycle), end - date, due, agent.points[point].budget) for to, end in ends.items()]
+        open_ += ends.items()
+    return found
+
+
+def excesses(edges, rate):
+    """By place, the most by which a path to it weighs more than the rate by its length, 0 for the empty one; None where there is no most."""
+    most = {place: 0 for edge in edges for place in edge[:2]}
+    for _ in range(len(most) + 1):
+        grown = dict(most)
+        for start, to, length, _, budget in edges:
+            grown[to] = max(grown[to], most[start] + SCALE * budget - rate * length)
+        if grown == most:
+            return most
+        most = grown
+    return None
+
+
+def line(edges):
+    """The least rate that no closed path passes, by halves; and the most by which a path weighs more than it up to the due of its last action."""
+    low, high = 0, SCALE * 1_000_000
+    while low < high:
+        middle = (low + high) // 2
+        low, high = (low, middle) if excesses(edges, middle) is not None else (middle + 1, high)
+    most = excesses(edges, low)
+    return low, max([0] + [most[start] + SCALE * budget - low * due for start, _, _, due, budget in edges])
+
+
+def horizon(lines, quantum):
+    """The least length from which on the supply is above the lines of all agents; None where there is none."""
+    rate, intercept = sum(rate for rate, _ in lines), sum(intercept for _, intercept in lines)
+    left = quantum * SCALE - rate
+    if left < 0 or left == 0 < intercept:
+        return None
+    return -(-intercept // left) if intercept else 0
+
+
+def demand(graphs, length):
+    """The sum of the greatest budgets of paths of which the last action is due within the length."""
+    def greatest(edges):
+        @lru_cache(None)
+        def behind(place, left):
+            here = [edge for edge in edges if edge[0] == place]
+            last = [budget for _, _, _, due, budget in here if due <= left]
+            more = [budget + behind(to, left - lasts) for _, to, lasts, _, budget in here if lasts <= left]
+            return max([0] + last + more)
+
+        return max([0] + [behind(place, length) for place in {edge[0] for edge in edges}])
+
+    return sum(map(greatest, graphs))
+
+
+def judged(program, until):
+    """The lines that a check writes of rates, and its verdict; or the one line that tells where the demand isn't supplied."""
+    graphs = [edges_of(program, agent) for agent in program.agents.values()]
+    lines = [line(edges) for edges in graphs]
+    end = horizon(lines, program.quantum)
+    top = until if end is None or end > until else end
+    for length in range(1, top + 1):
+        asked = demand(graphs, length)
+        if asked > program.quantum * length:
+            return False, [f"infeasible {length} {asked} {program.quantum * length}"]
+    rates = [f"rate {name} {rate} {intercept}" for name, (rate, intercept) in zip(program.agents, lines)]
+    return True, rates + ["feasible always" if end == top else f"feasible {until}"]
