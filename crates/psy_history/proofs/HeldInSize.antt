@@ -1,5 +1,5 @@
 -- No stream holds more messages than its queue has places, and as it held when its history began.
-use Rattle.std.proofs.Common.{◌≡◌, ℕ, zero, suc, ◌+◌, ◌-◌, ◌≤◌, All, Bool, true, false, List, [], ◌∷◌, ◌++◌, append-nil, length, length-append, Some, refl, sym, ap, ◌∙◌, subst, arith}
+use Rattle.std.proofs.Common.{◌≡◌, ℕ, zero, suc, ◌+◌, ◌-◌, ◌≤◌, All, Bool, true, false, List, [], ◌∷◌, ◌++◌, append-nil, length, length-append, refl, sym, ap, ◌∙◌, subst, arith}
 use Rattle.std.specs.Prelude.{◌&&◌, nat_le, nat_lt, filter}
 use Rattle.std.specs.List.{Contains, flat_map, range_with_len}
 use Rattle.std.proofs.lemmas.Bool.{and_from, and_parts, leb-true, lt-ltb}
@@ -11,7 +11,7 @@ use Rattle.psy_history.specs.Actions.{Action, System, stream_of, timing}
 use Rattle.psy_base.specs.Extremes.{IsGreatest}
 use Rattle.psy_history.specs.History.{history}
 use Rattle.psy_meaning.specs.QueueSizes.{MayLast, delay_of, lasting_of}
-use Rattle.psy_history.specs.Visible.{held, is_fresh, is_held, is_untaken, message_of, messages, messages_by, sent_to, swept}
+use Rattle.psy_history.specs.Visible.{held, is_fresh, is_held, is_untaken, message_of, messages_by, sent_to, swept}
 use Rattle.psy_meaning.specs.Ways.{sending_of}
 use Rattle.psy_history.specs.Ways.{IsSentBy, Ways, delay_by, is_sent}
 use Rattle.psy_history.specs.WaySizes.{IsQueueSize, IsSizeFor, IsSpread, IsSpreadBelow}

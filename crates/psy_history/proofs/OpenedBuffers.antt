@@ -1,7 +1,7 @@
 -- What a history begins with: no action, the values published before in its rings, and the messages held before in its queues.
-use Rattle.std.proofs.Common.{◌≡◌, ℕ, zero, suc, ◌+◌, ◌-◌, ◌<◌, ◌≤◌, Bool, true, false, List, [], ◌∷◌, length, map, get_or, Some, refl, sym, ap, ◌∙◌, subst, inl, inr, arith}
+use Rattle.std.proofs.Common.{◌≡◌, ℕ, zero, suc, ◌-◌, ◌<◌, ◌≤◌, Bool, true, false, List, [], ◌∷◌, length, get_or, Some, refl, sym, ap, ◌∙◌, subst, inl, inr, arith}
 use Rattle.std.specs.Prelude.{ℤ, nat_le, nat_lt, slice_get}
-use Rattle.std.specs.List.{Contains, range_with_len}
+use Rattle.std.specs.List.{Contains}
 use Rattle.std.proofs.lemmas.Bool.{cases_Bool, cases_lt, cond-false, cond-true, le-leb, le-ltb, lt-ltb}
 use Rattle.std.proofs.lemmas.List.{get_or_past}
 use Rattle.std.proofs.lemmas.List.Elements.{All-contains, All-get_or}
@@ -18,15 +18,15 @@ use Rattle.psy_history.specs.Queues.{queue_of}
 use Rattle.psy_history.specs.Regular.{IsRegular}
 use Rattle.psy_history.specs.Rings.{ring_of}
 use Rattle.psy_history.specs.Runs.{IsRun}
-use Rattle.psy_history.specs.Visible.{is_fresh, is_untaken, messages, past, published_behind, swept}
+use Rattle.psy_history.specs.Visible.{is_fresh, is_untaken, past, published_behind, swept}
 use Rattle.psy_history.specs.Ways.{Ways}
 use Rattle.psy_history.specs.WaySizes.{IsRingSize}
 use Rattle.psy_meaning.specs.Units.{IsBareStream}
 use Rattle.psy_history.proofs.ClockDates.{AreCounted, count_of_date}
 use Rattle.psy_history.proofs.Growth.{grown}
-use Rattle.psy_history.proofs.HeldMessages.{StaysThere, contains_queue, fresh_late, strictly_queue}
+use Rattle.psy_history.proofs.HeldMessages.{contains_queue, fresh_late, strictly_queue}
 use Rattle.psy_history.proofs.LastActions.{ended_by}
-use Rattle.psy_history.proofs.Members.{contains_front, contains_none}
+use Rattle.psy_history.proofs.Members.{contains_front}
 use Rattle.psy_history.proofs.MessageOrder.{same_messages}
 use Rattle.psy_history.proofs.OpenedStarts.{start_behind}
 use Rattle.psy_history.proofs.SentMessages.{AreClockLaws, HasStreams, IsBefore, contains_messages, entered_behind}

@@ -1,5 +1,5 @@
 -- What an opening keeps: a state that a run of this program's code may go on from.
-use Rattle.std.specs.Prelude.{◌≡◌, ◌⊎◌, ◌↔◌, ℕ, suc, ◌<◌, ◌≤◌, ◌^◌, true, false, List, length, map, Option, Some, None, slice_get, FitsSigned, ℤ}
+use Rattle.std.specs.Prelude.{◌≡◌, ◌⊎◌, ℕ, suc, ◌<◌, ◌≤◌, ◌^◌, true, false, List, length, map, Option, Some, None, slice_get, FitsSigned, ℤ}
 use Rattle.std.specs.Int.{w32}
 use Rattle.std.specs.List.{All, AllPairs}
 use Rattle.psy_base.specs.declared.message.Message.{Message}

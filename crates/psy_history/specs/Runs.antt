@@ -5,7 +5,6 @@ use Rattle.std.specs.List.{All, Contains}
 use Rattle.psy_code.specs.declared.code.Code.{Code}
 use Rattle.psy_code.specs.Execution.{Run, RunState, Running, RanTo, TrappedBy, NoRun, call_of, run_code}
 use Rattle.psy_code.specs.Views.{View}
-use Rattle.psy_tree.specs.declared.unit.Unit.{Unit as Whole}
 use Rattle.psy_history.specs.Actions.{System, timing}
 use Rattle.psy_meaning.specs.Alike.{IsViewOf, started}
 use Rattle.psy_history.specs.Executors.{Carried, agent_code_at, by_code, carried_by, machine_at}

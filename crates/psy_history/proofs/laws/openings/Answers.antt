@@ -1,13 +1,8 @@
 -- What is left of the proof of `laws::openings`.
-use Rattle.std.proofs.Common.{◌≡◌, ℕ, zero, suc, ◌≤◌, ◌<◌, refl, inl, inr, arith}
-use Rattle.std.specs.Prelude.{length}
+use Rattle.std.proofs.Common.{◌≡◌, ℕ, zero, suc, ◌≤◌, refl, inl, inr, arith}
 use Rattle.psy_clock.specs.Dates.{IsClock}
-use Rattle.psy_code.specs.declared.code.Code.{Code}
-use Rattle.psy_history.specs.Actions.{System, clock_of, variable_of}
+use Rattle.psy_history.specs.Actions.{clock_of, variable_of}
 use Rattle.psy_history.specs.Rings.{ring_of}
-use Rattle.psy_history.specs.Runs.{IsRun}
-use Rattle.psy_history.specs.Ways.{Ways}
-use Rattle.psy_history.specs.WaySizes.{IsRingSize}
 use Rattle.psy_history.proofs.ClockDates.{AreCounted}
 use Rattle.psy_history.proofs.Members.{get_or_holds}
 use Rattle.psy_history.proofs.OpenedBuffers.{none_early, queue_begins, ring_begins}
