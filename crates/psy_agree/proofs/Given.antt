@@ -116,7 +116,7 @@ module _ (laws : AreLaws) where
           published_fit = λ dates variable date. laws.published_fit unit nexts (stalls_of script) inputs dates variable date text are;
           messages_fit = λ dates stream. laws.messages_fit unit nexts (stalls_of script) inputs dates stream text are;
         } in
-        run_tellable s turns sizes until text.bare sized values most paced bounds.rings bounds.queues
+        run_tellable s turns sizes until text.bare sized values (record { whole = refl; count = λ agent. refl; slack = λ agent. refl }) most paced bounds.rings bounds.queues
 
     run_read : IsRead run_begins (text_of (Ran unit nexts sizes until inputs script))
     run_read =

@@ -15,7 +15,7 @@ use Rattle.psy_tree.specs.Parts.{agent_at}
 use Rattle.psy_history.specs.History.{action_of, history, with_start}
 use Rattle.psy_history.specs.Lines.{Publish, Show, events, is_date, publications, publications_by, shows, stops_by, stops_of}
 use Rattle.psy_history.specs.Schedule.{Turn}
-use Rattle.psy_history.specs.Summary.{due_by, most_held, reach, slack_of}
+use Rattle.psy_history.specs.Summary.{added_to, due_by, most_held, numbers_in, reach, slack_of}
 use Rattle.psy_base.specs.Extremes.{least_of, lesser}
 use Rattle.psy_meaning.specs.Units.{IsBare}
 use Rattle.psy_history.specs.Visible.{messages, published}
@@ -108,6 +108,12 @@ pub record HasValues (s : System) : Type 0 where
   pub published_fit : (dates variable date : ℕ) → FitsSigned w32 (published s (history s dates) variable date)
   pub messages_fit : (dates stream : ℕ) → All (λ (m : Message). FitsSigned w32 m.value) (messages s (history s dates) stream)
 
+-- Nothing was done before, and no action was counted.
+pub record IsPlain (s : System) : Type 0 where
+  pub whole : s.opening.dates ≡ 0
+  pub count : (agent : ℕ) → s.opening.count agent ≡ 0
+  pub slack : (agent : ℕ) → s.opening.slack agent ≡ None
+
 events_tellable : (s : System) → HasNames s → HasValues s → (date : ℕ) → AllByRecursion (IsTellable s) (events s date)
 events_tellable s names values date =
     let h = history s (date + 1) in
@@ -144,7 +150,7 @@ short_below : (size : ℕ) (o : Option ℕ) → size < 2 ^ 32 → ((n : ℕ) →
 short_below size None small below = tt
 short_below size (Some n) small below = omega (arith, small, below n refl)
 
-module _ (s : System) (turns : List (Option Turn)) (sizes : Sizes) (until : ℕ) (bare : IsBare s.unit) (buffers : AreSizes s.unit s.nexts sizes) (values : HasValues s) (most : until ≤ UNTIL) (paced : until * s.unit.quantum ≤ RUN)
+module _ (s : System) (turns : List (Option Turn)) (sizes : Sizes) (until : ℕ) (bare : IsBare s.unit) (buffers : AreSizes s.unit s.nexts sizes) (values : HasValues s) (plain : IsPlain s) (most : until ≤ UNTIL) (paced : until * s.unit.quantum ≤ RUN)
     (rings : (variable n : ℕ) → variable < length s.unit.variables → reach s turns (history s (until + 1)) variable ≡ Some n → n < get_or sizes.rings variable 0)
     (queues : (stream : ℕ) → stream < length s.unit.streams → most_held s until stream ≤ get_or sizes.queues stream 0) where
   ring_short : (variable : ℕ) → variable < length s.unit.variables → IsShort (get_or sizes.rings variable 0)
@@ -157,6 +163,7 @@ module _ (s : System) (turns : List (Option Turn)) (sizes : Sizes) (until : ℕ)
   run_tellable =
       let names = has_names s bare in
       record {
+        whole = plain.whole;
         most = most;
         events_told = λ date within. events_tellable s names values date;
         few_agents = bare.agent_limit;
@@ -165,8 +172,12 @@ module _ (s : System) (turns : List (Option Turn)) (sizes : Sizes) (until : ℕ)
         agents = names.agents;
         variables = names.variables;
         streams = names.streams;
-        counts = λ agent. omega (arith, length_filter (λ (r : Action). nat_le r.deadline until) (history s (until + 1) agent), few_actions s (until + 1) agent, most);
-        slacks = λ agent. least_long (map (slack_of s.unit.quantum turns) (due_by until (history s (until + 1) agent))) (slacks_long s.unit.quantum until turns (history s (until + 1) agent) paced);
+        counts = λ agent. (let actions = history s (until + 1) agent in
+            let few : length (due_by until actions) < 2 ^ 64 = omega (arith, length_filter (λ (r : Action). nat_le r.deadline until) actions, few_actions s (until + 1) agent, most) in
+            subst (λ n. IsLong (added_to n (length (due_by until actions)))) (sym (plain.count agent)) few);
+        slacks = λ agent. (let due = due_by until (history s (until + 1) agent) in
+            let slacks = map (slack_of s.unit.quantum turns) due in
+            subst (λ o. OrNone IsLong (least_of (numbers_in o ++ slacks))) (sym (plain.slack agent)) (least_long slacks (slacks_long s.unit.quantum until turns (history s (until + 1) agent) paced)));
         rings = ring_short;
         reaches = λ variable less. short_below (get_or sizes.rings variable 0) (reach s turns (history s (until + 1)) variable) (ring_short variable less) (λ n far. rings variable n less far);
         queues = queue_short;

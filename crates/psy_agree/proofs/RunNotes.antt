@@ -16,7 +16,7 @@ use Rattle.psy_tree.specs.Parts.{agent_at}
 use Rattle.psy_history.specs.History.{history}
 use Rattle.psy_history.specs.Lines.{Event, Stop, Publish, Show, events}
 use Rattle.psy_history.specs.Schedule.{Turn}
-use Rattle.psy_history.specs.Summary.{due_by, most_held, reach, slack}
+use Rattle.psy_history.specs.Summary.{dates_from, due_by, due_count, least_slack, most_held, reach}
 use Rattle.psy_notes.specs.Notes.{IsLong, IsShort, OrNone}
 use Rattle.psy_notes.specs.Stands.{run_begins}
 use Rattle.psy_notes.specs.Texts.{IsText, text_of}
@@ -45,7 +45,7 @@ module _ (s : System) where
     abbrev agent_note : ℕ → Note
     agent_note agent =
         let due = due_by until (history s (until + 1) agent) in
-        note.AgentEnd (named (agent_at s.unit agent).name) (length due) (slack s.unit.quantum turns due)
+        note.AgentEnd (named (agent_at s.unit agent).name) (due_count s agent due) (least_slack s turns agent due)
 
     abbrev variable_note : ℕ → Note
     variable_note variable = note.VariableEnd (named (variable_of s variable).name) (get_or sizes.rings variable 0) (reach s turns (history s (until + 1)) variable)
@@ -103,8 +103,9 @@ IsTellable s (Stop agent trap) = IsName (agent_at s.unit agent).name
 IsTellable s (Publish variable value) = IsName (variable_of s variable).name × FitsSigned w32 value
 IsTellable s (Show stream value) = IsName (stream_of s stream).name × FitsSigned w32 value
 
--- A run whose names are words, and whose numbers have the bits of their places
+-- A whole run whose names are words, and whose numbers have the bits of their places
 pub record IsTellableRun (s : System) (turns : List (Option Turn)) (sizes : Sizes) (until : ℕ) : Type 0 where
+  pub whole : s.opening.dates ≡ 0
   pub most : until ≤ UNTIL
   pub events_told : (date : ℕ) → date ≤ until → AllByRecursion (IsTellable s) (events s date)
   pub few_agents : length s.unit.agents ≤ AGENTS
@@ -113,8 +114,8 @@ pub record IsTellableRun (s : System) (turns : List (Option Turn)) (sizes : Size
   pub agents : (agent : ℕ) → agent < length s.unit.agents → IsName (agent_at s.unit agent).name
   pub variables : (variable : ℕ) → variable < length s.unit.variables → IsName (variable_of s variable).name
   pub streams : (stream : ℕ) → stream < length s.unit.streams → IsName (stream_of s stream).name
-  pub counts : (agent : ℕ) → IsLong (length (due_by until (history s (until + 1) agent)))
-  pub slacks : (agent : ℕ) → OrNone IsLong (slack s.unit.quantum turns (due_by until (history s (until + 1) agent)))
+  pub counts : (agent : ℕ) → IsLong (due_count s agent (due_by until (history s (until + 1) agent)))
+  pub slacks : (agent : ℕ) → OrNone IsLong (least_slack s turns agent (due_by until (history s (until + 1) agent)))
   pub rings : (variable : ℕ) → variable < length s.unit.variables → IsShort (get_or sizes.rings variable 0)
   pub reaches : (variable : ℕ) → variable < length s.unit.variables → OrNone IsShort (reach s turns (history s (until + 1)) variable)
   pub queues : (stream : ℕ) → stream < length s.unit.streams → IsShort (get_or sizes.queues stream 0)
@@ -161,7 +162,10 @@ module _ (s : System) (turns : List (Option Turn)) (sizes : Sizes) (until : ℕ)
   -- And so is the whole run
   pub run_is_read : (notes : List Note) × IsText run_begins (log_of s (until + 1) ++ lines_text (summary_by s turns sizes until)) notes
   run_is_read =
-      let dated = flat_map (date_notes s) (range_with_len 0 (until + 1)) in
+      let dates = range_with_len 0 (until + 1) in
+      let dated = flat_map (date_notes s) dates in
+      let whole : flat_map (λ date. lines_text (lines_of s date)) dates ≡ log_of s (until + 1) =
+      sym (ap (λ first. flat_map (λ date. lines_text (lines_of s date)) (dates_from first (until + 1))) run.whole) in
       let same : text_of (dated ++ summary) ≡ log_of s (until + 1) ++ lines_text (summary_by s turns sizes until) =
-      flat_map-append line_of dated summary ∙ (λ i. dates_same s turns sizes until (range_with_len 0 (until + 1)) i ++ summary_same s turns sizes until i) in
+      flat_map-append line_of dated summary ∙ (λ i. (dates_same s turns sizes until dates ∙ whole) i ++ summary_same s turns sizes until i) in
       (dated ++ summary, subst (λ text. IsText run_begins text (dated ++ summary)) same (run_reads until (date_notes s) _ _ _ are_notes))

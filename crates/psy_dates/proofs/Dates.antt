@@ -128,10 +128,11 @@ module _ (plan : Plan) (inputs : List (List ℤ)) (stalls : ℕ → List Stall) 
       let within : variable < length plan.unit.variables = omega (arith, slice_get_within new.rings.items variable ring is, moved.ringed, stands.ringed) in
       let before = get_or old.rings.items variable [] in
       let was : slice_get old.rings.items variable ≡ Some before = slice_get-get_or old.rings.items variable [] (omega (arith, within, stands.ringed)) in
+      let behind : 0 ≤ date = omega arith in
       let value = get_or new.committed.items variable (pos 0) in
       let committed = committed_is variable value (slice_get-get_or new.committed.items variable (pos 0) (omega (arith, within, moved.valued, stands.valued))) in
       subst (RingStands s (date + 1) variable) (same_Some _ _ (sym (moved.rings variable before was) ∙ is))
-      (ring_moves s date variable (goes variable (clock_is variable within)) new.committed.items before
+      (ring_moves s date variable behind (goes variable (clock_is variable within)) new.committed.items before
       (subst (λ n. value ≡ committed_by s (history s n) variable date (variable_of s variable).owner) (sym (add-one date)) committed) (stands.rings variable before was))
 
   pub shared_moves : SharedStands s turns (date + 1) new

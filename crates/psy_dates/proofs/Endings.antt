@@ -21,13 +21,13 @@ use Rattle.psy_dates.proofs.Phases.{of_done, of_stopped}
 pub record Tells (s : System) (date : ℕ) (turns : List (Option Turn)) (agent : ℕ) (r : Action) (before : List Action) (seat : Seat) : Type 0 where
   pub ends : ends_at date (Some seat) ≡ ended_at date r.verdict
   pub ended : ended_at date r.verdict ≡ true → (seat.phase ≡ phase.Ended) × (phase_of (date - 1) turns r ≡ phase.Ended)
-  pub swept : (first : ℕ) → sweeps_by date first seat seat.phase ≡ sweeps date (r ∷ before) (next_of s agent (r ∷ before))
+  pub swept : (first : ℕ) → sweeps_by date first seat seat.phase ≡ sweeps (s.opening.silent agent) date (r ∷ before) (next_of s agent (r ∷ before))
   pub other : (took : ℕ) → ended_at date r.verdict ≡ false → sweeps_by date 0 seat seat.phase ≡ true → gone_by took seat.phase ≡ 0
 
 module _ (s : System) (lawful : IsLawful s) (date : ℕ) (turns : List (Option Turn)) (agent : ℕ) (r : Action) (before : List Action) (is : history s date agent ≡ r ∷ before) (seat : Seat) (stands : SeatOf (date - 1) turns r seat) (late : seat.deadline ≤ date → seat.phase ≢ phase.Acting) where
   -- the seat of an agent whose phase is known
   tells_at : (p : Phase) → seat.phase ≡ p → ends_by p (seat.end == date) ≡ ended_at date r.verdict → (ended_at date r.verdict ≡ true → (p ≡ phase.Ended) × (phase_of (date - 1) turns r ≡ phase.Ended))
-      → ((first : ℕ) → sweeps_by date first seat p ≡ sweeps date (r ∷ before) (next_of s agent (r ∷ before))) → ((took : ℕ) → ended_at date r.verdict ≡ false → sweeps_by date 0 seat p ≡ true → gone_by took p ≡ 0) → Tells s date turns agent r before seat
+      → ((first : ℕ) → sweeps_by date first seat p ≡ sweeps (s.opening.silent agent) date (r ∷ before) (next_of s agent (r ∷ before))) → ((took : ℕ) → ended_at date r.verdict ≡ false → sweeps_by date 0 seat p ≡ true → gone_by took p ≡ 0) → Tells s date turns agent r before seat
   tells_at p at ends ended swept other = record {
     ends = ap (λ p. ends_by p (seat.end == date)) at ∙ ends;
     ended = λ e. (at ∙ (ended e).0, (ended e).1);
@@ -39,7 +39,7 @@ module _ (s : System) (lawful : IsLawful s) (date : ℕ) (turns : List (Option T
   done point end verdict =
       let ends = (is_regular s lawful date agent r before is).ends point end verdict in
       let is_now : phase_of (date - 1) turns r ≡ phase_by false (is_pending turns r) true = of_done (date - 1) turns r (ap is_done verdict) in
-      let next : sweeps date (r ∷ before) (next_of s agent (r ∷ before)) ≡ (end == date) = ap (λ v. sweeps date (r ∷ before) (next_by r.number r.after v)) verdict in
+      let next : sweeps (s.opening.silent agent) date (r ∷ before) (next_of s agent (r ∷ before)) ≡ (end == date) = ap (λ v. sweeps (s.opening.silent agent) date (r ∷ before) (next_by r.number r.after v)) verdict in
       let at_end : ended_at date r.verdict ≡ (end == date) = ap (ended_at date) verdict in
       elim (cases_Bool (is_pending turns r)) [
         | inl pending ↦ (
@@ -57,7 +57,7 @@ module _ (s : System) (lawful : IsLawful s) (date : ℕ) (turns : List (Option T
   stopped : is_done r.verdict ≡ false → ended_at date r.verdict ≡ false → next_by r.number r.after r.verdict ≡ None → Tells s date turns agent r before seat
   stopped verdict not_ended none =
       let is_now : phase_of (date - 1) turns r ≡ phase_by (nat_le r.deadline (date - 1)) (is_pending turns r) false = of_stopped (date - 1) turns r verdict in
-      let next : sweeps date (r ∷ before) (next_of s agent (r ∷ before)) ≡ nat_le r.deadline date = ap (sweeps date (r ∷ before)) none ∙ ap (λ (done : Bool). silent_by done) verdict in
+      let next : sweeps (s.opening.silent agent) date (r ∷ before) (next_of s agent (r ∷ before)) ≡ nat_le r.deadline date = ap (sweeps (s.opening.silent agent) date (r ∷ before)) none ∙ ap (λ (done : Bool). silent_by done) verdict in
       let never : ended_at date r.verdict ≡ true → (p : Phase) → (p ≡ phase.Ended) × (phase_of (date - 1) turns r ≡ phase.Ended) = λ e p. (let no : true ≡ false = sym e ∙ not_ended in cc) in
       elim (cases_Bool (nat_le r.deadline (date - 1))) [
         | inl silent ↦ (

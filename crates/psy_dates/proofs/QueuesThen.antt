@@ -31,9 +31,9 @@ same_settled date queue false some more same = refl
 
 -- A queue that holds what is left of a stream's messages, where the receiver's actions before the date are these
 abbrev settled_queue : System → ℕ → ℕ → ℕ → List Action → Queued → Queued
-settled_queue s date stream agent actions queue = record queue { messages = settled_by date stream actions (next_of s agent actions) queue.messages }
+settled_queue s date stream agent actions queue = record queue { messages = settled_by (s.opening.silent agent) date stream actions (next_of s agent actions) queue.messages }
 
-settled_alike : (s : System) (date stream agent first : ℕ) (actions : List Action) (seat : Seat) (took : ℕ) (queue : Queued) → sweeps_by date first seat seat.phase ≡ sweeps date actions (next_of s agent actions) → (sweeps_by date first seat seat.phase ≡ true → gone_by took seat.phase ≡ given_up date stream actions)
+settled_alike : (s : System) (date stream agent first : ℕ) (actions : List Action) (seat : Seat) (took : ℕ) (queue : Queued) → sweeps_by date first seat seat.phase ≡ sweeps (s.opening.silent agent) date actions (next_of s agent actions) → (sweeps_by date first seat seat.phase ≡ true → gone_by took seat.phase ≡ given_up date stream actions)
     → settled_then date first seat took queue ≡ settled_queue s date stream agent actions queue
 settled_alike s date stream agent first actions seat took queue swept gone =
     same_settled date queue (sweeps_by date first seat seat.phase) (gone_by took seat.phase) (given_up date stream actions) gone
@@ -76,7 +76,7 @@ module _ (s : System) (lawful : IsLawful s) (date : ℕ) (turns : List (Option T
     where
       from : (actions : List Action) → history s date agent ≡ actions → SeatStands (date - 1) turns actions seat → KeepsTakes (date - 1) turns stream actions took → settled_then date first seat took queue ≡ settled_queue s date stream agent actions queue
       from [] is waits keeps = settled_alike s date stream agent first [] seat took queue
-          (ap (sweeps_by date first seat) waits ∙ ap (λ k. k == date) (sym start) ∙ sym (ap (sweeps date []) starts))
+          (ap (sweeps_by date first seat) waits ∙ ap (λ k. k == date) (sym start) ∙ sym (ap (sweeps (s.opening.silent agent) date []) starts))
           (λ sweep. ap (gone_by took) waits)
       from (r ∷ before) is of keeps =
           let told = tells s lawful date turns agent r before is seat of late in
@@ -109,9 +109,9 @@ module _ (s : System) (lawful : IsLawful s) (agent : ℕ) (r : Action) (before :
     unsettled : (date : ℕ) → history s date agent ≡ r ∷ before → date < end → settled s date stream (queue_of s date stream) ≡ queue_of s date stream
     unsettled date is early =
         let held = queue_of s date stream in
-        ap (λ a. settled_by date stream (history s date a) (next_of s a (history s date a)) held) receives
-        ∙ ap (λ actions. settled_by date stream actions (next_of s agent actions) held) is
-        ∙ cond-false (sweeps date (r ∷ before) (next_of s agent (r ∷ before))) _ _ (ap (λ v. sweeps date (r ∷ before) (next_by r.number r.after v)) verdict ∙ ne_eqb end date (λ e. omega (arith, e, early)))
+        ap (λ a. settled_by (s.opening.silent a) date stream (history s date a) (next_of s a (history s date a)) held) receives
+        ∙ ap (λ actions. settled_by (s.opening.silent agent) date stream actions (next_of s agent actions) held) is
+        ∙ cond-false (sweeps (s.opening.silent agent) date (r ∷ before) (next_of s agent (r ∷ before))) _ _ (ap (λ v. sweeps (s.opening.silent agent) date (r ∷ before) (next_by r.number r.after v)) verdict ∙ ne_eqb end date (λ e. omega (arith, e, early)))
 
     -- until the action ends the stream holds no less than what it saw
     pub seen_held : (date : ℕ) → history s (suc date) agent ≡ r ∷ before → date < end → length (r.seen stream) ≤ length (queue_of s (suc date) stream)

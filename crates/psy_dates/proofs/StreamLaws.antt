@@ -38,18 +38,19 @@ Looks s = (date stream agent : ℕ) (decl : StreamDecl) (r : Action) (before : L
 pub stream_laws : (plan : Plan) (inputs : List (List ℤ)) (stalls : ℕ → List Stall) → IsRun (system_of plan inputs stalls) (OfText plan.unit) plan.code
     → ((unit : Whole) (nexts : List (List (List ℕ))) (stream size : ℕ) → IsQueueSize unit nexts stream size → by_ways.IsQueueSize unit (OfText unit) nexts stream size)
     → OfEach (λ s ways. (dates agent : ℕ) → All (λ r. All (IsSentBy ways s.unit) r.deeds.sends) (history s dates agent))
-    → OfEach (λ s ways. (date stream : ℕ) → stream < length s.unit.streams → queue_of s (date + 1) stream ≡ entered (entering s date stream) (settled s date stream (queue_of s date stream)))
+    → OfEach (λ s ways. (date stream : ℕ) → s.opening.dates ≤ date → stream < length s.unit.streams → queue_of s (date + 1) stream ≡ entered (entering s date stream) (settled s date stream (queue_of s date stream)))
     → OfEach (λ s ways. Looks s)
-    → OfEach (λ s ways. (date stream size : ℕ) → stream < length s.unit.streams → by_ways.IsQueueSize s.unit ways s.nexts stream size → size ≤ QUEUE → length (queue_of s date stream) ≤ size)
+    → OfEach (λ s ways. (date stream size : ℕ) → stream < length s.unit.streams → by_ways.IsQueueSize s.unit ways s.nexts stream size → size ≤ QUEUE → length (queue_of s date stream) ≤ size + length (s.opening.messages stream))
     → AreStreamLaws (system_of plan inputs stalls)
 stream_laws plan inputs stalls run of_text sends next look held =
     let s = system_of plan inputs stalls in
     let ways = OfText plan.unit in
     record {
-      next = next s ways plan.code run;
+      next = λ date stream less. (let behind : 0 ≤ date = omega arith in next s ways plan.code run date stream behind less);
       look = λ date stream agent decl r before at is there early.
           (let first = (look s ways plan.code run date stream agent decl r before at is there early).1 in omega (arith, ap length first, length-take (length (r.seen stream)) (queue_of s (date + 1) stream)));
-      held = λ date stream size less is small. held s ways plan.code run date stream size less (of_text plan.unit plan.nexts stream size is) small;
+      held = λ date stream size less is small.
+          (let few : length (queue_of s date stream) ≤ size + 0 = held s ways plan.code run date stream size less (of_text plan.unit plan.nexts stream size is) small in omega (arith, few));
       fit = λ date agent r before is.
           All-weaker (IsSentBy ways plan.unit) (IsSentOf plan.unit) (λ sent by. by.fits) r.deeds.sends
           (All-head (λ (x : Action). All (IsSentBy ways plan.unit) x.deeds.sends) r before (subst (All (λ (x : Action). All (IsSentBy ways plan.unit) x.deeds.sends)) is (sends s ways plan.code run date agent)));

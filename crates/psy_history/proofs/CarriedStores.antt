@@ -13,7 +13,7 @@ use Rattle.psy_history.specs.Executors.{Carried, carried_in, cut, store_of}
 use Rattle.psy_tree.specs.Parts.{agent_at}
 use Rattle.psy_meaning.specs.States.{Store}
 use Rattle.psy_history.specs.Compiled.{IsCompiled}
-use Rattle.psy_history.specs.Runs.{MayCarry}
+use Rattle.psy_history.specs.Openings.{MayCarry}
 use Rattle.psy_history.proofs.Cuts.{lengths_of}
 use Rattle.psy_history.proofs.Members.{all_flat_map}
 use Rattle.psy_history.proofs.Stores.{AreStoreLaws, Carries, alike}

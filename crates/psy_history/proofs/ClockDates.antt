@@ -53,6 +53,15 @@ module _ (counted : AreCounted) (c : Clock) (is : IsClock c) where
   date_rises : (i : ℕ) → date c i < date c (suc i)
   date_rises i = (let e : suc i * c.period ≡ i * c.period + c.period = suc-mul i c.period in omega (arith, is.first, e))
 
+  -- Up to a date stand those of no greater number.
+  pub count_of_date : (i : ℕ) → count c (date c i) ≡ suc i
+  count_of_date i =
+      let some : i < count c (date c i) = (counted.upto c (date c i) i is).0 (omega arith) in
+      elim (cases_lt (suc i) (count c (date c i))) [
+        | inl more ↦ absurd (omega (arith, (counted.upto c (date c i) (suc i) is).1 more, date_rises i))
+        | inr few ↦ omega (arith, some, few)
+      ]
+
   -- A date's number is how many stand below it.
   pub date_is : (t : ℕ) → is_date c t ≡ true → date c (count_below c t) ≡ t
   date_is t d =

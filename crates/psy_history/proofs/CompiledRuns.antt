@@ -6,9 +6,9 @@ use Rattle.std.specs.Int.{◌∣◌}
 use Rattle.std.proofs.lemmas.Nat.Gcd.{dvd-zero}
 use Rattle.std.proofs.lemmas.Bool.{cases_Bool, cases_lt, eq-eqb}
 use Rattle.std.proofs.lemmas.List.{map-append}
-use Rattle.std.proofs.lemmas.List.Elements.{All-contains, Contains-append_left, Contains-get_or}
+use Rattle.std.proofs.lemmas.List.Elements.{All-contains, All-nil, Contains-append_left, Contains-get_or}
 use Rattle.std.proofs.lemmas.List.Sums.{sum_by-append, sum_by-cons}
-use Rattle.std.proofs.lemmas.Option.{slice_get-get_or}
+use Rattle.std.proofs.lemmas.Option.{none-some, slice_get-get_or}
 use Rattle.psy_arith.specs.declared.operators.Trap.{Trap}
 use Rattle.psy_budget.specs.declared.charge.Stall.{Stall}
 use Rattle.psy_code.specs.declared.code.AgentCode.{AgentCode}
@@ -36,7 +36,9 @@ use Rattle.psy_meaning.specs.Timing.{MayStart, Timing, first, first_date, follow
 use Rattle.psy_meaning.specs.Ways.{IsFrontOf, IsWay, Meter, Sending, met_by, sending_of}
 use Rattle.psy_history.specs.Compiled.{AreInputs, IsCompiled, coded}
 use Rattle.psy_history.specs.Regular.{MayAsk, MayStartAlike}
-use Rattle.psy_history.specs.Runs.{GoesWell, IsOpened, IsRun, MayCarry, StandsWell}
+use Rattle.psy_history.specs.Openings.{IsHeldBefore, IsSound, MayCarry}
+use Rattle.psy_queue.specs.Order.{comes_before}
+use Rattle.psy_history.specs.Runs.{GoesWell, IsRun, StandsWell}
 use Rattle.psy_history.specs.Ways.{HasMost, IsSentBy, OfText, SendsAtMost, is_sent, is_some_sending}
 use Rattle.psy_history.proofs.CarriedStores.{carries_of, may_carry}
 use Rattle.psy_history.proofs.GoingOn.{looked_at, sent_there}
@@ -44,6 +46,7 @@ use Rattle.psy_history.proofs.Growth.{opens_with}
 use Rattle.psy_history.proofs.HeldWindow.{most_above}
 use Rattle.psy_history.proofs.LateLooks.{over_stays}
 use Rattle.psy_history.proofs.Members.{all_members, contains_map, contains_none, filter_in, flat_map_in, get_or_holds}
+use Rattle.psy_history.proofs.MessageOrder.{pairs_none}
 use Rattle.psy_history.proofs.OutboxSizes.{count_none}
 use Rattle.psy_history.proofs.Seeing.{Fits, zero_fits}
 use Rattle.psy_history.proofs.Sights.{SeesAs, same_running, sees_as, there_found}
@@ -284,11 +287,13 @@ module _ (unit : Whole) (code : Code) (nexts : List (List (List ℕ))) (stalls :
 
   -- ---- where it begins
 
-  opened : IsOpened system code
+  opened : IsSound system (OfText unit) code
   opened = record {
-    begins = λ agent less.
+    begins = λ agent less loud.
         let begins = first_action unit nexts (by_code code) agent in
-        (begins, ap (λ o. found_in o (λ a. Some begins)) (at agent less), refl);
+        (begins, ap (λ o. found_in o (λ a. Some begins)) (at agent less));
+    known = λ agent n is. ((opens_with unit nexts (by_code code) stalls inputs agent n is).0, refl);
+    places = λ agent n is. inr (record { first = sym (opens_with unit nexts (by_code code) stalls inputs agent n is).1; ahead = omega arith; committed = λ variable owned. refl });
     starts = λ agent n is.
         let (less, begins) = opens_with unit nexts (by_code code) stalls inputs agent n is in
         let times = timing system agent in
@@ -299,13 +304,20 @@ module _ (unit : Whole) (code : Code) (nexts : List (List (List ℕ))) (stalls :
           whole = all_members (λ period. period ∣ 0) (periods times) (λ period c. dvd-zero period);
           far = inl (omega arith);
         } in
-        (less, subst (λ (m : Next). MayStartAlike times m.point m.start) begins alike);
+        subst (λ (m : Next). MayStartAlike times m.point m.start) begins alike;
     carries = λ agent n is.
         let (less, begins) = opens_with unit nexts (by_code code) stalls inputs agent n is in
         let carried = may_carry unit code nexts laws.stores compiled agent less (first_store unit agent (agent_at unit agent)) (laws.stores.first agent (agent_at unit agent) (at agent less)) in
         subst (λ (m : Next). MayCarry unit code agent m.carried) begins (subst (MayCarry unit code agent) (sym (first_carried unit code nexts laws.stores compiled agent less)) carried);
     committed = λ variable. get_or_holds (λ v. Fits v.init) unit.variables variable _ zero_fits laws.stores.sound.values;
-    messages = λ stream. refl;
+    inputs = λ variable none. refl;
+    published = λ variable. All-nil Fits;
+    rings = λ last variable none less. absurd cc;
+    messages = λ stream. record { each = All-nil (IsHeldBefore system stream); rise = pairs_none (λ m n. comes_before m n ≡ true); few = omega arith };
+    counts = λ agent. omega arith;
+    slacks = λ agent. refl;
+    reaches = λ variable size n ring is. absurd (none-some n is);
+    most = λ stream size is. omega arith;
   }
 
   pub compiled_run : IsRun system (OfText unit) code

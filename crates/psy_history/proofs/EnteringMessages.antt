@@ -1,5 +1,5 @@
 -- The messages that enter a stream at a date: those of its history that have this entry.
-use Rattle.std.proofs.Common.{◌≡◌, ◌↔◌, ℕ, suc, ◌<◌, true, false, if◌then◌else◌, List, [], ◌∷◌, length, refl, sym, ap, ◌∙◌, subst, inl, inr, arith}
+use Rattle.std.proofs.Common.{◌≡◌, ◌↔◌, ℕ, suc, ◌<◌, ◌≤◌, true, false, if◌then◌else◌, List, [], ◌∷◌, length, refl, sym, ap, ◌∙◌, subst, inl, inr, arith}
 use Rattle.std.specs.List.{Contains, range_with_len}
 use Rattle.std.proofs.lemmas.Bool.{cases_Bool, cond_both, eq-eqb, eqb-true}
 use Rattle.std.proofs.lemmas.List.Elements.{All-contains}
@@ -14,7 +14,7 @@ use Rattle.psy_history.proofs.LastActions.{ended_before, last_began}
 use Rattle.psy_history.proofs.Members.{contains_front, contains_none, flat_map_from, flat_map_in, front_or_behind}
 use Rattle.psy_history.proofs.MessageOrder.{differing, pairs_none}
 use Rattle.psy_history.proofs.Reached.{in_range, of_range}
-use Rattle.psy_history.proofs.SentMessages.{AreClockLaws, HasStreams, apart, by_apart, contains_messages, known, pairs_flat_map, range_rises, sent_is}
+use Rattle.psy_history.proofs.SentMessages.{AreClockLaws, HasStreams, IsBefore, apart, by_apart, contains_messages, known, pairs_flat_map, range_rises, sent_is}
 
 -- An action that ends at a date has it as its end.
 ends_there : (date : ℕ) (verdict : Verdict) → ends_at date verdict ≡ true → (point end : ℕ) → verdict ≡ Done point end → end ≡ date
@@ -51,7 +51,7 @@ module _ (s : System) (streams : HasStreams s) (laws : AreClockLaws) (date strea
       let (agent, among, within) = flat_map_from of_agent (range_with_len 0 (length s.unit.agents)) m c in
       let (entry, sender, (r, there, its)) = entry_of agent m within in
       let known_then = stays_started s date (suc date) agent r (omega arith) there in
-      ((contains_messages s streams (history s (suc date)) stream m).1 (agent, r, of_range agent (length s.unit.agents) among, known_then, its), entry)
+      ((contains_messages s streams (history s (suc date)) stream m).1 (inr (agent, r, of_range agent (length s.unit.agents) among, known_then, its)), entry)
 
   -- an action that ends at a date is its agent's last one before that date
   is_last : (agent : ℕ) (actions : List Action) (r : Action) (m : Message) (point : ℕ) → history s date agent ≡ actions → Contains actions r → r.verdict ≡ Done point date → Contains (sent_by r) m → Contains (entering_of s date stream actions) m
@@ -68,20 +68,22 @@ module _ (s : System) (streams : HasStreams s) (laws : AreClockLaws) (date strea
         absurd (omega (arith, is, early, began.0)))
   ]
 
-  -- and each such message enters.
-  into_entering : (m : Message) → Contains (messages s (history s (suc date)) stream) m → m.entry ≡ date → Contains (entering s date stream) m
-  into_entering m c at =
-      let (agent, r, less, there, its) = (contains_messages s streams (history s (suc date)) stream m).0 c in
-      let is = sent_is s streams laws stream r m its in
-      let regular = All-contains (IsRegular s agent) (history s (suc date) agent) r (streams.lawful.actions (suc date) agent).each there in
-      let early : r.start < date = omega (arith, at, regular.due, (regular.ends is.point m.entry is.done).2) in
-      let done : r.verdict ≡ Done is.point date = is.done ∙ ap (Done is.point) at in
-      flat_map_in of_agent (range_with_len 0 (length s.unit.agents)) agent m (in_range agent (length s.unit.agents) less)
-      (is_last agent (history s date agent) r m is.point refl (known s streams (suc date) date agent r there early) done its)
+  -- and each such message enters, behind the dates that were done before.
+  into_entering : s.opening.dates ≤ date → (m : Message) → Contains (messages s (history s (suc date)) stream) m → m.entry ≡ date → Contains (entering s date stream) m
+  into_entering later m c at = elim ((contains_messages s streams (history s (suc date)) stream m).0 c) [
+    | inl held ↦ absurd (omega (arith, at, later, (All-contains (IsBefore s.opening.dates) (s.opening.messages stream) m (streams.held stream) held).entered))
+    | inr (agent, r, less, there, its) ↦ (
+        let is = sent_is s streams laws stream r m its in
+        let regular = All-contains (IsRegular s agent) (history s (suc date) agent) r (streams.lawful.actions (suc date) agent).each there in
+        let early : r.start < date = omega (arith, at, regular.due, (regular.ends is.point m.entry is.done).2) in
+        let done : r.verdict ≡ Done is.point date = is.done ∙ ap (Done is.point) at in
+        flat_map_in of_agent (range_with_len 0 (length s.unit.agents)) agent m (in_range agent (length s.unit.agents) less)
+        (is_last agent (history s date agent) r m is.point refl (known s streams (suc date) date agent r there early) done its))
+  ]
 
   -- So the messages of that entry enter, and no others.
-  pub contains_entering : (m : Message) → Contains (entering s date stream) m ↔ (Contains (messages s (history s (suc date)) stream) m × (m.entry ≡ date))
-  contains_entering m = (from_entering m, λ h. into_entering m h.0 h.1)
+  pub contains_entering : s.opening.dates ≤ date → (m : Message) → Contains (entering s date stream) m ↔ (Contains (messages s (history s (suc date)) stream) m × (m.entry ≡ date))
+  contains_entering later m = (from_entering m, λ h. into_entering later m h.0 h.1)
 
   -- ---- no two are the same
 

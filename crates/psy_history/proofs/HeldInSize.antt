@@ -1,27 +1,26 @@
--- No stream holds more messages than its queue has places.
-use Rattle.std.proofs.Common.{◌≡◌, ℕ, zero, suc, ◌+◌, ◌-◌, ◌≤◌, All, Bool, true, false, List, [], ◌∷◌, ◌++◌, append-nil, length, length-append, Some, refl, sym, ap, ◌∙◌, subst, arith}
+-- No stream holds more messages than its queue has places, and as it held when its history began.
+use Rattle.std.proofs.Common.{◌≡◌, ℕ, zero, suc, ◌+◌, ◌-◌, ◌≤◌, All, Bool, true, false, List, [], ◌∷◌, ◌++◌, append-nil, length, length-append, refl, sym, ap, ◌∙◌, subst, arith}
 use Rattle.std.specs.Prelude.{◌&&◌, nat_le, nat_lt, filter}
 use Rattle.std.specs.List.{Contains, flat_map, range_with_len}
-use Rattle.std.proofs.lemmas.Bool.{and_from, and_parts, lt-ltb}
+use Rattle.std.proofs.lemmas.Bool.{and_from, and_parts, leb-true, lt-ltb}
 use Rattle.std.proofs.lemmas.List.Concat.{flat_map-append}
 use Rattle.std.proofs.lemmas.List.Elements.{All-contains, filter-append}
 use Rattle.psy_base.specs.declared.limits.TheConstants.{QUEUE}
 use Rattle.psy_base.specs.declared.message.Message.{Message}
-use Rattle.psy_history.specs.Actions.{Action, Next, System, stream_of, timing}
+use Rattle.psy_history.specs.Actions.{Action, System, stream_of, timing}
 use Rattle.psy_base.specs.Extremes.{IsGreatest}
 use Rattle.psy_history.specs.History.{history}
 use Rattle.psy_meaning.specs.QueueSizes.{MayLast, delay_of, lasting_of}
-use Rattle.psy_meaning.specs.Timing.{first_date}
-use Rattle.psy_history.specs.Visible.{held, is_fresh, is_held, is_untaken, message_of, messages, messages_by, sent_to, swept}
+use Rattle.psy_history.specs.Visible.{held, is_fresh, is_held, is_untaken, message_of, messages_by, sent_to, swept}
 use Rattle.psy_meaning.specs.Ways.{sending_of}
 use Rattle.psy_history.specs.Ways.{IsSentBy, Ways, delay_by, is_sent}
 use Rattle.psy_history.specs.WaySizes.{IsQueueSize, IsSizeFor, IsSpread, IsSpreadBelow}
-use Rattle.psy_history.proofs.HeldWindow.{AreNear, expires_near, fresh_near, swept_near}
+use Rattle.psy_history.proofs.HeldWindow.{AreNear, Opens, expires_near, fresh_near, swept_near}
 use Rattle.psy_history.proofs.MessagesOfSends.{of_send}
-use Rattle.psy_history.proofs.PassingMessages.{filter_fewer, filter_none, passing_ordered}
+use Rattle.psy_history.proofs.PassingMessages.{filter_fewer, filter_less, filter_none, passing_ordered}
 use Rattle.psy_history.proofs.SendWeights.{SendsByWay}
 use Rattle.psy_history.proofs.SentInTime.{is_recent, messages_of, most_in_time}
-use Rattle.psy_history.proofs.SentMessages.{AreClockLaws, HasStreams, contains_messages, sent_is}
+use Rattle.psy_history.proofs.SentMessages.{AreClockLaws, HasStreams, entered_behind, of_actions, sent_is}
 
 -- ---- all agents
 
@@ -63,22 +62,30 @@ module _ (s : System) (ways : Ways) (streams : HasStreams s) (stream date : ℕ)
   -- ---- the messages that are held
 
   module _ (near : AreNear) (laws : AreClockLaws) (sends : (dates agent : ℕ) → All (λ r. All (IsSentBy ways s.unit) r.deeds.sends) (history s dates agent))
-      (opens : (n : Next) × (s.opening.starts (stream_of s stream).receiver ≡ Some n) × (n.start ≡ first_date (timing s (stream_of s stream).receiver))) where
+      (opens : (longest : ℕ) (greatest : IsGreatest (MayLast (timing s (stream_of s stream).receiver)) longest)
+      → Opens s streams.lawful (stream_of s stream).receiver longest greatest (s.opening.silent (stream_of s stream).receiver)) where
     abbrev receiver : ℕ
     receiver = (stream_of s stream).receiver
 
+    abbrev quiet : Bool
+    quiet = s.opening.silent receiver
+
+    -- the messages of all actions
     abbrev all : List Message
-    all = messages s (history s (suc date)) stream
+    all = of_agents (length s.unit.agents)
+
+    abbrev there : Message → Bool
+    there = is_held quiet stream date (history s (suc date) receiver)
 
     -- Somebody sends to the stream, and a message expires no later than the greatest delay of a send says.
     record IsNamed (m : Message) : Type 0 where
       named : is_sent ways stream ≡ true
       expires : m.expiry ≤ m.entry + delay_by ways stream + lasting_of s.unit stream
 
-    -- So it is with each message of the stream.
+    -- So it is with each message of an action.
     is_named : (m : Message) → Contains all m → IsNamed m
     is_named m c =
-        let (agent, r, known, there, its) = (contains_messages s streams (history s (suc date)) stream m).0 c in
+        let (agent, r, known, there, its) = of_actions s streams (history s (suc date)) stream m c in
         let is = sent_is s streams laws stream r m its in
         let of = of_send s stream r.agent m.entry 0 r.deeds.sends m (subst (λ v. Contains (messages_by s stream r.agent r.deeds.sends v) m) is.done its) in
         let by = All-contains (IsSentBy ways s.unit) r.deeds.sends of.sent (All-contains (λ (x : Action). All (IsSentBy ways s.unit) x.deeds.sends) (history s (suc date) agent) r (sends (suc date) agent) there) of.there in
@@ -91,25 +98,31 @@ module _ (s : System) (ways : Ways) (streams : HasStreams s) (stream date : ℕ)
 
     -- A message that is held entered in the window.
     held_recent : (window longest : ℕ) → IsGreatest (MayLast (timing s receiver)) longest → window ≡ delay_by ways stream + lasting_of s.unit stream + longest - 1
-        → (m : Message) → Contains all m → is_held stream date (history s (suc date) receiver) m ≡ true → is_recent date window m ≡ true
+        → (m : Message) → Contains all m → there m ≡ true → is_recent date window m ≡ true
     held_recent window longest greatest is m c passes =
         let actions = history s (suc date) receiver in
-        let (entered, rest) = and_parts (nat_le m.entry date) (is_untaken stream date actions m && is_fresh (swept date actions) m) passes in
-        let fresh = (and_parts (is_untaken stream date actions m) (is_fresh (swept date actions) m) rest).1 in
-        let soon = swept_near s streams.lawful receiver longest greatest date opens actions refl in
-        let near_by = fresh_near s streams near stream date longest m.entry (delay_by ways stream) m (swept date actions) soon (is_named m c).expires fresh in
+        let (entered, rest) = and_parts (nat_le m.entry date) (is_untaken stream date actions m && is_fresh (swept quiet date actions) m) passes in
+        let fresh = (and_parts (is_untaken stream date actions m) (is_fresh (swept quiet date actions) m) rest).1 in
+        let behind = entered_behind s streams laws (suc date) stream m (of_actions s streams (history s (suc date)) stream m c) in
+        let later : s.opening.dates ≤ date = omega (arith, behind, leb-true m.entry date entered) in
+        let soon = swept_near s streams.lawful receiver longest greatest quiet date later (opens longest greatest) actions refl in
+        let near_by = fresh_near s streams near stream date longest m.entry (delay_by ways stream) m (swept quiet date actions) soon (is_named m c).expires fresh in
         and_from (nat_le m.entry date) (nat_lt date (m.entry + window)) entered (lt-ltb date (m.entry + window) (omega (arith, near_by, is)))
 
-    -- Where nobody sends, there is no message; else those that are held are among those of the window.
-    by_sends : (size : ℕ) → size ≤ QUEUE → (b : Bool) → is_sent ways stream ≡ b → IsSizeFor s.unit ways s.nexts stream size b → length (held s (history s (suc date)) stream date) ≤ size
+    -- Where nobody sends, there is no message of an action; else those that are held are among those of the window.
+    by_sends : (size : ℕ) → size ≤ QUEUE → (b : Bool) → is_sent ways stream ≡ b → IsSizeFor s.unit ways s.nexts stream size b → length (filter there all) ≤ size
     by_sends size small false none is =
-        let empty = filter_none (is_held stream date (history s (suc date) receiver)) all (λ m c passes. let not = sym none ∙ (is_named m c).named in cc) in
+        let empty = filter_none there all (λ m c passes. let not = sym none ∙ (is_named m c).named in cc) in
         omega (arith, empty)
     by_sends size small true some (window, (longest, greatest, is), below) =
-        let fewer = filter_fewer (is_held stream date (history s (suc date) receiver)) (is_recent date window) all (held_recent window longest greatest is) in
-        let sent = ap (λ first. length (filter (is_recent date window) (first ++ of_agents (length s.unit.agents)))) (streams.empty stream) in
-        omega (arith, fewer, passing_ordered (is_recent date window) (sent_to s (history s (suc date)) stream), sent, all_agents window (length s.unit.agents) size below small)
+        let fewer = filter_fewer there (is_recent date window) all (held_recent window longest greatest is) in
+        omega (arith, fewer, all_agents window (length s.unit.agents) size below small)
 
-    -- No more messages are held at the date than the queue has places.
-    pub held_in_size : (size : ℕ) → IsQueueSize s.unit ways s.nexts stream size → size ≤ QUEUE → length (held s (history s (suc date)) stream date) ≤ size
-    held_in_size size is small = by_sends size small (is_sent ways stream) refl is
+    -- No more messages are held at the date than the queue has places, and as were held before.
+    pub held_in_size : (size : ℕ) → IsQueueSize s.unit ways s.nexts stream size → size ≤ QUEUE → length (held s (history s (suc date)) stream date) ≤ size + length (s.opening.messages stream)
+    held_in_size size is small =
+        let before = s.opening.messages stream in
+        let parts : length (filter there (before ++ all)) ≡ length (filter there before) + length (filter there all) =
+        ap length (filter-append there before all) ∙ length-append (filter there before) (filter there all) in
+        let ordered : length (held s (history s (suc date)) stream date) ≡ length (filter there (before ++ all)) = passing_ordered there (sent_to s (history s (suc date)) stream) in
+        omega (arith, ordered, parts, filter_less there before, by_sends size small (is_sent ways stream) refl is)

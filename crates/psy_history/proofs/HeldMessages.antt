@@ -1,5 +1,5 @@
 -- What a stream holds when a date is done: what has entered by then, stays untaken, and wasn't swept away.
-use Rattle.std.proofs.Common.{◌≡◌, ◌↔◌, ℕ, zero, suc, ◌<◌, ◌≤◌, true, if◌then◌else◌, List, [], ◌∷◌, refl, ap, ◌∙◌, subst, inl, inr, arith}
+use Rattle.std.proofs.Common.{◌≡◌, ◌↔◌, ℕ, zero, suc, ◌<◌, ◌≤◌, Bool, true, false, if◌then◌else◌, List, [], ◌∷◌, refl, ap, ◌∙◌, subst, inl, inr, arith}
 use Rattle.std.specs.Prelude.{◌&&◌, nat_le, nat_lt}
 use Rattle.std.specs.List.{Contains}
 use Rattle.std.proofs.lemmas.Bool.{and_from, and_parts, cases_Bool, false_from_ne_true, le-leb, leb-true, lt-ltb}
@@ -46,13 +46,16 @@ from_view stream date actions m is =
 -- When a date is done the message has been sent, none of the receiver's actions has taken it, and it wasn't swept away.
 abbrev pub StaysThere : System → ℕ → ℕ → Message → Type 0
 StaysThere s date stream m =
-    let actions = history s (suc date) (stream_of s stream).receiver in
-    Contains (messages s (history s (suc date)) stream) m × (is_untaken stream date actions m ≡ true) × (is_fresh (swept date actions) m ≡ true)
+    let receiver = (stream_of s stream).receiver in
+    let actions = history s (suc date) receiver in
+    Contains (messages s (history s (suc date)) stream) m × (is_untaken stream date actions m ≡ true)
+    × (is_fresh (swept (s.opening.silent receiver) date actions) m ≡ true)
 
 -- What expires behind a date wasn't swept away by it.
-pub fresh_late : (date : ℕ) (actions : List Action) (m : Message) → ((r : Action) → Contains actions r → r.start < suc date) → date < m.expiry → is_fresh (swept date actions) m ≡ true
-fresh_late date [] m begun late = refl
-fresh_late date (r ∷ before) m begun late = elim (cases_Bool (is_silent date (r ∷ before))) [
+pub fresh_late : (quiet : Bool) (date : ℕ) (actions : List Action) (m : Message) → ((r : Action) → Contains actions r → r.start < suc date) → date < m.expiry → is_fresh (swept quiet date actions) m ≡ true
+fresh_late true date [] m begun late = lt-ltb date m.expiry late
+fresh_late false date [] m begun late = refl
+fresh_late quiet date (r ∷ before) m begun late = elim (cases_Bool (is_silent date (r ∷ before))) [
   | inl silent ↦ ap (λ b. nat_lt (if b then date else r.start) m.expiry) silent ∙ lt-ltb date m.expiry late
   | inr loud ↦ ap (λ b. nat_lt (if b then date else r.start) m.expiry) loud ∙ lt-ltb r.start m.expiry (omega (arith, begun r (contains_front r before), late))
 ]
@@ -62,25 +65,28 @@ module _ (s : System) (streams : HasStreams s) (laws : AreClockLaws) where
   pub strictly_queue : (date stream : ℕ) → strictly (queue_of s date stream)
   strictly_queue zero stream = pairs_none (λ m n. comes_before m n ≡ true)
   strictly_queue (suc date) stream =
-      strictly_filter (is_held stream date (history s (suc date) (stream_of s stream).receiver)) (messages s (history s (suc date)) stream) (strictly_messages s streams laws (suc date) stream)
+      strictly_filter (is_held (s.opening.silent (stream_of s stream).receiver) stream date (history s (suc date) (stream_of s stream).receiver)) (messages s (history s (suc date)) stream) (strictly_messages s streams laws (suc date) stream)
 
   module _ (date stream : ℕ) where
+    abbrev quiet : Bool
+    quiet = s.opening.silent (stream_of s stream).receiver
+
     abbrev actions : List Action
     actions = history s (suc date) (stream_of s stream).receiver
 
     -- What is held stays and has entered,
     from_queue : (m : Message) → Contains (queue_of s (suc date) stream) m → StaysThere s date stream m × (m.entry ≤ date)
     from_queue m c =
-        let (sent, is) = filter_from (is_held stream date actions) (messages s (history s (suc date)) stream) m c in
-        let (entered, kept) = and_parts (nat_le m.entry date) (is_untaken stream date actions m && is_fresh (swept date actions) m) is in
-        let (untaken, fresh) = and_parts (is_untaken stream date actions m) (is_fresh (swept date actions) m) kept in
+        let (sent, is) = filter_from (is_held quiet stream date actions) (messages s (history s (suc date)) stream) m c in
+        let (entered, kept) = and_parts (nat_le m.entry date) (is_untaken stream date actions m && is_fresh (swept quiet date actions) m) is in
+        let (untaken, fresh) = and_parts (is_untaken stream date actions m) (is_fresh (swept quiet date actions) m) kept in
         ((sent, untaken, fresh), leb-true m.entry date entered)
 
     -- and what stays and has entered is held.
     into_queue : (m : Message) → StaysThere s date stream m → m.entry ≤ date → Contains (queue_of s (suc date) stream) m
     into_queue m (sent, untaken, fresh) early =
-        filter_in (is_held stream date actions) (messages s (history s (suc date)) stream) m sent
-        (and_from (nat_le m.entry date) (is_untaken stream date actions m && is_fresh (swept date actions) m) (le-leb m.entry date early) (and_from (is_untaken stream date actions m) (is_fresh (swept date actions) m) untaken fresh))
+        filter_in (is_held quiet stream date actions) (messages s (history s (suc date)) stream) m sent
+        (and_from (nat_le m.entry date) (is_untaken stream date actions m && is_fresh (swept quiet date actions) m) (le-leb m.entry date early) (and_from (is_untaken stream date actions m) (is_fresh (swept quiet date actions) m) untaken fresh))
 
     -- The queue holds what stays there and has entered.
     pub contains_queue : (m : Message) → Contains (queue_of s (suc date) stream) m ↔ (StaysThere s date stream m × (m.entry ≤ date))
@@ -111,4 +117,4 @@ module _ (s : System) (streams : HasStreams s) (laws : AreClockLaws) where
     pub new_stays : (m : Message) → Contains (messages s (history s (suc date)) stream) m → date ≤ m.visible → StaysThere s date stream m
     new_stays m c late =
         let dates = message_dates s streams laws (history s (suc date)) stream m c in
-        (c, untaken_late m late, fresh_late date actions m (λ r there. start_below s streams.lawful (suc date) (stream_of s stream).receiver r there) (omega (arith, dates.1, late)))
+        (c, untaken_late m late, fresh_late quiet date actions m (λ r there. start_below s streams.lawful (suc date) (stream_of s stream).receiver r there) (omega (arith, dates.1, late)))

@@ -77,12 +77,23 @@ module _ (s : System) (lawful : IsLawful s) (receiver longest : ℕ) (greatest :
   last_near date r regular (Trapped kind) done late = stopped_near date r regular (nat_le r.deadline date) refl
   last_near date r regular Overran done late = stopped_near date r regular (nat_le r.deadline date) refl
 
+  -- How the receiver begins: it is silent, or it starts an action; where that is behind the dates that were done before, at its first date.
+  pub record Opens (quiet : Bool) : Type 0 where
+    pub some : 1 ≤ longest
+    pub starts : quiet ≡ false → (n : Next) × (s.opening.starts receiver ≡ Some n)
+    pub waits : (n : Next) → s.opening.starts receiver ≡ Some n → s.opening.dates ≤ n.start → n.start ≡ first_date (timing s receiver)
+
+  none_near : (quiet : Bool) (date : ℕ) → s.opening.dates ≤ date → Opens quiet → history s (suc date) receiver ≡ [] → IsNear date longest (swept quiet date [])
+  none_near true date later opens is = omega (arith, opens.some)
+  none_near false date later opens is =
+      let (n, starts) = opens.starts refl in
+      let late = next_late s lawful (suc date) receiver n (ap (next_of s receiver) is ∙ starts) in
+      omega (arith, late, opens.waits n starts (omega (arith, late, later)), greatest.most (first_date (timing s receiver)) (inl refl))
+
   -- A stream's receiver starts, or was rid of what had expired, so soon.
-  pub swept_near : (date : ℕ) → ((n : Next) × (s.opening.starts receiver ≡ Some n) × (n.start ≡ first_date (timing s receiver))) → (actions : List Action) → history s (suc date) receiver ≡ actions → IsNear date longest (swept date actions)
-  swept_near date opens [] is =
-      let late = next_late s lawful (suc date) receiver opens.0 (ap (next_of s receiver) is ∙ opens.1) in
-      omega (arith, late, opens.2, greatest.most (first_date (timing s receiver)) (inl refl))
-  swept_near date opens (r ∷ before) is =
+  pub swept_near : (quiet : Bool) (date : ℕ) → s.opening.dates ≤ date → Opens quiet → (actions : List Action) → history s (suc date) receiver ≡ actions → IsNear date longest (swept quiet date actions)
+  swept_near quiet date later opens [] is = none_near quiet date later opens is
+  swept_near quiet date later opens (r ∷ before) is =
       last_near date r (regular_head s lawful (suc date) receiver r before is) r.verdict refl
       (λ n next. next_late s lawful (suc date) receiver n (ap (next_of s receiver) is ∙ next))
 

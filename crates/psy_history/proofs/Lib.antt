@@ -40,6 +40,8 @@ mod MessagesOfSends
 mod NextStarts
 mod Numbers
 mod OneAction
+mod OpenedBuffers
+mod OpenedStarts
 mod OutboxSizes
 mod Owned
 mod PassingMessages

@@ -1,5 +1,5 @@
 -- Histories that are alike tell the same: their lines, and how many messages each stream held.
-use Rattle.std.proofs.Common.{◌≡◌, ℕ, ◌+◌, ◌&&◌, not, List, [], ◌∷◌, ◌++◌, length, map, Option, Some, None, refl, ap, ap₂, ◌∙◌}
+use Rattle.std.proofs.Common.{◌≡◌, ℕ, ◌+◌, ◌&&◌, not, false, List, [], ◌∷◌, ◌++◌, length, map, Option, Some, None, refl, ap, ap₂, ◌∙◌}
 use Rattle.std.proofs.Math.Path.{fun_ext}
 use Rattle.std.specs.List.{filter, range_with_len}
 use Rattle.std.specs.Prelude.{ℤ, ◌==◌, if◌then◌else◌, nat_le}
@@ -23,8 +23,8 @@ stops_same date rs qs like =
     let stops = λ (r : Action). if r.deadline == date then stops_by r.agent r.verdict else [] in
     flat_map_like stops stops rs qs (λ r q there h. ap (λ deadline. if deadline == date then stops_by r.agent r.verdict else []) h.deadline ∙ ap₂ (λ agent verdict. if q.deadline == date then stops_by agent verdict else []) h.agent h.verdict) like
 
-swept_same : (date : ℕ) (rs qs : List Action) → AreLike rs qs → swept date rs ≡ swept date qs
-swept_same date = by_pairs (λ rs qs. swept date rs ≡ swept date qs) refl (λ r q rs qs one others rest.
+swept_same : (date : ℕ) (rs qs : List Action) → AreLike rs qs → swept false date rs ≡ swept false date qs
+swept_same date = by_pairs (λ rs qs. swept false date rs ≡ swept false date qs) refl (λ r q rs qs one others rest.
     ap₂ (λ verdict deadline. Some (if not (is_done verdict) && nat_le deadline date then date else r.start)) one.verdict one.deadline
     ∙ ap (λ start. Some (if is_silent date (q ∷ qs) then date else start)) one.start)
 
@@ -53,7 +53,7 @@ module _ (unit : Whole) (code : Code) (nexts : List (List (List ℕ))) (stalls :
     held_same : (stream date : ℕ) → held of_code h stream date ≡ held of_stmts k stream date
     held_same stream date =
         let receiver = (stream_of of_stmts stream).receiver in
-        ap (λ ms. filter (is_held stream date (h receiver)) ms) (messages_same unit code nexts stalls inputs h k like stream)
+        ap (λ ms. filter (is_held false stream date (h receiver)) ms) (messages_same unit code nexts stalls inputs h k like stream)
         ∙ ap (λ test. filter test (messages of_stmts k stream))
         (fun_ext (λ m. ap₂ (λ left sweep. nat_le m.entry date && (left && is_fresh sweep m)) (left_same stream date (h receiver) (k receiver) m (like receiver)) (swept_same date (h receiver) (k receiver) (like receiver))))
 

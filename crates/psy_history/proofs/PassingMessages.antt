@@ -32,6 +32,13 @@ filter_fewer p q (x ∷ xs) weaker =
       ]
     ]
 
+-- No more than there are
+pub filter_less : {X : Type 0} (p : X → Bool) (xs : List X) → length (filter p xs) ≤ length xs
+filter_less p [] = omega arith
+filter_less p (x ∷ xs) =
+    let rest = filter_less p xs in
+    elim (cases_Bool (p x)) [ inl passes ↦ rw passes (omega (arith, rest)) | inr fails ↦ rw fails (omega (arith, rest)) ]
+
 -- ---- of messages in order
 
 module _ (p : Message → Bool) where

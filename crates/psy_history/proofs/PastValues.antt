@@ -1,12 +1,12 @@
 -- What a variable published at a date stays so, whatever starts at later ones, and is found from each date that it is looked at from.
-use Rattle.std.proofs.Common.{◌≡◌, ℕ, suc, ◌+◌, ◌-◌, ◌<◌, ◌≤◌, Option, Some, None, refl, sym, ap, ◌∙◌, inl, inr, arith}
+use Rattle.std.proofs.Common.{◌≡◌, ℕ, zero, suc, ◌+◌, ◌-◌, ◌<◌, ◌≤◌, Option, Some, None, refl, sym, ap, ◌∙◌, inl, inr, arith}
 use Rattle.std.specs.Prelude.{ℤ, nat_le, nat_lt, if◌then◌else◌}
 use Rattle.std.proofs.lemmas.Bool.{cases_lt, cond-false, cond-true, le-ltb, lt-leb, lt-ltb}
 use Rattle.psy_clock.specs.Dates.{date}
 use Rattle.psy_history.specs.Actions.{Action, History, System, Verdict, Done, Trapped, Overran, publishing, variable_of}
 use Rattle.psy_history.specs.Executors.{Carried}
 use Rattle.psy_history.specs.History.{action_of, history}
-use Rattle.psy_history.specs.Visible.{commit, committed_in, published, published_by}
+use Rattle.psy_history.specs.Visible.{commit, committed_in, published, published_before, published_behind, published_by}
 use Rattle.psy_history.specs.Regular.{IsLawful}
 use Rattle.psy_history.proofs.Growth.{grown, kept_on}
 use Rattle.psy_history.proofs.NextStarts.{regular_head}
@@ -40,11 +40,15 @@ module _ (s : System) (lawful : IsLawful s) where
       kept.1
 
   pub published_stays : (variable by some more : ℕ) → by ≤ some → some ≤ more → published s (history s more) variable by ≡ published s (history s some) variable by
-  published_stays variable by some more early l = by_owner (variable_of s variable).owner
+  published_stays variable by some more early l = behind s.opening.dates
     where
       by_owner : (owner : Option ℕ) → published_by s (history s more) variable by owner ≡ published_by s (history s some) variable by owner
       by_owner None = refl
       by_owner (Some owner) = committed_stays variable by some more owner early l
+
+      behind : (dates : ℕ) → published_behind dates s (history s more) variable by ≡ published_behind dates s (history s some) variable by
+      behind zero = by_owner (variable_of s variable).owner
+      behind (suc last) = ap (λ later. if nat_le by last then published_before s last variable by else later) (by_owner (variable_of s variable).owner)
 
   -- Where more dates are counted, a value stands as many places further back.
   pub value_further_back : (variable some more counted back further_counted further : ℕ) → some ≤ more → counted + further ≡ further_counted + back → ((i : ℕ) → i < counted → date (publishing s variable) i ≤ some)

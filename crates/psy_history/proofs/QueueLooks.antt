@@ -44,6 +44,9 @@ module _ (s : System) (streams : HasStreams s) (laws : AreClockLaws) where
     abbrev receiver : ℕ
     receiver = (stream_of s stream).receiver
 
+    abbrev quiet : Bool
+    quiet = s.opening.silent receiver
+
     -- ---- what the last action saw
 
     module _ (r : Action) (before : List Action) (e : history s (suc date) receiver ≡ r ∷ before) (loud : is_silent date (r ∷ before) ≡ false) (going : is_done_by date r.verdict ≡ false) where
@@ -60,8 +63,8 @@ module _ (s : System) (streams : HasStreams s) (laws : AreClockLaws) where
           ∙ ap (λ actions. is_untaken stream r.start actions m) (sym began.1)
 
       -- nor swept away
-      fresh_same : (m : Message) → is_fresh (swept date (history s (suc date) receiver)) m ≡ nat_lt r.start m.expiry
-      fresh_same m = ap (λ actions. is_fresh (swept date actions) m) e ∙ ap (λ b. nat_lt (if b then date else r.start) m.expiry) loud
+      fresh_same : (m : Message) → is_fresh (swept quiet date (history s (suc date) receiver)) m ≡ nat_lt r.start m.expiry
+      fresh_same m = ap (λ actions. is_fresh (swept quiet date actions) m) e ∙ ap (λ b. nat_lt (if b then date else r.start) m.expiry) loud
 
       abbrev held_then : List Message
       held_then = filter (λ (m : Message). nat_le m.visible r.start) (queue_of s (suc date) stream)
@@ -106,16 +109,16 @@ module _ (s : System) (streams : HasStreams s) (laws : AreClockLaws) where
 
     -- ---- what becomes visible
 
-    new_is_held : (m : Message) → Contains (messages s (history s (suc date)) stream) m → (m.visible == date) ≡ true → is_held stream date (history s (suc date) receiver) m ≡ true
+    new_is_held : (m : Message) → Contains (messages s (history s (suc date)) stream) m → (m.visible == date) ≡ true → is_held quiet stream date (history s (suc date) receiver) m ≡ true
     new_is_held m c is =
         let at : m.visible ≡ date = eqb-true m.visible date is in
         let dates = message_dates s streams laws (history s (suc date)) stream m c in
         let held = (contains_queue s streams laws date stream m).1 (new_stays s streams laws date stream m c (omega (arith, at)), omega (arith, dates.0, at)) in
-        (filter_from (is_held stream date (history s (suc date) receiver)) (messages s (history s (suc date)) stream) m held).1
+        (filter_from (is_held quiet stream date (history s (suc date) receiver)) (messages s (history s (suc date)) stream) m held).1
 
     -- What becomes visible at a date is held then.
     pub new_held : filter (λ (m : Message). m.visible == date) (messages s (history s (suc date)) stream) ≡ filter (λ (m : Message). m.visible == date) (queue_of s (suc date) stream)
-    new_held = filter_through (λ (m : Message). m.visible == date) (is_held stream date (history s (suc date) receiver)) (messages s (history s (suc date)) stream) new_is_held
+    new_held = filter_through (λ (m : Message). m.visible == date) (is_held quiet stream date (history s (suc date) receiver)) (messages s (history s (suc date)) stream) new_is_held
 
   -- ---- the laws
 

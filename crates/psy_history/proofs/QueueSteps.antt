@@ -1,5 +1,5 @@
 -- What a stream holds after a date: what was left, with the messages that enter put in their places.
-use Rattle.std.proofs.Common.{◌≡◌, ℕ, zero, suc, ◌+◌, ◌<◌, Bool, true, false, if◌then◌else◌, List, [], drop, add-one, ap, ◌∙◌, subst, inl, inr, arith}
+use Rattle.std.proofs.Common.{◌≡◌, ℕ, zero, suc, ◌+◌, ◌<◌, ◌≤◌, Bool, true, false, if◌then◌else◌, List, [], drop, add-one, ap, ◌∙◌, subst, inl, inr, arith}
 use Rattle.std.specs.Prelude.{filter, nat_lt}
 use Rattle.std.specs.List.{Contains}
 use Rattle.std.proofs.Math.Seq.{drop-nil}
@@ -20,6 +20,9 @@ module _ (s : System) (streams : HasStreams s) (laws : AreClockLaws) (stream : �
   abbrev receiver : ℕ
   receiver = (stream_of s stream).receiver
 
+  abbrev quiet : Bool
+  quiet = s.opening.silent receiver
+
   -- ---- what is left
 
   abbrev left : ℕ → List Message
@@ -32,7 +35,7 @@ module _ (s : System) (streams : HasStreams s) (laws : AreClockLaws) (stream : �
 
   -- What is left stays, and entered before the date,
   from_left : (date : ℕ) (m : Message) → Contains (left date) m → StaysThere s date stream m × (m.entry < date)
-  from_left zero m c = absurd (none_left 0 (given_up 0 stream []) (sweeps 0 [] (next_of s receiver [])) m c)
+  from_left zero m c = absurd (none_left 0 (given_up 0 stream []) (sweeps quiet 0 [] (next_of s receiver [])) m c)
   from_left (suc d) m c = (settled_is s streams laws d stream m).0 c
 
   -- and what stays of that is left.
@@ -47,13 +50,13 @@ module _ (s : System) (streams : HasStreams s) (laws : AreClockLaws) (stream : �
       let queue = queue_of s date stream in
       let rest = drop (given_up date stream actions) queue in
       let strict = strictly_queue s streams laws date stream in
-      cond_both (sweeps date actions (next_of s receiver actions)) (filter (λ (m : Message). nat_lt date m.expiry) rest) queue strictly
+      cond_both (sweeps quiet date actions (next_of s receiver actions)) (filter (λ (m : Message). nat_lt date m.expiry) rest) queue strictly
       (λ sweep. strictly_filter (λ (m : Message). nat_lt date m.expiry) rest (strictly_drop (given_up date stream actions) queue strict))
       (λ still. strict)
 
   -- ---- with what enters
 
-  module _ (date : ℕ) where
+  module _ (date : ℕ) (later : s.opening.dates ≤ date) where
     abbrev held : List Message
     held = queue_of s (suc date) stream
 
@@ -64,14 +67,14 @@ module _ (s : System) (streams : HasStreams s) (laws : AreClockLaws) (stream : �
     into_after m c =
         let (stays, early) = (contains_queue s streams laws date stream m).0 c in
         (contains_entered (entering s date stream) (left date) m).1 (elim (cases_order m.entry date) [
-          | inl at ↦ inl ((contains_entering s streams laws date stream m).1 (stays.0, at))
+          | inl at ↦ inl ((contains_entering s streams laws date stream later m).1 (stays.0, at))
           | inr other ↦ elim other [ inl before ↦ inr (into_left date m stays before) | inr behind ↦ absurd (omega (arith, early, behind)) ]
         ])
 
     from_after : (m : Message) → Contains after m → Contains held m
     from_after m c = elim ((contains_entered (entering s date stream) (left date) m).0 c) [
       | inl comes ↦ (
-          let (sent, at) = (contains_entering s streams laws date stream m).0 comes in
+          let (sent, at) = (contains_entering s streams laws date stream later m).0 comes in
           let dates = message_dates s streams laws (history s (suc date)) stream m sent in
           (contains_queue s streams laws date stream m).1 (new_stays s streams laws date stream m sent (omega (arith, at, dates.0)), omega (arith, at)))
       | inr there ↦ (let (stays, early) = from_left date m there in (contains_queue s streams laws date stream m).1 (stays, omega (arith, early)))
@@ -80,7 +83,7 @@ module _ (s : System) (streams : HasStreams s) (laws : AreClockLaws) (stream : �
     strictly_after : strictly after
     strictly_after =
         strictly_entered (entering s date stream) (left date) (strictly_left date) (differing_entering s streams laws date stream) (λ m n c d.
-        let at = ((contains_entering s streams laws date stream m).0 c).1 in
+        let at = ((contains_entering s streams laws date stream later m).0 c).1 in
         let early = (from_left date n d).1 in
         apart m n (λ entry sender number. omega (arith, at, early, entry)))
 

@@ -1,8 +1,9 @@
 -- How far back rings are reached for: the ages of the looks that cycles executed, one by one.
-use Rattle.std.proofs.Common.{◌≡◌, ◌⊎◌, ℕ, suc, ◌+◌, ◌/◌, ◌*◌, ◌<◌, ◌≤◌, ◌==◌, ◌&&◌, List, [], ◌∷◌, length, Option, Some, None, refl, sym, ap, ◌∙◌, subst, inl, inr, arith, add-one}
+use Rattle.std.proofs.Common.{◌≡◌, ◌⊎◌, ℕ, suc, ◌+◌, ◌/◌, ◌*◌, ◌<◌, ◌≤◌, ◌==◌, ◌&&◌, List, [], ◌∷◌, ◌++◌, length, Option, Some, None, refl, sym, ap, ◌∙◌, subst, inl, inr, arith, add-one}
 use Rattle.std.specs.Prelude.{filter}
 use Rattle.std.specs.List.{Contains, flat_map, range_with_len}
 use Rattle.std.proofs.lemmas.Bool.{and_parts, cases_Bool, eq-eqb, eqb-true}
+use Rattle.std.proofs.lemmas.List.Elements.{Contains-append_cases, Contains-append_left, Contains-append_right}
 use Rattle.std.proofs.lemmas.List.FromFn.{get_or-range_with_len, length-range_with_len}
 use Rattle.std.proofs.lemmas.Option.{none-some, same_Some}
 use Rattle.psy_budget.specs.Charges.{cycle_of}
@@ -10,8 +11,8 @@ use Rattle.psy_code.specs.Views.{Looked}
 use Rattle.psy_history.specs.Actions.{Action, History, System}
 use Rattle.psy_history.specs.History.{action_of, history}
 use Rattle.psy_history.specs.Schedule.{Turn, cycle_of_unit, is_of, turn_of, units}
-use Rattle.psy_history.specs.Summary.{age_in, ages_of, reach}
-use Rattle.psy_base.specs.Extremes.{greater}
+use Rattle.psy_history.specs.Summary.{age_in, ages_of, numbers_in, reach}
+use Rattle.psy_base.specs.Extremes.{greater, greatest_of}
 use Rattle.psy_history.specs.Regular.{first_number}
 use Rattle.psy_history.specs.Rings.{age_at}
 use Rattle.psy_history.specs.Scheduled.{turns_of}
@@ -86,27 +87,51 @@ module _ (s : System) (turns : List (Option Turn)) (h : History) (variable : ℕ
       let its = flat_map_in (ages_of s turns variable) (h it.agent) it.r n it.there of_r in
       flat_map_in ages_by (range_with_len 0 (length s.unit.agents)) it.agent n (in_range it.agent (length s.unit.agents) it.known) its
 
+-- ---- with what was reached before
+
+-- What stands behind others
+beside : (xs these those : List ℕ) → ((n : ℕ) → Contains these n → Contains those n) → (n : ℕ) → Contains (xs ++ these) n → Contains (xs ++ those) n
+beside xs these those on n c = elim (Contains-append_cases xs these n c) [ inl before ↦ Contains-append_left xs those n before | inr there ↦ Contains-append_right xs those n (on n there) ]
+
+-- The figure of an opening is the greatest of its numbers, and each of them.
+greatest_number : (o : Option ℕ) → greatest_of (numbers_in o) ≡ o
+greatest_number None = refl
+greatest_number (Some n) = refl
+
+pub one_number : (o : Option ℕ) (n : ℕ) → Contains (numbers_in o) n → o ≡ Some n
+one_number None n c = absurd (contains_none n c)
+one_number (Some m) n c = elim (front_or_behind m [] n c) [ inl e ↦ ap Some e | inr behind ↦ absurd (contains_none n behind) ]
+
 -- Where the same is reached, it is as far.
 pub reach_same : (s : System) (these those : List (Option Turn)) (h k : History) (variable : ℕ) → ((n : ℕ) → IsReached s these h variable n → IsReached s those k variable n) → ((n : ℕ) → IsReached s those k variable n → IsReached s these h variable n)
     → reach s these h variable ≡ reach s those k variable
 reach_same s these those h k variable on back =
-    greatest_same (all_ages s these h variable) (all_ages s those k variable) (
-      λ n c. in_reached s those k variable n (on n (reached_in s these h variable n c)),
-      λ n c. in_reached s these h variable n (back n (reached_in s those k variable n c)),
+    let before = numbers_in (s.opening.reach variable) in
+    let first = all_ages s these h variable in
+    let second = all_ages s those k variable in
+    greatest_same (before ++ first) (before ++ second) (
+      beside before first second (λ n c. in_reached s those k variable n (on n (reached_in s these h variable n c))),
+      beside before second first (λ n c. in_reached s these h variable n (back n (reached_in s those k variable n c))),
     )
 
 -- One age more makes it as far as that one, if it wasn't further.
 pub reach_one_more : (s : System) (these those : List (Option Turn)) (h k : History) (variable age : ℕ) → IsReached s these h variable age → ((n : ℕ) → IsReached s these h variable n → (age ≡ n) ⊎ IsReached s those k variable n) → ((n : ℕ) → IsReached s those k variable n → IsReached s these h variable n)
     → reach s these h variable ≡ greater age (reach s those k variable)
 reach_one_more s these those h k variable age one on back =
-    greatest_same (all_ages s these h variable) (age ∷ all_ages s those k variable) (
-      λ n c. elim (on n (reached_in s these h variable n c)) [
-        | inl e ↦ subst (Contains (age ∷ all_ages s those k variable)) e (contains_front age (all_ages s those k variable))
-        | inr it ↦ contains_behind age (all_ages s those k variable) n (in_reached s those k variable n it)
+    let before = numbers_in (s.opening.reach variable) in
+    let first = all_ages s these h variable in
+    let second = before ++ all_ages s those k variable in
+    greatest_same (before ++ first) (age ∷ second) (
+      λ n c. elim (Contains-append_cases before first n c) [
+        | inl was ↦ contains_behind age second n (Contains-append_left before (all_ages s those k variable) n was)
+        | inr there ↦ elim (on n (reached_in s these h variable n there)) [
+          | inl e ↦ subst (Contains (age ∷ second)) e (contains_front age second)
+          | inr it ↦ contains_behind age second n (Contains-append_right before (all_ages s those k variable) n (in_reached s those k variable n it))
+        ]
       ],
-      λ n c. elim (front_or_behind age (all_ages s those k variable) n c) [
-        | inl e ↦ in_reached s these h variable n (subst (IsReached s these h variable) e one)
-        | inr there ↦ in_reached s these h variable n (back n (reached_in s those k variable n there))
+      λ n c. elim (front_or_behind age second n c) [
+        | inl e ↦ Contains-append_right before first n (in_reached s these h variable n (subst (IsReached s these h variable) e one))
+        | inr there ↦ beside before (all_ages s those k variable) first (λ m d. in_reached s these h variable m (back m (reached_in s those k variable m d))) n there
       ],
     )
 
@@ -151,8 +176,14 @@ module _ (s : System) (turns : List (Option Turn)) (h : History) (variable : ℕ
   reach_stalled r none = reach_same s (turn_of (Some r) ∷ turns) turns h h variable (λ n it. elim (before_or_now r n it) [ inl before ↦ before | inr now ↦ absurd (none it.look.number now.unit) ]) (reached_stays (turn_of (Some r)))
 
 -- Where no cycle is done, no look was executed.
-pub reach_none : (s : System) (h : History) (variable : ℕ) → reach s [] h variable ≡ None
-reach_none s h variable = greatest_same (all_ages s [] h variable) [] (λ n c. absurd (none-some _ (reached_in s [] h variable n c).executed), λ n c. absurd (contains_none n c))
+pub reach_none : (s : System) (h : History) (variable : ℕ) → reach s [] h variable ≡ s.opening.reach variable
+reach_none s h variable =
+    let before = numbers_in (s.opening.reach variable) in
+    greatest_same (before ++ all_ages s [] h variable) before (
+      λ n c. elim (Contains-append_cases before (all_ages s [] h variable) n c) [ inl was ↦ was | inr there ↦ absurd (none-some _ (reached_in s [] h variable n there).executed) ],
+      λ n c. Contains-append_left before (all_ages s [] h variable) n c,
+    )
+    ∙ greatest_number (s.opening.reach variable)
 
 -- The actions that a date starts have no unit in the cycles before it.
 module _ (s : System) (order : ℕ → List ℕ) (date cycles variable : ℕ) (some : 1 ≤ s.unit.quantum) (within : cycles ≤ date * s.unit.quantum) where

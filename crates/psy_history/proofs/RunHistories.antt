@@ -1,19 +1,31 @@
 -- The history of a run: at each date its agents go on with what they may carry, and their actions are regular and send what the ways send.
-use Rattle.std.proofs.Common.{◌≡◌, ℕ, List, [], ◌∷◌, Some, subst, sym}
-use Rattle.std.specs.List.{All}
-use Rattle.std.proofs.lemmas.List.Elements.{All-cons, All-nil, All-weaker}
+use Rattle.std.proofs.Common.{◌≡◌, ℕ, ◌+◌, ◌-◌, ◌<◌, ◌≤◌, List, [], ◌∷◌, length, map, Some, inr, arith}
+use Rattle.std.specs.Prelude.{FitsSigned, pos}
+use Rattle.std.specs.Int.{w32}
+use Rattle.std.specs.List.{All, range_with_len}
+use Rattle.std.proofs.lemmas.List.Elements.{All-cons, All-map, All-nil, All-weaker}
+use Rattle.std.proofs.lemmas.List.FromFn.{length-map-range_with_len}
+use Rattle.std.proofs.lemmas.Simd.{map-map}
 use Rattle.psy_code.specs.declared.code.Code.{Code}
-use Rattle.psy_history.specs.Actions.{Action, Next, System, next_of}
-use Rattle.psy_meaning.specs.Alike.{IsViewOf}
+use Rattle.psy_code.specs.Execution.{Copy}
+use Rattle.psy_base.specs.Extremes.{IsGreatest}
+use Rattle.psy_history.specs.Actions.{Action, Next, System, next_of, timing}
+use Rattle.psy_history.specs.Executors.{Carried, agent_code_at}
+use Rattle.psy_tree.specs.Parts.{agent_at}
+use Rattle.psy_meaning.specs.QueueSizes.{MayLast}
+use Rattle.psy_meaning.specs.Timing.{end_date, first, first_date}
+use Rattle.psy_meaning.specs.Alike.{IsViewOf, first_copies}
 use Rattle.psy_history.specs.History.{action_of, history}
 use Rattle.psy_history.specs.Visible.{seen_at, view_of}
 use Rattle.psy_history.specs.Regular.{IsLawful, IsRegular}
-use Rattle.psy_history.specs.Runs.{IsRun, MayCarry}
+use Rattle.psy_history.specs.Openings.{IsHeldBefore, MayCarry}
+use Rattle.psy_history.specs.Runs.{IsRun}
 use Rattle.psy_history.specs.Ways.{IsSentBy, Ways}
 use Rattle.psy_history.proofs.Growth.{at_each_date}
 use Rattle.psy_history.proofs.Numbers.{few, were_started}
-use Rattle.psy_history.proofs.RunActions.{AreRunLaws, IsReady, by_way, goes_on, leaves, regular, sends}
-use Rattle.psy_history.proofs.Seeing.{LeavesFit, MessageFits, sees}
+use Rattle.psy_history.proofs.RunActions.{AreRunLaws, IsReady, by_way, goes_on, leaves, of_unit, regular, sends, some_next}
+use Rattle.psy_history.proofs.Seeing.{LeavesFit, MessageFits, all_made, sees, zero_fits}
+use Rattle.psy_history.proofs.Timings.{ends_late}
 use Rattle.psy_history.proofs.SendWeights.{SendsByWay}
 
 -- An action of a run: regular, begun with what its agent may carry and see, it sends what the ways send, and where it reached a point no
@@ -34,13 +46,14 @@ module _ (s : System) (ways : Ways) (code : Code) (laws : AreRunLaws code) (run 
 
   seeing : (date : ℕ) → ((agent : ℕ) → Keeps agent (history s date agent)) → (agent start : ℕ) → IsViewOf s.unit agent (view_of s (history s date) agent start (seen_at s (history s date) start))
   seeing date all agent start =
-      sees s run.opened.committed (λ stream. subst (All MessageFits) (sym (run.opened.messages stream)) (All-nil MessageFits)) run.inputs.values run.inits (history s date) (λ a. (all a).leave) agent start
+      sees s run.opened.committed run.opened.published (λ stream. All-weaker (IsHeldBefore s stream) MessageFits (λ m is. is.value) (s.opening.messages stream) (run.opened.messages stream).each) run.inputs.values run.inits
+      (history s date) (λ a. (all a).leave) agent start
 
   keeps_none : (agent : ℕ) → Keeps agent []
   keeps_none agent = record {
     own = All-nil (IsOwn s ways code agent);
     leave = All-nil (LeavesFit s.unit);
-    next = λ n is. let (less, alike) = run.opened.starts agent n is in record { less = less; alike = alike; carries = run.opened.carries agent n is };
+    next = λ n is. record { less = (run.opened.known agent n is).0; alike = run.opened.starts agent n is; carries = run.opened.carries agent n is };
   }
 
   keeps_more : (date agent : ℕ) (n : Next) → ((agent : ℕ) → Keeps agent (history s date agent)) → next_of s agent (history s date agent) ≡ Some n → Keeps agent (action_of s (history s date) agent n ∷ history s date agent)
@@ -88,10 +101,40 @@ module _ (s : System) (ways : Ways) (code : Code) (laws : AreRunLaws code) (run 
 
   pub lawful : IsLawful s
   lawful = record {
-    opening = run.opened.starts;
+    opening = λ agent n is. ((run.opened.known agent n is).0, run.opened.starts agent n is);
     actions = λ dates agent. record {
       were_started = were_started s dates agent;
       each = All-weaker (IsOwn s ways code agent) (IsRegular s agent) (λ r own. own.regular) (history s dates agent) (all_own dates agent);
       few = few s dates agent;
     };
   }
+
+  -- ---- how long actions last
+
+  -- An agent may carry zeros.
+  zeros : (agent : ℕ) → (carried : Carried) × MayCarry s.unit code agent carried
+  zeros agent =
+      let firsts = first_copies s.unit agent in
+      let numbers = range_with_len 0 (length (agent_code_at code agent).cells) in
+      let copies : List Copy = map (λ (c : Copy). record { variable = c.variable; value = pos 0 }) firsts in
+      let carried : Carried = record { cells = map (λ n. pos 0) numbers; copies = copies } in
+      (carried, record {
+        cells = length-map-range_with_len (λ n. pos 0) 0 (length (agent_code_at code agent).cells);
+        values = all_made (FitsSigned w32) (λ n. pos 0) numbers (λ n. zero_fits);
+        variables = map-map (λ (c : Copy). c.variable) (λ (c : Copy). record { variable = c.variable; value = pos 0 }) firsts;
+        copies = All-map (λ (c : Copy). FitsSigned w32 c.value) (λ (c : Copy). record { variable = c.variable; value = pos 0 }) firsts (λ i d less. zero_fits);
+      })
+
+  -- The longest of an agent lasts a tick at least.
+  pub lasts_some : (agent : ℕ) → agent < length s.unit.agents → (longest : ℕ) → IsGreatest (MayLast (timing s agent)) longest → 1 ≤ longest
+  lasts_some agent less longest greatest =
+      let times = timing s agent in
+      let start : ℕ = first_date times in
+      let (carried, may) = zeros agent in
+      let view = view_of s (history s 0) agent start (seen_at s (history s 0) start) in
+      let well = run.runs agent 0 start carried view less first may (next_sees 0 agent start) in
+      let (to, follows) = some_next s ways code laws run agent less 0 carried view well in
+      let inner = run.points agent 0 to less follows in
+      let late = ends_late s.unit agent (agent_at s.unit agent) times.nexts run.bare (of_unit s ways code laws run agent less) laws.late start to inner.0 inner.1 in
+      let ticks : start + (end_date times start to - start) ≡ end_date times start to = omega (arith, late) in
+      omega (arith, late, greatest.most (end_date times start to - start) (inr (0, start, to, first, follows, ticks)))

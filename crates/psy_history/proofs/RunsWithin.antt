@@ -11,7 +11,8 @@ use Rattle.psy_history.specs.Actions.{Action, System}
 use Rattle.psy_history.specs.Executors.{agent_code_at, carried_by, machine_at}
 use Rattle.psy_history.specs.History.{history}
 use Rattle.psy_history.specs.Regular.{Goes, MayAsk, Runs, begun_by}
-use Rattle.psy_history.specs.Runs.{GoesWell, IsRun, MayCarry, StandsWell}
+use Rattle.psy_history.specs.Openings.{MayCarry}
+use Rattle.psy_history.specs.Runs.{GoesWell, IsRun, StandsWell}
 use Rattle.psy_history.specs.Ways.{Ways}
 use Rattle.psy_history.proofs.GoingOn.{same_next}
 use Rattle.psy_history.proofs.LateLooks.{parts, steps_then}

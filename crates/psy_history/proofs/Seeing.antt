@@ -21,7 +21,7 @@ use Rattle.psy_meaning.specs.Alike.{AllFit, IsViewOf, MessagesFit, is_there}
 use Rattle.psy_history.specs.Executors.{Carried, copy_in}
 use Rattle.psy_meaning.specs.Kept.{IsSentOf}
 use Rattle.psy_meaning.specs.States.{value_or_zero}
-use Rattle.psy_history.specs.Visible.{commit, committed_in, in_order, input_value, message_of, messages, messages_by, messages_from, nth_or_last, past, published, published_by, seen_at, sent_to, values_for, view_of}
+use Rattle.psy_history.specs.Visible.{commit, committed_in, in_order, input_value, message_of, messages, messages_by, messages_from, nth_or_last, past, published, published_before, published_behind, published_by, seen_at, sent_to, values_for, view_of}
 use Rattle.psy_history.proofs.Members.{all_flat_map, get_or_holds}
 
 -- ---- lists
@@ -30,7 +30,8 @@ use Rattle.psy_history.proofs.Members.{all_flat_map, get_or_holds}
 by_number : {X Y : Type 0} (f : ℕ → Y) (g : X → Y) (d : X) (xs : List X) → ((i : ℕ) → f i ≡ g (get_or xs i d)) → map f (range_with_len 0 (length xs)) ≡ map g xs
 by_number f g d xs same = sym (fill_by_all f (map g xs) (length xs) (g d) (length-map xs g) (λ i l. get_or-map g xs i d (g d) l ∙ sym (same i)))
 
-all_made : {X : Type 0} (P : X → Type 0) (f : ℕ → X) (ks : List ℕ) → ((k : ℕ) → P (f k)) → All P (map f ks)
+-- What is made of each number
+pub all_made : {X : Type 0} (P : X → Type 0) (f : ℕ → X) (ks : List ℕ) → ((k : ℕ) → P (f k)) → All P (map f ks)
 all_made P f ks h = All-map P f ks (λ k d less. h (get_or ks k d))
 
 -- ---- what actions leave
@@ -112,7 +113,7 @@ module _ (s : System) where
   none_fit : MessagesFit None
   none_fit = tt {0}
 
-  module _ (first : (variable : ℕ) → Fits (s.opening.committed variable)) (sent : (stream : ℕ) → All MessageFits (s.opening.messages stream)) (inputs : All AllFit s.inputs) (values : All (λ v. FitsSigned w32 v.init) s.unit.variables) where
+  module _ (first : (variable : ℕ) → Fits (s.opening.committed variable)) (before : (variable : ℕ) → AllFit (s.opening.published variable)) (sent : (stream : ℕ) → All MessageFits (s.opening.messages stream)) (inputs : All AllFit s.inputs) (values : All (λ v. FitsSigned w32 v.init) s.unit.variables) where
     init_fits : (variable : ℕ) → Fits (variable_of s variable).init
     init_fits variable = get_or_holds (λ v. FitsSigned w32 v.init) s.unit.variables variable _ zero_fits values
 
@@ -124,11 +125,19 @@ module _ (s : System) where
       by_owner variable date (Some owner) = committed_fits variable date (h owner) (first variable) (leave owner)
       by_owner variable date None = input_fits variable date
 
+      -- also before the history begins
+      published_fits : (variable date dates : ℕ) → Fits (published_behind dates s h variable date)
+      published_fits variable date zero = by_owner variable date (variable_of s variable).owner
+      published_fits variable date (suc last) =
+          cond_both (nat_le date last) (published_before s last variable date) (published_by s h variable date (variable_of s variable).owner) Fits
+          (λ early. get_or_holds Fits (s.opening.published variable) (count (publishing s variable) last - count (publishing s variable) date) (variable_of s variable).init (init_fits variable) (before variable))
+          (λ late. by_owner variable date (variable_of s variable).owner)
+
       past_fits : (variable start back : ℕ) → Fits (past s h variable start back)
       past_fits variable start back =
           let clock = publishing s variable in
           let at : ℕ = date clock (count clock start - 1 - back) in
-          cond_both (nat_lt back (count clock start)) (published s h variable at) (variable_of s variable).init Fits (λ t. by_owner variable at (variable_of s variable).owner) (λ t. init_fits variable)
+          cond_both (nat_lt back (count clock start)) (published s h variable at) (variable_of s variable).init Fits (λ t. published_fits variable at s.opening.dates) (λ t. init_fits variable)
 
       pub messages_fit : (stream : ℕ) → All MessageFits (messages s h stream)
       messages_fit stream =

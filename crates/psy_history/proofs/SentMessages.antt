@@ -1,9 +1,9 @@
 -- The messages of a stream: who sent each and when it can be seen, that no two are the same, and which dates know of them.
-use Rattle.std.proofs.Common.{◌≡◌, ◌↔◌, ℕ, zero, suc, ◌+◌, ◌-◌, ◌<◌, ◌≤◌, false, List, [], ◌∷◌, ◌++◌, length, refl, sym, ap, ◌∙◌, subst, inl, inr, arith}
+use Rattle.std.proofs.Common.{◌≡◌, ◌⊎◌, ◌↔◌, ℕ, zero, suc, ◌+◌, ◌-◌, ◌<◌, ◌≤◌, true, false, Some, List, [], ◌∷◌, ◌++◌, length, refl, sym, ap, ◌∙◌, subst, inl, inr, arith}
 use Rattle.std.specs.Prelude.{◌==◌}
 use Rattle.std.specs.List.{All, AllPairs, Contains, flat_map, range_with_len}
 use Rattle.std.proofs.lemmas.Bool.{cases_Bool, cond_both, eqb-true}
-use Rattle.std.proofs.lemmas.List.Elements.{All-append, All-cons, All-contains, All-nil, All-weaker, Contains-get_or}
+use Rattle.std.proofs.lemmas.List.Elements.{All-append, All-cons, All-contains, All-nil, All-weaker, Contains-append_cases, Contains-append_left, Contains-append_right, Contains-get_or}
 use Rattle.std.proofs.lemmas.List.FromFn.{get_or-range_with_len, length-range_with_len}
 use Rattle.std.proofs.lemmas.List.Kept.{AllPairs-cons}
 use Rattle.std.proofs.Math.Nat.{mul-le-mul_right}
@@ -11,7 +11,8 @@ use Rattle.psy_base.specs.declared.message.Message.{Message}
 use Rattle.psy_clock.specs.declared.clock.Clock.{Clock}
 use Rattle.psy_clock.specs.Dates.{IsClock, after_date, count, from_date}
 use Rattle.psy_code.specs.declared.look.Sent.{Sent}
-use Rattle.psy_history.specs.Actions.{Action, History, System, Verdict, Done, Trapped, Overran, clock_of, stream_of}
+use Rattle.psy_queue.specs.Order.{comes_before}
+use Rattle.psy_history.specs.Actions.{Action, History, Next, System, Verdict, Done, Trapped, Overran, clock_of, stream_of}
 use Rattle.psy_history.specs.History.{history}
 use Rattle.psy_history.specs.Visible.{is_same, message_of, messages, messages_by, messages_from, sent_to}
 use Rattle.psy_history.specs.Regular.{IsLawful, IsRegular}
@@ -19,19 +20,30 @@ use Rattle.psy_history.proofs.ClockDates.{count_rises}
 use Rattle.psy_history.proofs.Growth.{grown, stays_started}
 use Rattle.psy_history.proofs.LastActions.{EndsBefore, actions_in_turn}
 use Rattle.psy_history.proofs.Members.{all_members, contains_behind, contains_front, contains_none, flat_map_from, flat_map_in, front_or_behind, get_or_holds}
-use Rattle.psy_history.proofs.MessageOrder.{differing, pairs_head, pairs_none, pairs_tail, same_entry, strictly}
+use Rattle.psy_history.proofs.MessageOrder.{before_differs, differing, pairs_head, pairs_none, pairs_tail, same_entry, strictly}
 use Rattle.psy_history.proofs.MessagePlaces.{contains_ordered, strictly_ordered}
+use Rattle.psy_history.proofs.OpenedStarts.{start_behind}
 use Rattle.psy_history.proofs.Reached.{in_range, of_range}
 use Rattle.psy_history.proofs.Timings.{every_tick}
 
 -- ---- what is asked of a system
 
--- Its clocks are lawful, each message is kept for one date at least, and it begins with no messages.
+-- A message that entered at one of the first dates, can be seen no earlier, and expires behind that
+pub record IsBefore (dates : ℕ) (m : Message) : Type 0 where
+  pub entered : m.entry < dates
+  pub visible : m.entry ≤ m.visible
+  pub late : m.visible < m.expiry
+
+-- Its clocks are lawful, each message is kept for one date at least; it begins with messages that entered before, in order, no two of them
+-- the same; and an agent that starts an action is not silent, and does so at the last date that was done, or behind it.
 pub record HasStreams (s : System) : Type 0 where
   pub lawful : IsLawful s
   pub clocks : All IsClock s.unit.clocks
   pub keeps : (stream : ℕ) → 1 ≤ (stream_of s stream).keep
-  pub empty : (stream : ℕ) → s.opening.messages stream ≡ []
+  pub held : (stream : ℕ) → All (IsBefore s.opening.dates) (s.opening.messages stream)
+  pub rise : (stream : ℕ) → strictly (s.opening.messages stream)
+  pub ahead : (agent : ℕ) (n : Next) → s.opening.starts agent ≡ Some n → s.opening.dates ≤ suc n.start
+  pub loud : (agent : ℕ) (n : Next) → s.opening.starts agent ≡ Some n → s.opening.silent agent ≡ false
 
 -- What is known of dates behind a time, and from it on
 pub record AreClockLaws : Type 0 where
@@ -62,6 +74,14 @@ pairs_flat_map S R f across (x ∷ xs) pairs each =
     pairs_append R (f x) (flat_map f xs) (each x (contains_front x xs))
     (pairs_flat_map S R f across xs (pairs_tail S x xs pairs) (λ z c. each z (contains_behind x xs z c)))
     (λ a b c d. let (z, there, within) = flat_map_from f xs b d in across x z (All-contains (S x) xs z (pairs_head S x xs pairs) there) a b c within)
+
+-- Messages that stand in order strictly differ.
+strict_differ : (ms : List Message) → strictly ms → differing ms
+strict_differ [] strict = pairs_none (λ m n. is_same m n ≡ false)
+strict_differ (m ∷ ms) strict =
+    AllPairs-cons (λ x y. is_same x y ≡ false) m ms
+    (All-weaker (λ n. comes_before m n ≡ true) (λ n. is_same m n ≡ false) (λ n before. before_differs m n before) ms (pairs_head (λ x y. comes_before x y ≡ true) m ms strict))
+    (strict_differ ms (pairs_tail (λ x y. comes_before x y ≡ true) m ms strict))
 
 -- Numbers in a row rise.
 pub range_rises : (a n : ℕ) → AllPairs (λ i j. i < j) (range_with_len a n)
@@ -108,24 +128,28 @@ module _ (s : System) (streams : HasStreams s) where
   abbrev of_agent : History → ℕ → ℕ → List Message
   of_agent h stream agent = flat_map (of_action stream) (h agent)
 
-  -- nothing was sent before
-  sent_is_of : (h : History) (stream : ℕ) → sent_to s h stream ≡ flat_map (of_agent h stream) (range_with_len 0 (length s.unit.agents))
-  sent_is_of h stream = ap (λ first. first ++ flat_map (of_agent h stream) (range_with_len 0 (length s.unit.agents))) (streams.empty stream)
+  abbrev of_agents : History → ℕ → List Message
+  of_agents h stream = flat_map (of_agent h stream) (range_with_len 0 (length s.unit.agents))
 
-  -- from what was sent to its sender, and back
-  contains_sent : (h : History) (stream : ℕ) (m : Message) → Contains (sent_to s h stream) m → IsOf s h stream m
-  contains_sent h stream m c =
-      let (agent, among, of) = flat_map_from (of_agent h stream) (range_with_len 0 (length s.unit.agents)) m (subst (λ ms. Contains ms m) (sent_is_of h stream) c) in
+  -- From what actions sent to its sender,
+  pub of_actions : (h : History) (stream : ℕ) (m : Message) → Contains (of_agents h stream) m → IsOf s h stream m
+  of_actions h stream m c =
+      let (agent, among, of) = flat_map_from (of_agent h stream) (range_with_len 0 (length s.unit.agents)) m c in
       let (r, there, its) = flat_map_from (of_action stream) (h agent) m of in
       (agent, r, of_range agent (length s.unit.agents) among, there, its)
 
-  sent_contains : (h : History) (stream : ℕ) (m : Message) → IsOf s h stream m → Contains (sent_to s h stream) m
-  sent_contains h stream m (agent, r, less, there, its) =
-      subst (λ ms. Contains ms m) (sym (sent_is_of h stream))
+  contains_sent : (h : History) (stream : ℕ) (m : Message) → Contains (sent_to s h stream) m → Contains (s.opening.messages stream) m ⊎ IsOf s h stream m
+  contains_sent h stream m c = elim (Contains-append_cases (s.opening.messages stream) (of_agents h stream) m c) [ inl before ↦ inl before | inr sent ↦ inr (of_actions h stream m sent) ]
+
+  -- and back
+  sent_contains : (h : History) (stream : ℕ) (m : Message) → Contains (s.opening.messages stream) m ⊎ IsOf s h stream m → Contains (sent_to s h stream) m
+  sent_contains h stream m (inl before) = Contains-append_left (s.opening.messages stream) (of_agents h stream) m before
+  sent_contains h stream m (inr (agent, r, less, there, its)) =
+      Contains-append_right (s.opening.messages stream) (of_agents h stream) m
       (flat_map_in (of_agent h stream) (range_with_len 0 (length s.unit.agents)) agent m (in_range agent (length s.unit.agents) less) (flat_map_in (of_action stream) (h agent) r m there its))
 
-  -- A message of a stream is one of an action of the history.
-  pub contains_messages : (h : History) (stream : ℕ) (m : Message) → Contains (messages s h stream) m ↔ IsOf s h stream m
+  -- A message of a stream is one that it held before, or one of an action of the history.
+  pub contains_messages : (h : History) (stream : ℕ) (m : Message) → Contains (messages s h stream) m ↔ (Contains (s.opening.messages stream) m ⊎ IsOf s h stream m)
   contains_messages h stream m =
       let ordered = contains_ordered (sent_to s h stream) m in
       (λ c. contains_sent h stream m (ordered.0 c), λ is. ordered.1 (sent_contains h stream m is))
@@ -152,9 +176,14 @@ module _ (s : System) (streams : HasStreams s) where
 
   -- A message that was sent stays so.
   pub sent_stays : (dates later stream : ℕ) (m : Message) → dates ≤ later → Contains (messages s (history s dates) stream) m → Contains (messages s (history s later) stream) m
-  sent_stays dates later stream m l c =
-      let (agent, r, less, there, its) = (contains_messages (history s dates) stream m).0 c in
-      (contains_messages (history s later) stream m).1 (agent, r, less, stays_started s dates later agent r l there, its)
+  sent_stays dates later stream m l c = (contains_messages (history s later) stream m).1 (elim ((contains_messages (history s dates) stream m).0 c) [
+    | inl before ↦ inl before
+    | inr (agent, r, less, there, its) ↦ inr (agent, r, less, stays_started s dates later agent r l there, its)
+  ])
+
+  -- what a stream held before
+  before : (stream : ℕ) (m : Message) → Contains (s.opening.messages stream) m → IsBefore s.opening.dates m
+  before stream m c = All-contains (IsBefore s.opening.dates) (s.opening.messages stream) m (streams.held stream) c
 
   module _ (laws : AreClockLaws) where
     -- each clock is lawful
@@ -204,33 +233,43 @@ module _ (s : System) (streams : HasStreams s) where
 
     -- A message enters, can be seen no earlier, and expires behind that.
     pub message_dates : (h : History) (stream : ℕ) (m : Message) → Contains (messages s h stream) m → (m.entry ≤ m.visible) × (m.visible < m.expiry)
-    message_dates h stream m c =
-        let (agent, r, less, there, its) = (contains_messages h stream m).0 c in
-        let is = sent_is stream r m its in
-        (is.visible, is.late)
+    message_dates h stream m c = elim ((contains_messages h stream m).0 c) [
+      | inl held ↦ (let is = before stream m held in (is.visible, is.late))
+      | inr (agent, r, less, there, its) ↦ (let is = sent_is stream r m its in (is.visible, is.late))
+    ]
 
-    -- its expiry comes of its visibility
-    expires_at : (h : History) (stream : ℕ) (m : Message) → Contains (messages s h stream) m → m.expiry ≡ after_date (clock_of s (stream_of s stream).clock) m.visible (stream_of s stream).keep
-    expires_at h stream m c =
-        let (agent, r, less, there, its) = (contains_messages h stream m).0 c in
-        (sent_is stream r m its).expiry
+    -- where none was held before, its expiry comes of its visibility
+    expires_at : (h : History) (stream : ℕ) (m : Message) → s.opening.messages stream ≡ [] → Contains (messages s h stream) m → m.expiry ≡ after_date (clock_of s (stream_of s stream).clock) m.visible (stream_of s stream).keep
+    expires_at h stream m none c = elim ((contains_messages h stream m).0 c) [
+      | inl held ↦ absurd (contains_none m (subst (λ ms. Contains ms m) none held))
+      | inr (agent, r, less, there, its) ↦ (sent_is stream r m its).expiry
+    ]
 
-    -- One that can be seen later expires no earlier.
-    pub expiry_rises : (h k : History) (stream : ℕ) (m n : Message) → Contains (messages s h stream) m → Contains (messages s k stream) n → m.visible ≤ n.visible → m.expiry ≤ n.expiry
-    expiry_rises h k stream m n c d l =
+    -- Then one that can be seen later expires no earlier.
+    pub expiry_rises : (h k : History) (stream : ℕ) (m n : Message) → s.opening.messages stream ≡ [] → Contains (messages s h stream) m → Contains (messages s k stream) n → m.visible ≤ n.visible → m.expiry ≤ n.expiry
+    expiry_rises h k stream m n none c d l =
         let clock = clock_of s (stream_of s stream).clock in
         let keep : ℕ = (stream_of s stream).keep in
         let rises = after_rises clock m.visible n.visible keep l in
-        omega (arith, rises, expires_at h stream m c, expires_at k stream n d)
+        omega (arith, rises, expires_at h stream m none c, expires_at k stream n none d)
+
+    -- A message of an action entered at the last date that was done before, or behind it: later than those that were held.
+    pub entered_behind : (dates stream : ℕ) (m : Message) → IsOf s (history s dates) stream m → s.opening.dates ≤ m.entry
+    entered_behind dates stream m (agent, r, less, there, its) =
+        let is = sent_is stream r m its in
+        let regular = All-contains (IsRegular s agent) (history s dates agent) r (streams.lawful.actions dates agent).each there in
+        omega (arith, start_behind s streams.ahead dates agent streams.lawful r there, regular.due, (regular.ends is.point m.entry is.done).2)
 
     -- A message that entered by a date is known to that many dates.
     pub sent_known : (dates others stream : ℕ) (m : Message) → m.entry ≤ others → Contains (messages s (history s dates) stream) m → Contains (messages s (history s others) stream) m
-    sent_known dates others stream m l c =
-        let (agent, r, less, there, its) = (contains_messages (history s dates) stream m).0 c in
-        let is = sent_is stream r m its in
-        let regular = All-contains (IsRegular s agent) (history s dates agent) r (streams.lawful.actions dates agent).each there in
-        let early : r.start < others = omega (arith, regular.due, (regular.ends is.point m.entry is.done).2, l) in
-        (contains_messages (history s others) stream m).1 (agent, r, less, known dates others agent r there early, its)
+    sent_known dates others stream m l c = (contains_messages (history s others) stream m).1 (elim ((contains_messages (history s dates) stream m).0 c) [
+      | inl held ↦ inl held
+      | inr (agent, r, less, there, its) ↦ (
+          let is = sent_is stream r m its in
+          let regular = All-contains (IsRegular s agent) (history s dates agent) r (streams.lawful.actions dates agent).each there in
+          let early : r.start < others = omega (arith, regular.due, (regular.ends is.point m.entry is.done).2, l) in
+          inr (agent, r, less, known dates others agent r there early, its))
+    ])
 
     -- ---- no two are the same
 
@@ -286,10 +325,12 @@ module _ (s : System) (streams : HasStreams s) where
       agents_apart : (agent other : ℕ) → agent < other → (m n : Message) → Contains (of_agent (history s dates) stream agent) m → Contains (of_agent (history s dates) stream other) n → Apart m n
       agents_apart agent other less m n c d = (let first = sender_is agent m c in let second = sender_is other n d in apart m n (λ entry sender number. omega (arith, sender, first, second, less)))
 
+      -- and from those that were held before
       sent_apart : differing (sent_to s (history s dates) stream)
       sent_apart =
-          subst differing (sym (sent_is_of (history s dates) stream))
+          pairs_append Apart (s.opening.messages stream) (of_agents (history s dates) stream) (strict_differ (s.opening.messages stream) (streams.rise stream))
           (pairs_flat_map (λ i j. i < j) Apart (of_agent (history s dates) stream) agents_apart (range_with_len 0 (length s.unit.agents)) (range_rises 0 (length s.unit.agents)) (λ agent c. agent_apart agent))
+          (λ m n c d. apart m n (λ entry sender number. omega (arith, entry, (before stream m c).entered, entered_behind dates stream n (of_actions (history s dates) stream n d))))
 
       -- The messages of a stream stand in order, no two of them the same.
       pub strictly_messages : strictly (messages s (history s dates) stream)

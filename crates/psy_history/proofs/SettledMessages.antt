@@ -24,6 +24,9 @@ module _ (s : System) (streams : HasStreams s) (laws : AreClockLaws) (d stream :
   abbrev receiver : ℕ
   receiver = (stream_of s stream).receiver
 
+  abbrev quiet : Bool
+  quiet = s.opening.silent receiver
+
   -- the receiver's actions before the date, and when it is done
   abbrev now : List Action
   now = history s (suc d) receiver
@@ -47,12 +50,12 @@ module _ (s : System) (streams : HasStreams s) (laws : AreClockLaws) (d stream :
   -- ---- the queue before the date
 
   -- what was known before is known when the date is done
-  from_before : (m : Message) → Contains queue m → Contains (messages s (history s (suc (suc d))) stream) m × (is_untaken stream d now m ≡ true) × (is_fresh (swept d now) m ≡ true) × (m.entry < suc d)
+  from_before : (m : Message) → Contains queue m → Contains (messages s (history s (suc (suc d))) stream) m × (is_untaken stream d now m ≡ true) × (is_fresh (swept quiet d now) m ≡ true) × (m.entry < suc d)
   from_before m c =
       let ((sent, untaken, fresh), early) = (contains_queue s streams laws d stream m).0 c in
       (sent_known s streams laws (suc d) (suc (suc d)) stream m (omega (arith, early)) sent, untaken, fresh, omega (arith, early))
 
-  into_before : (m : Message) → Contains (messages s (history s (suc (suc d))) stream) m → is_untaken stream d now m ≡ true → is_fresh (swept d now) m ≡ true → m.entry < suc d → Contains queue m
+  into_before : (m : Message) → Contains (messages s (history s (suc (suc d))) stream) m → is_untaken stream d now m ≡ true → is_fresh (swept quiet d now) m ≡ true → m.entry < suc d → Contains queue m
   into_before m sent untaken fresh early =
       (contains_queue s streams laws d stream m).1 ((sent_known s streams laws (suc (suc d)) (suc d) stream m (omega (arith, early)) sent, untaken, fresh), omega (arith, early))
 
@@ -71,16 +74,16 @@ module _ (s : System) (streams : HasStreams s) (laws : AreClockLaws) (d stream :
 
   -- ---- where the receiver's streams are left as they are
 
-  left_alone : sweeps (suc d) now next ≡ false → settled s (suc d) stream queue ≡ queue
+  left_alone : sweeps quiet (suc d) now next ≡ false → settled s (suc d) stream queue ≡ queue
   left_alone still = ap (λ (b : Bool). if b then swept_queue else queue) still
 
-  swept_now : sweeps (suc d) now next ≡ true → settled s (suc d) stream queue ≡ swept_queue
+  swept_now : sweeps quiet (suc d) now next ≡ true → settled s (suc d) stream queue ≡ swept_queue
   swept_now sweep = ap (λ (b : Bool). if b then swept_queue else queue) sweep
 
   -- ---- where they are swept
 
   -- what stays is untaken, and expires later
-  module _ (sweep : sweeps (suc d) now next ≡ true) (at : swept (suc d) later ≡ Some (suc d))
+  module _ (sweep : sweeps quiet (suc d) now next ≡ true) (at : swept quiet (suc d) later ≡ Some (suc d))
       (gone : (m : Message) → Contains (drop (given_up (suc d) stream now) queue) m ↔ (Contains queue m × (is_untaken stream (suc d) later m ≡ true)))
       (earlier : (m : Message) → is_untaken stream (suc d) later m ≡ true → is_untaken stream d now m ≡ true) where
     from_swept : (m : Message) → Contains swept_queue m → IsLeft m
@@ -94,7 +97,7 @@ module _ (s : System) (streams : HasStreams s) (laws : AreClockLaws) (d stream :
     into_swept m ((sent, untaken, fresh), early) =
         let late : nat_lt (suc d) m.expiry ≡ true = sym (ap (λ (o : Option ℕ). is_fresh o m) at) ∙ fresh in
         let later : suc d < m.expiry = ltb-true (suc d) m.expiry late in
-        let held = into_before m sent (earlier m untaken) (fresh_late d now m begun (omega (arith, later))) early in
+        let held = into_before m sent (earlier m untaken) (fresh_late quiet d now m begun (omega (arith, later))) early in
         filter_in (λ (x : Message). nat_lt (suc d) x.expiry) (drop (given_up (suc d) stream now) queue) m ((gone m).1 (held, untaken)) late
 
     swept_is : (m : Message) → Contains (settled s (suc d) stream queue) m ↔ IsLeft m
@@ -119,10 +122,10 @@ module _ (s : System) (streams : HasStreams s) (laws : AreClockLaws) (d stream :
         ∙ sym (untaken_alike stream d (suc d) now m (λ x c. done_alike d x.verdict (none_ends now refl x c)))
 
     -- and what was held stays, where nothing is swept away
-    still_is : sweeps (suc d) now next ≡ false → (m : Message) → Contains (settled s (suc d) stream queue) m ↔ IsLeft m
+    still_is : sweeps quiet (suc d) now next ≡ false → (m : Message) → Contains (settled s (suc d) stream queue) m ↔ IsLeft m
     still_is still m =
-        let fresh : swept (suc d) later ≡ swept d now = ap (swept (suc d)) same ∙ loud_swept d now (still_loud s receiver (suc d) now still) in
-        let fresh_same : is_fresh (swept (suc d) later) m ≡ is_fresh (swept d now) m = ap (λ o. is_fresh o m) fresh in
+        let fresh : swept quiet (suc d) later ≡ swept quiet d now = ap (swept quiet (suc d)) same ∙ loud_swept quiet d now (still_loud s receiver quiet (suc d) now (streams.loud receiver) still) in
+        let fresh_same : is_fresh (swept quiet (suc d) later) m ≡ is_fresh (swept quiet d now) m = ap (λ o. is_fresh o m) fresh in
         subst (λ ms. Contains ms m ↔ IsLeft m) (sym (left_alone still)) (
           λ c. (let (sent, untaken, fresh, early) = from_before m c in ((sent, untaken_same m ∙ untaken, fresh_same ∙ fresh), early)),
           λ h. (let ((sent, untaken, fresh), early) = h in into_before m sent (sym (untaken_same m) ∙ untaken) (sym fresh_same ∙ fresh) early),
@@ -135,12 +138,12 @@ module _ (s : System) (streams : HasStreams s) (laws : AreClockLaws) (d stream :
         (λ c. (c, untaken_same m ∙ (from_before m c).1), λ h. h.0)
 
     -- else what has expired goes
-    silent_is : sweeps (suc d) now next ≡ true → (m : Message) → Contains (settled s (suc d) stream queue) m ↔ IsLeft m
+    silent_is : sweeps quiet (suc d) now next ≡ true → (m : Message) → Contains (settled s (suc d) stream queue) m ↔ IsLeft m
     silent_is sweep =
-        swept_is sweep (ap (swept (suc d)) same ∙ silent_swept (suc d) now (sweeps_silent (suc d) now next other sweep)) kept_is (λ m untaken. sym (untaken_same m) ∙ untaken)
+        swept_is sweep (ap (swept quiet (suc d)) same ∙ silent_swept quiet (suc d) now (sweeps_silent quiet (suc d) now next other sweep)) kept_is (λ m untaken. sym (untaken_same m) ∙ untaken)
 
     alone_is : (m : Message) → Contains (settled s (suc d) stream queue) m ↔ IsLeft m
-    alone_is = elim (cases_Bool (sweeps (suc d) now next)) [ inl sweep ↦ silent_is sweep | inr still ↦ still_is still ]
+    alone_is = elim (cases_Bool (sweeps quiet (suc d) now next)) [ inl sweep ↦ silent_is sweep | inr still ↦ still_is still ]
 
   -- ---- where its next action starts
 
@@ -229,7 +232,7 @@ module _ (s : System) (streams : HasStreams s) (laws : AreClockLaws) (d stream :
 
     starts_is : (m : Message) → Contains (settled s (suc d) stream queue) m ↔ IsLeft m
     starts_is =
-        swept_is (ap (sweeps (suc d) now) is_next ∙ eq-eqb n.start (suc d) at) (ap (swept (suc d)) more ∙ start_swept (suc d) q now at) (gone_by now refl) (earlier_by now refl)
+        swept_is (ap (sweeps quiet (suc d) now) is_next ∙ eq-eqb n.start (suc d) at) (ap (swept quiet (suc d)) more ∙ start_swept quiet (suc d) q now at) (gone_by now refl) (earlier_by now refl)
 
   -- What is left at a date entered before it, and stays when it is done.
   pub settled_is : (m : Message) → Contains (settled s (suc d) stream queue) m ↔ IsLeft m

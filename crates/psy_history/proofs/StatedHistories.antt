@@ -167,7 +167,7 @@ module _ (unit : Whole) (nexts : List (List (List ℕ))) (stalls : ℕ → List 
         let ready = (all agent).next n is in
         let seen = seen_at system h n.start in
         let view = view_of system h agent n.start seen in
-        let fits = sees system (λ variable. get_or_holds (λ v. Fits v.init) unit.variables variable _ zero_fits laws.sound.values) (λ stream. All-nil MessageFits) given.values laws.sound.values h (λ a. (all a).leave) agent n.start in
+        let fits = sees system (λ variable. get_or_holds (λ v. Fits v.init) unit.variables variable _ zero_fits laws.sound.values) (λ variable. All-nil Fits) (λ stream. All-nil MessageFits) given.values laws.sound.values h (λ a. (all a).leave) agent n.start in
         record {
           text = All-cons (IsOfAgent unit agent) r (h agent) (of_text agent n ready view seen fits) (all agent).text;
           leave = All-cons (LeavesFit unit) r (h agent) (leaves agent n ready view seen fits) (all agent).leave;

@@ -1,10 +1,10 @@
 -- When a receiver's streams are rid of what has expired, and of what its action took.
-use Rattle.std.proofs.Common.{◌≡◌, ℕ, suc, true, false, not, if◌then◌else◌, List, [], ◌∷◌, length, Option, Some, None, refl, sym, ap, ◌∙◌, inl, inr, arith}
+use Rattle.std.proofs.Common.{◌≡◌, ℕ, suc, Bool, true, false, not, if◌then◌else◌, List, [], ◌∷◌, length, Option, Some, None, refl, sym, ap, ◌∙◌, inl, inr, arith}
 use Rattle.std.specs.Prelude.{nat_le}
 use Rattle.std.specs.List.{Contains}
 use Rattle.std.proofs.lemmas.Bool.{and_cases, and_left, and_right, cases_Bool, eq-eqb, eqb-false, eqb-true, le-leb, ne_eqb}
 use Rattle.std.proofs.lemmas.Bool.Decides.{nat_tests}
-use Rattle.psy_history.specs.Actions.{Action, Next, System, Verdict, Done, Trapped, Overran, is_done, is_done_by, is_silent, next_by, next_of}
+use Rattle.psy_history.specs.Actions.{Action, Next, System, Verdict, Done, Trapped, Overran, is_done, is_done_by, is_silent, next_by, next_of, rests}
 use Rattle.psy_history.specs.Visible.{swept, taken}
 use Rattle.psy_history.specs.Queues.{ends_at, given_up, sweeps}
 use Rattle.psy_history.proofs.Members.{contains_front}
@@ -33,9 +33,9 @@ done_ends date point v e = (ap (ends_at date) e ∙ eq-eqb date date refl, ap (i
 -- ---- a silent receiver
 
 -- Where an agent isn't silent at a date, it wasn't before,
-loud_earlier : (d : ℕ) (actions : List Action) → is_silent (suc d) actions ≡ false → is_silent d actions ≡ false
-loud_earlier d [] loud = refl
-loud_earlier d (r ∷ before) loud = elim (and_cases (not (is_done r.verdict)) (nat_le r.deadline (suc d)) loud) [
+loud_earlier : (quiet : Bool) (d : ℕ) (actions : List Action) → rests quiet (suc d) actions ≡ false → rests quiet d actions ≡ false
+loud_earlier quiet d [] loud = loud
+loud_earlier quiet d (r ∷ before) loud = elim (and_cases (not (is_done r.verdict)) (nat_le r.deadline (suc d)) loud) [
   | inl done ↦ and_left (not (is_done r.verdict)) (nat_le r.deadline d) done
   | inr early ↦ and_right (not (is_done r.verdict)) (nat_le r.deadline d) (sooner r.deadline early)
 ]
@@ -44,33 +44,39 @@ loud_earlier d (r ∷ before) loud = elim (and_cases (not (is_done r.verdict)) (
     sooner n late = grind (arith, nat_tests)
 
 -- And its streams were last rid of what had expired where they were a date before.
-pub loud_swept : (d : ℕ) (actions : List Action) → is_silent (suc d) actions ≡ false → swept (suc d) actions ≡ swept d actions
-loud_swept d [] loud = refl
-loud_swept d (r ∷ before) loud = ap (λ b. Some (if b then suc d else r.start)) loud ∙ sym (ap (λ b. Some (if b then d else r.start)) (loud_earlier d (r ∷ before) loud))
+pub loud_swept : (quiet : Bool) (d : ℕ) (actions : List Action) → rests quiet (suc d) actions ≡ false → swept quiet (suc d) actions ≡ swept quiet d actions
+loud_swept quiet d [] loud = ap (λ b. if b then Some (suc d) else None) loud ∙ sym (ap (λ b. if b then Some d else None) loud)
+loud_swept quiet d (r ∷ before) loud =
+    ap (λ b. Some (if b then suc d else r.start)) loud ∙ sym (ap (λ b. Some (if b then d else r.start)) (loud_earlier quiet d (r ∷ before) loud))
 
 -- They are rid of it at each date where it is silent,
-pub silent_swept : (date : ℕ) (actions : List Action) → is_silent date actions ≡ true → swept date actions ≡ Some date
-silent_swept date [] silent = absurd cc
-silent_swept date (r ∷ before) silent = ap (λ b. Some (if b then date else r.start)) silent
+pub silent_swept : (quiet : Bool) (date : ℕ) (actions : List Action) → rests quiet date actions ≡ true → swept quiet date actions ≡ Some date
+silent_swept quiet date [] silent = ap (λ b. if b then Some date else None) silent
+silent_swept quiet date (r ∷ before) silent = ap (λ b. Some (if b then date else r.start)) silent
 
 -- And at each of its starts.
-pub start_swept : (date : ℕ) (r : Action) (before : List Action) → r.start ≡ date → swept date (r ∷ before) ≡ Some date
-start_swept date r before at = elim (cases_Bool (is_silent date (r ∷ before))) [
-  | inl silent ↦ silent_swept date (r ∷ before) silent
+pub start_swept : (quiet : Bool) (date : ℕ) (r : Action) (before : List Action) → r.start ≡ date → swept quiet date (r ∷ before) ≡ Some date
+start_swept quiet date r before at = elim (cases_Bool (is_silent date (r ∷ before))) [
+  | inl silent ↦ silent_swept quiet date (r ∷ before) silent
   | inr loud ↦ ap (λ b. Some (if b then date else r.start)) loud ∙ ap Some at
 ]
 
 -- A receiver that starts nothing at a date is rid of what has expired where it is silent.
-pub sweeps_silent : (date : ℕ) (actions : List Action) (o : Option Next) → ((n : Next) → o ≡ Some n → n.start ≡ date → ⊥) → sweeps date actions o ≡ true → is_silent date actions ≡ true
-sweeps_silent date actions None other sweep = sweep
-sweeps_silent date actions (Some n) other sweep = absurd (other n refl (eqb-true n.start date sweep))
+pub sweeps_silent : (quiet : Bool) (date : ℕ) (actions : List Action) (o : Option Next) → ((n : Next) → o ≡ Some n → n.start ≡ date → ⊥) → sweeps quiet date actions o ≡ true → rests quiet date actions ≡ true
+sweeps_silent quiet date actions None other sweep = sweep
+sweeps_silent quiet date actions (Some n) other sweep = absurd (other n refl (eqb-true n.start date sweep))
+
+still_none : (quiet : Bool) (date : ℕ) (o : Option Next) → ((n : Next) → o ≡ Some n → quiet ≡ false) → sweeps quiet date [] o ≡ false → quiet ≡ false
+still_none quiet date None loud still = still
+still_none quiet date (Some n) loud still = loud n refl
 
 -- Where its streams are left as they are, the receiver isn't silent.
-pub still_loud : (s : System) (agent date : ℕ) (actions : List Action) → sweeps date actions (next_of s agent actions) ≡ false → is_silent date actions ≡ false
-still_loud s agent date [] still = refl
-still_loud s agent date (r ∷ before) still = by_verdict r.verdict refl still
+pub still_loud : (s : System) (agent : ℕ) (quiet : Bool) (date : ℕ) (actions : List Action) → ((n : Next) → s.opening.starts agent ≡ Some n → quiet ≡ false)
+    → sweeps quiet date actions (next_of s agent actions) ≡ false → rests quiet date actions ≡ false
+still_loud s agent quiet date [] loud still = still_none quiet date (s.opening.starts agent) loud still
+still_loud s agent quiet date (r ∷ before) loud still = by_verdict r.verdict refl still
   where
-    by_verdict : (v : Verdict) → r.verdict ≡ v → sweeps date (r ∷ before) (next_by r.number r.after v) ≡ false → is_silent date (r ∷ before) ≡ false
+    by_verdict : (v : Verdict) → r.verdict ≡ v → sweeps quiet date (r ∷ before) (next_by r.number r.after v) ≡ false → is_silent date (r ∷ before) ≡ false
     by_verdict (Done point end) is still = and_left (not (is_done r.verdict)) (nat_le r.deadline date) (ap (λ x. not (is_done x)) is)
     by_verdict (Trapped kind) is still = still
     by_verdict Overran is still = still

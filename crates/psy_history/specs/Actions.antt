@@ -54,12 +54,24 @@ pub record Next : Type 0 where
 abbrev pub History : Type 0
 History = ℕ → List Action
 
--- Where a history begins: by agent, where its first action starts, and none where it starts none; by variable, the value committed
--- before; by stream, the messages sent before.
+-- Where a history begins: behind so many dates that were done before; where none was, it is a whole one.
 pub record Opening : Type 0 where
+  pub dates : ℕ
+  -- by agent, where its next action starts: at the last of these dates, or, of one that hasn't begun, at its first date behind them; and
+  -- whether it is silent, and starts none
   pub starts : ℕ → Option Next
+  pub silent : ℕ → Bool
+  -- by variable, the value committed before, and those published at these dates, newest first
   pub committed : ℕ → ℤ
+  pub published : ℕ → List ℤ
+  -- by stream, the messages that it holds
   pub messages : ℕ → List Message
+  -- by agent, how many actions were due at these dates, and the least slack of them; by variable, how far back its ring was reached for;
+  -- by stream, the most messages that it held
+  pub count : ℕ → ℕ
+  pub slack : ℕ → Option ℕ
+  pub reach : ℕ → Option ℕ
+  pub most : ℕ → ℕ
 
 -- What a history depends on: the program, with the points that may follow each point of an agent; what executes its actions; by
 -- agent the stalls of its actions, and by input its list of values; and where it begins.
@@ -104,12 +116,19 @@ first_action unit nexts executor agent = record {
   carried = executor.first agent;
 }
 
--- Nothing was done before date 0: each agent begins, and each variable has its first value.
+-- Nothing was done before date 0: each agent begins, each variable has its first value, and nothing is published, held or counted.
 abbrev pub plain : Whole → List (List (List ℕ)) → Executor → Opening
 plain unit nexts executor = record {
+  dates = 0;
   starts = λ agent. found_in (slice_get unit.agents agent) (λ a. Some (first_action unit nexts executor agent));
+  silent = λ agent. false;
   committed = λ variable. (variable_at unit variable).init;
+  published = λ variable. [];
   messages = λ stream. [];
+  count = λ agent. 0;
+  slack = λ agent. None;
+  reach = λ variable. None;
+  most = λ stream. 0;
 }
 
 -- A program that begins at date 0
@@ -149,10 +168,15 @@ abbrev pub is_done_by : ℕ → Verdict → Bool
 is_done_by date (Done point end) = nat_le end date
 is_done_by date verdict = false
 
--- The agent's last action was stopped, and its deadline is over: the agent is silent.
+-- The last of an agent's actions was stopped, and its deadline is over.
 abbrev pub is_silent : ℕ → List Action → Bool
 is_silent date [] = false
 is_silent date (r ∷ before) = not (is_done r.verdict) && nat_le r.deadline date
+
+-- An agent is silent: so its last action says, or, where it has none, the opening.
+abbrev pub rests : Bool → ℕ → List Action → Bool
+rests quiet date [] = quiet
+rests quiet date (r ∷ before) = is_silent date (r ∷ before)
 
 -- Where the next action starts behind one that reached a point
 abbrev pub next_by : ℕ → Carried → Verdict → Option Next

@@ -7,6 +7,7 @@ pub mod Feeding
 pub mod History
 pub mod Likeness
 pub mod Lines
+pub mod Openings
 pub mod Queues
 pub mod Regular
 pub mod Rings

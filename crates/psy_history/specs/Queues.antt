@@ -3,7 +3,7 @@ use Rattle.std.specs.Prelude.{ℕ, zero, suc, ◌==◌, Bool, false, nat_lt, if�
 use Rattle.std.specs.List.{flat_map, range_with_len}
 use Rattle.psy_base.specs.declared.message.Message.{Message}
 use Rattle.psy_queue.specs.Order.{put_in_order}
-use Rattle.psy_history.specs.Actions.{Action, Next, System, Verdict, Done, Trapped, Overran, is_silent, next_of, stream_of}
+use Rattle.psy_history.specs.Actions.{Action, Next, System, Verdict, Done, Trapped, Overran, next_of, rests, stream_of}
 use Rattle.psy_history.specs.History.{history}
 use Rattle.psy_history.specs.Visible.{held, messages_by, taken}
 
@@ -26,20 +26,20 @@ given_up date stream [] = 0
 given_up date stream (r ∷ before) = if ends_at date r.verdict then length (taken r stream) else 0
 
 -- A receiver's streams are rid of what has expired at a date: where its next action starts there, or where it is silent.
-abbrev pub sweeps : ℕ → List Action → Option Next → Bool
-sweeps date actions None = is_silent date actions
-sweeps date actions (Some next) = next.start == date
+abbrev pub sweeps : Bool → ℕ → List Action → Option Next → Bool
+sweeps quiet date actions None = rests quiet date actions
+sweeps quiet date actions (Some next) = next.start == date
 
 -- What is left of a stream's messages at a date, where the receiver's actions before that date are these
-abbrev pub settled_by : ℕ → ℕ → List Action → Option Next → List Message → List Message
-settled_by date stream actions next messages =
-    if sweeps date actions next then filter (λ (m : Message). nat_lt date m.expiry) (drop (given_up date stream actions) messages) else messages
+abbrev pub settled_by : Bool → ℕ → ℕ → List Action → Option Next → List Message → List Message
+settled_by quiet date stream actions next messages =
+    if sweeps quiet date actions next then filter (λ (m : Message). nat_lt date m.expiry) (drop (given_up date stream actions) messages) else messages
 
 -- The same, by the history
 abbrev pub settled : System → ℕ → ℕ → List Message → List Message
 settled s date stream messages =
     let receiver = (stream_of s stream).receiver in
-    settled_by date stream (history s date receiver) (next_of s receiver (history s date receiver)) messages
+    settled_by (s.opening.silent receiver) date stream (history s date receiver) (next_of s receiver (history s date receiver)) messages
 
 -- ---- what comes
 

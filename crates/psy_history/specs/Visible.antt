@@ -38,9 +38,22 @@ abbrev pub published_by : System → History → ℕ → ℕ → Option ℕ → 
 published_by s h variable date (Some owner) = committed_in s variable date (h owner)
 published_by s h variable date None = input_value s variable date
 
--- The value that a variable publishes at a date of its clock: the one committed last, or that of its list
+-- The value that a variable published at a date of its clock up to the last one that was done before: as many back in the opening's list
+-- as dates of the clock stand behind; the first value where the list has no more
+abbrev pub published_before : System → ℕ → ℕ → ℕ → ℤ
+published_before s last variable date =
+    let clock = publishing s variable in
+    get_or (s.opening.published variable) (count clock last - count clock date) (variable_of s variable).init
+
+-- The same at any date, where so many dates were done before: behind them by its owner
+abbrev pub published_behind : ℕ → System → History → ℕ → ℕ → ℤ
+published_behind zero s h variable date = published_by s h variable date (variable_of s variable).owner
+published_behind (suc last) s h variable date =
+    if nat_le date last then published_before s last variable date else published_by s h variable date (variable_of s variable).owner
+
+-- The value that a variable publishes at a date of its clock: the one committed last, or that of its list; or as the opening says
 abbrev pub published : System → History → ℕ → ℕ → ℤ
-published s h variable date = published_by s h variable date (variable_of s variable).owner
+published s h variable date = published_behind s.opening.dates s h variable date
 
 -- Past(variable, back) in an action that starts at a date: the value published so many dates before the last one up to the start,
 -- or the first value where there is no such date
@@ -78,7 +91,7 @@ abbrev pub messages_by : System → ℕ → ℕ → List Sent → Verdict → Li
 messages_by s stream agent sends (Done point end) = messages_from s stream agent end 0 sends
 messages_by s stream agent sends verdict = []
 
--- The messages to a stream of all actions of a history
+-- The messages to a stream of all actions of a history, and those of its opening
 abbrev pub sent_to : System → History → ℕ → List Message
 sent_to s h stream =
     s.opening.messages stream ++ flat_map (λ agent. flat_map (λ (r : Action). messages_by s stream r.agent r.deeds.sends r.verdict) (h agent))
@@ -115,10 +128,10 @@ abbrev pub seen_at : System → History → ℕ → ℕ → List Message
 seen_at s h date stream = filter (is_in_view stream date (h (stream_of s stream).receiver)) (messages s h stream)
 
 -- Of a receiver, the date at which its streams were last rid of what had expired: its last start, or this date where it is silent;
--- none before its first action
-abbrev pub swept : ℕ → List Action → Option ℕ
-swept date [] = None
-swept date (r ∷ before) = Some (if is_silent date (r ∷ before) then date else r.start)
+-- none before its first action. Whether it is silent without one, is given.
+abbrev pub swept : Bool → ℕ → List Action → Option ℕ
+swept quiet date [] = if quiet then Some date else None
+swept quiet date (r ∷ before) = Some (if is_silent date (r ∷ before) then date else r.start)
 
 -- It expires after this date, where there is one.
 abbrev pub is_fresh : Option ℕ → Message → Bool
@@ -127,12 +140,14 @@ is_fresh (Some date) m = nat_lt date m.expiry
 
 -- A message of a stream is held at a date, where the receiver's actions are these: it has entered, none of them took it, and it
 -- wasn't swept away.
-abbrev pub is_held : ℕ → ℕ → List Action → Message → Bool
-is_held stream date actions m = nat_le m.entry date && (is_untaken stream date actions m && is_fresh (swept date actions) m)
+abbrev pub is_held : Bool → ℕ → ℕ → List Action → Message → Bool
+is_held quiet stream date actions m = nat_le m.entry date && (is_untaken stream date actions m && is_fresh (swept quiet date actions) m)
 
 -- The messages that a stream holds at a date
 abbrev pub held : System → History → ℕ → ℕ → List Message
-held s h stream date = filter (is_held stream date (h (stream_of s stream).receiver)) (messages s h stream)
+held s h stream date =
+    let receiver = (stream_of s stream).receiver in
+    filter (is_held (s.opening.silent receiver) stream date (h receiver)) (messages s h stream)
 
 -- ---- the view
 

@@ -32,6 +32,7 @@ ghost use Rattle.psy_history.specs.Asked.{IsBoundedBy};
 ghost use Rattle.psy_history.specs.Compiled.{AreInputs, IsCompiled, coded, stated};
 ghost use Rattle.psy_history.specs.Feeding.{AreSame, OverranAlike, Reaches};
 ghost use Rattle.psy_history.specs.Likeness.{AreLike};
+ghost use Rattle.psy_history.specs.Openings.{IsSound};
 ghost use Rattle.psy_history.specs.Queues.{entered, entering, queue_of, settled};
 ghost use Rattle.psy_history.specs.Regular.{IsLawful, Runs, begun_by, first_number};
 ghost use Rattle.psy_history.specs.Rings.{age_at, reach_with, ring_of};
@@ -78,6 +79,25 @@ pub fn regular()
 {
     lasting();
     distances();
+}
+
+/// What a history begins with: the plain opening is one that it may have. No action starts before the last date that was done before; when
+/// it begins, rings hold the values that were published, and queues the messages that were held.
+pub fn openings()
+    ensures plain { (unit : Whole) (code : Code) (nexts : List (List (List ℕ))) (stalls : ℕ → List Stall) (inputs : List (List ℤ))
+        → IsCompiled unit code nexts → AreInputs unit inputs → IsSound (coded unit code nexts stalls inputs) (OfText unit) code }
+    ensures none { (s : System) (ways : Ways) (code : Code) → IsRun s ways code
+        → (date agent : ℕ) → date < s.opening.dates → history s date agent ≡ [] }
+    ensures rings { (s : System) (ways : Ways) (code : Code) → IsRun s ways code
+        → (variable size : ℕ) → 1 ≤ s.opening.dates → variable < length s.unit.variables → IsRingSize s.unit ways s.nexts variable size
+        → ring_of s s.opening.dates variable size ≡ s.opening.published variable }
+    ensures queues { (s : System) (ways : Ways) (code : Code) → IsRun s ways code
+        → (stream : ℕ) → stream < length s.unit.streams → queue_of s s.opening.dates stream ≡ s.opening.messages stream }
+{
+    dates();
+    distances();
+    compiled();
+    regular();
 }
 
 /// Code that acts as a program's statements has their history, but for what actions do beyond their budgets; so it has the same
@@ -163,7 +183,7 @@ pub fn rings()
 /// How far back rings are reached for: no further by an idle cycle, by a stall, and by the actions that a date starts; and by a cycle that
 /// pays an instruction as far as that one asks.
 pub fn reaches()
-    ensures none { (s : System) (h : History) (variable : ℕ) → reach s [] h variable ≡ None }
+    ensures none { (s : System) (h : History) (variable : ℕ) → reach s [] h variable ≡ s.opening.reach variable }
     ensures idle { (s : System) (turns : List (Option Turn)) (h : History) (variable : ℕ) → reach s (None ∷ turns) h variable ≡ reach s turns h variable }
     ensures stalled { (s : System) (turns : List (Option Turn)) (dates agent variable : ℕ) (r : Action) → IsLawful s → Contains (history s dates agent) r
         → ((instr : ℕ) → units r.agent r.number turns ≡ cycle_of (s.stalls r.agent) r.number instr → ⊥)
@@ -202,7 +222,7 @@ pub fn ring_sizes()
 /// before its end, the messages that it saw at its start in front of all others. A message that becomes visible is held.
 pub fn queues()
     ensures next { (s : System) (ways : Ways) (code : Code) → IsRun s ways code
-        → (date stream : ℕ) → stream < length s.unit.streams
+        → (date stream : ℕ) → s.opening.dates ≤ date → stream < length s.unit.streams
         → queue_of s (date + 1) stream ≡ entered (entering s date stream) (settled s date stream (queue_of s date stream)) }
     ensures look { (s : System) (ways : Ways) (code : Code) → IsRun s ways code
         → (date stream agent : ℕ) (decl : StreamDecl) (r : Action) (before : List Action) → slice_get s.unit.streams stream ≡ Some decl
@@ -222,14 +242,15 @@ pub fn queues()
     regular();
 }
 
-/// No stream ever holds more messages than its queue has places, where that is no more than a queue may have.
+/// No stream ever holds more messages than its queue has places, where that is no more than a queue may have, and as it held when its
+/// history began.
 pub fn queue_sizes()
     ensures held { (s : System) (ways : Ways) (code : Code) → IsRun s ways code
         → (date stream size : ℕ) → stream < length s.unit.streams → IsQueueSize s.unit ways s.nexts stream size → size ≤ QUEUE
-        → length (queue_of s date stream) ≤ size }
+        → length (queue_of s date stream) ≤ size + length (s.opening.messages stream) }
     ensures most { (s : System) (ways : Ways) (code : Code) → IsRun s ways code
         → (until stream size : ℕ) → stream < length s.unit.streams → IsQueueSize s.unit ways s.nexts stream size → size ≤ QUEUE
-        → most_held s until stream ≤ size }
+        → most_held s until stream ≤ size + length (s.opening.messages stream) }
 {
     lasting();
     distances();

@@ -156,7 +156,7 @@ module _ (k : Inside) (date : ℕ) (at : IsDue k date) where
     agents = agents_after k.plan.unit k.plan.code k.plan.nexts (stalls_of k.script) k.shared.inputs.lists date k.plan.until (turns_of its ties k.cycles) lawful small unstarted in_time k.machines.items k.charges.items k.ready k.figures.items h.charges h.waiting was shared.seats.items after.seated sits
 
     pub helds : (after : List ℕ) → IsDoneBelow (held_at shared.queues.items) (length shared.queues.items) k.helds.items after → (stream n : ℕ) → slice_get after stream ≡ Some n → n ≡ most_held_in its (date + 1) stream
-    helds after_each done_each = held_more its (turns_of its ties k.cycles) date shared after k.helds.items after_each h.holding (λ stream n there. subst (λ d. n ≡ most_held_in its d stream) (sym is_date) (h.held stream n there)) done_each
+    helds after_each done_each = held_more its refl (λ stream. refl) (turns_of its ties k.cycles) date shared after k.helds.items after_each h.holding (λ stream n there. subst (λ d. n ≡ most_held_in its d stream) (sym is_date) (h.held stream n there)) done_each
 
     pub deeds : HaveBegun its date shared.seats.items shared.outboxes.items shared.taken.items → HaveStayed its date shared.seats.items k.shared.outboxes.items shared.outboxes.items k.shared.taken.items shared.taken.items
         → (agent : ℕ) (outbox : Outboxed) → slice_get shared.outboxes.items agent ≡ Some outbox → DeedsStand its k.plan.code (turns_of its ties k.cycles) (history its (suc date) agent) outbox.sends shared.taken.items

@@ -29,14 +29,14 @@ module _ (s : System) (turns : List (Option Turn)) (date : ℕ) (shared : Shared
       let tells : TellsStop seat (agent_at s.unit place).name date result old new = subst (λ n. TellsStop seat n date result old new) named told in
       subst (λ es. IsToldBy s date es result old new) (sym (told_stop s date place within)) (seat_told s date (date + 1) place turns seat old new result (history s (date + 1) place) seated regular tells)
 
-  pub variable_told : (v : VarDecl) (clock : Clock) (value : ℤ) → length s.unit.agents ≤ place → v ≡ variable_of s (place - length s.unit.agents) → clock ≡ publishing s (place - length s.unit.agents)
+  pub variable_told : s.opening.dates ≤ date → (v : VarDecl) (clock : Clock) (value : ℤ) → length s.unit.agents ≤ place → v ≡ variable_of s (place - length s.unit.agents) → clock ≡ publishing s (place - length s.unit.agents)
       → slice_get shared.committed.items (place - length s.unit.agents) ≡ Some value → TellsValue v clock value date result old new → IsToldBy s date (told_by s date place) result old new
-  variable_told v clock value behind named timed at told =
+  variable_told later v clock value behind named timed at told =
       let variable : ℕ = place - length s.unit.agents in
       let committed : value ≡ committed_at s (history s (date + 1)) variable date = subst (λ d. value ≡ committed_at s (history s (date + 1)) variable d) last (stands.committed variable value at) in
       let tells : TellsValue (variable_of s variable) (publishing s variable) value date result old new =
       subst (λ c. TellsValue (variable_of s variable) c value date result old new) timed (subst (λ w. TellsValue w clock value date result old new) named told) in
-      subst (λ es. IsToldBy s date es result old new) (sym (told_value s date place behind)) (value_told s (history s (date + 1)) date variable result value old new committed tells)
+      subst (λ es. IsToldBy s date es result old new) (sym (told_value s date place behind)) (value_told s (history s (date + 1)) date variable later result value old new committed tells)
 
 -- ---- the walk
 

@@ -1,10 +1,10 @@
 -- What a variable publishes, by the value committed last.
-use Rattle.std.proofs.Common.{◌≡◌, ℕ, ◌≤◌, Bool, true, false, if◌then◌else◌, List, [], ◌∷◌, length, Option, Some, None, ℤ, refl, sym, ap, ◌∙◌, arith}
-use Rattle.std.specs.Prelude.{IsSome}
-use Rattle.std.proofs.lemmas.Bool.{false_from_ne_true}
+use Rattle.std.proofs.Common.{◌≡◌, ℕ, zero, suc, ◌≤◌, Bool, true, false, if◌then◌else◌, List, [], ◌∷◌, length, Option, Some, None, ℤ, refl, sym, ap, ◌∙◌, arith}
+use Rattle.std.specs.Prelude.{IsSome, nat_le}
+use Rattle.std.proofs.lemmas.Bool.{cond-false, false_from_ne_true, lt-leb}
 use Rattle.psy_history.specs.Actions.{History, System, publishing, variable_of}
 use Rattle.psy_history.specs.Lines.{Event, Publish, is_date, publications, publications_by}
-use Rattle.psy_history.specs.Visible.{published, published_by}
+use Rattle.psy_history.specs.Visible.{published, published_before, published_behind, published_by}
 use Rattle.psy_dates.specs.Standing.{committed_at, committed_by}
 use Rattle.psy_kernel.specs.Telling.{IsToldBy, TellsValue}
 
@@ -24,6 +24,11 @@ module _ (s : System) (h : History) (date variable : ℕ) where
   pub publications_few : length (publications s h date variable) ≤ 1
   publications_few = few_by (variable_of s variable).owner
 
+  -- behind the dates that were done before
+  published_now : (dates : ℕ) → dates ≤ date → published_behind dates s h variable date ≡ published_by s h variable date (variable_of s variable).owner
+  published_now zero later = refl
+  published_now (suc last) later = cond-false (nat_le date last) (published_before s last variable date) (published_by s h variable date (variable_of s variable).owner) (lt-leb date last later)
+
   published_is : (owner : Option ℕ) → IsSome owner → published_by s h variable date owner ≡ committed_by s h variable date owner
   published_is None some = cc
   published_is (Some o) some = refl
@@ -37,10 +42,10 @@ module _ (s : System) (h : History) (date variable : ℕ) where
   none_by_owner (Some o) never = ap listed (false_from_ne_true (is_date (publishing s variable) date) (never refl))
 
   -- A variable tells what it publishes.
-  pub value_told : (result : Bool) (value : ℤ) (old new : List ℕ) → value ≡ committed_at s h variable date
+  pub value_told : s.opening.dates ≤ date → (result : Bool) (value : ℤ) (old new : List ℕ) → value ≡ committed_at s h variable date
       → TellsValue (variable_of s variable) (publishing s variable) value date result old new → IsToldBy s date (publications s h date variable) result old new
-  value_told true value old new e told =
+  value_told later true value old new e told =
       let owner = (variable_of s variable).owner in
-      let is : published s h variable date ≡ value = published_is owner told.0 ∙ sym e in
+      let is : published s h variable date ≡ value = published_now s.opening.dates later ∙ published_is owner told.0 ∙ sym e in
       (Publish variable value, told_by_owner owner told.0 told.1 ∙ ap (λ v. Publish variable v ∷ []) is, told.2)
-  value_told false value old new e told = (none_by_owner (variable_of s variable).owner told.0, told.1)
+  value_told later false value old new e told = (none_by_owner (variable_of s variable).owner told.0, told.1)

@@ -7,7 +7,7 @@ use Rattle.psy_tree.specs.Parts.{agent_at}
 use Rattle.psy_history.specs.History.{history}
 use Rattle.psy_history.specs.Lines.{Event, Stop, Publish, Show, events}
 use Rattle.psy_history.specs.Schedule.{Turn}
-use Rattle.psy_history.specs.Summary.{due_by, most_held, reach, slack}
+use Rattle.psy_history.specs.Summary.{dates_from, due_by, due_count, least_slack, most_held, reach}
 use Rattle.psy_history.specs.Scheduled.{turns_of}
 use Rattle.psy_base.specs.declared.sizes.Sizes.{Sizes}
 
@@ -22,11 +22,11 @@ event_line s date (Show stream value) = message_line date (stream_of s stream).n
 abbrev pub lines_of : System → ℕ → List (List ℕ)
 lines_of s date = map (event_line s date) (events s date)
 
--- An agent's line: how many of its actions are due by the last date, and the least slack among them
+-- An agent's line: how many of its actions are due by the last date, and the least slack among them, with what its opening has
 abbrev pub agent_end : System → List (Option Turn) → ℕ → ℕ → List ℕ
 agent_end s turns until agent =
     let due = due_by until (history s (until + 1) agent) in
-    agent_line (agent_at s.unit agent).name (length due) (slack s.unit.quantum turns due)
+    agent_line (agent_at s.unit agent).name (due_count s agent due) (least_slack s turns agent due)
 
 -- A variable's line: the size of its ring, and how far back it was reached for
 abbrev pub variable_end : System → List (Option Turn) → Sizes → ℕ → ℕ → List ℕ
@@ -53,9 +53,9 @@ summary_of s order sizes until = summary_by s (turns_of s order (until * s.unit.
 abbrev pub text_of : List (List ℕ) → List ℕ
 text_of = flat_map (λ line. line)
 
--- The text of the first dates, of which there are so many: 0, 1 and so on
+-- The text of the dates below this one: 0, 1 and so on, behind those that were done before
 abbrev pub log_of : System → ℕ → List ℕ
-log_of s dates = flat_map (λ date. text_of (lines_of s date)) (range_with_len 0 dates)
+log_of s dates = flat_map (λ date. text_of (lines_of s date)) (dates_from s.opening.dates dates)
 
 -- The whole text of a run up to a date
 abbrev pub run_text : System → (ℕ → List ℕ) → Sizes → ℕ → List ℕ

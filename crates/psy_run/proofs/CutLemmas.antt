@@ -9,7 +9,7 @@ use Rattle.psy_log.specs.declared.write.WriteFault.{WriteFault}
 use Rattle.psy_history.specs.Actions.{System}
 use Rattle.psy_run.specs.Cuts.{IsCutAt, log_lines}
 use Rattle.psy_run.proofs.GrowthLemmas.{Grew-trans}
-use Rattle.psy_run.proofs.LogLemmas.{dates-more, dates-next}
+use Rattle.psy_run.proofs.LogLemmas.{dates-more, dates-next, log-whole}
 
 text_of-append : (xs ys : List (List ℕ)) → text_of (xs ++ ys) ≡ text_of xs ++ text_of ys
 text_of-append xs ys = flat_map-append (λ line. line) xs ys
@@ -56,18 +56,18 @@ cut_before a c lines rest taken cut = record {
 }
 
 -- The text of dates is that of their lines.
-pub log_text : (s : System) (dates : ℕ) → log_of s dates ≡ text_of (log_lines s dates)
-log_text s dates = by (range_with_len 0 dates)
+pub log_text : (s : System) → s.opening.dates ≡ 0 → (dates : ℕ) → log_of s dates ≡ text_of (log_lines s dates)
+log_text s none dates = log-whole s none dates ∙ by (range_with_len 0 dates)
   where
     by : (ds : List ℕ) → flat_map (λ date. text_of (lines_of s date)) ds ≡ text_of (flat_map (lines_of s) ds)
     by [] = refl
     by (d ∷ ds) = ap (λ text. text_of (lines_of s d) ++ text) (by ds) ∙ sym (text_of-append (lines_of s d) (flat_map (lines_of s) ds))
 
 -- A write of a date's lines failed.
-pub cut_at_date : (a b c : Option (List ℕ)) (s : System) (date n taken : ℕ) → date + 1 ≤ n → Grew a b (log_of s date) → IsCutAt b c (lines_of s date) taken → IsCutAt a c (log_lines s n) taken
-cut_at_date a b c s date n taken h first cut =
+pub cut_at_date : (a b c : Option (List ℕ)) (s : System) → s.opening.dates ≡ 0 → (date n taken : ℕ) → date + 1 ≤ n → Grew a b (log_of s date) → IsCutAt b c (lines_of s date) taken → IsCutAt a c (log_lines s n) taken
+cut_at_date a b c s none date n taken h first cut =
     let more = dates-more (lines_of s) (date + 1) n h in
-    let here = cut_behind a b c (log_lines s date) (lines_of s date) taken (subst (Grew a b) (log_text s date) first) cut in
+    let here = cut_behind a b c (log_lines s date) (lines_of s date) taken (subst (Grew a b) (log_text s none date) first) cut in
     subst (λ lines. IsCutAt a c lines taken) (sym more.1) (cut_before a c (log_lines s (date + 1)) more.0 taken (subst (λ lines. IsCutAt a c lines taken) (sym (dates-next (lines_of s) date)) here))
 
 -- The last part was written, or a write of it failed.

@@ -11,6 +11,7 @@ use Rattle.psy_kernel.specs.declared.stage.Stage.TheVariants.{DateDue}
 use Rattle.psy_kernel.specs.Progress.{Progress, after_date, after_line, lines_at, lines_told, stage_of, system}
 use Rattle.psy_kernel.specs.Texts.{lines_of, log_of, text_of}
 use Rattle.psy_history.specs.Actions.{System}
+use Rattle.psy_history.specs.Summary.{dates_from}
 use Rattle.psy_run.proofs.GrowthLemmas.{Grew-trans}
 use Rattle.psy_run.proofs.TextLemmas.{items_more, items_split}
 use Rattle.psy_run.proofs.WritingLemmas.{GrewByFront-append, Grew-GrewByFront, Grew-item, GrewByFront-item}
@@ -61,22 +62,30 @@ module _ {X : Type 0} (of : ℕ → List X) where
         (before.0 ++ of n, dates-suc n ∙ ap (λ told. told ++ of n) before.1 ∙ append_assoc (first_dates dates) before.0 (of n))
   ]
 
-pub log-next : (s : System) (n : ℕ) → log_of s (n + 1) ≡ log_of s n ++ text_of (lines_of s n)
-log-next s n = dates-next (λ date. text_of (lines_of s date)) n
+-- Where no date was done before, the text is that of all dates.
+pub log-whole : (s : System) → s.opening.dates ≡ 0 → (n : ℕ) → log_of s n ≡ flat_map (λ date. text_of (lines_of s date)) (range_with_len 0 n)
+log-whole s none n = ap (λ dates. flat_map (λ date. text_of (lines_of s date)) (dates_from dates n)) none
+
+pub log-next : (s : System) → s.opening.dates ≡ 0 → (n : ℕ) → log_of s (n + 1) ≡ log_of s n ++ text_of (lines_of s n)
+log-next s none n =
+    log-whole s none (n + 1) ∙ dates-next (λ date. text_of (lines_of s date)) n
+    ∙ ap (λ text. text ++ text_of (lines_of s n)) (sym (log-whole s none n))
 
 -- The text of more dates begins with that of fewer
-pub log-more : (s : System) (dates n : ℕ) → dates ≤ n → (rest : List ℕ) × (log_of s n ≡ log_of s dates ++ rest)
-log-more s dates n h = dates-more (λ date. text_of (lines_of s date)) dates n h
+pub log-more : (s : System) → s.opening.dates ≡ 0 → (dates n : ℕ) → dates ≤ n → (rest : List ℕ) × (log_of s n ≡ log_of s dates ++ rest)
+log-more s none dates n h =
+    let more = dates-more (λ date. text_of (lines_of s date)) dates n h in
+    (more.0, log-whole s none n ∙ more.1 ∙ ap (λ text. text ++ more.0) (sym (log-whole s none dates)))
 
 -- One date more was written
-pub Grew-date : (a b c : Option (List ℕ)) (s : System) (date : ℕ) → Grew a b (log_of s date) → Grew b c (text_of (lines_of s date)) → Grew a c (log_of s (date + 1))
-Grew-date a b c s date before lines = subst (Grew a c) (sym (log-next s date)) (Grew-trans a b c _ _ before lines)
+pub Grew-date : (a b c : Option (List ℕ)) (s : System) → s.opening.dates ≡ 0 → (date : ℕ) → Grew a b (log_of s date) → Grew b c (text_of (lines_of s date)) → Grew a c (log_of s (date + 1))
+Grew-date a b c s none date before lines = subst (Grew a c) (sym (log-next s none date)) (Grew-trans a b c _ _ before lines)
 
 -- A write of a date's lines failed
-pub GrewByFront-date : (a b c : Option (List ℕ)) (s : System) (date n : ℕ) → date + 1 ≤ n → Grew a b (log_of s date) → GrewByFront b c (text_of (lines_of s date)) → GrewByFront a c (log_of s n)
-GrewByFront-date a b c s date n h before lines =
-    let more = log-more s (date + 1) n h in
-    let here = subst (GrewByFront a c) (sym (log-next s date)) (Grew-GrewByFront a b c _ _ before lines) in
+pub GrewByFront-date : (a b c : Option (List ℕ)) (s : System) → s.opening.dates ≡ 0 → (date n : ℕ) → date + 1 ≤ n → Grew a b (log_of s date) → GrewByFront b c (text_of (lines_of s date)) → GrewByFront a c (log_of s n)
+GrewByFront-date a b c s none date n h before lines =
+    let more = log-more s none (date + 1) n h in
+    let here = subst (GrewByFront a c) (sym (log-next s none date)) (Grew-GrewByFront a b c _ _ before lines) in
     subst (GrewByFront a c) (sym more.1) (GrewByFront-append a c (log_of s (date + 1)) more.0 here)
 
 -- What is due where a date is

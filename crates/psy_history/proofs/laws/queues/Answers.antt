@@ -16,7 +16,7 @@ streams_of : (c : goal.After-regular) (s : System) (ways : Ways) (code : Code) â
 streams_of c s ways code run = has_streams s ways code run (c.regular.ensures.lawful s ways code run)
 
 pub returns-clause-next : goal.returns-clause-next
-returns-clause-next c s ways code run date stream less = next_is s (streams_of c s ways code run) (of_clocks c) stream date
+returns-clause-next c s ways code run date stream later less = next_is s (streams_of c s ways code run) (of_clocks c) stream date later
 
 pub returns-clause-look : goal.returns-clause-look
 returns-clause-look c s ways code run = look_is s (streams_of c s ways code run) (of_clocks c)

@@ -25,12 +25,12 @@ pub returns-clause-published : goal.returns-clause-published
 returns-clause-published c unit nexts stalls inputs dates variable date text given =
     let s = stated unit nexts stalls inputs in
     let laws = laws_of c unit text in
-    by_owner s (λ v. get_or_holds (λ d. Fits d.init) unit.variables v _ zero_fits laws.sound.values) (λ stream. All-nil MessageFits) given.values laws.sound.values
+    by_owner s (λ v. get_or_holds (λ d. Fits d.init) unit.variables v _ zero_fits laws.sound.values) (λ v. All-nil Fits) (λ stream. All-nil MessageFits) given.values laws.sound.values
     (history s dates) (all_fit unit nexts stalls inputs laws given dates) variable date (variable_of s variable).owner
 
 pub returns-clause-messages : goal.returns-clause-messages
 returns-clause-messages c unit nexts stalls inputs dates stream text given =
     let s = stated unit nexts stalls inputs in
     let laws = laws_of c unit text in
-    messages_fit s (λ v. get_or_holds (λ d. Fits d.init) unit.variables v _ zero_fits laws.sound.values) (λ stream. All-nil MessageFits) given.values laws.sound.values
+    messages_fit s (λ v. get_or_holds (λ d. Fits d.init) unit.variables v _ zero_fits laws.sound.values) (λ v. All-nil Fits) (λ stream. All-nil MessageFits) given.values laws.sound.values
     (history s dates) (all_fit unit nexts stalls inputs laws given dates) stream

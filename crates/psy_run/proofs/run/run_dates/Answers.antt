@@ -1,5 +1,5 @@
 -- What is left of the proof of `run::run_dates`.
-use Rattle.std.proofs.Common.{◌≡◌, ◌∙◌, ap, subst, sym, ◌+◌, ◌*◌, ◌≤◌, length, arith}
+use Rattle.std.proofs.Common.{◌≡◌, ◌∙◌, refl, ap, subst, sym, ◌+◌, ◌*◌, ◌≤◌, length, arith}
 use Rattle.psy_door.specs.Growth.{Grew, GrewByFront}
 use Rattle.psy_kernel.specs.Progress.{after_date, lines_told, system}
 use Rattle.psy_kernel.specs.Texts.{lines_of, text_of}
@@ -17,7 +17,7 @@ returns-in-Err-clause-written g c =
     let until = ap (λ k. k.plan.until) c.stages.invariant.same in
     let lines : lines_told c.date.new.self ≡ lines_of (system old) p.dates = ap lines_told c.date.ensures.state ∙ lines_told-after p ∙ ap (λ k. lines_of (system k) p.dates) c.stages.invariant.same in
     let before : p.dates + 1 ≤ old.plan.until + 1 = omega (arith, due.2, c.stages.invariant.within, until) in
-    GrewByFront-date _ _ _ (system old) p.dates (old.plan.until + 1) before c.stages.invariant.grew
+    GrewByFront-date _ _ _ (system old) refl p.dates (old.plan.until + 1) before c.stages.invariant.grew
     (subst (λ ls. GrewByFront (g.S.Sink.held c.stages.out) (g.S.Sink.held c.write_date.new.out) (text_of ls)) lines c.in-Err.ensures.written)
 
 pub stages-preserved : goal.stages-preserved
@@ -42,7 +42,7 @@ stages-preserved g c =
       counted = omega (arith, c.stages.invariant.counted, c.in_default.ensures.counted);
       grew =
           rw dates
-          (Grew-date _ _ _ (system old) p.dates c.stages.invariant.grew
+          (Grew-date _ _ _ (system old) refl p.dates c.stages.invariant.grew
           (subst (λ ls. Grew (g.S.Sink.held c.stages.out) (g.S.Sink.held c.write_date.new.out) (text_of ls)) lines c.in_default.ensures.written));
     }
 
@@ -54,5 +54,5 @@ returns-in-Err-clause-cut g c =
     let until = ap (λ k. k.plan.until) c.stages.invariant.same in
     let lines : lines_told c.date.new.self ≡ lines_of (system old) p.dates = ap lines_told c.date.ensures.state ∙ lines_told-after p ∙ ap (λ k. lines_of (system k) p.dates) c.stages.invariant.same in
     let before : p.dates + 1 ≤ old.plan.until + 1 = omega (arith, due.2, c.stages.invariant.within, until) in
-    cut_at_date _ _ _ (system old) p.dates (old.plan.until + 1) c.in-Err.fault.taken before c.stages.invariant.grew
+    cut_at_date _ _ _ (system old) refl p.dates (old.plan.until + 1) c.in-Err.fault.taken before c.stages.invariant.grew
     (subst (λ ls. IsCutAt (g.S.Sink.held c.stages.out) (g.S.Sink.held c.write_date.new.out) ls c.in-Err.fault.taken) lines c.in-Err.ensures.cut)

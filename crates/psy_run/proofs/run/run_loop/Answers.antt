@@ -1,5 +1,5 @@
 -- What is left of the proof of `run::run_loop`.
-use Rattle.std.proofs.Common.{◌≡◌, ap, subst, ◌+◌, IfErr}
+use Rattle.std.proofs.Common.{◌≡◌, refl, ap, subst, ◌+◌, IfErr}
 use Rattle.psy_door.specs.Growth.{Grew}
 use Rattle.psy_kernel.specs.Progress.{summary_told, system}
 use Rattle.psy_kernel.specs.Texts.{log_of, text_of}
@@ -32,5 +32,5 @@ returns-clause-cut g c =
     let dates = old.plan.until + 1 in
     let summary : summary_told c.run_dates.new.kernel ≡ summary_told old = ap summary_told c.in_default.ensures.over in
     cut_last _ _ _ (log_lines (system old) dates) (summary_told old) _
-    (subst (Grew (g.S.Sink.held c.args.out.now) (g.S.Sink.held c.run_dates.new.out)) (log_text (system old) dates) c.in_default.ensures.written)
+    (subst (Grew (g.S.Sink.held c.args.out.now) (g.S.Sink.held c.run_dates.new.out)) (log_text (system old) refl dates) c.in_default.ensures.written)
     (subst (λ lines. IfErr c.write_summary.result (λ fault. IsCutAt (g.S.Sink.held c.run_dates.new.out) (g.S.Sink.held c.write_summary.new.out) lines fault.taken)) summary c.write_summary.ensures.cut)

@@ -1,5 +1,6 @@
 -- What is left of the proof of `kernel::Kernel::next_line`.
 use Rattle.std.proofs.Common.{◌≡◌, ◌+◌, ◌*◌, ◌≤◌, ℕ, length, slice_get, Some, refl, ap, subst, arith}
+use Rattle.psy_history.specs.Queues.{queue_of}
 use Rattle.psy_history.specs.Scheduled.{turns_of}
 use Rattle.psy_history.specs.Ways.{OfText}
 use Rattle.psy_kernel.specs.Progress.{Progress, after_line, lines_told, order, system}
@@ -29,7 +30,10 @@ overflow_add-self c =
     given_few k w date c.in-Some.is (c.regular.ensures.lawful (system (progress_of k)) ways k.plan.code run)
     (λ stream within. shown_few (system (progress_of k)) (turns_of (system (progress_of k)) (order (progress_of k)) k.cycles) date k.shared (stands_now k w date c.in-Some.is) stream
     (c.queues.ensures.shows (system (progress_of k)) ways k.plan.code run date stream within)
-    (λ size is small. c.queue_sizes.ensures.held (system (progress_of k)) ways k.plan.code run (date + 1) stream size within (c.compiled.ensures.queue k.plan.unit k.plan.nexts stream size is) small) within) in
+    (λ size is small.
+    (let held : length (queue_of (system (progress_of k)) (date + 1) stream) ≤ size + 0 =
+    c.queue_sizes.ensures.held (system (progress_of k)) ways k.plan.code run (date + 1) stream size within (c.compiled.ensures.queue k.plan.unit k.plan.nexts stream size is) small in
+    omega (arith, held))) within) in
     let bare = w.plan.compiled.text.bare in
     omega (arith, few, w.place, bare.agent_limit, bare.variable_limit, bare.stream_limit)
 

@@ -50,6 +50,7 @@ returns-clause-told c =
     slice_get_read shared.committed.items (length plan.unit.variables) variable value (sym c.requires.valued) within (c.index-2.ensures ∙ ap (λ n. get_or shared.committed.items n value) same) in
     let bits : to_z w32 (of_z w32 value) ≡ value = grind (arith, to_z-of_z) in
     let told = subst (λ (z : ℤ). TellsValue v (get_or c.as_slice-2.result.now v.clock every_tick) z c.args.date c.tell_value.result c.args.line.now c.tell_value.new.line) bits c.tell_value.ensures.told in
+    let begun : 0 ≤ c.args.date = omega arith in
     λ stalls turns stands.
     variable_told (system_of plan shared.inputs.lists stalls) turns c.args.date shared stands c.args.place c.tell_value.result c.args.line.now c.tell_value.new.line
-    v (get_or c.as_slice-2.result.now v.clock every_tick) value behind named timed at told
+    begun v (get_or c.as_slice-2.result.now v.clock every_tick) value behind named timed at told

@@ -1,0 +1,37 @@
+-- What is left of the proof of `laws::openings`.
+use Rattle.std.proofs.Common.{◌≡◌, ℕ, zero, suc, ◌≤◌, refl, inl, inr, arith}
+use Rattle.psy_clock.specs.Dates.{IsClock}
+use Rattle.psy_history.specs.Actions.{clock_of, variable_of}
+use Rattle.psy_history.specs.Rings.{ring_of}
+use Rattle.psy_history.proofs.ClockDates.{AreCounted}
+use Rattle.psy_history.proofs.Members.{get_or_holds}
+use Rattle.psy_history.proofs.OpenedBuffers.{none_early, queue_begins, ring_begins}
+use Rattle.psy_history.proofs.RunStreams.{has_streams}
+use Rattle.psy_history.proofs.SentMessages.{AreClockLaws}
+use Rattle.psy_history.proofs.Timings.{every_tick}
+use Rattle.psy_history.proofs.laws.openings.Goals as goal
+
+counted : (c : goal.After-regular) → AreCounted
+counted c = record { upto = c.dates.ensures.count; below = c.dates.ensures.below }
+
+of_clocks : (c : goal.After-regular) → AreClockLaws
+of_clocks c = record { late = c.distances.ensures.late; from_late = c.distances.ensures.from_late }
+
+pub returns-clause-plain : goal.returns-clause-plain
+returns-clause-plain c unit code nexts stalls inputs compiled are = (c.compiled.ensures.run unit code nexts stalls inputs compiled are).opened
+
+pub returns-clause-none : goal.returns-clause-none
+returns-clause-none c s ways code run date agent early =
+    none_early s date agent (λ n is. elim (run.opened.places agent n is) [ inl begun ↦ omega (arith, early, begun.last) | inr waits ↦ omega (arith, early, waits.ahead) ])
+
+pub returns-clause-rings : goal.returns-clause-rings
+returns-clause-rings c s ways code run variable size some less ring = by_dates s.opening.dates refl some
+  where
+    by_dates : (dates : ℕ) → s.opening.dates ≡ dates → 1 ≤ dates → ring_of s dates variable size ≡ s.opening.published variable
+    by_dates zero behind some = absurd (omega (arith, some))
+    by_dates (suc last) behind some =
+        let is : IsClock (clock_of s (variable_of s variable).clock) = get_or_holds IsClock s.unit.clocks (variable_of s variable).clock _ every_tick run.bare.clocks in
+        ring_begins s ways (counted c) last variable behind is (run.opened.rings last variable behind less) size ring
+
+pub returns-clause-queues : goal.returns-clause-queues
+returns-clause-queues c s ways code run stream less = queue_begins s ways code run (has_streams s ways code run (c.regular.ensures.lawful s ways code run)) (of_clocks c) stream less
