@@ -15,6 +15,7 @@ use Rattle.psy_history.specs.Schedule.{Turn, units}
 use Rattle.psy_meaning.specs.Timing.{first_date}
 use Rattle.psy_meaning.specs.Units.{IsBare, OwnedWithin}
 use Rattle.psy_history.specs.Regular.{IsLawful, first_number}
+use Rattle.psy_dates.specs.Calendars.{CalendarStands}
 use Rattle.psy_dates.specs.declared.plan.Plan.{Plan}
 use Rattle.psy_dates.specs.declared.seat.Phase.TheVariants as phase
 use Rattle.psy_dates.specs.declared.seat.Seat.{Seat}
@@ -63,6 +64,7 @@ pub record Moved (plan : Plan) (inputs : List (List ℤ)) (date : ℕ) (old new 
   pub outboxes : (agent : ℕ) (outbox : Outboxed) → slice_get old.outboxes.items agent ≡ Some outbox → slice_get new.outboxes.items agent ≡ Some (if ends_at date (slice_get old.seats.items agent) then record outbox { sends = [] } else outbox)
   pub taking : length new.taken.items ≡ length old.taken.items
   pub taken : (stream n : ℕ) → slice_get old.taken.items stream ≡ Some n → slice_get new.taken.items stream ≡ Some (if ends_at date (slice_get old.seats.items (stream_at plan.unit stream).receiver) then 0 else n)
+  pub calendar : CalendarStands plan.unit.clocks (date + 1) new.calendar
 
 module _ (plan : Plan) (inputs : List (List ℤ)) (stalls : ℕ → List Stall) (bare : IsBare plan.unit) (lawful : IsLawful (system_of plan inputs stalls)) (laws : AreStreamLaws (system_of plan inputs stalls)) (date : ℕ) (turns : List (Option Turn))
     (goes : (variable : ℕ) → IsClock (publishing (system_of plan inputs stalls) variable) → Goes (system_of plan inputs stalls) date variable)
@@ -152,4 +154,5 @@ module _ (plan : Plan) (inputs : List (List ℤ)) (stalls : ℕ → List Stall) 
     outboxes = λ agent outbox is. subst (λ d. OutboxStands s d turns agent (history s (date + 1) agent) outbox) (sym (one_back date)) (subst (λ n. OutboxStands s date turns agent (history s n agent) outbox) (sym (add-one date)) (outbox_stands plan inputs stalls bare lawful laws date turns old due stands unstarted new.outboxes.items moved.boxed moved.outboxes agent outbox is));
     taking = moved.taking ∙ stands.taking;
     taken = λ stream n is. subst (λ d. KeepsTakes d turns stream (history s (date + 1) (stream_of s stream).receiver) n) (sym (one_back date)) (subst (λ k. KeepsTakes date turns stream (history s k (stream_of s stream).receiver) n) (sym (add-one date)) (takes_stand plan inputs stalls bare lawful laws date turns old due stands unstarted new.taken.items moved.taking moved.taken stream n is));
+    calendar = moved.calendar;
   }

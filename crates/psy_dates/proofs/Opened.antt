@@ -11,6 +11,7 @@ use Rattle.psy_history.specs.Actions.{System, variable_of}
 use Rattle.psy_history.specs.History.{history}
 use Rattle.psy_meaning.specs.RingSizes.{IsRingSize}
 use Rattle.psy_meaning.specs.Units.{IsBare}
+use Rattle.psy_dates.specs.Calendars.{CalendarStands}
 use Rattle.psy_dates.specs.declared.plan.Plan.{Plan}
 use Rattle.psy_dates.specs.declared.seat.Phase.TheVariants as phase
 use Rattle.psy_dates.specs.declared.shared.Shared.{Shared}
@@ -55,6 +56,7 @@ pub record IsFirst (plan : Plan) (shared : Shared) : Type 0 where
   pub outboxes : (agent : ℕ) → agent < length plan.sizes.outboxes → slice_get shared.outboxes.items agent ≡ Some (record { size = get_or plan.sizes.outboxes agent 0; sends = [] })
   pub taking : length shared.taken.items ≡ length plan.unit.streams
   pub taken : All (λ n. n ≡ 0) shared.taken.items
+  pub calendar : CalendarStands plan.unit.clocks 0 shared.calendar
 
 pub first_stands : (plan : Plan) (inputs : List (List ℤ)) (stalls : ℕ → List Stall) (shared : Shared) → AreSizes plan.unit plan.nexts plan.sizes → IsFirst plan shared → SharedStands (system_of plan inputs stalls) [] 0 shared
 first_stands plan inputs stalls shared sizes is =
@@ -94,4 +96,5 @@ first_stands plan inputs stalls shared sizes is =
           subst (OutboxStands s (0 - 1) [] agent []) (same_Some _ _ (sym (is.outboxes agent within) ∙ at)) first);
       taking = is.taking;
       taken = λ stream n at. sym (get_or_from_slice_get shared.taken.items stream n n at) ∙ is.taken stream n (slice_get_within shared.taken.items stream n at);
+      calendar = is.calendar;
     }

@@ -1,7 +1,11 @@
 -- The ring of a variable stands for what it published up to a date, where it did so for the dates before.
-use Rattle.std.proofs.Common.{◌≡◌, ℕ, zero, suc, ◌+◌, ◌≤◌, Bool, true, false, List, ◌∷◌, length, get_or, take, Option, Some, None, refl, sym, ap, subst, ◌∙◌, length-take, arith}
+use Rattle.std.proofs.Common.{◌≡◌, ℕ, zero, suc, ◌+◌, ◌≤◌, Bool, true, false, List, ◌∷◌, length, get_or, take, Option, Some, None, refl, sym, ap, subst, ◌∙◌, length-take, arith, ◌<◌, All}
 use Rattle.std.specs.Prelude.{if◌then◌else◌, nat_le, ℤ, pos}
-use Rattle.std.proofs.lemmas.Bool.{cond-false, lt-leb}
+use Rattle.std.proofs.lemmas.Bool.{cond-false, lt-leb, ne_eqb}
+use Rattle.std.proofs.lemmas.List.Elements.{All-get_or}
+use Rattle.std.proofs.lemmas.Option.{get_or_from_slice_get, slice_get-get_or, slice_get_within}
+use Rattle.psy_clock.specs.Dates.{from_date}
+use Rattle.psy_dates.specs.Calendars.{CalendarStands}
 use Rattle.psy_history.specs.Actions.{History, System, publishing, variable_of}
 use Rattle.psy_history.specs.History.{history}
 use Rattle.psy_history.specs.Lines.{is_date}
@@ -25,6 +29,18 @@ published_now s h variable date (suc last) later = sym (cond-false (nat_le date 
 same_size : (at : Bool) (value : ℤ) (ring : List ℤ) → length (if at then take (length ring) (value ∷ ring) else ring) ≡ length ring
 same_size true value ring = omega (arith, length-take (length ring) (value ∷ ring))
 same_size false value ring = refl
+
+-- Where each clock has its next date later no variable publishes.
+pub none_due : (s : System) (date : ℕ) (calendar : List ℕ) → CalendarStands s.unit.clocks date calendar → All (λ next. date < next) calendar → (variable : ℕ) → (variable_of s variable).clock < length s.unit.clocks → is_date (publishing s variable) date ≡ false
+none_due s date calendar stands late variable known =
+    let clock = (variable_of s variable).clock in
+    let next = stands.nexts clock (publishing s variable) (slice_get-get_or s.unit.clocks clock _ known) in
+    let first = from_date (publishing s variable) date 0 in
+    let l : date < first = subst (λ n. date < n) (get_or_from_slice_get calendar clock first first next) (All-get_or (λ n. date < n) calendar clock first (slice_get_within calendar clock first next) late) in
+    ne_eqb first date (λ e. omega (arith, l, e))
+
+pub ring_stays : (s : System) (values : List ℤ) (date variable : ℕ) (ring : List ℤ) → is_date (publishing s variable) date ≡ false → ring_then s values date variable ring ≡ ring
+ring_stays s values date variable ring not = cond-false (is_date (publishing s variable) date) (take (length ring) (value_by s values date variable (variable_of s variable).owner ∷ ring)) ring not
 
 -- What the ring holds at the next date
 abbrev pub Goes : System → ℕ → ℕ → Type 0

@@ -1,5 +1,6 @@
 -- The definitions of this crate, by subject.
 pub mod BoxStanding
+pub mod Calendars
 pub mod Messages
 pub mod Moves
 pub mod Outboxes

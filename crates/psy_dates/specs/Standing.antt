@@ -15,6 +15,7 @@ use Rattle.psy_history.specs.Schedule.{Turn, is_pending}
 use Rattle.psy_history.specs.Visible.{committed_in, taken}
 use Rattle.psy_history.specs.Queues.{queue_of}
 use Rattle.psy_history.specs.Rings.{ring_of}
+use Rattle.psy_dates.specs.Calendars.{CalendarStands}
 use Rattle.psy_dates.specs.declared.seat.Phase.{Phase}
 use Rattle.psy_dates.specs.declared.seat.Phase.TheVariants as phase
 use Rattle.psy_dates.specs.declared.seat.Seat.{Seat}
@@ -125,6 +126,7 @@ pub record SharedStands (s : System) (turns : List (Option Turn)) (dates : ℕ) 
   pub taking : length shared.taken.items ≡ length s.unit.streams
   pub taken : (stream n : ℕ) → slice_get shared.taken.items stream ≡ Some n
       → KeepsTakes (dates - 1) turns stream (history s dates (stream_of s stream).receiver) n
+  pub calendar : CalendarStands s.unit.clocks dates shared.calendar
 
 -- No seat whose deadline is this date or was before is acting.
 abbrev pub NoneActs : ℕ → List Seat → Type 0

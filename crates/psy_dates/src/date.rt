@@ -77,9 +77,11 @@ pub fn at_date(shared: &mut Shared, plan: &Plan, date: u64)
         plan,
         &shared.inputs,
         &shared.committed,
+        &shared.calendar,
         date,
         &mut shared.rings,
     );
+    shared.calendar.pass(plan.unit.clocks.as_slice(), date);
     clear_outboxes(date, &shared.seats, &mut shared.outboxes);
     clear_takes(plan, date, &shared.seats, &mut shared.taken);
     move_all(plan, date, &mut shared.seats);

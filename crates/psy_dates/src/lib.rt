@@ -3,6 +3,7 @@
 //! It may know the history's definitions; no cycles, no machines.
 #![tactic(auto)]
 
+mod calendar;
 mod clears;
 mod commits;
 mod date;
@@ -16,6 +17,7 @@ mod seat;
 mod settles;
 mod shared;
 
+pub use calendar::Calendar;
 pub use date::at_date;
 pub use outbox::Outbox;
 pub use plan::Plan;

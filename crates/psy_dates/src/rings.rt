@@ -2,10 +2,14 @@
 
 ghost use Rattle.std.specs.Prelude.{◌≡◌, ℕ, ◌^◌, ◌<◌, ◌≤◌, [], List, ℤ, length, Some, slice_get};
 ghost use Rattle.psy_meaning.specs.Units.{IsBare};
+ghost use Rattle.psy_history.specs.Actions.{publishing};
+ghost use Rattle.psy_history.specs.Lines.{is_date};
 ghost use Rattle.psy_history.specs.Visible.{nth_or_last as nth_of};
+ghost use Rattle.psy_dates.specs.Calendars.{CalendarStands};
 ghost use Rattle.psy_dates.specs.Plans.{system_of};
 ghost use Rattle.psy_dates.specs.Publications.{ring_then, value_at};
 
+use crate::calendar::Calendar;
 use crate::due::clock_of;
 use crate::plan::Plan;
 use psy_history::Inputs;
@@ -44,11 +48,22 @@ fn value_of(plan: &Plan, inputs: &Inputs, committed: &[i32], variable: usize, da
     }
 }
 
+/// Whether a variable publishes a value at a date: whether that is the next one of its clock.
+fn publishes(plan: &Plan, calendar: &Calendar, variable: usize, date: u64) -> bool
+    requires bare { IsBare plan.now.unit }
+    requires variable { variable < length plan.now.unit.variables }
+    requires calendar { CalendarStands plan.now.unit.clocks date calendar.now }
+    ensures { result ≡ is_date (publishing (system_of plan.now [] (λ agent. [])) variable) date }
+{
+    calendar.next(plan.unit.variables.as_slice()[variable].clock) == date
+}
+
 /// Publishes a variable's value into its ring, where the date is one of its clock.
 fn publish(
     plan: &Plan,
     inputs: &Inputs,
     committed: &[i32],
+    calendar: &Calendar,
     variable: usize,
     date: u64,
     ring: &mut Ring,
@@ -57,21 +72,29 @@ fn publish(
     requires variable { variable < length plan.now.unit.variables }
     requires listed { length inputs.now.lists ≡ length plan.now.unit.variables }
     requires valued { length committed.now ≡ length plan.now.unit.variables }
+    requires calendar { CalendarStands plan.now.unit.clocks date calendar.now }
     requires early { date ≤ 2 ^ 40 }
     ensures { ring.new ≡ ring_then (system_of plan.now inputs.now.lists (λ agent. [])) committed.now date variable ring.old }
 {
-    let clock = clock_of(plan, plan.unit.variables.as_slice()[variable].clock);
-    if clock.from_date(date, 0) == date {
+    if publishes(plan, calendar, variable, date) {
         ring.publish(value_of(plan, inputs, committed, variable, date));
     }
 }
 
 /// Lets each variable whose clock has this date publish its value into its ring.
-pub fn publish_all(plan: &Plan, inputs: &Inputs, committed: &[i32], date: u64, rings: &mut [Ring])
+fn publish_due(
+    plan: &Plan,
+    inputs: &Inputs,
+    committed: &[i32],
+    calendar: &Calendar,
+    date: u64,
+    rings: &mut [Ring],
+)
     requires bare { IsBare plan.now.unit }
     requires ringed { length rings.old ≡ length plan.now.unit.variables }
     requires listed { length inputs.now.lists ≡ length plan.now.unit.variables }
     requires valued { length committed.now ≡ length plan.now.unit.variables }
+    requires calendar { CalendarStands plan.now.unit.clocks date calendar.now }
     requires early { date ≤ 2 ^ 40 }
     ensures { (variable : ℕ) (ring : List ℤ) → slice_get rings.old variable ≡ Some ring
         → slice_get rings.new variable ≡ Some (ring_then (system_of plan.now inputs.now.lists (λ agent. [])) committed.now date variable ring) }
@@ -81,9 +104,33 @@ pub fn publish_all(plan: &Plan, inputs: &Inputs, committed: &[i32], date: u64, r
             plan,
             inputs,
             committed,
+            calendar,
             variable,
             date,
             &mut rings[variable],
         );
+    }
+}
+
+/// Lets each variable whose clock has this date publish its value into its ring. Where no clock has it there is nothing to do.
+pub fn publish_all(
+    plan: &Plan,
+    inputs: &Inputs,
+    committed: &[i32],
+    calendar: &Calendar,
+    date: u64,
+    rings: &mut [Ring],
+)
+    requires bare { IsBare plan.now.unit }
+    requires ringed { length rings.old ≡ length plan.now.unit.variables }
+    requires listed { length inputs.now.lists ≡ length plan.now.unit.variables }
+    requires valued { length committed.now ≡ length plan.now.unit.variables }
+    requires calendar { CalendarStands plan.now.unit.clocks date calendar.now }
+    requires early { date ≤ 2 ^ 40 }
+    ensures { (variable : ℕ) (ring : List ℤ) → slice_get rings.old variable ≡ Some ring
+        → slice_get rings.new variable ≡ Some (ring_then (system_of plan.now inputs.now.lists (λ agent. [])) committed.now date variable ring) }
+{
+    if calendar.may_have(date) {
+        publish_due(plan, inputs, committed, calendar, date, rings);
     }
 }

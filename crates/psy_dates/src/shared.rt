@@ -8,6 +8,7 @@ ghost use Rattle.psy_history.specs.Compiled.{AreInputs};
 ghost use Rattle.psy_dates.specs.Plans.{IsPlan, system_of};
 ghost use Rattle.psy_dates.specs.Standing.{SharedStands};
 
+use crate::calendar::Calendar;
 use crate::outbox::Outbox;
 use crate::plan::Plan;
 use crate::seat::{Phase, Seat};
@@ -36,6 +37,8 @@ pub struct Shared {
     /// By agent, where it is.
     pub seats: Vec<Seat>,
     pub inputs: Inputs,
+    /// By clock its first date that isn't done.
+    pub calendar: Calendar,
     /// The date done last; None before date 0.
     pub date: Option<u64>,
 }
@@ -134,6 +137,7 @@ impl Shared {
             committed: first_values(alloc, plan.unit.variables.as_slice())?,
             seats: first_seats(alloc, plan.unit.agents.len())?,
             inputs,
+            calendar: Calendar::new(alloc, plan.unit.clocks.as_slice())?,
             date: None,
         })
     }

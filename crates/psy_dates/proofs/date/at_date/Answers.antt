@@ -1,5 +1,5 @@
 -- What is left of the proof of `date::at_date`.
-use Rattle.std.proofs.Common.{◌≡◌, ℕ, ◌<◌, ◌≤◌, ◌*◌, ◌^◌, List, [], All, Some, length, get_or, refl, sym, ap, subst, ◌∙◌, arith}
+use Rattle.std.proofs.Common.{◌≡◌, ℕ, ◌<◌, ◌≤◌, ◌+◌, ◌*◌, ◌^◌, List, [], All, Some, length, get_or, refl, sym, ap, subst, ◌∙◌, arith}
 use Rattle.std.specs.Prelude.{slice_get, if◌then◌else◌, ℤ, pos}
 use Rattle.std.specs.Vec.{with_items}
 use Rattle.std.proofs.lemmas.List.{with_items_is}
@@ -11,6 +11,8 @@ use Rattle.psy_tree.specs.Parts.{stream_at}
 use Rattle.psy_meaning.specs.Timing.{first_date}
 use Rattle.psy_history.specs.Scheduled.{turns_of}
 use Rattle.psy_history.specs.Ways.{OfText}
+use Rattle.psy_clock.specs.Dates.{IsClock}
+use Rattle.psy_dates.specs.Calendars.{AreNext, CalendarStands}
 use Rattle.psy_dates.specs.declared.seat.Seat.{Seat}
 use Rattle.psy_dates.specs.declared.shared.Shared.{Shared}
 use Rattle.psy_dates.specs.Messages.{HaveRoom, nowhere, sends_of, sent_from, settled_then, with_entered}
@@ -85,6 +87,18 @@ enter_all-requires-clause-room c =
     ∙ ap (λ xs. Some (settled_then date (first_date (timing_in plan (stream_at plan.unit stream).receiver)) (get_or xs (stream_at plan.unit stream).receiver nowhere) (get_or c.deref-4.result.now stream 0) queue)) c.deref-3.ensures.value
     ∙ ap (λ xs. Some (settled_then date (first_date (timing_in plan (stream_at plan.unit stream).receiver)) (get_or old.seats.items (stream_at plan.unit stream).receiver nowhere) (get_or xs stream 0) queue)) c.deref-4.ensures.value))))
 
+pub publish_all-requires-clause-calendar : goal.publish_all-requires-clause-calendar
+publish_all-requires-clause-calendar c = (c.requires.stands.2).calendar
+
+pub pass-requires-clause-clocks : goal.pass-requires-clause-clocks
+pass-requires-clause-clocks c = subst (All IsClock) (sym c.as_slice-2.ensures) c.requires.plan.compiled.text.bare.clocks
+
+pub pass-requires-clause-count : goal.pass-requires-clause-count
+pass-requires-clause-count c = (c.requires.stands.2).calendar.count ∙ ap length (sym c.as_slice-2.ensures)
+
+pub pass-requires-clause-nexts : goal.pass-requires-clause-nexts
+pass-requires-clause-nexts c = subst (λ clocks. AreNext clocks c.args.date c.args.shared.now.calendar) (sym c.as_slice-2.ensures) (c.requires.stands.2).calendar.nexts
+
 -- What is shared behind the date
 abbrev new_of : goal.After-shared-8-1 → Shared
 new_of c = record c.args.shared.now {
@@ -94,6 +108,7 @@ new_of c = record c.args.shared.now {
   taken = with_items c.args.shared.now.taken c.clear_takes.new.taken;
   committed = with_items c.args.shared.now.committed c.commit_all.new.committed;
   seats = with_items c.args.shared.now.seats c.move_all.new.seats;
+  calendar = c.pass.new.self;
   date = Some c.args.date;
 }
 
@@ -118,6 +133,7 @@ moved_by c =
     with_items_is old.taken c.clear_takes.new.taken (c.clear_takes.auto.taken ∙ c.deref_mut-6.ensures.len) in
     let seats : (with_items old.seats c.move_all.new.seats).items ≡ c.move_all.new.seats =
     with_items_is old.seats c.move_all.new.seats (c.move_all.auto.seats ∙ c.deref_mut-7.ensures.len) in
+    let calendar : CalendarStands plan.unit.clocks date old.calendar = (c.requires.stands.2).calendar in
     record {
       date_is = refl;
       seated = ap length seats ∙ c.move_all.auto.seats ∙ ap length c.deref_mut-7.ensures.value;
@@ -147,6 +163,10 @@ moved_by c =
           ap (λ xs. slice_get xs agent) boxes
           ∙ c.clear_outboxes.ensures agent outbox (ap (λ xs. slice_get xs agent) c.deref_mut-5.ensures.value ∙ is)
           ∙ ap (λ xs. Some (if ends_at date (slice_get xs agent) then record outbox { sends = [] } else outbox)) c.deref-8.ensures.value;
+      calendar = record {
+        count = c.pass.ensures.count ∙ calendar.count;
+        nexts = subst (λ clocks. AreNext clocks (date + 1) c.pass.new.self) c.as_slice-2.ensures c.pass.ensures.nexts;
+      };
       taking = ap length takes ∙ c.clear_takes.auto.taken ∙ ap length c.deref_mut-6.ensures.value;
       taken = λ stream n is.
           ap (λ xs. slice_get xs stream) takes

@@ -3,6 +3,7 @@ use Rattle.std.proofs.Common.{ℕ, ◌<◌, ◌≤◌, List, [], All, length, ge
 use Rattle.std.specs.Prelude.{map, pos, replicate, ℤ}
 use Rattle.psy_base.specs.declared.limits.TheConstants.{RING}
 use Rattle.psy_tree.specs.declared.unit.VarDecl.{VarDecl}
+use Rattle.psy_dates.specs.Calendars.{AreNext}
 use Rattle.psy_dates.proofs.Opened.{first_stands, ring_places}
 use Rattle.psy_dates.proofs.shared.Shared.new.Goals as goal
 
@@ -29,6 +30,10 @@ returns-clause-stands c stalls =
       outboxes = λ agent l. c.in_ok-first_outboxes.ensures.empty agent (subst (λ xs. agent < length xs) (sym c.as_slice-4.ensures) l) ∙ ap (λ xs. Some (record { size = get_or xs agent 0; sends = [] })) c.as_slice-4.ensures;
       taking = c.in_ok-first_takes.ensures.0 ∙ c.len.ensures;
       taken = c.in_ok-first_takes.ensures.1;
+      calendar = record {
+        count = c.in_ok-new.ensures.count ∙ ap length c.as_slice-7.ensures;
+        nexts = subst (λ clocks. AreNext clocks 0 c.in_ok-new.field-0) c.as_slice-7.ensures c.in_ok-new.ensures.nexts;
+      };
     })
   where
     filled : List ℕ → List VarDecl → ℕ → Option (List ℤ)

@@ -1,8 +1,8 @@
--- What each loop of `rings::publish_all` keeps.
+-- What each loop of `rings::publish_due` keeps.
 use Rattle.std.proofs.Common.{◌≡◌, ℕ, ◌<◌, ◌≤◌, [], List, ℤ, Some, slice_get}
 use Rattle.psy_dates.specs.Plans.{system_of}
 use Rattle.psy_dates.specs.Publications.{ring_then}
-use Rattle.psy_dates.proofs.rings.publish_all.Given as goal
+use Rattle.psy_dates.proofs.rings.publish_due.Given as goal
 
 abbrev pub invariant-rings : goal.invariant-rings
 invariant-rings l = record {

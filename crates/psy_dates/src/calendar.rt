@@ -1,0 +1,117 @@
+//! By clock its next date.
+
+ghost use Rattle.std.specs.Prelude.{◌≡◌, ◌+◌, ◌^◌, ◌<◌, ◌≤◌, IfOk, IsFalse, Some, length, slice_get};
+ghost use Rattle.std.specs.List.{All};
+ghost use Rattle.psy_clock.specs.Dates.{IsClock, from_date};
+ghost use Rattle.psy_dates.specs.Calendars.{AreNext};
+
+use psy_base::Memory;
+use psy_clock::Clock;
+use psy_clock::laws::dates;
+use std::alloc::Global;
+use std::marker::Model;
+
+/// By clock its next date, and the least of these. Contracts see the list of these dates.
+#[derive(Drop)]
+pub struct Calendar {
+    /// By clock its next date.
+    nexts: Vec<u64>,
+    /// None of them is earlier than this one.
+    least: u64,
+}
+
+impl Model for Calendar {
+    ghost use Rattle.std.specs.Prelude.{List, ℕ, ◌≤◌};
+    ghost use Rattle.std.specs.List.{All};
+
+    ghost Value = { List ℕ };
+
+    ghost view = { λ calendar. calendar.nexts.items };
+
+    ghost invariant = { λ calendar. All (λ next. calendar.least ≤ next) calendar.nexts.items };
+}
+
+/// By clock its first date.
+fn first_dates(alloc: Global, clocks: &[Clock]) -> Result<Vec<u64>, Memory>
+    ensures count { IfOk result (λ nexts. length nexts.items ≡ length clocks.now) }
+    ensures nexts { IfOk result (λ nexts. AreNext clocks.now 0 nexts.items) }
+{
+    Ok(clocks.iter().map(|clock| u64::from(clock.first)).collect(alloc)?)
+}
+
+/// The first date of a clock behind this one, by its first one from this one on.
+fn next_behind(clock: Clock, date: u64, next: u64) -> u64
+    requires clock { IsClock clock }
+    requires early { date ≤ 2 ^ 40 }
+    requires next { next ≡ from_date clock date 0 }
+    ensures { result ≡ from_date clock (date + 1) 0 }
+{
+    dates();
+    if next == date {
+        date + u64::from(clock.period)
+    } else {
+        next
+    }
+}
+
+/// By clock its first date behind this one, by its first one from this one on; and a date that is no later than any of these.
+fn pass_all(nexts: &mut [u64], clocks: &[Clock], date: u64) -> u64
+    requires clocks { All IsClock clocks.now }
+    requires early { date ≤ 2 ^ 40 }
+    requires count { length nexts.old ≡ length clocks.now }
+    requires nexts { AreNext clocks.now date nexts.old }
+    ensures nexts { AreNext clocks.now (date + 1) nexts.new }
+    ensures least { All (λ next. result ≤ next) nexts.new }
+{
+    let mut least = u64::MAX;
+    'clocks: for clock in 0..nexts.len() {
+        let next = next_behind(clocks[clock], date, nexts[clock]);
+        nexts[clock] = next;
+        least = least.min(next);
+    }
+    least
+}
+
+impl Calendar {
+    /// By clock its first date. The only error is want of memory; no other call takes any.
+    pub fn new(alloc: Global, clocks: &[Clock]) -> Result<Calendar, Memory>
+        ensures count { IfOk result (λ calendar. length calendar ≡ length clocks.now) }
+        ensures nexts { IfOk result (λ calendar. AreNext clocks.now 0 calendar) }
+    {
+        Ok(Calendar {
+            nexts: first_dates(alloc, clocks)?,
+            least: 0,
+        })
+    }
+
+    /// Whether a clock may have this date: where not, each has its next one later.
+    pub fn may_have(&self, date: u64) -> bool
+        ensures { IsFalse result → All (λ next. date < next) self.now }
+    {
+        self.least <= date
+    }
+
+    /// The next date of a clock.
+    pub fn next(&self, clock: u32) -> u64
+        requires { clock < length self.now }
+        ensures { slice_get self.now clock ≡ Some result }
+    {
+        self.nexts[clock as usize]
+    }
+
+    /// A date passes: each clock that had it next goes on to its next one.
+    pub fn pass(&mut self, clocks: &[Clock], date: u64)
+        requires clocks { All IsClock clocks.now }
+        requires early { date ≤ 2 ^ 40 }
+        requires count { length self.old ≡ length clocks.now }
+        requires nexts { AreNext clocks.now date self.old }
+        ensures count { length self.new ≡ length self.old }
+        ensures nexts { AreNext clocks.now (date + 1) self.new }
+    {
+        dates();
+        if self.least > date {
+            return;
+        }
+        self.least = pass_all(&mut self.nexts, clocks, date);
+    }
+}
