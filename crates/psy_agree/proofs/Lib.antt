@@ -1,8 +1,8 @@
 -- The lemmas of this crate, by subject.
-pub mod Given
-pub mod GraphFacts
-pub mod GraphNotes
-pub mod GraphsLead
-pub mod RunFacts
-pub mod RunNotes
-pub mod RunsLead
+mod Given
+mod GraphFacts
+mod GraphNotes
+mod GraphsLead
+mod RunFacts
+mod RunNotes
+mod RunsLead

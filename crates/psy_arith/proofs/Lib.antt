@@ -1,4 +1,4 @@
 -- The lemmas of this crate, by subject.
-pub mod Ranges
-pub mod Rising
-pub mod Wrapping
+mod Ranges
+mod Rising
+mod Wrapping

@@ -1,17 +1,17 @@
 -- The lemmas of this crate, by subject.
-pub mod Calendars
-pub mod Committed
-pub mod Dates
-pub mod Endings
-pub mod Entering
-pub mod Histories
-pub mod Kept
-pub mod Lists
-pub mod Opened
-pub mod Phases
-pub mod Publications
-pub mod QueuesThen
-pub mod Seats
-pub mod StreamLaws
-pub mod StreamsThen
-pub mod Values
+mod Calendars
+mod Committed
+mod Dates
+mod Endings
+mod Entering
+mod Histories
+mod Kept
+mod Lists
+mod Opened
+mod Phases
+mod Publications
+mod QueuesThen
+mod Seats
+mod StreamLaws
+mod StreamsThen
+mod Values

@@ -5,7 +5,7 @@ use Rattle.std.specs.List.{list_any}
 use Rattle.psy_tree.specs.declared.unit.Stmt.{Stmt, roll-Stmt, fold-roll-Stmt, map-Stmt, ind-Stmt}
 use Rattle.psy_tree.specs.declared.unit.Stmt.TheOpen.{Stmt-F}
 use Rattle.psy_meaning.specs.Paths.{one_of, holds_step, holds}
-use Rattle.psy_meaning.proofs.NoWays.{or_false}
+use Rattle.psy_meaning.proofs.lemmas.NoWays.{or_false}
 use Rattle.psy_flow.specs.declared.gauge.Gauge.{Gauge}
 use Rattle.psy_flow.specs.declared.tops.Tops.{Tops}
 use Rattle.psy_flow.specs.Tops.{in_step, in_send, expr_most, plus, greater, falling, behind, on_from, leaving, or_else, and_on, turning, tops_through, stmt_tops_step, stmt_tops, stmts_tops}

@@ -11,7 +11,7 @@ use Rattle.psy_meaning.specs.Ways.{Sending, Meter, Way, here, one, looking, send
 use Rattle.psy_flow.specs.declared.gauge.Gauge.{Gauge}
 use Rattle.psy_flow.specs.declared.gauge.Gauge.TheVariants as gauge
 use Rattle.psy_flow.specs.Tops.{in_step, in_look, in_send, count_of, binary_most, expr_most_step, expr_most}
-use Rattle.psy_meaning.proofs.Layers.{natural_expr}
+use Rattle.psy_meaning.proofs.lemmas.Layers.{natural_expr}
 
 -- From whatever was met, the ways count so much at most, and so much on one of them.
 pub record IsMost (g : Gauge) (way : Way) (n : ℕ) : Type 0 where

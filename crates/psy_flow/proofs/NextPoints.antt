@@ -17,7 +17,7 @@ use Rattle.psy_meaning.specs.Statements.{Piece}
 use Rattle.psy_meaning.specs.Sound.{IsSoundAgent}
 use Rattle.psy_meaning.specs.Units.{IsBareAgent}
 use Rattle.psy_meaning.specs.Ways.{Meter, IsWay}
-use Rattle.psy_meaning.proofs.RestsOf.{rests_count}
+use Rattle.psy_meaning.proofs.lemmas.RestsOf.{rests_count}
 use Rattle.psy_flow.specs.declared.gauge.Gauge.TheVariants as gauge
 use Rattle.psy_flow.specs.Agents.{IsAgentOf, IsKnown}
 use Rattle.psy_meaning.specs.Flow.{IsNext}

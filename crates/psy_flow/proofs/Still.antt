@@ -12,8 +12,8 @@ use Rattle.psy_tree.specs.declared.unit.Stmt.{Stmt, roll-Stmt, rec-roll-Stmt, ma
 use Rattle.psy_tree.specs.declared.unit.Stmt.TheOpen.{Stmt-F}
 use Rattle.psy_meaning.specs.Sound.{Scope, Each, IsSoundExpr, sound_expr_step, IsSoundStmt, sound_stmt_step, AreSound, function_scope, AreSoundFunctions}
 use Rattle.psy_meaning.specs.Ways.{Meter, Way, Course, End, Fell, Back, To, here, one, both, either, falling, returning, leaving, behind, and_on, or_else, ways_through, binary_way, courses_through, turning, expr_way_step, expr_way, course_step, course_by, callee_way, with_way, callee_ways_from, callee_ways}
-use Rattle.psy_meaning.proofs.Layers.{natural_expr, natural_stmt}
-use Rattle.psy_meaning.proofs.SoundParts.{exprs_natural, stmts_natural}
+use Rattle.psy_meaning.proofs.lemmas.Layers.{natural_expr, natural_stmt}
+use Rattle.psy_meaning.proofs.lemmas.SoundParts.{exprs_natural, stmts_natural}
 
 -- ---- ways that leave looks and sends as they are
 

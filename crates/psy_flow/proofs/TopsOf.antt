@@ -10,7 +10,7 @@ use Rattle.psy_flow.specs.declared.gauge.Gauge.{Gauge}
 use Rattle.psy_flow.specs.declared.tops.Tops.{Tops}
 use Rattle.psy_flow.specs.Tops.{in_step, in_send, expr_most, plus, greater, on_from, tops_through, meets, stmt_tops_step, stmt_tops, stmts_tops, piece_tops, pieces_tops}
 use Rattle.psy_flow.specs.Tops as tops
-use Rattle.psy_meaning.proofs.Layers.{natural_stmt}
+use Rattle.psy_meaning.proofs.lemmas.Layers.{natural_stmt}
 use Rattle.psy_flow.proofs.MostWays.{IsMost, most_here, most_one, most_sending, most_both, most_either, most_expr}
 
 -- The greatest count of ways; none where there is no way from anything that was met

@@ -1,5 +1,5 @@
 -- The lemmas of this crate, by subject.
-pub mod Runs
-pub mod Words
-pub mod Numbers
-pub mod Values
+mod Runs
+mod Words
+mod Numbers
+mod Values

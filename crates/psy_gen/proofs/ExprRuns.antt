@@ -24,7 +24,7 @@ use Rattle.psy_meaning.specs.Depths.{Depth, shallow, one_deep, deeper, on_top_of
 use Rattle.psy_meaning.specs.Sound.{Scope, HasSlot, HasCopy, HasPast, HasStream, HasFunction, Each, sound_expr_step, IsSoundExpr}
 use Rattle.psy_meaning.specs.States.{Store, State, Got, Value, Eval, Callee, and_then, cost_1, asking, or_stop, value_at, copy_at, value_or_zero}
 use Rattle.psy_meaning.specs.Expressions.{eval, expr_step, element, messages_at, take_from, applied, truth_of, in_order}
-use Rattle.psy_meaning.proofs.SoundParts.{exprs_natural}
+use Rattle.psy_meaning.proofs.lemmas.SoundParts.{exprs_natural}
 use Rattle.psy_gen.specs.Emission.{Emit, Operand, base_of, cells_in_slot, arguments_code, expr_code_step, expr_code}
 use Rattle.psy_gen.proofs.Contexts.{Context, Home, Room, joined, machine_in, at, frame_size, present_in, copies_in, HasAt, has-first, has-second, Shape, GotAfter, got_leads, got_bind, got_before}
 use Rattle.psy_gen.proofs.Lookups.{cell_is, cells_are, copy_is, past_is, messages_are, taken_there, got_is, index_small}

@@ -3,20 +3,20 @@ mod Alikes
 mod Basics
 mod Calls
 mod Contexts
-pub mod Equations
+mod Equations
 mod ExprRuns
 mod Leads
-pub mod Lengths
+mod Lengths
 mod Lookups
 mod Loud
 mod NoRests
 mod Outcomes
-pub mod Patches
+mod Patches
 mod PlaceCounts
 mod RestRuns
 mod Rooms
-pub mod Spans
+mod Spans
 mod Steps
 mod StmtRuns
-pub mod Small
-pub mod Wholes
+mod Small
+mod Wholes

@@ -8,7 +8,7 @@ use Rattle.psy_meaning.specs.States.{State, Final, Got, Value, Stops, Outcome, F
 use Rattle.psy_meaning.specs.Expressions.{eval}
 use Rattle.psy_meaning.specs.Statements.{all_of, choose, hop, stmt_step, act_by}
 use Rattle.psy_meaning.specs.Paths.{all_quiet, quiet_step, quiet, quiet_list}
-use Rattle.psy_meaning.proofs.NoWays.{or_false}
+use Rattle.psy_meaning.proofs.lemmas.NoWays.{or_false}
 use Rattle.psy_gen.proofs.Basics.{differ}
 
 abbrev falls : Outcome → Type 0

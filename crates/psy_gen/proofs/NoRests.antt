@@ -6,9 +6,9 @@ use Rattle.psy_tree.specs.declared.unit.Stmt.{Stmt, roll-Stmt, fold-roll-Stmt, m
 use Rattle.psy_tree.specs.declared.unit.Stmt.TheOpen.{Stmt-F}
 use Rattle.psy_meaning.specs.Paths.{one_of, holds_step, holds, holds_advance, advances_step, advances_of, advances_in}
 use Rattle.psy_meaning.specs.Rest.{rests_in, with_rests}
-use Rattle.psy_meaning.proofs.RestsOf.{rests_count}
+use Rattle.psy_meaning.proofs.lemmas.RestsOf.{rests_count}
 use Rattle.psy_gen.specs.Emission.{places_in}
-use Rattle.psy_meaning.proofs.NoWays.{or_false}
+use Rattle.psy_meaning.proofs.lemmas.NoWays.{or_false}
 use Rattle.psy_gen.proofs.Basics.{differ}
 use Rattle.psy_gen.proofs.Equations.{placed}
 use Rattle.psy_gen.proofs.PlaceCounts.{places_count}

@@ -18,7 +18,7 @@ use Rattle.psy_meaning.specs.Statements.{all_of, hop, act_by, acts_by, Piece, Do
 use Rattle.psy_meaning.specs.Rest.{Rests, each_then, pieces_of, stmts_in, rests_in, rests_step, rests_of, with_rests}
 use Rattle.psy_meaning.specs.Rest as rest
 use Rattle.psy_meaning.specs.Paths.{holds_advance}
-use Rattle.psy_meaning.proofs.SoundParts.{stmts_natural}
+use Rattle.psy_meaning.proofs.lemmas.SoundParts.{stmts_natural}
 use Rattle.psy_gen.specs.Emission.{Coded, Places, Placed, expr_code, block_size, block_loops, placed_size, stmt_code_step, stmt_code, stmts_code, places_in, places_step, places_of}
 use Rattle.psy_gen.specs.Emission as emission
 use Rattle.psy_gen.proofs.Equations.{part, placed, block_size_is, block_loops_is, placed_size_is}

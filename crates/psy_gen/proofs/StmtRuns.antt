@@ -23,7 +23,7 @@ use Rattle.psy_meaning.specs.States.{State, Ended, Outcome, Falls, Returns, Halt
 use Rattle.psy_meaning.specs.Paths.{quiet_list}
 use Rattle.psy_meaning.specs.Expressions.{eval}
 use Rattle.psy_meaning.specs.Statements.{set_element, all_of, choose, hop, branches, turns, stmt_step, act_by, acts_by}
-use Rattle.psy_meaning.proofs.SoundParts.{stmts_natural}
+use Rattle.psy_meaning.proofs.lemmas.SoundParts.{stmts_natural}
 use Rattle.psy_gen.specs.Emission.{Emit, Coded, Part, base_of, cells_in_slot, expr_code, block_code, block_size, block_loops, if_code, bounded_code, timed_code, stmt_code_step, stmt_code, stmts_code}
 use Rattle.psy_gen.proofs.Leads.{Leads, here, after, by_one, went, ended}
 use Rattle.psy_gen.proofs.Contexts.{Context, Home, Inside, Room, has_room_by, joined, machine_in, at, frame_size, HasAt, has-first, has-second, Shape, Holds}

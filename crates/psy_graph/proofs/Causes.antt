@@ -15,7 +15,7 @@ use Rattle.psy_graph.specs.Graphs.{spot_of, IsGraphOf, IsSmall, IsTimed, IsTimin
 use Rattle.psy_graph.proofs.Explored.{explored}
 use Rattle.psy_graph.proofs.Links.{ComesLate}
 use Rattle.psy_graph.proofs.Phases.{ComesAgain}
-use Rattle.psy_graph.proofs.Unique.{same_timing, one_has, small_passes_no_nodes, small_passes_no_edges, one_passed}
+use Rattle.psy_graph.proofs.lemmas.Unique.{same_timing, one_has, small_passes_no_nodes, small_passes_no_edges, one_passed}
 
 -- For each number below a bound there is one of these: so there is a list of them.
 listed : {X : Type 0} (Has : ℕ → X → Type 0) (n : ℕ) → ((k : ℕ) → k < n → (x : X) × Has k x) → (xs : List X) × (length xs ≡ n) × ((k : ℕ) (x : X) → slice_get xs k ≡ Some x → Has k x)

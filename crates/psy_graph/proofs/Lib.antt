@@ -1,17 +1,16 @@
 -- The lemmas of this crate, by subject.
-pub mod Causes
-pub mod Cycles
-pub mod EdgesKept
-pub mod Explored
-pub mod Finding
-pub mod Links
-pub mod NearGraphs
-pub mod Numbers
-pub mod Ordered
-pub mod Periods
-pub mod Phases
-pub mod Reached
-pub mod Rooms
-pub mod Timed
-pub mod Timings
-pub mod Unique
+mod Causes
+mod Cycles
+mod EdgesKept
+mod Explored
+mod Finding
+mod Links
+mod NearGraphs
+mod Numbers
+mod Periods
+mod Phases
+mod Reached
+mod Rooms
+mod Timed
+mod Timings
+pub mod lemmas

@@ -19,7 +19,7 @@ use Rattle.psy_graph.specs.Steps.{STEP, IsModulus, cycle_of}
 use Rattle.psy_graph.specs.Places.{spot_by, place_at, IsMetAt, IsSought, HasFollowers, ArePlaces, AreNear}
 use Rattle.psy_graph.specs.Drawn.{number_of, place_of, node_of, edge_to, edges_from, first_edges}
 use Rattle.psy_graph.proofs.Periods.{clock_lawful}
-use Rattle.psy_meaning.proofs.Leasts.{least_below}
+use Rattle.psy_meaning.proofs.lemmas.Leasts.{least_below}
 use Rattle.psy_graph.proofs.Phases.{ComesAgain, ComesNear, end_near, phase_and_cycles, end_of_phase, deadline_of_phase, same_phase}
 use Rattle.psy_graph.proofs.Rooms.{same_place}
 use Rattle.psy_graph.proofs.Reached.{may_point}

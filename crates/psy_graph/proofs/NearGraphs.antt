@@ -19,7 +19,7 @@ use Rattle.psy_graph.proofs.Explored.{drawn_is}
 use Rattle.psy_graph.proofs.Links.{ComesLate}
 use Rattle.psy_graph.proofs.Phases.{ComesAgain, ComesNear, end_near}
 use Rattle.psy_graph.proofs.Reached.{all_places, may_point}
-use Rattle.psy_graph.proofs.Unique.{drawn_spots, small_passes_no_nodes}
+use Rattle.psy_graph.proofs.lemmas.Unique.{drawn_spots, small_passes_no_nodes}
 
 -- What holds of all that is made of a list's elements
 all_back : {X Y : Type 0} (P : Y → Type 0) (f : X → Y) (xs : List X) → All P (map f xs) → All (λ x. P (f x)) xs

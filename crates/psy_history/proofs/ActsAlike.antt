@@ -26,8 +26,8 @@ use Rattle.psy_meaning.specs.Rest.{rest}
 use Rattle.psy_meaning.specs.Sound.{Each, AreSoundFunctions, IsSoundFunction, IsSoundUnit, function_scope}
 use Rattle.psy_meaning.specs.States.{Act, Callee, Eval, Falls, Got, Halts, State, Trapped, Value, and_then, asking, cells_at, copy_at, cost_1, then_do, value_at, value_or_zero, with_copy_at, with_slot, with_value, Ended, Returns}
 use Rattle.psy_meaning.specs.Statements.{Do, Hop, Piece, act, act_by, acts_by, all_of, callee, callees_from, callees_of, choose, function_frame, hop, in_store, no_callee, piece_by, set_element, stmt_step, turns, with_callee}
-use Rattle.psy_meaning.proofs.Eaches.{each-first, each-second}
-use Rattle.psy_meaning.proofs.RestPieces.{PiecesHave}
+use Rattle.psy_meaning.proofs.lemmas.Eaches.{each-first, each-second}
+use Rattle.psy_meaning.proofs.lemmas.RestPieces.{PiecesHave}
 use Rattle.psy_history.specs.Feeding.{all_pasts, expr_pasts, expr_pasts_step, pasts_in, stmt_pasts, stmt_pasts_step}
 use Rattle.psy_history.proofs.PastsOf.{ExprSees, StmtSees, blind_stmts, each_member, rest_sees}
 use Rattle.psy_history.proofs.ViewsAlike.{ActAlike, CallsAlike, EvalAlike, GotAlike, Held, after, back_alike, both_end, both_fall, both_give, both_halt, both_return, both_trap, got_choice, got_or_stop, got_then, out_choice, out_or_halt, out_then, out_value, same_acted, seeing}

@@ -8,9 +8,9 @@ use Rattle.psy_tree.specs.declared.unit.Stmt.{Stmt, roll-Stmt, rec-roll-Stmt, fo
 use Rattle.psy_tree.specs.declared.unit.Stmt.TheOpen.{Stmt-F}
 use Rattle.psy_meaning.specs.Rest.{rest}
 use Rattle.psy_meaning.specs.Sound.{Scope, HasPast, Each, sound_expr_step, IsSoundExpr, sound_stmt_step, IsSoundStmt, AreSound}
-use Rattle.psy_meaning.proofs.Eaches.{each-append, each-first, each-second}
-use Rattle.psy_meaning.proofs.RestPieces.{PartsHave, PiecesHave, rest_has}
-use Rattle.psy_meaning.proofs.SoundParts.{exprs_natural, stmts_natural}
+use Rattle.psy_meaning.proofs.lemmas.Eaches.{each-append, each-first, each-second}
+use Rattle.psy_meaning.proofs.lemmas.RestPieces.{PartsHave, PiecesHave, rest_has}
+use Rattle.psy_meaning.proofs.lemmas.SoundParts.{exprs_natural, stmts_natural}
 use Rattle.psy_history.specs.Feeding.{all_pasts, expr_pasts_step, expr_pasts, stmt_pasts_step, stmt_pasts, pasts_in}
 use Rattle.psy_history.proofs.Members.{contains_front, contains_behind}
 

@@ -25,23 +25,23 @@ mod SummaryLines
 mod ToldPlaces
 mod ToldStreams
 mod Verdicts
-pub mod Booted
-pub mod CyclesDone
-pub mod CyclesGiven
-pub mod Dated
-pub mod DeedsDone
-pub mod GetsCycle
-pub mod KeptCopies
-pub mod Kernels
-pub mod LooksBack
-pub mod OneAgent
-pub mod OneBox
-pub mod OrdersInForce
-pub mod OtherAgents
-pub mod Parts
-pub mod PickIsSoonest
-pub mod Placed
-pub mod Sets
-pub mod Stages
-pub mod Started
-pub mod Supplied
+mod Booted
+mod CyclesDone
+mod CyclesGiven
+mod Dated
+mod DeedsDone
+mod GetsCycle
+mod KeptCopies
+mod Kernels
+mod LooksBack
+mod OneAgent
+mod OneBox
+mod OrdersInForce
+mod OtherAgents
+mod Parts
+mod PickIsSoonest
+mod Placed
+mod Sets
+mod Stages
+mod Started
+mod Supplied

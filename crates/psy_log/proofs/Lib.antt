@@ -1,3 +1,3 @@
 -- The lemmas of this crate, by subject.
-pub mod GrowthLemmas
-pub mod HandedLemmas
+mod GrowthLemmas
+mod HandedLemmas

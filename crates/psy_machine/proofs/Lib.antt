@@ -1,5 +1,5 @@
 -- The lemmas of this crate, by subject.
-pub mod Entries
-pub mod Laid
-pub mod Reversed
-pub mod Steps
+mod Entries
+mod Laid
+mod Reversed
+mod Steps

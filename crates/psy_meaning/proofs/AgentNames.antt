@@ -27,12 +27,12 @@ use Rattle.psy_tree.specs.Stands.{unit_of, inside_of, counting, is_variable, num
 use Rattle.psy_code.specs.Execution.{Copy}
 use Rattle.psy_meaning.specs.Alike.{owned_copy, owned_from}
 use Rattle.psy_meaning.specs.Sound.{Scope, HasSlot, HasCopy, HasPast, HasStream, HasFunction, CanSend, Each, agent_scope}
-use Rattle.psy_tree.proofs.ClocksOf.{clocks_count}
-use Rattle.psy_tree.proofs.Numbers.{flat_map-each, length-each, gives_streams, variable_at, stream_at, function_at}
-use Rattle.psy_tree.proofs.Lists.{slice_get-behind}
-use Rattle.psy_tree.proofs.Faultless.{Fine, fine_head, in_range, number_below, asks_clock, asks_target}
+use Rattle.psy_tree.proofs.lemmas.ClocksOf.{clocks_count}
+use Rattle.psy_tree.proofs.lemmas.Numbers.{flat_map-each, length-each, gives_streams, variable_at, stream_at, function_at}
+use Rattle.psy_tree.proofs.lemmas.Lists.{slice_get-behind}
+use Rattle.psy_tree.proofs.lemmas.Faultless.{Fine, fine_head, in_range, number_below, asks_clock, asks_target}
 use Rattle.psy_meaning.proofs.SoundExprs.{HasValue, Suits}
-use Rattle.psy_tree.proofs.Standing.{second_false, temporal_is, stream_is, function_is, agent_here}
+use Rattle.psy_tree.proofs.lemmas.Standing.{second_false, temporal_is, stream_is, function_is, agent_here}
 
 -- ---- slots
 

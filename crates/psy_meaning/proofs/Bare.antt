@@ -22,15 +22,15 @@ use Rattle.psy_tree.specs.Paths.{quiet_list}
 use Rattle.psy_tree.specs.Rules.{NoFault, is_clock, is_agent, is_function, is_stream}
 use Rattle.psy_tree.specs.Stands.{Stands, unit_of, counting, is_variable, clock_names, variables, streams, functions, agents, agent_with, slot_of, local_value, agent_budget, head_point, global_number, budget_of, inside_of, stmts_of, each_from}
 use Rattle.psy_meaning.specs.Units.{Within, IsName, IsBareVariable, IsBareStream, IsBareFunction, IsBareSlot, IsBarePoint, HasHead, IsBareAgent, IsBare}
-use Rattle.psy_tree.proofs.Among.{Among, among_left, among_right}
-use Rattle.psy_tree.proofs.Limits.{NonePasses, few_clocks, few_agents, few_variables, few_streams, few_functions, names_of, points_within}
+use Rattle.psy_tree.proofs.lemmas.Among.{Among, among_left, among_right}
+use Rattle.psy_tree.proofs.lemmas.Limits.{NonePasses, few_clocks, few_agents, few_variables, few_streams, few_functions, names_of, points_within}
 use Rattle.psy_meaning.proofs.TextNames.{names_in, AreNames}
-use Rattle.psy_tree.proofs.Lists.{All-flat_map}
-use Rattle.psy_tree.proofs.Numbers.{length-each, flat_map-each, gives_clock_names, gives_variables, gives_streams, gives_functions, gives_agents}
+use Rattle.psy_tree.proofs.lemmas.Lists.{All-flat_map}
+use Rattle.psy_tree.proofs.lemmas.Numbers.{length-each, flat_map-each, gives_clock_names, gives_variables, gives_streams, gives_functions, gives_agents}
 use Rattle.psy_meaning.proofs.PathsOf.{points_of}
-use Rattle.psy_tree.proofs.Faultless.{Fine, AllFine, head_at, fine_head, fine_inside, fine_quantum, in_range, global_below, number_below, asks_clock, asks_agent}
-use Rattle.psy_tree.proofs.ClocksOf.{clocks_are, clocks_count}
-use Rattle.psy_tree.proofs.PointsOf.{Adds, point_of, stmts_add}
+use Rattle.psy_tree.proofs.lemmas.Faultless.{Fine, AllFine, head_at, fine_head, fine_inside, fine_quantum, in_range, global_below, number_below, asks_clock, asks_agent}
+use Rattle.psy_tree.proofs.lemmas.ClocksOf.{clocks_are, clocks_count}
+use Rattle.psy_tree.proofs.lemmas.PointsOf.{Adds, point_of, stmts_add}
 use Rattle.psy_meaning.proofs.NamesOf.{names_differ}
 
 -- ---- each of them

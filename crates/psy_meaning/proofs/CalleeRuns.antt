@@ -9,7 +9,7 @@ use Rattle.psy_meaning.specs.Ways.{Meter, Way, Course, Fell, Back, To, here, cou
 use Rattle.psy_meaning.proofs.Fronts.{FrontOn, FrontIn, open_here, front_both}
 use Rattle.psy_meaning.proofs.OpenWays.{two, open_two, leads_stmts}
 use Rattle.psy_meaning.proofs.Runs.{met, GotBy, CallAlong, AllAlong}
-use Rattle.psy_meaning.proofs.NoWays.{NoWay, none_through}
+use Rattle.psy_meaning.proofs.lemmas.NoWays.{NoWay, none_through}
 use Rattle.psy_meaning.proofs.StatementRuns.{OutBy, acts_along}
 
 abbrev NoPoint : Course → Type 0

@@ -12,7 +12,7 @@ use Rattle.psy_meaning.specs.Ways.{Meter, Way, Course, Fell, Back, To, IsFrontOf
 use Rattle.psy_meaning.specs.Sound.{agent_scope, IsSoundAgent, IsSoundUnit}
 use Rattle.psy_meaning.proofs.CalleeRuns.{callees_along}
 use Rattle.psy_meaning.proofs.Fronts.{FrontIn}
-use Rattle.psy_meaning.proofs.NoWays.{NoWay, none, none_on, none_falling, no_fall_second, no_fall_through, no_fall_behind}
+use Rattle.psy_meaning.proofs.lemmas.NoWays.{NoWay, none, none_on, none_falling, no_fall_second, no_fall_through, no_fall_behind}
 use Rattle.psy_meaning.proofs.Rests.{AllFine, rest_fine}
 use Rattle.psy_meaning.proofs.Runs.{met}
 use Rattle.psy_meaning.proofs.SoundPaths.{none_advances, no_return}

@@ -19,10 +19,10 @@ use Rattle.std.specs.Option.{is_none}
 use Rattle.psy_tree.specs.Rules.{is_agent, is_function, is_temporal, has_params, in_agent, in_function, slot_is_array, function_from, unsuited, below}
 use Rattle.psy_tree.specs.Stands.{inside_of, number_of_item, slot_number, functions, each_from}
 use Rattle.psy_meaning.specs.Sound.{Scope, HasSlot, HasFunction, function_scope}
-use Rattle.psy_tree.proofs.Numbers.{length-each, given_at, gives_functions}
-use Rattle.psy_tree.proofs.Faultless.{Fine}
+use Rattle.psy_tree.proofs.lemmas.Numbers.{length-each, given_at, gives_functions}
+use Rattle.psy_tree.proofs.lemmas.Faultless.{Fine}
 use Rattle.psy_meaning.proofs.SoundExprs.{HasValue, Suits}
-use Rattle.psy_tree.proofs.Standing.{second_false, function_is}
+use Rattle.psy_tree.proofs.lemmas.Standing.{second_false, function_is}
 
 -- ---- slots
 

@@ -22,7 +22,7 @@ use Rattle.psy_meaning.proofs.KeptExprs.{IsScopeOf}
 use Rattle.psy_meaning.proofs.KeptStates.{FitsCopy, IsShaped, IsFine}
 use Rattle.psy_meaning.proofs.KeptStmts.{OutFine, pieces_keep}
 use Rattle.psy_meaning.proofs.KeptValues.{Fits}
-use Rattle.psy_meaning.proofs.RestPieces.{rest_has}
+use Rattle.psy_meaning.proofs.lemmas.RestPieces.{rest_has}
 use Rattle.psy_meaning.proofs.Suited.{IsSuited, all_suited, layer_suited}
 
 -- ---- points

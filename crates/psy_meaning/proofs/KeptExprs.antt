@@ -21,7 +21,7 @@ use Rattle.psy_meaning.specs.Sound.{Scope, HasPast, HasStream, Each, sound_expr_
 use Rattle.psy_meaning.specs.States.{State, Ended, Trapped, Got, Value, Stops, Eval, Callee, and_then, cost_1, asking, or_stop, cells_at, value_at}
 use Rattle.psy_meaning.proofs.KeptStates.{IsFine, value_fits, copy_fits, past_fits, next_fits, fine_cost, fine_past, fine_ready, fine_take}
 use Rattle.psy_meaning.proofs.KeptValues.{Fits, zero_fits, one_fits, cast_fits, truth_fits, value1_fits, value2_fits}
-use Rattle.psy_meaning.proofs.SoundParts.{exprs_natural}
+use Rattle.psy_meaning.proofs.lemmas.SoundParts.{exprs_natural}
 
 -- What a scope lets look at, receive and send by is the unit's.
 pub record IsScopeOf (unit : Whole) (number : ℕ) (scope : Scope) : Type 0 where

@@ -19,7 +19,7 @@ use Rattle.psy_meaning.specs.Statements.{all_of, choose, hop, turns, set_element
 use Rattle.psy_meaning.proofs.KeptExprs.{IsScopeOf, GotFine, AllKeep, expr_keeps}
 use Rattle.psy_meaning.proofs.KeptStates.{IsFine, fine_cost, fine_send, fine_slot, fine_copy}
 use Rattle.psy_meaning.proofs.KeptValues.{Fits}
-use Rattle.psy_meaning.proofs.RestPieces.{PartsHave, PiecesHave}
+use Rattle.psy_meaning.proofs.lemmas.RestPieces.{PartsHave, PiecesHave}
 use Rattle.psy_meaning.proofs.Suited.{Allowed, IsSuited, layer_sound, layer_allowed, layer_suited}
 
 module _ (unit : Whole) (number : ℕ) (reached : ℕ → Type 0) (layout names : List ℕ) where

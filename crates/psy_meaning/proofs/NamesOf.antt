@@ -19,10 +19,10 @@ use Rattle.psy_tree.specs.Places.{NamesItem, head_places}
 use Rattle.psy_tree.specs.Rules.{NoFault, declares, names_slot, is_clock, is_agent, is_function, is_stream}
 use Rattle.psy_tree.specs.Stands.{unit_of, counting, is_variable, clock_names, variables, streams, functions, agents, each_from}
 use Rattle.psy_meaning.specs.Units.{AllDiffer, global_names}
-use Rattle.psy_tree.proofs.Among.{Among}
-use Rattle.psy_tree.proofs.Numbers.{Gives, each_from_some, flat_map-each, gives_clock_names, gives_variables, gives_streams, gives_functions, gives_agents}
-use Rattle.psy_tree.proofs.Lists.{only, slice_get-take, slice_get-either, slice_get_mapped}
-use Rattle.psy_tree.proofs.Faultless.{fine_head}
+use Rattle.psy_tree.proofs.lemmas.Among.{Among}
+use Rattle.psy_tree.proofs.lemmas.Numbers.{Gives, each_from_some, flat_map-each, gives_clock_names, gives_variables, gives_streams, gives_functions, gives_agents}
+use Rattle.psy_tree.proofs.lemmas.Lists.{only, slice_get-take, slice_get-either, slice_get_mapped}
+use Rattle.psy_tree.proofs.lemmas.Faultless.{fine_head}
 
 -- ---- two declarations
 

@@ -6,10 +6,10 @@ use Rattle.psy_tree.specs.declared.unit.Stmt.TheOpen.{Stmt-F}
 use Rattle.psy_meaning.specs.QueueSizes.{sendings_step, sendings_of, sendings_in}
 use Rattle.psy_meaning.specs.Sound.{Scope, Each, sound_stmt_step, IsSoundStmt, AreSound, function_scope, AreSoundFunctions}
 use Rattle.psy_meaning.specs.Ways.{Sending, Way, Fell, Back, here, one, courses_through, course_by, callee_way, with_way, callee_ways_from, callee_ways}
-use Rattle.psy_meaning.proofs.Eaches.{each-append}
+use Rattle.psy_meaning.proofs.lemmas.Eaches.{each-append}
 use Rattle.psy_meaning.proofs.OpenWays.{two}
 use Rattle.psy_meaning.proofs.SendWays.{Keeps, keeps_here, keeps_one, keeps_both, keeps_stmts}
-use Rattle.psy_meaning.proofs.SoundParts.{stmts_natural}
+use Rattle.psy_meaning.proofs.lemmas.SoundParts.{stmts_natural}
 
 module _ (Fine : Sending → Type 0) where
   -- ---- statements that may not send

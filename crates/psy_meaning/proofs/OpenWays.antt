@@ -10,7 +10,7 @@ use Rattle.psy_tree.specs.declared.unit.Stmt.TheOpen.{Stmt-F}
 use Rattle.psy_meaning.specs.Statements.{Piece, Do, Hop}
 use Rattle.psy_meaning.specs.Ways.{Sending, Way, Course, here, one, sending, both, either, falling, behind, and_on, or_else, ways_through, binary_way, courses_through, turning, expr_way_step, expr_way, course_step, course_by, piece_course}
 use Rattle.psy_meaning.proofs.Fronts.{Open, Leads, open_here, open_one, open_looking, open_sending, open_both, leads_falling, leads_returning, leads_reaching, leads_behind, leads_left, leads_on}
-use Rattle.psy_meaning.proofs.Layers.{natural_expr, natural_stmt}
+use Rattle.psy_meaning.proofs.lemmas.Layers.{natural_expr, natural_stmt}
 
 open_here_or : (that : Way) → Open (either here that)
 open_here_or that m = let w = open_here m in (w.0, inl w.1, w.2)

@@ -16,7 +16,7 @@ use Rattle.psy_tree.specs.Scope.{Site, stands_for}
 use Rattle.psy_tree.specs.Paths.{advances, advances_step as raw_advances_step, advances_list, quiet as raw_quiet, quiet_step as raw_quiet_step, quiet_list as raw_quiet_list}
 use Rattle.psy_tree.specs.Stands.{Numbering, and_more, expr_of, set_by, while_of, stmt_step, stmt_of, stmts_of}
 use Rattle.psy_meaning.specs.Paths.{one_of, all_quiet, holds, holds_step, holds_advance, advances_step, advances_of, advances_in, quiet, quiet_step, quiet_list}
-use Rattle.psy_tree.proofs.Advances.{positive_sum}
+use Rattle.psy_tree.proofs.lemmas.Advances.{positive_sum}
 
 -- A statement and the points behind it, for one of the tree's with n `advance` statements that is quiet or not.
 abbrev Is : ℕ → Bool → List Point → Stmt × List Point → Type 0

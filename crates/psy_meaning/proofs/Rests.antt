@@ -8,8 +8,8 @@ use Rattle.psy_meaning.specs.Statements.{Piece}
 use Rattle.psy_meaning.specs.Paths.{one_of, holds_step, holds, holds_return}
 use Rattle.psy_meaning.specs.Rest.{rest}
 use Rattle.psy_meaning.specs.Sound.{Each}
-use Rattle.psy_meaning.proofs.NoWays.{or_false}
-use Rattle.psy_meaning.proofs.RestPieces.{PartsHave, PiecesHave, rest_has}
+use Rattle.psy_meaning.proofs.lemmas.NoWays.{or_false}
+use Rattle.psy_meaning.proofs.lemmas.RestPieces.{PartsHave, PiecesHave, rest_has}
 
 abbrev back : Stmt → Bool
 back = holds false true

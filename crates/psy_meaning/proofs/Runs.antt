@@ -15,7 +15,7 @@ use Rattle.psy_meaning.specs.States.{State, Ended, Trapped, Got, Value, Stops, E
 use Rattle.psy_meaning.specs.Expressions.{expr_step, eval, in_order, binary, truth_of, applied, element}
 use Rattle.psy_meaning.specs.Ways.{Meter, Way, met_by, one, both, either, here, ways_through, binary_way, expr_way_step, expr_way}
 use Rattle.psy_meaning.proofs.Fronts.{FrontOn, Open, front_same, front_both, open_one, open_both}
-use Rattle.psy_meaning.proofs.Layers.{natural_expr}
+use Rattle.psy_meaning.proofs.lemmas.Layers.{natural_expr}
 use Rattle.psy_meaning.proofs.OpenWays.{lazy, open_lazy, open_through, open_expr}
 
 abbrev pub met : State → Meter

@@ -11,10 +11,10 @@ use Rattle.psy_meaning.specs.Rest.{rest}
 use Rattle.psy_meaning.specs.Sound.{Each}
 use Rattle.psy_meaning.specs.Statements.{Piece, Do, Hop}
 use Rattle.psy_meaning.specs.Ways.{Meter, Sending, Way, Course, End, Fell, Back, To, here, one, looking, sending, both, either, falling, returning, reaching, behind, and_on, or_else, ways_through, binary_way, courses_through, turning, expr_way_step, expr_way, course_step, course_by, piece_course}
-use Rattle.psy_meaning.proofs.Eaches.{each-append, each-first, each-second}
-use Rattle.psy_meaning.proofs.Layers.{natural_expr, natural_stmt}
+use Rattle.psy_meaning.proofs.lemmas.Eaches.{each-append, each-first, each-second}
+use Rattle.psy_meaning.proofs.lemmas.Layers.{natural_expr, natural_stmt}
 use Rattle.psy_meaning.proofs.OpenWays.{lazy, two}
-use Rattle.psy_meaning.proofs.RestPieces.{PartsHave, PiecesHave, rest_has}
+use Rattle.psy_meaning.proofs.lemmas.RestPieces.{PartsHave, PiecesHave, rest_has}
 
 module _ (Fine : Sending → Type 0) where
   -- All that it sent is fine.

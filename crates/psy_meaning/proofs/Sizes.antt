@@ -19,8 +19,8 @@ use Rattle.psy_tree.specs.Stands.{stmt_of, stmts_of, functions, agents, each_fro
 use Rattle.psy_tree.specs.Paths.{total}
 use Rattle.psy_meaning.specs.Sizes.{binary_size, stmts_size, unit_size}
 use Rattle.psy_meaning.proofs.Lowered.{size, sizes, weight, weights, size_number, size_var, size_cell, size_past, size_ready, size_take, size_unary, size_binary, size_call, size_set, size_set_cell, size_if, size_if_else, size_timed, size_bounded, size_send, size_advance, size_return}
-use Rattle.psy_tree.proofs.TokenCounts.{length_of_numbered}
-use Rattle.psy_tree.proofs.Tails.{length-Behind, behind_both, behind_start, behind_parent, behind_shift, behind_params, behind_locals, agent_locals}
+use Rattle.psy_tree.proofs.lemmas.TokenCounts.{length_of_numbered}
+use Rattle.psy_tree.proofs.lemmas.Tails.{length-Behind, behind_both, behind_start, behind_parent, behind_shift, behind_params, behind_locals, agent_locals}
 
 operator_few : (o : Op2) → binary_size o ≤ 2
 operator_few op.AndAnd = omega arith

@@ -17,9 +17,9 @@ use Rattle.psy_tree.specs.Rules.{is_clock, is_function, is_stream}
 use Rattle.psy_tree.specs.Stands.{counting, is_variable, number_at, slot_number, signed, value_of, expr_step, expr_of}
 use Rattle.psy_meaning.specs.Sound.{Scope, HasSlot, HasCopy, HasPast, HasStream, HasFunction, CanSend, Each, IsSoundExpr}
 use Rattle.psy_meaning.proofs.Literals.{signed_fits}
-use Rattle.psy_meaning.proofs.Eaches.{each-first, each-second}
-use Rattle.psy_tree.proofs.Faultless.{Fine}
-use Rattle.psy_meaning.proofs.SoundParts.{expr_sound}
+use Rattle.psy_meaning.proofs.lemmas.Eaches.{each-first, each-second}
+use Rattle.psy_tree.proofs.lemmas.Faultless.{Fine}
+use Rattle.psy_meaning.proofs.lemmas.SoundParts.{expr_sound}
 
 -- The scope has the variable or the slot that a name stands for.
 abbrev pub HasValue : Site → Scope → Option Found → Type 0

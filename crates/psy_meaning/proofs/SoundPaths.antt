@@ -8,7 +8,7 @@ use Rattle.psy_tree.specs.declared.unit.Stmt.TheOpen.{Stmt-F}
 use Rattle.psy_tree.specs.declared.unit.Unit.{Unit as Whole}
 use Rattle.psy_meaning.specs.Paths.{one_of, holds_step, holds, holds_advance, holds_return, NoneAdvances}
 use Rattle.psy_meaning.specs.Sound.{Scope, Each, sound_stmt_step, IsSoundStmt, AreSound, function_scope, AreSoundFunctions, IsSoundUnit}
-use Rattle.psy_meaning.proofs.SoundParts.{stmts_natural}
+use Rattle.psy_meaning.proofs.lemmas.SoundParts.{stmts_natural}
 
 not_true : (b : Bool) → (b ≡ true → ⊥) → b ≡ false
 not_true true h = absurd (h refl)

@@ -21,11 +21,11 @@ use Rattle.psy_tree.specs.Rules.{is_clock, is_stream}
 use Rattle.psy_tree.specs.Stands.{Numbering, counting, is_variable, number_at, slot_number, expr_of, set_by, while_of, stmt_step, stmt_of, stmts_of}
 use Rattle.psy_meaning.specs.Paths.{holds_advance, quiet_list}
 use Rattle.psy_meaning.specs.Sound.{Scope, Each, IsSoundExpr, IsSoundStmt, AreSound}
-use Rattle.psy_tree.proofs.Lists.{map_firsts}
+use Rattle.psy_tree.proofs.lemmas.Lists.{map_firsts}
 use Rattle.psy_meaning.proofs.PathsOf.{holds_of, quiet_of, points_of}
-use Rattle.psy_meaning.proofs.Eaches.{each-first, each-second}
-use Rattle.psy_tree.proofs.Faultless.{in_range, Fine}
-use Rattle.psy_meaning.proofs.SoundParts.{stmt_sound}
+use Rattle.psy_meaning.proofs.lemmas.Eaches.{each-first, each-second}
+use Rattle.psy_tree.proofs.lemmas.Faultless.{in_range, Fine}
+use Rattle.psy_meaning.proofs.lemmas.SoundParts.{stmt_sound}
 use Rattle.psy_meaning.proofs.SoundExprs.{HasValue, Suits, sound_exprs}
 
 without_max : (advances quiet : Bool) → (not false && not advances) ≡ false → (advances && (false || quiet)) ≡ false → quiet ≡ false

@@ -22,14 +22,14 @@ use Rattle.psy_tree.specs.Paths.{advances_list, quiet_list as raw_quiet_list}
 use Rattle.psy_tree.specs.Rules.{NoFault, is_agent, is_clock, is_function}
 use Rattle.psy_tree.specs.Stands.{Stands, unit_of, inside_of, counting, global_number, head_point, local_value, agent_with, stmts_of, functions, agents, each_from}
 use Rattle.psy_meaning.specs.Sound.{AreSound, function_scope, AreSoundFunctions, agent_scope, IsSoundAgent, IsSoundUnit}
-use Rattle.psy_tree.proofs.Advances.{function_quiet}
-use Rattle.psy_tree.proofs.Numbers.{each_from_more, length-each, gives_functions}
-use Rattle.psy_tree.proofs.Limits.{few_functions}
-use Rattle.psy_tree.proofs.Lists.{only}
-use Rattle.psy_tree.proofs.Numbers.{agent_from}
+use Rattle.psy_tree.proofs.lemmas.Advances.{function_quiet}
+use Rattle.psy_tree.proofs.lemmas.Numbers.{each_from_more, length-each, gives_functions}
+use Rattle.psy_tree.proofs.lemmas.Limits.{few_functions}
+use Rattle.psy_tree.proofs.lemmas.Lists.{only}
+use Rattle.psy_tree.proofs.lemmas.Numbers.{agent_from}
 use Rattle.psy_meaning.proofs.PathsOf.{quiet_of, points_of, numbers_of}
-use Rattle.psy_meaning.proofs.Eaches.{each-among, each-first, each-second}
-use Rattle.psy_tree.proofs.Faultless.{Fine, fine_inside}
+use Rattle.psy_meaning.proofs.lemmas.Eaches.{each-among, each-first, each-second}
+use Rattle.psy_tree.proofs.lemmas.Faultless.{Fine, fine_inside}
 use Rattle.psy_meaning.proofs.SoundStmts.{sound_stmts}
 use Rattle.psy_meaning.proofs.AgentNames.{agent_suits}
 use Rattle.psy_meaning.proofs.FunctionNames.{function_suits}

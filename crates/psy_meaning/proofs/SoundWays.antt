@@ -14,10 +14,10 @@ use Rattle.psy_meaning.specs.Rest.{rest}
 use Rattle.psy_meaning.specs.Sound.{Scope, Each, EachOr, HasPast, CanSend, sound_expr_step, sound_stmt_step, IsSoundExpr, IsSoundStmt, AreSound, function_scope, AreSoundFunctions, agent_scope, IsSoundUnit}
 use Rattle.psy_meaning.specs.Statements.{Piece, Do, Hop}
 use Rattle.psy_meaning.specs.Ways.{Meter, Sending, Way, Course, End, Fell, Back, To, here, one, looking, sending, both, either, falling, returning, reaching, behind, and_on, or_else, ways_through, binary_way, courses_through, turning, expr_way_step, expr_way, course_step, course_by, piece_course, callee_way, with_way, callee_ways_from, callee_ways, unmetered, IsWay}
-use Rattle.psy_meaning.proofs.Layers.{natural_expr, natural_stmt}
+use Rattle.psy_meaning.proofs.lemmas.Layers.{natural_expr, natural_stmt}
 use Rattle.psy_meaning.proofs.OpenWays.{lazy, two}
-use Rattle.psy_meaning.proofs.RestPieces.{PartsHave, PiecesHave, rest_has}
-use Rattle.psy_meaning.proofs.SoundParts.{exprs_natural, stmts_natural}
+use Rattle.psy_meaning.proofs.lemmas.RestPieces.{PartsHave, PiecesHave, rest_has}
+use Rattle.psy_meaning.proofs.lemmas.SoundParts.{exprs_natural, stmts_natural}
 
 -- What was met, and one instruction more
 abbrev pub stepped_on : Meter → Meter

@@ -16,7 +16,7 @@ use Rattle.psy_meaning.specs.Expressions.{eval}
 use Rattle.psy_meaning.specs.Statements.{all_of, choose, hop, turns, set_element, stmt_step, act_by, acts_by, Piece, Do, Hop, piece_by}
 use Rattle.psy_meaning.specs.Ways.{Meter, Sending, Way, Course, Fell, Back, To, here, one, both, sending, sending_of, falling, returning, behind, and_on, or_else, courses_through, turning, course_step, course_by, expr_way, piece_course}
 use Rattle.psy_meaning.proofs.Fronts.{FrontIn, Open, Leads, front_same, front_one, front_both, front_falling, front_behind, front_left, front_right, front_on, open_one, open_sending, open_both, leads_falling, leads_returning, leads_behind, leads_left, leads_on}
-use Rattle.psy_meaning.proofs.Layers.{natural_stmt}
+use Rattle.psy_meaning.proofs.lemmas.Layers.{natural_stmt}
 use Rattle.psy_meaning.proofs.OpenWays.{two, open_two, open_expr, leads_turning, leads_stmts, leads_pieces}
 use Rattle.psy_meaning.proofs.Runs.{met, GotBy, Along, AllAlong, along}
 

@@ -4,9 +4,9 @@ use Rattle.psy_tree.specs.declared.unit.Stmt.{Stmt, roll-Stmt, fold-roll-Stmt, r
 use Rattle.psy_tree.specs.declared.unit.Stmt.TheOpen.{Stmt-F}
 use Rattle.psy_meaning.specs.Paths.{advances_step, advances_of, advances_in}
 use Rattle.psy_meaning.specs.Sound.{Scope, Each, AreSound, IsSoundStmt, sound_stmt_step}
-use Rattle.psy_meaning.proofs.Eaches.{each-first, each-second}
-use Rattle.psy_meaning.proofs.RestPieces.{PartsHave}
-use Rattle.psy_meaning.proofs.SoundParts.{stmts_natural}
+use Rattle.psy_meaning.proofs.lemmas.Eaches.{each-first, each-second}
+use Rattle.psy_meaning.proofs.lemmas.RestPieces.{PartsHave}
+use Rattle.psy_meaning.proofs.lemmas.SoundParts.{stmts_natural}
 
 module _ (scope : Scope) (reached : ℕ → Type 0) where
   -- A point that the scope has can be reached.

@@ -16,7 +16,7 @@ use Rattle.psy_tree.specs.Grammar.{Numbered, numbered, AgentLocal, Many, Further
 use Rattle.psy_tree.specs.Grammar as grammar
 use Rattle.psy_tree.specs.Scope.{SlotName, scalar, local_slot, slots_of, item_name}
 use Rattle.psy_meaning.specs.Units.{IsName}
-use Rattle.psy_tree.proofs.Tails.{Behind, all_behind, behind_one, behind_local, agent_locals, behind_params, behind_declaration}
+use Rattle.psy_tree.proofs.lemmas.Tails.{Behind, all_behind, behind_one, behind_local, agent_locals, behind_params, behind_declaration}
 
 -- The names of a declaration: its own, and those of its parameters, variables and arrays
 abbrev pub names_in : Item → List (List ℕ)

@@ -7,9 +7,9 @@ use Rattle.psy_meaning.specs.Rest.{rest}
 use Rattle.psy_meaning.specs.Sound.{Each}
 use Rattle.psy_meaning.specs.Statements.{Piece, Do, Hop}
 use Rattle.psy_meaning.specs.Ways.{Meter, Way, Course, End, To, here, one, both, sending, falling, returning, reaching, behind, and_on, or_else, courses_through, turning, course_step, course_by, expr_way, piece_course}
-use Rattle.psy_meaning.proofs.Eaches.{each-first, each-second}
-use Rattle.psy_meaning.proofs.Layers.{natural_stmt}
-use Rattle.psy_meaning.proofs.RestPieces.{PartsHave, PiecesHave, rest_has}
+use Rattle.psy_meaning.proofs.lemmas.Eaches.{each-first, each-second}
+use Rattle.psy_meaning.proofs.lemmas.Layers.{natural_stmt}
+use Rattle.psy_meaning.proofs.lemmas.RestPieces.{PartsHave, PiecesHave, rest_has}
 
 point_of : End → ℕ
 point_of (To point) = point

@@ -1,14 +1,14 @@
 -- The lemmas of this crate, by subject.
-pub mod Steps
-pub mod Numbers
-pub mod Again
-pub mod AgainStmts
-pub mod AgainItems
-pub mod Heads
-pub mod ExprSteps
-pub mod StmtSteps
-pub mod ItemSteps
-pub mod FaultAt
-pub mod Trees
-pub mod Depths
-pub mod Front
+mod Steps
+mod Numbers
+mod Again
+mod AgainStmts
+mod AgainItems
+mod Heads
+mod ExprSteps
+mod StmtSteps
+mod ItemSteps
+mod FaultAt
+mod Trees
+mod Depths
+mod Front

@@ -12,7 +12,7 @@ use Rattle.psy_tree.specs.declared.raw.RawStmt.{RawStmt}
 use Rattle.psy_tree.specs.Scope.{slots_of, scalar, local_slot}
 use Rattle.psy_tree.specs.Rules.{is_clock, is_agent, is_function, is_stream}
 use Rattle.psy_tree.specs.Stands.{counting, is_variable, each_from}
-use Rattle.psy_tree.proofs.Numbers.{each_from_more}
+use Rattle.psy_tree.proofs.lemmas.Numbers.{each_from_more}
 use Rattle.psy_rules.specs.declared.numbers.Before.{Before}
 use Rattle.psy_rules.specs.Numbering.{before_at, before_and, one_if}
 

@@ -13,7 +13,7 @@ use Rattle.psy_tree.specs.declared.reach.Found.TheVariants as found
 use Rattle.psy_tree.specs.Scope.{Entry, SlotName, Site, first_named, slot_entries, item_name, own_slots, slots_at, slots_of}
 use Rattle.psy_tree.specs.Places.{Place, NamesItem, NamesSlot, Sited, all_at, head_places, body_places, inside_places, slot_places, item_places}
 use Rattle.psy_tree.specs.Rules.{names_slot}
-use Rattle.psy_tree.proofs.Faultless.{head_at}
+use Rattle.psy_tree.proofs.lemmas.Faultless.{head_at}
 use Rattle.psy_rules.specs.declared.least.RuleAt.{RuleAt}
 use Rattle.psy_rules.specs.Tables.{StandsFor, HasInner, is_inner, slot_names, as_slots}
 use Rattle.psy_rules.specs.Heads.{name_places, after_name}

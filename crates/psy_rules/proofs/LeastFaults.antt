@@ -11,7 +11,7 @@ use Rattle.psy_tree.specs.Scope.{Site}
 use Rattle.psy_rules.specs.Verdict.{Verdict}
 use Rattle.psy_tree.specs.Places.{Place, NamesItem, NamesSlot, Derives, Uses, LooksBack, Acts, Returns, Loops, HasBody, Ranges, Sited, token_of, places}
 use Rattle.psy_tree.specs.Rules.{NotAfter, rule_number, is_fault}
-use Rattle.psy_tree.proofs.Among.{Among, among, contains}
+use Rattle.psy_tree.proofs.lemmas.Among.{Among, among, contains}
 use Rattle.psy_rules.specs.declared.least.RuleAt.{RuleAt}
 use Rattle.psy_rules.specs.Judged.{is_before, noted, judged, judged_sited}
 

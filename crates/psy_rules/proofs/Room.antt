@@ -7,8 +7,8 @@ use Rattle.psy_tree.specs.declared.raw.Item.TheVariants as item
 use Rattle.psy_tree.specs.declared.raw.Raw.{Raw}
 use Rattle.psy_tree.specs.Paths.{advances_list}
 use Rattle.psy_tree.specs.Rules.{NoFault}
-use Rattle.psy_tree.proofs.Advances.{function_quiet}
-use Rattle.psy_tree.proofs.Limits.{NonePasses, points_within}
+use Rattle.psy_tree.proofs.lemmas.Advances.{function_quiet}
+use Rattle.psy_tree.proofs.lemmas.Limits.{NonePasses, points_within}
 use Rattle.psy_tree.specs.Scope.{item_stmts}
 
 pub room_of : (raw : Raw) → NoFault raw → NonePasses raw.items → (k : ℕ) (i : Item) → slice_get raw.items k ≡ Some i → advances_list (item_stmts i) ≤ POINTS

@@ -12,7 +12,7 @@ use Rattle.psy_tree.specs.declared.raw.Name.{Name}
 use Rattle.psy_tree.specs.declared.reach.Found.{Found}
 use Rattle.psy_tree.specs.declared.reach.Found.TheVariants as found
 use Rattle.psy_tree.specs.Scope.{Entry, SlotName, Site, first_named, item_entries, slot_entries, item_name, own_slots, stands_for, stands_globally}
-use Rattle.psy_tree.proofs.Entries.{item_entries-append, entries_split}
+use Rattle.psy_tree.proofs.lemmas.Entries.{item_entries-append, entries_split}
 use Rattle.psy_rules.specs.Finding.{up_to}
 use Rattle.psy_rules.specs.Tables.{StandsFor, added, as_slots}
 

@@ -278,7 +278,7 @@ fn function(
     }
 }
 
-#[tactic(auto, using(psy_tree::proofs::Numbers::each_from_more))]
+#[tactic(auto, using(psy_tree::proofs::lemmas::Numbers::each_from_more))]
 pub fn functions(alloc: Global, program: &Program<'_>) -> Result<Items<FunctionDecl>, Memory>
     requires { IsProgram program.now }
     ensures { IfOk result (λ v. v ≡ each_from (stands.functions program.now.items.now) 0 program.now.items.now) }
@@ -348,7 +348,7 @@ fn agent(
     }
 }
 
-#[tactic(auto, using(psy_tree::proofs::Numbers::each_from_more))]
+#[tactic(auto, using(psy_tree::proofs::lemmas::Numbers::each_from_more))]
 pub fn agents(alloc: Global, program: &Program<'_>) -> Result<Items<AgentDecl>, Memory>
     requires { IsProgram program.now }
     ensures { IfOk result (λ v. v ≡ each_from (stands.agents program.now.items.now) 0 program.now.items.now) }

@@ -130,7 +130,7 @@ fn judge_loop(token: u32, bounded: bool, body: Paths, least: &mut Least)
 }
 
 /// Notes what is wrong with an `advance`.
-#[tactic(auto, using(psy_tree::proofs::PlacesOf::places_advance))]
+#[tactic(auto, using(psy_tree::proofs::lemmas::PlacesOf::places_advance))]
 fn judge_advance(
     scope: &Scope<'_>,
     token: u32,
@@ -149,7 +149,7 @@ fn judge_advance(
 }
 
 #[cycle(stmt)]
-#[tactic(auto, using(crate::proofs::Judging::judged_all_append, psy_tree::proofs::Lists::map_firsts, psy_tree::proofs::Lists::map_seconds, psy_tree::proofs::Advances::positive_sum))]
+#[tactic(auto, using(crate::proofs::Judging::judged_all_append, psy_tree::proofs::lemmas::Lists::map_firsts, psy_tree::proofs::lemmas::Lists::map_seconds, psy_tree::proofs::lemmas::Advances::positive_sum))]
 fn walk_stmt(scope: &Scope<'_>, stmt: &RawStmt, least: &mut Least) -> Paths
     requires { IsScope scope.now }
     ensures least { least.new.fault ≡ judged_all (site_of scope.now) (stmt_places stmt.now) least.old.fault }

@@ -1,26 +1,26 @@
 -- The lemmas of this crate, by subject.
-pub mod Accepting
-pub mod AskedLemmas
-pub mod AskingForms
-pub mod Courses
-pub mod CutLemmas
-pub mod Decisions
-pub mod GrowthLemmas
-pub mod KeptBounds
-pub mod KeptOrders
-pub mod LogLemmas
-pub mod LongFiles
-pub mod MeaningText
-pub mod OneAnswer
-pub mod OneStep
-pub mod OwnLemmas
-pub mod PlanLemmas
-pub mod RefusalLemmas
-pub mod RowLemmas
-pub mod SomeAnswer
-pub mod SomeStep
-pub mod SupplyLemmas
-pub mod TextLemmas
-pub mod ToldLemmas
-pub mod TopLemmas
-pub mod WritingLemmas
+mod Accepting
+mod AskedLemmas
+mod AskingForms
+mod Courses
+mod CutLemmas
+mod Decisions
+mod GrowthLemmas
+mod KeptBounds
+mod KeptOrders
+mod LogLemmas
+mod LongFiles
+mod MeaningText
+mod OneAnswer
+mod OneStep
+mod OwnLemmas
+mod PlanLemmas
+mod RefusalLemmas
+mod RowLemmas
+mod SomeAnswer
+mod SomeStep
+mod SupplyLemmas
+mod TextLemmas
+mod ToldLemmas
+mod TopLemmas
+mod WritingLemmas

@@ -24,7 +24,7 @@ use Rattle.psy_meaning.specs.BufferSizes.{AreSizes}
 use Rattle.psy_meaning.specs.Flow.{AreAllNexts, IsCut, HasCost}
 use Rattle.psy_meaning.specs.Timing.{Timing, timing_of}
 use Rattle.psy_meaning.specs.Units.{IsOfText}
-use Rattle.psy_meaning.proofs.Demands.{feasible-no-overload, overload-one}
+use Rattle.psy_meaning.proofs.lemmas.Demands.{feasible-no-overload, overload-one}
 use Rattle.psy_graph.specs.declared.fault.GraphFault.{GraphFault}
 use Rattle.psy_graph.specs.declared.graph.Graph.{Graph}
 use Rattle.psy_graph.specs.Graphs.{AreGraphs, IsCause, IsTimingOf}

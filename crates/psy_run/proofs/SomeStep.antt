@@ -25,7 +25,7 @@ use Rattle.psy_flow.specs.Agents.{IsAgentOf}
 use Rattle.psy_meaning.specs.BufferSizes.{AreSizes}
 use Rattle.psy_meaning.specs.Flow.{AreAllNexts, AreNexts, IsCut, HasCost}
 use Rattle.psy_meaning.specs.Units.{IsOfText}
-use Rattle.psy_meaning.proofs.Demands.{feasible-or-overload}
+use Rattle.psy_meaning.proofs.lemmas.Demands.{feasible-or-overload}
 use Rattle.psy_window.specs.declared.span.Span.{Span}
 use Rattle.psy_window.specs.declared.span.Span.TheVariants.{DueLast}
 use Rattle.psy_window.specs.Windows.{IsEdge, Fits}

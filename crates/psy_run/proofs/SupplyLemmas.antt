@@ -18,7 +18,7 @@ use Rattle.psy_meaning.specs.BufferSizes.{AreSizes}
 use Rattle.psy_meaning.specs.Demand.{IsDemand, IsFeasible, IsOverload, Suffices}
 use Rattle.psy_meaning.specs.Units.{IsOfText}
 use Rattle.psy_meaning.specs.Flow.{AreAllNexts}
-use Rattle.psy_meaning.proofs.Demands.{AreGreatest, feasible-is, overload-is, demand-some, feasible-or-overload, feasible-no-overload, overload-one}
+use Rattle.psy_meaning.proofs.lemmas.Demands.{AreGreatest, feasible-is, overload-is, demand-some, feasible-or-overload, feasible-no-overload, overload-one}
 use Rattle.psy_rate.specs.declared.line.Rate.{Rate}
 use Rattle.psy_rate.specs.Horizons.{Covers, IsHorizonOf, IsHorizon, AreFeasible, HaveDemands}
 use Rattle.psy_rate.specs.Lines.{IsRateOf, AreRates, AreAll}

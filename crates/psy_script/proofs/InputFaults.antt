@@ -10,7 +10,7 @@ use Rattle.std.proofs.lemmas.Option.{none-some, same_Some}
 use Rattle.std.proofs.lemmas.List.Elements.{All-nil, All-cons, All-head, All-tail, All-append, All-weaker}
 use Rattle.std.proofs.lemmas.List.Sums.{AllPass-from_list_all}
 use Rattle.psy_tree.specs.declared.unit.VarDecl.{VarDecl}
-use Rattle.psy_tree.proofs.Lists.{slice_get_mapped}
+use Rattle.psy_tree.proofs.lemmas.Lists.{slice_get_mapped}
 use Rattle.psy_history.specs.Compiled.{AreInputs}
 use Rattle.psy_meaning.specs.Alike.{AllFit}
 use Rattle.psy_tree.specs.declared.unit.Unit.{Unit as Whole}

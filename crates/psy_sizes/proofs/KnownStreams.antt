@@ -13,7 +13,7 @@ use Rattle.psy_tree.specs.declared.unit.Unit.{Unit as Whole}
 use Rattle.psy_meaning.specs.QueueSizes.{joined, sendings_step, sendings_of, sendings_in, sendings_to}
 use Rattle.psy_meaning.specs.Sound.{Scope, Each, AreSound, IsSoundStmt, IsSoundUnit, agent_scope, sound_stmt_step}
 use Rattle.psy_meaning.specs.Ways.{Sending}
-use Rattle.psy_meaning.proofs.SoundParts.{stmts_natural}
+use Rattle.psy_meaning.proofs.lemmas.SoundParts.{stmts_natural}
 
 module _ (scope : Scope) where
   -- All of them are to streams that can be named.

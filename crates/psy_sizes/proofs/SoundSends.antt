@@ -12,8 +12,8 @@ use Rattle.psy_tree.specs.declared.unit.Unit.{Unit as Whole}
 use Rattle.psy_meaning.specs.QueueSizes.{sendings_in, sendings_of, sendings_step, sendings_to}
 use Rattle.psy_meaning.specs.Sound.{Scope, Each, IsSoundStmt, IsSoundUnit, agent_scope, sound_stmt_step}
 use Rattle.psy_meaning.specs.Ways.{Sending}
-use Rattle.psy_meaning.proofs.Eaches.{each-append}
-use Rattle.psy_meaning.proofs.SoundParts.{stmts_natural}
+use Rattle.psy_meaning.proofs.lemmas.Eaches.{each-append}
+use Rattle.psy_meaning.proofs.lemmas.SoundParts.{stmts_natural}
 
 each_at : {X : Type 0} (P : X → Type 0) (xs : List X) (x : X) → Each P xs → Contains xs x → P x
 each_at P [] x h (k, less, is) = absurd (omega (arith, less))

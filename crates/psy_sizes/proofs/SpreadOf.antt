@@ -17,7 +17,7 @@ use Rattle.psy_base.specs.Extremes.{greater, greatest_of}
 use Rattle.psy_meaning.specs.Ways.{Sending}
 use Rattle.psy_graph.specs.declared.graph.Graph.{Graph}
 use Rattle.psy_graph.specs.Graphs.{IsGraphOf, spot_of}
-use Rattle.psy_graph.proofs.Unique.{drawn_spots}
+use Rattle.psy_graph.proofs.lemmas.Unique.{drawn_spots}
 use Rattle.psy_sizes.specs.Queues.{IsTop, PassesTableOf}
 use Rattle.psy_sizes.proofs.Actions.{agent_is}
 use Rattle.psy_sizes.proofs.Tables.{some_node}

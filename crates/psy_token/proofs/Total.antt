@@ -5,7 +5,7 @@ use Rattle.psy_tree.specs.declared.token.Token.{Token}
 use Rattle.psy_tree.specs.Tokens.{Piece, Separator, Lexeme, bytes_of, text_of, IsPiece, Splits, tokens_from, TokensOf}
 use Rattle.psy_tree.specs.declared.faults.LexKind.{LexKind}
 use Rattle.psy_tree.specs.Faults.{IsAtFault, FirstFault}
-use Rattle.psy_tree.proofs.TokenCounts.{kind_bytes}
+use Rattle.psy_tree.proofs.lemmas.TokenCounts.{kind_bytes}
 use Rattle.psy_token.specs.Reading.{Front, End, Whole, Faulty, front_of}
 use Rattle.psy_token.proofs.Sound.{Has, front_has}
 

@@ -1,3 +1,3 @@
 -- The lemmas of this crate, by subject.
-pub mod AskedLemmas
-pub mod TopLemmas
+mod AskedLemmas
+mod TopLemmas

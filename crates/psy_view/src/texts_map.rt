@@ -59,7 +59,7 @@ impl Texts for TextsMap {
 
     ghost faults = { λ s. s.faults };
 
-    #[tactic(auto, using(psy_door::proofs::FilesLemmas::get_files_of))]
+    #[tactic(auto, using(psy_door::proofs::lemmas::FilesLemmas::get_files_of))]
     fn read(&mut self, alloc: Global, name: &str, most: usize) -> Result<Vec<u8>, FetchFault>
         ensures same_files { self.new.files ≡ self.old.files }
         ensures counted { self.old.faults ≤ self.new.faults }

@@ -4,7 +4,7 @@ use Rattle.std.specs.Prelude.{map}
 use Rattle.std.proofs.lemmas.List.{get_or-map, length-map}
 use Rattle.psy_meaning.specs.Timing.{end_date}
 use Rattle.psy_dates.specs.Moves.{timing_in}
-use Rattle.psy_meaning.proofs.Leasts.{least_is, least_one, least_more}
+use Rattle.psy_meaning.proofs.lemmas.Leasts.{least_is, least_one, least_more}
 use Rattle.psy_dates.proofs.due.earliest.Goals as goal
 
 pub points-preserved : goal.points-preserved

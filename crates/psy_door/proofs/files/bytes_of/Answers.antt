@@ -1,6 +1,6 @@
 -- What is left of the proof of `files::bytes_of`.
 use Rattle.std.proofs.Common.{ap, option_map}
-use Rattle.psy_door.proofs.FilesLemmas.{named_map}
+use Rattle.psy_door.proofs.lemmas.FilesLemmas.{named_map}
 use Rattle.psy_door.proofs.files.bytes_of.Goals as goal
 
 pub returns-in-None : goal.returns-in-None

@@ -1,6 +1,6 @@
 -- What is left of the proof of `edges::least_of`.
 use Rattle.std.proofs.Common.{arith}
-use Rattle.psy_meaning.proofs.Leasts.{least_is, least_one, least_more}
+use Rattle.psy_meaning.proofs.lemmas.Leasts.{least_is, least_one, least_more}
 use Rattle.psy_graph.proofs.edges.least_of.Goals as goal
 
 pub numbers-preserved : goal.numbers-preserved

@@ -7,7 +7,7 @@ use Rattle.psy_graph.specs.Graphs.{IsTimed}
 use Rattle.psy_graph.proofs.EdgesKept.{edges_kept}
 use Rattle.psy_graph.proofs.NearGraphs.{graph_near}
 use Rattle.psy_graph.proofs.Timed.{timed}
-use Rattle.psy_graph.proofs.Unique.{drawn_spots, drawn_edges, same_timing}
+use Rattle.psy_graph.proofs.lemmas.Unique.{drawn_spots, drawn_edges, same_timing}
 use Rattle.psy_graph.proofs.laws.one_graph.Goals as goal
 
 pub returns-clause-same : goal.returns-clause-same

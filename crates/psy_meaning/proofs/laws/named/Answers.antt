@@ -1,7 +1,7 @@
 -- What is left of the proof of `laws::named`.
 use Rattle.std.proofs.Common.{◌≡◌, ℕ, [], ◌∷◌, ◌++◌, map, length, arith}
 use Rattle.std.proofs.lemmas.List.{length-map}
-use Rattle.psy_tree.proofs.Among.{among}
+use Rattle.psy_tree.proofs.lemmas.Among.{among}
 use Rattle.psy_tree.specs.declared.unit.AgentDecl.{AgentDecl}
 use Rattle.psy_tree.specs.declared.unit.Unit.{Unit as Whole}
 use Rattle.psy_code.specs.Views.{Looked}
@@ -10,7 +10,7 @@ use Rattle.psy_meaning.specs.Sound.{Scope, Each, HasPast, CanSend, agent_scope, 
 use Rattle.psy_meaning.specs.Statements.{Piece}
 use Rattle.psy_meaning.specs.Ways.{Meter, Sending, To, unmetered, callee_ways, IsWay}
 use Rattle.std.specs.Prelude.{Some, slice_get, ◌==◌}
-use Rattle.psy_meaning.proofs.Eaches.{each-append, each-look}
+use Rattle.psy_meaning.proofs.lemmas.Eaches.{each-append, each-look}
 use Rattle.psy_meaning.proofs.SoundWays.{callees_keep, keeps_rest}
 use Rattle.psy_meaning.proofs.laws.named.Goals as goal
 

@@ -1,6 +1,6 @@
 -- What is left of the proof of `laws::of_text`.
 use Rattle.std.proofs.Common.{arith}
-use Rattle.psy_tree.proofs.TokenCounts.{length-TokensOf}
+use Rattle.psy_tree.proofs.lemmas.TokenCounts.{length-TokensOf}
 use Rattle.psy_meaning.proofs.Bare.{bare_unit}
 use Rattle.psy_meaning.proofs.Sizes.{size_of_unit}
 use Rattle.psy_meaning.proofs.TextNames.{names_of_text}

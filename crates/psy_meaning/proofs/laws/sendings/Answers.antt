@@ -1,10 +1,10 @@
 -- What is left of the proof of `laws::sendings`.
 use Rattle.std.specs.List.{Contains}
-use Rattle.psy_tree.proofs.Among.{among, contains}
+use Rattle.psy_tree.proofs.lemmas.Among.{among, contains}
 use Rattle.psy_meaning.specs.QueueSizes.{sendings_in}
 use Rattle.psy_meaning.specs.Sound.{Each}
 use Rattle.psy_meaning.specs.Ways.{Sending, To, unmetered, callee_ways}
-use Rattle.psy_meaning.proofs.Eaches.{each-among, each-look}
+use Rattle.psy_meaning.proofs.lemmas.Eaches.{each-among, each-look}
 use Rattle.psy_meaning.proofs.NoSends.{callees_keep}
 use Rattle.psy_meaning.proofs.SendWays.{keeps_rest}
 use Rattle.psy_meaning.proofs.laws.sendings.Goals as goal

@@ -7,7 +7,7 @@ use Rattle.psy_tree.specs.Places.{item_places}
 use Rattle.psy_tree.specs.Rules.{sound}
 use Rattle.psy_rules.specs.Tables.{is_inner}
 use Rattle.psy_rules.specs.Judged.{judged_sited}
-use Rattle.psy_tree.proofs.Clocks.{clocks_more, lawful_more, no_clocks}
+use Rattle.psy_tree.proofs.lemmas.Clocks.{clocks_more, lawful_more, no_clocks}
 use Rattle.psy_rules.proofs.Program.{least_more, least_all}
 use Rattle.psy_rules.proofs.LeastFaults.{best_of}
 use Rattle.psy_rules.proofs.Twice.{clock_same}

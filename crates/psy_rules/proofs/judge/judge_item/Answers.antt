@@ -6,7 +6,7 @@ use Rattle.psy_rules.specs.Sites.{site_of}
 use Rattle.psy_rules.specs.Heads.{after_name}
 use Rattle.psy_rules.specs.Tables.{slot_names}
 use Rattle.psy_rules.specs.Judged.{judged, judged_all}
-use Rattle.psy_tree.proofs.Faultless.{head_at}
+use Rattle.psy_tree.proofs.lemmas.Faultless.{head_at}
 use Rattle.psy_rules.proofs.Items.{item_judged, own_table, inner_next}
 use Rattle.psy_rules.proofs.judge.judge_item.Goals as goal
 

@@ -5,7 +5,7 @@ use Rattle.psy_tree.specs.Scope.{item_entries}
 use Rattle.psy_rules.specs.Tables.{StandsFor}
 use Rattle.psy_rules.specs.Numbering.{AreNumbers}
 use Rattle.psy_rules.specs.Lowered.{KeepLimits}
-use Rattle.psy_tree.proofs.Limits.{names_of}
+use Rattle.psy_tree.proofs.lemmas.Limits.{names_of}
 use Rattle.psy_rules.proofs.Room.{room_of}
 use Rattle.psy_rules.proofs.resolution.program.Goals as goal
 

@@ -4,7 +4,7 @@ use Rattle.std.proofs.lemmas.List.{length-map}
 use Rattle.psy_tree.specs.Places.{expr_places}
 use Rattle.psy_rules.specs.Sites.{site_of}
 use Rattle.psy_rules.proofs.Judging.{judged_more, judged_all_append}
-use Rattle.psy_tree.proofs.PlacesOf.{places_binary, places_call}
+use Rattle.psy_tree.proofs.lemmas.PlacesOf.{places_binary, places_call}
 use Rattle.psy_rules.proofs.walk.+expr.Goals as goal
 
 pub walk_exprs-loop-expr-preserved : goal.walk_exprs-loop-expr-preserved

@@ -4,8 +4,8 @@ use Rattle.std.specs.Prelude.{nat_lt}
 use Rattle.psy_tree.specs.Places.{stmt_places}
 use Rattle.psy_rules.specs.Sites.{site_of}
 use Rattle.psy_rules.proofs.Judging.{judged_more, quiet_more, advances_more, judged_all_append}
-use Rattle.psy_tree.proofs.Advances.{positive_sum}
-use Rattle.psy_tree.proofs.PlacesOf.{places_set, places_set_cell, places_send, places_return, places_if, places_if_else, places_while}
+use Rattle.psy_tree.proofs.lemmas.Advances.{positive_sum}
+use Rattle.psy_tree.proofs.lemmas.PlacesOf.{places_set, places_set_cell, places_send, places_return, places_if, places_if_else, places_while}
 use Rattle.psy_rules.proofs.walk.+stmt.Goals as goal
 
 pub walk_stmts-loop-stmt-preserved : goal.walk_stmts-loop-stmt-preserved

@@ -4,7 +4,7 @@ use Rattle.std.specs.Prelude.{Ok}
 use Rattle.std.proofs.lemmas.List.{take_rest}
 use Rattle.std.proofs.lemmas.Result.{err_from_is_err_and, IfOk-from_err}
 use Rattle.psy_tree.specs.Tokens.{TokensOf}
-use Rattle.psy_tree.proofs.TokenCounts.{length-TokensOf}
+use Rattle.psy_tree.proofs.lemmas.TokenCounts.{length-TokensOf}
 use Rattle.psy_token.specs.Reading.{Whole, FaultGives, front_of, piece_by}
 use Rattle.psy_token.proofs.Texts.{State, State-more, State-end, IsFirstFault-met, gives_tokens, gives_fault}
 use Rattle.psy_token.proofs.pass.lex.Goals as goal

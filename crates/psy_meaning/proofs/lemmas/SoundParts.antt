@@ -8,7 +8,7 @@ use Rattle.psy_tree.specs.declared.unit.Stmt.{Stmt, roll-Stmt, map-Stmt, rec-rol
 use Rattle.psy_tree.specs.declared.unit.Stmt.TheOpen.{Stmt-F}
 use Rattle.psy_meaning.specs.Paths.{holds_advance, quiet_list}
 use Rattle.psy_meaning.specs.Sound.{Scope, HasFunction, Each, sound_expr_step, sound_stmt_step, IsSoundExpr, IsSoundStmt}
-use Rattle.psy_meaning.proofs.Eaches.{each-map}
+use Rattle.psy_meaning.proofs.lemmas.Eaches.{each-map}
 
 pub exprs_natural : (sc : Scope) (X : Type 0) (v : X → Expr) (f : Expr → Type 0) (x : Expr-F X) → sound_expr_step sc X v (λ p. f (v p)) x ≡ sound_expr_step sc Expr (λ y. y) f (map-Expr X Expr v x)
 exprs_natural sc X v f (Expr-F.Number number) = refl

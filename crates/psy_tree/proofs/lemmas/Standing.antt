@@ -15,7 +15,7 @@ use Rattle.psy_tree.specs.Scope.{stands_globally}
 use Rattle.psy_tree.specs.Places.{Uses}
 use Rattle.psy_tree.specs.Rules.{is_agent, is_stream, is_temporal, has_params, other_agent}
 use Rattle.psy_tree.specs.Stands.{inside_of, counting, number_of_item, global_number}
-use Rattle.psy_tree.proofs.Faultless.{Fine, head_at, stands, asks_agent, head_stands}
+use Rattle.psy_tree.proofs.lemmas.Faultless.{Fine, head_at, stands, asks_agent, head_stands}
 
 -- ---- declarations of a kind
 

@@ -1,6 +1,6 @@
 -- What holds of each in a list.
 use Rattle.std.proofs.Common.{◌≡◌, List, [], ◌∷◌, ◌++◌, map, refl, sym, ap, subst, inl, inr}
-use Rattle.psy_tree.proofs.Among.{Among}
+use Rattle.psy_tree.proofs.lemmas.Among.{Among}
 use Rattle.psy_meaning.specs.Sound.{Each}
 
 pub each-append : {X : Type 0} (P : X → Type 0) (xs ys : List X) → Each P xs → Each P ys → Each P (xs ++ ys)

@@ -16,7 +16,7 @@ use Rattle.psy_meaning.specs.Timing.{Timing, timing_of, deadline, budget_at, May
 use Rattle.psy_graph.specs.declared.graph.Graph.{Graph}
 use Rattle.psy_graph.specs.declared.graph.Node.{Node}
 use Rattle.psy_graph.specs.Graphs.{spot_of, IsGraphOf, IsSmall, IsTimingOf, HasGraph}
-use Rattle.psy_graph.proofs.Ordered.{same_elements, fewer}
+use Rattle.psy_graph.proofs.lemmas.Ordered.{same_elements, fewer}
 
 -- ---- the orders never hold both ways
 

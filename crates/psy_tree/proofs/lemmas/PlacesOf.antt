@@ -14,7 +14,7 @@ use Rattle.psy_tree.specs.declared.raw.RawStmt.TheVariants as stmt
 use Rattle.psy_tree.specs.declared.reach.Asks.TheVariants as asks
 use Rattle.psy_tree.specs.Places.{Place, Uses, Acts, Returns, Loops, Ranges, expr_places, expr_places_step, stmt_places, stmt_places_step, stmts_places, most_places, budget_places, joined}
 use Rattle.psy_tree.specs.Paths.{quiet_list, advances_list}
-use Rattle.psy_tree.proofs.Lists.{map_firsts, map_seconds}
+use Rattle.psy_tree.proofs.lemmas.Lists.{map_firsts, map_seconds}
 
 pub places_binary : (op : Op2) (l : RawExpr) (r : RawExpr) → expr_places (expr.Binary op l r) ≡ expr_places l ++ expr_places r
 places_binary op l r = ap expr_places (sym (expr.rolls-Binary op l r)) ∙ fold-roll-RawExpr (List Place) expr_places_step (RawExpr-F.Binary op l r)

@@ -22,10 +22,10 @@ use Rattle.psy_tree.specs.Places.{Derives, Uses}
 use Rattle.std.specs.Option.{is_none}
 use Rattle.psy_tree.specs.Rules.{NoFault, is_clock, shift_of, lawful, flat, sound_found, sound_parent, sound, sound_clocks, AreClocks, too_slow, clock_at_fault, below}
 use Rattle.psy_tree.specs.Stands.{unit_of, counting}
-use Rattle.psy_tree.proofs.Clocks.{clocks_more, lawful_more, no_clocks}
-use Rattle.psy_tree.proofs.Faultless.{Fine, head_at, head_stands, fine_head, stands, asks_parent}
-use Rattle.psy_tree.proofs.Lists.{slice_get-take, upto}
-use Rattle.psy_tree.proofs.Numbers.{counting-cons}
+use Rattle.psy_tree.proofs.lemmas.Clocks.{clocks_more, lawful_more, no_clocks}
+use Rattle.psy_tree.proofs.lemmas.Faultless.{Fine, head_at, head_stands, fine_head, stands, asks_parent}
+use Rattle.psy_tree.proofs.lemmas.Lists.{slice_get-take, upto}
+use Rattle.psy_tree.proofs.lemmas.Numbers.{counting-cons}
 
 -- ---- a derived clock
 

@@ -6,7 +6,7 @@ use Rattle.psy_tree.specs.declared.unit.Stmt.TheOpen.{Stmt-F}
 use Rattle.psy_meaning.specs.Rest.{Rests, Part, each_then, pieces_of, stmts_in, rests_in, rests_step, rests_of, with_rests, rest}
 use Rattle.psy_meaning.specs.Sound.{Each}
 use Rattle.psy_meaning.specs.Statements.{Piece, Do, Hop}
-use Rattle.psy_meaning.proofs.Eaches.{each-append}
+use Rattle.psy_meaning.proofs.lemmas.Eaches.{each-append}
 
 -- The statements of which one consists have it.
 abbrev pub PartsHave : (Stmt → Type 0) → Stmt-F Stmt → Type 0

@@ -18,9 +18,9 @@ use Rattle.psy_tree.specs.Places.{Place, Uses, Ranges, Sited, token_of, head_pla
 use Rattle.std.specs.Option.{is_none}
 use Rattle.psy_tree.specs.Rules.{NoFault, is_fault, is_parent, below, suits_by, unsuited, is_clock, is_agent, is_stream}
 use Rattle.psy_tree.specs.Stands.{counting, number_of_item, global_number, number_at, inside_of}
-use Rattle.psy_tree.proofs.Among.{Among, contains, among_left, among_right}
-use Rattle.psy_tree.proofs.Entries.{entries_split}
-use Rattle.psy_tree.proofs.Numbers.{counting-cons}
+use Rattle.psy_tree.proofs.lemmas.Among.{Among, contains, among_left, among_right}
+use Rattle.psy_tree.proofs.lemmas.Entries.{entries_split}
+use Rattle.psy_tree.proofs.lemmas.Numbers.{counting-cons}
 
 -- ---- places of a program
 

@@ -8,7 +8,7 @@ use Rattle.psy_meaning.specs.Statements.{Piece}
 use Rattle.psy_meaning.specs.Paths.{one_of, holds_step, holds, all_quiet, quiet_step, quiet, quiet_list}
 use Rattle.psy_meaning.specs.Ways.{Meter, Way, Course, End, Fell, Back, To, here, one, both, sending, falling, returning, reaching, behind, and_on, or_else, courses_through, turning, course_step, course_by, expr_way, piece_course}
 use Rattle.psy_meaning.specs.Rest.{pieces_of}
-use Rattle.psy_meaning.proofs.Layers.{natural_stmt}
+use Rattle.psy_meaning.proofs.lemmas.Layers.{natural_stmt}
 
 abbrev pub NoWay : End → Course → Type 0
 NoWay end course = (m n : Meter) → course end m n → ⊥

@@ -13,9 +13,9 @@ use Rattle.psy_tree.specs.Scope.{Site}
 use Rattle.psy_tree.specs.Places.{Place, Uses, Ranges, expr_places, most_places, budget_places, joined, stmt_places, stmt_places_step, stmts_places}
 use Rattle.psy_tree.specs.Rules.{is_clock}
 use Rattle.psy_tree.specs.Stands.{Numbering, number_at, budget_of, stmt_step, stmt_of, stmts_of}
-use Rattle.psy_tree.proofs.Among.{among_left, among_right}
-use Rattle.psy_tree.proofs.Faultless.{Fine, AllFine}
-use Rattle.psy_tree.proofs.Lists.{map_seconds}
+use Rattle.psy_tree.proofs.lemmas.Among.{among_left, among_right}
+use Rattle.psy_tree.proofs.lemmas.Faultless.{Fine, AllFine}
+use Rattle.psy_tree.proofs.lemmas.Lists.{map_seconds}
 
 left : (site : Site) (ps qs : List Place) → AllFine site (ps ++ qs) → AllFine site ps
 left site ps qs h p there = h p (among_left p ps qs there)

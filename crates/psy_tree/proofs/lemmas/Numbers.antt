@@ -14,7 +14,7 @@ use Rattle.psy_tree.specs.declared.unit.FunctionDecl.{FunctionDecl}
 use Rattle.psy_tree.specs.declared.unit.AgentDecl.{AgentDecl}
 use Rattle.psy_tree.specs.Rules.{is_clock, is_agent, is_function, is_stream}
 use Rattle.psy_tree.specs.Stands.{unit_of, counting, is_variable, clock_names, variables, streams, functions, agents, each_from}
-use Rattle.psy_tree.proofs.Lists.{slice_get-behind}
+use Rattle.psy_tree.proofs.lemmas.Lists.{slice_get-behind}
 
 -- One thing where the test holds of an item, and else none.
 abbrev pub Gives : {A : Type 0} → (Option Item → Bool) → (ℕ → Item → List A) → Type 0

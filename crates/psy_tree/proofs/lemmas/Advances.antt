@@ -17,9 +17,9 @@ use Rattle.psy_tree.specs.Scope.{slots_of}
 use Rattle.psy_tree.specs.Places.{Place, Acts, Loops, expr_places, most_places, stmt_places, stmts_places, slot_places, cells_places, inside_places}
 use Rattle.psy_tree.specs.Paths.{advances, advances_step, advances_list, quiet_list}
 use Rattle.psy_tree.specs.Rules.{NoFault, is_function}
-use Rattle.psy_tree.proofs.Among.{Among, among_right}
-use Rattle.psy_tree.proofs.Faultless.{fine_inside}
-use Rattle.psy_tree.proofs.PlacesOf.{places_if, places_if_else, places_while, places_advance}
+use Rattle.psy_tree.proofs.lemmas.Among.{Among, among_right}
+use Rattle.psy_tree.proofs.lemmas.Faultless.{fine_inside}
+use Rattle.psy_tree.proofs.lemmas.PlacesOf.{places_if, places_if_else, places_while, places_advance}
 
 abbrev pub is_act : Place → Bool
 is_act (Acts token) = true

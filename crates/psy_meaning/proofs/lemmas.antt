@@ -1,0 +1,9 @@
+-- Lemmas that crates above may cite, by subject.
+pub mod Demands
+pub mod Eaches
+pub mod Layers
+pub mod Leasts
+pub mod NoWays
+pub mod RestPieces
+pub mod RestsOf
+pub mod SoundParts
