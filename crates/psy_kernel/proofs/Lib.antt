@@ -26,6 +26,7 @@ mod ToldPlaces
 mod ToldStreams
 mod Verdicts
 pub mod Booted
+pub mod Bursts
 pub mod CyclesDone
 pub mod CyclesGiven
 pub mod Dated
@@ -34,7 +35,9 @@ pub mod GetsCycle
 pub mod KeptCopies
 pub mod Kernels
 pub mod LooksBack
+pub mod ManyCycles
 pub mod OneAgent
+pub mod OnTheWay
 pub mod OneBox
 pub mod OrdersInForce
 pub mod OtherAgents
