@@ -44,7 +44,9 @@ pub mod OtherAgents
 pub mod Parts
 pub mod PickIsSoonest
 pub mod Placed
+pub mod Scenes
 pub mod Sets
 pub mod Stages
 pub mod Started
+pub mod Stretched
 pub mod Supplied

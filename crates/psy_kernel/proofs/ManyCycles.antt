@@ -105,7 +105,7 @@ module _ (s : System) (code : Code) (turns : List (Option Turn)) (until date cyc
 
   module _ (charge : Charged) (machine : AgentMachine) (waits : Option ℕ) (figure : Figure) (seat : Seat) (ended : List ℤ) (old : OneStands s code turns until date agent (r ∷ before) charge machine waits figure seat ended) where
     -- what it has behind so many of its cycles
-    pub Stood : ℕ → Type 0
+    abbrev pub Stood : ℕ → Type 0
     Stood k = (c : Charged) × (m : AgentMachine) × IsOf code m × OneStands s code (turned k) until date agent (r ∷ before) c m waits figure seat ended
 
     pub stood : (k : ℕ) → k < most → had + k < work r → Stood k
@@ -121,7 +121,7 @@ module _ (s : System) (code : Code) (turns : List (Option Turn)) (until date cyc
           m,
           b.2,
           goes_on s code (turned k) until date (cycle + k) agent r before (gets_at k (omega (arith, few)) (omega (arith, less))) b.0 b.1 waits figure seat ended b.3 (charge_after s r (suc u)) m b.2
-          (record { charged = refl; agent = own; gone = (more, t.0, t.1, refl) }),
+          (record { charged = refl; agent = own; gone = (more, (t.0, t.1, refl)) }),
         )
 
     -- ---- the last one

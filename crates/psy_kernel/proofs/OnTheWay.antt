@@ -39,10 +39,10 @@ granted c t e other = by (c.consumed == c.budget) refl
     by false is = is
     by true is = absurd (other (sym (cond-true (c.consumed == c.budget) tick.Spent _ is) ∙ e))
 
-stalled_isnt : tick.Spent ≡ tick.Stalled → ⊥
+pub stalled_isnt : tick.Spent ≡ tick.Stalled → ⊥
 stalled_isnt e = cc
 
-paid_isnt : tick.Spent ≡ tick.Paid → ⊥
+pub paid_isnt : tick.Spent ≡ tick.Paid → ⊥
 paid_isnt e = cc
 
 -- Where the budget isn't spent a cycle goes to a stall or pays an instruction
