@@ -58,10 +58,11 @@ module _ (Holds : System → Action → ℕ → Type 0) (plan : Plan) (start dat
     reached = λ inputs stalls r had m reach are variable at. at ∙ ap (λ u. Some (reach u variable)) (omega arith);
   }
 
-  -- the look that was noted is forgotten
-  pub still_kept : (n : ℕ) (machine : AgentMachine) (now : Eyes) (reaches' : List (Option ℕ)) → AreKept Holds plan start date most first before reaches n machine now reaches'
+-- The look that was noted is forgotten
+module _ {Holds : System → Action → ℕ → Type 0} {plan : Plan} {start date most : ℕ} {first : AgentMachine} {before : Eyes} {reaches : List (Option ℕ)} {n : ℕ} {machine : AgentMachine} {now : Eyes} {reaches' : List (Option ℕ)} where
+  pub still_kept : AreKept Holds plan start date most first before reaches n machine now reaches'
       → AreKept Holds plan start date most first before reaches n machine (record now { noted = None }) reaches'
-  still_kept n machine now reaches' k = record {
+  still_kept k = record {
     of = k.of;
     reaching = k.reaching;
     same_taken = k.same_taken;
@@ -80,8 +81,8 @@ module _ (Holds : System → Action → ℕ → Type 0) (plan : Plan) (start dat
 abbrev pub Pays : ℕ → System → Action → ℕ → Type 0
 Pays most s r had = AllPay s r had (had + most)
 
-module _ (plan : Plan) (start date most : ℕ) (first : AgentMachine) (before : Eyes) (reaches : List (Option ℕ)) where
-  module _ (n : ℕ) (few : n < most) (machine : AgentMachine) (now : Eyes) (fresh : now.noted ≡ None) (reaches' : List (Option ℕ)) (kept : AreKept (Pays most) plan start date most first before reaches n machine now reaches') where
+module _ {plan : Plan} {start date most : ℕ} {first : AgentMachine} {before : Eyes} {reaches : List (Option ℕ)} where
+  module _ {n : ℕ} {machine : AgentMachine} {now : Eyes} {reaches' : List (Option ℕ)} (kept : AreKept (Pays most) plan start date most first before reaches n machine now reaches') (few : n < most) (fresh : now.noted ≡ None) where
     module _ (inputs : List (List ℤ)) (stalls : ℕ → List Stall) (r : Action) (had : ℕ) (m : IsMeant (Pays most) plan start date most first before inputs stalls r had) where
       abbrev s : System
       s = system_of plan inputs stalls

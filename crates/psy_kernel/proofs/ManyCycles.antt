@@ -1,6 +1,6 @@
 -- What the agent has whose action gets many cycles in a row, and what it did.
-use Rattle.std.proofs.Common.{◌≡◌, ℕ, zero, suc, ◌+◌, ◌-◌, ◌*◌, ◌<◌, ◌≤◌, Bool, true, false, List, ◌∷◌, length, Option, Some, None, slice_get, ℤ, refl, sym, ap, ◌∙◌, subst, arith, add-one}
-use Rattle.std.specs.Prelude.{if◌then◌else◌, nat_lt}
+use Rattle.std.proofs.Common.{◌≡◌, ℕ, zero, suc, ◌+◌, ◌-◌, ◌*◌, ◌<◌, ◌≤◌, Bool, true, false, List, [], ◌∷◌, length, get_or, Option, Some, None, slice_get, ℤ, refl, sym, ap, ◌∙◌, subst, arith, add-one}
+use Rattle.std.specs.Prelude.{IsSome, if◌then◌else◌, nat_lt}
 use Rattle.std.proofs.lemmas.Bool.{cond-true, lt-ltb, le-ltb, ltb-true}
 use Rattle.std.proofs.lemmas.Nat.{mul-le}
 use Rattle.psy_arith.specs.declared.operators.Trap.{Trap}
@@ -23,7 +23,7 @@ use Rattle.psy_history.specs.Regular.{begun_by}
 use Rattle.psy_history.specs.Schedule.{Turn, is_of, is_pending, turn_of, units, work}
 use Rattle.psy_history.specs.Summary.{reach}
 use Rattle.psy_meaning.specs.QueueSizes.{HasSendsTo}
-use Rattle.psy_meaning.specs.Timing.{end_date}
+use Rattle.psy_meaning.specs.Timing.{end_date, timing_of}
 use Rattle.psy_queue.specs.Order.{Queued}
 use Rattle.psy_tree.specs.Parts.{agent_at}
 use Rattle.psy_tree.specs.declared.unit.VarDecl.{VarDecl}
@@ -31,11 +31,11 @@ use Rattle.psy_kernel.specs.declared.kernel.Figure.{Figure}
 use Rattle.psy_kernel.specs.declared.kernel.advance.Gone.{Gone}
 use Rattle.psy_kernel.specs.declared.kernel.advance.Gone.TheVariants as gone
 use Rattle.psy_kernel.specs.Acting.{AfterCycle, HasDoneBy, IsLookIn, IsOfCode}
-use Rattle.psy_kernel.specs.Cycles.{ActsIn, BoxStands, GetsCycle, IsNear, LooksBack, OneStands, figured, reach_by}
-use Rattle.psy_kernel.specs.Seeing.{sight_in}
+use Rattle.psy_kernel.specs.Cycles.{ActsIn, BoxStands, GetsCycle, IsNear, LooksBack, MayEnd, OneStands, figured, reach_by}
+use Rattle.psy_kernel.specs.Seeing.{Sight, sight_in}
 use Rattle.psy_kernel.specs.Standing.{HasDone, IsRunning, charge_after}
 use Rattle.psy_kernel.specs.Stretches.{AfterCycles, AreReaches, HasDoneIn, IsOnWay, MayGoOn, MayLast, given_to}
-use Rattle.psy_kernel.proofs.OneAgent.{early, goes_on, in_action, overruns, reaches, traps}
+use Rattle.psy_kernel.proofs.OneAgent.{count_few, early, goes_on, in_action, overruns, reaches, traps}
 use Rattle.psy_kernel.proofs.OneBox.{box_ended, box_going, box_spent, box_trapped}
 use Rattle.psy_kernel.proofs.OtherAgents.{is_own}
 use Rattle.psy_kernel.proofs.PaidCycles.{paid_few, up_from}
@@ -214,13 +214,10 @@ module _ (s : System) (code : Code) (turns : List (Option Turn)) (until date cyc
       pub many_on : AfterCycles s code r had n gone.Going charge' machine' → is_pending (turned n) r ≡ true
       many_on a = is_on r turns n (let h = a.gone.0 in omega (arith, h, some))
 
-      pub many_off : suc (had + n - 1) ≡ work r → is_pending (turned n) r ≡ false
-      many_off h = is_over r turns n (omega (arith, h, some))
-
 -- ---- what is given of all of them
 
-module _ (plan : Plan) (inputs : List (List ℤ)) (stalls : ℕ → List Stall) (turns : List (Option Turn)) (date cycle agent most : ℕ) (r : Action) (before : List Action) (charge : Charged) (machine : AgentMachine) (waits : Option ℕ) (figure : Figure) (seat : Seat)
-    (ended : List ℤ) (rings : List (List ℤ)) (queues : List Queued) (taken : List ℕ) (outbox : Outboxed)
+module _ {plan : Plan} {inputs : List (List ℤ)} {stalls : ℕ → List Stall} {turns : List (Option Turn)} {date cycle agent most : ℕ} {r : Action} {before : List Action} {charge : Charged} {machine : AgentMachine} {waits : Option ℕ} {figure : Figure} {seat : Seat}
+    {ended : List ℤ} {rings : List (List ℤ)} {queues : List Queued} {taken : List ℕ} {outbox : Outboxed}
     (given : MayLast plan inputs stalls turns date cycle agent most r before charge machine waits figure seat ended rings queues taken outbox) where
   abbrev s : System
   s = system_of plan inputs stalls
@@ -283,3 +280,87 @@ module _ (plan : Plan) (inputs : List (List ℤ)) (stalls : ℕ → List Stall) 
 
   pub reaches_then : (n variable : ℕ) → reaches_by (begun + n) variable ≡ reach s (many r turns n) (history s (date + 1)) variable
   reaches_then n variable = let so : begun + n - begun ≡ n = omega arith in ap (λ n. reach s (many r turns n) (history s (date + 1)) variable) so
+
+  -- what the eyes see at first
+  pub may_see : (scene : Sight) → scene ≡ sight_in plan.unit rings queues agent seat.start date → MayGoOn s plan.code r begun (begun + most) seat.start date machine scene taken outbox
+  may_see scene is = subst (λ x. MayGoOn s plan.code r begun (begun + most) seat.start date machine x taken outbox) (sym is) may_go_on
+
+  pub charged_at : charge ≡ charge_after s r begun
+  charged_at = given.given.has.stands.charged
+
+  pub count_fits : figure.count ≤ plan.until
+  count_fits = count_few s plan.code turns plan.until date cycle agent r before given.given.gets figure given.given.has.stands.counted given.given.has.stands.slacked
+
+  -- behind them
+  module _ (inside : (date < plan.until) × (cycle + most ≤ (date + 1) * plan.unit.quantum)) (n : ℕ) (count : (1 ≤ n) × (n ≤ most)) where
+    pub early_enough : cycle + n ≤ r.deadline * plan.unit.quantum
+    early_enough =
+        let a = given.given.gets.later in
+        let m = mul-le (date + 1) plan.unit.quantum r.deadline plan.unit.quantum (omega (arith, a)) (omega arith) in
+        omega (arith, m, count, inside.1)
+
+    module _ (charge' : Charged) (machine' : AgentMachine) (is_of : IsOf plan.code machine') where
+      abbrev pub After : Gone → Type 0
+      After result = AfterCycles s plan.code r begun n result charge' machine'
+
+      abbrev pub Has : Option ℕ → Figure → Seat → List ℤ → Type 0
+      Has waits' figure' seat' ended' = OneStands s plan.code (many r turns n) plan.until date agent (r ∷ before) charge' machine' waits' figure' seat' ended'
+
+      pub going_has : After gone.Going → Has waits figure seat ended
+      going_has a = many_going s plan.code turns plan.until date cycle agent r before given.given.gets most inside.0 inside.1 charge machine waits figure seat ended given.given.has n count.0 count.1 charge' machine' is_of a
+
+      -- with the figure, the seat and the copies that it has then
+      module _ (figure' : Figure) (seat' : Seat) (ended' : List ℤ) (figure_is : figure' ≡ figured plan.until plan.unit.quantum seat'.deadline (cycle + n) figure) where
+        moves : (x : Seat) (y : List ℤ) → seat' ≡ x → x.deadline ≡ seat.deadline → ended' ≡ y → Has None (figured plan.until plan.unit.quantum r.deadline (cycle + n) figure) x y → Has None figure' seat' ended'
+        moves x y seat_is same copies has =
+            let due : r.deadline ≡ seat'.deadline = sym (ap (λ (z : Seat). z.deadline) seat_is ∙ same ∙ given.given.has.seated.deadline) in
+            subst (λ f. Has None f seat' ended') (ap (λ deadline. figured plan.until plan.unit.quantum deadline (cycle + n) figure) due ∙ sym figure_is)
+            (subst (λ z. Has None (figured plan.until plan.unit.quantum r.deadline (cycle + n) figure) z ended') (sym seat_is)
+            (subst (λ z. Has None (figured plan.until plan.unit.quantum r.deadline (cycle + n) figure) x z) (sym copies) has))
+
+        pub ended_has : (point end : ℕ) → end ≡ end_date (timing s agent) seat.start point → After (gone.Ended point) → seat' ≡ record seat { phase = phase.Ended; end = end; reached = point }
+            → ((variable : ℕ) (v : VarDecl) (value : ℤ) → slice_get plan.unit.variables variable ≡ Some v → v.owner ≡ Some agent → slice_get ended' variable ≡ Some value → copy_of variable machine'.machine.copies ≡ Some value)
+            → Has None figure' seat' ended'
+        ended_has point end end_is a seat_is own =
+            moves (record seat { phase = phase.Ended; end = end; reached = point }) ended' seat_is refl refl
+            (many_ended s plan.code turns plan.until date cycle agent r before given.given.gets most inside.0 inside.1 charge machine waits figure seat ended given.given.has n count.0 count.1 charge' machine' is_of point end ended'
+            (end_is ∙ ap (λ start. end_date (timing s agent) start point) given.given.has.seated.start) a own)
+
+        pub trapped_has : (kind : Trap) → After (gone.Trapped kind) → seat' ≡ record seat { phase = phase.Stopped; trap = Some kind } → ended' ≡ ended → Has None figure' seat' ended'
+        trapped_has kind a seat_is copies =
+            moves (record seat { phase = phase.Stopped; trap = Some kind }) ended seat_is refl copies
+            (many_trapped s plan.code turns plan.until date cycle agent r before given.given.gets most inside.0 inside.1 charge machine waits figure seat ended given.given.has n count.0 count.1 charge' machine' is_of kind a)
+
+        pub spent_has : After gone.Spent → seat' ≡ record seat { phase = phase.Stopped; trap = None } → ended' ≡ ended → Has None figure' seat' ended'
+        spent_has a seat_is copies =
+            moves (record seat { phase = phase.Stopped; trap = None }) ended seat_is refl copies
+            (many_spent s plan.code turns plan.until date cycle agent r before given.given.gets most inside.0 inside.1 charge machine waits figure seat ended given.given.has n count.0 count.1 charge' machine' is_of a)
+
+      -- where it reached a point
+      pub end_may : (point : ℕ) → After (gone.Ended point) → (nexts : List (List ℕ)) × MayEnd (timing_of plan.unit (agent_at plan.unit agent) nexts) seat.start point
+      end_may point a = (get_or plan.nexts agent [], subst (λ start. MayEnd (timing s agent) start point) (sym given.given.has.seated.start) (given.given.gets.ends point a.gone.1 a.gone.2).1)
+
+      pub copies_may : (point : ℕ) → After (gone.Ended point) → (variable : ℕ) (v : VarDecl) → slice_get plan.unit.variables variable ≡ Some v → v.owner ≡ Some agent → IsSome (copy_of variable machine'.machine.copies)
+      copies_may point a variable v at owned = a.gone.4 variable v at (owned ∙ ap Some (sym given.given.gets.agent_is))
+
+      pub boxed_then : (result : Gone) → After result → (sends : List Sent) (taken' : List ℕ) → HasDoneIn s plan.code r begun n sends taken' result → BoxStands s plan.code (many r turns n) date agent (r ∷ before) sends taken'
+      boxed_then result a sends taken' did =
+          many_boxed s plan.code turns plan.until date cycle agent r before given.given.gets most inside.0 inside.1 charge machine waits figure seat ended given.given.has n count.0 count.1 charge' machine' is_of sends taken' result a did
+
+      pub pending_then : (result : Gone) → After result → (k : ℕ) → k < n → is_pending (many r turns k) r ≡ true
+      pending_then result a = many_pending s plan.code turns plan.until date cycle agent r before given.given.gets most inside.0 inside.1 charge machine waits figure seat ended given.given.has n count.0 count.1 charge' machine' is_of result a
+
+      pub on_then : After gone.Going → is_pending (many r turns n) r ≡ true
+      on_then a = many_on s plan.code turns plan.until date cycle agent r before given.given.gets most inside.0 inside.1 charge machine waits figure seat ended given.given.has n count.0 count.1 charge' machine' is_of a
+
+      pub off_then : (result : Gone) → (result ≡ gone.Going → ⊥) → After result → is_pending (many r turns n) r ≡ false
+      off_then gone.Going other a = absurd (other refl)
+      off_then (gone.Ended point) other a = is_over r turns n (let h = a.gone.0 in omega (arith, h, count.0))
+      off_then (gone.Trapped kind) other a = is_over r turns n (let h = a.gone.0 in omega (arith, h, count.0))
+      off_then gone.Spent other a = is_over r turns n (let h = a.gone.0 in omega (arith, h, count.0))
+
+    -- the rings are reached for
+    pub reached_then : (reaches' reaches'' : List (Option ℕ)) → ((reach : ℕ → ℕ → Option ℕ) → AreReaches s plan.code r begun (begun + most) date reach → (variable : ℕ) → slice_get reaches' variable ≡ Some (reach begun variable)
+        → slice_get reaches'' variable ≡ Some (reach (begun + n) variable))
+        → (variable : ℕ) → slice_get reaches' variable ≡ Some (reach s turns (history s (date + 1)) variable) → slice_get reaches'' variable ≡ Some (reach s (many r turns n) (history s (date + 1)) variable)
+    reached_then reaches' reaches'' law variable at = law reaches_by are_reaches variable (at ∙ ap Some (sym (reaches_first variable))) ∙ ap Some (reaches_then n variable)

@@ -24,7 +24,7 @@ use Rattle.psy_kernel.specs.Seeing.{Sight, is_mine}
 use Rattle.psy_kernel.specs.Standing.{charge_after}
 use Rattle.psy_kernel.specs.Stretches.{AfterCycles, AllPay, AreReaches, HasDoneIn, IsOnWay, MayGoOn, gone_by, gone_on}
 use Rattle.psy_kernel.proofs.Bursts.{AreKept, IsMeant}
-use Rattle.psy_kernel.proofs.OnTheWay.{granted, not_over, on_behind, pays_or_stalls, stalled_isnt, unspent}
+use Rattle.psy_kernel.proofs.OnTheWay.{after_many, done_many, granted, not_over, on_behind, pays_or_stalls, stalled_isnt, unspent}
 use Rattle.psy_kernel.proofs.PaidCycles.{spent_is}
 
 -- Cycles in a row: those behind others are further ones; stalled ones pay no instruction
@@ -40,6 +40,23 @@ Begins charge s r had = (charge ≡ charge_after s r had) × (had < work r)
 abbrev pub ChargesOf : Plan → ℕ → ℕ → ℕ → AgentMachine → Eyes → Charged → ℕ → Charged → Type 0
 ChargesOf plan start date most first before charge0 n charge =
     (inputs : List (List ℤ)) (stalls : ℕ → List Stall) (r : Action) (had : ℕ) → IsMeant (Begins charge0) plan start date most first before inputs stalls r had → charge ≡ charge_after (system_of plan inputs stalls) r (had + n)
+
+-- Where a charge isn't spent, its next cycle goes to a stall or is free
+pub moves : (charge : Charged) (left skipped free : ℕ) → (charge.consumed == charge.budget) ≡ false → 0 < left → IsStretch charge tick.Stalled left skipped → IsStretch (ticked charge skipped) tick.Paid (left - skipped) free
+    → 0 < skipped + free
+moves charge left skipped free off some a b = by skipped refl
+  where
+    by : (k : ℕ) → skipped ≡ k → 0 < skipped + free
+    by (suc k) e = omega (arith, e)
+    by zero e =
+        let no_stall : tick_of charge ≡ tick.Stalled → ⊥ = λ stall. (
+            let one : 1 ≤ skipped = a.greatest 1 (omega (arith, some)) (λ k less. (let z : k ≡ 0 = omega (arith, less) in subst (λ k. tick_of (ticked charge k) ≡ tick.Stalled) (sym z) stall)) in
+            omega (arith, one, e)) in
+        let pays : tick_of charge ≡ tick.Paid = pays_or_stalls charge off no_stall in
+        let free_one : 1 ≤ free = b.greatest 1 (omega (arith, some, e)) (λ k less. (
+            let z : k ≡ 0 = omega (arith, less) in
+            subst (λ k. tick_of (ticked (ticked charge skipped) k) ≡ tick.Paid) (sym z) (subst (λ n. tick_of (ticked charge n) ≡ tick.Paid) (sym e) pays))) in
+        omega (arith, free_one)
 
 module _ (laws : AreLaws) (s : System) (r : Action) where
   -- a charge is further on by its cycles
@@ -78,7 +95,7 @@ module _ (laws : AreLaws) (s : System) (r : Action) where
         ap (λ v. reach v variable) so ∙ are (u + n) variable None (omega (arith, low)) (omega (arith, few)) less (none_looked (u + n) here)
         ∙ same_reach of_code had upto date reach are low n (omega (arith, few)) earlier variable
 
-module _ (laws : AreLaws) (plan : Plan) (start date most : ℕ) (first : AgentMachine) (before : Eyes) (reaches : List (Option ℕ)) (charge0 : Charged) where
+module _ (laws : AreLaws) {plan : Plan} {start date most : ℕ} {first : AgentMachine} {before : Eyes} {reaches : List (Option ℕ)} {charge0 : Charged} where
   abbrev pub Kept : ℕ → AgentMachine → Eyes → List (Option ℕ) → Type 0
   Kept n machine now reaches' = AreKept (Begins charge0) plan start date most first before reaches n machine now reaches'
 
@@ -94,7 +111,7 @@ module _ (laws : AreLaws) (plan : Plan) (start date most : ℕ) (first : AgentMa
   sum_of : (a b c : ℕ) → a + b + c ≡ a + (b + c)
   sum_of a b c = omega arith
 
-  module _ (n : ℕ) (few : n < most) (machine : AgentMachine) (now : Eyes) (reaches' : List (Option ℕ)) (kept : Kept n machine now reaches') (charge : Charged) (charged : Charges n charge) where
+  module _ {n : ℕ} {machine : AgentMachine} {now : Eyes} {reaches' : List (Option ℕ)} (kept : Kept n machine now reaches') (few : n < most) (charge : Charged) (charged : Charges n charge) where
     -- behind a stall
     module _ (skipped : ℕ) (count : IsStretch charge tick.Stalled (most - n) skipped) (charge' : Charged) (charge_is : charge' ≡ ticked charge skipped) where
       within : n + skipped ≤ most
@@ -127,7 +144,7 @@ module _ (laws : AreLaws) (plan : Plan) (start date most : ℕ) (first : AgentMa
 
   -- ---- the instructions behind it
 
-  module _ (n : ℕ) (machine : AgentMachine) (now : Eyes) (reaches' : List (Option ℕ)) (kept : Kept n machine now reaches') (charge : Charged) (charged : Charges n charge) (free : ℕ) (fits : n + free ≤ most) (all : AllGoTo charge tick.Paid free) where
+  module _ {n : ℕ} {machine : AgentMachine} {now : Eyes} {reaches' : List (Option ℕ)} (kept : Kept n machine now reaches') (charge : Charged) (charged : Charges n charge) (free : ℕ) (fits : n + free ≤ most) (all : AllGoTo charge tick.Paid free) where
     -- what is given of them
     pub part : (inputs : List (List ℤ)) (stalls : ℕ → List Stall) (r : Action) (had : ℕ) → Meant inputs stalls r had
         → MayGoOn (system_of plan inputs stalls) plan.code r (had + n) (had + n + free) start date machine now.scene.now now.taken.now.items now.outbox.now
@@ -155,7 +172,7 @@ module _ (laws : AreLaws) (plan : Plan) (start date most : ℕ) (first : AgentMa
 
       module _ (machine' : AgentMachine) (after : Eyes) (reaches'' : List (Option ℕ)) where
         -- the rings are reached for
-        pub IsReached : Type 0
+        abbrev pub IsReached : Type 0
         IsReached = (inputs : List (List ℤ)) (stalls : ℕ → List Stall) (r : Action) (had : ℕ)
             → MayGoOn (system_of plan inputs stalls) plan.code r had (had + free) start date machine now.scene.now now.taken.now.items now.outbox.now → AllPay (system_of plan inputs stalls) r had (had + free)
             → (reach : ℕ → ℕ → Option ℕ) → AreReaches (system_of plan inputs stalls) plan.code r had (had + free) date reach
@@ -196,39 +213,36 @@ module _ (laws : AreLaws) (plan : Plan) (start date most : ℕ) (first : AgentMa
           }
 
         -- where it is over
-        module _ (result : Gone) (inputs : List (List ℤ)) (stalls : ℕ → List Stall) (r : Action) (had : ℕ) (m : Meant inputs stalls r had) where
+        module _ (inputs : List (List ℤ)) (stalls : ℕ → List Stall) (r : Action) (had : ℕ) (m : Meant inputs stalls r had) where
           abbrev s : System
           s = system_of plan inputs stalls
 
           same_last : had + n + count - 1 ≡ had + (n + count) - 1
           same_last = omega arith
 
-          pub after_behind : AfterCycles s plan.code r (had + n) count result (charge_after s r (had + n + count)) machine' → AfterCycles s plan.code r had (n + count) result charge' machine'
-          after_behind a =
-              let charge_was : charge_after s r (had + n + count) ≡ charge' = ap (λ u. charge_after s r u) (sum_of had n count) ∙ sym (charged_behind inputs stalls r had m) in
-              subst (λ v. AfterCycle s plan.code r v result charge' machine') same_last (subst (λ c. AfterCycle s plan.code r (had + n + count - 1) result c machine') charge_was a)
+          charge_was : charge_after s r (had + n + count) ≡ charge'
+          charge_was = ap (λ u. charge_after s r u) (sum_of had n count) ∙ sym (charged_behind inputs stalls r had m)
 
-          pub done_behind : HasDoneIn s plan.code r (had + n) count after.outbox.now.sends after.taken.now.items result → HasDoneIn s plan.code r had (n + count) after.outbox.now.sends after.taken.now.items result
-          done_behind d = subst (λ v. HasDoneBy s plan.code r v after.outbox.now.sends after.taken.now.items result) same_last d
+          abbrev IsPart : (Step → Type 0) → Step → Type 0
+          IsPart Then answer = MayGoOn s plan.code r (had + n) (had + n + free) start date machine now.scene.now now.taken.now.items now.outbox.now → AllPay s r (had + n) (had + n + free) → (answer ≡ step.Went → ⊥) → Then answer
 
-  -- ---- the loop goes on, and ends
+          abbrev AfterBy : Step → Type 0
+          AfterBy answer = AfterCycles s plan.code r (had + n) count (gone_by (charge_after s r (had + n + count)) answer) (charge_after s r (had + n + count)) machine'
 
-  -- where a charge isn't spent, its next cycle goes to a stall or is free
-  pub moves : (charge : Charged) (left skipped free : ℕ) → (charge.consumed == charge.budget) ≡ false → 0 < left → IsStretch charge tick.Stalled left skipped → IsStretch (ticked charge skipped) tick.Paid (left - skipped) free
-      → 0 < skipped + free
-  moves charge left skipped free off some a b = by skipped refl
-    where
-      by : (k : ℕ) → skipped ≡ k → 0 < skipped + free
-      by (suc k) e = omega (arith, e)
-      by zero e =
-          let no_stall : tick_of charge ≡ tick.Stalled → ⊥ = λ stall. (
-              let one : 1 ≤ skipped = a.greatest 1 (omega (arith, some)) (λ k less. (let z : k ≡ 0 = omega (arith, less) in subst (λ k. tick_of (ticked charge k) ≡ tick.Stalled) (sym z) stall)) in
-              omega (arith, one, e)) in
-          let pays : tick_of charge ≡ tick.Paid = pays_or_stalls charge off no_stall in
-          let free_one : 1 ≤ free = b.greatest 1 (omega (arith, some, e)) (λ k less. (
-              let z : k ≡ 0 = omega (arith, less) in
-              subst (λ k. tick_of (ticked (ticked charge skipped) k) ≡ tick.Paid) (sym z) (subst (λ n. tick_of (ticked charge n) ≡ tick.Paid) (sym e) pays))) in
-          omega (arith, free_one)
+          pub over_behind : (answer known : Step) → answer ≡ known → (known ≡ step.Went → ⊥) → IsPart AfterBy answer → AfterCycles s plan.code r had (n + count) (gone_by (charge_after s r (had + n + count)) known) charge' machine'
+          over_behind answer known is other law =
+              let a : AfterBy known = subst AfterBy is (law (part inputs stalls r had m) (part_pays inputs stalls r had m) (λ e. other (sym is ∙ e))) in
+              subst (λ v. AfterCycle s plan.code r v (gone_by (charge_after s r (had + n + count)) known) charge' machine') same_last
+              (subst (λ c. AfterCycle s plan.code r (had + n + count - 1) (gone_by (charge_after s r (had + n + count)) known) c machine') charge_was a)
+
+          abbrev DoneBy : Step → Type 0
+          DoneBy answer = HasDoneIn s plan.code r (had + n) count after.outbox.now.sends after.taken.now.items (gone_by (charge_after s r (had + n + count)) answer)
+
+          pub done_behind : (answer known : Step) → answer ≡ known → (known ≡ step.Went → ⊥) → IsPart DoneBy answer
+              → HasDoneIn s plan.code r had (n + count) after.outbox.now.sends after.taken.now.items (gone_by (charge_after s r (had + n + count)) known)
+          done_behind answer known is other law =
+              let d : DoneBy known = subst DoneBy is (law (part inputs stalls r had m) (part_pays inputs stalls r had m) (λ e. other (sym is ∙ e))) in
+              subst (λ v. HasDoneBy s plan.code r v after.outbox.now.sends after.taken.now.items (gone_by (charge_after s r (had + n + count)) known)) same_last d
 
   -- an action that begins isn't spent
   pub begins : (inputs : List (List ℤ)) (stalls : ℕ → List Stall) (r : Action) (had : ℕ) → Meant inputs stalls r had → (charge : Charged) → Charges 0 charge → (charge.consumed == charge.budget) ≡ true → ⊥
@@ -239,3 +253,21 @@ module _ (laws : AreLaws) (plan : Plan) (start date most : ℕ) (first : AgentMa
       let test : (had == r.budget) ≡ true = sym (spent_is (s.stalls r.agent) r.number r.budget had (omega (arith, less))) ∙ sym (ap (λ (c : Charged). c.consumed == c.budget) is) ∙ spent in
       let same : had ≡ r.budget = eqb-true had r.budget test in
       omega (arith, less, same)
+
+  -- ---- behind the loop
+
+  module _ {n : ℕ} {machine : AgentMachine} {now : Eyes} {reaches' : List (Option ℕ)} (kept : Kept n machine now reaches') (charge : Charged) (charged : Charges n charge) (some : 1 ≤ n)
+      (inputs : List (List ℤ)) (stalls : ℕ → List Stall) (r : Action) (had : ℕ) (m : Meant inputs stalls r had) (result : Gone) (result_is : result ≡ gone_on charge) where
+    result_by : gone_on (charge_after (system_of plan inputs stalls) r (had + n)) ≡ result
+    result_by = ap gone_on (sym (charged inputs stalls r had m)) ∙ sym result_is
+
+    pub after_all : AfterCycles (system_of plan inputs stalls) plan.code r had n result charge machine
+    after_all =
+        let a = after_many (system_of plan inputs stalls) plan.code r (MayGoOn.of_code m.0) had n machine now.outbox.now.sends now.taken.now.items some (kept.on_way inputs stalls r had m) in
+        subst (λ g. AfterCycles (system_of plan inputs stalls) plan.code r had n g charge machine) result_by
+        (subst (λ c. AfterCycles (system_of plan inputs stalls) plan.code r had n (gone_on (charge_after (system_of plan inputs stalls) r (had + n))) c machine) (sym (charged inputs stalls r had m)) a)
+
+    pub done_all : HasDoneIn (system_of plan inputs stalls) plan.code r had n now.outbox.now.sends now.taken.now.items result
+    done_all =
+        subst (λ g. HasDoneIn (system_of plan inputs stalls) plan.code r had n now.outbox.now.sends now.taken.now.items g) result_by
+        (done_many (system_of plan inputs stalls) plan.code r (MayGoOn.of_code m.0) had n machine now.outbox.now.sends now.taken.now.items some (kept.on_way inputs stalls r had m))
