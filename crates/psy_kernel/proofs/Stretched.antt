@@ -50,12 +50,12 @@ moves charge left skipped free off some a b = by skipped refl
     by (suc k) e = omega (arith, e)
     by zero e =
         let no_stall : tick_of charge ≡ tick.Stalled → ⊥ = λ stall. (
-            let one : 1 ≤ skipped = a.greatest 1 (omega (arith, some)) (λ k less. (let z : k ≡ 0 = omega (arith, less) in subst (λ k. tick_of (ticked charge k) ≡ tick.Stalled) (sym z) stall)) in
-            omega (arith, one, e)) in
+        let one : 1 ≤ skipped = a.greatest 1 (omega (arith, some)) (λ k less. (let z : k ≡ 0 = omega (arith, less) in subst (λ k. tick_of (ticked charge k) ≡ tick.Stalled) (sym z) stall)) in
+        omega (arith, one, e)) in
         let pays : tick_of charge ≡ tick.Paid = pays_or_stalls charge off no_stall in
         let free_one : 1 ≤ free = b.greatest 1 (omega (arith, some, e)) (λ k less. (
-            let z : k ≡ 0 = omega (arith, less) in
-            subst (λ k. tick_of (ticked (ticked charge skipped) k) ≡ tick.Paid) (sym z) (subst (λ n. tick_of (ticked charge n) ≡ tick.Paid) (sym e) pays))) in
+        let z : k ≡ 0 = omega (arith, less) in
+        subst (λ k. tick_of (ticked (ticked charge skipped) k) ≡ tick.Paid) (sym z) (subst (λ n. tick_of (ticked charge n) ≡ tick.Paid) (sym e) pays))) in
         omega (arith, free_one)
 
 module _ (laws : AreLaws) (s : System) (r : Action) where

@@ -1,6 +1,5 @@
 -- What is left of the proof of `kernel::stretch::stretch`.
-use Rattle.std.proofs.Common.{◌≡◌, Bool, true, false, ℕ, ◌+◌, ◌-◌, ◌<◌, ◌≤◌, refl, sym, ap, ◌∙◌, subst, arith}
-use Rattle.std.specs.Prelude.{not}
+use Rattle.std.proofs.Common.{◌≡◌, ℕ, ◌+◌, ◌-◌, ◌<◌, ◌≤◌, refl, sym, ap, ◌∙◌, subst, arith}
 use Rattle.psy_budget.specs.declared.charge.Tick.TheVariants as tick
 use Rattle.psy_budget.specs.Charges.{IsStretch}
 use Rattle.psy_dates.specs.Plans.{system_of}
@@ -10,17 +9,9 @@ use Rattle.psy_kernel.proofs.Stretched.{AreLaws, Begins, after_all, charged_behi
 use Rattle.psy_kernel.proofs.kernel.stretch.stretch.Goals.{then-parts-test+else-not-spent, else-parts-test}
 use Rattle.psy_kernel.proofs.kernel.stretch.stretch.Goals as goal
 
+-- Both are taken away
 less_both : (a b c : ℕ) → a - (b + c) ≡ a - b - c
 less_both a b c = omega arith
-
--- A test that isn't met, and one that is
-is_unspent : (spent : Bool) → not spent ≡ true → spent ≡ false
-is_unspent true e = sym e
-is_unspent false e = refl
-
-is_spent : (spent : Bool) → not spent ≡ false → spent ≡ true
-is_spent true e = refl
-is_spent false e = sym e
 
 pub parts-init : goal.parts-init
 parts-init c = record {
@@ -38,8 +29,8 @@ parts-preserved c =
     record {
       within = omega (arith, fits, c.burst-done.ensures.count);
       kept = kept_behind laws kept c.skip-cycles.new.self charged c.free-free.result fits c.free-free.ensures.all c.burst-done.result.count c.burst-done.ensures.count c.pay.new.self c.pay.ensures c.burst-done.new.machine c.burst-done.new.eyes c.burst-done.new.reaches.items c.burst-done.ensures.of c.burst-done.ensures.reaching
-      c.burst-done.ensures.same_taken c.burst-done.ensures.same_outbox c.burst-done.ensures.scene c.burst-done.ensures.size c.burst-done.ensures.taking c.burst-done.ensures.others c.burst-done.ensures.reached
-      (c.burst-done.ensures.whole c.in-Went.is) (λ inputs stalls r had may pays. c.burst-done.ensures.on_way inputs stalls r had may pays c.in-Went.is);
+          c.burst-done.ensures.same_taken c.burst-done.ensures.same_outbox c.burst-done.ensures.scene c.burst-done.ensures.size c.burst-done.ensures.taking c.burst-done.ensures.others c.burst-done.ensures.reached
+          (c.burst-done.ensures.whole c.in-Went.is) (λ inputs stalls r had may pays. c.burst-done.ensures.on_way inputs stalls r had may pays c.in-Went.is);
       charged = charged_behind laws kept c.skip-cycles.new.self charged c.free-free.result fits c.free-free.ensures.all c.burst-done.result.count c.burst-done.ensures.count c.pay.new.self c.pay.ensures;
     }
 
@@ -50,7 +41,7 @@ parts-smaller c =
     let charged = charged_then laws c.parts.invariant.kept c.parts-test.true c.parts.charge c.parts.invariant.charged c.skip-cycles.result c.skip-cycles.ensures.count c.skip-cycles.new.self c.skip-cycles.ensures.charge in
     let fits : c.parts.cycles + c.skip-cycles.result + c.free-free.result ≤ c.args.most = omega (arith, c.parts-test.true, c.skip-cycles.ensures.count.within, c.free-free.ensures.within) in
     let whole = c.burst-done.ensures.whole c.in-Went.is in
-    let more = moves c.parts.charge (c.args.most - c.parts.cycles) c.skip-cycles.result c.free-free.result (sym c.spent.ensures ∙ is_unspent c.spent.result c.if-not-spent.true) (omega (arith, c.parts-test.true)) c.skip-cycles.ensures.count (subst (λ x. IsStretch x tick.Paid (c.args.most - c.parts.cycles - c.skip-cycles.result) c.free-free.result) c.skip-cycles.ensures.charge (subst (λ n. IsStretch c.skip-cycles.new.self tick.Paid n c.free-free.result) (less_both c.args.most c.parts.cycles c.skip-cycles.result) c.free-free.ensures)) in
+    let more = moves c.parts.charge (c.args.most - c.parts.cycles) c.skip-cycles.result c.free-free.result (sym c.spent.ensures ∙ c.if-not-spent.true) (omega (arith, c.parts-test.true)) c.skip-cycles.ensures.count (subst (λ x. IsStretch x tick.Paid (c.args.most - c.parts.cycles - c.skip-cycles.result) c.free-free.result) c.skip-cycles.ensures.charge (subst (λ n. IsStretch c.skip-cycles.new.self tick.Paid n c.free-free.result) (less_both c.args.most c.parts.cycles c.skip-cycles.result) c.free-free.ensures)) in
     omega (arith, fits, whole, more, c.burst-done.ensures.count)
 
 pub burst-done-requires-clause-given : goal.burst-done-requires-clause-given
@@ -98,7 +89,7 @@ returns-in-Ended-clause-others c = λ stream other.
     let charged = charged_then laws c.parts.invariant.kept c.parts-test.true c.parts.charge c.parts.invariant.charged c.skip-cycles.result c.skip-cycles.ensures.count c.skip-cycles.new.self c.skip-cycles.ensures.charge in
     let fits : c.parts.cycles + c.skip-cycles.result + c.free-free.result ≤ c.args.most = omega (arith, c.parts-test.true, c.skip-cycles.ensures.count.within, c.free-free.ensures.within) in
     others_behind laws kept c.skip-cycles.new.self charged c.free-free.result fits c.free-free.ensures.all c.burst-done.result.count c.burst-done.ensures.count c.pay.new.self c.pay.ensures c.burst-done.new.machine c.burst-done.new.eyes c.burst-done.new.reaches.items c.burst-done.ensures.of c.burst-done.ensures.reaching
-      c.burst-done.ensures.same_taken c.burst-done.ensures.same_outbox c.burst-done.ensures.scene c.burst-done.ensures.size c.burst-done.ensures.taking c.burst-done.ensures.others c.burst-done.ensures.reached stream other
+    c.burst-done.ensures.same_taken c.burst-done.ensures.same_outbox c.burst-done.ensures.scene c.burst-done.ensures.size c.burst-done.ensures.taking c.burst-done.ensures.others c.burst-done.ensures.reached stream other
 
 pub returns-in-Trapped-clause-after : goal.returns-in-Trapped-clause-after
 returns-in-Trapped-clause-after c = λ inputs stalls r had may begun less.
@@ -133,14 +124,14 @@ returns-in-Trapped-clause-others c = λ stream other.
     let charged = charged_then laws c.parts.invariant.kept c.parts-test.true c.parts.charge c.parts.invariant.charged c.skip-cycles.result c.skip-cycles.ensures.count c.skip-cycles.new.self c.skip-cycles.ensures.charge in
     let fits : c.parts.cycles + c.skip-cycles.result + c.free-free.result ≤ c.args.most = omega (arith, c.parts-test.true, c.skip-cycles.ensures.count.within, c.free-free.ensures.within) in
     others_behind laws kept c.skip-cycles.new.self charged c.free-free.result fits c.free-free.ensures.all c.burst-done.result.count c.burst-done.ensures.count c.pay.new.self c.pay.ensures c.burst-done.new.machine c.burst-done.new.eyes c.burst-done.new.reaches.items c.burst-done.ensures.of c.burst-done.ensures.reaching
-      c.burst-done.ensures.same_taken c.burst-done.ensures.same_outbox c.burst-done.ensures.scene c.burst-done.ensures.size c.burst-done.ensures.taking c.burst-done.ensures.others c.burst-done.ensures.reached stream other
+    c.burst-done.ensures.same_taken c.burst-done.ensures.same_outbox c.burst-done.ensures.scene c.burst-done.ensures.size c.burst-done.ensures.taking c.burst-done.ensures.others c.burst-done.ensures.reached stream other
 
 pub returns-clause-count : goal.returns-clause-count
 returns-clause-count c =
     let g = c.requires.given in
     let some : 1 ≤ c.parts.cycles = elim c.parts-test.branch [
       | then-parts-test+else-not-spent w ↦ some_done c.args.plan.now c.args.start c.args.date c.args.most c.args.machine.now c.args.eyes.now c.args.charge.now g.0 g.1 g.2 g.3 (g.4, (g.5, g.6)) c.parts.cycles c.parts.charge c.parts.invariant.charged
-          (sym w.spent.ensures ∙ is_spent w.spent.result w.if-not-spent.false)
+          (sym w.spent.ensures ∙ w.if-not-spent.false)
       | else-parts-test w ↦ omega (arith, c.requires.some, w.parts-test.false)
     ] in
     (some, c.parts.invariant.within)
@@ -150,7 +141,7 @@ returns-clause-after c = λ inputs stalls r had may begun less.
     let g = c.requires.given in
     let some : 1 ≤ c.parts.cycles = elim c.parts-test.branch [
       | then-parts-test+else-not-spent w ↦ some_done c.args.plan.now c.args.start c.args.date c.args.most c.args.machine.now c.args.eyes.now c.args.charge.now g.0 g.1 g.2 g.3 (g.4, (g.5, g.6)) c.parts.cycles c.parts.charge c.parts.invariant.charged
-          (sym w.spent.ensures ∙ is_spent w.spent.result w.if-not-spent.false)
+          (sym w.spent.ensures ∙ w.if-not-spent.false)
       | else-parts-test w ↦ omega (arith, c.requires.some, w.parts-test.false)
     ] in
     let laws : AreLaws = record { further = c.stretches.ensures.further; stalled = c.stretches.ensures.stalled } in
@@ -161,7 +152,7 @@ returns-clause-did c = λ inputs stalls r had may begun less.
     let g = c.requires.given in
     let some : 1 ≤ c.parts.cycles = elim c.parts-test.branch [
       | then-parts-test+else-not-spent w ↦ some_done c.args.plan.now c.args.start c.args.date c.args.most c.args.machine.now c.args.eyes.now c.args.charge.now g.0 g.1 g.2 g.3 (g.4, (g.5, g.6)) c.parts.cycles c.parts.charge c.parts.invariant.charged
-          (sym w.spent.ensures ∙ is_spent w.spent.result w.if-not-spent.false)
+          (sym w.spent.ensures ∙ w.if-not-spent.false)
       | else-parts-test w ↦ omega (arith, c.requires.some, w.parts-test.false)
     ] in
     let laws : AreLaws = record { further = c.stretches.ensures.further; stalled = c.stretches.ensures.stalled } in
