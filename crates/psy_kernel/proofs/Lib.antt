@@ -45,3 +45,8 @@ mod Sets
 mod Stages
 mod Started
 mod Supplied
+mod Bursts
+mod ManyCycles
+mod OnTheWay
+mod Scenes
+mod Stretched

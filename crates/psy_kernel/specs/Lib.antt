@@ -6,5 +6,6 @@ pub mod Progress
 pub mod Seeing
 pub mod Standing
 pub mod Starting
+pub mod Stretches
 pub mod Telling
 pub mod Texts

@@ -5,6 +5,7 @@ mod boot;
 mod cycle;
 mod date;
 mod lines;
+mod stretch;
 mod summary;
 
 use psy_budget::Charge;

@@ -88,7 +88,12 @@ fn is_owned(agent: u32, owner: Option<u32>) -> bool
 }
 
 /// Keeps the working copies of all variables that an agent owns.
-fn keep_copies(ended: &mut Vec<i32>, variables: &[VarDecl], agent: u32, machine: &Machine)
+pub(super) fn keep_copies(
+    ended: &mut Vec<i32>,
+    variables: &[VarDecl],
+    agent: u32,
+    machine: &Machine,
+)
     requires valued { length ended.old.items ≡ length variables.now }
     requires few { length variables.now ≤ VARIABLES }
     requires copies { (variable : ℕ) (v : VarDecl) → slice_get variables.now variable ≡ Some v → v.owner ≡ Some agent
@@ -107,7 +112,7 @@ fn keep_copies(ended: &mut Vec<i32>, variables: &[VarDecl], agent: u32, machine:
 }
 
 /// The date at which an action of an agent that started at a date ends where it reaches this point.
-fn end_of(unit: &Unit, agent: u32, start: u64, point: u32) -> u64
+pub(super) fn end_of(unit: &Unit, agent: u32, start: u64, point: u32) -> u64
     requires known { agent < length unit.now.agents }
     requires may { (nexts : List (List ℕ)) × MayEnd (timing_of unit.now (agent_at unit.now agent) nexts) start point }
     ensures { (nexts : List (List ℕ)) → result ≡ end_date (timing_of unit.now (agent_at unit.now agent) nexts) start point }
@@ -118,7 +123,7 @@ fn end_of(unit: &Unit, agent: u32, start: u64, point: u32) -> u64
 }
 
 /// The figure of an agent whose action with this deadline is finished or stopped when so many cycles are done.
-fn figured(figure: Figure, until: u32, quantum: u32, deadline: u64, done: u64) -> Figure
+pub(super) fn figured(figure: Figure, until: u32, quantum: u32, deadline: u64, done: u64) -> Figure
     requires count { figure.count ≤ until }
     requires early { done ≤ deadline * quantum }
     ensures { result ≡ figured until quantum deadline done figure }
@@ -138,7 +143,7 @@ fn figured(figure: Figure, until: u32, quantum: u32, deadline: u64, done: u64) -
 }
 
 /// The seat of an agent whose action was stopped, by a trap or by its budget.
-fn stop(seat: &mut Seat, trap: Option<Trap>)
+pub(super) fn stop(seat: &mut Seat, trap: Option<Trap>)
     ensures { seat.new ≡ record seat.old { phase = Phase.Stopped; trap = trap } }
 {
     seat.phase = Phase::Stopped;
@@ -157,7 +162,7 @@ fn reached(reach: Option<u32>, age: u32) -> Option<u32>
 
 /// Notes how far back the look of a cycle reached for its variable's ring, where the cycle made one: it was made at a date, by an action
 /// that started at another.
-fn note(
+pub(super) fn note(
     plan: &Plan,
     look: Option<(u32, u32)>,
     start: u64,
