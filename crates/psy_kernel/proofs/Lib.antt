@@ -31,6 +31,7 @@ pub mod CyclesGiven
 pub mod Dated
 pub mod DeedsDone
 pub mod GetsCycle
+pub mod GivenCycles
 pub mod KeptCopies
 pub mod Kernels
 pub mod LooksBack
@@ -42,6 +43,7 @@ pub mod Parts
 pub mod PickIsSoonest
 pub mod Placed
 pub mod Sets
+pub mod SliceEnds
 pub mod Stages
 pub mod Started
 pub mod Supplied

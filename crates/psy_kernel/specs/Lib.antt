@@ -4,7 +4,9 @@ pub mod Cycles
 pub mod Looking
 pub mod Progress
 pub mod Seeing
+pub mod Slices
 pub mod Standing
 pub mod Starting
+pub mod Stretches
 pub mod Telling
 pub mod Texts

@@ -5,6 +5,8 @@ mod boot;
 mod cycle;
 mod date;
 mod lines;
+mod slice;
+mod stretch;
 mod summary;
 
 use psy_budget::Charge;

@@ -5,6 +5,7 @@
 
 mod eyes;
 mod kernel;
+pub mod laws;
 mod stage;
 
 pub use kernel::Kernel;

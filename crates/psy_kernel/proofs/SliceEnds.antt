@@ -1,0 +1,43 @@
+-- The end of a slice, and the cycles up to it.
+use Rattle.std.proofs.Common.{◌≡◌, ◌≢◌, sym, ap, ◌∙◌, inl, inr, arith}
+use Rattle.std.specs.Prelude.{ℕ, zero, suc, ◌+◌, ◌-◌, ◌*◌, ◌<◌, ◌≤◌, ◌==◌, if◌then◌else◌}
+use Rattle.std.proofs.lemmas.Bool.{cases_lt, cond-false, ne_eqb}
+use Rattle.psy_kernel.specs.declared.stage.Stage.TheVariants.{DateDue, CycleDue, Over}
+use Rattle.psy_kernel.specs.Progress.{Progress, after_cycle, stage_of}
+use Rattle.psy_kernel.specs.Slices.{IsSliceEnd, after_cycles}
+use Rattle.psy_kernel.proofs.Stages.{cycle_due}
+
+pub one_end : (p : Progress) (a b : ℕ) → IsSliceEnd p a → IsSliceEnd p b → a ≡ b
+one_end p a b x y = elim (cases_lt a b) [
+  | inl less ↦ absurd (y.first a x.some less x.changes)
+  | inr more ↦ elim (cases_lt b a) [
+    | inl less ↦ absurd (x.first b y.some less y.changes)
+    | inr same ↦ omega (arith, more, same)
+  ]
+]
+
+-- So many cycles one by one
+pub one_by_one : (n : ℕ) (p : Progress) → after_cycles n p ≡ record p { cycles = p.cycles + n }
+one_by_one zero p = let e : p.cycles ≡ p.cycles + 0 = omega arith in ap (λ c. record p { cycles = c }) e
+one_by_one (suc n) p =
+    let e : p.cycles + n + 1 ≡ p.cycles + suc n = omega arith in
+    let next : Progress → Progress = after_cycle in
+    ap next (one_by_one n p) ∙ ap (λ c. record p { cycles = c }) e
+
+pub as_cycles : (p : Progress) (end : ℕ) → IsSliceEnd p end → record p { cycles = end } ≡ after_cycles (end - p.cycles) p
+as_cycles p end is =
+    let e : end ≡ p.cycles + (end - p.cycles) = omega (arith, is.some) in
+    ap (λ c. record p { cycles = c }) e ∙ sym (one_by_one (end - p.cycles) p)
+
+pub due_on : (p : Progress) (end n : ℕ) → IsSliceEnd p end → stage_of p ≡ CycleDue p.cycles → p.cycles + n < end → stage_of (after_cycles n p) ≡ CycleDue (p.cycles + n)
+due_on p end n is due less =
+    let w = cycle_due p due in
+    ap stage_of (one_by_one n p)
+    ∙ cond-false (p.dates == p.plan.until + 1) Over (if p.cycles + n == p.dates * p.plan.unit.quantum then DateDue p.dates else CycleDue (p.cycles + n)) (ne_eqb p.dates (p.plan.until + 1) w.0)
+    ∙ cond-false (p.cycles + n == p.dates * p.plan.unit.quantum) (DateDue p.dates) (CycleDue (p.cycles + n)) (ne_eqb (p.cycles + n) (p.dates * p.plan.unit.quantum) no_date)
+  where
+    no_date : p.cycles + n ≢ p.dates * p.plan.unit.quantum
+    no_date e = elim (cases_lt 0 n) [
+      | inl more ↦ is.first (p.cycles + n) (omega (arith, more)) less (inl e)
+      | inr none ↦ (cycle_due p due).1 (omega (arith, none, e))
+    ]

@@ -1,0 +1,97 @@
+-- Many cycles in a row that go to one action: what they leave, and how far back rings are reached for with them.
+use Rattle.std.specs.Prelude.{◌≡◌, ℕ, zero, suc, ◌+◌, ◌-◌, ◌<◌, ◌≤◌, ◌==◌, true, if◌then◌else◌, List, ◌∷◌, length, Option, Some, ℤ}
+use Rattle.psy_budget.specs.Charges.{Charged, tick_of}
+use Rattle.psy_budget.specs.declared.charge.Stall.{Stall}
+use Rattle.psy_budget.specs.declared.charge.Tick.TheVariants as tick
+use Rattle.psy_base.specs.Extremes.{IsGreatest}
+use Rattle.psy_code.specs.declared.code.Code.{Code}
+use Rattle.psy_code.specs.declared.look.Sent.{Sent}
+use Rattle.psy_dates.specs.declared.plan.Plan.{Plan}
+use Rattle.psy_dates.specs.declared.seat.Seat.{Seat}
+use Rattle.psy_dates.specs.Outboxes.{Outboxed}
+use Rattle.psy_dates.specs.Plans.{system_of}
+use Rattle.psy_history.specs.Actions.{Action, System}
+use Rattle.psy_history.specs.Schedule.{Turn, is_pending, turn_of, work}
+use Rattle.psy_machine.specs.declared.machine.Step.{Step}
+use Rattle.psy_machine.specs.declared.machine.Step.TheVariants as step
+use Rattle.psy_machine.specs.Stepping.{AgentMachine}
+use Rattle.psy_meaning.specs.QueueSizes.{HasSendsTo}
+use Rattle.psy_queue.specs.Order.{Queued}
+use Rattle.psy_tree.specs.Parts.{agent_at}
+use Rattle.psy_kernel.specs.declared.kernel.Figure.{Figure}
+use Rattle.psy_kernel.specs.declared.kernel.advance.Gone.{Gone}
+use Rattle.psy_kernel.specs.declared.kernel.advance.Gone.TheVariants as gone
+use Rattle.psy_kernel.specs.Acting.{AfterCycle, HasDoneBy, IsLookIn, IsOfCode}
+use Rattle.psy_kernel.specs.Cycles.{ActsIn, AreQueuesOf, AreRingsOf, IsGiven, IsNear, LooksBack, reach_by}
+use Rattle.psy_kernel.specs.Seeing.{Sight, sight_in}
+use Rattle.psy_kernel.specs.Standing.{HasDone, IsRunning, charge_after}
+
+-- ---- many cycles
+
+-- These many cycles in a row go to one turn, the last one first.
+abbrev pub given_to : Option Turn → ℕ → List (Option Turn) → List (Option Turn)
+given_to turn zero turns = turns
+given_to turn (suc n) turns = turn ∷ given_to turn n turns
+
+-- Many cycles of an action that had so many leave what the last of them leaves.
+abbrev pub AfterCycles : System → Code → Action → ℕ → ℕ → Gone → Charged → AgentMachine → Type 0
+AfterCycles s code r had cycles = AfterCycle s code r (had + cycles - 1)
+
+-- The same of what it sent and took
+abbrev pub HasDoneIn : System → Code → Action → ℕ → ℕ → List Sent → List ℕ → Gone → Type 0
+HasDoneIn s code r had cycles = HasDoneBy s code r (had + cycles - 1)
+
+-- ---- an action on its way
+
+-- The code of an action that had so many cycles goes on behind the instructions that these paid, and it did what they did.
+pub record IsOnWay (s : System) (code : Code) (r : Action) (had : ℕ) (machine : AgentMachine) (sends : List Sent) (taken : List ℕ) : Type 0 where
+  pub agent : machine.agent ≡ r.agent
+  pub running : IsRunning code r (charge_after s r had).paid machine
+  pub did : HasDone s code r (charge_after s r had).paid sends taken
+
+-- An action that had so many cycles may have more, up to so many in all, at a date: with each of them that it gets it sees what it may
+-- look at, and looks no further back than can be counted.
+pub record MayGoOn (s : System) (code : Code) (r : Action) (had upto start date : ℕ) (machine : AgentMachine) (sight : Sight) (taken : List ℕ)
+    (outbox : Outboxed) : Type 0 where
+  pub of_code : IsOfCode s code r
+  pub on_way : IsOnWay s code r had machine outbox.sends taken
+  pub within : had < work r
+  pub started : start ≡ r.start
+  pub counted : length taken ≡ length s.unit.streams
+  pub acts : (now : ℕ) → had ≤ now → now < upto → now < work r → (taken : List ℕ) (after : Outboxed) → length taken ≡ length s.unit.streams
+      → after.size ≡ outbox.size → HasDone s code r (charge_after s r now).paid after.sends taken → ActsIn s code r now sight taken after
+  pub near : (now : ℕ) → had ≤ now → now < upto → now < work r → (look : Option (ℕ × ℕ)) → IsLookIn s code r now look → IsNear s r.start date look
+
+-- Each of these cycles pays an instruction.
+abbrev pub AllPay : System → Action → ℕ → ℕ → Type 0
+AllPay s r had upto = (now : ℕ) → had ≤ now → now < upto → tick_of (charge_after s r now) ≡ tick.Paid
+
+-- By how many cycles the action had and by variable, how far back rings are reached for: with each of these cycles as its look says
+abbrev pub AreReaches : System → Code → Action → ℕ → ℕ → ℕ → (ℕ → ℕ → Option ℕ) → Type 0
+AreReaches s code r had upto date reach = (now variable : ℕ) (look : Option (ℕ × ℕ)) → had ≤ now → now < upto → now < work r
+    → IsLookIn s code r now look → reach (suc now) variable ≡ reach_by s variable r.start date look (reach now variable)
+
+-- An action whose budget isn't spent goes on.
+abbrev pub gone_on : Charged → Gone
+gone_on charge = if charge.consumed == charge.budget then gone.Spent else gone.Going
+
+-- What an action comes to with a step of its machine
+abbrev pub gone_by : Charged → Step → Gone
+gone_by charge step.Went = gone_on charge
+gone_by charge (step.Ended point) = gone.Ended point
+gone_by charge (step.Trapped kind) = gone.Trapped kind
+
+-- ---- in the run of a plan
+
+-- What the agent has whose action gets the next cycle, and what the action sees with it and with each of the next so many that it gets
+pub record MayLast (plan : Plan) (inputs : List (List ℤ)) (stalls : ℕ → List Stall) (turns : List (Option Turn)) (date cycle agent most : ℕ) (r : Action)
+    (before : List Action) (charge : Charged) (machine : AgentMachine) (waits : Option ℕ) (figure : Figure) (seat : Seat) (ended : List ℤ)
+    (rings : List (List ℤ)) (queues : List Queued) (taken : List ℕ) (outbox : Outboxed) : Type 0 where
+  pub given : IsGiven plan inputs stalls turns date cycle agent r before charge machine waits figure seat ended
+      (sight_in plan.unit rings queues agent seat.start date) taken outbox
+  pub ringed : AreRingsOf (system_of plan inputs stalls) (date + 1) rings
+  pub queued : AreQueuesOf (system_of plan inputs stalls) (date + 1) queues
+  pub counted : length taken ≡ length plan.unit.streams
+  pub sized : IsGreatest (HasSendsTo plan.unit (agent_at plan.unit r.agent)) outbox.size
+  pub looks : (k : ℕ) → k < most → is_pending (given_to (turn_of (Some r)) k turns) r ≡ true
+      → LooksBack (system_of plan inputs stalls) plan.code (given_to (turn_of (Some r)) k turns) date r
