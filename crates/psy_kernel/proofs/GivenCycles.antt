@@ -46,7 +46,7 @@ units_rise agent number turn turns k (suc n) =
     let last = more_units agent number turn (given_to turn (k + n) turns) in
     subst (λ m. units agent number (given_to turn k turns) ≤ units agent number (given_to turn m turns)) (sym e) (omega (arith, rest, last))
 
--- what is pending behind some of them was so before
+-- What is pending behind some of them was so before
 pub was_pending : (turn : Option Turn) (turns : List (Option Turn)) (r : Action) (k n : ℕ) → k ≤ n → is_pending (given_to turn n turns) r ≡ true → is_pending (given_to turn k turns) r ≡ true
 was_pending turn turns r k n less h =
     let e : n ≡ k + (n - k) = omega (arith, less) in

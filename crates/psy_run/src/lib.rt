@@ -5,6 +5,7 @@
 mod asked;
 mod commands;
 mod costs;
+mod kernels;
 pub mod laws;
 mod lists;
 mod nexts;
@@ -18,5 +19,6 @@ mod texts;
 mod told;
 mod top;
 
+pub use kernels::kernel_of;
 pub use run::run_loop;
 pub use top::psyc;
