@@ -2,7 +2,7 @@
 //! through them one by one wouldn't be done in hours; the command has a limit far below.
 #![tactic(auto)]
 
-use psy_base::UNTIL;
+use psy_base::limits::UNTIL;
 use psy_door::SinkVec;
 use psy_run::{kernel_of, run_loop};
 use std::alloc::Global;
