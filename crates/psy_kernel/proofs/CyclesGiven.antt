@@ -1,6 +1,9 @@
--- A kernel after the cycle that its chosen agent gets, or nobody.
-use Rattle.std.proofs.Common.{◌≡◌, ◌≢◌, Vec, Global, refl, sym, ap, ◌∙◌, subst, arith}
-use Rattle.std.specs.Prelude.{ℕ, ◌+◌, ◌-◌, ◌<◌, ◌≤◌, Bool, true, false, List, ◌∷◌, length, get_or, Option, Some, None, slice_get, slice_set, ℤ}
+-- A kernel after the cycles in a row that its chosen agent gets, or nobody.
+use Rattle.std.proofs.Common.{◌≡◌, ◌≢◌, Vec, Global, refl, sym, ap, ◌∙◌, subst, inl, inr, arith}
+use Rattle.std.specs.Prelude.{ℕ, suc, ◌+◌, ◌-◌, ◌*◌, ◌<◌, ◌≤◌, Bool, true, false, List, ◌∷◌, length, get_or, Option, Some, None, slice_get, slice_set, ℤ}
+use Rattle.std.specs.List.{All, Contains}
+use Rattle.std.proofs.lemmas.Bool.{cases_eq, true≢false}
+use Rattle.std.proofs.lemmas.List.Elements.{All-contains, All-weaker}
 use Rattle.std.proofs.lemmas.Option.{same_Some, slice_get-get_or, slice_get_within}
 use Rattle.psy_budget.specs.Charges.{Charged}
 use Rattle.psy_dates.specs.declared.seat.Seat.{Seat}
@@ -14,24 +17,43 @@ use Rattle.psy_tree.specs.Parts.{agent_at}
 use Rattle.psy_base.specs.Extremes.{IsGreatest}
 use Rattle.psy_history.specs.History.{history}
 use Rattle.psy_meaning.specs.QueueSizes.{HasSendsTo}
-use Rattle.psy_history.specs.Schedule.{Turn, is_pending, turn_of, units}
+use Rattle.psy_history.specs.Schedule.{Turn, is_pending, pending, soonest, turn_of, units}
 use Rattle.psy_history.specs.Summary.{reach}
 use Rattle.psy_ready.specs.Choice.{IsPick, pending_deadline}
 use Rattle.psy_tree.specs.declared.unit.StreamDecl.{StreamDecl}
 use Rattle.psy_tree.specs.declared.unit.VarDecl.{VarDecl}
-use Rattle.psy_kernel.specs.Acting.{IsLookIn}
-use Rattle.psy_kernel.specs.Cycles.{ActsIn, AreOver, AreQueuesOf, AreRingsOf, BoxStands, GetsCycle, IsGiven, IsNear, LooksBack, OneStands, reach_by}
+use Rattle.psy_kernel.specs.Cycles.{ActsIn, AreOver, AreQueuesOf, AreRingsOf, BoxStands, GetsCycle, IsCycleOf, IsGiven, LooksBack, OneStands}
 use Rattle.psy_kernel.specs.declared.kernel.Figure.{Figure}
 use Rattle.psy_kernel.specs.declared.kernel.Kernel.TheInside.{Inside}
+use Rattle.psy_history.specs.declared.told.Order.{Order}
 use Rattle.psy_history.specs.Scripts.{order_of, stalls_of}
 use Rattle.psy_kernel.specs.Seeing.{sight_in}
-use Rattle.psy_kernel.specs.Standing.{DeedsStand, HasDone, IsChosen, KernelStands, charge_after}
-use Rattle.psy_kernel.proofs.Kernels.{IsBetween, IsDue, next_in, parts_in, run_in, turns_in}
-use Rattle.psy_kernel.proofs.Parts.{PartsStand, given, idle, nobody_soonest, one_of, pick_known, pick_soonest, shared_given}
+use Rattle.psy_kernel.specs.Slices.{IsOverBy}
+use Rattle.psy_kernel.specs.Standing.{DeedsStand, HasDone, IsChosen, KernelStands, charge_after, progress_of}
+use Rattle.psy_kernel.specs.Stretches.{MayLast, given_to}
+use Rattle.psy_kernel.proofs.GivenCycles.{StaysSo, idle_reach, in_a_row, missed_all, own_stay, same_stays, was_pending}
+use Rattle.psy_kernel.proofs.Kernels.{IsBetween, IsDue, order_until, parts_in, run_in, turns_in}
+use Rattle.psy_kernel.proofs.OtherAgents.{AreSameFor}
+use Rattle.psy_kernel.proofs.Parts.{PartsStand, given, idle, nobody_soonest, one_of, others_same, pick_known, pick_soonest, shared_given}
 use Rattle.psy_kernel.proofs.Stages.{IsInside}
 
 last_date : (dates date : ℕ) → dates ≡ date + 1 → dates - 1 ≡ date
 last_date dates date e = omega (arith, e)
+
+-- As long as who is pending stays, no action is over
+pub steady : (k : Inside) (turn : Option Turn) (n : ℕ) → ((j : ℕ) → j ≤ n → turns_in k (k.cycles + j) ≡ given_to turn j (turns_in k k.cycles))
+    → ((j : ℕ) → j < n → (agent : ℕ) → All (StaysSo (turns_in k k.cycles) (given_to turn j (turns_in k k.cycles))) (history (run_in k) (dates_done k.shared.date) agent))
+    → (between : ℕ) → k.cycles < between → between < k.cycles + n → IsOverBy (progress_of k) between → ⊥
+steady k turn n row stay between above below w =
+    let r : Action = w.1 in
+    let j : ℕ = between - 1 - k.cycles in
+    let a : between - 1 ≡ k.cycles + j = omega (arith, above) in
+    let b : between ≡ k.cycles + suc j = omega (arith, above) in
+    let first : is_pending (turns_in k (between - 1)) r ≡ is_pending (turns_in k k.cycles) r = ap (λ m. is_pending (turns_in k m) r) a ∙ ap (λ ts. is_pending ts r) (row j (omega (arith, above, below)))
+    ∙ All-contains (StaysSo (turns_in k k.cycles) (given_to turn j (turns_in k k.cycles))) (history (run_in k) (dates_done k.shared.date) w.0) r (stay j (omega (arith, above, below)) w.0) w.2 in
+    let second : is_pending (turns_in k between) r ≡ is_pending (turns_in k k.cycles) r = ap (λ m. is_pending (turns_in k m) r) b ∙ ap (λ ts. is_pending ts r) (row (suc j) (omega (arith, above, below)))
+    ∙ All-contains (StaysSo (turns_in k k.cycles) (given_to turn (suc j) (turns_in k k.cycles))) (history (run_in k) (dates_done k.shared.date) w.0) r (stay (suc j) (omega (arith, above, below)) w.0) w.2 in
+    true≢false (sym w.3 ∙ first ∙ sym second ∙ w.4)
 
 module _ (k : Inside) (is : KernelStands k) (d : IsDue k) where
   abbrev dates : ℕ
@@ -57,36 +79,53 @@ module _ (k : Inside) (is : KernelStands k) (d : IsDue k) where
 
   -- ---- nobody waits
 
-  pub idle_between : (chosen : Option ℕ) → chosen ≡ None → IsChosen k.ready order chosen → IsBetween (record k { chosen = chosen; stale = false })
-  idle_between chosen none choice =
-      let nobody : IsChosen k.ready order None = subst (IsChosen k.ready order) none choice in
-      let turns = next_in k is date inside ∙ ap (λ o. turn_of o ∷ before_cycle) (nobody_soonest (run_in k) k.plan.code k.plan.until before_cycle dates k.shared k.machines.items k.charges.items k.ready k.figures.items (parts_in k is) lawful over_now order nobody) in
-      record {
-        date = date;
-        dates = inside.0;
-        cycle = d.cycle;
-        parts = subst (λ ts. PartsStand (run_in k) k.plan.code k.plan.until ts dates k.shared k.machines.items k.charges.items k.ready k.figures.items) (sym turns)
-            (idle (run_in k) k.plan.code k.plan.until before_cycle dates k.shared k.machines.items k.charges.items k.ready k.figures.items (parts_in k is));
-        reaching = is.reaching;
-        holding = is.holding;
-        held = is.held;
-        reached = λ variable n at. is.reached variable n at ∙ sym (d.idle before_cycle (history (run_in k) dates) variable) ∙ ap (λ ts. reach (run_in k) ts (history (run_in k) dates) variable) (sym turns);
-        all = is.all;
-        orders = is.orders;
-        choice = λ fresh. choice;
-        place = is.place;
-        unshown = is.unshown;
-        given = is.given;
-      }
+  module _ (nobody : IsChosen k.ready order None) (n : ℕ) (high : k.cycles + n ≤ (date + 1) * k.plan.unit.quantum) (ahead : (o : Order) → slice_get k.script.orders k.passed ≡ Some o → k.cycles + n ≤ o.cycle) where
+    idle_stay : (j agent : ℕ) → All (StaysSo before_cycle (given_to None j before_cycle)) (history (run_in k) dates agent)
+    idle_stay j agent at other less = let r : Action = get_or (history (run_in k) dates agent) at other in same_stays before_cycle (given_to None j before_cycle) r (missed_all None before_cycle r refl j)
+
+    -- the cycles go to nobody
+    pub idle_turns : (j : ℕ) → j ≤ n → turns_in k (k.cycles + j) ≡ given_to None j before_cycle
+    idle_turns j less =
+        in_a_row (run_in k) (order_of k.plan.unit k.script) date k.cycles inside.2 None
+        (ap (λ m. turn_of (soonest (pending order before_cycle (history (run_in k) m)))) (sym inside.0)
+        ∙ ap turn_of (nobody_soonest (run_in k) k.plan.code k.plan.until before_cycle dates k.shared k.machines.items k.charges.items k.ready k.figures.items (parts_in k is) lawful over_now order nobody))
+        j (omega (arith, high, less)) (λ i below. order_until k is n ahead i (omega (arith, below, less)))
+        (λ i below agent. subst (λ m. All (StaysSo before_cycle (given_to None i before_cycle)) (history (run_in k) m agent)) inside.0 (idle_stay i agent))
+
+    pub idle_between : (chosen : Option ℕ) → IsChosen k.ready order chosen → IsBetween (record k { chosen = chosen; stale = false }) n
+    idle_between chosen choice =
+        let turns = idle_turns n (omega arith) in
+        record {
+          date = date;
+          dates = inside.0;
+          cycle = d.cycle;
+          inside = high;
+          parts = subst (λ ts. PartsStand (run_in k) k.plan.code k.plan.until ts dates k.shared k.machines.items k.charges.items k.ready k.figures.items) (sym turns)
+              (idle (run_in k) k.plan.code k.plan.until before_cycle dates k.shared k.machines.items k.charges.items k.ready k.figures.items (parts_in k is) n);
+          reaching = is.reaching;
+          holding = is.holding;
+          held = is.held;
+          reached = λ variable m at. is.reached variable m at ∙ sym (idle_reach (run_in k) before_cycle (history (run_in k) dates) variable (λ ts. d.idle ts (history (run_in k) dates) variable) n) ∙ ap (λ ts. reach (run_in k) ts (history (run_in k) dates) variable) (sym turns);
+          all = is.all;
+          orders = is.orders;
+          choice = λ fresh. choice;
+          place = is.place;
+          unshown = is.unshown;
+          given = is.given;
+        }
+
+    -- with none of them an action is over
+    pub idle_steady : (between : ℕ) → k.cycles < between → between < k.cycles + n → IsOverBy (progress_of k) between → ⊥
+    idle_steady = steady k None n idle_turns (λ j below. idle_stay j)
 
   -- ---- an agent is chosen
 
   module _ (agent : ℕ) (pick : IsPick k.ready order agent) where
-    -- the last action of the agent gets the cycle
+    -- the last action of the agent gets the next cycle
     pub record Takes (r : Action) (before : List Action) : Type 0 where
       pub is_last : history (run_in k) dates agent ≡ r ∷ before
+      pub first : turn_of (soonest (pending order before_cycle (history (run_in k) (date + 1)))) ≡ turn_of (Some r)
       pub pending : is_pending before_cycle r ≡ true
-      pub turns : turns_in k (k.cycles + 1) ≡ Some (record { agent = r.agent; number = r.number }) ∷ before_cycle
 
     pub takes : (r : Action) × (before : List Action) × Takes r before
     takes =
@@ -96,7 +135,7 @@ module _ (k : Inside) (is : KernelStands k) (d : IsDue k) where
           record {
             is_last = w.2;
             pending = w.3;
-            turns = next_in k is date inside ∙ ap (λ o. turn_of o ∷ before_cycle) w.5;
+            first = ap (λ m. turn_of (soonest (pending order before_cycle (history (run_in k) m)))) (sym inside.0) ∙ ap turn_of w.5;
           },
         )
 
@@ -119,7 +158,7 @@ module _ (k : Inside) (is : KernelStands k) (d : IsDue k) where
       last = ap (λ n. history (run_in k) n agent) (sym inside.0) ∙ t.is_last
 
       abbrev looks : LooksBack (run_in k) k.plan.code before_cycle date r
-      looks = d.looks agent r before last t.pending
+      looks = d.looks k.cycles agent r before d.cycle last t.pending
 
       -- what it has, and what it sees
       module _ (now : ℕ) (now_is : now ≡ dates - 1) (machine : AgentMachine) (charge : Charged) (figure : Figure) (seat : Seat)
@@ -159,61 +198,112 @@ module _ (k : Inside) (is : KernelStands k) (d : IsDue k) where
       pub on_date : (now : ℕ) → now ≡ dates - 1 → now ≡ date
       on_date now now_is = now_is ∙ last_date dates date inside.0
 
-      -- how far back it looks
-      module _ (start now : ℕ) (start_is : start ≡ r.start) (now_is : now ≡ dates - 1) (look : Option (ℕ × ℕ)) (in_cycle : IsLookIn (run_in k) k.plan.code r (units r.agent r.number before_cycle) look) where
-        here : now ≡ date
-        here = on_date now now_is
+      -- ---- the cycles that it gets
 
-        pub near : IsNear (run_in k) start now look
-        near = subst (λ n. IsNear (run_in k) n now look) (sym start_is) (subst (λ n. IsNear (run_in k) r.start n look) (sym here) (looks.near look in_cycle))
+      abbrev pub given_turns : ℕ → List (Option Turn)
+      given_turns j = given_to (turn_of (Some r)) j before_cycle
 
-        pub early : k.plan.until ≤ 4294967295 → (start ≤ now) × (now ≤ 1099511627776)
-        early most = (omega (arith, start_is, here, GetsCycle.started (d.gets agent r before last t.pending)), omega (arith, here, d.inside.1, most))
+      -- as long as it is pending, who is pending stays
+      pub stay : (j : ℕ) → is_pending (given_turns j) r ≡ true → (other : ℕ) → All (StaysSo before_cycle (given_turns j)) (history (run_in k) dates other)
+      stay j later other = elim (cases_eq other agent) [
+        | inl same ↦
+            subst (λ a. All (StaysSo before_cycle (given_turns j)) (history (run_in k) dates a)) (sym same) (subst (All (StaysSo before_cycle (given_turns j))) (sym t.is_last)
+            (own_stay before_cycle r before j (GetsCycle.numbers (d.gets agent r before last t.pending)) t.pending later))
+        | inr differs ↦
+            All-weaker (AreSameFor before_cycle (given_turns j)) (StaysSo before_cycle (given_turns j)) (same_stays before_cycle (given_turns j)) (history (run_in k) dates other)
+            (others_same (run_in k) k.plan.code k.plan.until before_cycle dates k.shared k.machines.items k.charges.items k.ready k.figures.items (parts_in k is) lawful date agent r before (last_date dates date inside.0) t.is_last j other differs)
+      ]
 
-        -- the rings are reached for so far behind the cycle
-        pub reached_given : (reaches : List (Option ℕ)) → length reaches ≡ length k.reaches.items
-            → ((variable : ℕ) (n : Option ℕ) → slice_get k.reaches.items variable ≡ Some n → slice_get reaches variable ≡ Some (reach_by (run_in k) variable start now look n))
-            → (variable : ℕ) (n : Option ℕ) → slice_get reaches variable ≡ Some n → n ≡ reach (run_in k) (turns_in k (k.cycles + 1)) (history (run_in k) dates) variable
-        reached_given reaches as_many noted variable n at =
-            let old : Option ℕ = get_or k.reaches.items variable None in
-            let there : slice_get k.reaches.items variable ≡ Some old = slice_get-get_or k.reaches.items variable None (omega (arith, slice_get_within reaches variable n at, as_many)) in
-            let new : n ≡ reach_by (run_in k) variable start now look old = same_Some n (reach_by (run_in k) variable start now look old) (sym at ∙ noted variable old there) in
-            new
-            ∙ ap (λ m. reach_by (run_in k) variable m now look old) start_is ∙ ap (λ m. reach_by (run_in k) variable r.start m look old) here
-            ∙ ap (reach_by (run_in k) variable r.start date look) (is.reached variable old there ∙ ap (λ m. reach (run_in k) before_cycle (history (run_in k) m) variable) inside.0)
-            ∙ sym (looks.reached variable look in_cycle)
-            ∙ ap (λ m. reach (run_in k) (turn_of (Some r) ∷ before_cycle) (history (run_in k) m) variable) (sym inside.0)
-            ∙ ap (λ ts. reach (run_in k) ts (history (run_in k) dates) variable) (sym t.turns)
+      module _ (most : ℕ) (high : k.cycles + most ≤ (date + 1) * k.plan.unit.quantum) (ahead : (o : Order) → slice_get k.script.orders k.passed ≡ Some o → k.cycles + most ≤ o.cycle) where
+        -- as long as it is pending, the cycles go to it
+        pub row : (j : ℕ) → j ≤ most → ((i : ℕ) → i < j → is_pending (given_turns i) r ≡ true) → turns_in k (k.cycles + j) ≡ given_turns j
+        row j less pends =
+            in_a_row (run_in k) (order_of k.plan.unit k.script) date k.cycles inside.2 (turn_of (Some r)) t.first j (omega (arith, high, less)) (λ i below. order_until k is most ahead i (omega (arith, below, less)))
+            (λ i below other. subst (λ m. All (StaysSo before_cycle (given_turns i)) (history (run_in k) m other)) inside.0 (stay i (pends i below) other))
+
+        looks_on : (j : ℕ) → j < most → is_pending (given_turns j) r ≡ true → LooksBack (run_in k) k.plan.code (given_turns j) date r
+        looks_on j less later =
+            let e : turns_in k (k.cycles + j) ≡ given_turns j = row j (omega (arith, less)) (λ i below. was_pending (turn_of (Some r)) before_cycle r i j (omega (arith, below)) later) in
+            subst (λ ts. LooksBack (run_in k) k.plan.code ts date r) e
+            (d.looks (k.cycles + j) agent r before (record { of_plan = d.cycle.of_plan; of_inputs = d.cycle.of_inputs; of_script = d.cycle.of_script; before = d.cycle.before; most = d.cycle.most; low = omega (arith, inside.2); high = omega (arith, high, less) }) last (subst (λ ts. is_pending ts r ≡ true) (sym e) later))
+
+        -- what it has, and what it sees with each of them
+        pub may_last : (now : ℕ) → now ≡ dates - 1 → (machine : AgentMachine) (charge : Charged) (figure : Figure) (seat : Seat)
+            → slice_get k.machines.items agent ≡ Some machine → slice_get k.charges.items agent ≡ Some charge → slice_get k.figures.items agent ≡ Some figure → slice_get k.shared.seats.items agent ≡ Some seat
+            → (outbox : Outboxed) → slice_get k.shared.outboxes.items agent ≡ Some outbox
+            → MayLast k.plan k.shared.inputs.lists (stalls_of k.script) before_cycle now k.cycles agent most r before charge machine (pending_deadline k.ready agent) figure seat k.shared.ended.items
+            k.shared.rings.items k.shared.queues.items k.shared.taken.items outbox
+        may_last now now_is machine charge figure seat m c f x outbox o =
+            let here : now ≡ date = on_date now now_is in
+            let own : r.agent ≡ agent = GetsCycle.agent_is (d.gets agent r before last t.pending) in
+            record {
+              given = is_given now now_is machine charge figure seat m c f x outbox o;
+              ringed = subst (λ n. AreRingsOf (run_in k) n k.shared.rings.items) (inside.0 ∙ ap (λ n. n + 1) (sym here)) rings_stand;
+              queued = subst (λ n. AreQueuesOf (run_in k) n k.shared.queues.items) (inside.0 ∙ ap (λ n. n + 1) (sym here)) queues_stand;
+              counted = is.shared.taking;
+              sized = subst (λ n. IsGreatest (HasSendsTo k.plan.unit (agent_at k.plan.unit n)) outbox.size) (sym own) (is.shared.outboxes agent outbox o).size;
+              looks = λ j less later. subst (λ n. LooksBack (run_in k) k.plan.code (given_turns j) n r) (sym here) (looks_on j less later);
+            }
+
+      -- with none but the last of them an action is over
+      module _ (n : ℕ) (some : 1 ≤ n) (turns : (j : ℕ) → j ≤ n → turns_in k (k.cycles + j) ≡ given_turns j) (pends : (j : ℕ) → j < n → is_pending (given_turns j) r ≡ true) where
+        pub given_steady : (between : ℕ) → k.cycles < between → between < k.cycles + n → IsOverBy (progress_of k) between → ⊥
+        given_steady = steady k (turn_of (Some r)) n turns (λ j below. stay j (pends j below))
+
+        -- with the last one it is, where its action is
+        pub over_by : (goes : Bool) → is_pending (given_turns n) r ≡ goes → goes ≡ false → IsOverBy (progress_of k) (k.cycles + n)
+        over_by goes is_so over =
+            let e : k.cycles + n - 1 ≡ k.cycles + (n - 1) = omega (arith, some) in (
+              agent,
+              r,
+              subst (λ actions. Contains actions r) (sym t.is_last) (0, omega arith, refl),
+              ap (λ m. is_pending (turns_in k m) r) e ∙ ap (λ ts. is_pending ts r) (turns (n - 1) (omega (arith, some))) ∙ pends (n - 1) (omega (arith, some)),
+              ap (λ ts. is_pending ts r) (turns n (omega arith)) ∙ is_so ∙ over,
+            )
+
+      -- the rings are reached for so far behind them
+      pub reached_given : (n : ℕ) → turns_in k (k.cycles + n) ≡ given_turns n → (now : ℕ) → now ≡ dates - 1 → (reaches : List (Option ℕ)) → length reaches ≡ length k.reaches.items
+          → ((variable : ℕ) → slice_get k.reaches.items variable ≡ Some (reach (run_in k) before_cycle (history (run_in k) (now + 1)) variable) → slice_get reaches variable ≡ Some (reach (run_in k) (given_turns n) (history (run_in k) (now + 1)) variable))
+          → (variable : ℕ) (m : Option ℕ) → slice_get reaches variable ≡ Some m → m ≡ reach (run_in k) (turns_in k (k.cycles + n)) (history (run_in k) dates) variable
+      reached_given n turns now now_is reaches as_many reached variable m at =
+          let here : now + 1 ≡ dates = ap (λ x. x + 1) (on_date now now_is) ∙ sym inside.0 in
+          let old : Option ℕ = get_or k.reaches.items variable None in
+          let there : slice_get k.reaches.items variable ≡ Some old = slice_get-get_or k.reaches.items variable None (omega (arith, slice_get_within reaches variable m at, as_many)) in
+          let before_is : old ≡ reach (run_in k) before_cycle (history (run_in k) (now + 1)) variable = is.reached variable old there ∙ ap (λ x. reach (run_in k) before_cycle (history (run_in k) x) variable) (sym here) in
+          same_Some m (reach (run_in k) (given_turns n) (history (run_in k) (now + 1)) variable) (sym at ∙ reached variable (there ∙ ap (λ x. Some x) before_is))
+          ∙ ap (λ x. reach (run_in k) (given_turns n) (history (run_in k) x) variable) here
+          ∙ ap (λ ts. reach (run_in k) ts (history (run_in k) dates) variable) (sym turns)
 
     -- the kernel with what it has then
-    module _ (r : Action) (before : List Action) (t : Takes r before) (machine : AgentMachine) (charge : Charged) (waiting : Option ℕ) (figure : Figure) (seat : Seat) (ended : List ℤ)
-        (one : OneStands (run_in k) k.plan.code (Some (record { agent = r.agent; number = r.number }) ∷ before_cycle) k.plan.until date agent (r ∷ before) charge machine waiting figure seat ended)
+    module _ (r : Action) (before : List Action) (t : Takes r before) (n : ℕ) (high : k.cycles + n ≤ (date + 1) * k.plan.unit.quantum) (turns : turns_in k (k.cycles + n) ≡ given_to (turn_of (Some r)) n before_cycle) (machine : AgentMachine) (charge : Charged) (waiting : Option ℕ) (figure : Figure) (seat : Seat) (ended : List ℤ)
+        (one : OneStands (run_in k) k.plan.code (given_to (turn_of (Some r)) n before_cycle) k.plan.until date agent (r ∷ before) charge machine waiting figure seat ended)
         (all : length ended ≡ length k.shared.ended.items) (others : (variable : ℕ) (v : VarDecl) → slice_get k.plan.unit.variables variable ≡ Some v → v.owner ≢ Some agent → slice_get ended variable ≡ slice_get k.shared.ended.items variable)
-        (outbox : Outboxed) (taken : List ℕ) (box : BoxStands (run_in k) k.plan.code (Some (record { agent = r.agent; number = r.number }) ∷ before_cycle) date agent (r ∷ before) outbox.sends taken)
+        (outbox : Outboxed) (taken : List ℕ) (box : BoxStands (run_in k) k.plan.code (given_to (turn_of (Some r)) n before_cycle) date agent (r ∷ before) outbox.sends taken)
         (size : (old : Outboxed) → slice_get k.shared.outboxes.items agent ≡ Some old → outbox.size ≡ old.size) (count : length taken ≡ length k.shared.taken.items)
         (untaken : (stream : ℕ) (decl : StreamDecl) → slice_get k.plan.unit.streams stream ≡ Some decl → decl.receiver ≢ agent → slice_get taken stream ≡ slice_get k.shared.taken.items stream)
         (ready : List (Option ℕ)) (as_many : length ready ≡ length k.ready) (own : (w : Option ℕ) → slice_get ready agent ≡ Some w → w ≡ waiting) (rest : (other : ℕ) → (other ≡ agent → ⊥) → slice_get ready other ≡ slice_get k.ready other) where
       pub parts_given : (after : Shared) → after.date ≡ k.shared.date → after.seats.items ≡ slice_set k.shared.seats.items agent seat → after.ended.items ≡ ended → after.committed ≡ k.shared.committed
           → after.rings ≡ k.shared.rings → after.queues ≡ k.shared.queues → after.outboxes.items ≡ slice_set k.shared.outboxes.items agent outbox → after.taken.items ≡ taken
-          → PartsStand (run_in k) k.plan.code k.plan.until (turns_in k (k.cycles + 1)) dates after (slice_set k.machines.items agent machine) (slice_set k.charges.items agent charge) ready (slice_set k.figures.items agent figure)
+          → PartsStand (run_in k) k.plan.code k.plan.until (turns_in k (k.cycles + n)) dates after (slice_set k.machines.items agent machine) (slice_set k.charges.items agent charge) ready (slice_set k.figures.items agent figure)
       parts_given after a b c d e f g h =
-          subst (λ ts. PartsStand (run_in k) k.plan.code k.plan.until ts dates after (slice_set k.machines.items agent machine) (slice_set k.charges.items agent charge) ready (slice_set k.figures.items agent figure)) (sym t.turns)
-          (given (run_in k) k.plan.code k.plan.until before_cycle dates k.shared k.machines.items k.charges.items k.ready k.figures.items (parts_in k is) lawful date agent r before (last_date dates date inside.0) t.is_last machine charge waiting figure seat ended one all others outbox taken box size count untaken ready as_many own rest after g h
-          (shared_given (run_in k) k.plan.code k.plan.until before_cycle dates k.shared k.machines.items k.charges.items k.ready k.figures.items (parts_in k is) lawful date agent r before (last_date dates date inside.0) t.is_last machine charge waiting figure seat ended one all others outbox taken box size count untaken after a b c d e f g h))
+          subst (λ ts. PartsStand (run_in k) k.plan.code k.plan.until ts dates after (slice_set k.machines.items agent machine) (slice_set k.charges.items agent charge) ready (slice_set k.figures.items agent figure)) (sym turns)
+          (given (run_in k) k.plan.code k.plan.until before_cycle dates k.shared k.machines.items k.charges.items k.ready k.figures.items (parts_in k is) lawful date agent r before (last_date dates date inside.0) t.is_last n machine charge waiting figure seat ended one all others outbox taken box size count untaken ready as_many own rest after g h
+          (shared_given (run_in k) k.plan.code k.plan.until before_cycle dates k.shared k.machines.items k.charges.items k.ready k.figures.items (parts_in k is) lawful date agent r before (last_date dates date inside.0) t.is_last n machine charge waiting figure seat ended one all others outbox taken box size count untaken after a b c d e f g h))
 
       pub given_between : (seats : Vec Seat Global) (copies : Vec ℤ Global) (outboxes : Vec Outboxed Global) (counts : Vec ℕ Global) (machines : Vec AgentMachine Global) (charges : Vec Charged Global) (figures : Vec Figure Global) (reaches : Vec (Option ℕ) Global) (chosen : Option ℕ) (stale : Bool)
           → seats.items ≡ slice_set k.shared.seats.items agent seat → copies.items ≡ ended → outboxes.items ≡ slice_set k.shared.outboxes.items agent outbox → counts.items ≡ taken → machines.items ≡ slice_set k.machines.items agent machine → charges.items ≡ slice_set k.charges.items agent charge → figures.items ≡ slice_set k.figures.items agent figure
-          → length reaches.items ≡ length k.reaches.items → ((variable : ℕ) (n : Option ℕ) → slice_get reaches.items variable ≡ Some n → n ≡ reach (run_in k) (turns_in k (k.cycles + 1)) (history (run_in k) dates) variable)
+          → length reaches.items ≡ length k.reaches.items → ((variable : ℕ) (m : Option ℕ) → slice_get reaches.items variable ≡ Some m → m ≡ reach (run_in k) (turns_in k (k.cycles + n)) (history (run_in k) dates) variable)
           → (stale ≡ false → IsChosen ready order chosen)
-          → IsBetween (record k { shared = record k.shared { seats = seats; ended = copies; outboxes = outboxes; taken = counts }; machines = machines; charges = charges; figures = figures; ready = ready; reaches = reaches; chosen = chosen; stale = stale })
+          → IsBetween (record k { shared = record k.shared { seats = seats; ended = copies; outboxes = outboxes; taken = counts }; machines = machines; charges = charges; figures = figures; ready = ready; reaches = reaches; chosen = chosen; stale = stale }) n
       given_between seats copies outboxes counts machines charges figures reaches chosen stale a b g h c e f as_many reached choice = record {
         date = date;
         dates = inside.0;
         cycle = d.cycle;
+        inside = high;
         parts =
-            subst (λ ms. PartsStand (run_in k) k.plan.code k.plan.until (turns_in k (k.cycles + 1)) dates (record k.shared { seats = seats; ended = copies; outboxes = outboxes; taken = counts }) ms charges.items ready figures.items) (sym c)
-            (subst (λ cs. PartsStand (run_in k) k.plan.code k.plan.until (turns_in k (k.cycles + 1)) dates (record k.shared { seats = seats; ended = copies; outboxes = outboxes; taken = counts }) (slice_set k.machines.items agent machine) cs ready figures.items) (sym e)
-            (subst (λ fs. PartsStand (run_in k) k.plan.code k.plan.until (turns_in k (k.cycles + 1)) dates (record k.shared { seats = seats; ended = copies; outboxes = outboxes; taken = counts }) (slice_set k.machines.items agent machine) (slice_set k.charges.items agent charge) ready fs) (sym f)
+            subst (λ ms. PartsStand (run_in k) k.plan.code k.plan.until (turns_in k (k.cycles + n)) dates (record k.shared { seats = seats; ended = copies; outboxes = outboxes; taken = counts }) ms charges.items ready figures.items) (sym c)
+            (subst (λ cs. PartsStand (run_in k) k.plan.code k.plan.until (turns_in k (k.cycles + n)) dates (record k.shared { seats = seats; ended = copies; outboxes = outboxes; taken = counts }) (slice_set k.machines.items agent machine) cs ready figures.items) (sym e)
+            (subst (λ fs. PartsStand (run_in k) k.plan.code k.plan.until (turns_in k (k.cycles + n)) dates (record k.shared { seats = seats; ended = copies; outboxes = outboxes; taken = counts }) (slice_set k.machines.items agent machine) (slice_set k.charges.items agent charge) ready fs) (sym f)
             (parts_given (record k.shared { seats = seats; ended = copies; outboxes = outboxes; taken = counts }) refl a b refl refl refl g h)));
         reaching = as_many ∙ is.reaching;
         reached = reached;

@@ -1,6 +1,6 @@
--- A kernel that has given its cycle and not yet counted it.
+-- A kernel that has given its cycles and not yet counted them.
 use Rattle.std.proofs.Common.{◌≡◌, sym, ap, ◌∙◌, subst, arith}
-use Rattle.std.specs.Prelude.{ℕ, ◌+◌, ◌<◌, ◌≤◌, Bool, true, false, nat_lt, List, ◌∷◌, length, slice_get, Option, None, Some, ℤ}
+use Rattle.std.specs.Prelude.{ℕ, ◌+◌, ◌*◌, ◌<◌, ◌≤◌, Bool, true, false, nat_lt, List, ◌∷◌, length, slice_get, Option, None, Some, ℤ}
 use Rattle.std.specs.List.{range_with_len}
 use Rattle.std.proofs.lemmas.Bool.{ltb-false, true≢false}
 use Rattle.std.proofs.lemmas.Nat.{mul-le}
@@ -11,7 +11,7 @@ use Rattle.psy_dates.specs.Standing.{dates_done}
 use Rattle.psy_history.specs.Regular.{IsLawful}
 use Rattle.psy_history.specs.Actions.{Action, History, System}
 use Rattle.psy_history.specs.History.{history}
-use Rattle.psy_history.specs.Schedule.{Turn, is_pending, pending, soonest, turn_of}
+use Rattle.psy_history.specs.Schedule.{Turn, is_pending}
 use Rattle.psy_history.specs.Summary.{reach}
 use Rattle.psy_ready.specs.Choice.{ListsEach}
 use Rattle.psy_kernel.specs.Cycles.{AreOver, GetsCycle, IsCycleOf, LooksBack, order_by, run_of, run_turns}
@@ -22,8 +22,7 @@ use Rattle.psy_kernel.specs.declared.stage.Stage.TheVariants.{CycleDue}
 use Rattle.psy_kernel.specs.Progress.{Progress, stage_of}
 use Rattle.psy_history.specs.Scripts.{order_of}
 use Rattle.psy_kernel.specs.Standing.{AreInForce, IsChosen, KernelStands, given_at, most_held_in, progress_of}
-use Rattle.psy_kernel.proofs.CyclesDone.{next_turn}
-use Rattle.psy_kernel.proofs.OrdersInForce.{in_force_is, lists_order}
+use Rattle.psy_kernel.proofs.OrdersInForce.{in_force_is, lists_order, no_more}
 use Rattle.psy_kernel.proofs.Parts.{PartsStand}
 use Rattle.psy_kernel.proofs.Stages.{IsInside, cycle_due, inside_tick, tick_kept}
 
@@ -45,13 +44,15 @@ ReachedIn k cycles = (variable : ℕ) (n : Option ℕ) → slice_get k.reaches.i
 abbrev pub HeldIn : Inside → Type 0
 HeldIn k = (stream n : ℕ) → slice_get k.helds.items stream ≡ Some n → n ≡ most_held_in (run_in k) (dates_done k.shared.date) stream
 
-pub record IsBetween (m : Inside) : Type 0 where
+-- So many cycles were given
+pub record IsBetween (m : Inside) (n : ℕ) : Type 0 where
   pub date : ℕ
   pub dates : dates_done m.shared.date ≡ date + 1
   pub cycle : IsCycleOf m.plan m.shared.inputs.lists m.script date m.cycles
-  pub parts : PartsIn m (m.cycles + 1)
+  pub inside : m.cycles + n ≤ (date + 1) * m.plan.unit.quantum
+  pub parts : PartsIn m (m.cycles + n)
   pub reaching : length m.reaches.items ≡ length m.plan.unit.variables
-  pub reached : ReachedIn m (m.cycles + 1)
+  pub reached : ReachedIn m (m.cycles + n)
   pub holding : length m.helds.items ≡ length m.plan.unit.streams
   pub held : HeldIn m
   pub all : m.declared.items ≡ range_with_len 0 (length m.plan.unit.agents)
@@ -61,7 +62,7 @@ pub record IsBetween (m : Inside) : Type 0 where
   pub unshown : m.place < length m.plan.unit.agents + length m.plan.unit.variables → m.shown ≡ 0
   pub given : m.given ≡ given_at (run_in m) (dates_done m.shared.date) m.place m.shown
 
--- ---- before the cycle
+-- ---- before them
 
 module _ (k : Inside) (is : KernelStands k) where
   pub parts_in : PartsIn k k.cycles
@@ -96,26 +97,26 @@ module _ (k : Inside) (is : KernelStands k) where
     high = h.3;
   }
 
-  -- what the cycle goes to
-  pub next_in : (date : ℕ) → IsInside k.plan.unit.quantum k.plan.until (dates_done k.shared.date) k.cycles date
-      → turns_in k (k.cycles + 1) ≡ turn_of (soonest (pending (order_of k.plan.unit k.script k.cycles) (turns_in k k.cycles) (history (run_in k) (dates_done k.shared.date)))) ∷ turns_in k k.cycles
-  next_in date h =
-      next_turn (run_in k) (order_of k.plan.unit k.script) date k.cycles h.2 h.3
-      ∙ ap (λ n. turn_of (soonest (pending (order_of k.plan.unit k.script k.cycles) (turns_in k k.cycles) (history (run_in k) n))) ∷ turns_in k k.cycles) (sym h.0)
+  -- the order stays up to the cycle of the next one
+  pub order_until : (n : ℕ) → ((o : Order) → slice_get k.script.orders k.passed ≡ Some o → k.cycles + n ≤ o.cycle) → (j : ℕ) → j < n → order_of k.plan.unit k.script (k.cycles + j) ≡ order_of k.plan.unit k.script k.cycles
+  order_until n ahead j less =
+      let then_in_force : AreInForce k.script.orders k.passed (k.cycles + j) = no_more k.script.orders is.script.orders_rise k.passed k.cycles is.orders (k.cycles + j) (omega arith) (λ o at. omega (arith, ahead o at, less)) in
+      in_force_is (range_with_len 0 (length k.plan.unit.agents)) k.script.orders k.passed (k.cycles + j) then_in_force
+      ∙ sym (in_force_is (range_with_len 0 (length k.plan.unit.agents)) k.script.orders k.passed k.cycles is.orders)
 
--- ---- behind it
+-- ---- behind them
 
-module _ (m : Inside) (b : IsBetween m) where
-  pub inside_between : IsInside m.plan.unit.quantum m.plan.until (dates_done m.shared.date) m.cycles b.date
+module _ (m : Inside) (n : ℕ) (b : IsBetween m n) where
+  inside_between : IsInside m.plan.unit.quantum m.plan.until (dates_done m.shared.date) m.cycles b.date
   inside_between = (b.dates, b.cycle.before, b.cycle.low, b.cycle.high)
 
-  pub counted : (passed : ℕ) (stale : Bool) → AreInForce m.script.orders passed (m.cycles + 1) → (stale ≡ false → IsChosen m.ready (order_of m.plan.unit m.script (m.cycles + 1)) m.chosen)
-      → KernelStands (record m { passed = passed; stale = stale; cycles = m.cycles + 1 })
+  counted : (passed : ℕ) (stale : Bool) → AreInForce m.script.orders passed (m.cycles + n) → (stale ≡ false → IsChosen m.ready (order_of m.plan.unit m.script (m.cycles + n)) m.chosen)
+      → KernelStands (record m { passed = passed; stale = stale; cycles = m.cycles + n })
   counted passed stale orders choice = record {
     plan = b.cycle.of_plan;
     inputs = b.cycle.of_inputs;
     script = b.cycle.of_script;
-    in_tick = tick_kept m.plan.unit.quantum m.plan.until (dates_done m.shared.date) m.cycles b.date inside_between;
+    in_tick = tick_kept m.plan.unit.quantum m.plan.until (dates_done m.shared.date) m.cycles b.date n inside_between b.inside;
     shared = b.parts.shares;
     machined = b.parts.machined;
     charges = b.parts.charged;
@@ -136,18 +137,18 @@ module _ (m : Inside) (b : IsBetween m) where
   }
 
   -- the order in force stays where none comes
-  pub order_stays : AreInForce m.script.orders m.passed (m.cycles + 1) → order_of m.plan.unit m.script m.cycles ≡ order_of m.plan.unit m.script (m.cycles + 1)
+  order_stays : AreInForce m.script.orders m.passed (m.cycles + n) → order_of m.plan.unit m.script m.cycles ≡ order_of m.plan.unit m.script (m.cycles + n)
   order_stays next =
       in_force_is (range_with_len 0 (length m.plan.unit.agents)) m.script.orders m.passed m.cycles b.orders
-      ∙ sym (in_force_is (range_with_len 0 (length m.plan.unit.agents)) m.script.orders m.passed (m.cycles + 1) next)
+      ∙ sym (in_force_is (range_with_len 0 (length m.plan.unit.agents)) m.script.orders m.passed (m.cycles + n) next)
 
   -- the choice stays where the same agents wait and no order comes into force
-  pub counted_fresh : m.stale ≡ false → (passed : ℕ) → AreInForce m.script.orders passed (m.cycles + 1) → m.passed ≤ passed → KernelStands (record m { passed = passed; stale = nat_lt m.passed passed; cycles = m.cycles + 1 })
+  pub counted_fresh : m.stale ≡ false → (passed : ℕ) → AreInForce m.script.orders passed (m.cycles + n) → m.passed ≤ passed → KernelStands (record m { passed = passed; stale = nat_lt m.passed passed; cycles = m.cycles + n })
   counted_fresh fresh passed orders no_less =
       counted passed (nat_lt m.passed passed) orders (λ same. (let e : passed ≡ m.passed = omega (arith, ltb-false m.passed passed same, no_less) in
-      subst (λ o. IsChosen m.ready o m.chosen) (order_stays (subst (λ n. AreInForce m.script.orders n (m.cycles + 1)) e orders)) (b.choice fresh)))
+      subst (λ o. IsChosen m.ready o m.chosen) (order_stays (subst (λ p. AreInForce m.script.orders p (m.cycles + n)) e orders)) (b.choice fresh)))
 
-  pub counted_stale : (passed : ℕ) → AreInForce m.script.orders passed (m.cycles + 1) → KernelStands (record m { passed = passed; stale = true; cycles = m.cycles + 1 })
+  pub counted_stale : (passed : ℕ) → AreInForce m.script.orders passed (m.cycles + n) → KernelStands (record m { passed = passed; stale = true; cycles = m.cycles + n })
   counted_stale passed orders = counted passed true orders (λ wrong. absurd (true≢false wrong))
 
 -- ---- a kernel whose cycle is due
@@ -160,15 +161,15 @@ pub record IsDue (k : Inside) : Type 0 where
   pub lawful : IsLawful (run_in k)
   pub over : (agent : ℕ) → AreOver (turns_in k k.cycles) (history (run_in k) (date + 1) agent)
   pub gets : (agent : ℕ) (r : Action) (before : List Action) → history (run_in k) (date + 1) agent ≡ r ∷ before → is_pending (turns_in k k.cycles) r ≡ true → GetsCycle (run_in k) k.plan.code (turns_in k k.cycles) k.plan.until date k.cycles agent r before
-  pub looks : (agent : ℕ) (r : Action) (before : List Action) → history (run_in k) (date + 1) agent ≡ r ∷ before → is_pending (turns_in k k.cycles) r ≡ true → LooksBack (run_in k) k.plan.code (turns_in k k.cycles) date r
+  pub looks : (cycle agent : ℕ) (r : Action) (before : List Action) → IsCycleOf k.plan k.shared.inputs.lists k.script date cycle → history (run_in k) (date + 1) agent ≡ r ∷ before → is_pending (turns_in k cycle) r ≡ true → LooksBack (run_in k) k.plan.code (turns_in k cycle) date r
   pub idle : (turns : List (Option Turn)) (h : History) (variable : ℕ) → reach (run_in k) (None ∷ turns) h variable ≡ reach (run_in k) turns h variable
-  pub small : k.cycles + 1 < 18446744073709551615
+  pub small : (date + 1) * k.plan.unit.quantum < 18446744073709551615
 
 module _ (k : Inside) (is : KernelStands k) where
-  small_cycles : (date : ℕ) → IsCycleOf k.plan k.shared.inputs.lists k.script date k.cycles → k.cycles + 1 < 18446744073709551615
+  small_cycles : (date : ℕ) → IsCycleOf k.plan k.shared.inputs.lists k.script date k.cycles → (date + 1) * k.plan.unit.quantum < 18446744073709551615
   small_cycles date c =
       let a = mul-le (date + 1) k.plan.unit.quantum 4294967295 1000000 (omega (arith, c.before, c.most)) is.plan.compiled.text.bare.quantum.1 in
-      omega (arith, a, c.high)
+      omega (arith, a)
 
   pub due_by : (p : Progress) → progress_of k ≡ p → stage_of p ≡ CycleDue p.cycles → k.plan.until ≤ 4294967295
       → ((plan : Plan) (inputs : List (List ℤ)) (script : Script) → IsPlan plan → AreInputs plan.unit inputs → IsLawful (run_of plan inputs script))
@@ -189,10 +190,19 @@ module _ (k : Inside) (is : KernelStands k) where
         lawful = lawful k.plan k.shared.inputs.lists k.script is.plan is.inputs;
         over = λ agent. over k.plan k.shared.inputs.lists k.script w.0 k.cycles agent cycle;
         gets = λ agent r before. gets k.plan k.shared.inputs.lists k.script w.0 k.cycles agent r before cycle;
-        looks = λ agent r before. looks k.plan k.shared.inputs.lists k.script w.0 k.cycles agent r before cycle;
+        looks = λ at agent r before. looks k.plan k.shared.inputs.lists k.script w.0 at agent r before;
         idle = idle (run_in k);
         small = small_cycles w.0 cycle;
       }
+
+  -- what its caller knows of so many cycles
+  module _ (d : IsDue k) (p : Progress) (e : progress_of k ≡ p) (most : ℕ) where
+    pub high_of : p.cycles + most ≤ p.dates * p.plan.unit.quantum → k.cycles + most ≤ (d.date + 1) * k.plan.unit.quantum
+    high_of inside = subst (λ dates. k.cycles + most ≤ dates * k.plan.unit.quantum) d.inside.0 (subst (λ (q : Progress). q.cycles + most ≤ q.dates * q.plan.unit.quantum) (sym e) inside)
+
+    pub ahead_of : ((place : ℕ) (o : Order) → slice_get p.script.orders place ≡ Some o → p.cycles < o.cycle → p.cycles + most ≤ o.cycle) → (o : Order) → slice_get k.script.orders k.passed ≡ Some o → k.cycles + most ≤ o.cycle
+    ahead_of ahead o at =
+        subst (λ (q : Progress). (place : ℕ) (o : Order) → slice_get q.script.orders place ≡ Some o → q.cycles < o.cycle → q.cycles + most ≤ o.cycle) (sym e) ahead k.passed o at (is.orders.ahead k.passed o at (omega arith))
 
   pub lists_read : (read : List ℕ) → read ≡ order_of k.plan.unit k.script k.cycles → ListsEach (length k.ready) read
   lists_read read e = subst (ListsEach (length k.ready)) (sym e) (subst (λ n. ListsEach n (order_of k.plan.unit k.script k.cycles)) (sym is.waiting) (lists_order k.plan.unit k.script k.cycles is.script))

@@ -50,3 +50,5 @@ mod ManyCycles
 mod OnTheWay
 mod Scenes
 mod Stretched
+mod GivenCycles
+mod SliceEnds

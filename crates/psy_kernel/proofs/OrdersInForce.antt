@@ -1,4 +1,4 @@
--- Which order of ties is in force at a cycle, and at the next one.
+-- Which order of ties is in force at a cycle, and at a later one.
 use Rattle.std.proofs.Common.{◌≡◌, ◌≢◌, refl, sym, ap, ◌∙◌, inl, inr, arith}
 use Rattle.std.specs.Prelude.{ℕ, zero, suc, ◌+◌, ◌-◌, ◌<◌, ◌≤◌, ◌==◌, nat_le, List, [], ◌∷◌, length, get_or, Some, slice_get}
 use Rattle.std.specs.List.{All, AllPairs, range_with_len}
@@ -68,7 +68,7 @@ in_force_is declared (o ∷ orders) (suc passed) cycle h =
     ∙ in_force_is o.agents orders passed cycle (behind o orders passed cycle h)
     ∙ order_suc declared o orders passed (omega (arith, h.within))
 
--- ---- the next cycle
+-- ---- a later cycle
 
 module _ (orders : List Order) (rise : AllPairs (λ (o : Order) (p : Order). o.cycle < p.cycle) orders) (passed cycle : ℕ) (h : AreInForce orders passed cycle) where
   -- an order behind another comes later
@@ -79,30 +79,34 @@ module _ (orders : List Order) (rise : AllPairs (λ (o : Order) (p : Order). o.c
       let b = ap (λ (q : Order). q.cycle) (get_or_from_slice_get orders more p o at') in
       omega (arith, rises, a, b)
 
-  -- one comes into force
-  pub one_more : (o : Order) → slice_get orders passed ≡ Some o → o.cycle ≡ cycle + 1 → AreInForce orders (passed + 1) (cycle + 1)
-  one_more o at e = record {
+  -- what holds of the next order's cycle from below holds of all that haven't come into force
+  pub all_ahead : (next : ℕ) → ((o : Order) → slice_get orders passed ≡ Some o → next ≤ o.cycle) → (place : ℕ) (o : Order) → slice_get orders place ≡ Some o → passed ≤ place → next ≤ o.cycle
+  all_ahead next ahead place o at more = elim (cases_eq place passed) [
+    | inl same ↦ ahead o (ap (slice_get orders) (sym same) ∙ at)
+    | inr other ↦ (let low : passed < place = grind (arith, other, more) in behind place o at low)
+  ]
+    where
+      behind : (place : ℕ) (o : Order) → slice_get orders place ≡ Some o → passed < place → next ≤ o.cycle
+      behind place o at low =
+          let within : passed < length orders = omega (arith, slice_get_within orders place o at, low) in
+          let first = slice_get-get_or orders passed o within in
+          omega (arith, later passed place (get_or orders passed o) o first at low, ahead (get_or orders passed o) first)
+
+  -- up to the next order's cycle nothing changes
+  pub no_more : (next : ℕ) → cycle ≤ next → ((o : Order) → slice_get orders passed ≡ Some o → next < o.cycle) → AreInForce orders passed next
+  no_more next more ahead = record {
+    within = h.within;
+    come = λ place p here less. omega (arith, h.come place p here less, more);
+    ahead = λ place p here less. omega (arith, all_ahead (next + 1) (λ o at. omega (arith, ahead o at)) place p here less);
+  }
+
+  -- one comes into force at its cycle
+  pub one_more : (next : ℕ) → cycle < next → (o : Order) → slice_get orders passed ≡ Some o → o.cycle ≡ next → AreInForce orders (passed + 1) next
+  one_more next more o at e = record {
     within = omega (arith, slice_get_within orders passed o at);
     come = λ place p here less. elim (cases_eq place passed) [
       | inl same ↦ let is : Some p ≡ Some o = sym here ∙ ap (slice_get orders) same ∙ at in let same_order : p ≡ o = cc in omega (arith, ap (λ (q : Order). q.cycle) same_order, e)
-      | inr other ↦ omega (arith, h.come place p here (let low : place < passed = grind (arith, other) in low))
+      | inr other ↦ omega (arith, h.come place p here (let low : place < passed = grind (arith, other) in low), more)
     ];
-    ahead = λ place p here more. omega (arith, later passed place o p at here (omega (arith, more)), e);
+    ahead = λ place p here less. omega (arith, later passed place o p at here (omega (arith, less)), e);
   }
-
-  -- none does
-  pub no_more : ((o : Order) → slice_get orders passed ≡ Some o → o.cycle ≢ cycle + 1) → AreInForce orders passed (cycle + 1)
-  no_more none = record {
-    within = h.within;
-    come = λ place p here less. omega (arith, h.come place p here less);
-    ahead = λ place p here more. elim (cases_eq place passed) [
-      | inl same ↦ (let at : slice_get orders passed ≡ Some p = ap (slice_get orders) (sym same) ∙ here in let above = h.ahead place p here more in let differs = none p at in grind (arith, above, differs))
-      | inr other ↦ (let low : passed < place = grind (arith, other, more) in behind_first place p here low)
-    ];
-  }
-    where
-      behind_first : (place : ℕ) (p : Order) → slice_get orders place ≡ Some p → passed < place → cycle + 1 < p.cycle
-      behind_first place p here low =
-          let within : passed < length orders = omega (arith, slice_get_within orders place p here, low) in
-          let first = slice_get-get_or orders passed p within in
-          omega (arith, later passed place (get_or orders passed p) p first here low, h.ahead passed (get_or orders passed p) first (omega arith))

@@ -22,7 +22,7 @@ use Rattle.psy_kernel.specs.Standing.{AgentStands, ChargeStands, DeedsStand, Has
 
 -- ---- lists
 
-filter_agree_on : {X : Type 0} (p q : X → Bool) (xs : List X) → All (λ x. p x ≡ q x) xs → filter p xs ≡ filter q xs
+pub filter_agree_on : {X : Type 0} (p q : X → Bool) (xs : List X) → All (λ x. p x ≡ q x) xs → filter p xs ≡ filter q xs
 filter_agree_on p q [] h = refl
 filter_agree_on p q (x ∷ xs) h =
     ap (λ test. if test then x ∷ filter p xs else filter p xs) (All-head (λ y. p y ≡ q y) x xs h)

@@ -1,4 +1,4 @@
--- What all agents have and share, before a cycle and behind it.
+-- What all agents have and share, before some cycles and behind them.
 use Rattle.std.proofs.Common.{◌≡◌, ◌≢◌, refl, sym, ap, ◌∙◌, subst, inl, inr, arith}
 use Rattle.std.specs.Prelude.{ℕ, zero, suc, ◌-◌, ◌<◌, ◌≤◌, List, [], ◌∷◌, length, Option, Some, None, slice_get, slice_set, ℤ}
 use Rattle.std.specs.List.{All}
@@ -26,8 +26,10 @@ use Rattle.psy_tree.specs.declared.unit.VarDecl.{VarDecl}
 use Rattle.psy_kernel.specs.Cycles.{AreOver, BoxStands, OneStands}
 use Rattle.psy_kernel.specs.declared.kernel.Figure.{Figure}
 use Rattle.psy_kernel.specs.Standing.{AgentStands, DeedsStand, IsChosen, deadline_of}
+use Rattle.psy_kernel.specs.Stretches.{given_to}
+use Rattle.psy_kernel.proofs.GivenCycles.{missed_all}
 use Rattle.psy_kernel.proofs.OneAgent.{variable_known}
-use Rattle.psy_kernel.proofs.OtherAgents.{AreSameFor, agent_kept, copy_kept, deeds_kept, deeds_untaken, missed, other_agent, seat_kept, sends_kept, takes_kept}
+use Rattle.psy_kernel.proofs.OtherAgents.{AreSameFor, agent_kept, copy_kept, deeds_kept, deeds_untaken, other_agent, seat_kept, sends_kept, takes_kept}
 use Rattle.psy_kernel.proofs.PickIsSoonest.{Front, IsSoonest, front_of, soonest_by_pick, soonest_of_nobody}
 use Rattle.psy_kernel.proofs.Sets.{get_set_other, get_set_same}
 
@@ -68,18 +70,18 @@ shared_same s turns now dates shared same h = record {
 }
 
 module _ (s : System) (code : Code) (until : ℕ) (turns : List (Option Turn)) (dates : ℕ) (shared : Shared) (machines : List AgentMachine) (charges : List Charged) (ready : List (Option ℕ)) (figures : List Figure) (p : PartsStand s code until turns dates shared machines charges ready figures) where
-  -- a cycle that nobody gets
-  pub idle : PartsStand s code until (None ∷ turns) dates shared machines charges ready figures
-  idle =
-      let same : (agent : ℕ) → All (AreSameFor turns (None ∷ turns)) (history s dates agent) = λ agent k d less. missed None turns _ refl in
+  -- cycles that nobody gets
+  pub idle : (n : ℕ) → PartsStand s code until (given_to None n turns) dates shared machines charges ready figures
+  idle n =
+      let same : (agent : ℕ) → All (AreSameFor turns (given_to None n turns)) (history s dates agent) = λ agent k d less. missed_all None turns _ refl n in
       record {
-        shares = shared_same s turns (None ∷ turns) dates shared same p.shares;
+        shares = shared_same s turns (given_to None n turns) dates shared same p.shares;
         machined = p.machined;
         charged = p.charged;
         waiting = p.waiting;
         figured = p.figured;
-        agents = λ agent machine charge waits figure m c w f. agent_kept turns (None ∷ turns) s code until agent (history s dates agent) charge machine waits figure (same agent) (p.agents agent machine charge waits figure m c w f);
-        doing = λ agent outbox at. deeds_kept turns (None ∷ turns) s code (history s dates agent) outbox.sends shared.taken.items (same agent) (p.doing agent outbox at);
+        agents = λ agent machine charge waits figure m c w f. agent_kept turns (given_to None n turns) s code until agent (history s dates agent) charge machine waits figure (same agent) (p.agents agent machine charge waits figure m c w f);
+        doing = λ agent outbox at. deeds_kept turns (given_to None n turns) s code (history s dates agent) outbox.sends shared.taken.items (same agent) (p.doing agent outbox at);
       }
 
   module _ (lawful : IsLawful s) (over : (agent : ℕ) → AreOver turns (history s dates agent)) where
@@ -124,10 +126,10 @@ module _ (s : System) (code : Code) (until : ℕ) (turns : List (Option Turn)) (
     kept = λ variable value at owned. subst (λ actions. KeepsCopy date turns variable actions value) is (subst (λ d. KeepsCopy d turns variable (history s dates agent) value) last (p.shares.ended variable agent value at owned));
   }
 
-  -- a cycle that an agent's last action gets
-  module _ (lawful : IsLawful s) (date agent : ℕ) (r : Action) (before : List Action) (last : dates - 1 ≡ date) (is : history s dates agent ≡ r ∷ before) where
+  -- cycles that an agent's last action gets, so many in a row
+  module _ (lawful : IsLawful s) (date agent : ℕ) (r : Action) (before : List Action) (last : dates - 1 ≡ date) (is : history s dates agent ≡ r ∷ before) (n : ℕ) where
     abbrev now : List (Option Turn)
-    now = Some (record { agent = r.agent; number = r.number }) ∷ turns
+    now = given_to (Some (record { agent = r.agent; number = r.number })) n turns
 
     of_agent : (other : ℕ) (actions : List Action) → All (IsRegular s other) actions → All (λ (q : Action). q.agent ≡ other) actions
     of_agent other actions all = All-weaker (IsRegular s other) (λ (q : Action). q.agent ≡ other) (λ q h. h.agent_is) actions all
@@ -135,10 +137,10 @@ module _ (s : System) (code : Code) (until : ℕ) (turns : List (Option Turn)) (
     r_agent : r.agent ≡ agent
     r_agent = All-head (λ (q : Action). q.agent ≡ agent) r before (subst (All (λ (q : Action). q.agent ≡ agent)) is (of_agent agent (history s dates agent) (AreRegular.each (lawful.actions dates agent))))
 
-    others_same : (other : ℕ) → (other ≡ agent → ⊥) → All (AreSameFor turns now) (history s dates other)
+    pub others_same : (other : ℕ) → (other ≡ agent → ⊥) → All (AreSameFor turns now) (history s dates other)
     others_same other differs =
         All-weaker (λ (q : Action). q.agent ≡ other) (AreSameFor turns now)
-        (λ q e. missed (Some (record { agent = r.agent; number = r.number })) turns q (other_agent q.agent q.number (record { agent = r.agent; number = r.number }) (λ same. differs (sym e ∙ sym same ∙ r_agent))))
+        (λ q e. missed_all (Some (record { agent = r.agent; number = r.number })) turns q (other_agent q.agent q.number (record { agent = r.agent; number = r.number }) (λ same. differs (sym e ∙ sym same ∙ r_agent))) n)
         (history s dates other) (of_agent other (history s dates other) (AreRegular.each (lawful.actions dates other)))
 
     module _ (machine : AgentMachine) (charge : Charged) (waits : Option ℕ) (figure : Figure) (seat : Seat) (ended : List ℤ) (one : OneStands s code now until date agent (r ∷ before) charge machine waits figure seat ended)

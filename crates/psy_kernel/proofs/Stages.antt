@@ -1,4 +1,4 @@
--- What is due before a cycle and behind it.
+-- What is due before a cycle, and behind it and others of its tick.
 use Rattle.std.proofs.Common.{◌≡◌, ◌≢◌, refl, sym, ap, ◌∙◌, subst, inl, inr, arith}
 use Rattle.std.specs.Prelude.{ℕ, zero, suc, ◌+◌, ◌*◌, ◌<◌, ◌≤◌, ◌==◌, Bool, true, false, if◌then◌else◌}
 use Rattle.std.proofs.lemmas.Bool.{cases_lt, cond-true, cond-false, eq-eqb, eqb-false, ne_eqb}
@@ -39,11 +39,11 @@ inside_tick quantum until (suc date) cycles h more other =
     below : (a b : ℕ) → a ≤ b → (a ≡ b → ⊥) → a < b
     below a b h other = grind (arith, h, other)
 
--- And one more stays in the tick
-pub tick_kept : (quantum until dates cycles date : ℕ) → IsInside quantum until dates cycles date → InTick quantum until dates (cycles + 1)
-tick_kept quantum until dates cycles date h =
+-- And as many more as the tick has stay in it
+pub tick_kept : (quantum until dates cycles date n : ℕ) → IsInside quantum until dates cycles date → cycles + n ≤ (date + 1) * quantum → InTick quantum until dates (cycles + n)
+tick_kept quantum until dates cycles date n h high =
     let e : dates ≡ suc date = omega (arith, h.0) in
-    subst (λ n. InTick quantum until n (cycles + 1)) (sym e) (omega (arith, h.1), omega (arith, h.2), omega (arith, h.3), λ last. absurd (omega (arith, h.1, last)))
+    subst (λ d. InTick quantum until d (cycles + n)) (sym e) (omega (arith, h.1), omega (arith, h.2), high, λ last. absurd (omega (arith, h.1, last)))
 
 -- ---- what is due behind it
 
@@ -56,27 +56,27 @@ later_tick date t quantum n more some low e =
 earlier_tick : (date t quantum n : ℕ) → t ≤ date → date * quantum < n → n ≡ t * quantum → ⊥
 earlier_tick date t quantum n less low e = let a = mul-le t quantum date quantum less (omega arith) in omega (arith, a, low, e)
 
-module _ (p : Progress) (date : ℕ) (inside : IsInside p.plan.unit.quantum p.plan.until p.dates p.cycles date) (some : 1 ≤ p.plan.unit.quantum) where
+module _ (p : Progress) (date : ℕ) (inside : IsInside p.plan.unit.quantum p.plan.until p.dates p.cycles date) (some : 1 ≤ p.plan.unit.quantum) (cycles : ℕ) (above : p.cycles < cycles) (high : cycles ≤ (date + 1) * p.plan.unit.quantum) where
   not_the_end : (p.dates == p.plan.until + 1) ≡ false
   not_the_end = ne_eqb p.dates (p.plan.until + 1) (λ e. absurd (omega (arith, inside.0, inside.1, e)))
 
-  same_tick : (t : ℕ) → p.cycles + 1 ≡ t * p.plan.unit.quantum → t ≡ p.dates
+  same_tick : (t : ℕ) → cycles ≡ t * p.plan.unit.quantum → t ≡ p.dates
   same_tick t e = elim (cases_lt date t) [
-    | inr less ↦ absurd (earlier_tick date t p.plan.unit.quantum (p.cycles + 1) less (omega (arith, inside.2)) e)
+    | inr less ↦ absurd (earlier_tick date t p.plan.unit.quantum cycles less (omega (arith, inside.2, above)) e)
     | inl more ↦ elim (cases_lt (date + 1) t) [
-      | inl past ↦ absurd (later_tick date t p.plan.unit.quantum (p.cycles + 1) (omega (arith, past)) some (omega (arith, inside.3)) e)
+      | inl past ↦ absurd (later_tick date t p.plan.unit.quantum cycles (omega (arith, past)) some high e)
       | inr low ↦ omega (arith, more, low, inside.0)
     ]
   ]
 
-  pub filled : (t : ℕ) → p.cycles + 1 ≡ t * p.plan.unit.quantum → stage_of (record p { cycles = p.cycles + 1 }) ≡ DateDue t
+  pub filled : (t : ℕ) → cycles ≡ t * p.plan.unit.quantum → stage_of (record p { cycles = cycles }) ≡ DateDue t
   filled t e =
       let same = same_tick t e in
-      cond-false (p.dates == p.plan.until + 1) Over (if p.cycles + 1 == p.dates * p.plan.unit.quantum then DateDue p.dates else CycleDue (p.cycles + 1)) not_the_end
-      ∙ cond-true (p.cycles + 1 == p.dates * p.plan.unit.quantum) (DateDue p.dates) (CycleDue (p.cycles + 1)) (eq-eqb (p.cycles + 1) (p.dates * p.plan.unit.quantum) (e ∙ ap (λ n. n * p.plan.unit.quantum) same))
+      cond-false (p.dates == p.plan.until + 1) Over (if cycles == p.dates * p.plan.unit.quantum then DateDue p.dates else CycleDue cycles) not_the_end
+      ∙ cond-true (cycles == p.dates * p.plan.unit.quantum) (DateDue p.dates) (CycleDue cycles) (eq-eqb cycles (p.dates * p.plan.unit.quantum) (e ∙ ap (λ n. n * p.plan.unit.quantum) same))
       ∙ ap DateDue (sym same)
 
-  pub not_filled : ((t : ℕ) → p.cycles + 1 ≢ t * p.plan.unit.quantum) → stage_of (record p { cycles = p.cycles + 1 }) ≡ CycleDue (p.cycles + 1)
+  pub not_filled : (cycles ≢ p.dates * p.plan.unit.quantum) → stage_of (record p { cycles = cycles }) ≡ CycleDue cycles
   not_filled none =
-      cond-false (p.dates == p.plan.until + 1) Over (if p.cycles + 1 == p.dates * p.plan.unit.quantum then DateDue p.dates else CycleDue (p.cycles + 1)) not_the_end
-      ∙ cond-false (p.cycles + 1 == p.dates * p.plan.unit.quantum) (DateDue p.dates) (CycleDue (p.cycles + 1)) (ne_eqb (p.cycles + 1) (p.dates * p.plan.unit.quantum) (none p.dates))
+      cond-false (p.dates == p.plan.until + 1) Over (if cycles == p.dates * p.plan.unit.quantum then DateDue p.dates else CycleDue cycles) not_the_end
+      ∙ cond-false (cycles == p.dates * p.plan.unit.quantum) (DateDue p.dates) (CycleDue cycles) (ne_eqb cycles (p.dates * p.plan.unit.quantum) none)

@@ -4,6 +4,7 @@ pub mod Cycles
 pub mod Looking
 pub mod Progress
 pub mod Seeing
+pub mod Slices
 pub mod Standing
 pub mod Starting
 pub mod Stretches

@@ -5,6 +5,7 @@ mod boot;
 mod cycle;
 mod date;
 mod lines;
+mod slice;
 mod stretch;
 mod summary;
 

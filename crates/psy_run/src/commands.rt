@@ -29,8 +29,8 @@ use psy_make::make;
 use psy_tree::Unit;
 use std::alloc::Global;
 
-// A kernel of a program that can be run up to a date, with these inputs and this script of it.
-fn boot(
+/// A kernel of a program that can be run up to a date, with these inputs and this script of it.
+pub fn boot(
     alloc: Global,
     unit: Unit,
     supply: Supplied,

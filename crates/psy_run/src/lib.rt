@@ -6,6 +6,7 @@ mod asked;
 mod commands;
 mod costs;
 mod extent;
+mod kernels;
 pub mod laws;
 mod lists;
 mod nexts;
@@ -20,5 +21,6 @@ mod texts;
 mod told;
 mod top;
 
+pub use kernels::kernel_of;
 pub use run::run_loop;
 pub use top::psyc;

@@ -45,7 +45,7 @@ fn run_dates<S: Sink>(kernel: &mut Kernel, out: &mut S) -> Result<(), WriteFault
     'stages: loop {
         match kernel.stage() {
             Stage::Over => return Ok(()),
-            Stage::CycleDue(_) => kernel.cycle(),
+            Stage::CycleDue(_) => kernel.slice(),
             Stage::DateDue(_) => {
                 kernel.date();
                 if let Err(fault) = write_date(kernel, out) {
@@ -73,7 +73,7 @@ fn pass_dates(kernel: &mut Kernel)
     'stages: loop {
         match kernel.stage() {
             Stage::Over => return,
-            Stage::CycleDue(_) => kernel.cycle(),
+            Stage::CycleDue(_) => kernel.slice(),
             Stage::DateDue(_) => {
                 kernel.date();
                 pass_date(kernel);

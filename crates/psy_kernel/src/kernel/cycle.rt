@@ -26,9 +26,11 @@ ghost use Rattle.psy_kernel.specs.Cycles.{order_by, reach_by, run_of, run_turns}
 ghost use Rattle.psy_history.specs.declared.told.Script.{Script};
 ghost use Rattle.psy_kernel.specs.Progress.{after_cycle, stage_of};
 ghost use Rattle.psy_kernel.specs.Seeing.{sight_in};
+ghost use Rattle.psy_kernel.specs.Slices.{IsOverBy};
 ghost use Rattle.psy_kernel.specs.Standing.{AreInForce, IsChosen};
 
 use super::advance::{Gone, advance};
+use super::stretch::go_on;
 use super::{Figure, Kernel};
 use crate::eyes::{Eyes, Scene, clock_in, dates_between};
 use crate::stage::Stage;
@@ -54,15 +56,16 @@ fn order_by<'a>(declared: &'a [u32], orders: &'a [Order], passed: usize) -> &'a 
     orders[passed - 1].agents.as_slice()
 }
 
-/// How many orders have come into force by the cycle after this one. They rise strictly, so it is one more at most.
-fn passed_by(orders: &[Order], passed: usize, cycle: u64) -> usize
+/// How many orders have come into force by a cycle, where so many had before it and no other one has come since. They rise strictly, so it
+/// is one more at most.
+fn passed_by(orders: &[Order], passed: usize, next: u64) -> usize
     requires rise { AllPairs (λ o p. o.cycle < p.cycle) orders.now }
-    requires in_force { AreInForce orders.now passed cycle }
-    requires early { cycle < u64.MAX }
-    ensures in_force { AreInForce orders.now result (cycle + 1) }
+    requires in_force { (cycle : ℕ) × (cycle < next) × AreInForce orders.now passed cycle }
+    requires ahead { (o : Order) → slice_get orders.now passed ≡ Some o → next ≤ o.cycle }
+    ensures in_force { AreInForce orders.now result next }
     ensures no_less { passed ≤ result }
 {
-    if passed < orders.len() && orders[passed].cycle == cycle + 1 {
+    if passed < orders.len() && orders[passed].cycle == next {
         return passed + 1;
     }
     passed
@@ -319,6 +322,65 @@ fn gets(until: u32)
 }
 
 impl Kernel {
+    /// Does cycles in a row, from the one that is due on: of the pending actions, the one of the earliest deadline gets them, until it is over;
+    /// at most so many, up to the next date and up to the cycle from which another order is in force.
+    pub(super) fn give(&mut self, most: u64)
+        requires due { stage_of self.old ≡ Stage.CycleDue self.old.cycles }
+        requires some { 1 ≤ most }
+        requires inside { self.old.cycles + most ≤ self.old.dates * self.old.plan.unit.quantum }
+        requires ahead { (place : ℕ) (o : Order) → slice_get self.old.script.orders place ≡ Some o → self.old.cycles < o.cycle
+            → self.old.cycles + most ≤ o.cycle }
+        ensures state { self.new ≡ record self.old { cycles = self.new.cycles } }
+        ensures count { (self.old.cycles < self.new.cycles) × (self.new.cycles ≤ self.old.cycles + most) }
+        ensures steady { (between : ℕ) → self.old.cycles < between → between < self.new.cycles → IsOverBy self.old between → ⊥ }
+        ensures over { self.new.cycles < self.old.cycles + most → IsOverBy self.old self.new.cycles }
+    {
+        gets(self.plan.until);
+        let orders = self.script.orders.as_slice();
+        let order = order_by(self.declared.as_slice(), orders, self.passed);
+        self.chosen = choose(&self.ready, order, self.stale, self.chosen);
+        let cycle = self.cycles;
+        match self.chosen {
+            None => {
+                let next = cycle + most;
+                let passed = passed_by(orders, self.passed, next);
+                self.stale = passed > self.passed;
+                self.passed = passed;
+                self.cycles = next;
+            }
+            Some(agent) => {
+                let number = agent as usize;
+                let date = last_date(self.shared.date);
+                let lasted = go_on(
+                    &self.plan,
+                    agent,
+                    cycle,
+                    most,
+                    date,
+                    &self.shared.rings,
+                    &self.shared.queues,
+                    &mut self.charges[number],
+                    &mut self.machines[number],
+                    &mut self.figures[number],
+                    &mut self.shared.seats[number],
+                    &mut self.shared.ended,
+                    &mut self.shared.taken,
+                    &mut self.shared.outboxes[number],
+                    &mut self.reaches,
+                );
+                let next = cycle + lasted.cycles;
+                let passed = passed_by(orders, self.passed, next);
+                self.stale = passed > self.passed;
+                self.passed = passed;
+                self.cycles = next;
+                if !lasted.goes {
+                    self.ready.drop_agent(agent);
+                    self.stale = true;
+                }
+            }
+        }
+    }
+
     /// Does the cycle that is due: of the pending actions, the one of the earliest deadline gets it. It takes no memory.
     pub fn cycle(&mut self)
         requires { stage_of self.old ≡ Stage.CycleDue self.old.cycles }
@@ -329,38 +391,6 @@ impl Kernel {
         ensures inside { ((t : ℕ) → self.new.cycles ≢ t * self.old.plan.unit.quantum) → stage_of self.new ≡ Stage.CycleDue self.new.cycles }
     {
         gets(self.plan.until);
-        let orders = self.script.orders.as_slice();
-        let order = order_by(self.declared.as_slice(), orders, self.passed);
-        self.chosen = choose(&self.ready, order, self.stale, self.chosen);
-        let cycle = self.cycles;
-        let passed = passed_by(orders, self.passed, cycle);
-        self.stale = passed > self.passed;
-        self.passed = passed;
-        self.cycles += 1;
-        if let Some(agent) = self.chosen {
-            let number = agent as usize;
-            let start = self.shared.seats[number].start;
-            let date = last_date(self.shared.date);
-            let course = go(
-                &self.plan,
-                agent,
-                cycle,
-                date,
-                &self.shared.rings,
-                &self.shared.queues,
-                &mut self.charges[number],
-                &mut self.machines[number],
-                &mut self.figures[number],
-                &mut self.shared.seats[number],
-                &mut self.shared.ended,
-                &mut self.shared.taken,
-                &mut self.shared.outboxes[number],
-            );
-            note(&self.plan, course.look, start, date, &mut self.reaches);
-            if !course.goes {
-                self.ready.drop_agent(agent);
-                self.stale = true;
-            }
-        }
+        self.give(1);
     }
 }

@@ -1,0 +1,12 @@
+-- What is left of the proof of `laws::slices`.
+use Rattle.psy_kernel.proofs.SliceEnds.{as_cycles, due_on, one_end}
+use Rattle.psy_kernel.proofs.laws.slices.Goals as goal
+
+pub returns-clause-one_end : goal.returns-clause-one_end
+returns-clause-one_end e p a b x y = one_end p a b x y
+
+pub returns-clause-cycles : goal.returns-clause-cycles
+returns-clause-cycles e p end is = as_cycles p end is
+
+pub returns-clause-due : goal.returns-clause-due
+returns-clause-due e p end n is due less = due_on p end n is due less

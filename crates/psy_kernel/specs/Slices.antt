@@ -1,0 +1,37 @@
+-- Where a slice ends: the cycles from one on up to which nothing changes who runs.
+use Rattle.std.specs.Prelude.{◌≡◌, ◌⊎◌, ℕ, zero, suc, ◌-◌, ◌*◌, ◌<◌, true, false, List, Option, Some, slice_get}
+use Rattle.std.specs.List.{Contains}
+use Rattle.psy_history.specs.Actions.{Action}
+use Rattle.psy_history.specs.History.{history}
+use Rattle.psy_history.specs.Schedule.{Turn, is_pending}
+use Rattle.psy_history.specs.Scheduled.{turns_of}
+use Rattle.psy_history.specs.declared.told.Order.{Order}
+use Rattle.psy_kernel.specs.Progress.{Progress, after_cycle, order, system}
+
+-- What the first so many cycles of a run go to, the last one first
+abbrev pub turns_by : Progress → ℕ → List (Option Turn)
+turns_by p cycles = turns_of (system p) (order p) cycles
+
+-- With the last of so many cycles an action finishes or is stopped: before that cycle it was pending, and behind it it isn't.
+abbrev pub IsOverBy : Progress → ℕ → Type 0
+IsOverBy p cycles = (agent : ℕ) × (r : Action) × Contains (history (system p) p.dates agent) r × (is_pending (turns_by p (cycles - 1)) r ≡ true)
+    × (is_pending (turns_by p cycles) r ≡ false)
+
+-- With the cycle behind so many an order comes into force.
+abbrev pub IsOrderedAt : Progress → ℕ → Type 0
+IsOrderedAt p cycles = (place : ℕ) × (o : Order) × (slice_get p.script.orders place ≡ Some o) × (o.cycle ≡ cycles)
+
+-- Behind so many cycles it is asked anew who runs: the next date is due, an action is over, or another order comes into force.
+abbrev pub Changes : Progress → ℕ → Type 0
+Changes p cycles = (cycles ≡ p.dates * p.plan.unit.quantum) ⊎ IsOverBy p cycles ⊎ IsOrderedAt p cycles
+
+-- A slice ends behind so many cycles: the first change comes there.
+pub record IsSliceEnd (p : Progress) (cycles : ℕ) : Type 0 where
+  pub some : p.cycles < cycles
+  pub changes : Changes p cycles
+  pub first : (between : ℕ) → p.cycles < between → between < cycles → Changes p between → ⊥
+
+-- So many cycles, one by one
+abbrev pub after_cycles : ℕ → Progress → Progress
+after_cycles zero p = p
+after_cycles (suc n) p = after_cycle (after_cycles n p)
