@@ -1,12 +1,14 @@
 -- The next dates of clocks behind a date, from those behind the date before.
-use Rattle.std.proofs.Common.{◌≡◌, ℕ, suc, ◌+◌, ◌-◌, ◌*◌, ◌<◌, ◌≤◌, ◌↔◌, List, All, length, get_or, Option, Some, Bool, false, refl, sym, ap, subst, ◌∙◌, inl, inr, arith}
+use Rattle.std.proofs.Common.{◌≡◌, ℕ, zero, suc, ◌+◌, ◌-◌, ◌*◌, ◌<◌, ◌≤◌, ◌↔◌, List, All, length, get_or, Option, Some, Bool, false, refl, sym, ap, subst, ◌∙◌, inl, inr, arith}
 use Rattle.std.specs.Prelude.{slice_get, ◌==◌}
-use Rattle.std.proofs.lemmas.Bool.Decides.{leb_tells}
+use Rattle.std.proofs.lemmas.Bool.{eq-eqb, ne_eqb}
+use Rattle.std.proofs.lemmas.Bool.Decides.{eqb_tells, leb_tells}
 use Rattle.std.proofs.lemmas.List.Elements.{All-get_or}
 use Rattle.std.proofs.lemmas.Option.{get_or_from_slice_get, same_Some, slice_get_within}
 use Rattle.std.proofs.Math.Nat.{suc-mul, add-mul}
 use Rattle.psy_clock.specs.declared.clock.Clock.{Clock}
 use Rattle.psy_clock.specs.Dates.{IsClock, after_date, count, count_below, date, from_date}
+use Rattle.psy_history.specs.Lines.{is_date}
 use Rattle.psy_dates.specs.Calendars.{AreNext}
 
 -- Dates are counted by their numbers: what the law of clocks says.
@@ -61,6 +63,21 @@ next_late below c h t = elim (leb_tells t (from_date c t 0)) [
 
 pub next_other : CountsBelow → (c : Clock) → IsClock c → (t : ℕ) → (from_date c t 0 ≡ t → ⊥) → from_date c (t + 1) 0 ≡ from_date c t 0
 next_other below c h t other = next_later below c h t (omega (arith, other, next_late below c h t))
+
+-- A date is one of the clock where the next one behind it comes a period later.
+only_at : CountsBelow → (c : Clock) → IsClock c → (t n : ℕ) → count_below c t ≡ n → from_date c t 0 ≡ t + c.period → ⊥
+only_at below c h t zero is first = (let at : from_date c t 0 ≡ date c zero = first_is c t ∙ ap (date c) is in omega (arith, at, first, h.first))
+only_at below c h t (suc m) is first =
+    let at : from_date c t 0 ≡ date c (suc m) = first_is c t ∙ ap (date c) is in
+    let step : suc m * c.period ≡ m * c.period + c.period = suc-mul m c.period in
+    let early : date c m < t = (below c t m h).1 (omega (arith, is)) in
+    omega (arith, at, first, step, early)
+
+pub had_is : CountsBelow → (c : Clock) → IsClock c → (t next : ℕ) → next ≡ from_date c (t + 1) 0 → (next == t + c.period) ≡ is_date c t
+had_is below c h t next is = elim (eqb_tells (from_date c t 0) t) [
+  | inl at ↦ eq-eqb next (t + c.period) (is ∙ next_at below c h t at.1) ∙ sym at.0
+  | inr other ↦ ne_eqb next (t + c.period) (λ e. only_at below c h t (count_below c t) refl (sym (next_other below c h t other.1) ∙ sym is ∙ e)) ∙ sym other.0
+]
 
 -- The k-th date behind a time comes so many periods behind the first one.
 pub after_next : CountsTo → CountsBelow → (c : Clock) → IsClock c → (t k : ℕ) → after_date c t k ≡ from_date c (t + 1) 0 + (k - 1) * c.period

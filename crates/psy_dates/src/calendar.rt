@@ -1,9 +1,11 @@
 //! By clock its next date.
 
-ghost use Rattle.std.specs.Prelude.{◌≡◌, ◌+◌, ◌^◌, ◌<◌, ◌≤◌, IfOk, IsFalse, Some, length, slice_get};
+ghost use Rattle.std.specs.Prelude.{◌≡◌, ◌+◌, ◌^◌, ◌<◌, ◌≤◌, IfOk, IsFalse, Some, get_or, length, slice_get};
 ghost use Rattle.std.specs.List.{All};
 ghost use Rattle.psy_clock.specs.Dates.{IsClock, from_date};
-ghost use Rattle.psy_dates.specs.Calendars.{AreNext};
+ghost use Rattle.psy_history.specs.Lines.{is_date};
+ghost use Rattle.psy_tree.specs.Parts.{no_clock};
+ghost use Rattle.psy_dates.specs.Calendars.{AreNext, CalendarStands};
 
 use psy_base::Memory;
 use psy_clock::Clock;
@@ -36,7 +38,12 @@ fn first_dates(alloc: Global, clocks: &[Clock]) -> Result<Vec<u64>, Memory>
     ensures count { IfOk result (λ nexts. length nexts.items ≡ length clocks.now) }
     ensures nexts { IfOk result (λ nexts. AreNext clocks.now 0 nexts.items) }
 {
-    Ok(clocks.iter().map(|clock| u64::from(clock.first)).collect(alloc)?)
+    Ok(
+        clocks
+            .iter()
+            .map(|clock| u64::from(clock.first))
+            .collect(alloc)?,
+    )
 }
 
 /// The first date of a clock behind this one, by its first one from this one on.
@@ -52,6 +59,18 @@ fn next_behind(clock: Clock, date: u64, next: u64) -> u64
     } else {
         next
     }
+}
+
+/// Whether a clock has a date, by its first one behind it.
+#[tactic(auto, using(crate::proofs::Calendars::had_is))]
+fn had(clock: Clock, date: u64, next: u64) -> bool
+    requires clock { IsClock clock }
+    requires early { date ≤ 2 ^ 40 }
+    requires next { next ≡ from_date clock (date + 1) 0 }
+    ensures { result ≡ is_date clock date }
+{
+    dates();
+    next == date + u64::from(clock.period)
 }
 
 /// By clock its first date behind this one, by its first one from this one on; and a date that is no later than any of these.
@@ -97,6 +116,24 @@ impl Calendar {
         ensures { slice_get self.now clock ≡ Some result }
     {
         self.nexts[clock as usize]
+    }
+
+    /// The next date of a clock; None where there is no such clock.
+    pub fn find(&self, clock: u32) -> Option<u64>
+        ensures { result ≡ slice_get self.now clock }
+    {
+        self.nexts.get(clock as usize).copied()
+    }
+
+    /// Whether a clock had the date that passed last: whether its next one is a period behind it.
+    pub fn had(&self, clocks: &[Clock], clock: u32, date: u64) -> bool
+        requires clocks { All IsClock clocks.now }
+        requires known { clock < length clocks.now }
+        requires early { date ≤ 2 ^ 40 }
+        requires stands { CalendarStands clocks.now (date + 1) self.now }
+        ensures { result ≡ is_date (get_or clocks.now clock no_clock) date }
+    {
+        had(clocks[clock as usize], date, self.next(clock))
     }
 
     /// A date passes: each clock that had it next goes on to its next one.

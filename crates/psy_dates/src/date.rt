@@ -84,6 +84,6 @@ pub fn at_date(shared: &mut Shared, plan: &Plan, date: u64)
     shared.calendar.pass(plan.unit.clocks.as_slice(), date);
     clear_outboxes(date, &shared.seats, &mut shared.outboxes);
     clear_takes(plan, date, &shared.seats, &mut shared.taken);
-    move_all(plan, date, &mut shared.seats);
+    move_all(plan, &shared.calendar, date, &mut shared.seats);
     shared.date = Some(date);
 }

@@ -1,20 +1,23 @@
 //! What a date does to the seats of agents.
 
-ghost use Rattle.std.specs.Prelude.{◌≡◌, ℕ, ◌^◌, ◌<◌, ◌≤◌, length, Some, slice_get};
+ghost use Rattle.std.specs.Prelude.{◌≡◌, ℕ, ◌+◌, ◌^◌, ◌<◌, ◌≤◌, length, Some, slice_get};
 ghost use Rattle.std.specs.List.{All};
 ghost use Rattle.psy_meaning.specs.Units.{IsBare};
 ghost use Rattle.psy_dates.specs.declared.seat.Seat.{Seat as Place};
+ghost use Rattle.psy_dates.specs.Calendars.{CalendarStands};
 ghost use Rattle.psy_dates.specs.Moves.{IsNumbered, begun_at, seat_then, timing_in};
 
+use crate::calendar::Calendar;
 use crate::due::{deadline_of, first_of};
 use crate::plan::Plan;
 use crate::seat::{Phase, Seat};
 
 /// The seat of an agent whose action of this number starts at a date, from a point.
-fn begun(plan: &Plan, agent: usize, date: u64, number: u64, point: u32) -> Seat
+fn begun(plan: &Plan, calendar: &Calendar, agent: usize, date: u64, number: u64, point: u32) -> Seat
     requires bare { IsBare plan.now.unit }
     requires agent { agent < length plan.now.unit.agents }
     requires nexts { length plan.now.nexts ≡ length plan.now.unit.agents }
+    requires calendar { CalendarStands plan.now.unit.clocks (date + 1) calendar.now }
     requires early { date ≤ 2 ^ 40 }
     ensures { result ≡ begun_at (timing_in plan.now agent) date number point }
 {
@@ -23,7 +26,7 @@ fn begun(plan: &Plan, agent: usize, date: u64, number: u64, point: u32) -> Seat
         number,
         point,
         start: date,
-        deadline: deadline_of(plan, agent, point, date),
+        deadline: deadline_of(plan, calendar, agent, point, date),
         end: 0,
         reached: 0,
         trap: None,
@@ -32,10 +35,11 @@ fn begun(plan: &Plan, agent: usize, date: u64, number: u64, point: u32) -> Seat
 
 /// What becomes of an agent's seat at a date. A stopped agent falls silent at its deadline; one whose deadline was before is silent
 /// already, so `<=` is as good as `==`.
-fn moved(plan: &Plan, agent: usize, date: u64, seat: Seat) -> Seat
+fn moved(plan: &Plan, calendar: &Calendar, agent: usize, date: u64, seat: Seat) -> Seat
     requires bare { IsBare plan.now.unit }
     requires agent { agent < length plan.now.unit.agents }
     requires nexts { length plan.now.nexts ≡ length plan.now.unit.agents }
+    requires calendar { CalendarStands plan.now.unit.clocks (date + 1) calendar.now }
     requires early { date ≤ 2 ^ 40 }
     requires numbered { IsNumbered seat }
     ensures { result ≡ seat_then (timing_in plan.now agent) date seat }
@@ -43,14 +47,14 @@ fn moved(plan: &Plan, agent: usize, date: u64, seat: Seat) -> Seat
     match seat.phase {
         Phase::Waiting => {
             if first_of(plan, agent) == date {
-                begun(plan, agent, date, 0, 0)
+                begun(plan, calendar, agent, date, 0, 0)
             } else {
                 seat
             }
         }
         Phase::Ended => {
             if seat.end == date {
-                begun(plan, agent, date, seat.number + 1, seat.reached)
+                begun(plan, calendar, agent, date, seat.number + 1, seat.reached)
             } else {
                 seat
             }
@@ -70,16 +74,17 @@ fn moved(plan: &Plan, agent: usize, date: u64, seat: Seat) -> Seat
 }
 
 /// What becomes of all seats at a date.
-pub fn move_all(plan: &Plan, date: u64, seats: &mut [Seat])
+pub fn move_all(plan: &Plan, calendar: &Calendar, date: u64, seats: &mut [Seat])
     requires bare { IsBare plan.now.unit }
     requires seated { length seats.old ≡ length plan.now.unit.agents }
     requires nexts { length plan.now.nexts ≡ length plan.now.unit.agents }
+    requires calendar { CalendarStands plan.now.unit.clocks (date + 1) calendar.now }
     requires early { date ≤ 2 ^ 40 }
     requires numbered { All IsNumbered seats.old }
     ensures { (agent : ℕ) (seat : Place) → slice_get seats.old agent ≡ Some seat
         → slice_get seats.new agent ≡ Some (seat_then (timing_in plan.now agent) date seat) }
 {
     'agents: for agent in 0..seats.len() {
-        seats[agent] = moved(plan, agent, date, seats[agent]);
+        seats[agent] = moved(plan, calendar, agent, date, seats[agent]);
     }
 }

@@ -283,12 +283,12 @@ module _ (k : Inside) (is : KernelStands k) (d : IsDue k) where
         (untaken : (stream : ℕ) (decl : StreamDecl) → slice_get k.plan.unit.streams stream ≡ Some decl → decl.receiver ≢ agent → slice_get taken stream ≡ slice_get k.shared.taken.items stream)
         (ready : List (Option ℕ)) (as_many : length ready ≡ length k.ready) (own : (w : Option ℕ) → slice_get ready agent ≡ Some w → w ≡ waiting) (rest : (other : ℕ) → (other ≡ agent → ⊥) → slice_get ready other ≡ slice_get k.ready other) where
       pub parts_given : (after : Shared) → after.date ≡ k.shared.date → after.seats.items ≡ slice_set k.shared.seats.items agent seat → after.ended.items ≡ ended → after.committed ≡ k.shared.committed
-          → after.rings ≡ k.shared.rings → after.queues ≡ k.shared.queues → after.outboxes.items ≡ slice_set k.shared.outboxes.items agent outbox → after.taken.items ≡ taken
+          → after.rings ≡ k.shared.rings → after.queues ≡ k.shared.queues → after.outboxes.items ≡ slice_set k.shared.outboxes.items agent outbox → after.taken.items ≡ taken → after.calendar ≡ k.shared.calendar
           → PartsStand (run_in k) k.plan.code k.plan.until (turns_in k (k.cycles + n)) dates after (slice_set k.machines.items agent machine) (slice_set k.charges.items agent charge) ready (slice_set k.figures.items agent figure)
-      parts_given after a b c d e f g h =
+      parts_given after a b c d e f g h i =
           subst (λ ts. PartsStand (run_in k) k.plan.code k.plan.until ts dates after (slice_set k.machines.items agent machine) (slice_set k.charges.items agent charge) ready (slice_set k.figures.items agent figure)) (sym turns)
           (given (run_in k) k.plan.code k.plan.until before_cycle dates k.shared k.machines.items k.charges.items k.ready k.figures.items (parts_in k is) lawful date agent r before (last_date dates date inside.0) t.is_last n machine charge waiting figure seat ended one all others outbox taken box size count untaken ready as_many own rest after g h
-          (shared_given (run_in k) k.plan.code k.plan.until before_cycle dates k.shared k.machines.items k.charges.items k.ready k.figures.items (parts_in k is) lawful date agent r before (last_date dates date inside.0) t.is_last n machine charge waiting figure seat ended one all others outbox taken box size count untaken after a b c d e f g h))
+          (shared_given (run_in k) k.plan.code k.plan.until before_cycle dates k.shared k.machines.items k.charges.items k.ready k.figures.items (parts_in k is) lawful date agent r before (last_date dates date inside.0) t.is_last n machine charge waiting figure seat ended one all others outbox taken box size count untaken after a b c d e f g h i))
 
       pub given_between : (seats : Vec Seat Global) (copies : Vec ℤ Global) (outboxes : Vec Outboxed Global) (counts : Vec ℕ Global) (machines : Vec AgentMachine Global) (charges : Vec Charged Global) (figures : Vec Figure Global) (reaches : Vec (Option ℕ) Global) (chosen : Option ℕ) (stale : Bool)
           → seats.items ≡ slice_set k.shared.seats.items agent seat → copies.items ≡ ended → outboxes.items ≡ slice_set k.shared.outboxes.items agent outbox → counts.items ≡ taken → machines.items ≡ slice_set k.machines.items agent machine → charges.items ≡ slice_set k.charges.items agent charge → figures.items ≡ slice_set k.figures.items agent figure
@@ -304,7 +304,7 @@ module _ (k : Inside) (is : KernelStands k) (d : IsDue k) where
             subst (λ ms. PartsStand (run_in k) k.plan.code k.plan.until (turns_in k (k.cycles + n)) dates (record k.shared { seats = seats; ended = copies; outboxes = outboxes; taken = counts }) ms charges.items ready figures.items) (sym c)
             (subst (λ cs. PartsStand (run_in k) k.plan.code k.plan.until (turns_in k (k.cycles + n)) dates (record k.shared { seats = seats; ended = copies; outboxes = outboxes; taken = counts }) (slice_set k.machines.items agent machine) cs ready figures.items) (sym e)
             (subst (λ fs. PartsStand (run_in k) k.plan.code k.plan.until (turns_in k (k.cycles + n)) dates (record k.shared { seats = seats; ended = copies; outboxes = outboxes; taken = counts }) (slice_set k.machines.items agent machine) (slice_set k.charges.items agent charge) ready fs) (sym f)
-            (parts_given (record k.shared { seats = seats; ended = copies; outboxes = outboxes; taken = counts }) refl a b refl refl refl g h)));
+            (parts_given (record k.shared { seats = seats; ended = copies; outboxes = outboxes; taken = counts }) refl a b refl refl refl g h refl)));
         reaching = as_many ∙ is.reaching;
         reached = reached;
         holding = is.holding;

@@ -10,6 +10,7 @@ use Rattle.psy_budget.specs.Charges.{Charged}
 use Rattle.psy_code.specs.declared.code.Code.{Code}
 use Rattle.psy_dates.specs.declared.seat.Seat.{Seat}
 use Rattle.psy_dates.specs.declared.shared.Shared.{Shared}
+use Rattle.psy_dates.specs.Calendars.{CalendarStands}
 use Rattle.psy_dates.specs.Outboxes.{Outboxed}
 use Rattle.psy_dates.specs.Standing.{KeepsCopy, KeepsSends, KeepsTakes, OutboxStands, SeatStands, SharedStands, dates_done}
 use Rattle.psy_history.specs.Regular.{AreRegular, IsLawful, IsRegular}
@@ -67,6 +68,7 @@ shared_same s turns now dates shared same h = record {
   outboxes = λ agent outbox at. (let its = h.outboxes agent outbox at in record { size = its.size; sends = sends_kept turns now (dates - 1) (history s dates agent) outbox.sends (same agent) its.sends });
   taking = h.taking;
   taken = λ stream n at. takes_kept turns now (dates - 1) stream (history s dates (stream_of s stream).receiver) n (same (stream_of s stream).receiver) (h.taken stream n at);
+  calendar = h.calendar;
 }
 
 module _ (s : System) (code : Code) (until : ℕ) (turns : List (Option Turn)) (dates : ℕ) (shared : Shared) (machines : List AgentMachine) (charges : List Charged) (ready : List (Option ℕ)) (figures : List Figure) (p : PartsStand s code until turns dates shared machines charges ready figures) where
@@ -206,8 +208,8 @@ module _ (s : System) (code : Code) (until : ℕ) (turns : List (Option Turn)) (
       ]
 
       pub shared_given : (after : Shared) → after.date ≡ shared.date → after.seats.items ≡ slice_set shared.seats.items agent seat → after.ended.items ≡ ended → after.committed ≡ shared.committed
-          → after.rings ≡ shared.rings → after.queues ≡ shared.queues → after.outboxes.items ≡ slice_set shared.outboxes.items agent outbox → after.taken.items ≡ taken → SharedStands s now dates after
-      shared_given after date_is seats_are ended_are committed_is rings_are queues_are outboxes_are taken_is = record {
+          → after.rings ≡ shared.rings → after.queues ≡ shared.queues → after.outboxes.items ≡ slice_set shared.outboxes.items agent outbox → after.taken.items ≡ taken → after.calendar ≡ shared.calendar → SharedStands s now dates after
+      shared_given after date_is seats_are ended_are committed_is rings_are queues_are outboxes_are taken_is calendar_is = record {
         date = ap dates_done date_is ∙ p.shares.date;
         seated = ap length seats_are ∙ length-set shared.seats.items agent seat ∙ p.shares.seated;
         seats = λ other x at. seats_given other x (sym (ap (λ xs. slice_get xs other) seats_are) ∙ at);
@@ -223,6 +225,7 @@ module _ (s : System) (code : Code) (until : ℕ) (turns : List (Option Turn)) (
         outboxes = λ other x at. outboxes_given other x (sym (ap (λ xs. slice_get xs other) outboxes_are) ∙ at);
         taking = ap length taken_is ∙ count ∙ p.shares.taking;
         taken = λ stream n at. taken_given stream n (sym (ap (λ ns. slice_get ns stream) taken_is) ∙ at);
+        calendar = subst (CalendarStands s.unit.clocks dates) (sym calendar_is) p.shares.calendar;
       }
 
       -- the agent's own, and those of another agent

@@ -7,6 +7,7 @@ ghost use Rattle.psy_budget.specs.declared.charge.Stall.{Stall};
 ghost use Rattle.psy_clock.specs.Dates.{IsClock};
 ghost use Rattle.psy_history.specs.Schedule.{Turn};
 ghost use Rattle.psy_history.specs.Compiled.{AreInputs};
+ghost use Rattle.psy_dates.specs.Calendars.{CalendarStands};
 ghost use Rattle.psy_dates.specs.Plans.{IsPlan, system_of};
 ghost use Rattle.psy_dates.specs.Standing.{SharedStands};
 ghost use Rattle.psy_kernel.specs.Progress.{after_line, lines_told};
@@ -15,7 +16,7 @@ ghost use Rattle.psy_tree.specs.Parts.{no_clock};
 
 use super::Kernel;
 use psy_clock::Clock;
-use psy_dates::{Phase, Plan, Seat, Shared};
+use psy_dates::{Calendar, Phase, Plan, Seat, Shared};
 use psy_history::laws::{compiled, queue_sizes, queues, regular};
 use psy_log::{Line, Note};
 use psy_queue::Queue;
@@ -48,15 +49,22 @@ fn tell_stop(seat: &Seat, name: &[u8], date: u64, line: &mut Line) -> bool
 }
 
 /// The line of a variable's value, where an owner publishes it at this date.
-fn tell_value(variable: &VarDecl, clocks: &[Clock], value: i32, date: u64, line: &mut Line) -> bool
+fn tell_value(
+    variable: &VarDecl,
+    clocks: &[Clock],
+    calendar: &Calendar,
+    value: i32,
+    date: u64,
+    line: &mut Line,
+) -> bool
     requires name { length variable.now.name ≤ WORD_BYTES }
     requires known { variable.now.clock < length clocks.now }
     requires clocks { All IsClock clocks.now }
+    requires calendar { CalendarStands clocks.now (date + 1) calendar.now }
     requires early { date ≤ 2 ^ 40 }
     ensures told { TellsValue variable.now (get_or clocks.now variable.now.clock no_clock) value date result line.old line.new }
 {
-    let clock = clocks[variable.clock as usize];
-    if variable.owner.is_none() || clock.from_date(date, 0) != date {
+    if variable.owner.is_none() || !calendar.had(clocks, variable.clock, date) {
         return false;
     }
     line.set(&Note::Value {
@@ -105,6 +113,7 @@ fn tell_place(plan: &Plan, shared: &Shared, date: u64, place: usize, line: &mut 
     requires inputs { AreInputs plan.now.unit shared.now.inputs.lists }
     requires seated { length shared.now.seats.items ≡ length plan.now.unit.agents }
     requires valued { length shared.now.committed.items ≡ length plan.now.unit.variables }
+    requires calendar { CalendarStands plan.now.unit.clocks (date + 1) shared.now.calendar }
     requires early { date ≤ 2 ^ 40 }
     requires within { place < length plan.now.unit.agents + length plan.now.unit.variables }
     ensures told { (stalls : ℕ → List Stall) (turns : List (Option Turn))
@@ -124,6 +133,7 @@ fn tell_place(plan: &Plan, shared: &Shared, date: u64, place: usize, line: &mut 
     tell_value(
         variable,
         plan.unit.clocks.as_slice(),
+        &shared.calendar,
         shared.committed[at],
         date,
         line,
@@ -136,6 +146,7 @@ fn tell_next(plan: &Plan, shared: &Shared, date: u64, place: usize, line: &mut L
     requires inputs { AreInputs plan.now.unit shared.now.inputs.lists }
     requires seated { length shared.now.seats.items ≡ length plan.now.unit.agents }
     requires valued { length shared.now.committed.items ≡ length plan.now.unit.variables }
+    requires calendar { CalendarStands plan.now.unit.clocks (date + 1) shared.now.calendar }
     requires early { date ≤ 2 ^ 40 }
     requires within { place ≤ length plan.now.unit.agents + length plan.now.unit.variables }
     ensures told { (stalls : ℕ → List Stall) (turns : List (Option Turn))
@@ -238,6 +249,7 @@ fn tell_from(
     requires inputs { AreInputs plan.now.unit shared.now.inputs.lists }
     requires seated { length shared.now.seats.items ≡ length plan.now.unit.agents }
     requires valued { length shared.now.committed.items ≡ length plan.now.unit.variables }
+    requires calendar { CalendarStands plan.now.unit.clocks (date + 1) shared.now.calendar }
     requires queued { length shared.now.queues.items ≡ length plan.now.unit.streams }
     requires early { date ≤ 2 ^ 40 }
     requires within { place ≤ length plan.now.unit.agents + length plan.now.unit.variables + length plan.now.unit.streams }

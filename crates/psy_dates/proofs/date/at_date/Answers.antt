@@ -99,6 +99,12 @@ pass-requires-clause-count c = (c.requires.stands.2).calendar.count ∙ ap lengt
 pub pass-requires-clause-nexts : goal.pass-requires-clause-nexts
 pass-requires-clause-nexts c = subst (λ clocks. AreNext clocks c.args.date c.args.shared.now.calendar) (sym c.as_slice-2.ensures) (c.requires.stands.2).calendar.nexts
 
+pub move_all-requires-clause-calendar : goal.move_all-requires-clause-calendar
+move_all-requires-clause-calendar c = record {
+  count = c.pass.ensures.count ∙ (c.requires.stands.2).calendar.count;
+  nexts = subst (λ clocks. AreNext clocks (c.args.date + 1) c.pass.new.self) c.as_slice-2.ensures c.pass.ensures.nexts;
+}
+
 -- What is shared behind the date
 abbrev new_of : goal.After-shared-8-1 → Shared
 new_of c = record c.args.shared.now {

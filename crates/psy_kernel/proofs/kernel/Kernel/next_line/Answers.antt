@@ -18,6 +18,9 @@ prove-unreachable-requires c =
 pub tell_from-requires-clause-early : goal.tell_from-requires-clause-early
 tell_from-requires-clause-early c = omega arith
 
+pub tell_from-requires-clause-calendar : goal.tell_from-requires-clause-calendar
+tell_from-requires-clause-calendar c = (stands_now c.self.inside c.self.invariant c.in-Some.date c.in-Some.is).calendar
+
 pub overflow_add-self : goal.overflow_add-self
 overflow_add-self c =
     let k = c.self.inside in
