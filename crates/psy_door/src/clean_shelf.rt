@@ -43,7 +43,7 @@ impl Shelf for CleanShelf {
 
     ghost taken = { λ s. s.taken };
 
-    #[tactic(auto, using(crate::proofs::FilesLemmas::get_files_of))]
+    #[tactic(auto, using(crate::proofs::lemmas::FilesLemmas::get_files_of))]
     fn fetch(&mut self, alloc: Global, name: &str) -> Result<Vec<u8>, FetchFault>
         ensures state { self.new ≡ record self.old {
           taken = taken_of (length (bytes_under (files_of self.old.files) name.now));

@@ -16,7 +16,7 @@ fn first<'a>(files: &'a [(Text, Vec<u8>)], name: &[u8]) -> Option<&'a (Text, Vec
 }
 
 /// The bytes of the first file with this name.
-#[tactic(auto, using(crate::proofs::FilesLemmas::named_map))]
+#[tactic(auto, using(crate::proofs::lemmas::FilesLemmas::named_map))]
 pub fn bytes_of<'a>(files: &'a [(Text, Vec<u8>)], name: &[u8]) -> Option<&'a [u8]>
     ensures { option_copied result ≡ named name.now (map (λ p. (p.0, p.1.items)) files.now) }
 {

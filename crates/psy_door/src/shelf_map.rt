@@ -82,7 +82,7 @@ impl Shelf for ShelfMap {
 
     ghost taken = { λ s. s.taken };
 
-    #[tactic(auto, using(crate::proofs::FilesLemmas::get_files_of))]
+    #[tactic(auto, using(crate::proofs::lemmas::FilesLemmas::get_files_of))]
     fn fetch(&mut self, alloc: Global, name: &str) -> Result<Vec<u8>, FetchFault>
         ensures same_files { self.new.files ≡ self.old.files }
         ensures same_fails { self.new.fails ≡ self.old.fails }
