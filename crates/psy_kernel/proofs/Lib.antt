@@ -26,6 +26,7 @@ mod ToldPlaces
 mod ToldStreams
 mod Verdicts
 pub mod Booted
+pub mod Bursts
 pub mod CyclesDone
 pub mod CyclesGiven
 pub mod Dated
@@ -35,15 +36,19 @@ pub mod GivenCycles
 pub mod KeptCopies
 pub mod Kernels
 pub mod LooksBack
+pub mod ManyCycles
 pub mod OneAgent
+pub mod OnTheWay
 pub mod OneBox
 pub mod OrdersInForce
 pub mod OtherAgents
 pub mod Parts
 pub mod PickIsSoonest
 pub mod Placed
+pub mod Scenes
 pub mod Sets
 pub mod SliceEnds
 pub mod Stages
 pub mod Started
+pub mod Stretched
 pub mod Supplied

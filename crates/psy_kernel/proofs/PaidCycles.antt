@@ -96,6 +96,10 @@ module _ (stalls : List Stall) (number budget : ℕ) where
   pub up_to_next : (u : ℕ) → u ≤ budget → u ≤ cycle_of stalls number (paid u)
   up_to_next u less = subst (λ a. u ≤ cycle_of stalls a (paid u)) action_is (has_paid u less).up_to
 
+  -- and no fewer than those of the instructions that they paid, and of the stalls before these
+  pub up_from : (u : ℕ) → u ≤ budget → paid u + stalled stalls number (paid u) ≤ u
+  up_from u less = subst (λ a. paid u + stalled stalls a (paid u) ≤ u) action_is (has_paid u less).before
+
   -- no more instructions are paid than cycles were had
   pub paid_few : (u : ℕ) → u ≤ budget → paid u ≤ u
   paid_few u less = omega (arith, (has_paid u less).before)

@@ -20,19 +20,16 @@ use Rattle.psy_kernel.specs.declared.kernel.advance.Gone.{Gone}
 use Rattle.psy_kernel.specs.declared.kernel.advance.Gone.TheVariants as gone
 use Rattle.psy_kernel.specs.Acting.{AfterCycle, AreDone, HasDoneBy, InAction, IsGone, IsLookIn, IsOfCode, ShowsAs, look_of}
 use Rattle.psy_kernel.specs.Standing.{HasDone, IsRunning, charge_after}
+use Rattle.psy_kernel.specs.Stretches.{gone_by, gone_on}
 use Rattle.psy_kernel.proofs.PaidCycles.{not_spent as is_granted, paid_at, paid_few, paid_next, spent_is, stalled_next, up_to_next}
 use Rattle.psy_kernel.proofs.RunsOn.{able as can_go, answers_alike, asks as asks_of, at_end, early, next_run, noted_after, over_then, pasts, permits, served}
 use Rattle.psy_kernel.proofs.Verdicts.{comes_to, ended, is_whole, its, less_charge, of_code, overran, runs as runs_of, start, trapped}
 
--- An action that isn't over goes on, or its budget is spent.
-abbrev on_or_spent : Charged → Gone
-on_or_spent charge = if charge.consumed == charge.budget then gone.Spent else gone.Going
-
 not_yet : (a b : ℕ) → a ≤ b → (a ≡ b → ⊥) → a < b
 not_yet a b less other = elim (cases_lt a b) [ inl h ↦ h | inr h ↦ absurd (other (omega (arith, less, h))) ]
 
-goes_on : (s : System) (code : Code) (r : Action) → IsOfCode s code r → (had : ℕ) (machine : AgentMachine) → had < r.budget → IsRunning code r (charge_after s r (suc had)).paid machine
-    → IsGone s code r had machine (on_or_spent (charge_after s r (suc had)))
+pub goes_on : (s : System) (code : Code) (r : Action) → IsOfCode s code r → (had : ℕ) (machine : AgentMachine) → had < r.budget → IsRunning code r (charge_after s r (suc had)).paid machine
+    → IsGone s code r had machine (gone_on (charge_after s r (suc had)))
 goes_on s code r w had machine less running =
     let within : suc had ≤ r.budget = omega (arith, less) in
     let more : suc had < r.charge = less_charge s code r w (suc had) _ running.0 within running.1 (up_to_next (s.stalls r.agent) r.number r.budget (suc had) within) in
@@ -93,23 +90,23 @@ module _ (s : System) (code : Code) (r : Action) (had : ℕ) (charge : Charged) 
   tick_by t e = ap tick_of (sym w.charged) ∙ e
 
   -- a cycle that goes to a stall
-  pub after_stalled : tick_of charge ≡ tick.Stalled → (after : Charged) → after ≡ after_tick charge tick.Stalled → (result : Gone) → result ≡ on_or_spent after → AfterCycle s code r had result after machine
+  pub after_stalled : tick_of charge ≡ tick.Stalled → (after : Charged) → after ≡ after_tick charge tick.Stalled → (result : Gone) → result ≡ gone_on after → AfterCycle s code r had result after machine
   after_stalled e after after_is result result_is =
       let charged : after ≡ charge_after s r (suc had) = after_is ∙ charge_by tick.Stalled e in
       let same = stalled_next (s.stalls r.agent) r.number r.budget had (tick_by tick.Stalled e) in
       record {
         charged = charged;
         agent = w.agent;
-        gone = subst (IsGone s code r had machine) (sym (result_is ∙ ap on_or_spent charged)) (goes_on s code r w.of_code had machine less (subst (λ n. IsRunning code r n machine) (sym same) w.running));
+        gone = subst (IsGone s code r had machine) (sym (result_is ∙ ap gone_on charged)) (goes_on s code r w.of_code had machine less (subst (λ n. IsRunning code r n machine) (sym same) w.running));
       }
 
   -- an action that may go on has done what its paid instructions did
-  on_done : (sends : List Sent) (taken : List ℕ) → HasDone s code r (charge_after s r (suc had)).paid sends taken → (test : Bool) → HasDoneBy s code r had sends taken (if test then gone.Spent else gone.Going)
+  pub on_done : (sends : List Sent) (taken : List ℕ) → HasDone s code r (charge_after s r (suc had)).paid sends taken → (test : Bool) → HasDoneBy s code r had sends taken (if test then gone.Spent else gone.Going)
   on_done sends taken did true = tt {0}
   on_done sends taken did false = did
 
   -- which sends and takes nothing
-  pub did_stalled : tick_of charge ≡ tick.Stalled → (after : Charged) (result : Gone) → result ≡ on_or_spent after → (sends : List Sent) (taken : List ℕ) → HasDone s code r paid sends taken → HasDoneBy s code r had sends taken result
+  pub did_stalled : tick_of charge ≡ tick.Stalled → (after : Charged) (result : Gone) → result ≡ gone_on after → (sends : List Sent) (taken : List ℕ) → HasDone s code r paid sends taken → HasDoneBy s code r had sends taken result
   did_stalled e after result result_is sends taken did =
       subst (HasDoneBy s code r had sends taken) (sym result_is)
       (on_done sends taken (subst (λ n. HasDone s code r n sends taken) (sym (stalled_next (s.stalls r.agent) r.number r.budget had (tick_by tick.Stalled e))) did) (after.consumed == after.budget))
@@ -117,12 +114,6 @@ module _ (s : System) (code : Code) (r : Action) (had : ℕ) (charge : Charged) 
   -- and looks at nothing
   pub looks_stalled : tick_of charge ≡ tick.Stalled → (look : Option (ℕ × ℕ)) → look ≡ None → IsLookIn s code r had look
   looks_stalled e look none = rw (tick_by tick.Stalled e) none
-
-  -- what an action comes to with a step of its machine
-  abbrev gone_by : Charged → Step → Gone
-  gone_by after step.Went = on_or_spent after
-  gone_by after (step.Ended point) = gone.Ended point
-  gone_by after (step.Trapped kind) = gone.Trapped kind
 
   -- a cycle that pays an instruction
   module _ (paying : tick_of charge ≡ tick.Paid) where
@@ -177,6 +168,16 @@ module _ (s : System) (code : Code) (r : Action) (had : ℕ) (charge : Charged) 
           gone = subst (IsGone s code r had after) (sym (result_is ∙ ap (λ (c : Charged). gone_by c answer) charged)) (gone_after (next_for code view machine) answer refl answers after (ap (λ (m : AgentMachine). m.machine) after_is));
         }
 
+    -- an instruction that doesn't end the action leaves it on its way
+    went : (next : Next) → next_for code view machine ≡ next → Answers next step.Went → (after : AgentMachine) → after.machine ≡ machine_after next machine.machine → IsRunning code r (charge_after s r (suc had)).paid after
+    went (Went m) e answers after same = subst (λ n. IsRunning code r n after) (sym more_paid) (state_then state call m, runs (Went m) e, sym same)
+    went (Ended point m) e answers after same = absurd (let wrong : step.Went ≡ step.Ended point = answers in cc)
+    went (Trapped kind) e answers after same = absurd (let wrong : step.Went ≡ step.Trapped kind = answers in cc)
+    went Stuck e answers after same = absurd answers
+
+    pub runs_on : Answers (next_for code view machine) step.Went → (after : AgentMachine) → after ≡ stepped code view machine → IsRunning code r (charge_after s r (suc had)).paid after
+    runs_on answers after is = went (next_for code view machine) refl answers after (ap (λ (m : AgentMachine). m.machine) is)
+
     -- what it sent and took with the instruction
     module _ (sends : List Sent) (taken : List ℕ) (did : AreDone s r (deeds_then state.deeds call) sends taken) where
       did_after : (next : Next) (answer : Step) → next_for code view machine ≡ next → Answers next answer → (c : Charged) → HasDoneBy s code r had sends taken (gone_by c answer)
@@ -192,3 +193,12 @@ module _ (s : System) (code : Code) (r : Action) (had : ℕ) (charge : Charged) 
 
       pub did_paid : (c : Charged) (answer : Step) → Answers (next_for code view machine) answer → (result : Gone) → result ≡ gone_by c answer → HasDoneBy s code r had sends taken result
       did_paid c answer answers result result_is = subst (HasDoneBy s code r had sends taken) (sym result_is) (did_after (next_for code view machine) answer refl answers c)
+
+      did_went : (next : Next) → next_for code view machine ≡ next → Answers next step.Went → HasDone s code r (charge_after s r (suc had)).paid sends taken
+      did_went (Went m) e answers = subst (λ n. HasDone s code r n sends taken) (sym more_paid) (record { state = state_then state call m; running = runs (Went m) e; sent = did.sent; took = did.took })
+      did_went (Ended point m) e answers = absurd (let wrong : step.Went ≡ step.Ended point = answers in cc)
+      did_went (Trapped kind) e answers = absurd (let wrong : step.Went ≡ step.Trapped kind = answers in cc)
+      did_went Stuck e answers = absurd answers
+
+      pub did_on : Answers (next_for code view machine) step.Went → HasDone s code r (charge_after s r (suc had)).paid sends taken
+      did_on answers = did_went (next_for code view machine) refl answers

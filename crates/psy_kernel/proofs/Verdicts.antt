@@ -1,7 +1,7 @@
 -- What an action is charged and comes to, where it is what its code came to.
 use Rattle.std.proofs.Common.{◌≡◌, ℕ, suc, ◌+◌, ◌<◌, ◌≤◌, List, Some, IsSome, slice_get, sym, ap, ◌∙◌, subst, inl, inr, arith}
 use Rattle.std.specs.Prelude.{if◌then◌else◌}
-use Rattle.std.proofs.lemmas.Bool.{lt-ltb, le-ltb}
+use Rattle.std.proofs.lemmas.Bool.{cases_lt, lt-ltb, le-ltb}
 use Rattle.std.proofs.lemmas.Option.{get_or_from_slice_get}
 use Rattle.psy_arith.specs.declared.operators.Trap.{Trap}
 use Rattle.psy_budget.specs.declared.charge.Stall.{Stall}
@@ -83,6 +83,19 @@ module _ (s : System) (code : Code) (r : Action) (w : IsOfCode s code r) where
         omega (arith, up_to, before, charge_is runs.steps (cost_over over), more_stalled r.number (paid + 1) runs.steps stalls (omega (arith, before))))
     | inr spent ↦ omega (arith, most, charge_is (r.budget + 1) (cost_spent spent.1))
   ]
+
+  -- while it had fewer, its code runs on
+  pub going : (had paid : ℕ) → had < work r → paid ≤ had → paid + stalled stalls r.number paid ≤ had → (t : RunState) × (run_code code its start paid ≡ Running t)
+  going had paid less few from =
+      let inside : paid < runs.steps = elim is_whole.ends [
+        | inl over ↦ elim (cases_lt paid runs.steps) [
+          | inl fewer ↦ fewer
+          | inr more ↦ absurd (omega (arith, less, from, more, charge_is runs.steps (cost_over over), more_stalled r.number runs.steps paid stalls more))
+        ]
+        | inr spent ↦ omega (arith, less, few, spent.0)
+      ] in
+      let goes = is_whole.on_the_way paid inside in
+      (goes.state, goes.running)
 
   pub overran : r.budget < r.charge → r.verdict ≡ Overran
   overran more = w.verdict ∙ ap (λ b. if b then Overran else verdict_by (timing s r.agent) r.start (came_to code r).fate) (lt-ltb r.budget r.charge more)

@@ -43,8 +43,10 @@ HasDoneIn s code r had cycles = HasDoneBy s code r (had + cycles - 1)
 
 -- ---- an action on its way
 
--- The code of an action that had so many cycles goes on behind the instructions that these paid, and it did what they did.
+-- The code of an action that had so many cycles, all within its budget, goes on behind the instructions that these paid, and it did
+-- what they did.
 pub record IsOnWay (s : System) (code : Code) (r : Action) (had : ℕ) (machine : AgentMachine) (sends : List Sent) (taken : List ℕ) : Type 0 where
+  pub within : had ≤ r.budget
   pub agent : machine.agent ≡ r.agent
   pub running : IsRunning code r (charge_after s r had).paid machine
   pub did : HasDone s code r (charge_after s r had).paid sends taken
@@ -55,7 +57,6 @@ pub record MayGoOn (s : System) (code : Code) (r : Action) (had upto start date 
     (outbox : Outboxed) : Type 0 where
   pub of_code : IsOfCode s code r
   pub on_way : IsOnWay s code r had machine outbox.sends taken
-  pub within : had < work r
   pub started : start ≡ r.start
   pub counted : length taken ≡ length s.unit.streams
   pub acts : (now : ℕ) → had ≤ now → now < upto → now < work r → (taken : List ℕ) (after : Outboxed) → length taken ≡ length s.unit.streams

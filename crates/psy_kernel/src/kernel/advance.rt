@@ -27,7 +27,7 @@ pub enum Gone {
 }
 
 /// An action that isn't over goes on until its budget is spent.
-fn going(charge: &Charge) -> Gone
+pub(super) fn going(charge: &Charge) -> Gone
     ensures { result ≡ (if charge.now.consumed == charge.now.budget then gone.Spent else gone.Going) }
 {
     if charge.spent() {

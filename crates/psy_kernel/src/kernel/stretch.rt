@@ -1,24 +1,203 @@
 //! Many cycles in a row that go to one action.
-ghost use Rattle.std.specs.Prelude.{◌≡◌, ◌≢◌, ℕ, ◌+◌, ◌*◌, ◌^◌, ◌<◌, ◌≤◌, List, ◌∷◌, Option, Some, None, length, slice_get, true, if◌then◌else◌, ℤ};
+ghost use Rattle.std.specs.Prelude.{◌≡◌, ◌≢◌, ℕ, ◌+◌, ◌-◌, ◌*◌, ◌^◌, ◌<◌, ◌≤◌, List, ◌∷◌, Option, Some, None, length, slice_get, true, if◌then◌else◌, ℤ};
 ghost use Rattle.std.specs.List.{All};
 ghost use Rattle.psy_base.specs.declared.limits.TheConstants.{RING};
 ghost use Rattle.psy_budget.specs.declared.charge.Stall.{Stall};
 ghost use Rattle.psy_dates.specs.Plans.{IsPlan, system_of};
 ghost use Rattle.psy_history.specs.Actions.{Action};
 ghost use Rattle.psy_history.specs.History.{history};
-ghost use Rattle.psy_history.specs.Schedule.{Turn, is_pending, turn_of};
+ghost use Rattle.psy_history.specs.Schedule.{Turn, is_pending, turn_of, work};
 ghost use Rattle.psy_history.specs.Summary.{reach};
+ghost use Rattle.psy_machine.specs.Stepping.{IsOf};
+ghost use Rattle.psy_machine.specs.declared.machine.Step.TheVariants as step;
 ghost use Rattle.psy_tree.specs.declared.unit.StreamDecl.{StreamDecl};
 ghost use Rattle.psy_tree.specs.declared.unit.VarDecl.{VarDecl};
+ghost use Rattle.psy_kernel.specs.declared.kernel.advance.Gone.TheVariants as gone;
 ghost use Rattle.psy_kernel.specs.Cycles.{BoxStands, OneStands};
-ghost use Rattle.psy_kernel.specs.Stretches.{MayLast, given_to};
+ghost use Rattle.psy_kernel.specs.Seeing.{is_mine};
+ghost use Rattle.psy_kernel.specs.Standing.{charge_after};
+ghost use Rattle.psy_kernel.specs.Stretches.{AfterCycles, AllPay, AreReaches, HasDoneIn, IsOnWay, MayGoOn, MayLast, given_to, gone_by};
 
 use super::Figure;
-use psy_budget::Charge;
-use psy_dates::{Outbox, Plan, Seat};
-use psy_machine::Machine;
+use super::advance::{Gone, going};
+use super::cycle::{end_of, figured, keep_copies, note, stop};
+use crate::eyes::{Eyes, Scene};
+use psy_budget::{Charge, laws};
+use psy_dates::{Outbox, Phase, Plan, Seat};
+use psy_machine::{Machine, Step};
 use psy_queue::Queue;
 use psy_ring::Ring;
+
+/// What steps of a machine came to: how many they were, and the answer of the last one.
+#[derive(Clone, Copy, Debug)]
+struct Executed {
+    count: u64,
+    step: Step,
+}
+
+/// What a stretch of cycles came to: how many they were, and what became of the action with the last one.
+#[derive(Clone, Copy, Debug)]
+struct Passed {
+    cycles: u64,
+    gone: Gone,
+}
+
+/// Executes the next instructions of an action, up to so many, each of which a cycle pays. Each look is noted as it is made.
+#[inline(never)]
+fn burst(
+    plan: &Plan,
+    start: u64,
+    date: u64,
+    most: u64,
+    machine: &mut Machine,
+    eyes: &mut Eyes,
+    reaches: &mut Vec<Option<u32>>,
+) -> Executed
+    requires plan { IsPlan plan.now }
+    requires of { IsOf plan.now.code machine.old }
+    requires early { (start ≤ date) × (date ≤ 2 ^ 40) }
+    requires reaching { length reaches.old.items ≡ length plan.now.unit.variables }
+    requires given { (inputs : List (List ℤ)) × (stalls : ℕ → List Stall) × (r : Action) × (had : ℕ)
+        × MayGoOn (system_of plan.now inputs stalls) plan.now.code r had (had + most) start date machine.old eyes.old.scene.now
+        eyes.old.taken.now.items eyes.old.outbox.now × AllPay (system_of plan.now inputs stalls) r had (had + most) }
+    ensures of { IsOf plan.now.code machine.new }
+    ensures count { result.count ≤ most }
+    ensures whole { result.step ≡ step.Went → result.count ≡ most }
+    ensures some { result.step ≢ step.Went → 1 ≤ result.count }
+    ensures on_way { (inputs : List (List ℤ)) (stalls : ℕ → List Stall) (r : Action) (had : ℕ)
+        → MayGoOn (system_of plan.now inputs stalls) plan.now.code r had (had + most) start date machine.old eyes.old.scene.now
+        eyes.old.taken.now.items eyes.old.outbox.now → AllPay (system_of plan.now inputs stalls) r had (had + most)
+        → result.step ≡ step.Went → IsOnWay (system_of plan.now inputs stalls) plan.now.code r (had + most) machine.new
+        eyes.new.outbox.now.sends eyes.new.taken.now.items }
+    ensures after { (inputs : List (List ℤ)) (stalls : ℕ → List Stall) (r : Action) (had : ℕ)
+        → MayGoOn (system_of plan.now inputs stalls) plan.now.code r had (had + most) start date machine.old eyes.old.scene.now
+        eyes.old.taken.now.items eyes.old.outbox.now → AllPay (system_of plan.now inputs stalls) r had (had + most)
+        → result.step ≢ step.Went → AfterCycles (system_of plan.now inputs stalls) plan.now.code r had result.count
+        (gone_by (charge_after (system_of plan.now inputs stalls) r (had + result.count)) result.step)
+        (charge_after (system_of plan.now inputs stalls) r (had + result.count)) machine.new }
+    ensures did { (inputs : List (List ℤ)) (stalls : ℕ → List Stall) (r : Action) (had : ℕ)
+        → MayGoOn (system_of plan.now inputs stalls) plan.now.code r had (had + most) start date machine.old eyes.old.scene.now
+        eyes.old.taken.now.items eyes.old.outbox.now → AllPay (system_of plan.now inputs stalls) r had (had + most)
+        → result.step ≢ step.Went → HasDoneIn (system_of plan.now inputs stalls) plan.now.code r had result.count
+        eyes.new.outbox.now.sends eyes.new.taken.now.items
+        (gone_by (charge_after (system_of plan.now inputs stalls) r (had + result.count)) result.step) }
+    ensures reached { (inputs : List (List ℤ)) (stalls : ℕ → List Stall) (r : Action) (had : ℕ)
+        → MayGoOn (system_of plan.now inputs stalls) plan.now.code r had (had + most) start date machine.old eyes.old.scene.now
+        eyes.old.taken.now.items eyes.old.outbox.now → AllPay (system_of plan.now inputs stalls) r had (had + most)
+        → (reach : ℕ → ℕ → Option ℕ) → AreReaches (system_of plan.now inputs stalls) plan.now.code r had (had + most) date reach
+        → (variable : ℕ) → slice_get reaches.old.items variable ≡ Some (reach had variable)
+        → slice_get reaches.new.items variable ≡ Some (reach (had + result.count) variable) }
+    ensures reaching { length reaches.new.items ≡ length reaches.old.items }
+    ensures same_taken { eyes.new.taken.ghost_name ≡ eyes.old.taken.ghost_name }
+    ensures same_outbox { eyes.new.outbox.ghost_name ≡ eyes.old.outbox.ghost_name }
+    ensures scene { eyes.new.scene.now ≡ eyes.old.scene.now }
+    ensures size { eyes.new.outbox.now.size ≡ eyes.old.outbox.now.size }
+    ensures taking { length eyes.new.taken.now.items ≡ length eyes.old.taken.now.items }
+    ensures others { (stream : ℕ) → (is_mine eyes.old.scene.now stream ≡ Some true → ⊥)
+        → slice_get eyes.new.taken.now.items stream ≡ slice_get eyes.old.taken.now.items stream }
+{
+    let mut count = 0;
+    'steps: while count < most {
+        eyes.noted = None;
+        let step = machine.step(&plan.code, eyes);
+        note(plan, eyes.noted, start, date, reaches);
+        count += 1;
+        match step {
+            Step::Went => {}
+            Step::Ended(point) => {
+                return Executed {
+                    count,
+                    step: Step::Ended(point),
+                };
+            }
+            Step::Trapped(kind) => {
+                return Executed {
+                    count,
+                    step: Step::Trapped(kind),
+                };
+            }
+        }
+    }
+    Executed {
+        count,
+        step: Step::Went,
+    }
+}
+
+/// Gives a pending action cycles in a row, up to so many, until it is over: stalls at once, and what no stall stands between in one loop.
+fn stretch(
+    plan: &Plan,
+    start: u64,
+    date: u64,
+    most: u64,
+    charge: &mut Charge,
+    machine: &mut Machine,
+    eyes: &mut Eyes,
+    reaches: &mut Vec<Option<u32>>,
+) -> Passed
+    requires plan { IsPlan plan.now }
+    requires of { IsOf plan.now.code machine.old }
+    requires early { (start ≤ date) × (date ≤ 2 ^ 40) }
+    requires some { 1 ≤ most }
+    requires reaching { length reaches.old.items ≡ length plan.now.unit.variables }
+    requires given { (inputs : List (List ℤ)) × (stalls : ℕ → List Stall) × (r : Action) × (had : ℕ)
+        × MayGoOn (system_of plan.now inputs stalls) plan.now.code r had (had + most) start date machine.old eyes.old.scene.now
+        eyes.old.taken.now.items eyes.old.outbox.now × (charge.old ≡ charge_after (system_of plan.now inputs stalls) r had) × (had < work r) }
+    ensures of { IsOf plan.now.code machine.new }
+    ensures count { (1 ≤ result.cycles) × (result.cycles ≤ most) }
+    ensures whole { result.gone ≡ gone.Going → result.cycles ≡ most }
+    ensures after { (inputs : List (List ℤ)) (stalls : ℕ → List Stall) (r : Action) (had : ℕ)
+        → MayGoOn (system_of plan.now inputs stalls) plan.now.code r had (had + most) start date machine.old eyes.old.scene.now
+        eyes.old.taken.now.items eyes.old.outbox.now → charge.old ≡ charge_after (system_of plan.now inputs stalls) r had → had < work r
+        → AfterCycles (system_of plan.now inputs stalls) plan.now.code r had result.cycles result.gone charge.new machine.new }
+    ensures did { (inputs : List (List ℤ)) (stalls : ℕ → List Stall) (r : Action) (had : ℕ)
+        → MayGoOn (system_of plan.now inputs stalls) plan.now.code r had (had + most) start date machine.old eyes.old.scene.now
+        eyes.old.taken.now.items eyes.old.outbox.now → charge.old ≡ charge_after (system_of plan.now inputs stalls) r had → had < work r
+        → HasDoneIn (system_of plan.now inputs stalls) plan.now.code r had result.cycles eyes.new.outbox.now.sends eyes.new.taken.now.items result.gone }
+    ensures reached { (inputs : List (List ℤ)) (stalls : ℕ → List Stall) (r : Action) (had : ℕ)
+        → MayGoOn (system_of plan.now inputs stalls) plan.now.code r had (had + most) start date machine.old eyes.old.scene.now
+        eyes.old.taken.now.items eyes.old.outbox.now → charge.old ≡ charge_after (system_of plan.now inputs stalls) r had → had < work r
+        → (reach : ℕ → ℕ → Option ℕ) → AreReaches (system_of plan.now inputs stalls) plan.now.code r had (had + most) date reach
+        → (variable : ℕ) → slice_get reaches.old.items variable ≡ Some (reach had variable)
+        → slice_get reaches.new.items variable ≡ Some (reach (had + result.cycles) variable) }
+    ensures reaching { length reaches.new.items ≡ length reaches.old.items }
+    ensures same_taken { eyes.new.taken.ghost_name ≡ eyes.old.taken.ghost_name }
+    ensures same_outbox { eyes.new.outbox.ghost_name ≡ eyes.old.outbox.ghost_name }
+    ensures scene { eyes.new.scene.now ≡ eyes.old.scene.now }
+    ensures size { eyes.new.outbox.now.size ≡ eyes.old.outbox.now.size }
+    ensures taking { length eyes.new.taken.now.items ≡ length eyes.old.taken.now.items }
+    ensures others { (stream : ℕ) → (is_mine eyes.old.scene.now stream ≡ Some true → ⊥)
+        → slice_get eyes.new.taken.now.items stream ≡ slice_get eyes.old.taken.now.items stream }
+{
+    laws::stretches();
+    let mut cycles = 0;
+    'parts: while cycles < most && !charge.spent() {
+        cycles += charge.skip(most - cycles);
+        let free = charge.free(most - cycles);
+        let done = burst(plan, start, date, free, machine, eyes, reaches);
+        charge.pay(done.count);
+        cycles += done.count;
+        match done.step {
+            Step::Went => {}
+            Step::Ended(point) => {
+                return Passed {
+                    cycles,
+                    gone: Gone::Ended(point),
+                };
+            }
+            Step::Trapped(kind) => {
+                return Passed {
+                    cycles,
+                    gone: Gone::Trapped(kind),
+                };
+            }
+        }
+    }
+    Passed {
+        cycles,
+        gone: going(charge),
+    }
+}
 
 /// What cycles in a row came to: how many they were, and whether the action goes on behind them.
 #[derive(Clone, Copy, Debug)]
@@ -45,7 +224,6 @@ pub(super) fn go_on(
     outbox: &mut Outbox,
     reaches: &mut Vec<Option<u32>>,
 ) -> Lasted
-    requires waits { ⊥ }
     requires plan { IsPlan plan.now }
     requires known { agent < length plan.now.unit.agents }
     requires valued { length ended.old.items ≡ length plan.now.unit.variables }
@@ -99,8 +277,51 @@ pub(super) fn go_on(
         → slice_get ended.new.items variable ≡ slice_get ended.old.items variable }
     ensures all { length ended.new.items ≡ length ended.old.items }
 {
+    let scene = Scene::new(
+        rings,
+        plan.unit.variables.as_slice(),
+        plan.unit.clocks.as_slice(),
+        queues,
+        plan.unit.streams.as_slice(),
+        agent,
+        seat.start,
+        date,
+    );
+    let mut eyes = Eyes {
+        scene: &scene,
+        taken,
+        outbox,
+        noted: None,
+    };
+    let start = seat.start;
+    let done = stretch(
+        plan, start, date, most, charge, machine, &mut eyes, reaches,
+    );
+    match done.gone {
+        Gone::Going => {
+            return Lasted {
+                cycles: done.cycles,
+                goes: true,
+            };
+        }
+        Gone::Ended(point) => {
+            seat.phase = Phase::Ended;
+            seat.end = end_of(&plan.unit, agent, seat.start, point);
+            seat.reached = point;
+            keep_copies(ended, plan.unit.variables.as_slice(), agent, machine);
+        }
+        Gone::Trapped(kind) => stop(seat, Some(kind)),
+        Gone::Spent => stop(seat, None),
+    }
+    *figure = figured(
+        *figure,
+        plan.until,
+        plan.unit.quantum,
+        seat.deadline,
+        cycle + done.cycles,
+    );
     Lasted {
-        cycles: most,
-        goes: true,
+        cycles: done.cycles,
+        goes: false,
     }
 }

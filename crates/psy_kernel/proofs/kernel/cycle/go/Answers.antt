@@ -1,13 +1,8 @@
 -- What is left of the proof of `kernel::cycle::go`.
 use Rattle.std.proofs.Common.{rules, ◌≡◌, ℕ, ◌+◌, ◌*◌, ◌==◌, ◌<◌, ◌≤◌, true, List, [], ◌∷◌, Option, Some, None, get_or, slice_get, ℤ, Vec, Global, refl, sym, ap, ◌∙◌, subst, arith}
-use Rattle.std.specs.Prelude.{option_map}
 use Rattle.std.specs.List.{All}
-use Rattle.std.proofs.lemmas.Bool.{eqb-true}
-use Rattle.std.proofs.lemmas.Option.{slice_get-map}
-use Rattle.std.proofs.lemmas.Nat.{mul-le}
 use Rattle.psy_budget.specs.declared.charge.Stall.{Stall}
 use Rattle.psy_budget.specs.Charges.{Charged}
-use Rattle.psy_clock.specs.declared.clock.Clock.{Clock}
 use Rattle.psy_clock.specs.Dates.{IsClock}
 use Rattle.psy_code.specs.declared.code.Code.{Code}
 use Rattle.psy_code.specs.declared.look.Sent.{Sent}
@@ -21,10 +16,6 @@ use Rattle.psy_dates.specs.Plans.{system_of}
 use Rattle.psy_history.specs.Actions.{Action, System, timing}
 use Rattle.psy_history.specs.Schedule.{Turn, units}
 use Rattle.psy_meaning.specs.Timing.{end_date}
-use Rattle.psy_queue.specs.Order.{Queued}
-use Rattle.psy_tree.specs.declared.unit.StreamDecl.{StreamDecl}
-use Rattle.psy_tree.specs.declared.unit.Unit.{Unit as Whole}
-use Rattle.psy_tree.specs.declared.unit.VarDecl.{VarDecl}
 use Rattle.psy_kernel.specs.Acting.{AfterCycle, HasDoneBy, InAction, IsLookIn, SeesAs, ShowsAs}
 use Rattle.psy_kernel.specs.Cycles.{BoxStands, IsGiven, MayEnd, figured}
 use Rattle.psy_kernel.specs.declared.kernel.advance.Gone.{Gone}
@@ -33,20 +24,9 @@ use Rattle.psy_kernel.specs.Seeing.{Sight, is_mine, sight_in, window_in}
 use Rattle.psy_kernel.specs.Standing.{HasDone, charge_after}
 use Rattle.psy_kernel.proofs.OneBox.{box_ended, box_going, box_spent, box_trapped}
 use Rattle.psy_kernel.proofs.OneAgent.{count_few, goes_on, in_action, moved, overruns, reaches, traps}
+use Rattle.psy_kernel.proofs.Scenes.{fits, not_mine, same_box, same_count, scene_of}
 use Rattle.psy_kernel.proofs.kernel.cycle.go.Goals.{in-Ended, in-Trapped, in-Spent}
 use Rattle.psy_kernel.proofs.kernel.cycle.go.Goals as goal
-
--- The cycles of a run fit
-fits : (cycle until quantum : ℕ) → cycle < until * quantum → until ≤ 4294967295 → quantum ≤ 1000000 → cycle + 1 < 18446744073709551616
-fits cycle until quantum run most small = omega (arith, run, mul-le until quantum 4294967295 1000000 most small)
-
--- What the action looks at
-scene_of : (unit : Whole) (rings : List (List ℤ)) (queues : List Queued) (agent start date : ℕ) (variables : List VarDecl) (clocks : List Clock) (streams : List StreamDecl) → variables ≡ unit.variables → clocks ≡ unit.clocks → streams ≡ unit.streams
-    → (scene : Sight) → scene ≡ record { rings = rings; variables = variables; clocks = clocks; queues = queues; streams = streams; agent = agent; start = start; date = date } → scene ≡ sight_in unit rings queues agent start date
-scene_of unit rings queues agent start date variables clocks streams a b c scene is =
-    is ∙ ap (λ vs. sight_in (record unit { variables = vs; clocks = clocks; streams = streams }) rings queues agent start date) a
-    ∙ ap (λ cs. sight_in (record unit { clocks = cs; streams = streams }) rings queues agent start date) b
-    ∙ ap (λ ss. sight_in (record unit { streams = ss }) rings queues agent start date) c
 
 -- The action that gets the cycle, what it sees and what it has done
 module _ (plan : Plan) (cycle agent date : ℕ) (charge : Charged) (machine : AgentMachine) (figure : Figure) (seat : Seat) (ended : List ℤ) (sight : Sight) (taken : List ℕ) (outbox : Outboxed)
@@ -85,22 +65,6 @@ module _ (plan : Plan) (cycle agent date : ℕ) (charge : Charged) (machine : Ag
         → (InAction s plan.code r had charge machine → ShowsAs s plan.code r paid (window_in scene taken outbox None) → SeesAs s r scene taken → HasDone s plan.code r paid outbox.sends taken → HasDoneBy s plan.code r had sends taken' result)
         → (other : Gone) → result ≡ other → HasDoneBy s plan.code r had sends taken' other
     did result sends taken' law other e = subst (HasDoneBy s plan.code r had sends taken') e (law acts shown seen given.acts.did)
-
--- What the eyes hold last is what they leave
-same_box : (s : System) (code : Code) (turns : List (Option Turn)) (date agent : ℕ) (actions : List Action) (sends sends' : List Sent) (taken taken' : List ℕ) → sends ≡ sends' → taken ≡ taken'
-    → BoxStands s code turns date agent actions sends taken → BoxStands s code turns date agent actions sends' taken'
-same_box s code turns date agent actions sends sends' taken taken' a b box = subst (λ ss. BoxStands s code turns date agent actions ss taken') a (subst (BoxStands s code turns date agent actions sends) b box)
-
-same_count : (taken taken' : List ℕ) (stream : ℕ) (n : Option ℕ) → taken ≡ taken' → slice_get taken stream ≡ n → slice_get taken' stream ≡ n
-same_count taken taken' stream n e at = sym (ap (λ ns. slice_get ns stream) e) ∙ at
-
--- A stream that another agent receives isn't the agent's
-not_mine : (sight : Sight) (stream : ℕ) (decl : StreamDecl) → slice_get sight.streams stream ≡ Some decl → (decl.receiver ≡ sight.agent → ⊥) → is_mine sight stream ≡ Some true → ⊥
-not_mine sight stream decl at other mine =
-    let test : Some (decl.receiver == sight.agent) ≡ Some true =
-    sym (ap (λ o. option_map (λ (d : StreamDecl). d.receiver == sight.agent) o) at) ∙ sym (slice_get-map (λ (d : StreamDecl). d.receiver == sight.agent) sight.streams stream) ∙ mine in
-    let same : (decl.receiver == sight.agent) ≡ true = cc in
-    other (eqb-true decl.receiver sight.agent same)
 
 pub new-scene-requires : goal.new-scene-requires
 new-scene-requires c =
