@@ -121,7 +121,7 @@ module _ (s : System) (code : Code) (turns : List (Option Turn)) (until date cyc
           m,
           b.2,
           goes_on s code (turned k) until date (cycle + k) agent r before (gets_at k (omega (arith, few)) (omega (arith, less))) b.0 b.1 waits figure seat ended b.3 (charge_after s r (suc u)) m b.2
-          (record { charged = refl; agent = own; gone = (more, (t.0, t.1, refl)) }),
+              (record { charged = refl; agent = own; gone = (more, (t.0, t.1, refl)) }),
         )
 
     -- ---- the last one

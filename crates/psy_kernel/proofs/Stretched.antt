@@ -50,12 +50,12 @@ moves charge left skipped free off some a b = by skipped refl
     by (suc k) e = omega (arith, e)
     by zero e =
         let no_stall : tick_of charge ≡ tick.Stalled → ⊥ = λ stall. (
-            let one : 1 ≤ skipped = a.greatest 1 (omega (arith, some)) (λ k less. (let z : k ≡ 0 = omega (arith, less) in subst (λ k. tick_of (ticked charge k) ≡ tick.Stalled) (sym z) stall)) in
-            omega (arith, one, e)) in
+        let one : 1 ≤ skipped = a.greatest 1 (omega (arith, some)) (λ k less. (let z : k ≡ 0 = omega (arith, less) in subst (λ k. tick_of (ticked charge k) ≡ tick.Stalled) (sym z) stall)) in
+        omega (arith, one, e)) in
         let pays : tick_of charge ≡ tick.Paid = pays_or_stalls charge off no_stall in
         let free_one : 1 ≤ free = b.greatest 1 (omega (arith, some, e)) (λ k less. (
-            let z : k ≡ 0 = omega (arith, less) in
-            subst (λ k. tick_of (ticked (ticked charge skipped) k) ≡ tick.Paid) (sym z) (subst (λ n. tick_of (ticked charge n) ≡ tick.Paid) (sym e) pays))) in
+        let z : k ≡ 0 = omega (arith, less) in
+        subst (λ k. tick_of (ticked (ticked charge skipped) k) ≡ tick.Paid) (sym z) (subst (λ n. tick_of (ticked charge n) ≡ tick.Paid) (sym e) pays))) in
         omega (arith, free_one)
 
 module _ (laws : AreLaws) (s : System) (r : Action) where
@@ -95,33 +95,42 @@ module _ (laws : AreLaws) (s : System) (r : Action) where
         ap (λ v. reach v variable) so ∙ are (u + n) variable None (omega (arith, low)) (omega (arith, few)) less (none_looked (u + n) here)
         ∙ same_reach of_code had upto date reach are low n (omega (arith, few)) earlier variable
 
+sum_of : (a b c : ℕ) → a + b + c ≡ a + (b + c)
+sum_of a b c = omega arith
+
+module _ (plan : Plan) (start date most : ℕ) (first : AgentMachine) (before : Eyes) (charge0 : Charged) where
+  pub none_charged : ChargesOf plan start date most first before charge0 0 charge0
+  none_charged inputs stalls r had m = let so : had ≡ had + 0 = omega arith in m.1.0 ∙ ap (λ u. charge_after (system_of plan inputs stalls) r u) so
+
+  module _ (inputs : List (List ℤ)) (stalls : ℕ → List Stall) (r : Action) (had : ℕ) (m : IsMeant (Begins charge0) plan start date most first before inputs stalls r had) where
+    -- an action that begins isn't spent
+    begins : (charge : Charged) → ChargesOf plan start date most first before charge0 0 charge → (charge.consumed == charge.budget) ≡ true → ⊥
+    begins charge charged spent =
+        let s : System = system_of plan inputs stalls in
+        let less : had < work r = m.1.1 in
+        let so : had + 0 ≡ had = omega arith in
+        let is : charge ≡ charge_after s r had = charged inputs stalls r had m ∙ ap (λ u. charge_after s r u) so in
+        let test : (had == r.budget) ≡ true = sym (spent_is (s.stalls r.agent) r.number r.budget had (omega (arith, less))) ∙ sym (ap (λ (c : Charged). c.consumed == c.budget) is) ∙ spent in
+        let same : had ≡ r.budget = eqb-true had r.budget test in
+        omega (arith, less, same)
+
+    -- so one that is spent had a cycle
+    pub some_done : (n : ℕ) (charge : Charged) → ChargesOf plan start date most first before charge0 n charge → (charge.consumed == charge.budget) ≡ true → 1 ≤ n
+    some_done zero charge charged spent = absurd (begins charge charged spent)
+    some_done (suc n) charge charged spent = omega arith
+
 module _ (laws : AreLaws) {plan : Plan} {start date most : ℕ} {first : AgentMachine} {before : Eyes} {reaches : List (Option ℕ)} {charge0 : Charged} where
-  abbrev pub Kept : ℕ → AgentMachine → Eyes → List (Option ℕ) → Type 0
-  Kept n machine now reaches' = AreKept (Begins charge0) plan start date most first before reaches n machine now reaches'
-
-  abbrev pub Meant : List (List ℤ) → (ℕ → List Stall) → Action → ℕ → Type 0
-  Meant inputs stalls r had = IsMeant (Begins charge0) plan start date most first before inputs stalls r had
-
-  abbrev pub Charges : ℕ → Charged → Type 0
-  Charges n charge = ChargesOf plan start date most first before charge0 n charge
-
-  pub none_charged : Charges 0 charge0
-  none_charged inputs stalls r had m = m.1.0 ∙ ap (λ u. charge_after (system_of plan inputs stalls) r u) (omega arith)
-
-  sum_of : (a b c : ℕ) → a + b + c ≡ a + (b + c)
-  sum_of a b c = omega arith
-
-  module _ {n : ℕ} {machine : AgentMachine} {now : Eyes} {reaches' : List (Option ℕ)} (kept : Kept n machine now reaches') (few : n < most) (charge : Charged) (charged : Charges n charge) where
+  module _ {n : ℕ} {machine : AgentMachine} {now : Eyes} {reaches' : List (Option ℕ)} (kept : AreKept (Begins charge0) plan start date most first before reaches n machine now reaches') (few : n < most) (charge : Charged) (charged : ChargesOf plan start date most first before charge0 n charge) where
     -- behind a stall
     module _ (skipped : ℕ) (count : IsStretch charge tick.Stalled (most - n) skipped) (charge' : Charged) (charge_is : charge' ≡ ticked charge skipped) where
       within : n + skipped ≤ most
       within = omega (arith, few, count.within)
 
-      pub charged_then : Charges (n + skipped) charge'
+      pub charged_then : ChargesOf plan start date most first before charge0 (n + skipped) charge'
       charged_then inputs stalls r had m =
           charge_is ∙ on_by laws (system_of plan inputs stalls) r (had + n) skipped charge (charged inputs stalls r had m) ∙ ap (λ u. charge_after (system_of plan inputs stalls) r u) (sum_of had n skipped)
 
-      pub kept_then : Kept (n + skipped) machine now reaches'
+      pub kept_then : AreKept (Begins charge0) plan start date most first before reaches (n + skipped) machine now reaches'
       kept_then = record {
         of = kept.of;
         reaching = kept.reaching;
@@ -144,9 +153,9 @@ module _ (laws : AreLaws) {plan : Plan} {start date most : ℕ} {first : AgentMa
 
   -- ---- the instructions behind it
 
-  module _ {n : ℕ} {machine : AgentMachine} {now : Eyes} {reaches' : List (Option ℕ)} (kept : Kept n machine now reaches') (charge : Charged) (charged : Charges n charge) (free : ℕ) (fits : n + free ≤ most) (all : AllGoTo charge tick.Paid free) where
+  module _ {n : ℕ} {machine : AgentMachine} {now : Eyes} {reaches' : List (Option ℕ)} (kept : AreKept (Begins charge0) plan start date most first before reaches n machine now reaches') (charge : Charged) (charged : ChargesOf plan start date most first before charge0 n charge) (free : ℕ) (fits : n + free ≤ most) (all : AllGoTo charge tick.Paid free) where
     -- what is given of them
-    pub part : (inputs : List (List ℤ)) (stalls : ℕ → List Stall) (r : Action) (had : ℕ) → Meant inputs stalls r had
+    pub part : (inputs : List (List ℤ)) (stalls : ℕ → List Stall) (r : Action) (had : ℕ) → IsMeant (Begins charge0) plan start date most first before inputs stalls r had
         → MayGoOn (system_of plan inputs stalls) plan.code r (had + n) (had + n + free) start date machine now.scene.now now.taken.now.items now.outbox.now
     part inputs stalls r had m =
         let s : System = system_of plan inputs stalls in
@@ -161,12 +170,12 @@ module _ (laws : AreLaws) {plan : Plan} {start date most : ℕ} {first : AgentMa
           near = λ u low high less look is. may.near u (omega (arith, low)) (omega (arith, high, fits)) less look is;
         }
 
-    pub part_pays : (inputs : List (List ℤ)) (stalls : ℕ → List Stall) (r : Action) (had : ℕ) → Meant inputs stalls r had → AllPay (system_of plan inputs stalls) r (had + n) (had + n + free)
+    pub part_pays : (inputs : List (List ℤ)) (stalls : ℕ → List Stall) (r : Action) (had : ℕ) → IsMeant (Begins charge0) plan start date most first before inputs stalls r had → AllPay (system_of plan inputs stalls) r (had + n) (had + n + free)
     part_pays inputs stalls r had m = all_pay laws (system_of plan inputs stalls) r (had + n) free charge (charged inputs stalls r had m) all
 
     -- behind them
     module _ (count : ℕ) (few : count ≤ free) (charge' : Charged) (charge_is : charge' ≡ ticked charge count) where
-      pub charged_behind : Charges (n + count) charge'
+      pub charged_behind : ChargesOf plan start date most first before charge0 (n + count) charge'
       charged_behind inputs stalls r had m =
           charge_is ∙ on_by laws (system_of plan inputs stalls) r (had + n) count charge (charged inputs stalls r had m) ∙ ap (λ u. charge_after (system_of plan inputs stalls) r u) (sum_of had n count)
 
@@ -178,7 +187,7 @@ module _ (laws : AreLaws) {plan : Plan} {start date most : ℕ} {first : AgentMa
             → (reach : ℕ → ℕ → Option ℕ) → AreReaches (system_of plan inputs stalls) plan.code r had (had + free) date reach
             → (variable : ℕ) → slice_get reaches' variable ≡ Some (reach had variable) → slice_get reaches'' variable ≡ Some (reach (had + count) variable)
 
-        pub reached_behind : IsReached → (inputs : List (List ℤ)) (stalls : ℕ → List Stall) (r : Action) (had : ℕ) → Meant inputs stalls r had
+        pub reached_behind : IsReached → (inputs : List (List ℤ)) (stalls : ℕ → List Stall) (r : Action) (had : ℕ) → IsMeant (Begins charge0) plan start date most first before inputs stalls r had
             → (reach : ℕ → ℕ → Option ℕ) → AreReaches (system_of plan inputs stalls) plan.code r had (had + most) date reach
             → (variable : ℕ) → slice_get reaches variable ≡ Some (reach had variable) → slice_get reaches'' variable ≡ Some (reach (had + (n + count)) variable)
         reached_behind law inputs stalls r had m reach are variable at =
@@ -196,7 +205,7 @@ module _ (laws : AreLaws) {plan : Plan} {start date most : ℕ} {first : AgentMa
           pub kept_behind : (whole : count ≡ free) → ((inputs : List (List ℤ)) (stalls : ℕ → List Stall) (r : Action) (had : ℕ)
               → MayGoOn (system_of plan inputs stalls) plan.code r had (had + free) start date machine now.scene.now now.taken.now.items now.outbox.now → AllPay (system_of plan inputs stalls) r had (had + free)
               → IsOnWay (system_of plan inputs stalls) plan.code r (had + free) machine' after.outbox.now.sends after.taken.now.items)
-              → Kept (n + count) machine' after reaches''
+              → AreKept (Begins charge0) plan start date most first before reaches (n + count) machine' after reaches''
           kept_behind whole law = record {
             of = of;
             reaching = as_many ∙ kept.reaching;
@@ -213,7 +222,7 @@ module _ (laws : AreLaws) {plan : Plan} {start date most : ℕ} {first : AgentMa
           }
 
         -- where it is over
-        module _ (inputs : List (List ℤ)) (stalls : ℕ → List Stall) (r : Action) (had : ℕ) (m : Meant inputs stalls r had) where
+        module _ (inputs : List (List ℤ)) (stalls : ℕ → List Stall) (r : Action) (had : ℕ) (m : IsMeant (Begins charge0) plan start date most first before inputs stalls r had) where
           abbrev s : System
           s = system_of plan inputs stalls
 
@@ -244,20 +253,10 @@ module _ (laws : AreLaws) {plan : Plan} {start date most : ℕ} {first : AgentMa
               let d : DoneBy known = subst DoneBy is (law (part inputs stalls r had m) (part_pays inputs stalls r had m) (λ e. other (sym is ∙ e))) in
               subst (λ v. HasDoneBy s plan.code r v after.outbox.now.sends after.taken.now.items (gone_by (charge_after s r (had + n + count)) known)) same_last d
 
-  -- an action that begins isn't spent
-  pub begins : (inputs : List (List ℤ)) (stalls : ℕ → List Stall) (r : Action) (had : ℕ) → Meant inputs stalls r had → (charge : Charged) → Charges 0 charge → (charge.consumed == charge.budget) ≡ true → ⊥
-  begins inputs stalls r had m charge charged spent =
-      let s : System = system_of plan inputs stalls in
-      let less : had < work r = m.1.1 in
-      let is : charge ≡ charge_after s r had = charged inputs stalls r had m ∙ ap (λ u. charge_after s r u) (omega arith) in
-      let test : (had == r.budget) ≡ true = sym (spent_is (s.stalls r.agent) r.number r.budget had (omega (arith, less))) ∙ sym (ap (λ (c : Charged). c.consumed == c.budget) is) ∙ spent in
-      let same : had ≡ r.budget = eqb-true had r.budget test in
-      omega (arith, less, same)
-
   -- ---- behind the loop
 
-  module _ {n : ℕ} {machine : AgentMachine} {now : Eyes} {reaches' : List (Option ℕ)} (kept : Kept n machine now reaches') (charge : Charged) (charged : Charges n charge) (some : 1 ≤ n)
-      (inputs : List (List ℤ)) (stalls : ℕ → List Stall) (r : Action) (had : ℕ) (m : Meant inputs stalls r had) (result : Gone) (result_is : result ≡ gone_on charge) where
+  module _ {n : ℕ} {machine : AgentMachine} {now : Eyes} {reaches' : List (Option ℕ)} (kept : AreKept (Begins charge0) plan start date most first before reaches n machine now reaches') (charge : Charged) (charged : ChargesOf plan start date most first before charge0 n charge) (some : 1 ≤ n)
+      (inputs : List (List ℤ)) (stalls : ℕ → List Stall) (r : Action) (had : ℕ) (m : IsMeant (Begins charge0) plan start date most first before inputs stalls r had) (result : Gone) (result_is : result ≡ gone_on charge) where
     result_by : gone_on (charge_after (system_of plan inputs stalls) r (had + n)) ≡ result
     result_by = ap gone_on (sym (charged inputs stalls r had m)) ∙ sym result_is
 

@@ -33,7 +33,7 @@ abbrev pub given_to : Option Turn → ℕ → List (Option Turn) → List (Optio
 given_to turn zero turns = turns
 given_to turn (suc n) turns = turn ∷ given_to turn n turns
 
--- Many cycles of an action that had so many leave what the last of them leaves.
+-- One cycle or more of an action that had so many leave what the last of them leaves.
 abbrev pub AfterCycles : System → Code → Action → ℕ → ℕ → Gone → Charged → AgentMachine → Type 0
 AfterCycles s code r had cycles = AfterCycle s code r (had + cycles - 1)
 

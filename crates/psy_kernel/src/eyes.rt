@@ -69,6 +69,9 @@ pub fn dates_between(clock: Clock, behind: u64, upto: u64) -> u64
     requires early { (behind ≤ 2 ^ 40) × (upto ≤ 2 ^ 40) }
     ensures { result ≡ dates_between clock behind upto }
 {
+    if behind == upto {
+        return 0;
+    }
     clock.count_to(upto).saturating_sub(clock.count_to(behind))
 }
 

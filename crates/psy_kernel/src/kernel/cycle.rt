@@ -91,7 +91,12 @@ fn is_owned(agent: u32, owner: Option<u32>) -> bool
 }
 
 /// Keeps the working copies of all variables that an agent owns.
-pub(super) fn keep_copies(ended: &mut Vec<i32>, variables: &[VarDecl], agent: u32, machine: &Machine)
+pub(super) fn keep_copies(
+    ended: &mut Vec<i32>,
+    variables: &[VarDecl],
+    agent: u32,
+    machine: &Machine,
+)
     requires valued { length ended.old.items ≡ length variables.now }
     requires few { length variables.now ≤ VARIABLES }
     requires copies { (variable : ℕ) (v : VarDecl) → slice_get variables.now variable ≡ Some v → v.owner ≡ Some agent

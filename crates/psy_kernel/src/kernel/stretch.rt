@@ -294,9 +294,7 @@ pub(super) fn go_on(
         noted: None,
     };
     let start = seat.start;
-    let done = stretch(
-        plan, start, date, most, charge, machine, &mut eyes, reaches,
-    );
+    let done = stretch(plan, start, date, most, charge, machine, &mut eyes, reaches);
     match done.gone {
         Gone::Going => {
             return Lasted {
