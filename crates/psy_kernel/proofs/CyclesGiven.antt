@@ -50,9 +50,9 @@ steady k turn n row stay between above below w =
     let a : between - 1 ≡ k.cycles + j = omega (arith, above) in
     let b : between ≡ k.cycles + suc j = omega (arith, above) in
     let first : is_pending (turns_in k (between - 1)) r ≡ is_pending (turns_in k k.cycles) r = ap (λ m. is_pending (turns_in k m) r) a ∙ ap (λ ts. is_pending ts r) (row j (omega (arith, above, below)))
-        ∙ All-contains (StaysSo (turns_in k k.cycles) (given_to turn j (turns_in k k.cycles))) (history (run_in k) (dates_done k.shared.date) w.0) r (stay j (omega (arith, above, below)) w.0) w.2 in
+    ∙ All-contains (StaysSo (turns_in k k.cycles) (given_to turn j (turns_in k k.cycles))) (history (run_in k) (dates_done k.shared.date) w.0) r (stay j (omega (arith, above, below)) w.0) w.2 in
     let second : is_pending (turns_in k between) r ≡ is_pending (turns_in k k.cycles) r = ap (λ m. is_pending (turns_in k m) r) b ∙ ap (λ ts. is_pending ts r) (row (suc j) (omega (arith, above, below)))
-        ∙ All-contains (StaysSo (turns_in k k.cycles) (given_to turn (suc j) (turns_in k k.cycles))) (history (run_in k) (dates_done k.shared.date) w.0) r (stay (suc j) (omega (arith, above, below)) w.0) w.2 in
+    ∙ All-contains (StaysSo (turns_in k k.cycles) (given_to turn (suc j) (turns_in k k.cycles))) (history (run_in k) (dates_done k.shared.date) w.0) r (stay (suc j) (omega (arith, above, below)) w.0) w.2 in
     true≢false (sym w.3 ∙ first ∙ sym second ∙ w.4)
 
 module _ (k : Inside) (is : KernelStands k) (d : IsDue k) where

@@ -1,5 +1,5 @@
-//! The kernel: it runs the code of a program's agents under earliest deadline first and budgets, one date or processor cycle after the
-//! other, and tells what is published at each date.
+//! The kernel: it runs the code of a program's agents under earliest deadline first and budgets, one date or stretch of processor cycles
+//! after the other, and tells what is published at each date.
 //! It may know machines, charges, dates, and the forms of lines; no text of a program, no output.
 #![tactic(auto)]
 
