@@ -1,6 +1,6 @@
 -- What the agent has whose action gets many cycles in a row, and what it did.
-use Rattle.std.proofs.Common.{◌≡◌, ℕ, zero, suc, ◌+◌, ◌-◌, ◌*◌, ◌<◌, ◌≤◌, Bool, true, false, List, [], ◌∷◌, length, get_or, Option, Some, None, slice_get, ℤ, refl, sym, ap, ◌∙◌, subst, arith, add-one}
-use Rattle.std.specs.Prelude.{IsSome, if◌then◌else◌, nat_lt}
+use Rattle.std.proofs.Common.{◌≡◌, ℕ, zero, suc, ◌+◌, ◌-◌, ◌*◌, ◌<◌, ◌≤◌, true, false, List, [], ◌∷◌, length, get_or, Option, Some, None, slice_get, ℤ, refl, sym, ap, ◌∙◌, subst, arith}
+use Rattle.std.specs.Prelude.{IsSome}
 use Rattle.std.proofs.lemmas.Bool.{cond-true, lt-ltb, le-ltb, ltb-true}
 use Rattle.std.proofs.lemmas.Nat.{mul-le}
 use Rattle.psy_arith.specs.declared.operators.Trap.{Trap}
@@ -31,10 +31,10 @@ use Rattle.psy_kernel.specs.declared.kernel.Figure.{Figure}
 use Rattle.psy_kernel.specs.declared.kernel.advance.Gone.{Gone}
 use Rattle.psy_kernel.specs.declared.kernel.advance.Gone.TheVariants as gone
 use Rattle.psy_kernel.specs.Acting.{AfterCycle, HasDoneBy, IsLookIn, IsOfCode}
-use Rattle.psy_kernel.specs.Cycles.{ActsIn, BoxStands, GetsCycle, IsNear, LooksBack, MayEnd, OneStands, figured, reach_by}
+use Rattle.psy_kernel.specs.Cycles.{ActsIn, BoxStands, GetsCycle, IsNear, LooksBack, MayEnd, OneStands, figured}
 use Rattle.psy_kernel.specs.Seeing.{Sight, sight_in}
-use Rattle.psy_kernel.specs.Standing.{HasDone, IsRunning, charge_after}
-use Rattle.psy_kernel.specs.Stretches.{AfterCycles, AreReaches, HasDoneIn, IsOnWay, MayGoOn, MayLast, given_to}
+use Rattle.psy_kernel.specs.Standing.{HasDone, charge_after}
+use Rattle.psy_kernel.specs.Stretches.{AfterCycles, AreReaches, HasDoneIn, MayGoOn, MayLast, given_to}
 use Rattle.psy_kernel.proofs.OneAgent.{count_few, early, goes_on, in_action, overruns, reaches, traps}
 use Rattle.psy_kernel.proofs.OneBox.{box_ended, box_going, box_spent, box_trapped}
 use Rattle.psy_kernel.proofs.OtherAgents.{is_own}

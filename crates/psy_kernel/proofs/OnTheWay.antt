@@ -1,10 +1,10 @@
 -- An action that goes on through many cycles: stalls, and instructions that its machine executes one by one.
-use Rattle.std.proofs.Common.{◌≡◌, ◌≢◌, ℕ, zero, suc, ◌+◌, ◌-◌, ◌<◌, ◌≤◌, ◌==◌, nat_lt, Bool, true, false, List, length, Option, Some, None, slice_get, refl, sym, ap, ◌∙◌, subst, inl, inr, arith, add-one}
+use Rattle.std.proofs.Common.{◌≡◌, ◌≢◌, ℕ, zero, suc, ◌+◌, ◌-◌, ◌<◌, ◌≤◌, ◌==◌, nat_lt, Bool, true, false, List, length, Option, None, refl, sym, ap, ◌∙◌, subst, inl, inr, arith}
 use Rattle.std.specs.Prelude.{if◌then◌else◌}
 use Rattle.std.proofs.lemmas.Bool.{cases_lt, cond-false, cond-true, eq-eqb, true≢false}
 use Rattle.psy_budget.specs.declared.charge.Tick.{Tick}
 use Rattle.psy_budget.specs.declared.charge.Tick.TheVariants as tick
-use Rattle.psy_budget.specs.Charges.{AllGoTo, Charged, IsStretch, action_of, after_tick, stalled, tick_of, ticked}
+use Rattle.psy_budget.specs.Charges.{Charged, action_of, after_tick, stalled, tick_of}
 use Rattle.psy_code.specs.declared.code.Code.{Code}
 use Rattle.psy_code.specs.declared.look.Sent.{Sent}
 use Rattle.psy_code.specs.Execution.{Stuck, call_of, deeds_then}
@@ -16,14 +16,13 @@ use Rattle.psy_machine.specs.Stepping.{AgentMachine, Answers, next_for, stepped,
 use Rattle.psy_history.specs.Actions.{Action, System}
 use Rattle.psy_history.specs.Schedule.{work}
 use Rattle.psy_kernel.specs.declared.eyes.Eyes.{Eyes}
-use Rattle.psy_kernel.specs.declared.kernel.advance.Gone.{Gone}
 use Rattle.psy_kernel.specs.declared.kernel.advance.Gone.TheVariants as gone
 use Rattle.psy_kernel.specs.Acting.{AfterCycle, AreDone, HasDoneBy, InAction, IsLookIn, IsOfCode, ShowsAs}
 use Rattle.psy_kernel.specs.Cycles.{ActsIn, IsNear, reach_by}
 use Rattle.psy_kernel.specs.Looking.{KeepsRest, window_of}
 use Rattle.psy_kernel.specs.Seeing.{Sight, window_in}
 use Rattle.psy_kernel.specs.Standing.{HasDone, IsRunning, charge_after}
-use Rattle.psy_kernel.specs.Stretches.{AfterCycles, AllPay, AreReaches, HasDoneIn, IsOnWay, MayGoOn, gone_by, gone_on}
+use Rattle.psy_kernel.specs.Stretches.{AfterCycles, AreReaches, HasDoneIn, IsOnWay, MayGoOn, gone_by, gone_on}
 use Rattle.psy_kernel.proofs.EyesMoved.{moved}
 use Rattle.psy_kernel.proofs.PaidCycles.{spent_is, up_to_next}
 use Rattle.psy_kernel.proofs.PendingCycles.{able as can_step, after_paid, did_on, did_paid, goes_on, looks_paid, permitted as may_ask, runs_on}

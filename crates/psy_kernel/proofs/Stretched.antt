@@ -1,5 +1,5 @@
 -- The loop over the parts of a stretch: a stall at once, then the instructions that no stall stands between.
-use Rattle.std.proofs.Common.{◌≡◌, ◌≢◌, ℕ, zero, suc, ◌+◌, ◌-◌, ◌<◌, ◌≤◌, ◌==◌, Bool, true, false, List, length, Option, Some, None, slice_get, ℤ, refl, sym, ap, ◌∙◌, subst, arith}
+use Rattle.std.proofs.Common.{◌≡◌, ℕ, zero, suc, ◌+◌, ◌-◌, ◌<◌, ◌≤◌, ◌==◌, true, false, List, length, Option, Some, None, slice_get, ℤ, refl, sym, ap, ◌∙◌, subst, arith}
 use Rattle.std.proofs.lemmas.Bool.{eqb-true}
 use Rattle.psy_budget.specs.declared.charge.Stall.{Stall}
 use Rattle.psy_budget.specs.declared.charge.Tick.{Tick}
@@ -8,7 +8,6 @@ use Rattle.psy_budget.specs.Charges.{AllGoTo, Charged, IsStretch, tick_of, ticke
 use Rattle.psy_code.specs.declared.code.Code.{Code}
 use Rattle.psy_code.specs.declared.look.Sent.{Sent}
 use Rattle.psy_dates.specs.declared.plan.Plan.{Plan}
-use Rattle.psy_dates.specs.Outboxes.{Outboxed}
 use Rattle.psy_dates.specs.Plans.{system_of}
 use Rattle.psy_machine.specs.declared.machine.Step.{Step}
 use Rattle.psy_machine.specs.declared.machine.Step.TheVariants as step
@@ -17,10 +16,9 @@ use Rattle.psy_history.specs.Actions.{Action, System}
 use Rattle.psy_history.specs.Schedule.{work}
 use Rattle.psy_kernel.specs.declared.eyes.Eyes.{Eyes}
 use Rattle.psy_kernel.specs.declared.kernel.advance.Gone.{Gone}
-use Rattle.psy_kernel.specs.declared.kernel.advance.Gone.TheVariants as gone
 use Rattle.psy_kernel.specs.Acting.{AfterCycle, HasDoneBy, IsLookIn, IsOfCode}
 use Rattle.psy_kernel.specs.Cycles.{ActsIn}
-use Rattle.psy_kernel.specs.Seeing.{Sight, is_mine}
+use Rattle.psy_kernel.specs.Seeing.{is_mine}
 use Rattle.psy_kernel.specs.Standing.{charge_after}
 use Rattle.psy_kernel.specs.Stretches.{AfterCycles, AllPay, AreReaches, HasDoneIn, IsOnWay, MayGoOn, gone_by, gone_on}
 use Rattle.psy_kernel.proofs.Bursts.{AreKept, IsMeant}

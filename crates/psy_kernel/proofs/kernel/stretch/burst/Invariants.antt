@@ -1,5 +1,5 @@
 -- What each loop of `kernel::stretch::burst` keeps.
-use Rattle.std.proofs.Common.{ℕ, ◌-◌, ◌≤◌}
+use Rattle.std.proofs.Common.{◌-◌, ◌≤◌}
 use Rattle.psy_kernel.proofs.Bursts.{AreKept, Pays}
 use Rattle.psy_kernel.proofs.kernel.stretch.burst.Given as goal
 

@@ -1,5 +1,5 @@
 -- What is left of the proof of `kernel::stretch::go_on`.
-use Rattle.std.proofs.Common.{rules, ◌≡◌, ℕ, ◌+◌, ◌*◌, ◌<◌, ◌≤◌, List, [], ◌∷◌, get_or, Option, Some, None, slice_get, ℤ, Vec, Global, refl, sym, ap, ◌∙◌, subst, arith}
+use Rattle.std.proofs.Common.{rules, ◌≡◌, ℕ, ◌+◌, ◌*◌, ◌≤◌, [], ◌∷◌, get_or, Some, None, slice_get, ℤ, Vec, Global, sym, ap, ◌∙◌, subst, arith}
 use Rattle.std.specs.List.{All}
 use Rattle.psy_clock.specs.Dates.{IsClock}
 use Rattle.psy_code.specs.declared.code.Code.{Code}

@@ -1,8 +1,7 @@
 -- What is left of the proof of `kernel::stretch::stretch`.
-use Rattle.std.proofs.Common.{◌≡◌, ℕ, ◌+◌, ◌-◌, ◌<◌, ◌≤◌, refl, sym, ap, ◌∙◌, subst, arith}
+use Rattle.std.proofs.Common.{◌≡◌, ℕ, ◌+◌, ◌-◌, ◌≤◌, sym, ◌∙◌, subst, arith}
 use Rattle.psy_budget.specs.declared.charge.Tick.TheVariants as tick
 use Rattle.psy_budget.specs.Charges.{IsStretch}
-use Rattle.psy_dates.specs.Plans.{system_of}
 use Rattle.psy_machine.specs.declared.machine.Step.TheVariants as step
 use Rattle.psy_kernel.proofs.Bursts.{none_kept}
 use Rattle.psy_kernel.proofs.Stretched.{AreLaws, Begins, after_all, charged_behind, charged_then, done_all, done_behind, kept_behind, kept_then, moves, none_charged, others_behind, over_behind, part, part_pays, reached_behind, some_done}

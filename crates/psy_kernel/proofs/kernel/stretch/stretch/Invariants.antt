@@ -1,5 +1,5 @@
 -- What each loop of `kernel::stretch::stretch` keeps.
-use Rattle.std.proofs.Common.{ℕ, ◌-◌, ◌≤◌}
+use Rattle.std.proofs.Common.{◌-◌, ◌≤◌}
 use Rattle.psy_kernel.proofs.Bursts.{AreKept}
 use Rattle.psy_kernel.proofs.Stretched.{Begins, ChargesOf}
 use Rattle.psy_kernel.proofs.kernel.stretch.stretch.Given as goal
