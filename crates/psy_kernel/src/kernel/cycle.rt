@@ -1,8 +1,8 @@
 //! A cycle: the agent that gets it, and what becomes of its action.
 ghost use Rattle.std.specs.Prelude.{◌≡◌, ◌≢◌, ℕ, ◌+◌, ◌*◌, ◌-◌, ◌^◌, ◌<◌, ◌≤◌, List, [], ◌∷◌, Option, Some, None, IsSome, length, slice_get};
-ghost use Rattle.std.specs.Prelude.{if◌then◌else◌, true, false, ℤ};
-ghost use Rattle.std.specs.List.{All, AllPairs};
-ghost use Rattle.psy_base.specs.declared.limits.TheConstants.{RING, VARIABLES};
+ghost use Rattle.std.specs.Prelude.{true, false, ℤ};
+ghost use Rattle.std.specs.List.{AllPairs};
+ghost use Rattle.psy_base.specs.declared.limits.TheConstants.{VARIABLES};
 ghost use Rattle.psy_budget.specs.declared.charge.Stall.{Stall};
 ghost use Rattle.psy_code.specs.Execution.{copy_of};
 ghost use Rattle.psy_dates.specs.declared.plan.Plan.{Plan};
@@ -13,36 +13,29 @@ ghost use Rattle.psy_history.specs.Regular.{IsLawful};
 ghost use Rattle.psy_history.specs.Actions.{Action, History, System};
 ghost use Rattle.psy_tree.specs.Parts.{agent_at};
 ghost use Rattle.psy_history.specs.History.{history};
-ghost use Rattle.psy_history.specs.Schedule.{Turn, is_pending, units};
+ghost use Rattle.psy_history.specs.Schedule.{Turn, is_pending};
 ghost use Rattle.psy_history.specs.Summary.{reach};
 ghost use Rattle.psy_base.specs.Extremes.{greater};
 ghost use Rattle.psy_meaning.specs.Timing.{end_date, timing_of};
 ghost use Rattle.psy_ready.specs.Choice.{ListsEach};
-ghost use Rattle.psy_tree.specs.declared.unit.StreamDecl.{StreamDecl};
 ghost use Rattle.psy_tree.specs.declared.unit.VarDecl.{VarDecl};
-ghost use Rattle.psy_kernel.specs.Acting.{IsLookIn};
-ghost use Rattle.psy_kernel.specs.Cycles.{AreOver, BoxStands, GetsCycle, IsCycleOf, IsGiven, IsNear, LooksBack, MayEnd, OneStands, figured, is_owned};
+ghost use Rattle.psy_kernel.specs.Cycles.{AreOver, GetsCycle, IsCycleOf, IsNear, LooksBack, MayEnd, figured, is_owned};
 ghost use Rattle.psy_kernel.specs.Cycles.{order_by, reach_by, run_of, run_turns};
 ghost use Rattle.psy_history.specs.declared.told.Script.{Script};
 ghost use Rattle.psy_kernel.specs.Progress.{after_cycle, stage_of};
-ghost use Rattle.psy_kernel.specs.Seeing.{sight_in};
 ghost use Rattle.psy_kernel.specs.Slices.{IsOverBy};
 ghost use Rattle.psy_kernel.specs.Standing.{AreInForce, IsChosen};
 
-use super::advance::{Gone, advance};
 use super::stretch::go_on;
 use super::{Figure, Kernel};
-use crate::eyes::{Eyes, Scene, clock_in, dates_between};
+use crate::eyes::{clock_in, dates_between};
 use crate::stage::Stage;
 use psy_arith::Trap;
-use psy_budget::Charge;
-use psy_dates::{Outbox, Phase, Plan, Seat};
+use psy_dates::{Phase, Plan, Seat};
 use psy_history::Order;
 use psy_history::laws::{compiled, deeds, on_time, queues, reaches, regular, ring_sizes, rings};
 use psy_machine::Machine;
-use psy_queue::Queue;
 use psy_ready::Ready;
-use psy_ring::Ring;
 use psy_tree::{Unit, VarDecl};
 
 /// The order of the last of so many orders that have come into force, and the first one where none has.
@@ -197,100 +190,6 @@ fn last_date(date: Option<u64>) -> u64
         Some(date) => date,
         None => 0,
     }
-}
-
-/// What a cycle came to: whether the action goes on behind it, and the variable and the `back` that it looked at, where it did.
-#[derive(Clone, Copy, Debug)]
-struct Course {
-    goes: bool,
-    look: Option<(u32, u32)>,
-}
-
-/// Gives an agent's action the cycle of this number, after a date.
-fn go(
-    plan: &Plan,
-    agent: u32,
-    cycle: u64,
-    date: u64,
-    rings: &[Ring],
-    queues: &[Queue],
-    charge: &mut Charge,
-    machine: &mut Machine,
-    figure: &mut Figure,
-    seat: &mut Seat,
-    ended: &mut Vec<i32>,
-    taken: &mut Vec<u32>,
-    outbox: &mut Outbox,
-) -> Course
-    requires plan { IsPlan plan.now }
-    requires known { agent < length plan.now.unit.agents }
-    requires valued { length ended.old.items ≡ length plan.now.unit.variables }
-    requires early { date ≤ 2 ^ 40 }
-    requires few { All (λ ring. length ring ≤ RING) rings.now }
-    requires given { (inputs : List (List ℤ)) × (stalls : ℕ → List Stall) × (turns : List (Option Turn)) × (r : Action) × (before : List Action)
-        × (waits : Option ℕ)
-        × IsGiven plan.now inputs stalls turns date cycle agent r before charge.old machine.old waits figure.old seat.old ended.old.items
-        (sight_in plan.now.unit rings.now queues.now agent seat.old.start date) taken.old.items outbox.old }
-    ensures has { (inputs : List (List ℤ)) (stalls : ℕ → List Stall) (turns : List (Option Turn)) (r : Action) (before : List Action) (waits : Option ℕ)
-        → IsGiven plan.now inputs stalls turns date cycle agent r before charge.old machine.old waits figure.old seat.old ended.old.items
-        (sight_in plan.now.unit rings.now queues.now agent seat.old.start date) taken.old.items outbox.old
-        → OneStands (system_of plan.now inputs stalls) plan.now.code
-        (Some (record { agent = r.agent; number = r.number }) ∷ turns) plan.now.until date agent (r ∷ before) charge.new machine.new
-        (if result.goes then waits else None) figure.new seat.new ended.new.items }
-    ensures look { (inputs : List (List ℤ)) (stalls : ℕ → List Stall) (turns : List (Option Turn)) (r : Action) (before : List Action) (waits : Option ℕ)
-        → IsGiven plan.now inputs stalls turns date cycle agent r before charge.old machine.old waits figure.old seat.old ended.old.items
-        (sight_in plan.now.unit rings.now queues.now agent seat.old.start date) taken.old.items outbox.old
-        → IsLookIn (system_of plan.now inputs stalls) plan.now.code r (units r.agent r.number turns) result.look }
-    ensures boxed { (inputs : List (List ℤ)) (stalls : ℕ → List Stall) (turns : List (Option Turn)) (r : Action) (before : List Action) (waits : Option ℕ)
-        → IsGiven plan.now inputs stalls turns date cycle agent r before charge.old machine.old waits figure.old seat.old ended.old.items
-        (sight_in plan.now.unit rings.now queues.now agent seat.old.start date) taken.old.items outbox.old
-        → BoxStands (system_of plan.now inputs stalls) plan.now.code (Some (record { agent = r.agent; number = r.number }) ∷ turns) date agent
-        (r ∷ before) outbox.new.sends taken.new.items }
-    ensures size { outbox.new.size ≡ outbox.old.size }
-    ensures count { length taken.new.items ≡ length taken.old.items }
-    ensures untaken { (stream : ℕ) (decl : StreamDecl) → slice_get plan.now.unit.streams stream ≡ Some decl → decl.receiver ≢ agent
-        → slice_get taken.new.items stream ≡ slice_get taken.old.items stream }
-    ensures others { (variable : ℕ) (v : VarDecl) → slice_get plan.now.unit.variables variable ≡ Some v → v.owner ≢ Some agent
-        → slice_get ended.new.items variable ≡ slice_get ended.old.items variable }
-    ensures all { length ended.new.items ≡ length ended.old.items }
-{
-    let scene = Scene::new(
-        rings,
-        plan.unit.variables.as_slice(),
-        plan.unit.clocks.as_slice(),
-        queues,
-        plan.unit.streams.as_slice(),
-        agent,
-        seat.start,
-        date,
-    );
-    let mut eyes = Eyes {
-        scene: &scene,
-        taken,
-        outbox,
-        noted: None,
-    };
-    let gone = advance(charge, machine, &plan.code, &mut eyes);
-    let look = eyes.noted;
-    match gone {
-        Gone::Going => return Course { goes: true, look },
-        Gone::Ended(point) => {
-            seat.phase = Phase::Ended;
-            seat.end = end_of(&plan.unit, agent, seat.start, point);
-            seat.reached = point;
-            keep_copies(ended, plan.unit.variables.as_slice(), agent, machine);
-        }
-        Gone::Trapped(kind) => stop(seat, Some(kind)),
-        Gone::Spent => stop(seat, None),
-    }
-    *figure = figured(
-        *figure,
-        plan.until,
-        plan.unit.quantum,
-        seat.deadline,
-        cycle + 1,
-    );
-    Course { goes: false, look }
 }
 
 /// In a run up to a date, of each agent's actions the last alone may be pending; and where it is, it can get the next cycle, sees by the

@@ -103,10 +103,6 @@ invariant_of-self c =
     let come : AreInForce k.script.orders passed (k.cycles + c.args.most) = subst (λ orders. AreInForce orders passed (k.cycles + c.args.most)) c.as_slice-orders.ensures c.passed_by-passed.ensures.in_force in
     counted_fresh (record k { chosen = chosen; stale = false }) c.args.most (idle_between k is d nobody c.args.most high ahead chosen choice) refl passed come c.passed_by-passed.ensures.no_less
 
-pub go_on-lasted-requires-clause-waits : goal.go_on-lasted-requires-clause-waits
-go_on-lasted-requires-clause-waits c =
-    ?
-
 pub go_on-lasted-requires-clause-few : goal.go_on-lasted-requires-clause-few
 go_on-lasted-requires-clause-few c =
     let k : Inside = c.self.inside in
