@@ -22,7 +22,7 @@ CountsTo = (c : Clock) (t i : ℕ) → IsClock c → (date c i ≤ t ↔ i < cou
 first_is : (c : Clock) (t : ℕ) → from_date c t 0 ≡ date c (count_below c t)
 first_is c t = ap (date c) (omega arith)
 
--- Behind a date of the clock the next one comes a period later,
+-- Behind a date of the clock the next one comes a period later.
 pub next_at : CountsBelow → (c : Clock) → IsClock c → (t : ℕ) → from_date c t 0 ≡ t → from_date c (t + 1) 0 ≡ t + c.period
 next_at below c h t at =
     let n = count_below c t in
@@ -37,7 +37,7 @@ next_at below c h t at =
     let same : m + 0 ≡ suc n = omega (arith, some, few) in
     ap (date c) same ∙ omega (arith, step, is, at)
 
--- and else it is the same one.
+-- Else it is the same one.
 pub next_later : CountsBelow → (c : Clock) → IsClock c → (t : ℕ) → t < from_date c t 0 → from_date c (t + 1) 0 ≡ from_date c t 0
 next_later below c h t late =
     let n = count_below c t in

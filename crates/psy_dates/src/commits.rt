@@ -1,6 +1,6 @@
 //! What a date does to the values committed.
 
-ghost use Rattle.std.specs.Prelude.{◌≡◌, ℕ, ◌<◌, length, get_or, if◌then◌else◌, pos, slice_get};
+ghost use Rattle.std.specs.Prelude.{◌≡◌, ℕ, ◌<◌, IsFalse, false, length, get_or, if◌then◌else◌, pos, slice_get};
 ghost use Rattle.psy_dates.specs.Moves.{commits_at, ends_at, ends_by, owner_of};
 
 use crate::seat::{Phase, Seat};
@@ -36,8 +36,20 @@ fn commits(date: u64, seats: &[Seat], owner: Option<u32>) -> bool
     }
 }
 
+/// Whether some agent ends its action at this date.
+fn any_ends(date: u64, seats: &[Seat]) -> bool
+    ensures { IsFalse result → (agent : ℕ) → ends_at date (slice_get seats.now agent) ≡ false }
+{
+    'seats: for agent in 0..seats.len() {
+        if ends_there(date, seats, agent) {
+            return true;
+        }
+    }
+    false
+}
+
 /// Commits the working copies of the variables whose owners end their actions at this date.
-pub fn commit_all(
+fn commit_ended(
     variables: &[VarDecl],
     date: u64,
     seats: &[Seat],
@@ -54,5 +66,24 @@ pub fn commit_all(
         if commits(date, seats, variables[variable].owner) {
             committed[variable] = ended[variable];
         }
+    }
+}
+
+/// Commits the working copies of the variables whose owners end their actions at this date. Where nobody ends one there is nothing to do.
+pub fn commit_all(
+    variables: &[VarDecl],
+    date: u64,
+    seats: &[Seat],
+    ended: &[i32],
+    committed: &mut [i32],
+)
+    requires kept { length ended.now ≡ length variables.now }
+    requires valued { length committed.old ≡ length variables.now }
+    ensures { (variable : ℕ) → variable < length variables.now
+        → get_or committed.new variable (pos 0) ≡ (if commits_at date seats.now (owner_of variables.now variable) then get_or ended.now variable (pos 0)
+        else get_or committed.old variable (pos 0)) }
+{
+    if any_ends(date, seats) {
+        commit_ended(variables, date, seats, ended, committed);
     }
 }

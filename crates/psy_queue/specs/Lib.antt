@@ -1,3 +1,4 @@
 -- The definitions of this crate, by subject.
+pub mod Expiring
 pub mod Order
 pub mod Standing

@@ -1,7 +1,8 @@
 -- What the fields of a queue stand for.
-use Rattle.std.specs.Prelude.{◌≤◌, vec_len, vec_capacity}
+use Rattle.std.specs.Prelude.{◌≤◌, IsTrue, vec_len, vec_capacity}
 use Rattle.psy_base.specs.declared.limits.TheConstants.{QUEUE}
 use Rattle.psy_queue.specs.declared.queue.Queue.TheInside.{Inside}
+use Rattle.psy_queue.specs.Expiring.{ExpiryRises}
 use Rattle.psy_queue.specs.Order.{Queued, AreInOrder}
 
 -- The queue
@@ -14,3 +15,5 @@ pub record IsQueue (q : Inside) : Type 0 where
   pub within : vec_len q.messages ≤ q.size
   pub room : q.size ≤ vec_capacity q.messages
   pub limit : q.size ≤ QUEUE
+  -- those that are known to expire in their order do
+  pub rising : IsTrue q.rising → ExpiryRises q.messages.items

@@ -1,8 +1,9 @@
 //! The messages of a stream, in order.
-ghost use Rattle.std.specs.Prelude.{◌≡◌, ◌<◌, ◌≤◌, true, false, [], Some, IfOk, drop, filter, length, nat_le, nat_lt, slice_get, vec_capacity};
+ghost use Rattle.std.specs.Prelude.{◌≡◌, ℕ, ◌+◌, ◌<◌, ◌≤◌, true, false, [], Some, IfOk, IsTrue, drop, filter, length, nat_le, nat_lt, slice_get, vec_capacity};
 ghost use Rattle.std.specs.List.Sorted.{IsPartitionPoint};
 ghost use Rattle.psy_base.specs.declared.limits.TheConstants.{QUEUE};
 ghost use Rattle.psy_base.specs.declared.message.Message.{Message};
+ghost use Rattle.psy_queue.specs.Expiring.{ExpiryRises};
 ghost use Rattle.psy_queue.specs.Order.{AreInOrder, comes_before, put_in_order, message_values};
 
 use psy_base::{Memory, Message};
@@ -15,6 +16,8 @@ use std::marker::Model;
 pub struct Queue {
     size: u32,
     messages: Vec<Message>,
+    /// Whether it is known that they expire in their order, as those of a stream do.
+    rising: bool,
 }
 
 impl Model for Queue {
@@ -58,21 +61,77 @@ fn seen_in(messages: &[Message], start: u64) -> usize
     messages.partition_point(|message| message.visible <= start)
 }
 
+/// Whether no message at a place expires behind a date.
+fn none_behind(messages: &[Message], place: usize, expiry: u64) -> bool
+    ensures { IsTrue result → (other : Message) → slice_get messages.now place ≡ Some other → other.expiry ≤ expiry }
+{
+    match messages.get(place) {
+        Some(other) => other.expiry <= expiry,
+        None => true,
+    }
+}
+
+/// Whether no message at a place expires before a date.
+fn none_before(messages: &[Message], place: usize, expiry: u64) -> bool
+    ensures { IsTrue result → (other : Message) → slice_get messages.now place ≡ Some other → expiry ≤ other.expiry }
+{
+    match messages.get(place) {
+        Some(other) => expiry <= other.expiry,
+        None => true,
+    }
+}
+
+/// Whether messages that are known to expire in their order are so with one more at a place, which expires at a date.
+fn rises_with(rising: bool, messages: &[Message], place: usize, expiry: u64) -> bool
+    ensures rising { IsTrue result → IsTrue rising }
+    ensures before { IsTrue result → (i : ℕ) (other : Message) → i + 1 ≡ place → slice_get messages.now i ≡ Some other → other.expiry ≤ expiry }
+    ensures behind { IsTrue result → (other : Message) → slice_get messages.now place ≡ Some other → expiry ≤ other.expiry }
+{
+    rising
+        && none_before(messages, place, expiry)
+        && (place == 0 || none_behind(messages, place - 1, expiry))
+}
+
+/// How many of the first messages have expired at a date, where they expire in their order.
+fn expired(messages: &[Message], date: u64) -> usize
+    requires { ExpiryRises messages.now }
+    ensures rest { drop result messages.now ≡ filter (λ (m : Message). nat_lt date m.expiry) messages.now }
+    ensures within { result ≤ length messages.now }
+{
+    messages.partition_point(|message| message.expiry <= date)
+}
+
 /// The first messages go.
 fn drop_front(messages: &mut Vec<Message>, taken: usize)
     requires { taken ≤ length messages.old.items }
     ensures items { messages.new.items ≡ drop taken messages.old.items }
     ensures capacity { vec_capacity messages.new ≡ vec_capacity messages.old }
 {
-    drop(messages.drain(..taken));
+    if taken > 0 {
+        drop(messages.drain(..taken));
+    }
 }
 
-/// The messages that have expired go.
-fn drop_expired(messages: &mut Vec<Message>, date: u64)
+/// The messages that have expired go, in whatever order they do.
+fn drop_each(messages: &mut Vec<Message>, date: u64)
     ensures items { messages.new.items ≡ filter (λ (m : Message). nat_lt date m.expiry) messages.old.items }
     ensures capacity { vec_capacity messages.new ≡ vec_capacity messages.old }
 {
     messages.retain(|message| date < message.expiry);
+}
+
+/// The messages that have expired go: the first ones, where they are known to expire in their order.
+fn drop_expired(messages: &mut Vec<Message>, date: u64, rising: bool)
+    requires { IsTrue rising → ExpiryRises messages.old.items }
+    ensures items { messages.new.items ≡ filter (λ (m : Message). nat_lt date m.expiry) messages.old.items }
+    ensures capacity { vec_capacity messages.new ≡ vec_capacity messages.old }
+{
+    if rising {
+        let gone = expired(messages.as_slice(), date);
+        drop_front(messages, gone);
+    } else {
+        drop_each(messages, date);
+    }
 }
 
 impl Queue {
@@ -84,6 +143,7 @@ impl Queue {
         Ok(Queue {
             size,
             messages: Vec::with_capacity(alloc, size as usize)?,
+            rising: true,
         })
     }
 
@@ -93,6 +153,7 @@ impl Queue {
         ensures { self.new ≡ record self.old { messages = put_in_order message self.old.messages } }
     {
         let place = place_of(self.messages.as_slice(), &message);
+        self.rising = rises_with(self.rising, self.messages.as_slice(), place, message.expiry);
         // There is room, so this takes no memory.
         let _ = self.messages.insert(place, message);
     }
@@ -103,7 +164,7 @@ impl Queue {
         ensures { self.new ≡ record self.old { messages = filter (λ (m : Message). nat_lt date m.expiry) (drop taken self.old.messages) } }
     {
         drop_front(&mut self.messages, taken as usize);
-        drop_expired(&mut self.messages, date);
+        drop_expired(&mut self.messages, date, self.rising);
     }
 
     /// How many messages are visible at this date or before it.

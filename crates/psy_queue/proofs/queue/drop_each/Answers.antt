@@ -1,7 +1,7 @@
--- What is left of the proof of `queue::drop_expired`.
+-- What is left of the proof of `queue::drop_each`.
 use Rattle.std.proofs.Common.{rules}
 use Rattle.std.proofs.lemmas.Fn.{filter_same}
-use Rattle.psy_queue.proofs.queue.drop_expired.Goals as goal
+use Rattle.psy_queue.proofs.queue.drop_each.Goals as goal
 
 pub returns-clause-items : goal.returns-clause-items
 returns-clause-items c = filter_same _ _ _ (λ x b f' k. search rules) _ _ c.retain.ensures.filtered

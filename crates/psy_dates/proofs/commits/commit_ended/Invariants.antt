@@ -1,7 +1,7 @@
--- What each loop of `commits::commit_all` keeps.
+-- What each loop of `commits::commit_ended` keeps.
 use Rattle.std.proofs.Common.{◌≡◌, ℕ, ◌<◌, ◌≤◌, get_or, if◌then◌else◌, pos}
 use Rattle.psy_dates.specs.Moves.{commits_at, owner_of}
-use Rattle.psy_dates.proofs.commits.commit_all.Given as goal
+use Rattle.psy_dates.proofs.commits.commit_ended.Given as goal
 
 abbrev pub invariant-variables : goal.invariant-variables
 invariant-variables l = record {
