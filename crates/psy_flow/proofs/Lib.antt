@@ -18,6 +18,7 @@ mod Marks
 mod MostWays
 mod NextPoints
 mod OneList
+mod Onwards
 mod Ordered
 mod PointTops
 mod ReachPieces
@@ -35,4 +36,5 @@ mod Throughs
 mod TopsOf
 mod Turnings
 mod Uncapped
+mod WalksMet
 mod WayRows

@@ -14,7 +14,8 @@ use psy_base::{Items, Memory};
 use psy_tree::AgentDecl;
 use std::alloc::Global;
 
-fn no_marks(alloc: Global, count: usize) -> Result<Items<bool>, Memory>
+/// So many marks, none of them set.
+pub fn no_marks(alloc: Global, count: usize) -> Result<Items<bool>, Memory>
     ensures { IfOk result (λ marks. marks ≡ replicate count false) }
 {
     let mut marks = Items::new(alloc);
