@@ -1,5 +1,5 @@
 -- What is left of the proof of `walks::follow`.
-use Rattle.std.proofs.Common.{◌≡◌, ◌<◌, ℕ, get_or, length, Some, sym, ap, subst, ◌∙◌, inl, inr}
+use Rattle.std.proofs.Common.{◌≡◌, ℕ, get_or, sym, ap, subst, ◌∙◌, inl, inr}
 use Rattle.std.proofs.lemmas.List.Elements.{Contains-get_or}
 use Rattle.psy_meaning.specs.CodeWays.{IsPassed}
 use Rattle.psy_flow.specs.Walks.{MayFollow}

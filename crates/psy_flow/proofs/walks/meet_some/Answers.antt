@@ -1,5 +1,5 @@
 -- What is left of the proof of `walks::meet_some`.
-use Rattle.std.proofs.Common.{◌≡◌, sym, subst, ◌∙◌}
+use Rattle.std.proofs.Common.{sym, subst, ◌∙◌}
 use Rattle.std.specs.List.{Contains}
 use Rattle.std.proofs.lemmas.Option.{none-some, same_Some}
 use Rattle.psy_flow.proofs.WalksMet.{grown_none}
@@ -18,4 +18,4 @@ pub returns-in-None-clause-grown : goal.returns-in-None-clause-grown
 returns-in-None-clause-grown c = grown_none c.args.places.now
 
 pub returns-in_ok-meet-in-Some-clause-there : goal.returns-in_ok-meet-in-Some-clause-there
-returns-in_ok-meet-in-Some-clause-there c p e = subst (Contains c.meet.new.places) (sym (same_Some p c.in-Some.place (e ∙ c.in-Some.is))) c.in_ok-meet.ensures.there
+returns-in_ok-meet-in-Some-clause-there c p e = subst (Contains c.meet.new.places) (sym (same_Some p c.in-Some.place (e ∙ c.in-Some.is))) c.in_ok-meet-in-Some.ensures.there

@@ -1,7 +1,6 @@
 -- What is left of the proof of `walks::passed`.
-use Rattle.std.proofs.Common.{◌≡◌, ◌≤◌, ◌<◌, false, [], length, sym, ap, subst, ◌∙◌, arith}
+use Rattle.std.proofs.Common.{◌≡◌, ◌<◌, false, length, sym, subst, arith}
 use Rattle.std.specs.Prelude.{replicate}
-use Rattle.std.specs.List.{Contains}
 use Rattle.psy_meaning.specs.CodeWays.{first}
 use Rattle.psy_flow.specs.Walks.{AreMet}
 use Rattle.psy_flow.proofs.WalksMet.{Done, done_none, done_more, grown_has, grown_length, met_none, passed_all}

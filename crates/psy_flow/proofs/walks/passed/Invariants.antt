@@ -1,5 +1,5 @@
 -- What each loop of `walks::passed` keeps.
-use Rattle.std.proofs.Common.{ℕ, ◌-◌, ◌≤◌, length}
+use Rattle.std.proofs.Common.{◌-◌, ◌≤◌, length}
 use Rattle.std.specs.List.{Contains}
 use Rattle.psy_flow.specs.Walks.{AreMet}
 use Rattle.psy_flow.proofs.WalksMet.{Done}
