@@ -4,6 +4,7 @@ mod BehindTops
 mod CallTops
 mod Capped
 mod CappedCosts
+mod CodeEnds
 mod CostRows
 mod Cuts
 mod DelaysAmong

@@ -140,10 +140,9 @@ module _ (instrs : List Instr) (from : ℕ) where
   met_all marks places met begun done place first = begun
   met_all marks places met begun done place (later before next i passed at goes) = all_followed places done before (met_all marks places met begun done before passed) place i at goes
 
-  pub passed_all : (marks : List Bool) (places : List ℕ) → AreMet instrs from marks places → Contains places from → Done places (length places) → ArePassed instrs from marks
+  pub passed_all : (marks : List Bool) (places : List ℕ) → AreMet instrs from marks places → Contains places from → Done places (length places) → ArePassed instrs from places
   passed_all marks places met begun done = record {
-    count = met.count;
-    each = λ place. ((λ h. met.passed place (met.listed place h)), (λ passed. met.marked place (met_all marks places met begun done place passed)));
+    each = λ place. ((λ c. met.passed place c), (λ passed. met_all marks places met begun done place passed));
   }
 
 -- ---- after one instruction

@@ -1,5 +1,5 @@
 -- The places that ways through code pass, while they are met.
-use Rattle.std.specs.Prelude.{◌≡◌, ℕ, suc, ◌+◌, ◌<◌, Bool, true, false, List, [], ◌∷◌, ◌++◌, length, None, Some, slice_get, ◌↔◌}
+use Rattle.std.specs.Prelude.{◌≡◌, ℕ, suc, ◌+◌, ◌<◌, Bool, true, false, List, [], ◌∷◌, ◌++◌, length, nat_eq, Option, None, Some, slice_get, ◌↔◌}
 use Rattle.std.specs.List.{Contains}
 use Rattle.psy_code.specs.declared.instr.Instr.{Instr}
 use Rattle.psy_code.specs.declared.instr.Instr.TheVariants as instr
@@ -46,7 +46,22 @@ IsGrown before after = (more : List ℕ) × (after ≡ before ++ more)
 abbrev pub MayFollow : List Instr → List ℕ → ℕ → Type 0
 MayFollow instrs places place = (next : ℕ) (i : Instr) → slice_get instrs place ≡ Some i → GoesOn i place next → Contains places next
 
--- The marks of all places that ways from there pass
-pub record ArePassed (instrs : List Instr) (from : ℕ) (marks : List Bool) : Type 0 where
-  pub count : length marks ≡ length instrs
-  pub each : (place : ℕ) → IsMarked marks place ↔ IsPassed instrs from place
+-- All places that ways from there pass
+pub record ArePassed (instrs : List Instr) (from : ℕ) (places : List ℕ) : Type 0 where
+  pub each : (place : ℕ) → Contains places place ↔ IsPassed instrs from place
+
+-- ---- ends
+
+-- The instruction ends an action at the point.
+abbrev pub ends_at : Instr → ℕ → Bool
+ends_at (instr.Advance own) point = nat_eq own point
+ends_at _ point = false
+
+-- There is an instruction, and it does.
+abbrev pub end_of : Option Instr → ℕ → Bool
+end_of None point = false
+end_of (Some i) point = ends_at i point
+
+-- The instruction at the place does.
+abbrev pub ends_there : List Instr → ℕ → ℕ → Bool
+ends_there instrs point place = end_of (slice_get instrs place) point

@@ -8,6 +8,7 @@ mod costs;
 mod counts;
 mod delays;
 mod depths;
+mod ends;
 mod expressions;
 mod flow;
 mod gauge;
@@ -25,8 +26,8 @@ mod tops;
 mod walks;
 
 pub use depths::Depths;
+pub use ends::code_next_points;
 pub use flow::{looks, most_sends, worst};
 pub use listed::ways;
 pub use next::next_points;
 pub use stack::depth_of_stack;
-pub use walks::passed;

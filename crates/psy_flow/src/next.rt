@@ -25,8 +25,8 @@ pub fn no_marks(alloc: Global, count: usize) -> Result<Items<bool>, Memory>
     Ok(marks)
 }
 
-// The numbers that are marked, of which there are as many at most as an agent has points.
-fn marked_numbers(alloc: Global, marks: &[bool]) -> Result<Items<u32>, Memory>
+/// The numbers that are marked, in rising order, of which there are as many at most as an agent has points.
+pub fn marked_numbers(alloc: Global, marks: &[bool]) -> Result<Items<u32>, Memory>
     requires { length marks.now ≤ POINTS }
     ensures { IfOk result (λ numbers. numbers ≡ numbers_of marks.now) }
 {

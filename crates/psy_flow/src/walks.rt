@@ -108,8 +108,8 @@ fn follow(instrs: &[Instr], from: usize, marks: &mut Items<bool>, places: &mut I
     Ok(())
 }
 
-/// The places that ways from a place pass, marked. Each is met once. The only error is want of memory.
-pub fn passed(alloc: Global, instrs: &[Instr], from: usize) -> Result<Items<bool>, Memory>
+/// The places that ways from a place pass, each once. The only error is want of memory.
+pub fn passed(alloc: Global, instrs: &[Instr], from: usize) -> Result<Items<usize>, Memory>
     requires inside { StaysIn instrs.now from }
     ensures { IfOk result (ArePassed instrs.now from) }
 {
@@ -121,5 +121,5 @@ pub fn passed(alloc: Global, instrs: &[Instr], from: usize) -> Result<Items<bool
         follow(instrs, from, &mut marks, &mut places, at)?;
         at += 1;
     }
-    Ok(marks)
+    Ok(places)
 }
