@@ -1,5 +1,5 @@
 -- The greatest delay of some sends: of more of them, and of all agents'.
-use Rattle.std.proofs.Common.{◌≡◌, ℕ, ◌+◌, ◌<◌, ◌==◌, max, Bool, List, [], ◌∷◌, ◌++◌, Some, filter, map, take, length, get_or, refl, sym, ap, ◌∙◌, arith}
+use Rattle.std.proofs.Common.{◌≡◌, ℕ, ◌+◌, ◌<◌, ◌==◌, max, Bool, List, [], ◌∷◌, ◌++◌, Some, filter, map, take, length, get_or, sym, ap, ◌∙◌, arith}
 use Rattle.std.specs.List.{flat_map}
 use Rattle.std.proofs.lemmas.Grind.{flat_map-append}
 use Rattle.std.proofs.lemmas.List.{append-nil, map-append, take_more}

@@ -4,6 +4,7 @@ mod BehindTops
 mod CallTops
 mod Capped
 mod CappedCosts
+mod CodeEnds
 mod CostRows
 mod Cuts
 mod DelaysAmong
@@ -18,6 +19,7 @@ mod Marks
 mod MostWays
 mod NextPoints
 mod OneList
+mod Onwards
 mod Ordered
 mod PointTops
 mod ReachPieces
@@ -35,4 +37,5 @@ mod Throughs
 mod TopsOf
 mod Turnings
 mod Uncapped
+mod WalksMet
 mod WayRows

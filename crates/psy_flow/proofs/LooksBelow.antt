@@ -1,5 +1,5 @@
 -- The variables at which the ways from a point look, one variable after the other.
-use Rattle.std.proofs.Common.{◌≡◌, ℕ, ◌+◌, ◌<◌, ◌≤◌, Bool, true, false, List, [], ◌∷◌, ◌++◌, length, get_or, Some, refl, sym, ap, subst, ◌∙◌, inl, inr, arith}
+use Rattle.std.proofs.Common.{◌≡◌, ℕ, ◌+◌, ◌<◌, Bool, true, false, List, [], ◌∷◌, ◌++◌, get_or, Some, refl, sym, subst, inl, inr, arith}
 use Rattle.std.specs.Prelude.{◌↔◌, slice_get}
 use Rattle.std.specs.List.{AllPairs, Contains}
 use Rattle.std.proofs.lemmas.Bool.{cases_lt, false≢true}

@@ -1,7 +1,7 @@
 -- The sends on the ways from a point, one stream and one next point after the other.
-use Rattle.std.proofs.Common.{◌≡◌, ◌⊎◌, ℕ, zero, suc, ◌+◌, ◌<◌, ◌≤◌, Bool, true, false, List, [], ◌∷◌, ◌++◌, length, get_or, take, Some, refl, sym, ap, subst, ◌∙◌, inl, inr, arith}
-use Rattle.std.specs.Prelude.{◌↔◌, nat_lt, slice_get}
-use Rattle.std.specs.List.{AllPairs, Contains}
+use Rattle.std.proofs.Common.{◌≡◌, ◌⊎◌, ℕ, ◌+◌, ◌<◌, ◌≤◌, Bool, true, false, List, [], ◌∷◌, ◌++◌, length, get_or, take, refl, sym, ap, subst, ◌∙◌, inl, inr, arith}
+use Rattle.std.specs.Prelude.{nat_lt}
+use Rattle.std.specs.List.{Contains}
 use Rattle.std.proofs.lemmas.Bool.{cases_lt}
 use Rattle.std.proofs.lemmas.List.{append-nil, take_more, length-take-le, get_or-take, get_or_default}
 use Rattle.std.proofs.lemmas.List.Elements.{Contains-append_left, Contains-push, Contains-push_cases, Contains-get_or}
@@ -10,7 +10,7 @@ use Rattle.std.proofs.lemmas.Option.{slice_get-get_or}
 use Rattle.psy_base.specs.declared.ways.SendWay.{SendWay}
 use Rattle.psy_tree.specs.declared.unit.AgentDecl.{AgentDecl}
 use Rattle.psy_tree.specs.declared.unit.FunctionDecl.{FunctionDecl}
-use Rattle.psy_meaning.specs.Flow.{IsMostSends, IsNext, Rises}
+use Rattle.psy_meaning.specs.Flow.{IsMostSends, Rises}
 use Rattle.psy_meaning.specs.ListedWays.{AreSends, IsSendWay, IsWayBefore}
 use Rattle.psy_flow.specs.Listed.{some_way, IsUpTo, AreSendsUpTo, AreSendsAmong}
 use Rattle.psy_flow.proofs.Cuts.{one_most}

@@ -5,3 +5,4 @@ pub mod Counted
 pub mod Listed
 pub mod Reach
 pub mod Tops
+pub mod Walks

@@ -1,6 +1,6 @@
 //! What can be said of an agent's actions before they run: the points that follow each point, what an action
 //! costs, sends and looks at on the way, and how deep the agent's machine gets.
-//! It may know trees, their ways and their measures; no code.
+//! It may know trees and code, their ways and their measures.
 #![tactic(auto)]
 
 mod calls;
@@ -8,6 +8,7 @@ mod costs;
 mod counts;
 mod delays;
 mod depths;
+mod ends;
 mod expressions;
 mod flow;
 mod gauge;
@@ -22,8 +23,10 @@ mod sending;
 mod stack;
 mod statements;
 mod tops;
+mod walks;
 
 pub use depths::Depths;
+pub use ends::code_next_points;
 pub use flow::{looks, most_sends, worst};
 pub use listed::ways;
 pub use next::next_points;

@@ -14,7 +14,8 @@ use psy_base::{Items, Memory};
 use psy_tree::AgentDecl;
 use std::alloc::Global;
 
-fn no_marks(alloc: Global, count: usize) -> Result<Items<bool>, Memory>
+/// So many marks, none of them set.
+pub fn no_marks(alloc: Global, count: usize) -> Result<Items<bool>, Memory>
     ensures { IfOk result (λ marks. marks ≡ replicate count false) }
 {
     let mut marks = Items::new(alloc);
@@ -24,8 +25,8 @@ fn no_marks(alloc: Global, count: usize) -> Result<Items<bool>, Memory>
     Ok(marks)
 }
 
-// The numbers that are marked, of which there are as many at most as an agent has points.
-fn marked_numbers(alloc: Global, marks: &[bool]) -> Result<Items<u32>, Memory>
+/// The numbers that are marked, in rising order, of which there are as many at most as an agent has points.
+pub fn marked_numbers(alloc: Global, marks: &[bool]) -> Result<Items<u32>, Memory>
     requires { length marks.now ≤ POINTS }
     ensures { IfOk result (λ numbers. numbers ≡ numbers_of marks.now) }
 {

@@ -16,7 +16,8 @@ pub enum Reached {
     Further(u32),
 }
 
-fn mark(marks: &mut Items<bool>, point: u32)
+/// Marks a point, where there is one of this number.
+pub fn mark(marks: &mut Items<bool>, point: u32)
     ensures { marks.new ≡ marked marks.old (λ q. nat_eq point q) }
 {
     if (point as usize) < marks.len() {

@@ -1,15 +1,10 @@
 -- What is left of the proof of `laws::named`.
-use Rattle.std.proofs.Common.{◌≡◌, ℕ, ◌<◌, ◌≤◌, ◌⊎◌, map, length, Some, inl, inr, arith}
-use Rattle.std.specs.Prelude.{slice_get, ◌==◌}
-use Rattle.std.specs.List.{Contains}
+use Rattle.std.proofs.Common.{◌≡◌, ◌<◌, map, length, inl, inr, arith}
+use Rattle.std.specs.Prelude.{◌==◌}
 use Rattle.std.proofs.lemmas.List.{length-map}
 use Rattle.std.proofs.lemmas.Option.{slice_get_within}
-use Rattle.psy_base.specs.declared.limits.TheConstants.{SENDS}
-use Rattle.psy_tree.specs.declared.unit.AgentDecl.{AgentDecl}
-use Rattle.psy_tree.specs.declared.unit.Unit.{Unit as Whole}
-use Rattle.psy_meaning.specs.Flow.{HasSends, IsCut, IsMostSends, IsNext}
+use Rattle.psy_meaning.specs.Flow.{IsMostSends, IsNext}
 use Rattle.psy_meaning.specs.Ways.{Sending}
-use Rattle.psy_flow.specs.Agents.{IsAgentOf}
 use Rattle.psy_flow.proofs.Silent.{counted}
 use Rattle.psy_flow.proofs.laws.named.Goals as goal
 

@@ -1,5 +1,5 @@
 -- What each loop of `listed::ways` keeps.
-use Rattle.std.proofs.Common.{◌≡◌, ℕ, List, length, map, take, slice_get, Some}
+use Rattle.std.proofs.Common.{◌≡◌, ℕ, List, length, slice_get, Some}
 use Rattle.psy_base.specs.declared.ways.SendWay.{SendWay}
 use Rattle.psy_flow.proofs.WayRows.{AllLooksAt, AllNextsAt, AllSendsAt}
 use Rattle.psy_flow.proofs.listed.ways.Given as goal

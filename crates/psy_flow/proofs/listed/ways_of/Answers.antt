@@ -1,5 +1,5 @@
 -- What is left of the proof of `listed::ways_of`.
-use Rattle.std.proofs.Common.{◌≡◌, ◌↔◌, ℕ, [], ◌∷◌, ◌++◌, length, length-append, sym, ap, subst, arith}
+use Rattle.std.proofs.Common.{◌↔◌, ℕ, [], ◌∷◌, length, length-append, sym, ap, subst, arith}
 use Rattle.std.specs.List.{Contains}
 use Rattle.psy_meaning.specs.Flow.{IsNext, Rises}
 use Rattle.psy_flow.proofs.WayRows.{LooksAt, NextsAt, SendsAt, each_after}

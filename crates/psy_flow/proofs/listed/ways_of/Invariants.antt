@@ -1,9 +1,6 @@
 -- What each loop of `listed::ways_of` keeps.
-use Rattle.std.proofs.Common.{◌≡◌, ◌↔◌, ℕ, List, length, slice_get, Some}
-use Rattle.std.specs.List.{Contains}
+use Rattle.std.proofs.Common.{◌≡◌, ℕ, List, length, slice_get, Some}
 use Rattle.psy_base.specs.declared.ways.SendWay.{SendWay}
-use Rattle.psy_tree.specs.declared.unit.Unit.{Unit as Whole}
-use Rattle.psy_flow.specs.Agents.{IsAgentOf}
 use Rattle.psy_flow.proofs.WayRows.{LooksAt, NextsAt, SendsAt}
 use Rattle.psy_flow.proofs.listed.ways_of.Given as goal
 

@@ -1,6 +1,6 @@
 -- What is left of the proof of `looking::looks_from`.
-use Rattle.std.proofs.Common.{◌≡◌, ◌+◌, ◌++◌, sym, subst, ◌∙◌, arith}
-use Rattle.psy_flow.specs.Listed.{if_so, AreLooksBelow}
+use Rattle.std.proofs.Common.{◌≡◌, ◌+◌, sym, subst, arith}
+use Rattle.psy_flow.specs.Listed.{AreLooksBelow}
 use Rattle.psy_flow.proofs.LooksBelow.{looks_none, looks_more, looks_all}
 use Rattle.psy_flow.proofs.looking.looks_from.Goals as goal
 

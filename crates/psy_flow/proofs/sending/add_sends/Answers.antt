@@ -1,5 +1,5 @@
 -- What is left of the proof of `sending::add_sends`.
-use Rattle.std.proofs.Common.{◌≡◌, ◌+◌, ◌++◌, sym, subst, arith}
+use Rattle.std.proofs.Common.{◌≡◌, ◌+◌, sym, subst, arith}
 use Rattle.psy_flow.specs.Listed.{AreSendsUpTo}
 use Rattle.psy_flow.proofs.SendsUpTo.{sends_more}
 use Rattle.psy_flow.proofs.sending.add_sends.Goals as goal

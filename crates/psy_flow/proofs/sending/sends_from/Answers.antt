@@ -1,5 +1,5 @@
 -- What is left of the proof of `sending::sends_from`.
-use Rattle.std.proofs.Common.{◌≡◌, ◌+◌, ◌<◌, [], get_or, take, sym, subst, arith}
+use Rattle.std.proofs.Common.{◌<◌, [], sym, subst, arith}
 use Rattle.std.specs.List.{Contains}
 use Rattle.std.proofs.lemmas.List.{take_all}
 use Rattle.psy_base.specs.declared.ways.SendWay.{SendWay}

@@ -1,0 +1,125 @@
+//! The places that ways through code pass.
+
+ghost use Rattle.std.specs.Prelude.{◌≡◌, ◌<◌, ℕ, length, Some, IfOk, OnOk, slice_get, slice_index_or};
+ghost use Rattle.std.specs.List.{Contains};
+ghost use Rattle.psy_code.specs.declared.instr.Instr.{Instr as Instruction};
+ghost use Rattle.psy_meaning.specs.CodeWays.{IsPassed};
+ghost use Rattle.psy_flow.specs.Walks.{AreMet, ArePassed, IsGrown, MayFollow, StaysIn, onward_of};
+
+use crate::next::no_marks;
+use psy_base::{Items, Memory};
+use psy_code::Instr;
+use std::alloc::Global;
+
+/// The places where a way may go on after an instruction.
+#[derive(Clone, Copy, Debug)]
+pub struct Onward {
+    /// The next place.
+    pub next: Option<usize>,
+    /// That of a jump.
+    pub jump: Option<usize>,
+}
+
+// Where a way may go on after the instruction at a place.
+fn goes_on(instr: &Instr, place: usize, count: usize) -> Onward
+    requires { place < count }
+    ensures { result ≡ onward_of instr.now place }
+{
+    let next = Some(place + 1);
+    match instr {
+        Instr::Jump(to) => Onward {
+            next: None,
+            jump: Some(*to as usize),
+        },
+        Instr::JumpZero(to) | Instr::AndTest(to) | Instr::OrTest(to) => Onward {
+            next,
+            jump: Some(*to as usize),
+        },
+        Instr::Return | Instr::Advance(_) => Onward {
+            next: None,
+            jump: None,
+        },
+        _ => Onward { next, jump: None },
+    }
+}
+
+// Where a way may go on after the instruction at a place of the code.
+fn goes_on_at(instrs: &[Instr], place: usize) -> Onward
+    requires { place < length instrs.now }
+    ensures { (i : Instruction) → slice_get instrs.now place ≡ Some i → result ≡ onward_of i place }
+{
+    goes_on(&instrs[place], place, instrs.len())
+}
+
+// Marks a place and lists it, unless it is marked.
+fn meet(instrs: &[Instr], from: usize, marks: &mut Items<bool>, places: &mut Items<usize>, place: usize) -> Result<(), Memory>
+    requires met { AreMet instrs.now from marks.old places.old }
+    requires passed { IsPassed instrs.now from place }
+    requires inside { place < length instrs.now }
+    ensures met { OnOk result (AreMet instrs.now from marks.new places.new) }
+    ensures there { OnOk result (Contains places.new place) }
+    ensures grown { OnOk result (IsGrown places.old places.new) }
+{
+    let seen = marks.as_slice()[place];
+    if seen {
+        return Ok(());
+    }
+    places.push(place)?;
+    marks.set(place, true);
+    Ok(())
+}
+
+// The same for a place where a way may go on, if there is one.
+fn meet_some(
+    instrs: &[Instr],
+    from: usize,
+    marks: &mut Items<bool>,
+    places: &mut Items<usize>,
+    place: Option<usize>,
+) -> Result<(), Memory>
+    requires met { AreMet instrs.now from marks.old places.old }
+    requires passed { (p : ℕ) → Some p ≡ place → IsPassed instrs.now from p × (p < length instrs.now) }
+    ensures met { OnOk result (AreMet instrs.now from marks.new places.new) }
+    ensures there { OnOk result ((p : ℕ) → Some p ≡ place → Contains places.new p) }
+    ensures grown { OnOk result (IsGrown places.old places.new) }
+{
+    match place {
+        None => Ok(()),
+        Some(place) => {
+            meet(instrs, from, marks, places, place)?;
+            Ok(())
+        }
+    }
+}
+
+// Meets the places where ways go on from the one of this number.
+fn follow(instrs: &[Instr], from: usize, marks: &mut Items<bool>, places: &mut Items<usize>, at: usize) -> Result<(), Memory>
+    requires inside { StaysIn instrs.now from }
+    requires met { AreMet instrs.now from marks.old places.old }
+    requires at { at < length places.old }
+    ensures met { OnOk result (AreMet instrs.now from marks.new places.new) }
+    ensures followed { OnOk result (MayFollow instrs.now places.new (slice_index_or places.old at 0)) }
+    ensures grown { OnOk result (IsGrown places.old places.new) }
+{
+    let place = places.as_slice()[at];
+    let to = goes_on_at(instrs, place);
+    meet_some(instrs, from, marks, places, to.next)?;
+    meet_some(instrs, from, marks, places, to.jump)?;
+    Ok(())
+}
+
+/// The places that ways from a place pass, each once. The only error is want of memory.
+pub fn passed(alloc: Global, instrs: &[Instr], from: usize) -> Result<Items<usize>, Memory>
+    requires inside { StaysIn instrs.now from }
+    ensures { IfOk result (ArePassed instrs.now from) }
+{
+    let mut marks = no_marks(alloc, instrs.len())?;
+    let mut places = Items::new(alloc);
+    meet(instrs, from, &mut marks, &mut places, from)?;
+    let mut at = 0;
+    'places: while at < places.len() {
+        follow(instrs, from, &mut marks, &mut places, at)?;
+        at += 1;
+    }
+    Ok(places)
+}
