@@ -4,6 +4,7 @@ pub mod AskedLemmas
 pub mod AskingForms
 pub mod Courses
 pub mod CutLemmas
+pub mod FaultLemmas
 pub mod Decisions
 pub mod GrowthLemmas
 pub mod KeptBounds
