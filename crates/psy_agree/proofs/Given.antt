@@ -15,16 +15,15 @@ use Rattle.psy_graph.specs.Graphs.{AreGraphs}
 use Rattle.psy_graph.specs.Near.{IsNear}
 use Rattle.psy_history.specs.Compiled.{AreInputs, stated}
 use Rattle.psy_history.specs.Scheduled.{turns_of}
-use Rattle.psy_kernel.specs.Texts.{summary_of}
-use Rattle.psy_kernel.specs.Texts.{text_of as lines_text}
+use Rattle.psy_kernel.specs.Texts.{summary_of, text_of as lines_text}
 use Rattle.psy_make.specs.Text.{made_text}
-use Rattle.psy_meaning.specs.Actions.{System}
+use Rattle.psy_history.specs.Actions.{System}
 use Rattle.psy_meaning.specs.Alike.{AllFit}
 use Rattle.psy_meaning.specs.BufferSizes.{AreSizes}
-use Rattle.psy_meaning.specs.History.{history}
-use Rattle.psy_meaning.specs.Schedule.{Turn}
+use Rattle.psy_history.specs.History.{history}
+use Rattle.psy_history.specs.Schedule.{Turn}
 use Rattle.psy_meaning.specs.Units.{IsOfText}
-use Rattle.psy_meaning.specs.Visible.{messages, published}
+use Rattle.psy_history.specs.Visible.{messages, published}
 use Rattle.psy_notes.specs.Stands.{graph_begins, run_begins}
 use Rattle.psy_notes.specs.Texts.{BreaksAt, IsText}
 use Rattle.psy_notes.specs.declared.stand.Stand.{Stand}

@@ -9,15 +9,16 @@ use Rattle.psy_base.specs.declared.limits.TheConstants.{QUEUE, RING, RUN, UNTIL}
 use Rattle.psy_base.specs.declared.message.Message.{Message}
 use Rattle.psy_base.specs.declared.sizes.Sizes.{Sizes}
 use Rattle.psy_front.specs.Fronts.{IsName}
-use Rattle.psy_meaning.specs.Actions.{Action, Done, History, Next, Overran, System, Trapped, Verdict, next_of, publishing, stream_of, variable_of}
+use Rattle.psy_history.specs.Actions.{Action, Done, History, Next, Overran, System, Trapped, Verdict, next_of, publishing, stream_of, variable_of}
 use Rattle.psy_meaning.specs.BufferSizes.{AreSizes}
-use Rattle.psy_meaning.specs.Executors.{agent_at}
-use Rattle.psy_meaning.specs.History.{action_of, history, with_start}
-use Rattle.psy_meaning.specs.Lines.{Publish, Show, events, is_date, publications, publications_by, shows, stops_by, stops_of}
-use Rattle.psy_meaning.specs.Schedule.{Turn}
-use Rattle.psy_meaning.specs.Summary.{due_by, least_of, lesser, most_held, reach, slack_of}
+use Rattle.psy_tree.specs.Parts.{agent_at}
+use Rattle.psy_history.specs.History.{action_of, history, with_start}
+use Rattle.psy_history.specs.Lines.{Publish, Show, events, is_date, publications, publications_by, shows, stops_by, stops_of}
+use Rattle.psy_history.specs.Schedule.{Turn}
+use Rattle.psy_history.specs.Summary.{due_by, most_held, reach, slack_of}
+use Rattle.psy_base.specs.Extremes.{least_of, lesser}
 use Rattle.psy_meaning.specs.Units.{IsBare}
-use Rattle.psy_meaning.specs.Visible.{messages, published}
+use Rattle.psy_history.specs.Visible.{messages, published}
 use Rattle.psy_notes.specs.Notes.{IsLong, IsShort, OrNone}
 use Rattle.psy_agree.proofs.RunNotes.{IsTellable, IsTellableRun}
 

@@ -11,17 +11,16 @@ use Rattle.psy_front.specs.Fronts.{IsName}
 use Rattle.psy_log.specs.Forms.{line_of}
 use Rattle.psy_log.specs.declared.note.Note.{Note}
 use Rattle.psy_log.specs.declared.note.Note.TheVariants as note
-use Rattle.psy_meaning.specs.Actions.{System, stream_of, variable_of}
-use Rattle.psy_meaning.specs.Executors.{agent_at}
-use Rattle.psy_meaning.specs.History.{history}
-use Rattle.psy_meaning.specs.Lines.{Event, Stop, Publish, Show, events}
-use Rattle.psy_meaning.specs.Schedule.{Turn}
-use Rattle.psy_meaning.specs.Summary.{due_by, most_held, reach, slack}
+use Rattle.psy_history.specs.Actions.{System, stream_of, variable_of}
+use Rattle.psy_tree.specs.Parts.{agent_at}
+use Rattle.psy_history.specs.History.{history}
+use Rattle.psy_history.specs.Lines.{Event, Stop, Publish, Show, events}
+use Rattle.psy_history.specs.Schedule.{Turn}
+use Rattle.psy_history.specs.Summary.{due_by, most_held, reach, slack}
 use Rattle.psy_notes.specs.Notes.{IsLong, IsShort, OrNone}
 use Rattle.psy_notes.specs.Stands.{run_begins}
 use Rattle.psy_notes.specs.Texts.{IsText, text_of}
-use Rattle.psy_kernel.specs.Texts.{agent_end, event_line, lines_of, log_of, stream_end, summary_by, variable_end}
-use Rattle.psy_kernel.specs.Texts.{text_of as lines_text}
+use Rattle.psy_kernel.specs.Texts.{agent_end, event_line, lines_of, log_of, stream_end, summary_by, variable_end, text_of as lines_text}
 use Rattle.psy_agree.proofs.RunsLead.{AreRunNotes, IsAgentLine, IsAt, IsStreamLine, IsVariableLine, run_reads, summary_notes, trial_reads}
 
 -- ---- notes

@@ -2,11 +2,11 @@
 use Rattle.std.proofs.Common.{◌≡◌, ℕ, ◌+◌, suc, ◌-◌, ◌<◌, ◌≤◌, Bool, true, false, List, [], ◌∷◌, length, Option, Some, None, refl, sym, ap, subst, ◌∙◌, inl, inr, arith}
 use Rattle.std.specs.Prelude.{nat_le, ◌==◌, ◌≢◌, if◌then◌else◌, ℤ}
 use Rattle.std.proofs.lemmas.Bool.{true≢false, cases_Bool, cases_eq, cases_order, cond-true, cond-false, eq-eqb, ne_eqb, le-leb, lt-leb}
-use Rattle.psy_meaning.specs.Actions.{Action, Next, System, Verdict, Done, Trapped, Overran, is_done, next_by, next_of}
-use Rattle.psy_meaning.specs.Executors.{Carried, copy_in}
-use Rattle.psy_meaning.specs.History.{action_of, history}
-use Rattle.psy_meaning.specs.Schedule.{Turn, is_pending, units}
-use Rattle.psy_meaning.specs.Visible.{commit, committed_in}
+use Rattle.psy_history.specs.Actions.{Action, Next, System, Verdict, Done, Trapped, Overran, is_done, next_by, next_of}
+use Rattle.psy_history.specs.Executors.{Carried, copy_in}
+use Rattle.psy_history.specs.History.{action_of, history}
+use Rattle.psy_history.specs.Schedule.{Turn, is_pending, units}
+use Rattle.psy_history.specs.Visible.{commit, committed_in}
 use Rattle.psy_history.specs.Regular.{IsLawful, WasStarted, first_number}
 use Rattle.psy_dates.specs.declared.seat.Phase.{Phase}
 use Rattle.psy_dates.specs.declared.seat.Phase.TheVariants as phase

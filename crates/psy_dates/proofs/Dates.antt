@@ -7,11 +7,11 @@ use Rattle.psy_budget.specs.declared.charge.Stall.{Stall}
 use Rattle.psy_clock.specs.Dates.{IsClock}
 use Rattle.psy_code.specs.Views.{found_in}
 use Rattle.psy_queue.specs.Order.{Queued}
-use Rattle.psy_meaning.specs.Actions.{Action, Next, System, first_action, publishing, stream_of, variable_of}
-use Rattle.psy_meaning.specs.Executors.{by_code}
-use Rattle.psy_meaning.specs.History.{history}
-use Rattle.psy_meaning.specs.QueueSizes.{stream_at}
-use Rattle.psy_meaning.specs.Schedule.{Turn, units}
+use Rattle.psy_history.specs.Actions.{Action, Next, System, first_action, publishing, stream_of, variable_of}
+use Rattle.psy_history.specs.Executors.{by_code}
+use Rattle.psy_history.specs.History.{history}
+use Rattle.psy_tree.specs.Parts.{no_agent, stream_at}
+use Rattle.psy_history.specs.Schedule.{Turn, units}
 use Rattle.psy_meaning.specs.Timing.{first_date}
 use Rattle.psy_meaning.specs.Units.{IsBare, OwnedWithin}
 use Rattle.psy_history.specs.Regular.{IsLawful, first_number}
@@ -81,7 +81,7 @@ module _ (plan : Plan) (inputs : List (List ℤ)) (stalls : ℕ → List Stall) 
   first agent = first_action plan.unit plan.nexts (by_code plan.code) agent
 
   starts : (agent : ℕ) → agent < length plan.unit.agents → s.opening.starts agent ≡ Some (first agent)
-  starts agent l = ap (λ found. found_in found (λ a. Some (first agent))) (slice_get-get_or plan.unit.agents agent (record { name = []; clock = 0; budget = 0; slots = []; points = []; stmts = [] }) l)
+  starts agent l = ap (λ found. found_in found (λ a. Some (first agent))) (slice_get-get_or plan.unit.agents agent no_agent l)
 
   seat_stands : (agent : ℕ) (seat : Seat) → slice_get new.seats.items agent ≡ Some seat → SeatStands date turns (history s (suc date) agent) seat
   seat_stands agent seat is =

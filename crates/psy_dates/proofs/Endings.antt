@@ -2,9 +2,9 @@
 use Rattle.std.proofs.Common.{◌≡◌, ℕ, ◌-◌, ◌≤◌, Bool, true, false, not, ◌&&◌, List, ◌∷◌, Option, Some, None, refl, sym, ap, subst, ◌∙◌, inl, inr, arith}
 use Rattle.std.specs.Prelude.{nat_le, ◌==◌, ◌≢◌}
 use Rattle.std.proofs.lemmas.Bool.{cases_Bool, ne_eqb, leb-true, le-leb}
-use Rattle.psy_meaning.specs.Actions.{Action, System, Verdict, Done, Trapped, Overran, is_done, next_by, next_of}
-use Rattle.psy_meaning.specs.History.{history}
-use Rattle.psy_meaning.specs.Schedule.{Turn, is_pending}
+use Rattle.psy_history.specs.Actions.{Action, System, Verdict, Done, Trapped, Overran, is_done, next_by, next_of}
+use Rattle.psy_history.specs.History.{history}
+use Rattle.psy_history.specs.Schedule.{Turn, is_pending}
 use Rattle.psy_history.specs.Queues.{ends_at as ended_at, sweeps}
 use Rattle.psy_history.specs.Regular.{IsLawful}
 use Rattle.psy_dates.specs.declared.seat.Phase.{Phase}

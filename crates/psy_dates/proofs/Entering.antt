@@ -7,8 +7,8 @@ use Rattle.std.proofs.lemmas.Option.{same_Some, slice_get-get_or, slice_get_with
 use Rattle.psy_base.specs.declared.message.Message.{Message}
 use Rattle.psy_code.specs.declared.look.Sent.{Sent}
 use Rattle.psy_queue.specs.Order.{Queued, comes_before, put_in_order}
-use Rattle.psy_meaning.specs.Actions.{System}
-use Rattle.psy_meaning.specs.Visible.{message_of, messages_from}
+use Rattle.psy_history.specs.Actions.{System}
+use Rattle.psy_history.specs.Visible.{message_of, messages_from}
 use Rattle.psy_history.specs.Queues.{entered}
 use Rattle.psy_dates.specs.declared.seat.Seat.{Seat}
 use Rattle.psy_dates.specs.Messages.{HaveEntered, HaveRoom, sends_of, sent_by, sent_from, with_entered}

@@ -4,8 +4,8 @@ use Rattle.std.specs.Prelude.{◌==◌}
 use Rattle.std.specs.List.{All}
 use Rattle.std.proofs.lemmas.Bool.{cond-true, cond-false, eq-eqb, ne_eqb}
 use Rattle.std.proofs.lemmas.List.Elements.{All-head}
-use Rattle.psy_meaning.specs.Actions.{Action, Next, System, Verdict, Done, Trapped, Overran, next_by, next_of}
-use Rattle.psy_meaning.specs.History.{action_of, history, with_start}
+use Rattle.psy_history.specs.Actions.{Action, Next, System, Verdict, Done, Trapped, Overran, next_by, next_of}
+use Rattle.psy_history.specs.History.{action_of, history, with_start}
 use Rattle.psy_history.specs.Regular.{IsLawful, IsRegular, WasStarted, WereStarted, first_number, number_of}
 
 module _ (s : System) (date agent : ℕ) where

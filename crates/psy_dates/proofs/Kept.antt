@@ -4,11 +4,11 @@ use Rattle.std.specs.Prelude.{if◌then◌else◌, nat_le, ◌==◌, ◌≢◌}
 use Rattle.std.proofs.lemmas.Bool.{cases_Bool, cases_eq, cond-true, cond-false, eqb-true}
 use Rattle.std.proofs.lemmas.Option.{same_Some}
 use Rattle.psy_code.specs.declared.look.Sent.{Sent}
-use Rattle.psy_meaning.specs.Actions.{Action, Next, System, Verdict, Done, Trapped, Overran, next_by, next_of}
-use Rattle.psy_meaning.specs.History.{history}
-use Rattle.psy_meaning.specs.Schedule.{Turn, units}
+use Rattle.psy_history.specs.Actions.{Action, Next, System, Verdict, Done, Trapped, Overran, next_by, next_of}
+use Rattle.psy_history.specs.History.{history}
+use Rattle.psy_history.specs.Schedule.{Turn, units}
 use Rattle.psy_meaning.specs.Timing.{Timing}
-use Rattle.psy_meaning.specs.Visible.{taken}
+use Rattle.psy_history.specs.Visible.{taken}
 use Rattle.psy_history.specs.Queues.{ends_at as ended_at}
 use Rattle.psy_history.specs.Regular.{IsLawful, first_number}
 use Rattle.psy_dates.specs.declared.seat.Phase.{Phase}

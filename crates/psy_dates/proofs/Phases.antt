@@ -2,8 +2,8 @@
 use Rattle.std.proofs.Common.{◌≡◌, ℕ, ◌<◌, ◌≤◌, Bool, true, false, not, ◌&&◌, List, Option, refl, ap, ◌∙◌, arith}
 use Rattle.std.specs.Prelude.{nat_le}
 use Rattle.std.proofs.lemmas.Bool.{and_right, lt-leb, lt-ltb}
-use Rattle.psy_meaning.specs.Actions.{Action, Verdict, Done, Trapped, Overran, is_done}
-use Rattle.psy_meaning.specs.Schedule.{Turn, is_pending, units, work}
+use Rattle.psy_history.specs.Actions.{Action, Verdict, Done, Trapped, Overran, is_done}
+use Rattle.psy_history.specs.Schedule.{Turn, is_pending, units, work}
 use Rattle.psy_dates.specs.declared.seat.Phase.TheVariants as phase
 use Rattle.psy_dates.specs.declared.seat.Seat.{Seat}
 use Rattle.psy_dates.specs.Standing.{TellsEnd, phase_by, phase_of}

@@ -1,11 +1,11 @@
 -- The ring of a variable stands for what it published up to a date, where it did so for the dates before.
 use Rattle.std.proofs.Common.{◌≡◌, ℕ, ◌+◌, Bool, true, false, List, ◌∷◌, length, get_or, take, Option, Some, None, refl, sym, ap, subst, ◌∙◌, length-take, arith}
 use Rattle.std.specs.Prelude.{if◌then◌else◌, ℤ, pos}
-use Rattle.psy_meaning.specs.Actions.{History, System, publishing, variable_of}
-use Rattle.psy_meaning.specs.History.{history}
-use Rattle.psy_meaning.specs.Lines.{is_date}
+use Rattle.psy_history.specs.Actions.{History, System, publishing, variable_of}
+use Rattle.psy_history.specs.History.{history}
+use Rattle.psy_history.specs.Lines.{is_date}
 use Rattle.psy_meaning.specs.RingSizes.{IsRingSize}
-use Rattle.psy_meaning.specs.Visible.{published, published_by}
+use Rattle.psy_history.specs.Visible.{published, published_by}
 use Rattle.psy_history.specs.Rings.{ring_of}
 use Rattle.psy_dates.specs.Publications.{ring_then, value_by}
 use Rattle.psy_dates.specs.Standing.{RingStands, committed_by}

@@ -5,10 +5,10 @@ use Rattle.std.proofs.lemmas.Bool.{cases_Bool, cases_eq, cond-true, cond-false, 
 use Rattle.psy_base.specs.declared.message.Message.{Message}
 use Rattle.psy_code.specs.declared.look.Sent.{Sent}
 use Rattle.psy_queue.specs.Order.{Queued}
-use Rattle.psy_meaning.specs.Actions.{Action, Next, System, Verdict, Done, Trapped, Overran, next_by, next_of, stream_of}
-use Rattle.psy_meaning.specs.History.{action_of, history}
-use Rattle.psy_meaning.specs.Schedule.{Turn}
-use Rattle.psy_meaning.specs.Visible.{messages_by, messages_from, taken}
+use Rattle.psy_history.specs.Actions.{Action, Next, System, Verdict, Done, Trapped, Overran, next_by, next_of, stream_of}
+use Rattle.psy_history.specs.History.{action_of, history}
+use Rattle.psy_history.specs.Schedule.{Turn}
+use Rattle.psy_history.specs.Visible.{messages_by, messages_from, taken}
 use Rattle.psy_history.specs.Queues.{ends_at as ended_at, entered, entering, entering_of, given_up, queue_of, settled, settled_by, sweeps}
 use Rattle.psy_history.specs.Regular.{IsLawful}
 use Rattle.psy_dates.specs.declared.seat.Phase.TheVariants as phase

@@ -2,9 +2,9 @@
 use Rattle.std.proofs.Common.{◌≡◌, ℕ, suc, ◌+◌, ◌-◌, ◌<◌, ◌≤◌, true, false, List, [], ◌∷◌, length, Option, Some, None, refl, sym, ap, subst, ◌∙◌, inl, inr, arith}
 use Rattle.std.specs.Prelude.{nat_le, ◌==◌, ◌≢◌}
 use Rattle.std.proofs.lemmas.Bool.{cases_Bool, cases_eq, cond-true, cond-false, eq-eqb, ne_eqb, leb-true, leb-false, le-leb, lt-leb}
-use Rattle.psy_meaning.specs.Actions.{Action, Next, System, Verdict, Done, Trapped, Overran, is_done, next_by, next_of, timing}
-use Rattle.psy_meaning.specs.History.{action_of, history}
-use Rattle.psy_meaning.specs.Schedule.{Turn, is_pending, units}
+use Rattle.psy_history.specs.Actions.{Action, Next, System, Verdict, Done, Trapped, Overran, is_done, next_by, next_of, timing}
+use Rattle.psy_history.specs.History.{action_of, history}
+use Rattle.psy_history.specs.Schedule.{Turn, is_pending, units}
 use Rattle.psy_meaning.specs.Timing.{deadline, first_date}
 use Rattle.psy_history.specs.Regular.{IsLawful, first_number, number_of}
 use Rattle.psy_dates.specs.declared.seat.Phase.{Phase}

@@ -8,8 +8,8 @@ use Rattle.psy_budget.specs.declared.charge.Stall.{Stall}
 use Rattle.psy_code.specs.declared.code.Code.{Code}
 use Rattle.psy_tree.specs.declared.unit.StreamDecl.{StreamDecl}
 use Rattle.psy_tree.specs.declared.unit.Unit.{Unit as Whole}
-use Rattle.psy_meaning.specs.Actions.{Action, System}
-use Rattle.psy_meaning.specs.History.{history}
+use Rattle.psy_history.specs.Actions.{Action, System}
+use Rattle.psy_history.specs.History.{history}
 use Rattle.psy_meaning.specs.Kept.{IsSentOf}
 use Rattle.psy_meaning.specs.QueueSizes.{IsQueueSize}
 use Rattle.psy_history.specs.Queues.{entered, entering, queue_of, settled}

@@ -10,15 +10,15 @@ use Rattle.psy_code.specs.declared.look.Sent.{Sent}
 use Rattle.psy_code.specs.Views.{found_in}
 use Rattle.psy_queue.specs.Order.{Queued}
 use Rattle.psy_tree.specs.declared.unit.StreamDecl.{StreamDecl}
-use Rattle.psy_meaning.specs.Actions.{Action, Next, System, Verdict, Done, Trapped, Overran, first_action}
-use Rattle.psy_meaning.specs.Executors.{by_code}
-use Rattle.psy_meaning.specs.History.{history}
+use Rattle.psy_history.specs.Actions.{Action, Next, System, Verdict, Done, Trapped, Overran, first_action}
+use Rattle.psy_history.specs.Executors.{by_code}
+use Rattle.psy_history.specs.History.{history}
 use Rattle.psy_meaning.specs.Kept.{IsSentOf}
-use Rattle.psy_meaning.specs.QueueSizes.{stream_at}
-use Rattle.psy_meaning.specs.Schedule.{Turn, units}
+use Rattle.psy_tree.specs.Parts.{no_agent, stream_at}
+use Rattle.psy_history.specs.Schedule.{Turn, units}
 use Rattle.psy_meaning.specs.Timing.{first_date}
 use Rattle.psy_meaning.specs.Units.{IsBare}
-use Rattle.psy_meaning.specs.Visible.{message_of, messages_from, taken}
+use Rattle.psy_history.specs.Visible.{message_of, messages_from, taken}
 use Rattle.psy_history.specs.Queues.{ends_at as ended_at, entered, entering, entering_of, queue_of, settled}
 use Rattle.psy_history.specs.Regular.{IsLawful, first_number}
 use Rattle.psy_dates.specs.declared.plan.Plan.{Plan}
@@ -161,7 +161,7 @@ module _ (plan : Plan) (inputs : List (List ℤ)) (stalls : ℕ → List Stall) 
       let agent = receiver stream in
       let known = received stream within in
       let first : Next = first_action plan.unit plan.nexts (by_code plan.code) agent in
-      let starts : s.opening.starts agent ≡ Some first = ap (λ found. found_in found (λ a. Some first)) (slice_get-get_or plan.unit.agents agent (record { name = []; clock = 0; budget = 0; slots = []; points = []; stmts = [] }) known) in
+      let starts : s.opening.starts agent ≡ Some first = ap (λ found. found_in found (λ a. Some first)) (slice_get-get_or plan.unit.agents agent no_agent known) in
       settles_there s lawful date turns agent (seat_of agent) (late agent known) (seated agent known) stream (get_or old.taken.items stream 0) (first_date (timing_in plan agent)) first starts refl (took stream within) queue
       ∙ ap (λ messages. record queue { messages = settled s date stream messages }) (stands.queues stream queue at).messages
 

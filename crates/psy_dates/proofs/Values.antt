@@ -2,7 +2,7 @@
 use Rattle.std.proofs.Common.{◌≡◌, ℕ, suc, zero, ◌-◌, ◌<◌, ◌≤◌, min, List, [], ◌∷◌, length, get_or, refl, ap, ◌∙◌, inl, inr, arith}
 use Rattle.std.specs.Prelude.{ℤ}
 use Rattle.std.proofs.lemmas.Bool.{cases_lt}
-use Rattle.psy_meaning.specs.Visible.{nth_or_last}
+use Rattle.psy_history.specs.Visible.{nth_or_last}
 
 pub nth_within : (empty : ℤ) (list : List ℤ) (n : ℕ) (d : ℤ) → n < length list → get_or list n d ≡ nth_or_last empty list n
 nth_within empty [] n d l = absurd (omega (arith, l))

@@ -5,8 +5,8 @@ use Rattle.std.specs.List.{flat_map, range_with_len}
 use Rattle.psy_base.specs.declared.message.Message.{Message}
 use Rattle.psy_code.specs.declared.look.Sent.{Sent}
 use Rattle.psy_queue.specs.Order.{Queued}
-use Rattle.psy_meaning.specs.Actions.{System}
-use Rattle.psy_meaning.specs.Visible.{messages_from}
+use Rattle.psy_history.specs.Actions.{System}
+use Rattle.psy_history.specs.Visible.{messages_from}
 use Rattle.psy_history.specs.Queues.{entered}
 use Rattle.psy_dates.specs.declared.seat.Phase.{Phase}
 use Rattle.psy_dates.specs.declared.seat.Phase.TheVariants as phase

@@ -1,7 +1,7 @@
 -- What a date does: to the seats of agents, and to the values committed.
 use Rattle.std.specs.Prelude.{◌≡◌, ℕ, ◌+◌, ◌<◌, ◌^◌, ◌==◌, Bool, false, nat_le, if◌then◌else◌, List, [], Option, Some, None, slice_get, get_or, pos}
 use Rattle.psy_tree.specs.declared.unit.VarDecl.{VarDecl}
-use Rattle.psy_meaning.specs.Executors.{agent_at}
+use Rattle.psy_tree.specs.Parts.{agent_at, no_variable}
 use Rattle.psy_meaning.specs.Timing.{Timing, timing_of, first_date, deadline}
 use Rattle.psy_dates.specs.declared.plan.Plan.{Plan}
 use Rattle.psy_dates.specs.declared.seat.Phase.{Phase}
@@ -46,7 +46,7 @@ IsNumbered seat = seat.phase ≡ phase.Ended → seat.number < 2 ^ 40
 
 -- The owner of a variable: none where there is no such variable
 abbrev pub owner_of : List VarDecl → ℕ → Option ℕ
-owner_of variables variable = (get_or variables variable (record { name = []; owner = None; clock = 0; init = pos 0; depth = 0 })).owner
+owner_of variables variable = (get_or variables variable no_variable).owner
 
 -- An agent has ended an action, whose end is this date, by what it is at and whether the date is that.
 abbrev pub ends_by : Phase → Bool → Bool

@@ -2,7 +2,7 @@
 use Rattle.std.specs.Prelude.{ℕ, List, [], ℤ}
 use Rattle.psy_base.specs.declared.edge.Edge.{Edge}
 use Rattle.psy_budget.specs.declared.charge.Stall.{Stall}
-use Rattle.psy_meaning.specs.Actions.{System}
+use Rattle.psy_history.specs.Actions.{System}
 use Rattle.psy_meaning.specs.BufferSizes.{AreSizes}
 use Rattle.psy_meaning.specs.Demand.{IsFeasible}
 use Rattle.psy_history.specs.Compiled.{AreEdgesOf, IsCompiled, coded}

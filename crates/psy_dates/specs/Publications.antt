@@ -1,8 +1,8 @@
 -- What a date does to the rings: a variable whose clock has that date publishes a value.
 use Rattle.std.specs.Prelude.{ℕ, if◌then◌else◌, List, ◌∷◌, take, length, get_or, Option, Some, None, ℤ, pos}
-use Rattle.psy_meaning.specs.Actions.{System, publishing, variable_of}
-use Rattle.psy_meaning.specs.Lines.{is_date}
-use Rattle.psy_meaning.specs.Visible.{input_value}
+use Rattle.psy_history.specs.Actions.{System, publishing, variable_of}
+use Rattle.psy_history.specs.Lines.{is_date}
+use Rattle.psy_history.specs.Visible.{input_value}
 
 -- The value that a variable publishes at a date, by its owner, where these values are committed: an input that of its list
 abbrev pub value_by : System → List ℤ → ℕ → ℕ → Option ℕ → ℤ

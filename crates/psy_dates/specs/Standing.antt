@@ -4,14 +4,15 @@ use Rattle.psy_arith.specs.declared.operators.Trap.{Trap}
 use Rattle.psy_base.specs.declared.limits.TheConstants.{QUEUE}
 use Rattle.psy_code.specs.declared.look.Sent.{Sent}
 use Rattle.psy_queue.specs.Order.{Queued}
-use Rattle.psy_meaning.specs.Actions.{Action, History, System, Verdict, Done, Trapped, is_done, is_silent, stream_of, variable_of}
-use Rattle.psy_meaning.specs.Executors.{agent_at, copy_in}
-use Rattle.psy_meaning.specs.Flow.{IsGreatest}
-use Rattle.psy_meaning.specs.History.{history}
+use Rattle.psy_history.specs.Actions.{Action, History, System, Verdict, Done, Trapped, is_done, is_silent, stream_of, variable_of}
+use Rattle.psy_history.specs.Executors.{copy_in}
+use Rattle.psy_tree.specs.Parts.{agent_at}
+use Rattle.psy_base.specs.Extremes.{IsGreatest}
+use Rattle.psy_history.specs.History.{history}
 use Rattle.psy_meaning.specs.QueueSizes.{HasSendsTo, IsQueueSize}
 use Rattle.psy_meaning.specs.RingSizes.{IsRingSize}
-use Rattle.psy_meaning.specs.Schedule.{Turn, is_pending}
-use Rattle.psy_meaning.specs.Visible.{committed_in, taken}
+use Rattle.psy_history.specs.Schedule.{Turn, is_pending}
+use Rattle.psy_history.specs.Visible.{committed_in, taken}
 use Rattle.psy_history.specs.Queues.{queue_of}
 use Rattle.psy_history.specs.Rings.{ring_of}
 use Rattle.psy_dates.specs.declared.seat.Phase.{Phase}

@@ -1,7 +1,7 @@
 //! What a date clears: what the actions that end there sent and took.
 
 ghost use Rattle.std.specs.Prelude.{◌≡◌, ℕ, [], length, if◌then◌else◌, Some, slice_get};
-ghost use Rattle.psy_meaning.specs.QueueSizes.{stream_at};
+ghost use Rattle.psy_tree.specs.Parts.{stream_at};
 ghost use Rattle.psy_dates.specs.Moves.{ends_at};
 ghost use Rattle.psy_dates.specs.Outboxes.{Outboxed};
 

@@ -6,6 +6,7 @@ ghost use Rattle.psy_clock.specs.Dates.{IsClock};
 ghost use Rattle.psy_meaning.specs.Timing.{point_at, first_date, end_date, least, deadline};
 ghost use Rattle.psy_meaning.specs.Units.{IsBare};
 ghost use Rattle.psy_dates.specs.Moves.{timing_in};
+ghost use Rattle.psy_tree.specs.Parts.{no_clock};
 
 use crate::plan::Plan;
 use psy_clock::Clock;
@@ -14,7 +15,7 @@ use psy_tree::Point;
 /// A clock of a plan's program.
 pub fn clock_of(plan: &Plan, clock: u32) -> Clock
     requires { IsBare plan.now.unit }
-    ensures value { result ≡ get_or plan.now.unit.clocks clock (record { period = 1; first = 0 }) }
+    ensures value { result ≡ get_or plan.now.unit.clocks clock no_clock }
     ensures lawful { IsClock result }
 {
     match plan.unit.clocks.get(clock as usize) {

@@ -4,7 +4,7 @@ ghost use Rattle.std.specs.Prelude.{◌≡◌, ℕ, ◌^◌, ◌<◌, ◌≤◌,
 ghost use Rattle.std.specs.List.{All};
 ghost use Rattle.psy_meaning.specs.Kept.{IsSentOf};
 ghost use Rattle.psy_meaning.specs.Units.{IsBare};
-ghost use Rattle.psy_meaning.specs.Visible.{message_of as the_message, messages_from};
+ghost use Rattle.psy_history.specs.Visible.{message_of as the_message, messages_from};
 ghost use Rattle.psy_dates.specs.Messages.{HaveEntered, HaveRoom, sends_of, sent_from};
 ghost use Rattle.psy_dates.specs.Moves.{ends_at};
 ghost use Rattle.psy_dates.specs.Plans.{system_of};

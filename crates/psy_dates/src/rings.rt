@@ -2,7 +2,7 @@
 
 ghost use Rattle.std.specs.Prelude.{◌≡◌, ℕ, ◌^◌, ◌<◌, ◌≤◌, [], List, ℤ, length, Some, slice_get};
 ghost use Rattle.psy_meaning.specs.Units.{IsBare};
-ghost use Rattle.psy_meaning.specs.Visible.{nth_or_last as nth_of};
+ghost use Rattle.psy_history.specs.Visible.{nth_or_last as nth_of};
 ghost use Rattle.psy_dates.specs.Plans.{system_of};
 ghost use Rattle.psy_dates.specs.Publications.{ring_then, value_at};
 

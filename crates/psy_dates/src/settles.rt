@@ -3,7 +3,7 @@
 ghost use Rattle.std.specs.Prelude.{◌≡◌, ℕ, ◌<◌, ◌≤◌, length, get_or, true, Some, slice_get};
 ghost use Rattle.psy_queue.specs.Order.{Queued};
 ghost use Rattle.psy_tree.specs.declared.unit.Unit.{Unit as Whole};
-ghost use Rattle.psy_meaning.specs.QueueSizes.{stream_at};
+ghost use Rattle.psy_tree.specs.Parts.{stream_at};
 ghost use Rattle.psy_meaning.specs.Timing.{first_date};
 ghost use Rattle.psy_meaning.specs.Units.{IsBare};
 ghost use Rattle.psy_dates.specs.Messages.{gone_by, nowhere, settled_then, sweeps_by};

@@ -19,7 +19,8 @@ use Rattle.psy_tree.specs.declared.unit.Stmt.{Stmt, roll-Stmt, fold-roll-Stmt, m
 use Rattle.psy_tree.specs.declared.unit.Stmt.TheOpen.{Stmt-F}
 use Rattle.psy_tree.specs.declared.unit.Unit.{Unit as Whole}
 use Rattle.psy_meaning.specs.Alike.{begun}
-use Rattle.psy_meaning.specs.Executors.{Carried, acted_by, agent_at, by_statements, store_of}
+use Rattle.psy_history.specs.Executors.{Carried, acted_by, by_statements, store_of}
+use Rattle.psy_tree.specs.Parts.{agent_at}
 use Rattle.psy_meaning.specs.Expressions.{applied, binary, element, eval, expr_step, in_order, messages_at, take_from, truth_of}
 use Rattle.psy_meaning.specs.Rest.{rest}
 use Rattle.psy_meaning.specs.Sound.{Each, AreSoundFunctions, IsSoundFunction, IsSoundUnit, function_scope}

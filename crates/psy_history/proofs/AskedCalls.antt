@@ -7,7 +7,7 @@ use Rattle.psy_code.specs.declared.code.Code.{Code}
 use Rattle.psy_code.specs.declared.look.Sent.{Sent}
 use Rattle.psy_code.specs.Execution.{Next, Went, Ended, Trapped, Stuck, NoRun, RanTo, Run, RunState, Running, TrappedBy, call_of, deeds_then, go_on, next_of, run_by, run_code, state_then}
 use Rattle.psy_code.specs.Views.{Call, Deeds, Looked, Past, Ready, Send, Take, nothing_done, tick}
-use Rattle.psy_meaning.specs.Executors.{Carried, acted_as}
+use Rattle.psy_history.specs.Executors.{Carried, acted_as}
 use Rattle.psy_history.proofs.LooksOfCode.{before_or_made}
 use Rattle.psy_history.proofs.Members.{contains_none}
 

@@ -8,9 +8,9 @@ use Rattle.std.proofs.lemmas.List.Sums.{sum_by-cons}
 use Rattle.std.proofs.lemmas.Nat.{div-add-mod', div_below, mod_below}
 use Rattle.psy_base.specs.declared.edge.Edge.{Edge}
 use Rattle.psy_base.specs.Paths.{DueBy, IsPathFrom, weight_of}
-use Rattle.psy_meaning.specs.Actions.{Action, System, timing}
-use Rattle.psy_meaning.specs.History.{history}
-use Rattle.psy_meaning.specs.Schedule.{Turn, is_pending, units, work}
+use Rattle.psy_history.specs.Actions.{Action, System, timing}
+use Rattle.psy_history.specs.History.{history}
+use Rattle.psy_history.specs.Schedule.{Turn, is_pending, units, work}
 use Rattle.psy_history.specs.Asked.{Drawn, IsBoundedBy, IsContinuation, IsStep, asked_by, found, left_of}
 use Rattle.psy_history.specs.Asked.IsContinuation.{nothing, behind, next}
 use Rattle.psy_history.specs.Regular.{IsRegular}

@@ -3,8 +3,8 @@ use Rattle.std.proofs.Common.{◌≡◌, ℕ, suc, ◌+◌, ◌-◌, ◌<◌, �
 use Rattle.std.specs.Prelude.{⊤}
 use Rattle.psy_base.specs.declared.edge.Edge.{Edge}
 use Rattle.psy_base.specs.Paths.{DueBy, FitsDueLast, IsGreatestWeight, IsPathFrom, weight_of}
-use Rattle.psy_meaning.specs.Actions.{Action, Next, System, next_by, next_of}
-use Rattle.psy_meaning.specs.Schedule.{work}
+use Rattle.psy_history.specs.Actions.{Action, Next, System, next_by, next_of}
+use Rattle.psy_history.specs.Schedule.{work}
 use Rattle.psy_history.specs.Asked.{Drawn, IsNode, IsStep}
 use Rattle.psy_history.specs.Regular.{IsRegular}
 use Rattle.psy_history.proofs.Edges.{step_some, step_done}

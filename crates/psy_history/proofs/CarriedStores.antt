@@ -9,7 +9,8 @@ use Rattle.psy_code.specs.declared.code.Code.{Code}
 use Rattle.psy_tree.specs.declared.unit.AgentDecl.{AgentDecl}
 use Rattle.psy_tree.specs.declared.unit.Unit.{Unit as Whole}
 use Rattle.psy_meaning.specs.Alike.{AllFit, IsStoreOf, first_slots}
-use Rattle.psy_meaning.specs.Executors.{Carried, agent_at, carried_in, cut, store_of}
+use Rattle.psy_history.specs.Executors.{Carried, carried_in, cut, store_of}
+use Rattle.psy_tree.specs.Parts.{agent_at}
 use Rattle.psy_meaning.specs.States.{Store}
 use Rattle.psy_history.specs.Compiled.{IsCompiled}
 use Rattle.psy_history.specs.Runs.{MayCarry}

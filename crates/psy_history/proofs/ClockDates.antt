@@ -7,7 +7,7 @@ use Rattle.std.proofs.lemmas.List.Sums.{sum_by-cons}
 use Rattle.std.proofs.Math.Nat.{suc-mul}
 use Rattle.psy_clock.specs.declared.clock.Clock.{Clock}
 use Rattle.psy_clock.specs.Dates.{IsClock, count, count_below, date}
-use Rattle.psy_meaning.specs.Lines.{is_date}
+use Rattle.psy_history.specs.Lines.{is_date}
 
 -- ---- by the times
 

@@ -20,9 +20,10 @@ use Rattle.psy_code.specs.Views.{Call, Deeds, Looked, Past, Ready, Send, ServesA
 use Rattle.psy_tree.specs.declared.unit.AgentDecl.{AgentDecl}
 use Rattle.psy_tree.specs.declared.unit.Unit.{Unit as Whole}
 use Rattle.psy_tree.specs.declared.unit.VarDecl.{VarDecl}
-use Rattle.psy_meaning.specs.Actions.{Next, System, first_action, timing}
+use Rattle.psy_history.specs.Actions.{Next, System, first_action, timing}
 use Rattle.psy_meaning.specs.Alike.{EndsAs, IsViewOf, begun as begun_with, first_store, is_there, started}
-use Rattle.psy_meaning.specs.Executors.{Carried, agent_at, agent_code_at, by_code, carried_by, machine_at, store_of}
+use Rattle.psy_history.specs.Executors.{Carried, agent_code_at, by_code, carried_by, machine_at, store_of}
+use Rattle.psy_tree.specs.Parts.{agent_at}
 use Rattle.psy_meaning.specs.Flow.{AreNexts, IsWayFrom}
 use Rattle.psy_meaning.specs.Graph.{periods}
 use Rattle.psy_meaning.specs.Kept.{AreDeedsOf, IsKept, IsLookOf, IsSentOf, Receives}

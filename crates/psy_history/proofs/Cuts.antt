@@ -7,7 +7,7 @@ use Rattle.psy_tree.specs.declared.unit.AgentDecl.{AgentDecl}
 use Rattle.psy_tree.specs.declared.unit.Slots.{Slots}
 use Rattle.psy_tree.specs.declared.unit.Unit.{Unit as Whole}
 use Rattle.psy_meaning.specs.Alike.{IsStoreOf}
-use Rattle.psy_meaning.specs.Executors.{carried_in, cut, store_of}
+use Rattle.psy_history.specs.Executors.{carried_in, cut, store_of}
 use Rattle.psy_meaning.specs.States.{Store}
 
 cut_joined : (slots : List (List ℤ)) → cut (map length slots) (flat_map (λ cells. cells) slots) ≡ slots

@@ -6,9 +6,9 @@ use Rattle.std.proofs.lemmas.Bool.{and_parts, cases_Bool, cases_lt, ltb-false}
 use Rattle.std.proofs.lemmas.List.Elements.{All-contains}
 use Rattle.std.proofs.lemmas.Nat.{div_below}
 use Rattle.std.proofs.lemmas.Option.{none-some, same_Some}
-use Rattle.psy_meaning.specs.Actions.{Action, System}
-use Rattle.psy_meaning.specs.History.{history}
-use Rattle.psy_meaning.specs.Schedule.{cycle_of_unit, is_of, units, work}
+use Rattle.psy_history.specs.Actions.{Action, System}
+use Rattle.psy_history.specs.History.{history}
+use Rattle.psy_history.specs.Schedule.{cycle_of_unit, is_of, units, work}
 use Rattle.psy_history.specs.Regular.{IsRegular}
 use Rattle.psy_history.specs.Scheduled.{IsSupplied, turns_of}
 use Rattle.psy_history.proofs.Finishes.{as_many, started_by}

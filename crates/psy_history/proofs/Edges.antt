@@ -3,7 +3,7 @@ use Rattle.std.proofs.Common.{◌≡◌, ℕ, ◌+◌, ◌-◌, ◌<◌, List, [
 use Rattle.std.specs.List.{Contains}
 use Rattle.std.proofs.lemmas.Option.{slice_get-get_or, slice_get_within}
 use Rattle.psy_base.specs.declared.edge.Edge.{Edge}
-use Rattle.psy_meaning.specs.Actions.{Action, Done, System, timing}
+use Rattle.psy_history.specs.Actions.{Action, Done, System, timing}
 use Rattle.std.specs.Prelude.{slice_get}
 use Rattle.psy_meaning.specs.Graph.{IsEdgeOf, spot_at}
 use Rattle.psy_meaning.specs.Timing.{end_date, following}

@@ -4,9 +4,9 @@ use Rattle.std.specs.List.{Contains, range_with_len}
 use Rattle.std.proofs.lemmas.Bool.{cases_Bool, cond_both, eq-eqb, eqb-true}
 use Rattle.std.proofs.lemmas.List.Elements.{All-contains}
 use Rattle.psy_base.specs.declared.message.Message.{Message}
-use Rattle.psy_meaning.specs.Actions.{Action, System, Verdict, Done, Trapped, Overran}
-use Rattle.psy_meaning.specs.History.{history}
-use Rattle.psy_meaning.specs.Visible.{is_same, messages, messages_by}
+use Rattle.psy_history.specs.Actions.{Action, System, Verdict, Done, Trapped, Overran}
+use Rattle.psy_history.specs.History.{history}
+use Rattle.psy_history.specs.Visible.{is_same, messages, messages_by}
 use Rattle.psy_history.specs.Queues.{ends_at, entering, entering_of}
 use Rattle.psy_history.specs.Regular.{IsRegular}
 use Rattle.psy_history.proofs.Growth.{stays_started}

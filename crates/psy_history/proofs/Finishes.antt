@@ -6,9 +6,9 @@ use Rattle.std.proofs.lemmas.Bool.{cases_Bool, ltb-false}
 use Rattle.std.proofs.lemmas.List.Elements.{All-contains}
 use Rattle.std.proofs.lemmas.Nat.{mul-le}
 use Rattle.std.proofs.lemmas.Option.{same_Some}
-use Rattle.psy_meaning.specs.Actions.{Action, Next, System, next_of}
-use Rattle.psy_meaning.specs.History.{action_of, history}
-use Rattle.psy_meaning.specs.Schedule.{Turn, finish, is_of, units, work}
+use Rattle.psy_history.specs.Actions.{Action, Next, System, next_of}
+use Rattle.psy_history.specs.History.{action_of, history}
+use Rattle.psy_history.specs.Schedule.{Turn, finish, is_of, units, work}
 use Rattle.psy_history.specs.Regular.{IsLawful, IsRegular}
 use Rattle.psy_history.specs.Scheduled.{IsFinished, IsSupplied, turns_of}
 use Rattle.psy_history.proofs.Growth.{at_each_date, grown, kept_on, stays_started}

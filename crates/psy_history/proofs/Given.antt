@@ -3,9 +3,9 @@ use Rattle.std.proofs.Common.{◌≡◌, ℕ, zero, suc, ◌+◌, ◌*◌, ◌/�
 use Rattle.std.specs.List.{Contains}
 use Rattle.std.proofs.lemmas.Bool.{cases_Bool}
 use Rattle.std.proofs.lemmas.Nat.{div_below}
-use Rattle.psy_meaning.specs.Actions.{Action, System}
-use Rattle.psy_meaning.specs.History.{history}
-use Rattle.psy_meaning.specs.Schedule.{is_of, units, work}
+use Rattle.psy_history.specs.Actions.{Action, System}
+use Rattle.psy_history.specs.History.{history}
+use Rattle.psy_history.specs.Schedule.{is_of, units, work}
 use Rattle.psy_history.specs.Regular.{first_number}
 use Rattle.psy_history.specs.Scheduled.{turns_of}
 use Rattle.psy_history.proofs.Growth.{stays_started}

@@ -2,7 +2,7 @@
 use Rattle.std.proofs.Common.{◌≡◌, ℕ, ◌≤◌, max, List, [], ◌∷◌, Option, Some, None, refl, ap, subst, inl, inr, arith}
 use Rattle.std.specs.List.{Contains}
 use Rattle.std.proofs.lemmas.Bool.{cases_lt}
-use Rattle.psy_meaning.specs.Summary.{greater, greatest_of}
+use Rattle.psy_base.specs.Extremes.{greater, greatest_of}
 use Rattle.psy_history.proofs.Members.{contains_behind, contains_front, contains_none, front_or_behind}
 
 -- This is the greatest of the numbers; none where there is no number.

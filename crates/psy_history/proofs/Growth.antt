@@ -8,9 +8,9 @@ use Rattle.psy_budget.specs.declared.charge.Stall.{Stall}
 use Rattle.psy_code.specs.Views.{found_in}
 use Rattle.psy_tree.specs.declared.unit.AgentDecl.{AgentDecl}
 use Rattle.psy_tree.specs.declared.unit.Unit.{Unit as Whole}
-use Rattle.psy_meaning.specs.Actions.{Action, History, Next, System, Verdict, Done, Trapped, Overran, first_action, from_start, next_by, next_of}
-use Rattle.psy_meaning.specs.Executors.{Carried, Executor}
-use Rattle.psy_meaning.specs.History.{action_of, history, with_start}
+use Rattle.psy_history.specs.Actions.{Action, History, Next, System, Verdict, Done, Trapped, Overran, first_action, from_start, next_by, next_of}
+use Rattle.psy_history.specs.Executors.{Carried, Executor}
+use Rattle.psy_history.specs.History.{action_of, history, with_start}
 use Rattle.psy_history.proofs.Members.{contains_behind}
 
 -- ---- the next action

@@ -7,12 +7,12 @@ use Rattle.std.proofs.lemmas.List.Concat.{flat_map-append}
 use Rattle.std.proofs.lemmas.List.Elements.{All-contains, filter-append}
 use Rattle.psy_base.specs.declared.limits.TheConstants.{QUEUE}
 use Rattle.psy_base.specs.declared.message.Message.{Message}
-use Rattle.psy_meaning.specs.Actions.{Action, Next, System, stream_of, timing}
-use Rattle.psy_meaning.specs.Flow.{IsGreatest}
-use Rattle.psy_meaning.specs.History.{history}
+use Rattle.psy_history.specs.Actions.{Action, Next, System, stream_of, timing}
+use Rattle.psy_base.specs.Extremes.{IsGreatest}
+use Rattle.psy_history.specs.History.{history}
 use Rattle.psy_meaning.specs.QueueSizes.{MayLast, delay_of, lasting_of}
 use Rattle.psy_meaning.specs.Timing.{first_date}
-use Rattle.psy_meaning.specs.Visible.{held, is_fresh, is_held, is_untaken, message_of, messages, messages_by, sent_to, swept}
+use Rattle.psy_history.specs.Visible.{held, is_fresh, is_held, is_untaken, message_of, messages, messages_by, sent_to, swept}
 use Rattle.psy_meaning.specs.Ways.{sending_of}
 use Rattle.psy_history.specs.Ways.{IsSentBy, Ways, delay_by, is_sent}
 use Rattle.psy_history.specs.WaySizes.{IsQueueSize, IsSizeFor, IsSpread, IsSpreadBelow}

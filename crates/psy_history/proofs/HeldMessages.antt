@@ -6,9 +6,9 @@ use Rattle.std.proofs.lemmas.Bool.{and_from, and_parts, cases_Bool, false_from_n
 use Rattle.std.proofs.lemmas.List.Elements.{All-contains}
 use Rattle.psy_base.specs.declared.message.Message.{Message}
 use Rattle.psy_queue.specs.Order.{comes_before}
-use Rattle.psy_meaning.specs.Actions.{Action, System, is_silent, stream_of}
-use Rattle.psy_meaning.specs.History.{history}
-use Rattle.psy_meaning.specs.Visible.{is_fresh, is_held, is_in_view, is_same, is_untaken, messages, seen_at, swept}
+use Rattle.psy_history.specs.Actions.{Action, System, is_silent, stream_of}
+use Rattle.psy_history.specs.History.{history}
+use Rattle.psy_history.specs.Visible.{is_fresh, is_held, is_in_view, is_same, is_untaken, messages, seen_at, swept}
 use Rattle.psy_history.specs.Queues.{queue_of}
 use Rattle.psy_history.specs.Regular.{IsRegular}
 use Rattle.psy_history.proofs.LastActions.{ended_by}

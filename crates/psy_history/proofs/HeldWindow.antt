@@ -8,13 +8,12 @@ use Rattle.psy_base.specs.declared.message.Message.{Message}
 use Rattle.psy_clock.specs.declared.clock.Clock.{Clock}
 use Rattle.psy_clock.specs.Dates.{IsClock, after_date, from_date}
 use Rattle.psy_code.specs.declared.look.Sent.{Sent}
-use Rattle.psy_meaning.specs.Actions.{Action, Next, System, Verdict, Done, Overran, Trapped, clock_of, is_done, next_by, next_of, stream_of, timing}
-use Rattle.psy_meaning.specs.Flow.{IsGreatest}
-use Rattle.psy_meaning.specs.History.{history}
+use Rattle.psy_history.specs.Actions.{Action, Next, System, Verdict, Done, Overran, Trapped, clock_of, is_done, next_by, next_of, stream_of, timing}
+use Rattle.psy_base.specs.Extremes.{IsGreatest, most_of}
+use Rattle.psy_history.specs.History.{history}
 use Rattle.psy_meaning.specs.QueueSizes.{MayLast, delay_of, lasting_of}
-use Rattle.psy_meaning.specs.Summary.{most_of}
 use Rattle.psy_meaning.specs.Timing.{end_date, first_date, following}
-use Rattle.psy_meaning.specs.Visible.{is_fresh, message_of, swept}
+use Rattle.psy_history.specs.Visible.{is_fresh, message_of, swept}
 use Rattle.psy_meaning.specs.Ways.{sending_of}
 use Rattle.psy_history.specs.Regular.{IsLawful, IsRegular}
 use Rattle.psy_history.proofs.Deadlines.{deadline_least, some_follows}

@@ -8,11 +8,12 @@ use Rattle.std.specs.Prelude.{ℤ, ◌==◌, Bool, true, false, if◌then◌else
 use Rattle.psy_budget.specs.declared.charge.Stall.{Stall}
 use Rattle.psy_code.specs.Views.{Deeds, View}
 use Rattle.psy_tree.specs.declared.unit.Unit.{Unit as Whole}
-use Rattle.psy_meaning.specs.Actions.{Action, History, Next, System, Verdict, Overran, charge_of, next_of, timing, verdict_by, verdict_of}
-use Rattle.psy_meaning.specs.Executors.{Acted, agent_at}
-use Rattle.psy_meaning.specs.History.{action_of, history, with_start}
+use Rattle.psy_history.specs.Actions.{Action, History, Next, System, Verdict, Overran, charge_of, next_of, timing, verdict_by, verdict_of}
+use Rattle.psy_history.specs.Executors.{Acted}
+use Rattle.psy_tree.specs.Parts.{agent_at}
+use Rattle.psy_history.specs.History.{action_of, history, with_start}
 use Rattle.psy_meaning.specs.Timing.{Timing, budget_at}
-use Rattle.psy_meaning.specs.Visible.{seen_at, view_of}
+use Rattle.psy_history.specs.Visible.{seen_at, view_of}
 use Rattle.psy_history.specs.Compiled.{AreInputs, stated}
 use Rattle.psy_history.specs.Feeding.{AreSame, IsSame, OverranAlike, Reaches}
 use Rattle.psy_history.proofs.ActsAlike.{acts_alike}

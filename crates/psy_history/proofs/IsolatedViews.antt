@@ -17,11 +17,11 @@ use Rattle.psy_code.specs.declared.look.Sent.{Sent}
 use Rattle.psy_code.specs.Views.{found_in, past_of}
 use Rattle.psy_tree.specs.declared.unit.StreamDecl.{StreamDecl}
 use Rattle.psy_tree.specs.declared.unit.Unit.{Unit as Whole}
-use Rattle.psy_meaning.specs.Actions.{Action, History, System, Verdict, Done, Trapped, Overran, publishing, stream_of, variable_of}
-use Rattle.psy_meaning.specs.Executors.{agent_at}
+use Rattle.psy_history.specs.Actions.{Action, History, System, Verdict, Done, Trapped, Overran, publishing, stream_of, variable_of}
+use Rattle.psy_tree.specs.Parts.{agent_at}
 use Rattle.psy_meaning.specs.Kept.{Receives}
 use Rattle.psy_meaning.specs.QueueSizes.{sendings_in}
-use Rattle.psy_meaning.specs.Visible.{in_order, is_in_view, messages, messages_by, messages_from, past, published_by, seen_at, sent_to, values_for, view_of}
+use Rattle.psy_history.specs.Visible.{in_order, is_in_view, messages, messages_by, messages_from, past, published_by, seen_at, sent_to, values_for, view_of}
 use Rattle.psy_meaning.specs.Ways.{Sending, sending_of}
 use Rattle.psy_history.specs.Compiled.{stated}
 use Rattle.psy_history.specs.Feeding.{AreSame, Reaches, by_chain, by_stream, by_variable, pasts_in}

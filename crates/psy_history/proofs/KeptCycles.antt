@@ -5,8 +5,8 @@ use Rattle.std.specs.List.{All, Contains}
 use Rattle.std.proofs.lemmas.Bool.{cases_eq, cases_lt, eq-eqb, ne_eqb}
 use Rattle.std.proofs.lemmas.List.Elements.{All-contains, All-head}
 use Rattle.psy_base.specs.declared.edge.Edge.{Edge}
-use Rattle.psy_meaning.specs.Actions.{Action, History, System}
-use Rattle.psy_meaning.specs.Schedule.{Turn, pending, soonest, turn_of, units, work}
+use Rattle.psy_history.specs.Actions.{Action, History, System}
+use Rattle.psy_history.specs.Schedule.{Turn, pending, soonest, turn_of, units, work}
 use Rattle.psy_history.specs.Asked.{Drawn}
 use Rattle.psy_history.specs.Regular.{IsRegular}
 use Rattle.psy_history.proofs.Edges.{drawn_within}

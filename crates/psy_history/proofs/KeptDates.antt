@@ -4,9 +4,9 @@ use Rattle.std.specs.List.{All, Contains}
 use Rattle.std.proofs.lemmas.Bool.{cases_lt, le-ltb}
 use Rattle.std.proofs.lemmas.List.Elements.{All-contains}
 use Rattle.std.proofs.lemmas.Nat.{div-mul-add}
-use Rattle.psy_meaning.specs.Actions.{Action, History, System}
-use Rattle.psy_meaning.specs.History.{action_of, history}
-use Rattle.psy_meaning.specs.Schedule.{Turn, pending, soonest, turn_of, units, work}
+use Rattle.psy_history.specs.Actions.{Action, History, System}
+use Rattle.psy_history.specs.History.{action_of, history}
+use Rattle.psy_history.specs.Schedule.{Turn, pending, soonest, turn_of, units, work}
 use Rattle.psy_history.specs.Asked.{Drawn}
 use Rattle.psy_history.specs.Regular.{IsRegular}
 use Rattle.psy_history.specs.Scheduled.{IsFinished, IsSupplied, turns_of}

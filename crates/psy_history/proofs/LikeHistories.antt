@@ -9,11 +9,11 @@ use Rattle.psy_code.specs.declared.code.Code.{Code}
 use Rattle.psy_code.specs.Views.{View}
 use Rattle.psy_tree.specs.declared.unit.AgentDecl.{AgentDecl}
 use Rattle.psy_tree.specs.declared.unit.Unit.{Unit as Whole}
-use Rattle.psy_meaning.specs.Actions.{Action, History, Next, System, Overran, charge_of, next_by, next_of, timing, verdict_by, verdict_of}
-use Rattle.psy_meaning.specs.Executors.{Acted, Carried, Fate}
-use Rattle.psy_meaning.specs.History.{action_of, executed, history, recorded, with_start}
+use Rattle.psy_history.specs.Actions.{Action, History, Next, System, Overran, charge_of, next_by, next_of, timing, verdict_by, verdict_of}
+use Rattle.psy_history.specs.Executors.{Acted, Carried, Fate}
+use Rattle.psy_history.specs.History.{action_of, executed, history, recorded, with_start}
 use Rattle.psy_meaning.specs.Timing.{Timing, budget_at, first_date}
-use Rattle.psy_meaning.specs.Visible.{seen_at, view_of}
+use Rattle.psy_history.specs.Visible.{seen_at, view_of}
 use Rattle.psy_history.specs.Compiled.{IsCompiled, coded, stated}
 use Rattle.psy_history.specs.Likeness.{AreLike, IsLike}
 use Rattle.psy_history.specs.Runs.{IsRun}

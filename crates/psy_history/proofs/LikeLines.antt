@@ -7,11 +7,12 @@ use Rattle.psy_base.specs.declared.message.Message.{Message}
 use Rattle.psy_budget.specs.declared.charge.Stall.{Stall}
 use Rattle.psy_code.specs.declared.code.Code.{Code}
 use Rattle.psy_tree.specs.declared.unit.Unit.{Unit as Whole}
-use Rattle.psy_meaning.specs.Actions.{Action, History, System, is_done, is_silent, publishing, stream_of, variable_of}
-use Rattle.psy_meaning.specs.History.{history}
-use Rattle.psy_meaning.specs.Lines.{Publish, Show, events, events_in, is_date, publications, publications_by, shows, stops_by, stops_of}
-use Rattle.psy_meaning.specs.Summary.{most_held, most_of}
-use Rattle.psy_meaning.specs.Visible.{held, is_fresh, is_held, messages, swept}
+use Rattle.psy_history.specs.Actions.{Action, History, System, is_done, is_silent, publishing, stream_of, variable_of}
+use Rattle.psy_history.specs.History.{history}
+use Rattle.psy_history.specs.Lines.{Publish, Show, events, events_in, is_date, publications, publications_by, shows, stops_by, stops_of}
+use Rattle.psy_history.specs.Summary.{most_held}
+use Rattle.psy_base.specs.Extremes.{most_of}
+use Rattle.psy_history.specs.Visible.{held, is_fresh, is_held, messages, swept}
 use Rattle.psy_history.specs.Compiled.{coded, stated}
 use Rattle.psy_history.specs.Likeness.{AreLike}
 use Rattle.psy_history.proofs.LikeActions.{by_pairs, flat_map_like, flat_map_same, map_same}

@@ -8,10 +8,11 @@ use Rattle.psy_budget.specs.Charges.{cycle_of}
 use Rattle.psy_code.specs.declared.code.Code.{Code}
 use Rattle.psy_code.specs.Views.{Looked}
 use Rattle.psy_tree.specs.declared.unit.Unit.{Unit as Whole}
-use Rattle.psy_meaning.specs.Actions.{Action, History, System}
-use Rattle.psy_meaning.specs.History.{history}
-use Rattle.psy_meaning.specs.Schedule.{Turn, cycle_of_unit, units, work}
-use Rattle.psy_meaning.specs.Summary.{age_in, ages_of, greatest_of, reach}
+use Rattle.psy_history.specs.Actions.{Action, History, System}
+use Rattle.psy_history.specs.History.{history}
+use Rattle.psy_history.specs.Schedule.{Turn, cycle_of_unit, units, work}
+use Rattle.psy_history.specs.Summary.{age_in, ages_of, reach}
+use Rattle.psy_base.specs.Extremes.{greatest_of}
 use Rattle.psy_history.specs.Compiled.{coded, stated}
 use Rattle.psy_history.specs.Likeness.{AreLike, IsLike, looks_within}
 use Rattle.psy_history.specs.Scheduled.{turns_of}

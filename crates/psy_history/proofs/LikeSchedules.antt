@@ -2,9 +2,10 @@
 use Rattle.std.proofs.Common.{◌≡◌, ℕ, zero, suc, ◌+◌, ◌-◌, ◌*◌, ◌/◌, Bool, true, false, List, [], ◌∷◌, Option, Some, None, refl, ap, ap₂, ◌∙◌}
 use Rattle.std.specs.List.{filter}
 use Rattle.std.specs.Prelude.{if◌then◌else◌, nat_le, nat_lt, ⊤}
-use Rattle.psy_meaning.specs.Actions.{Action, History}
-use Rattle.psy_meaning.specs.Schedule.{Turn, finish, is_pending, pending, sooner, soonest, turn_of, turns, units, work}
-use Rattle.psy_meaning.specs.Summary.{due_by, least_of, slack, slack_of}
+use Rattle.psy_history.specs.Actions.{Action, History}
+use Rattle.psy_history.specs.Schedule.{Turn, finish, is_pending, pending, sooner, soonest, turn_of, turns, units, work}
+use Rattle.psy_history.specs.Summary.{due_by, slack, slack_of}
+use Rattle.psy_base.specs.Extremes.{least_of}
 use Rattle.psy_history.specs.Likeness.{AreLike, IsLike}
 use Rattle.psy_history.proofs.LikeActions.{append_like, by_pairs, filter_like, map_like}
 

@@ -9,8 +9,8 @@ use Rattle.psy_clock.specs.Dates.{count, date}
 use Rattle.psy_code.specs.declared.code.Code.{Code}
 use Rattle.psy_code.specs.declared.look.Sent.{Sent}
 use Rattle.psy_tree.specs.declared.unit.Unit.{Unit as Whole}
-use Rattle.psy_meaning.specs.Actions.{Action, History, System, Verdict, Done, is_done_by, publishing, stream_of, variable_of}
-use Rattle.psy_meaning.specs.Visible.{commit, committed_in, in_order, is_in_view, is_untaken, is_same, message_of, messages, messages_by, messages_from, past, published, published_by, seen_at, sent_to, taken, values_for, view_of}
+use Rattle.psy_history.specs.Actions.{Action, History, System, Verdict, Done, is_done_by, publishing, stream_of, variable_of}
+use Rattle.psy_history.specs.Visible.{commit, committed_in, in_order, is_in_view, is_untaken, is_same, message_of, messages, messages_by, messages_from, past, published, published_by, seen_at, sent_to, taken, values_for, view_of}
 use Rattle.psy_history.specs.Compiled.{coded, stated}
 use Rattle.psy_history.specs.Likeness.{AreLike}
 use Rattle.psy_history.proofs.LikeActions.{by_pairs, flat_map_like, flat_map_same, list_all_like, same_by}

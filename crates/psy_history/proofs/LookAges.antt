@@ -5,7 +5,7 @@ use Rattle.std.proofs.lemmas.Option.{get_or_from_slice_get, same_Some}
 use Rattle.psy_base.specs.declared.edge.Edge.{Edge}
 use Rattle.psy_clock.specs.declared.clock.Clock.{Clock}
 use Rattle.psy_tree.specs.declared.unit.VarDecl.{VarDecl}
-use Rattle.psy_meaning.specs.Actions.{Action, System, clock_of, publishing, timing}
+use Rattle.psy_history.specs.Actions.{Action, System, clock_of, publishing, timing}
 use Rattle.psy_meaning.specs.RingSizes.{IsDueIn, agent_timing, dates_between}
 use Rattle.psy_meaning.specs.Timing.{clock_at}
 use Rattle.psy_history.specs.Compiled.{AreEdgesOf}

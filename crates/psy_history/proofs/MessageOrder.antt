@@ -8,7 +8,7 @@ use Rattle.std.proofs.lemmas.List.Elements.{All-contains, All-tail}
 use Rattle.std.proofs.lemmas.List.Kept.{AllPairs-cons, AllPairs-filter}
 use Rattle.psy_base.specs.declared.message.Message.{Message}
 use Rattle.psy_queue.specs.Order.{AreInOrder, comes_before, less_then}
-use Rattle.psy_meaning.specs.Visible.{is_same}
+use Rattle.psy_history.specs.Visible.{is_same}
 use Rattle.psy_history.proofs.Members.{contains_behind, contains_front, contains_none, front_or_behind}
 
 -- The messages stand in order, no two of them the same.

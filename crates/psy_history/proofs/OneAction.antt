@@ -7,7 +7,7 @@ use Rattle.psy_code.specs.Execution.{RanTo, Run, RunState, TrappedBy, run_code}
 use Rattle.psy_code.specs.Lasting.{IsOver, Lasted}
 use Rattle.psy_code.specs.Views.{Deeds}
 use Rattle.psy_meaning.specs.Alike.{EndsAs}
-use Rattle.psy_meaning.specs.Executors.{Acted, Carried, Unfinished, acted_as, acted_by}
+use Rattle.psy_history.specs.Executors.{Acted, Carried, Unfinished, acted_as, acted_by}
 use Rattle.psy_meaning.specs.States.{Final, Halts}
 use Rattle.psy_meaning.specs.States as by
 use Rattle.psy_history.proofs.LateLooks.{looks_before, looks_below, over_stays}

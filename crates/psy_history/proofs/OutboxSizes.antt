@@ -13,9 +13,9 @@ use Rattle.psy_code.specs.declared.code.Code.{Code}
 use Rattle.psy_code.specs.declared.look.Sent.{Sent}
 use Rattle.psy_code.specs.Execution.{Run, RunState, Running, call_of, deeds_then, run_by, run_code, state_then}
 use Rattle.psy_code.specs.Views.{Send}
-use Rattle.psy_meaning.specs.Actions.{Action, System, timing}
-use Rattle.psy_meaning.specs.Executors.{agent_code_at}
-use Rattle.psy_meaning.specs.Flow.{IsGreatest}
+use Rattle.psy_history.specs.Actions.{Action, System, timing}
+use Rattle.psy_history.specs.Executors.{agent_code_at}
+use Rattle.psy_base.specs.Extremes.{IsGreatest}
 use Rattle.psy_meaning.specs.Timing.{following}
 use Rattle.psy_history.specs.Regular.{MayAsk, begun_by}
 use Rattle.psy_history.specs.Runs.{IsRun, StandsWell}

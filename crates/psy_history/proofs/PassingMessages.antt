@@ -6,7 +6,7 @@ use Rattle.std.proofs.lemmas.Bool.{cases_Bool}
 use Rattle.std.proofs.lemmas.List.Elements.{filter-append}
 use Rattle.psy_base.specs.declared.message.Message.{Message}
 use Rattle.psy_queue.specs.Order.{comes_before, put_in_order}
-use Rattle.psy_meaning.specs.Visible.{in_order}
+use Rattle.psy_history.specs.Visible.{in_order}
 use Rattle.psy_history.proofs.Members.{contains_behind, contains_front, filter_from}
 
 -- ---- two tests

@@ -3,10 +3,10 @@ use Rattle.std.proofs.Common.{◌≡◌, ℕ, suc, ◌+◌, ◌-◌, ◌<◌, �
 use Rattle.std.specs.Prelude.{ℤ, nat_le, nat_lt, if◌then◌else◌}
 use Rattle.std.proofs.lemmas.Bool.{cases_lt, cond-false, cond-true, le-ltb, lt-leb, lt-ltb}
 use Rattle.psy_clock.specs.Dates.{date}
-use Rattle.psy_meaning.specs.Actions.{Action, History, System, Verdict, Done, Trapped, Overran, publishing, variable_of}
-use Rattle.psy_meaning.specs.Executors.{Carried}
-use Rattle.psy_meaning.specs.History.{action_of, history}
-use Rattle.psy_meaning.specs.Visible.{commit, committed_in, published, published_by}
+use Rattle.psy_history.specs.Actions.{Action, History, System, Verdict, Done, Trapped, Overran, publishing, variable_of}
+use Rattle.psy_history.specs.Executors.{Carried}
+use Rattle.psy_history.specs.History.{action_of, history}
+use Rattle.psy_history.specs.Visible.{commit, committed_in, published, published_by}
 use Rattle.psy_history.specs.Regular.{IsLawful}
 use Rattle.psy_history.proofs.Growth.{grown, kept_on}
 use Rattle.psy_history.proofs.NextStarts.{regular_head}

@@ -6,9 +6,9 @@ use Rattle.std.proofs.lemmas.Bool.{and_right, cases_Bool, eqb-true, le-leb, leb-
 use Rattle.std.proofs.lemmas.Option.{get_or_from_slice_get}
 use Rattle.psy_base.specs.declared.message.Message.{Message}
 use Rattle.psy_tree.specs.declared.unit.StreamDecl.{StreamDecl}
-use Rattle.psy_meaning.specs.Actions.{Action, System, Done, is_done, is_done_by, is_silent, stream_of}
-use Rattle.psy_meaning.specs.History.{history}
-use Rattle.psy_meaning.specs.Visible.{is_fresh, is_held, is_in_view, is_untaken, messages, seen_at, swept}
+use Rattle.psy_history.specs.Actions.{Action, System, Done, is_done, is_done_by, is_silent, stream_of}
+use Rattle.psy_history.specs.History.{history}
+use Rattle.psy_history.specs.Visible.{is_fresh, is_held, is_in_view, is_untaken, messages, seen_at, swept}
 use Rattle.psy_history.specs.Queues.{queue_of}
 use Rattle.psy_history.proofs.HeldMessages.{StaysThere, contains_queue, from_view, in_view, new_stays, strictly_queue}
 use Rattle.psy_history.proofs.LastActions.{EndedBy, done_by, ended_before, ended_by, last_began}

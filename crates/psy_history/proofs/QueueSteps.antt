@@ -5,8 +5,8 @@ use Rattle.std.specs.List.{Contains}
 use Rattle.std.proofs.Math.Seq.{drop-nil}
 use Rattle.std.proofs.lemmas.Bool.{cases_order, cond_both}
 use Rattle.psy_base.specs.declared.message.Message.{Message}
-use Rattle.psy_meaning.specs.Actions.{System, next_of, stream_of}
-use Rattle.psy_meaning.specs.History.{history}
+use Rattle.psy_history.specs.Actions.{System, next_of, stream_of}
+use Rattle.psy_history.specs.History.{history}
 use Rattle.psy_history.specs.Queues.{entered, entering, given_up, queue_of, settled, sweeps}
 use Rattle.psy_history.proofs.EnteringMessages.{contains_entering, differing_entering}
 use Rattle.psy_history.proofs.HeldMessages.{StaysThere, contains_queue, new_stays, strictly_queue}

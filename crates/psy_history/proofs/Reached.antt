@@ -7,10 +7,11 @@ use Rattle.std.proofs.lemmas.List.FromFn.{get_or-range_with_len, length-range_wi
 use Rattle.std.proofs.lemmas.Option.{none-some, same_Some}
 use Rattle.psy_budget.specs.Charges.{cycle_of}
 use Rattle.psy_code.specs.Views.{Looked}
-use Rattle.psy_meaning.specs.Actions.{Action, History, System}
-use Rattle.psy_meaning.specs.History.{action_of, history}
-use Rattle.psy_meaning.specs.Schedule.{Turn, cycle_of_unit, is_of, turn_of, units}
-use Rattle.psy_meaning.specs.Summary.{age_in, ages_of, greater, reach}
+use Rattle.psy_history.specs.Actions.{Action, History, System}
+use Rattle.psy_history.specs.History.{action_of, history}
+use Rattle.psy_history.specs.Schedule.{Turn, cycle_of_unit, is_of, turn_of, units}
+use Rattle.psy_history.specs.Summary.{age_in, ages_of, reach}
+use Rattle.psy_base.specs.Extremes.{greater}
 use Rattle.psy_history.specs.Regular.{first_number}
 use Rattle.psy_history.specs.Rings.{age_at}
 use Rattle.psy_history.specs.Scheduled.{turns_of}

@@ -10,11 +10,12 @@ use Rattle.psy_code.specs.declared.code.Code.{Code}
 use Rattle.psy_code.specs.Execution.{NoRun, RanTo, Run, RunState, Running, Stuck, TrappedBy, call_of, go_on, next_of as next_machine, run_code}
 use Rattle.psy_code.specs.Lasting.{IsOver}
 use Rattle.psy_code.specs.Views.{Call, Looked, Past, Ready, Send, Take}
-use Rattle.psy_meaning.specs.Actions.{Action, History, System}
-use Rattle.psy_meaning.specs.Executors.{agent_code_at}
-use Rattle.psy_meaning.specs.History.{history}
-use Rattle.psy_meaning.specs.Schedule.{Turn, turn_of, units}
-use Rattle.psy_meaning.specs.Summary.{greater, reach}
+use Rattle.psy_history.specs.Actions.{Action, History, System}
+use Rattle.psy_history.specs.Executors.{agent_code_at}
+use Rattle.psy_history.specs.History.{history}
+use Rattle.psy_history.specs.Schedule.{Turn, turn_of, units}
+use Rattle.psy_history.specs.Summary.{reach}
+use Rattle.psy_base.specs.Extremes.{greater}
 use Rattle.psy_history.specs.Regular.{IsLawful, IsRegular, Runs, begun_by}
 use Rattle.psy_history.specs.Rings.{age_at, reach_with}
 use Rattle.psy_history.specs.Runs.{IsRun}

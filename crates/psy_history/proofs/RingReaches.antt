@@ -3,9 +3,9 @@ use Rattle.std.proofs.Common.{◌≡◌, ℕ, ◌*◌, ◌/◌, ◌<◌, ◌≤�
 use Rattle.std.proofs.lemmas.List.Elements.{All-contains}
 use Rattle.psy_budget.specs.Charges.{cycle_of}
 use Rattle.psy_code.specs.declared.code.Code.{Code}
-use Rattle.psy_meaning.specs.Actions.{System}
-use Rattle.psy_meaning.specs.History.{history}
-use Rattle.psy_meaning.specs.Summary.{reach}
+use Rattle.psy_history.specs.Actions.{System}
+use Rattle.psy_history.specs.History.{history}
+use Rattle.psy_history.specs.Summary.{reach}
 use Rattle.psy_history.specs.Regular.{IsRegular, Runs}
 use Rattle.psy_history.specs.Runs.{IsRun}
 use Rattle.psy_history.specs.Scheduled.{IsSupplied, turns_of}

@@ -9,10 +9,10 @@ use Rattle.psy_clock.specs.declared.clock.Clock.{Clock}
 use Rattle.psy_clock.specs.Dates.{IsClock, count, count_below, date}
 use Rattle.psy_code.specs.Views.{found_in, past_of}
 use Rattle.psy_tree.specs.declared.unit.VarDecl.{VarDecl}
-use Rattle.psy_meaning.specs.Actions.{Action, Next, System, publishing, variable_of}
-use Rattle.psy_meaning.specs.History.{action_of, history}
-use Rattle.psy_meaning.specs.Lines.{is_date}
-use Rattle.psy_meaning.specs.Visible.{past, published}
+use Rattle.psy_history.specs.Actions.{Action, Next, System, publishing, variable_of}
+use Rattle.psy_history.specs.History.{action_of, history}
+use Rattle.psy_history.specs.Lines.{is_date}
+use Rattle.psy_history.specs.Visible.{past, published}
 use Rattle.psy_history.specs.Regular.{IsLawful}
 use Rattle.psy_history.specs.Rings.{age_at, ring_of}
 use Rattle.psy_history.proofs.ClockDates.{AreCounted, below_next, count_at_date, count_elsewhere, count_rises, date_is}

@@ -11,11 +11,12 @@ use Rattle.psy_code.specs.Execution.{NoRun, RanTo, Run, RunState, Running, Trapp
 use Rattle.psy_code.specs.Lasting.{IsOver, Lasted, StandsAt}
 use Rattle.psy_code.specs.Views.{View}
 use Rattle.psy_tree.specs.declared.unit.AgentDecl.{AgentDecl}
-use Rattle.psy_meaning.specs.Actions.{Action, Next, System, Done, charge_of, next_by, timing}
+use Rattle.psy_history.specs.Actions.{Action, Next, System, Done, charge_of, next_by, timing}
 use Rattle.psy_meaning.specs.Alike.{IsViewOf, started}
-use Rattle.psy_meaning.specs.Executors.{Acted, Carried, Reached, acted_as, agent_at, agent_code_at, machine_at}
-use Rattle.psy_meaning.specs.Executors as fate
-use Rattle.psy_meaning.specs.History.{executed}
+use Rattle.psy_history.specs.Executors.{Acted, Carried, Reached, acted_as, agent_code_at, machine_at}
+use Rattle.psy_tree.specs.Parts.{agent_at}
+use Rattle.psy_history.specs.Executors as fate
+use Rattle.psy_history.specs.History.{executed}
 use Rattle.psy_meaning.specs.Kept.{IsSentOf}
 use Rattle.psy_meaning.specs.Timing.{MayStart, Timing, budget_at, deadline, end_date, first, following, later}
 use Rattle.psy_history.specs.Regular.{IsRegular, MayAsk, MayStartAlike}

@@ -3,10 +3,10 @@ use Rattle.std.proofs.Common.{◌≡◌, ℕ, List, [], ◌∷◌, Some, subst, 
 use Rattle.std.specs.List.{All}
 use Rattle.std.proofs.lemmas.List.Elements.{All-cons, All-nil, All-weaker}
 use Rattle.psy_code.specs.declared.code.Code.{Code}
-use Rattle.psy_meaning.specs.Actions.{Action, Next, System, next_of}
+use Rattle.psy_history.specs.Actions.{Action, Next, System, next_of}
 use Rattle.psy_meaning.specs.Alike.{IsViewOf}
-use Rattle.psy_meaning.specs.History.{action_of, history}
-use Rattle.psy_meaning.specs.Visible.{seen_at, view_of}
+use Rattle.psy_history.specs.History.{action_of, history}
+use Rattle.psy_history.specs.Visible.{seen_at, view_of}
 use Rattle.psy_history.specs.Regular.{IsLawful, IsRegular}
 use Rattle.psy_history.specs.Runs.{IsRun, MayCarry}
 use Rattle.psy_history.specs.Ways.{IsSentBy, Ways}

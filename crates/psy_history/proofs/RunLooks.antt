@@ -8,9 +8,9 @@ use Rattle.psy_code.specs.declared.code.Code.{Code}
 use Rattle.psy_code.specs.Execution.{NoRun, RanTo, Run, RunState, Running, TrappedBy, call_of, run_code}
 use Rattle.psy_code.specs.Lasting.{IsOver}
 use Rattle.psy_code.specs.Views.{Looked}
-use Rattle.psy_meaning.specs.Actions.{Action, System}
-use Rattle.psy_meaning.specs.Executors.{acted_as, agent_code_at}
-use Rattle.psy_meaning.specs.History.{action_of, history}
+use Rattle.psy_history.specs.Actions.{Action, System}
+use Rattle.psy_history.specs.Executors.{acted_as, agent_code_at}
+use Rattle.psy_history.specs.History.{action_of, history}
 use Rattle.psy_history.specs.Regular.{IsLawful, MayAsk, Runs, begun_by}
 use Rattle.psy_history.specs.Runs.{IsRun}
 use Rattle.psy_history.specs.Ways.{Ways}

@@ -4,11 +4,11 @@ use Rattle.std.specs.List.{range_with_len}
 use Rattle.std.proofs.lemmas.List.Elements.{All-get_or, All-map}
 use Rattle.psy_base.specs.declared.limits.TheConstants.{QUEUE}
 use Rattle.psy_code.specs.declared.code.Code.{Code}
-use Rattle.psy_meaning.specs.Actions.{System, stream_of}
-use Rattle.psy_meaning.specs.History.{history}
-use Rattle.psy_meaning.specs.Summary.{most_held}
+use Rattle.psy_history.specs.Actions.{System, stream_of}
+use Rattle.psy_history.specs.History.{history}
+use Rattle.psy_history.specs.Summary.{most_held}
 use Rattle.psy_meaning.specs.Units.{IsBareStream}
-use Rattle.psy_meaning.specs.Visible.{held}
+use Rattle.psy_history.specs.Visible.{held}
 use Rattle.psy_history.specs.Queues.{queue_of}
 use Rattle.psy_history.specs.Runs.{IsRun}
 use Rattle.psy_history.specs.Ways.{Ways}

@@ -7,9 +7,9 @@ use Rattle.psy_code.specs.declared.code.AgentCode.{AgentCode}
 use Rattle.psy_code.specs.declared.code.Code.{Code}
 use Rattle.psy_code.specs.Execution.{Next, Went, Ended, Trapped, Stuck, NoRun, RanTo, Run, RunState, Running, TrappedBy, call_of, go_on, next_of as next_machine, run_by, run_code, run_one, standing, state_then}
 use Rattle.psy_code.specs.Lasting.{IsOver}
-use Rattle.psy_meaning.specs.Actions.{Action, System}
-use Rattle.psy_meaning.specs.Executors.{agent_code_at, carried_by, machine_at}
-use Rattle.psy_meaning.specs.History.{history}
+use Rattle.psy_history.specs.Actions.{Action, System}
+use Rattle.psy_history.specs.Executors.{agent_code_at, carried_by, machine_at}
+use Rattle.psy_history.specs.History.{history}
 use Rattle.psy_history.specs.Regular.{Goes, MayAsk, Runs, begun_by}
 use Rattle.psy_history.specs.Runs.{GoesWell, IsRun, MayCarry, StandsWell}
 use Rattle.psy_history.specs.Ways.{Ways}

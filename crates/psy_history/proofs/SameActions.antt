@@ -6,9 +6,9 @@ use Rattle.psy_base.specs.declared.message.Message.{Message}
 use Rattle.psy_budget.specs.declared.charge.Stall.{Stall}
 use Rattle.psy_code.specs.declared.look.Sent.{Sent}
 use Rattle.psy_tree.specs.declared.unit.Unit.{Unit as Whole}
-use Rattle.psy_meaning.specs.Actions.{Action, History, System, Verdict, Done, is_done_by, next_of, publishing, variable_of}
-use Rattle.psy_meaning.specs.Lines.{Event, Publish, is_date, publications, publications_by, stops_of}
-use Rattle.psy_meaning.specs.Visible.{commit, committed_in, is_same, is_untaken, message_of, messages_by, messages_from, published, published_by, taken}
+use Rattle.psy_history.specs.Actions.{Action, History, System, Verdict, Done, is_done_by, next_of, publishing, variable_of}
+use Rattle.psy_history.specs.Lines.{Event, Publish, is_date, publications, publications_by, stops_of}
+use Rattle.psy_history.specs.Visible.{commit, committed_in, is_same, is_untaken, message_of, messages_by, messages_from, published, published_by, taken}
 use Rattle.psy_history.specs.Compiled.{stated}
 use Rattle.psy_history.specs.Feeding.{AreSame, IsSame}
 

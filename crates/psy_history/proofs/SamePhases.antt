@@ -8,7 +8,7 @@ use Rattle.std.proofs.lemmas.List.Elements.{All-head, All-tail}
 use Rattle.psy_clock.specs.declared.clock.Clock.{Clock}
 use Rattle.psy_clock.specs.Dates.{IsClock, after_date}
 use Rattle.psy_tree.specs.declared.unit.Point.{Point}
-use Rattle.psy_meaning.specs.Actions.{Action, System, timing}
+use Rattle.psy_history.specs.Actions.{Action, System, timing}
 use Rattle.psy_meaning.specs.Graph.{IsCycle, periods}
 use Rattle.psy_meaning.specs.Timing.{Timing, clock_at, deadline, end_date, following, least, point_at}
 use Rattle.psy_meaning.specs.Timing as may

@@ -15,13 +15,13 @@ use Rattle.psy_code.specs.declared.look.Sent.{Sent}
 use Rattle.psy_code.specs.Execution.{Copy, copy_of}
 use Rattle.psy_tree.specs.declared.unit.Unit.{Unit as Whole}
 use Rattle.psy_queue.specs.Order.{comes_before, put_in_order}
-use Rattle.psy_meaning.specs.Actions.{Action, History, System, Verdict, Done, publishing, stream_of, variable_of}
-use Rattle.psy_meaning.specs.Actions as verdict
+use Rattle.psy_history.specs.Actions.{Action, History, System, Verdict, Done, publishing, stream_of, variable_of}
+use Rattle.psy_history.specs.Actions as verdict
 use Rattle.psy_meaning.specs.Alike.{AllFit, IsViewOf, MessagesFit, is_there}
-use Rattle.psy_meaning.specs.Executors.{Carried, copy_in}
+use Rattle.psy_history.specs.Executors.{Carried, copy_in}
 use Rattle.psy_meaning.specs.Kept.{IsSentOf}
 use Rattle.psy_meaning.specs.States.{value_or_zero}
-use Rattle.psy_meaning.specs.Visible.{commit, committed_in, in_order, input_value, message_of, messages, messages_by, messages_from, nth_or_last, past, published, published_by, seen_at, sent_to, values_for, view_of}
+use Rattle.psy_history.specs.Visible.{commit, committed_in, in_order, input_value, message_of, messages, messages_by, messages_from, nth_or_last, past, published, published_by, seen_at, sent_to, values_for, view_of}
 use Rattle.psy_history.proofs.Members.{all_flat_map, get_or_holds}
 
 -- ---- lists

@@ -7,7 +7,7 @@ use Rattle.std.proofs.lemmas.Option.{slice_get_read}
 use Rattle.psy_base.specs.declared.edge.Edge.{Edge}
 use Rattle.psy_base.specs.declared.limits.TheConstants.{QUEUE}
 use Rattle.psy_base.specs.Paths.{FitsFirstFree, IsGreatestWeight}
-use Rattle.psy_meaning.specs.Actions.{Action, Done, System, timing}
+use Rattle.psy_history.specs.Actions.{Action, Done, System, timing}
 use Rattle.psy_meaning.specs.Graph.{Spot, IsGraph, spot_at}
 use Rattle.psy_meaning.specs.Timing.{end_date, following}
 use Rattle.psy_history.specs.Asked.{Drawn}

@@ -9,10 +9,10 @@ use Rattle.psy_base.specs.declared.edge.Edge.{Edge}
 use Rattle.psy_base.specs.declared.limits.TheConstants.{QUEUE}
 use Rattle.psy_base.specs.declared.message.Message.{Message}
 use Rattle.psy_base.specs.Paths.{FitsFirstFree, IsGreatestWeight, IsPathFrom, length_of, weight_of}
-use Rattle.psy_meaning.specs.Actions.{Action, Next, System, Verdict, Done, Overran, Trapped, next_by, next_of, timing}
+use Rattle.psy_history.specs.Actions.{Action, Next, System, Verdict, Done, Overran, Trapped, next_by, next_of, timing}
 use Rattle.psy_meaning.specs.Graph.{Spot, IsGraph, spot_at}
 use Rattle.psy_meaning.specs.Timing.{end_date}
-use Rattle.psy_meaning.specs.Visible.{messages_by}
+use Rattle.psy_history.specs.Visible.{messages_by}
 use Rattle.psy_history.specs.Regular.{IsRegular, WereStarted}
 use Rattle.psy_history.specs.Ways.{Ways}
 use Rattle.psy_history.specs.WaySizes.{AreSendEdges}

@@ -11,9 +11,9 @@ use Rattle.psy_base.specs.declared.message.Message.{Message}
 use Rattle.psy_clock.specs.declared.clock.Clock.{Clock}
 use Rattle.psy_clock.specs.Dates.{IsClock, after_date, count, from_date}
 use Rattle.psy_code.specs.declared.look.Sent.{Sent}
-use Rattle.psy_meaning.specs.Actions.{Action, History, System, Verdict, Done, Trapped, Overran, clock_of, stream_of}
-use Rattle.psy_meaning.specs.History.{history}
-use Rattle.psy_meaning.specs.Visible.{is_same, message_of, messages, messages_by, messages_from, sent_to}
+use Rattle.psy_history.specs.Actions.{Action, History, System, Verdict, Done, Trapped, Overran, clock_of, stream_of}
+use Rattle.psy_history.specs.History.{history}
+use Rattle.psy_history.specs.Visible.{is_same, message_of, messages, messages_by, messages_from, sent_to}
 use Rattle.psy_history.specs.Regular.{IsLawful, IsRegular}
 use Rattle.psy_history.proofs.ClockDates.{count_rises}
 use Rattle.psy_history.proofs.Growth.{grown, stays_started}

@@ -4,9 +4,9 @@ use Rattle.std.specs.Prelude.{◌==◌, ◌&&◌, filter, nat_le, nat_lt}
 use Rattle.std.specs.List.{Contains, count_by, list_any}
 use Rattle.std.proofs.lemmas.Bool.{and_from, and_left, and_parts, cases_Bool, eq-eqb, lt-leb, ltb-true, not-true, not_from_false}
 use Rattle.psy_base.specs.declared.message.Message.{Message}
-use Rattle.psy_meaning.specs.Actions.{Action, Next, System, Done, is_done, is_done_by, is_silent, next_by, next_of, stream_of}
-use Rattle.psy_meaning.specs.History.{action_of, history}
-use Rattle.psy_meaning.specs.Visible.{is_fresh, is_same, is_untaken, messages, swept, taken}
+use Rattle.psy_history.specs.Actions.{Action, Next, System, Done, is_done, is_done_by, is_silent, next_by, next_of, stream_of}
+use Rattle.psy_history.specs.History.{action_of, history}
+use Rattle.psy_history.specs.Visible.{is_fresh, is_same, is_untaken, messages, swept, taken}
 use Rattle.psy_history.specs.Queues.{ends_at, given_up, queue_of, settled, sweeps}
 use Rattle.psy_history.proofs.Growth.{grown, next_done}
 use Rattle.psy_history.proofs.HeldMessages.{StaysThere, contains_queue, fresh_late, strictly_queue}

@@ -4,8 +4,9 @@ use Rattle.std.proofs.lemmas.Option.{slice_get-get_or}
 use Rattle.psy_base.specs.declared.edge.Edge.{Edge}
 use Rattle.psy_tree.specs.declared.unit.Unit.{Unit as Whole}
 use Rattle.psy_code.specs.declared.code.Code.{Code}
-use Rattle.psy_meaning.specs.Executors.{agent_at}
-use Rattle.psy_meaning.specs.Flow.{AreNexts, IsGreatest}
+use Rattle.psy_tree.specs.Parts.{agent_at}
+use Rattle.psy_meaning.specs.Flow.{AreNexts}
+use Rattle.psy_base.specs.Extremes.{IsGreatest}
 use Rattle.psy_meaning.specs.Graph.{Spot}
 use Rattle.psy_meaning.specs.QueueSizes as by_text
 use Rattle.psy_meaning.specs.QueueSizes.{all_sendings}

@@ -3,8 +3,8 @@ use Rattle.std.proofs.Common.{◌≡◌, ℕ, suc, ◌<◌, ◌≤◌, List, [],
 use Rattle.std.specs.Prelude.{nat_le, filter}
 use Rattle.std.specs.List.{Contains}
 use Rattle.std.proofs.lemmas.Bool.{cases_Bool, leb-true, leb-false, ltb-true, lt-ltb, eq-eqb, ne_eqb}
-use Rattle.psy_meaning.specs.Actions.{Action, History}
-use Rattle.psy_meaning.specs.Schedule.{Turn, is_of, is_pending, pending, soonest, sooner, turn_of, units, work}
+use Rattle.psy_history.specs.Actions.{Action, History}
+use Rattle.psy_history.specs.Schedule.{Turn, is_of, is_pending, pending, soonest, sooner, turn_of, units, work}
 use Rattle.psy_history.proofs.Members.{contains_behind, contains_front, contains_none, filter_from, filter_in, flat_map_from, flat_map_in, front_or_behind}
 
 -- ---- pending actions

@@ -1,8 +1,8 @@
 -- How an action of a lawful system was started.
 use Rattle.std.proofs.Common.{◌≡◌, ℕ, ◌<◌, List, [], ◌∷◌, ap, subst, inl, inr, arith}
 use Rattle.std.specs.List.{Contains}
-use Rattle.psy_meaning.specs.Actions.{Action, System}
-use Rattle.psy_meaning.specs.History.{history}
+use Rattle.psy_history.specs.Actions.{Action, System}
+use Rattle.psy_history.specs.History.{history}
 use Rattle.psy_history.specs.Regular.{IsLawful, WasStarted, WereStarted}
 use Rattle.psy_history.proofs.Members.{contains_none, front_or_behind}
 

@@ -7,10 +7,11 @@ use Rattle.psy_code.specs.declared.code.Code.{Code}
 use Rattle.psy_code.specs.Views.{View}
 use Rattle.psy_tree.specs.declared.unit.AgentDecl.{AgentDecl}
 use Rattle.psy_tree.specs.declared.unit.Unit.{Unit as Whole}
-use Rattle.psy_meaning.specs.Actions.{Next, System, Done, Overran, timing, verdict_by, verdict_of}
+use Rattle.psy_history.specs.Actions.{Next, System, Done, Overran, timing, verdict_by, verdict_of}
 use Rattle.psy_meaning.specs.Alike.{IsViewOf, started}
-use Rattle.psy_meaning.specs.Executors.{Acted, Fate, Reached, Unfinished, acted_by, agent_at, agent_code_at, by_statements, machine_at}
-use Rattle.psy_meaning.specs.Executors as fate
+use Rattle.psy_history.specs.Executors.{Acted, Fate, Reached, Unfinished, acted_by, agent_code_at, by_statements, machine_at}
+use Rattle.psy_tree.specs.Parts.{agent_at}
+use Rattle.psy_history.specs.Executors as fate
 use Rattle.psy_meaning.specs.States.{Halts}
 use Rattle.psy_meaning.specs.Timing.{Timing, budget_at, end_date}
 use Rattle.psy_history.specs.Compiled.{IsCompiled, coded}

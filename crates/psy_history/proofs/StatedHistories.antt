@@ -12,10 +12,11 @@ use Rattle.psy_code.specs.declared.look.Sent.{Sent}
 use Rattle.psy_code.specs.Views.{View, nothing_done}
 use Rattle.psy_tree.specs.declared.unit.AgentDecl.{AgentDecl}
 use Rattle.psy_tree.specs.declared.unit.Unit.{Unit as Whole}
-use Rattle.psy_meaning.specs.Actions.{Action, Next, System, Done, charge_of, next_by, next_of, timing}
+use Rattle.psy_history.specs.Actions.{Action, Next, System, Done, charge_of, next_by, next_of, timing}
 use Rattle.psy_meaning.specs.Alike.{IsStoreOf, IsViewOf, begun, first_store}
-use Rattle.psy_meaning.specs.Executors.{Acted, Reached, acted_by, agent_at, by_statements, store_of}
-use Rattle.psy_meaning.specs.History.{action_of, executed, history}
+use Rattle.psy_history.specs.Executors.{Acted, Reached, acted_by, by_statements, store_of}
+use Rattle.psy_tree.specs.Parts.{agent_at}
+use Rattle.psy_history.specs.History.{action_of, executed, history}
 use Rattle.psy_meaning.specs.Kept.{IsKept, IsSentOf, Receives}
 use Rattle.psy_meaning.specs.QueueSizes.{sendings_in}
 use Rattle.psy_meaning.specs.Rest.{rest}
@@ -24,7 +25,7 @@ use Rattle.psy_meaning.specs.States.{Final, Halts, State, Store}
 use Rattle.psy_meaning.specs.States as by
 use Rattle.psy_meaning.specs.Statements.{Piece, act}
 use Rattle.psy_meaning.specs.Timing.{Timing, budget_at}
-use Rattle.psy_meaning.specs.Visible.{seen_at, view_of}
+use Rattle.psy_history.specs.Visible.{seen_at, view_of}
 use Rattle.psy_meaning.specs.Ways.{IsWay, Meter, Sending, met_by, sending_of}
 use Rattle.psy_history.specs.Compiled.{AreInputs, stated}
 use Rattle.psy_history.proofs.Cuts.{store_back}

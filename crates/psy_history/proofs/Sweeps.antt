@@ -4,8 +4,8 @@ use Rattle.std.specs.Prelude.{nat_le}
 use Rattle.std.specs.List.{Contains}
 use Rattle.std.proofs.lemmas.Bool.{and_cases, and_left, and_right, cases_Bool, eq-eqb, eqb-false, eqb-true, le-leb, ne_eqb}
 use Rattle.std.proofs.lemmas.Bool.Decides.{nat_tests}
-use Rattle.psy_meaning.specs.Actions.{Action, Next, System, Verdict, Done, Trapped, Overran, is_done, is_done_by, is_silent, next_by, next_of}
-use Rattle.psy_meaning.specs.Visible.{swept, taken}
+use Rattle.psy_history.specs.Actions.{Action, Next, System, Verdict, Done, Trapped, Overran, is_done, is_done_by, is_silent, next_by, next_of}
+use Rattle.psy_history.specs.Visible.{swept, taken}
 use Rattle.psy_history.specs.Queues.{ends_at, given_up, sweeps}
 use Rattle.psy_history.proofs.Members.{contains_front}
 

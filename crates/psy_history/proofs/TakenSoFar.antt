@@ -13,9 +13,9 @@ use Rattle.psy_code.specs.declared.code.Code.{Code}
 use Rattle.psy_code.specs.Execution.{Next, Went, Ended, Trapped, Stuck, Run, RunState, Running, RanTo, TrappedBy, NoRun, call_of, deeds_then, go_on, next_of, run_by, run_code, run_one, state_then, view_then}
 use Rattle.psy_code.specs.Views.{Call, Past, Ready, Take, Send, Deeds, View, found_in, messages_of, taken_from, without_first}
 use Rattle.psy_tree.specs.declared.unit.StreamDecl.{StreamDecl}
-use Rattle.psy_meaning.specs.Actions.{Action, History, System, stream_of}
-use Rattle.psy_meaning.specs.History.{action_of, history}
-use Rattle.psy_meaning.specs.Visible.{seen_at, values_for, view_of}
+use Rattle.psy_history.specs.Actions.{Action, History, System, stream_of}
+use Rattle.psy_history.specs.History.{action_of, history}
+use Rattle.psy_history.specs.Visible.{seen_at, values_for, view_of}
 use Rattle.psy_history.specs.Regular.{IsLawful, WasStarted, begun_by}
 use Rattle.psy_history.proofs.Sights.{same_running}
 use Rattle.psy_history.proofs.StartedActions.{was_started}

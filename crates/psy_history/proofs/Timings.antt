@@ -12,6 +12,7 @@ use Rattle.psy_meaning.specs.Flow.{AreNexts, IsNext}
 use Rattle.psy_meaning.specs.Timing.{Timing, timing_of, budget_at, clock_at, end_date, following, point_at}
 use Rattle.psy_meaning.specs.Units.{HasHead, IsBare, IsBareAgent, IsBarePoint}
 use Rattle.psy_history.proofs.Members.{get_or_holds}
+use Rattle.psy_tree.specs.Parts.{no_clock}
 
 -- ---- parts by number
 
@@ -20,7 +21,7 @@ listed [] point to (k, less, is) = absurd (omega (arith, less))
 listed (list ∷ nexts) zero to c = refl
 listed (list ∷ nexts) (suc point) to c = listed nexts point to c
 
-pub every_tick : IsClock (record { period = 1; first = 0 })
+pub every_tick : IsClock no_clock
 every_tick = record { first = omega arith; period = omega arith }
 
 module _ (unit : Whole) (agent : AgentDecl) where

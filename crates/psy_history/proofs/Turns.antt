@@ -3,9 +3,9 @@ use Rattle.std.proofs.Common.{◌≡◌, ℕ, ◌+◌, ◌/◌, ◌<◌, ◌≤�
 use Rattle.std.specs.Prelude.{true, ◌==◌, Option, Some, None}
 use Rattle.std.specs.List.{Contains}
 use Rattle.std.proofs.lemmas.Bool.{and_parts, eqb-true}
-use Rattle.psy_meaning.specs.Actions.{Action, System}
-use Rattle.psy_meaning.specs.History.{history}
-use Rattle.psy_meaning.specs.Schedule.{Turn, is_of, pending, soonest, turn_of, units, work}
+use Rattle.psy_history.specs.Actions.{Action, System}
+use Rattle.psy_history.specs.History.{history}
+use Rattle.psy_history.specs.Schedule.{Turn, is_of, pending, soonest, turn_of, units, work}
 use Rattle.psy_history.specs.Scheduled.{turns_of}
 use Rattle.psy_history.proofs.Growth.{kept_on}
 use Rattle.psy_history.proofs.Numbers.{agent_of, one_of_number}

@@ -6,8 +6,8 @@ use Rattle.std.proofs.lemmas.List.Sums.{sum_by-cons}
 use Rattle.std.proofs.lemmas.Option.{none-some}
 use Rattle.psy_budget.specs.declared.charge.Stall.{Stall}
 use Rattle.psy_budget.specs.Charges.{cycle_of, stalled}
-use Rattle.psy_meaning.specs.Actions.{Action}
-use Rattle.psy_meaning.specs.Schedule.{Turn, cycle_of_unit, is_of, turn_of, units}
+use Rattle.psy_history.specs.Actions.{Action}
+use Rattle.psy_history.specs.Schedule.{Turn, cycle_of_unit, is_of, turn_of, units}
 
 -- ---- units
 

@@ -3,7 +3,7 @@ use Rattle.std.proofs.Common.{◌≡◌, ℕ, Bool, true, false, List, [], Optio
 use Rattle.std.specs.Prelude.{if◌then◌else◌, ℤ, pos}
 use Rattle.psy_arith.specs.declared.operators.Trap.{Trap}
 use Rattle.psy_code.specs.Views.{Deeds}
-use Rattle.psy_meaning.specs.Executors.{Carried, acted_by}
+use Rattle.psy_history.specs.Executors.{Carried, acted_by}
 use Rattle.psy_meaning.specs.States.{Store, State, Final, Ended, Trapped, Got, Value, Stops, Outcome, Falls, Returns, Halts, Eval, Act, Callee, and_then, with_value, then_do, cost_1, or_stop, or_halt}
 use Rattle.psy_meaning.specs.Statements.{in_store, back_in}
 

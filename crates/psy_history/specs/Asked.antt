@@ -4,10 +4,10 @@ use Rattle.std.specs.Prelude.{List, [], ◌∷◌, length, Option, Some, slice_g
 use Rattle.std.specs.List.{All, Contains, range_with_len}
 use Rattle.psy_base.specs.declared.edge.Edge.{Edge}
 use Rattle.psy_base.specs.Paths.{DueBy, IsPathFrom, weight_of}
-use Rattle.psy_meaning.specs.Actions.{Action, History, Next, System, next_of, timing}
+use Rattle.psy_history.specs.Actions.{Action, History, Next, System, next_of, timing}
 use Rattle.psy_meaning.specs.Graph.{IsGraph, Spot, spot_at}
-use Rattle.psy_meaning.specs.History.{history}
-use Rattle.psy_meaning.specs.Schedule.{Turn, is_pending, units}
+use Rattle.psy_history.specs.History.{history}
+use Rattle.psy_history.specs.Schedule.{Turn, is_pending, units}
 use Rattle.psy_meaning.specs.Timing.{budget_at, deadline, end_date, following}
 use Rattle.psy_history.specs.Scheduled.{IsFinished, turns_of}
 

@@ -5,9 +5,9 @@ use Rattle.psy_base.specs.declared.edge.Edge.{Edge}
 use Rattle.psy_budget.specs.declared.charge.Stall.{Stall}
 use Rattle.psy_tree.specs.declared.unit.Unit.{Unit as Whole}
 use Rattle.psy_code.specs.declared.code.Code.{Code}
-use Rattle.psy_meaning.specs.Actions.{System, from_start, timing}
+use Rattle.psy_history.specs.Actions.{System, from_start, timing}
 use Rattle.psy_meaning.specs.Alike.{ActsAlike, AllFit}
-use Rattle.psy_meaning.specs.Executors.{by_code, by_statements}
+use Rattle.psy_history.specs.Executors.{by_code, by_statements}
 use Rattle.psy_meaning.specs.Flow.{AreAllNexts}
 use Rattle.psy_meaning.specs.Graph.{Spot, IsGraph}
 use Rattle.psy_meaning.specs.Units.{IsOfText}

@@ -1,13 +1,20 @@
 -- The definitions of this crate, by subject.
+pub mod Actions
 pub mod Asked
 pub mod Compiled
+pub mod Executors
 pub mod Feeding
+pub mod History
+pub mod Likeness
+pub mod Lines
 pub mod Queues
 pub mod Regular
 pub mod Rings
-pub mod Likeness
 pub mod Runs
+pub mod Schedule
 pub mod Scheduled
 pub mod Scripts
-pub mod Ways
+pub mod Summary
+pub mod Visible
 pub mod WaySizes
+pub mod Ways

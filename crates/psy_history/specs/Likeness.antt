@@ -1,8 +1,8 @@
 -- When two histories tell the same: they differ in nothing but what an action did beyond its budget.
 use Rattle.std.specs.Prelude.{◌≡◌, ◌≢◌, nat_lt, List, [], ◌∷◌, filter, ⊤}
 use Rattle.psy_code.specs.Views.{Looked}
-use Rattle.psy_meaning.specs.Actions.{Action, Overran}
-use Rattle.psy_meaning.specs.Schedule.{work}
+use Rattle.psy_history.specs.Actions.{Action, Overran}
+use Rattle.psy_history.specs.Schedule.{work}
 
 -- The looks of an action that stand below its budget
 abbrev pub looks_within : Action → List Looked

@@ -3,9 +3,9 @@ use Rattle.std.specs.Prelude.{ℕ, zero, suc, ◌==◌, Bool, false, nat_lt, if�
 use Rattle.std.specs.List.{flat_map, range_with_len}
 use Rattle.psy_base.specs.declared.message.Message.{Message}
 use Rattle.psy_queue.specs.Order.{put_in_order}
-use Rattle.psy_meaning.specs.Actions.{Action, Next, System, Verdict, Done, Trapped, Overran, is_silent, next_of, stream_of}
-use Rattle.psy_meaning.specs.History.{history}
-use Rattle.psy_meaning.specs.Visible.{held, messages_by, taken}
+use Rattle.psy_history.specs.Actions.{Action, Next, System, Verdict, Done, Trapped, Overran, is_silent, next_of, stream_of}
+use Rattle.psy_history.specs.History.{history}
+use Rattle.psy_history.specs.Visible.{held, messages_by, taken}
 
 -- The messages that a stream holds once the first so many dates are done
 abbrev pub queue_of : System → ℕ → ℕ → List Message

@@ -10,11 +10,11 @@ use Rattle.psy_code.specs.Lasting.{IsOver}
 use Rattle.psy_code.specs.Views.{Call, Past, Ready, Take, Send, View, ServesAll, count_in, next_in, past_of}
 use Rattle.psy_tree.specs.declared.unit.Unit.{Unit as Whole}
 use Rattle.psy_tree.specs.declared.unit.VarDecl.{VarDecl}
-use Rattle.psy_meaning.specs.Actions.{Action, Next, System, Done, next_of, timing}
+use Rattle.psy_history.specs.Actions.{Action, Next, System, Done, next_of, timing}
 use Rattle.psy_meaning.specs.Alike.{started}
-use Rattle.psy_meaning.specs.Executors.{carried_by, machine_at}
+use Rattle.psy_history.specs.Executors.{carried_by, machine_at}
 use Rattle.psy_meaning.specs.Graph.{periods}
-use Rattle.psy_meaning.specs.History.{action_of, history}
+use Rattle.psy_history.specs.History.{action_of, history}
 use Rattle.psy_meaning.specs.Kept.{Receives}
 use Rattle.psy_meaning.specs.Timing.{MayStart, Timing, budget_at, deadline, end_date, following}
 use Rattle.psy_history.specs.Ways.{IsSentBy, Looks, Ways}

@@ -2,11 +2,11 @@
 use Rattle.std.specs.Prelude.{ℕ, zero, suc, ◌+◌, ◌==◌, if◌then◌else◌, List, map, replicate, Option, Some, ℤ}
 use Rattle.std.specs.List.{range_with_len}
 use Rattle.psy_code.specs.Views.{Call, Past}
-use Rattle.psy_meaning.specs.Actions.{System, publishing, variable_of}
-use Rattle.psy_meaning.specs.History.{history}
+use Rattle.psy_history.specs.Actions.{System, publishing, variable_of}
+use Rattle.psy_history.specs.History.{history}
 use Rattle.psy_meaning.specs.RingSizes.{dates_between}
-use Rattle.psy_meaning.specs.Summary.{greater}
-use Rattle.psy_meaning.specs.Visible.{past}
+use Rattle.psy_base.specs.Extremes.{greater}
+use Rattle.psy_history.specs.Visible.{past}
 
 -- The last so many values that a variable published in the first dates, newest first, filled up with its first value.
 abbrev pub ring_of : System → ℕ → ℕ → ℕ → List ℤ

@@ -6,9 +6,10 @@ use Rattle.psy_code.specs.declared.code.Code.{Code}
 use Rattle.psy_code.specs.Execution.{Run, RunState, Running, RanTo, TrappedBy, NoRun, call_of, run_code}
 use Rattle.psy_code.specs.Views.{View}
 use Rattle.psy_tree.specs.declared.unit.Unit.{Unit as Whole}
-use Rattle.psy_meaning.specs.Actions.{Next, System, timing}
+use Rattle.psy_history.specs.Actions.{Next, System, timing}
 use Rattle.psy_meaning.specs.Alike.{AllFit, IsViewOf, first_copies, started}
-use Rattle.psy_meaning.specs.Executors.{Carried, agent_at, agent_code_at, by_code, carried_by, machine_at}
+use Rattle.psy_history.specs.Executors.{Carried, agent_code_at, by_code, carried_by, machine_at}
+use Rattle.psy_tree.specs.Parts.{agent_at}
 use Rattle.psy_meaning.specs.Timing.{MayStart, budget_at, first_date, following}
 use Rattle.psy_meaning.specs.Units.{IsBare}
 use Rattle.psy_history.specs.Compiled.{AreInputs}

@@ -2,10 +2,10 @@
 use Rattle.std.specs.Prelude.{◌≡◌, ℕ, ◌<◌, ◌≤◌, false, List, Option, length}
 use Rattle.std.specs.List.{Contains}
 use Rattle.psy_base.specs.declared.edge.Edge.{Edge}
-use Rattle.psy_meaning.specs.Actions.{Action, System}
+use Rattle.psy_history.specs.Actions.{Action, System}
 use Rattle.psy_meaning.specs.Demand.{IsFeasible}
-use Rattle.psy_meaning.specs.History.{history}
-use Rattle.psy_meaning.specs.Schedule.{Turn, is_pending, turns}
+use Rattle.psy_history.specs.History.{history}
+use Rattle.psy_history.specs.Schedule.{Turn, is_pending, turns}
 use Rattle.psy_history.specs.Compiled.{AreEdgesOf}
 use Rattle.psy_history.specs.Regular.{IsLawful}
 

@@ -5,10 +5,10 @@ use Rattle.psy_base.specs.declared.edge.Edge.{Edge}
 use Rattle.psy_base.specs.Paths.{FitsFirstFree, IsGreatestWeight}
 use Rattle.psy_tree.specs.declared.unit.Unit.{Unit as Whole}
 use Rattle.psy_tree.specs.declared.unit.VarDecl.{VarDecl}
-use Rattle.psy_meaning.specs.Executors.{agent_at}
-use Rattle.psy_meaning.specs.Flow.{IsGreatest}
+use Rattle.psy_tree.specs.Parts.{agent_at, stream_at}
+use Rattle.psy_base.specs.Extremes.{IsGreatest}
 use Rattle.psy_meaning.specs.Graph.{Spot, IsGraph}
-use Rattle.psy_meaning.specs.QueueSizes.{MayLast, lasting_of, stream_at}
+use Rattle.psy_meaning.specs.QueueSizes.{MayLast, lasting_of}
 use Rattle.psy_meaning.specs.RingSizes.{IsDueIn, agent_timing, dates_between}
 use Rattle.psy_meaning.specs.Timing.{clock_at, following}
 use Rattle.psy_history.specs.Ways.{HasMost, Looks, Ways, delay_by, is_sent}

@@ -4,7 +4,7 @@ use Rattle.std.specs.List.{Contains, count_by, list_any}
 use Rattle.psy_base.specs.declared.limits.TheConstants.{SENDS}
 use Rattle.psy_code.specs.declared.look.Sent.{Sent}
 use Rattle.psy_tree.specs.declared.unit.Unit.{Unit as Whole}
-use Rattle.psy_meaning.specs.Executors.{agent_at}
+use Rattle.psy_tree.specs.Parts.{agent_at}
 use Rattle.psy_meaning.specs.Flow.{IsMostSends, MayLook}
 use Rattle.psy_meaning.specs.Kept.{IsSentOf}
 use Rattle.psy_meaning.specs.QueueSizes.{all_sendings, delay_of, longest_delay}

@@ -1,4 +1,5 @@
-//! What follows from the definition of the dated history alone: that code and statements have the same one, what its actions keep,
+//! The dated history of a program, its lines, its schedule and its summary; and what follows from these definitions alone: that code and
+//! statements have the same history, what its actions keep,
 //! and that no action misses its deadline where the processor can supply the demand; and what
 //! inputs and scripts are. Nothing runs here.
 //! It may know the definitions of psy_meaning; nothing runs.

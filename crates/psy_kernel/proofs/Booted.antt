@@ -10,7 +10,7 @@ use Rattle.psy_budget.specs.declared.charge.Stall.{Stall}
 use Rattle.psy_budget.specs.Charges.{Charged, StallsRise}
 use Rattle.psy_code.specs.declared.code.Code.{Code}
 use Rattle.psy_machine.specs.Stepping.{AgentMachine, IsNew, IsOf}
-use Rattle.psy_meaning.specs.Actions.{System}
+use Rattle.psy_history.specs.Actions.{System}
 use Rattle.psy_dates.specs.declared.plan.Plan.{Plan}
 use Rattle.psy_kernel.specs.declared.kernel.Figure.{Figure}
 use Rattle.psy_history.specs.declared.told.Order.{Order}

@@ -9,13 +9,13 @@ use Rattle.psy_dates.specs.Outboxes.{Outboxed}
 use Rattle.psy_dates.specs.Standing.{dates_done}
 use Rattle.psy_history.specs.Regular.{IsLawful}
 use Rattle.psy_machine.specs.Stepping.{AgentMachine}
-use Rattle.psy_meaning.specs.Actions.{Action}
-use Rattle.psy_meaning.specs.Executors.{agent_at}
-use Rattle.psy_meaning.specs.Flow.{IsGreatest}
-use Rattle.psy_meaning.specs.History.{history}
+use Rattle.psy_history.specs.Actions.{Action}
+use Rattle.psy_tree.specs.Parts.{agent_at}
+use Rattle.psy_base.specs.Extremes.{IsGreatest}
+use Rattle.psy_history.specs.History.{history}
 use Rattle.psy_meaning.specs.QueueSizes.{HasSendsTo}
-use Rattle.psy_meaning.specs.Schedule.{Turn, is_pending, turn_of, units}
-use Rattle.psy_meaning.specs.Summary.{reach}
+use Rattle.psy_history.specs.Schedule.{Turn, is_pending, turn_of, units}
+use Rattle.psy_history.specs.Summary.{reach}
 use Rattle.psy_ready.specs.Choice.{IsPick, pending_deadline}
 use Rattle.psy_tree.specs.declared.unit.StreamDecl.{StreamDecl}
 use Rattle.psy_tree.specs.declared.unit.VarDecl.{VarDecl}

@@ -8,10 +8,10 @@ use Rattle.psy_code.specs.declared.code.Code.{Code}
 use Rattle.psy_machine.specs.Stepping.{AgentMachine}
 use Rattle.psy_ready.specs.Choice.{pending_deadline}
 use Rattle.psy_tree.specs.declared.unit.Unit.{Unit as Whole}
-use Rattle.psy_meaning.specs.Actions.{Action, System}
-use Rattle.psy_meaning.specs.History.{history}
-use Rattle.psy_meaning.specs.Schedule.{is_pending, units}
-use Rattle.psy_meaning.specs.Summary.{reach}
+use Rattle.psy_history.specs.Actions.{Action, System}
+use Rattle.psy_history.specs.History.{history}
+use Rattle.psy_history.specs.Schedule.{is_pending, units}
+use Rattle.psy_history.specs.Summary.{reach}
 use Rattle.psy_history.specs.Compiled.{AreInputs, IsCompiled, coded}
 use Rattle.psy_history.specs.Regular.{IsLawful, first_number}
 use Rattle.psy_history.specs.Runs.{IsRun}

@@ -10,7 +10,7 @@ use Rattle.psy_code.specs.Execution.{deeds_then}
 use Rattle.psy_code.specs.Views.{Call, Deeds, Past, Ready, Take, Send, Window, messages_of, found_in, without_first}
 use Rattle.psy_dates.specs.Outboxes.{Outboxed}
 use Rattle.psy_machine.specs.Stepping.{window_after}
-use Rattle.psy_meaning.specs.Actions.{Action, System, stream_of}
+use Rattle.psy_history.specs.Actions.{Action, System, stream_of}
 use Rattle.psy_meaning.specs.Kept.{Receives}
 use Rattle.psy_queue.specs.Order.{Queued}
 use Rattle.psy_tree.specs.declared.unit.StreamDecl.{StreamDecl}
@@ -18,6 +18,7 @@ use Rattle.psy_kernel.specs.Acting.{AreDone, SeesAs}
 use Rattle.psy_kernel.specs.Seeing.{Sight, is_mine, seen_by, window_in}
 use Rattle.psy_kernel.proofs.Sets.{get_set_other}
 use Rattle.psy_kernel.proofs.StreamsLeft.{drop_one, get_set_here, left_count, left_is, lists_many, messages_are}
+use Rattle.psy_tree.specs.Parts.{no_stream}
 
 -- ---- lists
 
@@ -55,7 +56,7 @@ many_without (Some messages) = drop_one messages
 pub receives : (s : System) (agent stream : ℕ) → stream < length s.unit.streams → (stream_of s stream).receiver ≡ agent → Receives s.unit agent stream
 receives s agent stream less e =
     slice_get-map (λ (d : StreamDecl). d.receiver == agent) s.unit.streams stream
-    ∙ ap (λ o. option_map (λ (d : StreamDecl). d.receiver == agent) o) (slice_get-get_or s.unit.streams stream (record { name = []; receiver = 0; keep = 1; clock = 0 }) less)
+    ∙ ap (λ o. option_map (λ (d : StreamDecl). d.receiver == agent) o) (slice_get-get_or s.unit.streams stream no_stream less)
     ∙ ap Some (eq-eqb (stream_of s stream).receiver agent e)
 
 module _ (s : System) (r : Action) (sight : Sight) (taken : List ℕ) (sees : SeesAs s r sight taken) where

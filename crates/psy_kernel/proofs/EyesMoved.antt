@@ -4,7 +4,7 @@ use Rattle.psy_budget.specs.Charges.{Charged}
 use Rattle.psy_code.specs.declared.code.Code.{Code}
 use Rattle.psy_code.specs.Execution.{RunState, call_of, deeds_then}
 use Rattle.psy_machine.specs.Stepping.{AgentMachine, window_after}
-use Rattle.psy_meaning.specs.Actions.{Action, System}
+use Rattle.psy_history.specs.Actions.{Action, System}
 use Rattle.psy_kernel.specs.declared.eyes.Eyes.{Eyes}
 use Rattle.psy_kernel.specs.Acting.{AreDone, InAction, SeesAs}
 use Rattle.psy_kernel.specs.Looking.{KeepsRest, window_of}

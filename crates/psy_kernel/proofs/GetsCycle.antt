@@ -11,10 +11,10 @@ use Rattle.psy_dates.specs.Plans.{IsPlan, system_of}
 use Rattle.psy_history.specs.Regular.{AreRegular, IsLawful, IsRegular, Runs, WasStarted, WereStarted, first_number}
 use Rattle.psy_history.specs.Scheduled.{IsFinished, IsSupplied, turns_of}
 use Rattle.psy_history.specs.Ways.{OfText}
-use Rattle.psy_meaning.specs.Actions.{Action, History, Next, System, charge_of, next_of, timing, verdict_of}
-use Rattle.psy_meaning.specs.Executors.{agent_at}
-use Rattle.psy_meaning.specs.History.{action_of, history, with_start}
-use Rattle.psy_meaning.specs.Schedule.{Turn, is_pending}
+use Rattle.psy_history.specs.Actions.{Action, History, Next, System, charge_of, next_of, timing, verdict_of}
+use Rattle.psy_tree.specs.Parts.{agent_at, no_agent, no_clock}
+use Rattle.psy_history.specs.History.{action_of, history, with_start}
+use Rattle.psy_history.specs.Schedule.{Turn, is_pending}
 use Rattle.psy_meaning.specs.Timing.{following, point_at}
 use Rattle.psy_meaning.specs.Units.{HasHead, IsBareAgent, IsBarePoint}
 use Rattle.psy_tree.specs.declared.unit.AgentDecl.{AgentDecl}
@@ -63,7 +63,7 @@ module _ (plan : Plan) (inputs : List (List ℤ)) (stalls : ℕ → List Stall) 
   s = system_of plan inputs stalls
 
   bare_agent : (agent : ℕ) → agent < length plan.unit.agents → IsBareAgent plan.unit (agent_at plan.unit agent)
-  bare_agent agent less = is.compiled.text.bare.agents agent (record { name = []; clock = 0; budget = 0; slots = []; points = []; stmts = [] }) less
+  bare_agent agent less = is.compiled.text.bare.agents agent no_agent less
 
   -- an action that reached a point may end there
   may_end : PointsFollow s → (agent from to start : ℕ) → agent < length plan.unit.agents → Contains (following (timing s agent) from) to → start ≤ 1099511627776 → MayEnd (timing s agent) start to
@@ -73,7 +73,7 @@ module _ (plan : Plan) (inputs : List (List ℤ)) (stalls : ℕ → List Stall) 
       record {
         known = inner.1;
         clock = point.clock;
-        lawful = is.compiled.text.bare.clocks (point_at (timing s agent) to).clock (record { period = 1; first = 0 }) point.clock;
+        lawful = is.compiled.text.bare.clocks (point_at (timing s agent) to).clock no_clock point.clock;
         some = point.count.0;
         few = point.count.1;
         early = early;

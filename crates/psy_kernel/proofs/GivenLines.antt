@@ -1,10 +1,10 @@
 -- The lines given so far of the date done last, and the next one.
 use Rattle.std.proofs.Common.{◌≡◌, ℕ, suc, ◌+◌, ◌*◌, ◌<◌, ◌≤◌, List, [], ◌∷◌, ◌++◌, map, length, slice_get, Option, Some, None, sym, ap, subst, ◌∙◌, arith, length-append}
 use Rattle.std.proofs.lemmas.List.{length-map, map-append}
-use Rattle.psy_meaning.specs.Actions.{System}
-use Rattle.psy_meaning.specs.History.{history}
-use Rattle.psy_meaning.specs.Lines.{Event, shows}
-use Rattle.psy_meaning.specs.Schedule.{Turn}
+use Rattle.psy_history.specs.Actions.{System}
+use Rattle.psy_history.specs.History.{history}
+use Rattle.psy_history.specs.Lines.{Event, shows}
+use Rattle.psy_history.specs.Schedule.{Turn}
 use Rattle.psy_history.specs.Regular.{IsLawful}
 use Rattle.psy_history.specs.Scheduled.{turns_of}
 use Rattle.psy_dates.specs.Standing.{SharedStands, dates_done}

@@ -6,11 +6,11 @@ use Rattle.std.proofs.lemmas.List.FromFn.{map-range_with_len_more}
 use Rattle.std.proofs.lemmas.Option.{slice_get-get_or, slice_get_within}
 use Rattle.std.proofs.Math.Numerals.{add-one}
 use Rattle.psy_queue.specs.Order.{Queued}
-use Rattle.psy_meaning.specs.Actions.{System}
-use Rattle.psy_meaning.specs.History.{history}
-use Rattle.psy_meaning.specs.Schedule.{Turn}
-use Rattle.psy_meaning.specs.Summary.{most_of}
-use Rattle.psy_meaning.specs.Visible.{held}
+use Rattle.psy_history.specs.Actions.{System}
+use Rattle.psy_history.specs.History.{history}
+use Rattle.psy_history.specs.Schedule.{Turn}
+use Rattle.psy_base.specs.Extremes.{most_of}
+use Rattle.psy_history.specs.Visible.{held}
 use Rattle.psy_history.specs.Queues.{queue_of}
 use Rattle.psy_dates.specs.declared.shared.Shared.{Shared}
 use Rattle.psy_dates.specs.Standing.{SharedStands}

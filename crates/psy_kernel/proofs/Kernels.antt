@@ -9,10 +9,10 @@ use Rattle.psy_dates.specs.Plans.{IsPlan}
 use Rattle.psy_history.specs.Compiled.{AreInputs}
 use Rattle.psy_dates.specs.Standing.{dates_done}
 use Rattle.psy_history.specs.Regular.{IsLawful}
-use Rattle.psy_meaning.specs.Actions.{Action, History, System}
-use Rattle.psy_meaning.specs.History.{history}
-use Rattle.psy_meaning.specs.Schedule.{Turn, is_pending, pending, soonest, turn_of}
-use Rattle.psy_meaning.specs.Summary.{reach}
+use Rattle.psy_history.specs.Actions.{Action, History, System}
+use Rattle.psy_history.specs.History.{history}
+use Rattle.psy_history.specs.Schedule.{Turn, is_pending, pending, soonest, turn_of}
+use Rattle.psy_history.specs.Summary.{reach}
 use Rattle.psy_ready.specs.Choice.{ListsEach}
 use Rattle.psy_kernel.specs.Cycles.{AreOver, GetsCycle, IsCycleOf, LooksBack, order_by, run_of, run_turns}
 use Rattle.psy_kernel.specs.declared.kernel.Kernel.TheInside.{Inside}

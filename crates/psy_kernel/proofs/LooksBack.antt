@@ -23,14 +23,15 @@ use Rattle.psy_history.specs.Runs.{IsRun}
 use Rattle.psy_history.specs.Scheduled.{IsSupplied, turns_of}
 use Rattle.psy_history.specs.Ways.{Looks, OfText, Ways}
 use Rattle.psy_history.specs.WaySizes as by_ways
-use Rattle.psy_meaning.specs.Actions.{Action, System, publishing, variable_of}
-use Rattle.psy_meaning.specs.Executors.{agent_at, agent_code_at}
-use Rattle.psy_meaning.specs.Flow.{IsGreatest}
-use Rattle.psy_meaning.specs.History.{history}
+use Rattle.psy_history.specs.Actions.{Action, System, publishing, variable_of}
+use Rattle.psy_history.specs.Executors.{agent_code_at}
+use Rattle.psy_tree.specs.Parts.{agent_at, no_clock, no_variable}
+use Rattle.psy_base.specs.Extremes.{IsGreatest}
+use Rattle.psy_history.specs.History.{history}
 use Rattle.psy_meaning.specs.QueueSizes.{HasSendsTo, IsQueueSize}
 use Rattle.psy_meaning.specs.RingSizes.{IsRingSize}
-use Rattle.psy_meaning.specs.Schedule.{Turn, turn_of, units}
-use Rattle.psy_meaning.specs.Summary.{reach}
+use Rattle.psy_history.specs.Schedule.{Turn, turn_of, units}
+use Rattle.psy_history.specs.Summary.{reach}
 use Rattle.psy_meaning.specs.Units.{IsBare, IsBareVariable}
 use Rattle.psy_tree.specs.declared.unit.StreamDecl.{StreamDecl}
 use Rattle.psy_tree.specs.declared.unit.Unit.{Unit as Whole}
@@ -88,7 +89,7 @@ pub record AreLooksLaws : Type 0 where
 pub clock_lawful : (plan : Plan) → IsPlan plan → (s : System) → s.unit ≡ plan.unit → (variable : ℕ) → variable < length s.unit.variables → IsClock (publishing s variable)
 clock_lawful plan is s e variable less =
     let bare : IsBare s.unit = subst IsBare (sym e) is.compiled.text.bare in
-    bare.clocks (variable_of s variable).clock (record { period = 1; first = 0 }) (IsBareVariable.clock (bare.variables variable (record { name = []; owner = None; clock = 0; init = pos 0; depth = 0 }) less))
+    bare.clocks (variable_of s variable).clock no_clock (IsBareVariable.clock (bare.variables variable no_variable less))
 
 module _ (plan : Plan) (inputs : List (List ℤ)) (stalls : ℕ → List Stall) (is : IsPlan plan) (run : IsRun (system_of plan inputs stalls) (OfText plan.unit) plan.code) (script : Script) (date cycle : ℕ) (low : date * plan.unit.quantum ≤ cycle) (high : cycle < (date + 1) * plan.unit.quantum) where
   abbrev s : System

@@ -5,13 +5,11 @@ use Rattle.psy_tree.specs.declared.unit.AgentDecl.{AgentDecl}
 use Rattle.psy_tree.specs.declared.unit.StreamDecl.{StreamDecl}
 use Rattle.psy_tree.specs.declared.unit.Unit.{Unit as Whole}
 use Rattle.psy_tree.specs.declared.unit.VarDecl.{VarDecl}
-use Rattle.psy_meaning.specs.Executors.{agent_at}
-use Rattle.psy_meaning.specs.QueueSizes.{stream_at}
-use Rattle.psy_kernel.specs.Telling.{variable_at}
+use Rattle.psy_tree.specs.Parts.{agent_at, no_agent, stream_at, variable_at}
 
 module _ (unit : Whole) (number : ℕ) where
   pub agent_found : (agents : List AgentDecl) (a : AgentDecl) → agents ≡ unit.agents → number < length agents → get_or agents number a ≡ agent_at unit number
-  agent_found agents a same within = get_or_default agents number a (record { name = []; clock = 0; budget = 0; slots = []; points = []; stmts = [] }) within ∙ ap (λ all. agent_at (record unit { agents = all }) number) same
+  agent_found agents a same within = get_or_default agents number a no_agent within ∙ ap (λ all. agent_at (record unit { agents = all }) number) same
 
   pub variable_found : (variables : List VarDecl) (at : ℕ) (v : VarDecl) → variables ≡ unit.variables → at ≡ number → at < length variables → get_or variables at v ≡ variable_at unit number
   variable_found variables at v same is within = get_or_default variables at v _ within ∙ ap (λ all. variable_at (record unit { variables = all }) at) same ∙ ap (variable_at unit) is

@@ -14,19 +14,21 @@ use Rattle.psy_dates.specs.declared.seat.Seat.{Seat}
 use Rattle.psy_dates.specs.declared.seat.Phase.TheVariants as phase
 use Rattle.psy_dates.specs.Standing.{KeepsCopy, SeatOf, TellsEnd, phase_by, phase_of, trap_of}
 use Rattle.psy_machine.specs.Stepping.{AgentMachine, IsOf}
-use Rattle.psy_meaning.specs.Actions.{Action, System, Verdict, Done, Trapped, Overran, is_done, is_silent, timing, variable_of}
-use Rattle.psy_meaning.specs.Executors.{agent_code_at, copy_in, machine_at}
-use Rattle.psy_meaning.specs.Schedule.{Turn, finish, is_of, is_pending, units, work}
+use Rattle.psy_history.specs.Actions.{Action, System, Verdict, Done, Trapped, Overran, is_done, is_silent, timing, variable_of}
+use Rattle.psy_history.specs.Executors.{agent_code_at, copy_in, machine_at}
+use Rattle.psy_history.specs.Schedule.{Turn, finish, is_of, is_pending, units, work}
 use Rattle.psy_meaning.specs.States.{value_or_zero}
 use Rattle.psy_meaning.specs.Timing.{end_date}
 use Rattle.psy_tree.specs.declared.unit.VarDecl.{VarDecl}
-use Rattle.psy_meaning.specs.Summary.{due_by, lesser, slack, slack_of}
+use Rattle.psy_history.specs.Summary.{due_by, slack, slack_of}
+use Rattle.psy_base.specs.Extremes.{lesser}
 use Rattle.psy_kernel.specs.Acting.{AfterCycle, InAction}
 use Rattle.psy_kernel.specs.Cycles.{GetsCycle, OneStands, figured}
 use Rattle.psy_kernel.specs.declared.kernel.Figure.{Figure}
 use Rattle.psy_kernel.specs.declared.kernel.advance.Gone.TheVariants as gone
 use Rattle.psy_kernel.specs.Standing.{IsAtEnd, IsRunning, MachineIn, charge_after, settled}
 use Rattle.psy_kernel.proofs.OtherAgents.{AreSameFor, is_own, missed, other_number, settled_same, slack_settled_same}
+use Rattle.psy_tree.specs.Parts.{no_variable}
 
 -- ---- settled actions
 
@@ -58,8 +60,8 @@ filter_length p (x ∷ xs) = by (p x) (filter_length p xs)
 -- A variable that has an owner is one of the program's
 pub variable_known : (s : System) (variable owner : ℕ) → (variable_of s variable).owner ≡ Some owner → slice_get s.unit.variables variable ≡ Some (variable_of s variable)
 variable_known s variable owner e = elim (cases_lt variable (length s.unit.variables)) [
-  | inl less ↦ slice_get-get_or s.unit.variables variable (record { name = []; owner = None; clock = 0; init = pos 0; depth = 0 }) less
-  | inr past ↦ absurd (let none : None ≡ Some owner = sym (ap (λ (v : VarDecl). v.owner) (get_or_past s.unit.variables variable (record { name = []; owner = None; clock = 0; init = pos 0; depth = 0 }) past)) ∙ e in cc)
+  | inl less ↦ slice_get-get_or s.unit.variables variable no_variable less
+  | inr past ↦ absurd (let none : None ≡ Some owner = sym (ap (λ (v : VarDecl). v.owner) (get_or_past s.unit.variables variable no_variable past)) ∙ e in cc)
 ]
 
 -- ---- the action that gets the cycle

@@ -9,8 +9,8 @@ use Rattle.psy_code.specs.declared.look.Sent.{Sent}
 use Rattle.psy_dates.specs.declared.seat.Phase.TheVariants as phase
 use Rattle.psy_dates.specs.Standing.{phase_by, phase_of}
 use Rattle.psy_machine.specs.Stepping.{AgentMachine}
-use Rattle.psy_meaning.specs.Actions.{Action, System, is_done}
-use Rattle.psy_meaning.specs.Schedule.{Turn, units, work}
+use Rattle.psy_history.specs.Actions.{Action, System, is_done}
+use Rattle.psy_history.specs.Schedule.{Turn, units, work}
 use Rattle.psy_kernel.specs.Acting.{AfterCycle, HasDoneBy}
 use Rattle.psy_kernel.specs.Cycles.{BoxStands, GetsCycle}
 use Rattle.psy_kernel.specs.declared.kernel.advance.Gone.TheVariants as gone

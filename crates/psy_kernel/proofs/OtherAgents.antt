@@ -12,10 +12,11 @@ use Rattle.psy_history.specs.Regular.{begun_by}
 use Rattle.psy_dates.specs.declared.seat.Seat.{Seat}
 use Rattle.psy_dates.specs.Standing.{KeepsCopy, KeepsSends, KeepsTakes, SeatStands, phase_by, phase_of}
 use Rattle.psy_machine.specs.Stepping.{AgentMachine}
-use Rattle.psy_meaning.specs.Actions.{Action, System, is_done, is_silent, stream_of}
-use Rattle.psy_meaning.specs.Executors.{agent_code_at}
-use Rattle.psy_meaning.specs.Schedule.{Turn, finish, is_of, is_pending, units, work}
-use Rattle.psy_meaning.specs.Summary.{due_by, least_of, slack, slack_of}
+use Rattle.psy_history.specs.Actions.{Action, System, is_done, is_silent, stream_of}
+use Rattle.psy_history.specs.Executors.{agent_code_at}
+use Rattle.psy_history.specs.Schedule.{Turn, finish, is_of, is_pending, units, work}
+use Rattle.psy_history.specs.Summary.{due_by, slack, slack_of}
+use Rattle.psy_base.specs.Extremes.{least_of}
 use Rattle.psy_kernel.specs.declared.kernel.Figure.{Figure}
 use Rattle.psy_kernel.specs.Standing.{AgentStands, ChargeStands, DeedsStand, HasDone, MachineIn, MachineStands, charge_after, deadline_of, settled}
 

@@ -14,12 +14,12 @@ use Rattle.psy_dates.specs.Outboxes.{Outboxed}
 use Rattle.psy_dates.specs.Standing.{KeepsCopy, KeepsSends, KeepsTakes, OutboxStands, SeatStands, SharedStands, dates_done}
 use Rattle.psy_history.specs.Regular.{AreRegular, IsLawful, IsRegular}
 use Rattle.psy_machine.specs.Stepping.{AgentMachine}
-use Rattle.psy_meaning.specs.Actions.{Action, System, stream_of, variable_of}
-use Rattle.psy_meaning.specs.Executors.{agent_at}
-use Rattle.psy_meaning.specs.Flow.{IsGreatest}
-use Rattle.psy_meaning.specs.History.{history}
+use Rattle.psy_history.specs.Actions.{Action, System, stream_of, variable_of}
+use Rattle.psy_tree.specs.Parts.{agent_at, no_stream}
+use Rattle.psy_base.specs.Extremes.{IsGreatest}
+use Rattle.psy_history.specs.History.{history}
 use Rattle.psy_meaning.specs.QueueSizes.{HasSendsTo}
-use Rattle.psy_meaning.specs.Schedule.{Turn, pending, soonest}
+use Rattle.psy_history.specs.Schedule.{Turn, pending, soonest}
 use Rattle.psy_ready.specs.Choice.{IsPick, pending_deadline}
 use Rattle.psy_tree.specs.declared.unit.StreamDecl.{StreamDecl}
 use Rattle.psy_tree.specs.declared.unit.VarDecl.{VarDecl}
@@ -149,7 +149,7 @@ module _ (s : System) (code : Code) (until : ℕ) (turns : List (Option Turn)) (
       same_taken : (stream n : ℕ) → slice_get taken stream ≡ Some n → ((stream_of s stream).receiver ≡ agent → ⊥) → slice_get shared.taken.items stream ≡ Some n
       same_taken stream n at differs =
           let known : stream < length s.unit.streams = omega (arith, slice_get_within taken stream n at, count, p.shares.taking) in
-          sym (untaken stream (stream_of s stream) (slice_get-get_or s.unit.streams stream (record { name = []; receiver = 0; keep = 1; clock = 0 }) known) differs) ∙ at
+          sym (untaken stream (stream_of s stream) (slice_get-get_or s.unit.streams stream no_stream known) differs) ∙ at
 
       taken_given : (stream n : ℕ) → slice_get taken stream ≡ Some n → KeepsTakes (dates - 1) now stream (history s dates (stream_of s stream).receiver) n
       taken_given stream n at = elim (cases_eq (stream_of s stream).receiver agent) [

@@ -13,8 +13,8 @@ use Rattle.psy_code.specs.Views.{View, Call, PermitsAll, Window}
 use Rattle.psy_machine.specs.declared.machine.Step.{Step}
 use Rattle.psy_machine.specs.declared.machine.Step.TheVariants as step
 use Rattle.psy_machine.specs.Stepping.{AgentMachine, Answers, machine_after, next_for, stepped, window_after}
-use Rattle.psy_meaning.specs.Actions.{Action, System}
-use Rattle.psy_meaning.specs.Executors.{Acted}
+use Rattle.psy_history.specs.Actions.{Action, System}
+use Rattle.psy_history.specs.Executors.{Acted}
 use Rattle.psy_history.specs.Regular.{AnswerAlike}
 use Rattle.psy_kernel.specs.declared.kernel.advance.Gone.{Gone}
 use Rattle.psy_kernel.specs.declared.kernel.advance.Gone.TheVariants as gone

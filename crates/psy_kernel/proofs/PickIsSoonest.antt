@@ -5,8 +5,8 @@ use Rattle.std.specs.List.{All}
 use Rattle.std.proofs.lemmas.Bool.{cond-true, cond-false, cond_both, le-leb, lt-leb}
 use Rattle.std.proofs.lemmas.List.Elements.{All-head, All-tail}
 use Rattle.psy_ready.specs.Choice.{IsPick, NoLater, pending_deadline}
-use Rattle.psy_meaning.specs.Actions.{Action, History}
-use Rattle.psy_meaning.specs.Schedule.{Turn, is_pending, pending, sooner, soonest}
+use Rattle.psy_history.specs.Actions.{Action, History}
+use Rattle.psy_history.specs.Schedule.{Turn, is_pending, pending, sooner, soonest}
 use Rattle.psy_kernel.specs.Cycles.{AreOver}
 use Rattle.psy_kernel.specs.Standing.{IsChosen, deadline_of}
 

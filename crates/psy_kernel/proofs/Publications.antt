@@ -2,9 +2,9 @@
 use Rattle.std.proofs.Common.{◌≡◌, ℕ, ◌≤◌, Bool, true, false, if◌then◌else◌, List, [], ◌∷◌, length, Option, Some, None, ℤ, refl, sym, ap, ◌∙◌, arith}
 use Rattle.std.specs.Prelude.{IsSome}
 use Rattle.std.proofs.lemmas.Bool.{false_from_ne_true}
-use Rattle.psy_meaning.specs.Actions.{History, System, publishing, variable_of}
-use Rattle.psy_meaning.specs.Lines.{Event, Publish, is_date, publications, publications_by}
-use Rattle.psy_meaning.specs.Visible.{published, published_by}
+use Rattle.psy_history.specs.Actions.{History, System, publishing, variable_of}
+use Rattle.psy_history.specs.Lines.{Event, Publish, is_date, publications, publications_by}
+use Rattle.psy_history.specs.Visible.{published, published_by}
 use Rattle.psy_dates.specs.Standing.{committed_at, committed_by}
 use Rattle.psy_kernel.specs.Telling.{IsToldBy, TellsValue}
 

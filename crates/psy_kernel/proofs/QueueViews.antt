@@ -14,8 +14,8 @@ use Rattle.psy_dates.specs.Outboxes.{Outboxed}
 use Rattle.psy_history.specs.Queues.{queue_of}
 use Rattle.psy_history.specs.Regular.{MayAsk, begun_by}
 use Rattle.psy_history.specs.Ways.{OfText}
-use Rattle.psy_meaning.specs.Actions.{Action, System, stream_of}
-use Rattle.psy_meaning.specs.Executors.{agent_code_at}
+use Rattle.psy_history.specs.Actions.{Action, System, stream_of}
+use Rattle.psy_history.specs.Executors.{agent_code_at}
 use Rattle.psy_meaning.specs.Kept.{Receives}
 use Rattle.psy_queue.specs.Order.{Queued}
 use Rattle.psy_tree.specs.declared.unit.StreamDecl.{StreamDecl}
@@ -24,6 +24,7 @@ use Rattle.psy_kernel.specs.Seeing.{Sight, left_in, seen_by, sight_in, view_in, 
 use Rattle.psy_kernel.specs.Standing.{HasDone, charge_after}
 use Rattle.psy_kernel.proofs.RunsOn.{same_state}
 use Rattle.psy_kernel.proofs.StreamsLeft.{left_is, messages_are}
+use Rattle.psy_tree.specs.Parts.{no_stream}
 
 -- ---- lists
 
@@ -82,7 +83,7 @@ module _ (s : System) (code : Code) (r : Action) (had date : ℕ) (rings : List 
       let queued : slice_get queues stream ≡ Some queue = slice_get-get_or queues stream (record { size = 0; messages = [] }) (omega (arith, known, stand.0)) in
       let seen : List Message = r.seen stream in
       let same : did.state ≡ state = same_state did.state state (sym did.running ∙ running) in
-      let own : (stream_of s stream).receiver ≡ r.agent = ap (λ (decl : StreamDecl). decl.receiver) (get_or_from_slice_get s.unit.streams stream d.decl (record { name = []; receiver = 0; keep = 1; clock = 0 }) d.at) ∙ d.own in
+      let own : (stream_of s stream).receiver ≡ r.agent = ap (λ (decl : StreamDecl). decl.receiver) (get_or_from_slice_get s.unit.streams stream d.decl no_stream d.at) ∙ d.own in
       let n_is : n ≡ length (take (count_by (λ t. t == stream) state.deeds.takes) seen) = did.took stream n at own ∙ ap (λ (t : RunState). length (take (count_by (λ t. t == stream) t.deeds.takes) seen)) same in
       let front : take (seen_by queue.messages r.start) queue.messages ≡ seen = ap (λ k. take k queue.messages) (seen_is stream queue its queued) ∙ ap (take (length seen)) (stand.1 stream queue queued).messages ∙ (look stream d.decl d.at d.own).1 in
       let left : left_in r.start n queue ≡ map (λ (m : Message). m.value) (drop (count_by (λ t. t == stream) state.deeds.takes) seen) =

@@ -10,8 +10,8 @@ use Rattle.psy_dates.specs.Plans.{IsPlan}
 use Rattle.psy_history.specs.Regular.{MayAsk}
 use Rattle.psy_history.specs.Ways.{OfText}
 use Rattle.psy_history.specs.Rings.{age_at, ring_of}
-use Rattle.psy_meaning.specs.Actions.{Action, System, variable_of}
-use Rattle.psy_meaning.specs.Executors.{agent_at}
+use Rattle.psy_history.specs.Actions.{Action, System, variable_of}
+use Rattle.psy_tree.specs.Parts.{agent_at, no_variable}
 use Rattle.psy_meaning.specs.Flow.{MayLook}
 use Rattle.psy_meaning.specs.RingSizes.{IsRingSize}
 use Rattle.psy_tree.specs.declared.unit.Unit.{Unit as Whole}
@@ -65,7 +65,7 @@ module _ (s : System) (date : ℕ) (r : Action) (rings : List (List ℤ)) (stand
       let ring : List ℤ = get_or rings variable [] in
       let its = stand.1 variable ring (slice_get-get_or rings variable [] (omega (arith, there, stand.0))) in
       let near = ages variable back (length ring) decl asks.1 asks.3 asks.2 its.size in
-      let deep : back < (variable_of s variable).depth = omega (arith, asks.2, ap (λ (v : VarDecl). v.depth) (get_or_from_slice_get s.unit.variables variable decl (record { name = []; owner = None; clock = 0; init = pos 0; depth = 0 }) asks.1)) in
+      let deep : back < (variable_of s variable).depth = omega (arith, asks.2, ap (λ (v : VarDecl). v.depth) (get_or_from_slice_get s.unit.variables variable decl no_variable asks.1)) in
       found_at rings s.unit.variables s.unit.clocks r.start date variable back there deep
       ∙ ap (λ items. slice_get items (age_at s variable back r.start date)) its.values
       ∙ values variable back (length ring) decl asks.1 asks.2 near

@@ -8,8 +8,8 @@ use Rattle.psy_code.specs.Execution.{RunState, Run, Running, RanTo, TrappedBy, N
 use Rattle.psy_code.specs.Lasting.{IsOver}
 use Rattle.psy_code.specs.Views.{Call, Past, Ready, Take, Send, View, Window, PermitsAll, ServesAll, first_of, found_in}
 use Rattle.psy_machine.specs.Stepping.{window_after}
-use Rattle.psy_meaning.specs.Actions.{Action, System}
-use Rattle.psy_meaning.specs.Executors.{agent_code_at}
+use Rattle.psy_history.specs.Actions.{Action, System}
+use Rattle.psy_history.specs.Executors.{agent_code_at}
 use Rattle.psy_history.specs.Regular.{AnswerAlike, Goes, MayAsk, begun_by}
 use Rattle.psy_history.specs.Ways.{OfText}
 use Rattle.psy_kernel.specs.Acting.{ShowsAs, look_of}

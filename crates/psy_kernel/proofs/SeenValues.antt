@@ -15,6 +15,7 @@ use Rattle.psy_tree.specs.declared.unit.StreamDecl.{StreamDecl}
 use Rattle.psy_tree.specs.declared.unit.VarDecl.{VarDecl}
 use Rattle.psy_meaning.specs.RingSizes.{dates_between}
 use Rattle.psy_kernel.specs.Seeing.{CanSee, Sight, clock_in, values_of, view_in}
+use Rattle.psy_tree.specs.Parts.{no_variable}
 
 pub none_some : (X : Type 0) → IsSome {T = X} None → ⊥
 none_some X some = cc
@@ -44,7 +45,7 @@ module _ {X : Type 0} where
 
 module _ (rings : List (List ℤ)) (variables : List VarDecl) (clocks : List Clock) (start date : ℕ) where
   abbrev decl : ℕ → VarDecl
-  decl variable = get_or variables variable (record { name = []; owner = None; clock = 0; init = pos 0; depth = 0 })
+  decl variable = get_or variables variable no_variable
 
   abbrev values : ℕ → List ℤ
   values variable = values_of rings clocks start date (decl variable) variable

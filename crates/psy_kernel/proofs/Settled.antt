@@ -3,10 +3,10 @@ use Rattle.std.proofs.Common.{◌≡◌, ℕ, suc, ◌+◌, ◌*◌, ◌<◌, �
 use Rattle.std.specs.List.{Contains}
 use Rattle.std.proofs.lemmas.Bool.{eqb-true, leb-true}
 use Rattle.std.proofs.lemmas.List.Elements.{All-cons, All-head, All-tail, All-weaker, All-contains_itself}
-use Rattle.psy_meaning.specs.Actions.{Action, History, Next, System, next_of}
-use Rattle.psy_meaning.specs.History.{action_of, history, with_start}
-use Rattle.psy_meaning.specs.Schedule.{Turn, is_pending}
-use Rattle.psy_meaning.specs.Summary.{due_by}
+use Rattle.psy_history.specs.Actions.{Action, History, Next, System, next_of}
+use Rattle.psy_history.specs.History.{action_of, history, with_start}
+use Rattle.psy_history.specs.Schedule.{Turn, is_pending}
+use Rattle.psy_history.specs.Summary.{due_by}
 use Rattle.psy_history.specs.Regular.{IsLawful, IsRegular}
 use Rattle.psy_history.specs.Scheduled.{IsFinished, turns_of}
 use Rattle.psy_kernel.specs.Standing.{settled}

@@ -16,11 +16,12 @@ use Rattle.psy_machine.specs.Stepping.{AgentMachine, IsNew}
 use Rattle.psy_tree.specs.declared.unit.AgentDecl.{AgentDecl}
 use Rattle.psy_tree.specs.declared.unit.Point.{Point}
 use Rattle.psy_tree.specs.declared.unit.Unit.{Unit as Whole}
-use Rattle.psy_meaning.specs.Actions.{Action, History, Next, System, Verdict, Done, Trapped, Overran, first_action, is_done, is_silent, next_by, next_of}
-use Rattle.psy_meaning.specs.Executors.{agent_at, agent_code_at, by_code, machine_at}
-use Rattle.psy_meaning.specs.History.{action_of, history, with_start}
-use Rattle.psy_meaning.specs.Schedule.{Turn, is_pending, units, work}
-use Rattle.psy_meaning.specs.Summary.{due_by, slack}
+use Rattle.psy_history.specs.Actions.{Action, History, Next, System, Verdict, Done, Trapped, Overran, first_action, is_done, is_silent, next_by, next_of}
+use Rattle.psy_history.specs.Executors.{agent_code_at, by_code, machine_at}
+use Rattle.psy_tree.specs.Parts.{agent_at}
+use Rattle.psy_history.specs.History.{action_of, history, with_start}
+use Rattle.psy_history.specs.Schedule.{Turn, is_pending, units, work}
+use Rattle.psy_history.specs.Summary.{due_by, slack}
 use Rattle.psy_history.specs.Compiled.{coded}
 use Rattle.psy_history.specs.Regular.{IsLawful, IsRegular, WereStarted, begun_by, first_number, number_of}
 use Rattle.psy_dates.specs.declared.seat.Phase.TheVariants as phase

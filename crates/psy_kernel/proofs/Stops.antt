@@ -4,10 +4,11 @@ use Rattle.std.proofs.lemmas.Bool.{eq-eqb, eqb-true, le-leb}
 use Rattle.std.proofs.lemmas.List.{append-nil}
 use Rattle.std.proofs.lemmas.List.Elements.{All-head}
 use Rattle.psy_arith.specs.declared.operators.Trap.{Trap}
-use Rattle.psy_meaning.specs.Actions.{Action, Next, System, Verdict, Done, Trapped, Overran, is_done, is_silent, next_by}
-use Rattle.psy_meaning.specs.Executors.{Carried, agent_at}
-use Rattle.psy_meaning.specs.Lines.{Stop, stops_by, stops_of}
-use Rattle.psy_meaning.specs.Schedule.{Turn, is_pending}
+use Rattle.psy_history.specs.Actions.{Action, Next, System, Verdict, Done, Trapped, Overran, is_done, is_silent, next_by}
+use Rattle.psy_history.specs.Executors.{Carried}
+use Rattle.psy_tree.specs.Parts.{agent_at}
+use Rattle.psy_history.specs.Lines.{Stop, stops_by, stops_of}
+use Rattle.psy_history.specs.Schedule.{Turn, is_pending}
 use Rattle.psy_history.specs.Regular.{AreRegular, IsRegular, WereStarted}
 use Rattle.psy_dates.specs.declared.seat.Phase.TheVariants as phase
 use Rattle.psy_dates.specs.declared.seat.Seat.{Seat}

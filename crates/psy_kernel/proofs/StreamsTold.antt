@@ -6,12 +6,12 @@ use Rattle.psy_base.specs.declared.limits.TheConstants.{QUEUE}
 use Rattle.psy_base.specs.declared.message.Message.{Message}
 use Rattle.psy_log.specs.Forms.{message_line}
 use Rattle.psy_queue.specs.Order.{Queued}
-use Rattle.psy_meaning.specs.Actions.{System, stream_of}
-use Rattle.psy_meaning.specs.History.{history}
-use Rattle.psy_meaning.specs.Lines.{Event, Show}
+use Rattle.psy_history.specs.Actions.{System, stream_of}
+use Rattle.psy_history.specs.History.{history}
+use Rattle.psy_history.specs.Lines.{Event, Show}
 use Rattle.psy_meaning.specs.QueueSizes.{IsQueueSize}
-use Rattle.psy_meaning.specs.Schedule.{Turn}
-use Rattle.psy_meaning.specs.Visible.{messages}
+use Rattle.psy_history.specs.Schedule.{Turn}
+use Rattle.psy_history.specs.Visible.{messages}
 use Rattle.psy_history.specs.Queues.{queue_of}
 use Rattle.psy_dates.specs.declared.shared.Shared.{Shared}
 use Rattle.psy_dates.specs.Standing.{SharedStands}

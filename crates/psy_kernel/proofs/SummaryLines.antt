@@ -6,11 +6,11 @@ use Rattle.std.proofs.Math.Numerals.{add-one}
 use Rattle.std.proofs.lemmas.List.FromFn.{fill_by_all, length-map-range_with_len, get_or-map-range_with_len}
 use Rattle.std.proofs.lemmas.Option.{slice_get-get_or}
 use Rattle.psy_log.specs.Forms.{agent_line, end_line, stream_line, variable_line}
-use Rattle.psy_meaning.specs.Actions.{Action, System, stream_of, variable_of}
-use Rattle.psy_meaning.specs.Executors.{agent_at}
-use Rattle.psy_meaning.specs.History.{history}
-use Rattle.psy_meaning.specs.Schedule.{Turn}
-use Rattle.psy_meaning.specs.Summary.{due_by, most_held, reach, slack}
+use Rattle.psy_history.specs.Actions.{Action, System, stream_of, variable_of}
+use Rattle.psy_tree.specs.Parts.{agent_at}
+use Rattle.psy_history.specs.History.{history}
+use Rattle.psy_history.specs.Schedule.{Turn}
+use Rattle.psy_history.specs.Summary.{due_by, most_held, reach, slack}
 use Rattle.psy_history.specs.Regular.{IsLawful}
 use Rattle.psy_history.specs.Scheduled.{IsFinished, IsSupplied, turns_of}
 use Rattle.psy_dates.specs.Standing.{dates_done}

@@ -5,8 +5,8 @@ use Rattle.std.proofs.Math.Numerals.{add-one}
 use Rattle.std.proofs.lemmas.Bool.{cases_lt, lt-ltb, le-ltb}
 use Rattle.std.proofs.lemmas.List.{append-nil, drop_all, length-take, take-append-drop, take_more}
 use Rattle.std.proofs.lemmas.Option.{get_or_from_slice_get, slice_get_within}
-use Rattle.psy_meaning.specs.Actions.{System}
-use Rattle.psy_meaning.specs.Lines.{Event, events}
+use Rattle.psy_history.specs.Actions.{System}
+use Rattle.psy_history.specs.Lines.{Event, events}
 use Rattle.psy_kernel.specs.Standing.{shows_first, told_from}
 use Rattle.psy_kernel.specs.Telling.{places_of, told_by}
 use Rattle.psy_kernel.proofs.ToldPlaces.{agents, all_stops, flat_few, flat_more, none_first, range_all, shown, shows_to, stops, stops_to, streams, told_more, values, values_to, variables}

@@ -12,9 +12,9 @@ use Rattle.psy_code.specs.Execution.{Machine, RunState, Run, Running, RanTo, Tra
 use Rattle.psy_code.specs.Lasting.{IsOver}
 use Rattle.psy_code.specs.Views.{Deeds}
 use Rattle.psy_machine.specs.Stepping.{AgentMachine}
-use Rattle.psy_meaning.specs.Actions.{Action, System, Overran, timing, verdict_by}
-use Rattle.psy_meaning.specs.Executors.{Acted, Carried, acted_as, agent_code_at, carried_by, machine_at}
-use Rattle.psy_meaning.specs.Schedule.{work}
+use Rattle.psy_history.specs.Actions.{Action, System, Overran, timing, verdict_by}
+use Rattle.psy_history.specs.Executors.{Acted, Carried, acted_as, agent_code_at, carried_by, machine_at}
+use Rattle.psy_history.specs.Schedule.{work}
 use Rattle.psy_meaning.specs.Timing.{end_date}
 use Rattle.psy_tree.specs.declared.unit.VarDecl.{VarDecl}
 use Rattle.psy_history.specs.Regular.{Runs, begun_by}

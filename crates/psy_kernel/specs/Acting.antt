@@ -11,10 +11,10 @@ use Rattle.psy_code.specs.Views.{Call, Deeds, Past, Send, Window, messages_of, p
 use Rattle.psy_machine.specs.Stepping.{AgentMachine}
 use Rattle.psy_queue.specs.Order.{Queued}
 use Rattle.psy_tree.specs.declared.unit.VarDecl.{VarDecl}
-use Rattle.psy_meaning.specs.Actions.{Action, System, Done, Trapped, Overran, charge_of, stream_of, timing, verdict_of}
-use Rattle.psy_meaning.specs.Executors.{Acted, acted_as, agent_code_at, machine_at}
+use Rattle.psy_history.specs.Actions.{Action, System, Done, Trapped, Overran, charge_of, stream_of, timing, verdict_of}
+use Rattle.psy_history.specs.Executors.{Acted, acted_as, agent_code_at, machine_at}
 use Rattle.psy_meaning.specs.Kept.{Receives}
-use Rattle.psy_meaning.specs.Schedule.{work}
+use Rattle.psy_history.specs.Schedule.{work}
 use Rattle.psy_history.specs.Regular.{MayAsk, Runs, begun_by}
 use Rattle.psy_history.specs.Ways.{OfText}
 use Rattle.psy_kernel.specs.declared.kernel.advance.Gone.{Gone}

@@ -18,13 +18,13 @@ use Rattle.psy_history.specs.Compiled.{AreInputs}
 use Rattle.psy_history.specs.Rings.{age_at}
 use Rattle.psy_history.specs.Scheduled.{turns_of}
 use Rattle.psy_machine.specs.Stepping.{AgentMachine}
-use Rattle.psy_meaning.specs.Actions.{Action, System, Done, stream_of, timing, variable_of}
-use Rattle.psy_meaning.specs.Executors.{agent_at}
-use Rattle.psy_meaning.specs.Flow.{IsGreatest}
-use Rattle.psy_meaning.specs.History.{history}
+use Rattle.psy_history.specs.Actions.{Action, System, Done, stream_of, timing, variable_of}
+use Rattle.psy_tree.specs.Parts.{agent_at}
+use Rattle.psy_base.specs.Extremes.{IsGreatest, greater, lesser}
+use Rattle.psy_history.specs.History.{history}
 use Rattle.psy_meaning.specs.QueueSizes.{HasSendsTo}
-use Rattle.psy_meaning.specs.Schedule.{Turn, is_pending, turn_of, units}
-use Rattle.psy_meaning.specs.Summary.{greater, lesser, reach}
+use Rattle.psy_history.specs.Schedule.{Turn, is_pending, turn_of, units}
+use Rattle.psy_history.specs.Summary.{reach}
 use Rattle.psy_meaning.specs.Timing.{Timing, clock_at, end_date, point_at}
 use Rattle.psy_kernel.specs.Acting.{IsLookIn, IsOfCode, SeesAs, ShowsAs}
 use Rattle.psy_kernel.specs.declared.kernel.Figure.{Figure}

@@ -1,7 +1,7 @@
 -- How far a run is, what is due next, and what was told.
 use Rattle.std.specs.Prelude.{ℕ, zero, suc, ◌+◌, ◌*◌, ◌==◌, if◌then◌else◌, List, [], ℤ}
-use Rattle.psy_meaning.specs.Actions.{System}
-use Rattle.psy_meaning.specs.Lines.{Event, events}
+use Rattle.psy_history.specs.Actions.{System}
+use Rattle.psy_history.specs.Lines.{Event, events}
 use Rattle.psy_dates.specs.declared.plan.Plan.{Plan}
 use Rattle.psy_dates.specs.Plans.{system_of}
 use Rattle.psy_history.specs.declared.told.Script.{Script}

@@ -12,12 +12,13 @@ use Rattle.psy_tree.specs.declared.unit.Unit.{Unit as Whole}
 use Rattle.psy_tree.specs.declared.unit.VarDecl.{VarDecl}
 use Rattle.psy_meaning.specs.RingSizes.{dates_between}
 use Rattle.psy_dates.specs.Outboxes.{Outboxed}
+use Rattle.psy_tree.specs.Parts.{no_clock, no_variable}
 
 -- ---- variables
 
 -- The clock of a number: that of all ticks where there is none
 abbrev pub clock_in : List Clock → ℕ → Clock
-clock_in clocks clock = get_or clocks clock (record { period = 1; first = 0 })
+clock_in clocks clock = get_or clocks clock no_clock
 
 -- What an action that started at one date sees of a variable at another, by its ring: what is as far behind the start as the variable
 -- may be looked back, behind all that was published since.
@@ -28,7 +29,7 @@ values_of rings clocks start date v variable = take v.depth (drop (dates_between
 abbrev pub view_in : List (List ℤ) → List VarDecl → List Clock → ℕ → ℕ → List (Option (List ℤ)) → View
 view_in rings variables clocks start date messages = record {
   pasts = map (λ variable. values_of rings clocks start date
-      (get_or variables variable (record { name = []; owner = None; clock = 0; init = pos 0; depth = 0 })) variable) (range_with_len 0 (length variables));
+      (get_or variables variable no_variable) variable) (range_with_len 0 (length variables));
   messages = messages;
 }
 

@@ -8,12 +8,12 @@ use Rattle.psy_code.specs.declared.look.Sent.{Sent}
 use Rattle.psy_code.specs.Execution.{RunState, Running, run_code}
 use Rattle.psy_machine.specs.Stepping.{AgentMachine, IsNew, IsOf}
 use Rattle.psy_ready.specs.Choice.{IsPick, pending_deadline}
-use Rattle.psy_meaning.specs.Actions.{Action, System, Verdict, Done, stream_of}
-use Rattle.psy_meaning.specs.Executors.{agent_code_at, machine_at}
-use Rattle.psy_meaning.specs.History.{history}
-use Rattle.psy_meaning.specs.Lines.{Event, publications, shows, stops_of}
-use Rattle.psy_meaning.specs.Schedule.{Turn, is_pending, units}
-use Rattle.psy_meaning.specs.Summary.{due_by, most_held, reach, slack}
+use Rattle.psy_history.specs.Actions.{Action, System, Verdict, Done, stream_of}
+use Rattle.psy_history.specs.Executors.{agent_code_at, machine_at}
+use Rattle.psy_history.specs.History.{history}
+use Rattle.psy_history.specs.Lines.{Event, publications, shows, stops_of}
+use Rattle.psy_history.specs.Schedule.{Turn, is_pending, units}
+use Rattle.psy_history.specs.Summary.{due_by, most_held, reach, slack}
 use Rattle.psy_history.specs.Compiled.{AreInputs}
 use Rattle.psy_history.specs.Regular.{begun_by}
 use Rattle.psy_history.specs.Scheduled.{turns_of}

@@ -12,6 +12,7 @@ use Rattle.psy_tree.specs.declared.unit.AgentDecl.{AgentDecl}
 use Rattle.psy_tree.specs.declared.unit.Point.{Point}
 use Rattle.psy_history.specs.declared.told.Script.{Script}
 use Rattle.psy_history.specs.Scripts.{stalls_of}
+use Rattle.psy_tree.specs.Parts.{no_agent}
 
 -- ---- before date 0
 
@@ -45,7 +46,7 @@ seat_at seats agent = slice_index_or seats agent
 
 -- The points of an agent: none where there is none
 abbrev pub points_at : List AgentDecl → ℕ → List Point
-points_at agents agent = (slice_index_or agents agent (record { name = []; clock = 0; budget = 0; slots = []; points = []; stmts = [] })).points
+points_at agents agent = (slice_index_or agents agent no_agent).points
 
 -- The charge of an agent, once the action of its seat has started where it starts at the date
 abbrev pub charge_at : ℕ → List Seat → List AgentDecl → ℕ → Charged → Charged

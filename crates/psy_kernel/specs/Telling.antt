@@ -1,6 +1,6 @@
 -- What the seats, the variables and the figures of a run tell, line by line.
 use Rattle.std.specs.Prelude.{◌≡◌, ℕ, ◌+◌, ◌-◌, ◌≤◌, Bool, true, false, nat_lt, ◌==◌, ◌<◌, if◌then◌else◌, List, [], ◌∷◌, ◌++◌, map, filter, length}
-use Rattle.std.specs.Prelude.{get_or, slice_get, Option, Some, None, IsSome, ℤ, pos}
+use Rattle.std.specs.Prelude.{get_or, slice_get, Option, Some, None, IsSome, ℤ}
 use Rattle.std.specs.List.{range_with_len}
 use Rattle.psy_arith.specs.declared.operators.Trap.{Trap}
 use Rattle.psy_base.specs.declared.message.Message.{Message}
@@ -8,11 +8,10 @@ use Rattle.psy_clock.specs.declared.clock.Clock.{Clock}
 use Rattle.psy_log.specs.Forms.{agent_line, end_line, stop_overrun_line, stop_trap_line, message_line, stream_line, value_line, variable_line}
 use Rattle.psy_tree.specs.declared.unit.Unit.{Unit as Whole}
 use Rattle.psy_tree.specs.declared.unit.VarDecl.{VarDecl}
-use Rattle.psy_meaning.specs.Actions.{System}
-use Rattle.psy_meaning.specs.Executors.{agent_at}
-use Rattle.psy_meaning.specs.History.{history}
-use Rattle.psy_meaning.specs.Lines.{Event, is_date, publications, shows, stops_of}
-use Rattle.psy_meaning.specs.QueueSizes.{stream_at}
+use Rattle.psy_history.specs.Actions.{System}
+use Rattle.psy_tree.specs.Parts.{agent_at, variable_at, stream_at}
+use Rattle.psy_history.specs.History.{history}
+use Rattle.psy_history.specs.Lines.{Event, is_date, publications, shows, stops_of}
 use Rattle.psy_dates.specs.declared.plan.Plan.{Plan}
 use Rattle.psy_dates.specs.declared.seat.Phase.TheVariants as phase
 use Rattle.psy_dates.specs.declared.seat.Seat.{Seat}
@@ -80,10 +79,6 @@ abbrev pub figure_line : Whole → List Figure → ℕ → List ℕ
 figure_line unit figures agent =
     let figure = get_or figures agent (record { count = 0; slack = None }) in
     agent_line (agent_at unit agent).name figure.count figure.slack
-
--- The variable of a number: an input of value 0 where there is none
-abbrev pub variable_at : Whole → ℕ → VarDecl
-variable_at unit variable = get_or unit.variables variable (record { name = []; owner = None; clock = 0; init = pos 0; depth = 0 })
 
 -- A variable's line, by how far back its ring was reached for
 abbrev pub reach_line : Plan → List (Option ℕ) → ℕ → List ℕ

@@ -2,12 +2,12 @@
 use Rattle.std.specs.Prelude.{ℕ, ◌+◌, ◌*◌, List, ◌∷◌, ◌++◌, map, length, get_or, Option, Some, None}
 use Rattle.std.specs.List.{flat_map, range_with_len}
 use Rattle.psy_log.specs.Forms.{stop_overrun_line, stop_trap_line, value_line, message_line, end_line, agent_line, variable_line, stream_line}
-use Rattle.psy_meaning.specs.Actions.{System, stream_of, variable_of}
-use Rattle.psy_meaning.specs.Executors.{agent_at}
-use Rattle.psy_meaning.specs.History.{history}
-use Rattle.psy_meaning.specs.Lines.{Event, Stop, Publish, Show, events}
-use Rattle.psy_meaning.specs.Schedule.{Turn}
-use Rattle.psy_meaning.specs.Summary.{due_by, most_held, reach, slack}
+use Rattle.psy_history.specs.Actions.{System, stream_of, variable_of}
+use Rattle.psy_tree.specs.Parts.{agent_at}
+use Rattle.psy_history.specs.History.{history}
+use Rattle.psy_history.specs.Lines.{Event, Stop, Publish, Show, events}
+use Rattle.psy_history.specs.Schedule.{Turn}
+use Rattle.psy_history.specs.Summary.{due_by, most_held, reach, slack}
 use Rattle.psy_history.specs.Scheduled.{turns_of}
 use Rattle.psy_base.specs.declared.sizes.Sizes.{Sizes}
 

@@ -16,8 +16,7 @@ use Rattle.psy_tree.specs.declared.unit.Stmt.{Stmt}
 use Rattle.psy_tree.specs.declared.unit.Stmt.TheOpen.{Stmt-F}
 use Rattle.psy_tree.specs.Scope.{Site, stands_for}
 use Rattle.psy_tree.specs.Places.{Place, Uses, Ranges, Loops, joined, expr_places, most_places, stmt_places, stmt_places_step, stmts_places}
-use Rattle.psy_tree.specs.Paths.{advances, advances_step, advances_list}
-use Rattle.psy_tree.specs.Paths.{quiet_list as raw_quiet_list}
+use Rattle.psy_tree.specs.Paths.{advances, advances_step, advances_list, quiet_list as raw_quiet_list}
 use Rattle.psy_tree.specs.Rules.{is_clock, is_stream}
 use Rattle.psy_tree.specs.Stands.{Numbering, counting, is_variable, number_at, slot_number, expr_of, set_by, while_of, stmt_step, stmt_of, stmts_of}
 use Rattle.psy_meaning.specs.Paths.{holds_advance, quiet_list}

@@ -1,6 +1,7 @@
 -- What follows a point of an agent, on all ways: the points that may come next, and the most that a way there costs and sends.
 use Rattle.std.specs.Prelude.{◌≡◌, ◌⊎◌, ℕ, ◌<◌, ◌≤◌, min, ◌==◌, List, Some, length, slice_get, ◌↔◌}
 use Rattle.std.specs.List.{count_by, Contains}
+use Rattle.psy_base.specs.Extremes.{IsGreatest}
 use Rattle.psy_base.specs.declared.limits.TheConstants.{SENDS}
 use Rattle.psy_code.specs.Views.{Looked}
 use Rattle.psy_tree.specs.declared.unit.AgentDecl.{AgentDecl}
@@ -29,11 +30,6 @@ HasSends functions agent from to stream sends = (met : Meter) × IsWayFrom funct
 abbrev pub MayLook : List FunctionDecl → AgentDecl → ℕ → ℕ → Type 0
 MayLook functions agent from variable = (to : ℕ) × (met : Meter) × IsWayFrom functions agent from to met × (look : Looked) × Contains met.looks look
     × (look.variable ≡ variable)
-
--- One of these numbers is the greatest.
-pub record IsGreatest (Has : ℕ → Type 0) (n : ℕ) : Type 0 where
-  pub one : Has n
-  pub most : (m : ℕ) → Has m → m ≤ n
 
 -- The greatest of these numbers, cut at a limit
 abbrev pub IsCut : (ℕ → Type 0) → ℕ → ℕ → Type 0

@@ -1,27 +1,20 @@
 -- The definitions of this crate, by subject.
-pub mod Actions
 pub mod Alike
 pub mod BufferSizes
 pub mod Demand
 pub mod Depths
-pub mod Executors
 pub mod Expressions
 pub mod Flow
 pub mod Graph
-pub mod History
 pub mod Kept
-pub mod Lines
 pub mod Paths
 pub mod QueueSizes
 pub mod Rest
 pub mod RingSizes
-pub mod Schedule
 pub mod Sizes
 pub mod Sound
 pub mod Statements
 pub mod States
-pub mod Summary
 pub mod Timing
 pub mod Units
-pub mod Visible
 pub mod Ways

@@ -1,6 +1,6 @@
 -- The size of a stream's queue: the most messages of actions that end within the dates for which a message may be held. And the size of
 -- an agent's outbox: the most messages that one action sends.
-use Rattle.std.specs.Prelude.{◌≡◌, ℕ, zero, suc, ◌+◌, ◌-◌, ◌*◌, ◌⊎◌, ◌<◌, ◌≤◌, ◌==◌, List, [], ◌∷◌, ◌++◌, filter, get_or, length, map, Some, None, slice_get}
+use Rattle.std.specs.Prelude.{◌≡◌, ℕ, zero, suc, ◌+◌, ◌-◌, ◌*◌, ◌⊎◌, ◌<◌, ◌≤◌, ◌==◌, List, [], ◌∷◌, ◌++◌, filter, length, map, Some, None, slice_get}
 use Rattle.std.specs.List.{Contains, flat_map}
 use Rattle.psy_base.specs.declared.edge.Edge.{Edge}
 use Rattle.psy_base.specs.declared.limits.TheConstants.{QUEUE, WINDOW_CELLS}
@@ -9,13 +9,12 @@ use Rattle.psy_tree.specs.declared.unit.AgentDecl.{AgentDecl}
 use Rattle.psy_tree.specs.declared.unit.FunctionDecl.{FunctionDecl}
 use Rattle.psy_tree.specs.declared.unit.Stmt.{Stmt, fold-Stmt}
 use Rattle.psy_tree.specs.declared.unit.Stmt.TheOpen.{Stmt-F}
-use Rattle.psy_tree.specs.declared.unit.StreamDecl.{StreamDecl}
 use Rattle.psy_tree.specs.declared.unit.Unit.{Unit as Whole}
-use Rattle.psy_meaning.specs.Executors.{agent_at}
-use Rattle.psy_meaning.specs.Flow.{IsGreatest, IsMostSends, IsNext}
+use Rattle.psy_tree.specs.Parts.{agent_at, clock_in, stream_at}
+use Rattle.psy_meaning.specs.Flow.{IsMostSends, IsNext}
+use Rattle.psy_base.specs.Extremes.{IsGreatest, most_of}
 use Rattle.psy_meaning.specs.Graph.{Spot, IsGraph}
 use Rattle.psy_meaning.specs.RingSizes.{agent_timing}
-use Rattle.psy_meaning.specs.Summary.{most_of}
 use Rattle.psy_meaning.specs.Timing.{Timing, MayStart, end_date, first_date, following}
 use Rattle.psy_meaning.specs.Ways.{Sending}
 
@@ -52,13 +51,9 @@ all_sendings unit stream = flat_map (sendings_to stream) unit.agents
 
 -- ---- for how many dates a message may be held
 
--- The stream of a number
-abbrev pub stream_at : Whole → ℕ → StreamDecl
-stream_at unit stream = get_or unit.streams stream (record { name = []; receiver = 0; keep = 1; clock = 0 })
-
 -- The period of a clock of a program, by its number
 abbrev pub period_of : Whole → ℕ → ℕ
-period_of unit clock = (get_or unit.clocks clock (record { period = 1; first = 0 })).period
+period_of unit clock = (clock_in unit clock).period
 
 -- The most ticks from the end of an action to the date from which a message of this send is visible
 abbrev pub delay_of : Whole → Sending → ℕ

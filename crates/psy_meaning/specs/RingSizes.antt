@@ -5,7 +5,7 @@ use Rattle.psy_clock.specs.declared.clock.Clock.{Clock}
 use Rattle.psy_clock.specs.Dates.{count}
 use Rattle.psy_tree.specs.declared.unit.Unit.{Unit as Whole}
 use Rattle.psy_tree.specs.declared.unit.VarDecl.{VarDecl}
-use Rattle.psy_meaning.specs.Executors.{agent_at}
+use Rattle.psy_tree.specs.Parts.{agent_at}
 use Rattle.psy_meaning.specs.Flow.{MayLook}
 use Rattle.psy_meaning.specs.Graph.{IsCycle}
 use Rattle.psy_meaning.specs.Timing.{Timing, MayStart, clock_at, deadline, timing_of}

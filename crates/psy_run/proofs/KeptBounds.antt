@@ -5,12 +5,12 @@ use Rattle.std.proofs.lemmas.Bool.{eqb-true}
 use Rattle.std.proofs.lemmas.List.Elements.{All-contains}
 use Rattle.std.proofs.lemmas.Option.{slice_get-get_or}
 use Rattle.psy_base.specs.declared.limits.TheConstants.{QUEUE}
-use Rattle.psy_meaning.specs.Actions.{Action, Next, System, next_of}
-use Rattle.psy_meaning.specs.History.{action_of, history, with_start}
+use Rattle.psy_history.specs.Actions.{Action, Next, System, next_of}
+use Rattle.psy_history.specs.History.{action_of, history, with_start}
 use Rattle.psy_meaning.specs.QueueSizes.{IsQueueSize}
 use Rattle.psy_meaning.specs.RingSizes.{IsRingSize}
-use Rattle.psy_meaning.specs.Schedule.{Turn, finish, units}
-use Rattle.psy_meaning.specs.Summary.{most_held, reach}
+use Rattle.psy_history.specs.Schedule.{Turn, finish, units}
+use Rattle.psy_history.specs.Summary.{most_held, reach}
 use Rattle.psy_history.specs.Compiled.{coded}
 use Rattle.psy_history.specs.Likeness.{AreLike, IsLike}
 use Rattle.psy_history.specs.Regular.{IsLawful, IsRegular}

@@ -10,7 +10,7 @@ use Rattle.psy_door.specs.Growth.{Grew, GrewByFront}
 use Rattle.psy_kernel.specs.declared.stage.Stage.TheVariants.{DateDue}
 use Rattle.psy_kernel.specs.Progress.{Progress, after_date, after_line, lines_at, lines_told, stage_of, system}
 use Rattle.psy_kernel.specs.Texts.{lines_of, log_of, text_of}
-use Rattle.psy_meaning.specs.Actions.{System}
+use Rattle.psy_history.specs.Actions.{System}
 use Rattle.psy_run.proofs.GrowthLemmas.{Grew-trans}
 use Rattle.psy_run.proofs.TextLemmas.{items_more, items_split}
 use Rattle.psy_run.proofs.WritingLemmas.{GrewByFront-append, Grew-GrewByFront, Grew-item, GrewByFront-item}

@@ -15,11 +15,11 @@ use Rattle.psy_kernel.specs.Progress.{Progress, booted, order, system}
 use Rattle.psy_history.specs.Scripts.{IsScript, order_of, stalls_of}
 use Rattle.psy_kernel.specs.Texts.{agent_end, event_line, lines_of, run_text, stream_end, summary_of, text_of, variable_end}
 use Rattle.psy_log.specs.Forms.{agent_line, end_line, stream_line, variable_line}
-use Rattle.psy_meaning.specs.Actions.{System, stream_of, variable_of}
-use Rattle.psy_meaning.specs.Executors.{agent_at}
-use Rattle.psy_meaning.specs.History.{history}
-use Rattle.psy_meaning.specs.Lines.{events}
-use Rattle.psy_meaning.specs.Summary.{due_by, most_held, reach, slack}
+use Rattle.psy_history.specs.Actions.{System, stream_of, variable_of}
+use Rattle.psy_tree.specs.Parts.{agent_at}
+use Rattle.psy_history.specs.History.{history}
+use Rattle.psy_history.specs.Lines.{events}
+use Rattle.psy_history.specs.Summary.{due_by, most_held, reach, slack}
 use Rattle.psy_run.specs.Bounds.{IsBounded, KeepsBounds}
 use Rattle.psy_run.specs.Outcome.{CanServe}
 use Rattle.psy_run.specs.Runs.{ended}

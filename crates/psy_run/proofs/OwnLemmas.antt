@@ -9,10 +9,10 @@ use Rattle.psy_budget.specs.declared.charge.Stall.{Stall}
 use Rattle.psy_history.specs.Compiled.{stated}
 use Rattle.psy_history.specs.Feeding.{OverranAlike}
 use Rattle.psy_kernel.specs.Texts.{event_line, text_of}
-use Rattle.psy_meaning.specs.Actions.{Action, History, Next, System, Verdict, Done, Trapped, Overran, next_of, publishing, variable_of}
-use Rattle.psy_meaning.specs.History.{action_of, history, with_start}
-use Rattle.psy_meaning.specs.Lines.{Event, Stop, Publish, Show, events, is_date, publications, publications_by, shows, stops_by, stops_of}
-use Rattle.psy_meaning.specs.Visible.{messages, published}
+use Rattle.psy_history.specs.Actions.{Action, History, Next, System, Verdict, Done, Trapped, Overran, next_of, publishing, variable_of}
+use Rattle.psy_history.specs.History.{action_of, history, with_start}
+use Rattle.psy_history.specs.Lines.{Event, Stop, Publish, Show, events, is_date, publications, publications_by, shows, stops_by, stops_of}
+use Rattle.psy_history.specs.Visible.{messages, published}
 use Rattle.psy_tree.specs.declared.unit.Unit.{Unit as Whole}
 use Rattle.psy_tree.specs.declared.unit.VarDecl.{VarDecl}
 use Rattle.psy_run.specs.OwnLines.{is_own, own_lines, own_text}

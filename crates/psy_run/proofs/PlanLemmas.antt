@@ -9,7 +9,7 @@ use Rattle.psy_graph.specs.Graphs.{AreGraphs, IsTimingOf, spot_of}
 use Rattle.psy_history.specs.Compiled.{AreEdgesOf, AreInputs}
 use Rattle.psy_meaning.specs.Flow.{AreAllNexts}
 use Rattle.psy_meaning.specs.Alike.{AllFit}
-use Rattle.psy_meaning.specs.Executors.{agent_at}
+use Rattle.psy_tree.specs.Parts.{agent_at}
 use Rattle.psy_meaning.specs.Graph.{IsGraph}
 use Rattle.psy_meaning.specs.Timing.{Timing, timing_of}
 use Rattle.psy_tree.specs.declared.unit.Unit.{Unit as Whole}

@@ -3,7 +3,7 @@ use Rattle.std.specs.Prelude.{◌≡◌, ℕ, ◌+◌, ◌<◌, List, ◌∷◌,
 use Rattle.std.specs.List.{flat_map, range_with_len}
 use Rattle.psy_base.specs.declared.sizes.Sizes.{Sizes}
 use Rattle.psy_door.specs.Growth.{Grew}
-use Rattle.psy_meaning.specs.Actions.{System}
+use Rattle.psy_history.specs.Actions.{System}
 use Rattle.psy_kernel.specs.Texts.{lines_of, summary_of, text_of}
 
 -- The lines of the first dates, of which there are so many: 0, 1 and so on

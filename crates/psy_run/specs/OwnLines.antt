@@ -1,8 +1,8 @@
 -- The lines of one agent: those of its stops, and of the values that its variables publish.
 use Rattle.std.specs.Prelude.{ℕ, ◌+◌, ◌==◌, Bool, false, List, map, filter, Option, Some, None}
 use Rattle.std.specs.List.{flat_map, range_with_len}
-use Rattle.psy_meaning.specs.Actions.{System, variable_of}
-use Rattle.psy_meaning.specs.Lines.{Event, Stop, Publish, Show, events}
+use Rattle.psy_history.specs.Actions.{System, variable_of}
+use Rattle.psy_history.specs.Lines.{Event, Stop, Publish, Show, events}
 use Rattle.psy_kernel.specs.Texts.{event_line, text_of}
 
 -- The agent is the owner.

@@ -1,7 +1,7 @@
 -- What a command does, once nothing refuses it, and its text.
 use Rattle.std.specs.Prelude.{◌≡◌, ℕ, ◌+◌, ◌*◌, List, [], ◌∷◌, map, length, Option, None, Some, ℤ}
 use Rattle.psy_tree.specs.declared.unit.Unit.{Unit as Whole}
-use Rattle.psy_meaning.specs.Actions.{System}
+use Rattle.psy_history.specs.Actions.{System}
 use Rattle.psy_graph.specs.declared.graph.Graph.{Graph}
 use Rattle.psy_history.specs.Compiled.{stated}
 use Rattle.psy_base.specs.declared.sizes.Sizes.{Sizes}
@@ -9,8 +9,7 @@ use Rattle.psy_dates.specs.Plans.{IsPlan}
 use Rattle.psy_history.specs.declared.told.Script.{Script}
 use Rattle.psy_kernel.specs.Progress.{Progress, lines_told}
 use Rattle.psy_history.specs.Scripts.{order_of, stalls_of}
-use Rattle.psy_kernel.specs.Texts.{run_text, summary_of}
-use Rattle.psy_kernel.specs.Texts.{text_of as lines_text}
+use Rattle.psy_kernel.specs.Texts.{run_text, summary_of, text_of as lines_text}
 use Rattle.psy_run.specs.declared.served.Served.{Served}
 use Rattle.psy_run.specs.declared.served.Served.TheVariants as served
 use Rattle.psy_run.specs.Texts.{check_text, graph_text}

@@ -5,7 +5,7 @@ ghost use Rattle.psy_dates.specs.declared.plan.Plan.{Plan};
 ghost use Rattle.psy_dates.specs.Plans.{IsPlan};
 ghost use Rattle.psy_budget.specs.declared.charge.Stall.{Stall};
 ghost use Rattle.psy_tree.specs.declared.unit.Unit.{Unit as Whole};
-ghost use Rattle.psy_meaning.specs.History.{history};
+ghost use Rattle.psy_history.specs.History.{history};
 ghost use Rattle.psy_meaning.specs.Units.{IsOfText};
 ghost use Rattle.psy_history.specs.Compiled.{AreInputs, stated};
 ghost use Rattle.psy_history.specs.Feeding.{OverranAlike, Reaches};

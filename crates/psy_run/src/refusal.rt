@@ -2,8 +2,7 @@
 ghost use Rattle.std.specs.Prelude.{◌≡◌, ◌≤◌, length, Some as some};
 ghost use Rattle.psy_base.specs.declared.limits.TheConstants.{WORD_BYTES};
 ghost use Rattle.psy_run.specs.Refusals.{status_of, line_of, file_name, count_name, count_limit};
-ghost use Rattle.psy_log.specs.Forms.{name_of, limit_line, read_line, refused_line};
-ghost use Rattle.psy_log.specs.Forms.{line_of as note_line};
+ghost use Rattle.psy_log.specs.Forms.{name_of, limit_line, read_line, refused_line, line_of as note_line};
 ghost use Rattle.psy_run.specs.declared.refusal.Stop.TheVariants.{Memory as no_memory};
 
 use psy_base::{Memory, limits};

@@ -1,15 +1,13 @@
 //! The texts of `check` and `graph`.
 ghost use Rattle.std.specs.Prelude.{◌≡◌, ◌≤◌, ◌++◌, flat_map, length, take, OnOk, OnErr};
-ghost use Rattle.psy_base.specs.declared.limits.TheConstants.{WORD_BYTES};
+ghost use Rattle.psy_base.specs.declared.limits.TheConstants.{WORD_BYTES, NODES};
 ghost use Rattle.psy_door.specs.Faults.{Rose};
-ghost use Rattle.psy_log.specs.Forms.{line_of, name_of};
+ghost use Rattle.psy_log.specs.Forms.{line_of, name_of, node_line};
 ghost use Rattle.psy_log.specs.Writing.{Written};
 ghost use Rattle.psy_meaning.specs.Units.{IsBare};
 ghost use Rattle.std.specs.List.{All};
 ghost use Rattle.std.specs.Prelude.{get_or};
-ghost use Rattle.psy_base.specs.declared.limits.TheConstants.{NODES};
 ghost use Rattle.psy_graph.specs.Graphs.{IsSmall};
-ghost use Rattle.psy_log.specs.Forms.{node_line};
 ghost use Rattle.psy_run.specs.Texts.{rings_text, queues_text, check_text, nodes_text, edge_text, agent_text, graph_text};
 
 use psy_base::{Edge, Items, Sizes};

@@ -12,7 +12,7 @@ use Rattle.psy_tree.specs.declared.unit.AgentDecl.{AgentDecl}
 use Rattle.psy_tree.specs.declared.unit.Point.{Point}
 use Rattle.psy_tree.specs.declared.unit.Unit.{Unit as Whole}
 use Rattle.psy_flow.specs.Agents.{IsAgentOf}
-use Rattle.psy_meaning.specs.Executors.{agent_at}
+use Rattle.psy_tree.specs.Parts.{agent_at}
 use Rattle.psy_meaning.specs.Flow.{AreNexts, IsNext, MayLook}
 use Rattle.psy_meaning.specs.Graph.{IsCycle, spot_at}
 use Rattle.psy_meaning.specs.RingSizes.{IsDueIn, dates_between}

@@ -18,6 +18,7 @@ use Rattle.psy_graph.specs.Graphs.{AreGraphs}
 use Rattle.psy_sizes.proofs.Existence.{AreCounted, IsLookTold, AreNextsWithin, IsOneTiming, most_before}
 use Rattle.psy_sizes.proofs.RingsOf.{ring_size, one_size, each_more}
 use Rattle.psy_sizes.proofs.Sharing.{no_clock}
+use Rattle.psy_tree.specs.Parts.{no_variable}
 
 module _ (unit : Whole) (nexts : List (List (List ℕ))) where
   -- ---- one of each
@@ -96,7 +97,7 @@ module _ (unit : Whole) (nexts : List (List (List ℕ))) where
   module _ (counted : AreCounted) (look_told : IsLookTold) (within : AreNextsWithin) (one_timing : IsOneTiming) (text : IsOfText unit) (graphs : List Graph) (drawn : AreGraphs unit graphs) (are : AreAllNexts unit nexts) where
     ring_exists : (variable : ℕ) → variable < length unit.variables → (size : ℕ) × IsRingSize unit nexts variable size
     ring_exists variable less =
-        let decl : VarDecl = get_or unit.variables variable (record { name = []; owner = None; clock = 0; init = pos 0; depth = 0 }) in
+        let decl : VarDecl = get_or unit.variables variable no_variable in
         let declared : slice_get unit.variables variable ≡ Some decl = slice_get-get_or unit.variables variable _ less in
         let bare : IsBareVariable unit decl = text.bare.variables variable _ less in
         let clock = get_or unit.clocks decl.clock no_clock in

@@ -7,8 +7,9 @@ use Rattle.psy_base.specs.declared.limits.TheConstants.{QUEUE, RING}
 use Rattle.psy_base.specs.declared.sizes.Sizes.{Sizes}
 use Rattle.psy_tree.specs.declared.unit.Unit.{Unit as Whole}
 use Rattle.psy_meaning.specs.BufferSizes.{AreSizes}
-use Rattle.psy_meaning.specs.Executors.{agent_at}
-use Rattle.psy_meaning.specs.Flow.{AreAllNexts, IsGreatest}
+use Rattle.psy_tree.specs.Parts.{agent_at}
+use Rattle.psy_meaning.specs.Flow.{AreAllNexts}
+use Rattle.psy_base.specs.Extremes.{IsGreatest}
 use Rattle.psy_meaning.specs.QueueSizes.{AreOutboxes, HasSendsTo, IsLargeQueue, IsLargeTable, PassesTable}
 use Rattle.psy_meaning.specs.RingSizes.{AreRings, IsLargeRing}
 use Rattle.psy_meaning.specs.Units.{IsOfText}

@@ -6,7 +6,7 @@ use Rattle.std.proofs.lemmas.Bool.{cases_lt}
 use Rattle.std.proofs.lemmas.Bool.Decides.{leb_tells}
 use Rattle.psy_clock.specs.declared.clock.Clock.{Clock}
 use Rattle.psy_clock.specs.Dates.{IsClock, date, count}
-use Rattle.psy_meaning.specs.Flow.{IsGreatest}
+use Rattle.psy_base.specs.Extremes.{IsGreatest}
 use Rattle.psy_meaning.specs.RingSizes.{dates_between}
 use Rattle.psy_sizes.specs.Windows.{HasDates}
 use Rattle.psy_sizes.proofs.Multiples.{reaches, gcd_some}

@@ -12,15 +12,16 @@ use Rattle.psy_clock.specs.Dates.{IsClock, date, count}
 use Rattle.psy_tree.specs.declared.unit.AgentDecl.{AgentDecl}
 use Rattle.psy_tree.specs.declared.unit.Unit.{Unit as Whole}
 use Rattle.psy_flow.specs.Agents.{IsAgentOf}
-use Rattle.psy_meaning.specs.Executors.{agent_at}
-use Rattle.psy_meaning.specs.Flow.{IsGreatest, IsNext, MayLook}
+use Rattle.psy_tree.specs.Parts.{agent_at}
+use Rattle.psy_meaning.specs.Flow.{IsNext, MayLook}
+use Rattle.psy_base.specs.Extremes.{IsGreatest, IsMost}
 use Rattle.psy_meaning.specs.Graph.{IsCycle, IsLeastCommonMultiple}
 use Rattle.psy_meaning.specs.Timing.{Timing}
 use Rattle.psy_meaning.specs.Units.{IsOfText}
 use Rattle.psy_graph.specs.declared.graph.Graph.{Graph}
 use Rattle.psy_graph.specs.declared.graph.Node.{Node}
 use Rattle.psy_graph.specs.Graphs.{AreGraphs, HasGraph, IsTimingOf}
-use Rattle.psy_sizes.specs.Passing.{IsMost, HasDatesAt, HasDatesOf, HasDatesBefore}
+use Rattle.psy_sizes.specs.Passing.{HasDatesAt, HasDatesOf, HasDatesBefore}
 use Rattle.psy_sizes.specs.Windows.{HasDates}
 use Rattle.psy_sizes.proofs.Actions.{named, nexts_of, nodes_tell, phases_within}
 use Rattle.psy_sizes.proofs.Distances.{gap, most_dates, no_dates}

@@ -14,7 +14,8 @@ use Rattle.psy_tree.specs.declared.unit.AgentDecl.{AgentDecl}
 use Rattle.psy_tree.specs.declared.unit.Point.{Point}
 use Rattle.psy_tree.specs.declared.unit.Unit.{Unit as Whole}
 use Rattle.psy_flow.specs.Agents.{IsAgentOf}
-use Rattle.psy_meaning.specs.Flow.{AreNexts, IsGreatest, IsNext}
+use Rattle.psy_meaning.specs.Flow.{AreNexts, IsNext}
+use Rattle.psy_base.specs.Extremes.{IsGreatest}
 use Rattle.psy_meaning.specs.Graph.{Spot, spot_at}
 use Rattle.psy_meaning.specs.QueueSizes.{MayLast}
 use Rattle.psy_meaning.specs.Timing.{Timing, MayStart, budget_at, clock_at, deadline, end_date, first, first_date, following, later, point_at, timing_of}

@@ -6,9 +6,9 @@ use Rattle.std.proofs.lemmas.List.{take_more}
 use Rattle.std.proofs.lemmas.List.Elements.{Contains-append_left, Contains-push, Contains-push_cases}
 use Rattle.psy_tree.specs.declared.unit.AgentDecl.{AgentDecl}
 use Rattle.psy_tree.specs.declared.unit.FunctionDecl.{FunctionDecl}
-use Rattle.psy_meaning.specs.Flow.{IsGreatest, IsMostSends, IsNext}
+use Rattle.psy_meaning.specs.Flow.{IsMostSends, IsNext}
+use Rattle.psy_base.specs.Extremes.{IsGreatest, IsMost}
 use Rattle.psy_meaning.specs.QueueSizes.{AreSendsBelow}
-use Rattle.psy_sizes.specs.Passing.{IsMost}
 use Rattle.psy_sizes.specs.Sending.{HasSendsAmong, HasSendsBefore}
 use Rattle.psy_sizes.proofs.Passed.{most_none}
 

@@ -8,9 +8,10 @@ use Rattle.psy_clock.specs.declared.clock.Clock.{Clock}
 use Rattle.psy_tree.specs.declared.unit.AgentDecl.{AgentDecl}
 use Rattle.psy_tree.specs.declared.unit.FunctionDecl.{FunctionDecl}
 use Rattle.psy_tree.specs.declared.unit.Unit.{Unit as Whole}
-use Rattle.psy_meaning.specs.Flow.{MayLook, IsGreatest}
+use Rattle.psy_meaning.specs.Flow.{MayLook}
+use Rattle.psy_base.specs.Extremes.{IsGreatest, IsMost}
 use Rattle.psy_graph.specs.declared.graph.Node.{Node}
-use Rattle.psy_sizes.specs.Passing.{IsMost, HasDatesAt, HasDatesOf, HasDatesBefore}
+use Rattle.psy_sizes.specs.Passing.{HasDatesAt, HasDatesOf, HasDatesBefore}
 use Rattle.psy_sizes.specs.Windows.{HasDates}
 
 pub most_none : (Has : ℕ → Type 0) → ((n : ℕ) → Has n → ⊥) → IsMost Has 0

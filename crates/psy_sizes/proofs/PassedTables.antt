@@ -5,7 +5,7 @@ use Rattle.std.proofs.lemmas.Bool.{cases_lt}
 use Rattle.psy_base.specs.declared.edge.Edge.{Edge}
 use Rattle.psy_base.specs.declared.limits.TheConstants.{WINDOW_CELLS}
 use Rattle.psy_tree.specs.declared.unit.Unit.{Unit as Whole}
-use Rattle.psy_meaning.specs.Executors.{agent_at}
+use Rattle.psy_tree.specs.Parts.{agent_at}
 use Rattle.psy_meaning.specs.Graph.{Spot, IsGraph}
 use Rattle.psy_meaning.specs.QueueSizes.{IsWindow, PassesTable, sendings_to}
 use Rattle.psy_meaning.specs.RingSizes.{agent_timing}

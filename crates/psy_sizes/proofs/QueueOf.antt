@@ -4,9 +4,9 @@ use Rattle.std.specs.List.{Contains, flat_map}
 use Rattle.std.proofs.lemmas.Option.{get_or_from_slice_get, slice_get-get_or, slice_get_within}
 use Rattle.psy_tree.specs.declared.unit.Unit.{Unit as Whole}
 use Rattle.psy_meaning.specs.QueueSizes.{AreQueues, IsQueueSize, IsSizeFor, IsSpreadBelow, IsWindow, KeepsQueue, PassesTable, all_sendings, delay_of, longest_delay, sendings_to}
-use Rattle.psy_meaning.specs.Executors.{agent_at}
+use Rattle.psy_tree.specs.Parts.{agent_at}
 use Rattle.psy_meaning.specs.Sound.{IsSoundUnit}
-use Rattle.psy_meaning.specs.Summary.{greater, greatest_of, most_of}
+use Rattle.psy_base.specs.Extremes.{greater, greatest_of, most_of}
 use Rattle.psy_meaning.specs.Ways.{Sending}
 use Rattle.psy_sizes.specs.declared.fault.SizeFault.{SizeFault}
 use Rattle.psy_sizes.specs.Queues.{IsAtFault, IsKeptQueue, IsQueueFault}

@@ -7,12 +7,13 @@ use Rattle.std.proofs.lemmas.Option.{same_Some, slice_get-get_or}
 use Rattle.psy_clock.specs.declared.clock.Clock.{Clock}
 use Rattle.psy_tree.specs.declared.unit.Unit.{Unit as Whole}
 use Rattle.psy_tree.specs.declared.unit.VarDecl.{VarDecl}
-use Rattle.psy_meaning.specs.Executors.{agent_at}
+use Rattle.psy_tree.specs.Parts.{agent_at}
 use Rattle.psy_meaning.specs.Flow.{AreAllNexts}
 use Rattle.psy_meaning.specs.RingSizes.{IsDueIn, IsRingSize, MayPass, agent_timing, dates_between}
 use Rattle.psy_meaning.specs.Timing.{Timing}
 use Rattle.psy_graph.specs.Graphs.{IsTimingOf}
-use Rattle.psy_sizes.specs.Passing.{IsMost, HasDatesBefore}
+use Rattle.psy_sizes.specs.Passing.{HasDatesBefore}
+use Rattle.psy_base.specs.Extremes.{IsMost}
 use Rattle.psy_sizes.proofs.Passed.{most_alike}
 use Rattle.psy_sizes.proofs.Sharing.{no_clock}
 

@@ -4,9 +4,9 @@ use Rattle.std.proofs.lemmas.List.{take_all}
 use Rattle.std.proofs.lemmas.Option.{slice_get-get_or}
 use Rattle.psy_tree.specs.declared.unit.AgentDecl.{AgentDecl}
 use Rattle.psy_tree.specs.declared.unit.FunctionDecl.{FunctionDecl}
-use Rattle.psy_meaning.specs.Flow.{AreNexts, IsGreatest, IsMostSends, IsNext}
+use Rattle.psy_meaning.specs.Flow.{AreNexts, IsMostSends, IsNext}
+use Rattle.psy_base.specs.Extremes.{IsGreatest, IsMost}
 use Rattle.psy_meaning.specs.QueueSizes.{AreSendsBelow}
-use Rattle.psy_sizes.specs.Passing.{IsMost}
 use Rattle.psy_sizes.specs.Sending.{HasSendsAmong, HasSendsBefore}
 use Rattle.psy_sizes.proofs.OutboxesOf.{HaveOneMost, most_is, sends_some, sends_most, no_next, next_more, no_point, point_more}
 use Rattle.psy_sizes.proofs.Passed.{most_max}

@@ -10,10 +10,10 @@ use Rattle.psy_base.specs.Paths.{FitsFirstFree, IsGreatestWeight}
 use Rattle.psy_tree.specs.declared.unit.AgentDecl.{AgentDecl}
 use Rattle.psy_tree.specs.declared.unit.Unit.{Unit as Whole}
 use Rattle.psy_flow.specs.Agents.{IsAgentOf}
-use Rattle.psy_meaning.specs.Executors.{agent_at}
+use Rattle.psy_tree.specs.Parts.{agent_at}
 use Rattle.psy_meaning.specs.QueueSizes.{AreSendEdges, IsSpread, IsWindow, PassesTable, sendings_to}
 use Rattle.psy_meaning.specs.RingSizes.{agent_timing}
-use Rattle.psy_meaning.specs.Summary.{greater, greatest_of}
+use Rattle.psy_base.specs.Extremes.{greater, greatest_of}
 use Rattle.psy_meaning.specs.Ways.{Sending}
 use Rattle.psy_graph.specs.declared.graph.Graph.{Graph}
 use Rattle.psy_graph.specs.Graphs.{IsGraphOf, spot_of}

@@ -10,7 +10,7 @@ use Rattle.psy_base.specs.Paths.{FitsFirstFree, IsGreatestWeight}
 use Rattle.psy_tree.specs.declared.unit.AgentDecl.{AgentDecl}
 use Rattle.psy_tree.specs.declared.unit.FunctionDecl.{FunctionDecl}
 use Rattle.psy_tree.specs.declared.unit.Unit.{Unit as Whole}
-use Rattle.psy_meaning.specs.Executors.{agent_at}
+use Rattle.psy_tree.specs.Parts.{agent_at}
 use Rattle.psy_meaning.specs.Flow.{IsMostSends}
 use Rattle.psy_meaning.specs.Graph.{Spot, IsGraph, spot_at}
 use Rattle.psy_meaning.specs.QueueSizes.{IsSendEdge, AreSendEdges, IsSpread, IsSpreadBelow}

@@ -5,9 +5,9 @@ use Rattle.std.proofs.lemmas.Option.{slice_get-get_or}
 use Rattle.psy_tree.specs.declared.unit.AgentDecl.{AgentDecl}
 use Rattle.psy_tree.specs.declared.unit.Unit.{Unit as Whole}
 use Rattle.psy_flow.specs.Agents.{IsAgentOf, IsKnown}
-use Rattle.psy_meaning.specs.Executors.{agent_at}
+use Rattle.psy_tree.specs.Parts.{agent_at, stream_at}
 use Rattle.psy_meaning.specs.Flow.{AreAllNexts, IsMostSends}
-use Rattle.psy_meaning.specs.QueueSizes.{PassesTable, stream_at}
+use Rattle.psy_meaning.specs.QueueSizes.{PassesTable}
 use Rattle.psy_meaning.specs.RingSizes.{agent_timing}
 use Rattle.psy_meaning.specs.Units.{IsOfText}
 use Rattle.psy_window.specs.Windows.{IsEdge}

@@ -3,7 +3,7 @@ use Rattle.std.proofs.Common.{◌≡◌, ℕ, ◌+◌, ◌-◌, ◌*◌, ◌^◌
 use Rattle.std.proofs.lemmas.Nat.{mul-le}
 use Rattle.psy_base.specs.declared.limits.TheConstants.{WINDOW_CELLS}
 use Rattle.psy_tree.specs.declared.unit.Unit.{Unit as Whole}
-use Rattle.psy_meaning.specs.Flow.{IsGreatest}
+use Rattle.psy_base.specs.Extremes.{IsGreatest}
 use Rattle.psy_meaning.specs.QueueSizes.{IsWindow, lasting_of, longest_delay}
 use Rattle.psy_sizes.specs.Queues.{IsTop}
 

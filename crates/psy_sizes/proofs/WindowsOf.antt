@@ -6,9 +6,10 @@ use Rattle.std.proofs.lemmas.Bool.{cases_lt}
 use Rattle.std.proofs.lemmas.Option.{slice_get-get_or}
 use Rattle.psy_base.specs.declared.edge.Edge.{Edge}
 use Rattle.psy_tree.specs.declared.unit.Unit.{Unit as Whole}
-use Rattle.psy_meaning.specs.Flow.{IsGreatest}
+use Rattle.psy_base.specs.Extremes.{IsGreatest}
 use Rattle.psy_meaning.specs.Graph.{Spot, IsEdgeOf, spot_at}
-use Rattle.psy_meaning.specs.QueueSizes.{IsWindow, MayLast, lasting_of, longest_delay, stream_at}
+use Rattle.psy_meaning.specs.QueueSizes.{IsWindow, MayLast, lasting_of, longest_delay}
+use Rattle.psy_tree.specs.Parts.{stream_at}
 use Rattle.psy_meaning.specs.RingSizes.{agent_timing}
 use Rattle.psy_meaning.specs.Timing.{Timing, MayStart, later, budget_at, deadline, end_date, first_date, following}
 use Rattle.psy_graph.specs.declared.graph.Graph.{Graph}

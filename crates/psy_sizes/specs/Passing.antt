@@ -6,18 +6,13 @@ use Rattle.psy_clock.specs.declared.clock.Clock.{Clock}
 use Rattle.psy_tree.specs.declared.unit.AgentDecl.{AgentDecl}
 use Rattle.psy_tree.specs.declared.unit.FunctionDecl.{FunctionDecl}
 use Rattle.psy_tree.specs.declared.unit.Unit.{Unit as Whole}
-use Rattle.psy_meaning.specs.Executors.{agent_at}
+use Rattle.psy_tree.specs.Parts.{agent_at}
 use Rattle.psy_meaning.specs.Flow.{MayLook}
 use Rattle.psy_meaning.specs.RingSizes.{IsDueIn, dates_between}
 use Rattle.psy_meaning.specs.Timing.{Timing}
 use Rattle.psy_graph.specs.declared.graph.Node.{Node}
 use Rattle.psy_graph.specs.Graphs.{IsTimingOf}
 use Rattle.psy_sizes.specs.Windows.{HasDates}
-
--- The greatest of these numbers; 0 where there is none
-pub record IsMost (Has : ℕ → Type 0) (n : ℕ) : Type 0 where
-  pub one : (n ≡ 0) ⊎ Has n
-  pub all : (m : ℕ) → Has m → m ≤ n
 
 -- So many dates of a clock stand between the start and the deadline of an action of one of these nodes of an agent that may
 -- look at a variable.

@@ -6,11 +6,11 @@ use Rattle.psy_base.specs.declared.edge.Edge.{Edge}
 use Rattle.psy_base.specs.declared.limits.TheConstants.{QUEUE, WINDOW_CELLS}
 use Rattle.psy_tree.specs.declared.unit.AgentDecl.{AgentDecl}
 use Rattle.psy_tree.specs.declared.unit.Unit.{Unit as Whole}
-use Rattle.psy_meaning.specs.Executors.{agent_at}
+use Rattle.psy_tree.specs.Parts.{agent_at}
 use Rattle.psy_meaning.specs.Graph.{Spot, IsGraph}
 use Rattle.psy_meaning.specs.QueueSizes.{IsLargeQueue, IsLargeTable, IsQueueSize, IsWindow, PassesTable, delay_of, sendings_in, sendings_to}
 use Rattle.psy_meaning.specs.RingSizes.{agent_timing}
-use Rattle.psy_meaning.specs.Summary.{greater, greatest_of}
+use Rattle.psy_base.specs.Extremes.{greater, greatest_of}
 use Rattle.psy_meaning.specs.Ways.{Sending}
 use Rattle.psy_sizes.specs.declared.fault.SizeFault.{SizeFault}
 use Rattle.psy_sizes.specs.declared.fault.SizeFault.TheVariants.{LargeRing, Cells, LargeQueue, Memory}

@@ -4,10 +4,10 @@ ghost use Rattle.std.specs.Prelude.{◌≡◌, ℕ, ◌*◌, ◌<◌, ◌≤◌,
 ghost use Rattle.psy_base.specs.declared.limits.TheConstants.{SENDS, STREAMS};
 ghost use Rattle.psy_tree.specs.declared.unit.Unit.{Unit as Whole};
 ghost use Rattle.psy_flow.specs.Agents.{IsOfSome, IsAgentOf};
-ghost use Rattle.psy_meaning.specs.Flow.{IsGreatest, IsMostSends};
+ghost use Rattle.psy_meaning.specs.Flow.{IsMostSends};
+ghost use Rattle.psy_base.specs.Extremes.{IsGreatest, IsMost};
 ghost use Rattle.psy_meaning.specs.QueueSizes.{AreOutboxes, AreSendsBelow};
 ghost use Rattle.psy_meaning.specs.Units.{IsOfText};
-ghost use Rattle.psy_sizes.specs.Passing.{IsMost};
 ghost use Rattle.psy_sizes.specs.Sending.{HasSendsAmong, HasSendsBefore};
 
 use psy_base::{Items, Memory};

@@ -6,7 +6,7 @@ ghost use Rattle.psy_base.specs.declared.limits.TheConstants.{WINDOW_CELLS};
 ghost use Rattle.psy_base.specs.Paths.{FitsFirstFree, IsGreatestWeight};
 ghost use Rattle.psy_tree.specs.declared.unit.Unit.{Unit as Whole};
 ghost use Rattle.psy_flow.specs.Agents.{IsOfSome, IsAgentOf};
-ghost use Rattle.psy_meaning.specs.Executors.{agent_at};
+ghost use Rattle.psy_tree.specs.Parts.{agent_at};
 ghost use Rattle.psy_meaning.specs.Flow.{AreAllNexts};
 ghost use Rattle.psy_meaning.specs.QueueSizes.{AreSendEdges, IsSendEdge, IsSpread, IsSpreadBelow, IsWindow, PassesTable};
 ghost use Rattle.psy_meaning.specs.Units.{IsOfText};

@@ -2,7 +2,8 @@
 
 ghost use Rattle.std.specs.Prelude.{◌≡◌, ℕ, ◌*◌, ◌<◌, ◌≤◌, List, length};
 ghost use Rattle.psy_base.specs.declared.limits.TheConstants.{ADVANCE, PERIOD};
-ghost use Rattle.psy_meaning.specs.Flow.{AreAllNexts, IsGreatest};
+ghost use Rattle.psy_meaning.specs.Flow.{AreAllNexts};
+ghost use Rattle.psy_base.specs.Extremes.{IsGreatest};
 ghost use Rattle.psy_meaning.specs.QueueSizes.{MayLast, longest_delay};
 ghost use Rattle.psy_meaning.specs.RingSizes.{agent_timing};
 ghost use Rattle.psy_meaning.specs.Units.{IsOfText};

@@ -13,7 +13,8 @@ ghost use Rattle.psy_meaning.specs.Units.{IsOfText};
 ghost use Rattle.psy_graph.specs.Graphs.{HasGraph, AreGraphs};
 ghost use Rattle.psy_sizes.specs.declared.fault.SizeFault.TheVariants.{LargeRing as large_ring, Memory as no_memory};
 ghost use Rattle.psy_sizes.specs.Faults.{IsCause};
-ghost use Rattle.psy_sizes.specs.Passing.{IsMost, HasDatesAt, HasDatesOf, HasDatesBefore};
+ghost use Rattle.psy_sizes.specs.Passing.{HasDatesAt, HasDatesOf, HasDatesBefore};
+ghost use Rattle.psy_base.specs.Extremes.{IsMost};
 
 use crate::divisors::shared_divisor;
 use crate::fault::SizeFault;

@@ -3,7 +3,7 @@
 ghost use Rattle.std.specs.Prelude.{ℕ, ◌≤◌, ◌<◌};
 ghost use Rattle.std.specs.Int.{IsGcd};
 ghost use Rattle.psy_clock.specs.Dates.{IsClock};
-ghost use Rattle.psy_meaning.specs.Flow.{IsGreatest};
+ghost use Rattle.psy_base.specs.Extremes.{IsGreatest};
 ghost use Rattle.psy_sizes.specs.Windows.{HasDates};
 
 use psy_clock::Clock;

@@ -3,6 +3,7 @@ pub mod Deep
 pub mod Faults
 pub mod Grammar
 pub mod Lexemes
+pub mod Parts
 pub mod Paths
 pub mod Places
 pub mod Rules

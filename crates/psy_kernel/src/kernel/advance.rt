@@ -1,6 +1,6 @@
 //! What a cycle does to the action that it goes to.
 ghost use Rattle.std.specs.Prelude.{◌≡◌, ℕ, ◌==◌, if◌then◌else◌, None, Some, length, slice_get, true};
-ghost use Rattle.psy_meaning.specs.Actions.{Action, System};
+ghost use Rattle.psy_history.specs.Actions.{Action, System};
 ghost use Rattle.psy_machine.specs.Stepping.{IsOf};
 ghost use Rattle.psy_kernel.specs.declared.kernel.advance.Gone.TheVariants as gone;
 ghost use Rattle.psy_kernel.specs.Acting.{AfterCycle, HasDoneBy, InAction, IsLookIn, SeesAs, ShowsAs};

@@ -5,12 +5,13 @@ ghost use Rattle.psy_base.specs.declared.limits.TheConstants.{WORD_BYTES};
 ghost use Rattle.psy_base.specs.declared.message.Message.{Message};
 ghost use Rattle.psy_budget.specs.declared.charge.Stall.{Stall};
 ghost use Rattle.psy_clock.specs.Dates.{IsClock};
-ghost use Rattle.psy_meaning.specs.Schedule.{Turn};
+ghost use Rattle.psy_history.specs.Schedule.{Turn};
 ghost use Rattle.psy_history.specs.Compiled.{AreInputs};
 ghost use Rattle.psy_dates.specs.Plans.{IsPlan, system_of};
 ghost use Rattle.psy_dates.specs.Standing.{SharedStands};
 ghost use Rattle.psy_kernel.specs.Progress.{after_line, lines_told};
 ghost use Rattle.psy_kernel.specs.Telling.{IsNextTold, IsShownBy, IsToldBy, TellsMessage, TellsStop, TellsValue, told_by};
+ghost use Rattle.psy_tree.specs.Parts.{no_clock};
 
 use super::Kernel;
 use psy_clock::Clock;
@@ -52,7 +53,7 @@ fn tell_value(variable: &VarDecl, clocks: &[Clock], value: i32, date: u64, line:
     requires known { variable.now.clock < length clocks.now }
     requires clocks { All IsClock clocks.now }
     requires early { date ≤ 2 ^ 40 }
-    ensures told { TellsValue variable.now (get_or clocks.now variable.now.clock (record { period = 1; first = 0 })) value date result line.old line.new }
+    ensures told { TellsValue variable.now (get_or clocks.now variable.now.clock no_clock) value date result line.old line.new }
 {
     let clock = clocks[variable.clock as usize];
     if variable.owner.is_none() || clock.from_date(date, 0) != date {

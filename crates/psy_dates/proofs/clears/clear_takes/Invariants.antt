@@ -1,6 +1,6 @@
 -- What each loop of `clears::clear_takes` keeps.
 use Rattle.std.proofs.Common.{◌≡◌, ℕ, ◌<◌, ◌≤◌, if◌then◌else◌, Some, slice_get}
-use Rattle.psy_meaning.specs.QueueSizes.{stream_at}
+use Rattle.psy_tree.specs.Parts.{stream_at}
 use Rattle.psy_dates.specs.Moves.{ends_at}
 use Rattle.psy_dates.proofs.clears.clear_takes.Given as goal
 

@@ -4,7 +4,7 @@ use Rattle.std.specs.Prelude.{if◌then◌else◌}
 use Rattle.std.proofs.lemmas.List.{get_or_default}
 use Rattle.psy_base.specs.declared.message.Message.{Message}
 use Rattle.psy_meaning.specs.Kept.{IsSentOf}
-use Rattle.psy_meaning.specs.Visible.{messages_from}
+use Rattle.psy_history.specs.Visible.{messages_from}
 use Rattle.psy_dates.specs.Messages.{sends_of, sent_from}
 use Rattle.psy_dates.specs.Plans.{system_of}
 use Rattle.psy_dates.proofs.Entering.{both_told, enters_both, room_for_rest, room_for_some}

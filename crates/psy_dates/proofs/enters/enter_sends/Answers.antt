@@ -5,8 +5,8 @@ use Rattle.std.proofs.lemmas.Option.{slice_get-get_or}
 use Rattle.psy_base.specs.declared.message.Message.{Message}
 use Rattle.psy_code.specs.declared.look.Sent.{Sent}
 use Rattle.psy_queue.specs.Order.{Queued, put_in_order}
-use Rattle.psy_meaning.specs.Actions.{System}
-use Rattle.psy_meaning.specs.Visible.{message_of, messages_from}
+use Rattle.psy_history.specs.Actions.{System}
+use Rattle.psy_history.specs.Visible.{message_of, messages_from}
 use Rattle.psy_dates.specs.Messages.{HaveRoom, with_entered}
 use Rattle.psy_dates.specs.Plans.{system_of}
 use Rattle.psy_dates.proofs.Entering.{enters_first, left_is, room_at, room_left, with_first}

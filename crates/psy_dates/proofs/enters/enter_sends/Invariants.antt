@@ -2,7 +2,7 @@
 use Rattle.std.proofs.Common.{ℕ, [], List, drop}
 use Rattle.psy_base.specs.declared.message.Message.{Message}
 use Rattle.psy_queue.specs.Order.{Queued}
-use Rattle.psy_meaning.specs.Visible.{messages_from}
+use Rattle.psy_history.specs.Visible.{messages_from}
 use Rattle.psy_dates.specs.Messages.{HaveEntered, HaveRoom}
 use Rattle.psy_dates.specs.Plans.{system_of}
 use Rattle.psy_dates.proofs.enters.enter_sends.Given as goal

@@ -1,7 +1,7 @@
 -- What is left of the proof of `enters::enter_where`.
 use Rattle.std.proofs.Common.{◌+◌, ◌≤◌, Bool, [], length, subst}
 use Rattle.std.specs.Prelude.{if◌then◌else◌}
-use Rattle.psy_meaning.specs.Visible.{messages_from}
+use Rattle.psy_history.specs.Visible.{messages_from}
 use Rattle.psy_dates.specs.Plans.{system_of}
 use Rattle.psy_dates.proofs.enters.enter_where.Goals as goal
 

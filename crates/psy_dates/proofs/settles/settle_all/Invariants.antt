@@ -1,7 +1,7 @@
 -- What each loop of `settles::settle_all` keeps.
 use Rattle.std.proofs.Common.{◌≡◌, ℕ, ◌<◌, ◌≤◌, Some, get_or, slice_get}
 use Rattle.psy_queue.specs.Order.{Queued}
-use Rattle.psy_meaning.specs.QueueSizes.{stream_at}
+use Rattle.psy_tree.specs.Parts.{stream_at}
 use Rattle.psy_meaning.specs.Timing.{first_date}
 use Rattle.psy_dates.specs.Messages.{nowhere, settled_then}
 use Rattle.psy_dates.specs.Moves.{timing_in}

@@ -1,8 +1,8 @@
 -- What is left of the proof of `laws::alike`.
 use Rattle.std.proofs.Common.{ap, ◌∙◌}
-use Rattle.psy_meaning.specs.History.{history}
+use Rattle.psy_history.specs.History.{history}
 use Rattle.psy_meaning.specs.Sound.{IsSoundUnit}
-use Rattle.psy_meaning.specs.Summary.{due_by, reach, slack}
+use Rattle.psy_history.specs.Summary.{due_by, reach, slack}
 use Rattle.psy_history.specs.Compiled.{coded, stated}
 use Rattle.psy_history.specs.Scheduled.{turns_of}
 use Rattle.psy_history.proofs.LikeActions.{length_like}

@@ -5,8 +5,8 @@ use Rattle.psy_code.specs.declared.code.Code.{Code}
 use Rattle.psy_code.specs.Views.{found_in}
 use Rattle.psy_tree.specs.declared.unit.AgentDecl.{AgentDecl}
 use Rattle.psy_tree.specs.declared.unit.Unit.{Unit as Whole}
-use Rattle.psy_meaning.specs.Actions.{first_action}
-use Rattle.psy_meaning.specs.Executors.{by_code}
+use Rattle.psy_history.specs.Actions.{first_action}
+use Rattle.psy_history.specs.Executors.{by_code}
 use Rattle.psy_meaning.specs.Units.{IsOfText}
 use Rattle.psy_history.specs.Regular.{number_of}
 use Rattle.psy_history.proofs.CompiledRuns.{AreLaws, compiled_run}

@@ -1,8 +1,8 @@
 -- What is left of the proof of `laws::deeds`.
 use Rattle.std.proofs.lemmas.List.Elements.{All-contains}
 use Rattle.psy_code.specs.declared.code.Code.{Code}
-use Rattle.psy_meaning.specs.Executors.{agent_code_at}
-use Rattle.psy_meaning.specs.History.{history}
+use Rattle.psy_history.specs.Executors.{agent_code_at}
+use Rattle.psy_history.specs.History.{history}
 use Rattle.psy_history.proofs.OutboxSizes.{has_place}
 use Rattle.psy_history.proofs.RunActions.{AreRunLaws}
 use Rattle.psy_history.proofs.RunHistories.{IsOwn, all_own}

@@ -3,7 +3,7 @@ use Rattle.std.proofs.Common.{ap, ◌∙◌}
 use Rattle.std.proofs.lemmas.Option.{get_or_from_slice_get}
 use Rattle.psy_tree.specs.declared.unit.Unit.{Unit as Whole}
 use Rattle.psy_tree.specs.declared.unit.VarDecl.{VarDecl}
-use Rattle.psy_meaning.specs.History.{history}
+use Rattle.psy_history.specs.History.{history}
 use Rattle.psy_meaning.specs.Units.{IsOfText}
 use Rattle.psy_history.specs.Compiled.{stated}
 use Rattle.psy_history.specs.Feeding.{itself}

@@ -1,6 +1,6 @@
 -- What is left of the proof of `laws::queues`.
 use Rattle.psy_code.specs.declared.code.Code.{Code}
-use Rattle.psy_meaning.specs.Actions.{System}
+use Rattle.psy_history.specs.Actions.{System}
 use Rattle.psy_history.specs.Runs.{IsRun}
 use Rattle.psy_history.specs.Ways.{Ways}
 use Rattle.psy_history.proofs.QueueLooks.{ended_is, look_is, shows_is}

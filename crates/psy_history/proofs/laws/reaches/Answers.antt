@@ -2,7 +2,7 @@
 use Rattle.std.proofs.Common.{refl}
 use Rattle.std.proofs.lemmas.List.Elements.{All-contains}
 use Rattle.psy_code.specs.Execution.{call_of}
-use Rattle.psy_meaning.specs.History.{history}
+use Rattle.psy_history.specs.History.{history}
 use Rattle.psy_history.specs.Regular.{Runs}
 use Rattle.psy_history.proofs.Reached.{reach_date, reach_none, reach_stalled}
 use Rattle.psy_history.proofs.Reaches.{reach_paid}

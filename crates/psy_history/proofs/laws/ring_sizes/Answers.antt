@@ -1,7 +1,7 @@
 -- What is left of the proof of `laws::ring_sizes`.
 use Rattle.std.specs.Prelude.{◌+◌}
 use Rattle.std.proofs.lemmas.List.Elements.{All-contains}
-use Rattle.psy_meaning.specs.History.{history}
+use Rattle.psy_history.specs.History.{history}
 use Rattle.psy_history.specs.Regular.{IsRegular}
 use Rattle.psy_history.proofs.LookAges.{age_below}
 use Rattle.psy_history.proofs.RingReaches.{reach_below}

@@ -1,7 +1,7 @@
 -- What is left of the proof of `laws::values`.
 use Rattle.std.proofs.lemmas.List.Elements.{All-nil}
-use Rattle.psy_meaning.specs.Actions.{variable_of}
-use Rattle.psy_meaning.specs.History.{history}
+use Rattle.psy_history.specs.Actions.{variable_of}
+use Rattle.psy_history.specs.History.{history}
 use Rattle.psy_meaning.specs.Units.{IsOfText}
 use Rattle.psy_tree.specs.declared.unit.Unit.{Unit as Whole}
 use Rattle.psy_history.specs.Compiled.{stated}

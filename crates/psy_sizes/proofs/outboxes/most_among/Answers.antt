@@ -2,7 +2,7 @@
 use Rattle.std.proofs.Common.{◌+◌, take, get_or, subst}
 use Rattle.std.proofs.lemmas.List.{take_all}
 use Rattle.psy_meaning.specs.QueueSizes.{AreSendsBelow}
-use Rattle.psy_sizes.specs.Passing.{IsMost}
+use Rattle.psy_base.specs.Extremes.{IsMost}
 use Rattle.psy_sizes.specs.Sending.{HasSendsAmong}
 use Rattle.psy_sizes.proofs.OutboxesOf.{no_next, next_more, sends_most}
 use Rattle.psy_sizes.proofs.Passed.{most_max}

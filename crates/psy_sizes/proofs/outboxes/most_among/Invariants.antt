@@ -2,7 +2,7 @@
 use Rattle.std.proofs.Common.{ℕ, take}
 use Rattle.psy_tree.specs.declared.unit.Unit.{Unit as Whole}
 use Rattle.psy_flow.specs.Agents.{IsAgentOf}
-use Rattle.psy_sizes.specs.Passing.{IsMost}
+use Rattle.psy_base.specs.Extremes.{IsMost}
 use Rattle.psy_sizes.specs.Sending.{HasSendsAmong}
 use Rattle.psy_sizes.proofs.outboxes.most_among.Given as goal
 

@@ -1,6 +1,6 @@
 -- What is left of the proof of `outboxes::outbox`.
 use Rattle.std.proofs.Common.{◌≡◌, ◌+◌, length, subst, arith}
-use Rattle.psy_sizes.specs.Passing.{IsMost}
+use Rattle.psy_base.specs.Extremes.{IsMost}
 use Rattle.psy_sizes.specs.Sending.{HasSendsAmong, HasSendsBefore}
 use Rattle.psy_sizes.proofs.Actions.{head}
 use Rattle.psy_sizes.proofs.OutboxesOf.{most_is, no_point, point_more, sends_some}

@@ -1,7 +1,7 @@
 -- What each loop of `outboxes::outboxes` keeps.
 use Rattle.std.proofs.Common.{◌≡◌, ℕ, ◌<◌, length, get_or}
-use Rattle.psy_meaning.specs.Executors.{agent_at}
-use Rattle.psy_meaning.specs.Flow.{IsGreatest}
+use Rattle.psy_tree.specs.Parts.{agent_at}
+use Rattle.psy_base.specs.Extremes.{IsGreatest}
 use Rattle.psy_meaning.specs.QueueSizes.{HasSendsTo}
 use Rattle.psy_sizes.proofs.outboxes.outboxes.Given as goal
 

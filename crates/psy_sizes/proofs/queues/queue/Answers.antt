@@ -1,7 +1,7 @@
 -- What is left of the proof of `queues::queue`.
 use Rattle.std.proofs.Common.{◌≡◌, map, refl, sym, ap, ◌∙◌, inr, arith}
 use Rattle.psy_meaning.specs.QueueSizes.{all_sendings, delay_of}
-use Rattle.psy_meaning.specs.Summary.{greatest_of}
+use Rattle.psy_base.specs.Extremes.{greatest_of}
 use Rattle.psy_sizes.specs.Queues.{latest}
 use Rattle.psy_sizes.proofs.Latest.{of_all}
 use Rattle.psy_sizes.proofs.QueueOf.{delay_is, none_counted, size_of_none, size_of_some}

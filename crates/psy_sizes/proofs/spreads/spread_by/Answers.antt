@@ -4,7 +4,7 @@ use Rattle.std.specs.List.{Contains}
 use Rattle.std.proofs.lemmas.Option.{slice_get-get_or}
 use Rattle.std.proofs.lemmas.Result.{IfOk-weaker, IfErr-weaker}
 use Rattle.psy_flow.specs.Agents.{IsAgentOf}
-use Rattle.psy_meaning.specs.Executors.{agent_at}
+use Rattle.psy_tree.specs.Parts.{agent_at}
 use Rattle.psy_meaning.specs.QueueSizes.{delay_of, sendings_to}
 use Rattle.psy_sizes.proofs.NoSends.{no_spread}
 use Rattle.psy_sizes.proofs.SpreadOf.{none_sent, not_passed, passed, some_sent}

@@ -1,7 +1,7 @@
 -- What is left of the proof of `tops::longest`.
 use Rattle.std.proofs.Common.{subst}
 use Rattle.std.proofs.lemmas.List.{take_all}
-use Rattle.psy_meaning.specs.Flow.{IsGreatest}
+use Rattle.psy_base.specs.Extremes.{IsGreatest}
 use Rattle.psy_sizes.specs.Queues.{HasLength}
 use Rattle.psy_sizes.proofs.Lasting.{length_more}
 use Rattle.psy_sizes.proofs.Tables.{no_edge}

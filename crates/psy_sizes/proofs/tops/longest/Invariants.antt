@@ -1,6 +1,6 @@
 -- What each loop of `tops::longest` keeps.
 use Rattle.std.proofs.Common.{take}
-use Rattle.psy_meaning.specs.Flow.{IsGreatest}
+use Rattle.psy_base.specs.Extremes.{IsGreatest}
 use Rattle.psy_sizes.specs.Queues.{HasLength}
 use Rattle.psy_sizes.proofs.tops.longest.Given as goal
 

@@ -3,7 +3,7 @@ use Rattle.std.proofs.Common.{◌≡◌, get_or, ap, subst, ◌∙◌}
 use Rattle.std.proofs.lemmas.List.{get_or_default}
 use Rattle.psy_clock.specs.declared.clock.Clock.{Clock}
 use Rattle.psy_flow.specs.Agents.{IsAgentOf}
-use Rattle.psy_meaning.specs.Flow.{IsGreatest}
+use Rattle.psy_base.specs.Extremes.{IsGreatest}
 use Rattle.psy_meaning.specs.QueueSizes.{MayLast}
 use Rattle.psy_meaning.specs.RingSizes.{agent_timing}
 use Rattle.psy_meaning.specs.Timing.{Timing}

@@ -8,8 +8,9 @@ use Rattle.std.proofs.lemmas.Option.{get_or_from_slice_get, slice_get_read}
 use Rattle.psy_clock.specs.declared.clock.Clock.{Clock}
 use Rattle.psy_clock.specs.Dates.{IsClock}
 use Rattle.psy_tree.specs.declared.unit.StreamDecl.{StreamDecl}
-use Rattle.psy_meaning.specs.Flow.{IsGreatest}
-use Rattle.psy_meaning.specs.QueueSizes.{MayLast, lasting_of, longest_delay, period_of, stream_at}
+use Rattle.psy_base.specs.Extremes.{IsGreatest}
+use Rattle.psy_meaning.specs.QueueSizes.{MayLast, lasting_of, longest_delay, period_of}
+use Rattle.psy_tree.specs.Parts.{stream_at}
 use Rattle.psy_meaning.specs.RingSizes.{agent_timing}
 use Rattle.psy_meaning.specs.Units.{IsBareStream}
 use Rattle.psy_sizes.proofs.Sharing.{no_clock}

@@ -8,7 +8,8 @@ use Rattle.psy_meaning.specs.Graph.{IsCycle}
 use Rattle.psy_meaning.specs.Timing.{Timing, timing_of}
 use Rattle.psy_graph.specs.declared.graph.Graph.{Graph}
 use Rattle.psy_graph.specs.Graphs.{IsGraphOf, IsTimingOf}
-use Rattle.psy_sizes.specs.Passing.{IsMost, HasDatesAt, HasDatesOf}
+use Rattle.psy_sizes.specs.Passing.{HasDatesAt, HasDatesOf}
+use Rattle.psy_base.specs.Extremes.{IsMost}
 use Rattle.psy_sizes.specs.Windows.{timing_by}
 use Rattle.psy_sizes.proofs.Actions.{nexts_of, nodes_within, phases_within, nodes_tell}
 use Rattle.psy_sizes.proofs.Multiples.{gcd_some}

@@ -1,6 +1,7 @@
 -- What is left of the proof of `variables::most_of_all`.
 use Rattle.std.proofs.Common.{◌≡◌, ◌+◌, length, subst, arith}
-use Rattle.psy_sizes.specs.Passing.{IsMost, HasDatesOf, HasDatesBefore}
+use Rattle.psy_sizes.specs.Passing.{HasDatesOf, HasDatesBefore}
+use Rattle.psy_base.specs.Extremes.{IsMost}
 use Rattle.psy_sizes.proofs.Passed.{most_max, agent_more}
 use Rattle.psy_sizes.proofs.variables.most_of_all.Goals as goal
 

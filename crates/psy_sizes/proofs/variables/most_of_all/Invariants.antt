@@ -1,5 +1,6 @@
 -- What each loop of `variables::most_of_all` keeps.
-use Rattle.psy_sizes.specs.Passing.{IsMost, HasDatesBefore}
+use Rattle.psy_sizes.specs.Passing.{HasDatesBefore}
+use Rattle.psy_base.specs.Extremes.{IsMost}
 use Rattle.psy_sizes.proofs.variables.most_of_all.Given as goal
 
 abbrev pub invariant-agents : goal.invariant-agents

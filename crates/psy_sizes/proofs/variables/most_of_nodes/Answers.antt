@@ -6,7 +6,8 @@ use Rattle.psy_tree.specs.declared.unit.Unit.{Unit as Whole}
 use Rattle.psy_flow.specs.Agents.{IsAgentOf}
 use Rattle.psy_meaning.specs.Flow.{MayLook}
 use Rattle.psy_graph.specs.declared.graph.Node.{Node}
-use Rattle.psy_sizes.specs.Passing.{IsMost, HasDatesAt}
+use Rattle.psy_sizes.specs.Passing.{HasDatesAt}
+use Rattle.psy_base.specs.Extremes.{IsMost}
 use Rattle.psy_sizes.proofs.Passed.{HasDatesBy, most_max, node_more, looking_by, blind_by}
 use Rattle.psy_sizes.proofs.variables.most_of_nodes.Goals as goal
 use Rattle.psy_sizes.proofs.variables.most_of_nodes.Goals.{then-node-point, else-node-point, then-looking, else-looking}

@@ -5,7 +5,8 @@ use Rattle.std.specs.List.{All}
 use Rattle.psy_tree.specs.declared.unit.Unit.{Unit as Whole}
 use Rattle.psy_flow.specs.Agents.{IsAgentOf}
 use Rattle.psy_meaning.specs.Flow.{MayLook}
-use Rattle.psy_sizes.specs.Passing.{IsMost, HasDatesAt}
+use Rattle.psy_sizes.specs.Passing.{HasDatesAt}
+use Rattle.psy_base.specs.Extremes.{IsMost}
 use Rattle.psy_sizes.proofs.variables.most_of_nodes.Given as goal
 
 abbrev pub invariant-nodes : goal.invariant-nodes

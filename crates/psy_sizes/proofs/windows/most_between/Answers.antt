@@ -1,6 +1,6 @@
 -- What is left of the proof of `windows::most_between`.
 use Rattle.std.proofs.Common.{◌+◌, ◌-◌, ◌/◌, ap, sym, subst, ◌∙◌, arith}
-use Rattle.psy_meaning.specs.Flow.{IsGreatest}
+use Rattle.psy_base.specs.Extremes.{IsGreatest}
 use Rattle.psy_sizes.specs.Windows.{HasDates}
 use Rattle.psy_sizes.proofs.Distances.{gap, gap_found, most_dates, no_dates}
 use Rattle.psy_sizes.proofs.windows.most_between.Goals as goal

@@ -5,8 +5,8 @@ use Rattle.std.proofs.lemmas.Bool.{true≢false}
 use Rattle.std.proofs.lemmas.List.{length-replicate}
 use Rattle.std.proofs.lemmas.List.FromFn.{length-map-range_with_len}
 use Rattle.psy_history.specs.Compiled.{AreInputs, coded}
-use Rattle.psy_meaning.specs.Actions.{System}
-use Rattle.psy_meaning.specs.History.{history}
+use Rattle.psy_history.specs.Actions.{System}
+use Rattle.psy_history.specs.History.{history}
 use Rattle.psy_dates.specs.Standing.{SharedStands, dates_done}
 use Rattle.psy_kernel.specs.declared.kernel.Figure.{Figure}
 use Rattle.psy_history.specs.declared.told.Order.{Order}

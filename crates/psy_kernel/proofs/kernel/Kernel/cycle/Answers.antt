@@ -10,8 +10,8 @@ use Rattle.psy_dates.specs.declared.seat.Seat.{Seat}
 use Rattle.psy_dates.specs.Outboxes.{Outboxed}
 use Rattle.psy_dates.specs.Standing.{dates_done}
 use Rattle.psy_machine.specs.Stepping.{AgentMachine}
-use Rattle.psy_meaning.specs.Actions.{Action}
-use Rattle.psy_meaning.specs.Schedule.{units}
+use Rattle.psy_history.specs.Actions.{Action}
+use Rattle.psy_history.specs.Schedule.{units}
 use Rattle.psy_queue.specs.Order.{Queued}
 use Rattle.psy_ready.specs.Choice.{IsPick, pending_deadline}
 use Rattle.psy_kernel.specs.Acting.{IsLookIn}

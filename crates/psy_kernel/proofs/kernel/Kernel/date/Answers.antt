@@ -2,9 +2,9 @@
 use Rattle.std.proofs.Common.{◌≡◌, ℕ, ◌+◌, ◌*◌, ◌≤◌, suc, List, length, None, true, refl, ap, sym, subst, ◌∙◌, arith, ℤ}
 use Rattle.std.proofs.Math.Numerals.{add-one}
 use Rattle.psy_ready.specs.Choice.{pending_deadline}
-use Rattle.psy_meaning.specs.Actions.{System}
-use Rattle.psy_meaning.specs.History.{history}
-use Rattle.psy_meaning.specs.Summary.{reach}
+use Rattle.psy_history.specs.Actions.{System}
+use Rattle.psy_history.specs.History.{history}
+use Rattle.psy_history.specs.Summary.{reach}
 use Rattle.psy_history.specs.Compiled.{AreInputs, coded}
 use Rattle.psy_history.specs.Scheduled.{turns_of}
 use Rattle.psy_dates.specs.Standing.{SharedStands, dates_done}

@@ -9,9 +9,9 @@ use Rattle.psy_history.specs.Runs.{IsRun}
 use Rattle.psy_history.specs.Scheduled.{IsSupplied}
 use Rattle.psy_history.specs.Scripts.{order_of, stalls_of}
 use Rattle.psy_history.specs.Ways.{OfText}
-use Rattle.psy_meaning.specs.Actions.{Action}
-use Rattle.psy_meaning.specs.History.{history}
-use Rattle.psy_meaning.specs.Schedule.{is_pending}
+use Rattle.psy_history.specs.Actions.{Action}
+use Rattle.psy_history.specs.History.{history}
+use Rattle.psy_history.specs.Schedule.{is_pending}
 use Rattle.psy_kernel.specs.Cycles.{GetsCycle, IsCycleOf, run_of, run_turns}
 use Rattle.psy_kernel.proofs.GetsCycle as known
 use Rattle.psy_kernel.proofs.LooksBack.{AreLooksLaws, looks}

@@ -18,8 +18,8 @@ use Rattle.psy_dates.specs.declared.seat.Seat.{Seat}
 use Rattle.psy_dates.specs.declared.seat.Phase.TheVariants as phase
 use Rattle.psy_dates.specs.Outboxes.{Outboxed}
 use Rattle.psy_dates.specs.Plans.{system_of}
-use Rattle.psy_meaning.specs.Actions.{Action, System, timing}
-use Rattle.psy_meaning.specs.Schedule.{Turn, units}
+use Rattle.psy_history.specs.Actions.{Action, System, timing}
+use Rattle.psy_history.specs.Schedule.{Turn, units}
 use Rattle.psy_meaning.specs.Timing.{end_date}
 use Rattle.psy_queue.specs.Order.{Queued}
 use Rattle.psy_tree.specs.declared.unit.StreamDecl.{StreamDecl}

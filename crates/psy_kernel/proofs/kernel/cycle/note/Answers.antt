@@ -7,14 +7,15 @@ use Rattle.std.proofs.lemmas.Option.{get_or_from_slice_get, slice_get-get_or, sl
 use Rattle.psy_clock.specs.declared.clock.Clock.{Clock}
 use Rattle.psy_dates.specs.Plans.{system_of}
 use Rattle.psy_history.specs.Rings.{age_at}
-use Rattle.psy_meaning.specs.Actions.{System, publishing, variable_of}
+use Rattle.psy_history.specs.Actions.{System, publishing, variable_of}
 use Rattle.psy_meaning.specs.RingSizes.{dates_between}
-use Rattle.psy_meaning.specs.Summary.{greater}
+use Rattle.psy_base.specs.Extremes.{greater}
 use Rattle.psy_tree.specs.declared.unit.VarDecl.{VarDecl}
 use Rattle.psy_kernel.specs.Cycles.{IsNear, reach_by}
 use Rattle.psy_kernel.specs.Seeing.{clock_in}
 use Rattle.psy_kernel.proofs.Sets.{get_set_other, get_set_same}
 use Rattle.psy_kernel.proofs.kernel.cycle.note.Goals as goal
+use Rattle.psy_tree.specs.Parts.{no_variable}
 
 -- What is reached for after a look stands in place of what was before
 set_at : (s : System) (start date looked back : ℕ) (reaches : List (Option ℕ)) (new : Option ℕ) (variable : ℕ) (n : Option ℕ) → slice_get reaches variable ≡ Some n
@@ -42,7 +43,7 @@ returns-in-Some-clause-reached c = λ inputs stalls variable n at.
     let known : looked < length s.unit.variables = (subst (IsNear s c.args.start c.args.date) c.in-Some.is c.requires.near).0 in
     let decl : VarDecl = c.index-as_slice-number.result in
     let declared : decl ≡ variable_of s looked =
-    sym (get_or_from_slice_get s.unit.variables looked decl (record { name = []; owner = None; clock = 0; init = pos 0; depth = 0 })
+    sym (get_or_from_slice_get s.unit.variables looked decl no_variable
     (slice_get_read s.unit.variables (length s.unit.variables) looked decl refl known (c.index-as_slice-number.is ∙ ap (λ (vs : List VarDecl). get_or vs looked decl) c.as_slice.ensures))) in
     let clock : c.clock_in-clock.result ≡ publishing s looked = c.clock_in-clock.ensures.clock ∙ ap (λ (cs : List Clock). clock_in cs decl.clock) c.as_slice-in-Some.ensures ∙ ap (λ (v : VarDecl). clock_in s.unit.clocks v.clock) declared in
     let passed : back + c.dates_between-passed.result ≡ age_at s looked back c.args.start c.args.date = ap (λ n. back + n) (c.dates_between-passed.ensures ∙ ap (λ (k : Clock). dates_between k c.args.start c.args.date) clock) in

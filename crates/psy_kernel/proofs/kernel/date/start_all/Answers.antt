@@ -9,6 +9,7 @@ use Rattle.psy_kernel.specs.Starting.{budget_in, charge_at, deadline_at, points_
 use Rattle.psy_kernel.proofs.Placed.{one_done, one_kept}
 use Rattle.psy_kernel.proofs.kernel.date.start_all.Goals as goal
 use Rattle.psy_kernel.proofs.kernel.date.start_all.Goals.{then-starts_at, else-starts_at}
+use Rattle.psy_tree.specs.Parts.{no_agent}
 
 pub each-preserved : goal.each-preserved
 each-preserved c = elim c.if-starts_at.branch [
@@ -23,7 +24,7 @@ each-preserved c = elim c.if-starts_at.branch [
       let within : n < length c.each.charges.items = omega (arith, c.each-test.true, c.requires.seated, c.requires.charged, kept.charges.count) in
       let here : slice_get c.each.charges.items n ≡ Some charge = slice_get_read c.each.charges.items (length c.each.charges.items) n charge refl within w.index_mut.ensures.value in
       let at : slice_get charges n ≡ Some charge = sym (kept.charges.ahead n (omega arith)) ∙ here in
-      let points : w.as_slice.result.now ≡ points_at agents n = w.as_slice.ensures ∙ ap (λ (a : AgentDecl). a.points) (get_or_default agents n w.index-agents-agent.result (record { name = []; clock = 0; budget = 0; slots = []; points = []; stmts = [] }) (omega (arith, c.each-test.true, c.requires.seated))) in
+      let points : w.as_slice.result.now ≡ points_at agents n = w.as_slice.ensures ∙ ap (λ (a : AgentDecl). a.points) (get_or_default agents n w.index-agents-agent.result no_agent (omega (arith, c.each-test.true, c.requires.seated))) in
       let budget : w.budget_in.result ≡ budget_in (points_at agents n) (seat_at seats n).point = w.budget_in.ensures ∙ ap (λ ps. budget_in ps (seat_at seats n).point) points in
       let made : w.start.new.self ≡ charge_at date seats agents n charge = w.start.ensures ∙ ap (after_start charge) budget ∙ rw starts refl in
       let waits = slice_index_or pending n None in

@@ -1,7 +1,7 @@
 -- What each loop of `kernel::lines::tell_next` keeps.
 use Rattle.std.proofs.Common.{◌≡◌, ℕ, ◌+◌, ◌-◌, ◌≤◌, List, Option}
 use Rattle.psy_budget.specs.declared.charge.Stall.{Stall}
-use Rattle.psy_meaning.specs.Schedule.{Turn}
+use Rattle.psy_history.specs.Schedule.{Turn}
 use Rattle.psy_dates.specs.Plans.{system_of}
 use Rattle.psy_dates.specs.Standing.{SharedStands}
 use Rattle.psy_kernel.specs.Standing.{told_from}

@@ -5,10 +5,10 @@ use Rattle.std.proofs.lemmas.Option.{slice_get_read}
 use Rattle.psy_clock.specs.declared.clock.Clock.{Clock}
 use Rattle.psy_tree.specs.declared.unit.AgentDecl.{AgentDecl}
 use Rattle.psy_tree.specs.declared.unit.VarDecl.{VarDecl}
-use Rattle.psy_meaning.specs.Executors.{agent_at}
+use Rattle.psy_tree.specs.Parts.{agent_at, variable_at}
 use Rattle.psy_dates.specs.Plans.{system_of}
 use Rattle.psy_history.specs.Ways.{OfText}
-use Rattle.psy_kernel.specs.Telling.{TellsValue, variable_at}
+use Rattle.psy_kernel.specs.Telling.{TellsValue}
 use Rattle.psy_kernel.proofs.Named.{agent_found, variable_found}
 use Rattle.psy_kernel.proofs.PlacesTold.{agent_told, variable_told}
 use Rattle.psy_kernel.proofs.kernel.lines.tell_place.Goals as goal

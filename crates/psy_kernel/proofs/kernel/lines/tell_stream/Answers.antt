@@ -2,7 +2,7 @@
 use Rattle.std.proofs.Common.{◌≡◌, ◌<◌, ℕ, length, slice_get, Some, refl, sym, ap, subst, ◌∙◌}
 use Rattle.std.proofs.lemmas.Option.{slice_get_read}
 use Rattle.psy_tree.specs.declared.unit.StreamDecl.{StreamDecl}
-use Rattle.psy_meaning.specs.QueueSizes.{stream_at}
+use Rattle.psy_tree.specs.Parts.{stream_at}
 use Rattle.psy_dates.specs.Plans.{system_of}
 use Rattle.psy_history.specs.Ways.{OfText}
 use Rattle.psy_kernel.proofs.Named.{stream_found}

@@ -5,9 +5,7 @@ use Rattle.psy_tree.specs.declared.unit.AgentDecl.{AgentDecl}
 use Rattle.psy_tree.specs.declared.unit.StreamDecl.{StreamDecl}
 use Rattle.psy_tree.specs.declared.unit.VarDecl.{VarDecl}
 use Rattle.psy_kernel.specs.declared.kernel.Figure.{Figure}
-use Rattle.psy_meaning.specs.Executors.{agent_at}
-use Rattle.psy_meaning.specs.QueueSizes.{stream_at}
-use Rattle.psy_kernel.specs.Telling.{variable_at}
+use Rattle.psy_tree.specs.Parts.{agent_at, stream_at, variable_at}
 use Rattle.psy_kernel.proofs.Named.{agent_found, stream_found, variable_found}
 use Rattle.psy_kernel.proofs.FigureLines.{agent_figured, figured_length, stream_figured, variable_figured}
 use Rattle.psy_kernel.proofs.kernel.summary.tell_figure.Goals as goal

@@ -1,6 +1,6 @@
 -- The elementary actions of agents, and what a history of them depends on (OASIS: between two dates of an agent lies one action,
 -- with a start date and a deadline).
-use Rattle.std.specs.Prelude.{ℕ, ◌+◌, Bool, true, false, not, ◌&&◌, nat_le, nat_lt, if◌then◌else◌, List, [], ◌∷◌, Option, Some, None, slice_get, get_or, ℤ, pos}
+use Rattle.std.specs.Prelude.{ℕ, ◌+◌, Bool, true, false, not, ◌&&◌, nat_le, nat_lt, if◌then◌else◌, List, [], ◌∷◌, Option, Some, None, slice_get, get_or, ℤ}
 use Rattle.psy_arith.specs.declared.operators.Trap.{Trap}
 use Rattle.psy_base.specs.declared.message.Message.{Message}
 use Rattle.psy_budget.specs.declared.charge.Stall.{Stall}
@@ -10,8 +10,9 @@ use Rattle.psy_code.specs.Views.{Deeds, View, found_in}
 use Rattle.psy_tree.specs.declared.unit.StreamDecl.{StreamDecl}
 use Rattle.psy_tree.specs.declared.unit.Unit.{Unit as Whole}
 use Rattle.psy_tree.specs.declared.unit.VarDecl.{VarDecl}
-use Rattle.psy_meaning.specs.Executors.{Carried, Fate, Executor, Reached, Unfinished, agent_at}
-use Rattle.psy_meaning.specs.Executors as fate
+use Rattle.psy_history.specs.Executors.{Carried, Fate, Executor, Reached, Unfinished}
+use Rattle.psy_tree.specs.Parts.{agent_at, clock_in, stream_at, variable_at}
+use Rattle.psy_history.specs.Executors as fate
 use Rattle.psy_meaning.specs.Timing.{Timing, timing_of, first_date, end_date}
 
 -- How an action ended: it reached a point, where the next one begins at a date; it trapped; or its charge passed its budget.
@@ -74,11 +75,11 @@ pub record System : Type 0 where
 
 -- The clock of a number: that of all ticks where there is none
 abbrev pub clock_of : System → ℕ → Clock
-clock_of s clock = get_or s.unit.clocks clock (record { period = 1; first = 0 })
+clock_of s clock = clock_in s.unit clock
 
 -- The variable of a number: an input of value 0 where there is none
 abbrev pub variable_of : System → ℕ → VarDecl
-variable_of s variable = get_or s.unit.variables variable (record { name = []; owner = None; clock = 0; init = pos 0; depth = 0 })
+variable_of s variable = variable_at s.unit variable
 
 -- The clock at whose dates a variable publishes
 abbrev pub publishing : System → ℕ → Clock
@@ -86,7 +87,7 @@ publishing s variable = clock_of s (variable_of s variable).clock
 
 -- The stream of a number
 abbrev pub stream_of : System → ℕ → StreamDecl
-stream_of s stream = get_or s.unit.streams stream (record { name = []; receiver = 0; keep = 1; clock = 0 })
+stream_of s stream = stream_at s.unit stream
 
 -- When the actions of an agent begin, are due and end
 abbrev pub timing : System → ℕ → Timing
@@ -107,7 +108,7 @@ first_action unit nexts executor agent = record {
 abbrev pub plain : Whole → List (List (List ℕ)) → Executor → Opening
 plain unit nexts executor = record {
   starts = λ agent. found_in (slice_get unit.agents agent) (λ a. Some (first_action unit nexts executor agent));
-  committed = λ variable. (get_or unit.variables variable (record { name = []; owner = None; clock = 0; init = pos 0; depth = 0 })).init;
+  committed = λ variable. (variable_at unit variable).init;
   messages = λ stream. [];
 }
 

@@ -8,8 +8,8 @@ use Rattle.psy_clock.specs.Dates.{after_date, count, date, from_date}
 use Rattle.psy_code.specs.declared.look.Sent.{Sent}
 use Rattle.psy_code.specs.Views.{View}
 use Rattle.psy_queue.specs.Order.{put_in_order}
-use Rattle.psy_meaning.specs.Actions.{Action, History, System, Verdict, Done, clock_of, is_done_by, is_silent, publishing, stream_of, variable_of}
-use Rattle.psy_meaning.specs.Executors.{Carried, copy_in}
+use Rattle.psy_history.specs.Actions.{Action, History, System, Verdict, Done, clock_of, is_done_by, is_silent, publishing, stream_of, variable_of}
+use Rattle.psy_history.specs.Executors.{Carried, copy_in}
 
 -- ---- variables
 

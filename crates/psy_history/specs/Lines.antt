@@ -5,9 +5,9 @@ use Rattle.psy_arith.specs.declared.operators.Trap.{Trap}
 use Rattle.psy_base.specs.declared.message.Message.{Message}
 use Rattle.psy_clock.specs.declared.clock.Clock.{Clock}
 use Rattle.psy_clock.specs.Dates.{from_date}
-use Rattle.psy_meaning.specs.Actions.{Action, History, System, Verdict, Done, Trapped, Overran, publishing, variable_of}
-use Rattle.psy_meaning.specs.History.{history}
-use Rattle.psy_meaning.specs.Visible.{messages, published}
+use Rattle.psy_history.specs.Actions.{Action, History, System, Verdict, Done, Trapped, Overran, publishing, variable_of}
+use Rattle.psy_history.specs.History.{history}
+use Rattle.psy_history.specs.Visible.{messages, published}
 
 -- What is told of a date: an agent stopped, by a trap or by an overrun; a variable published a value; a message became visible.
 pub data Event : Type 0 where

@@ -2,7 +2,7 @@
 use Rattle.std.specs.Prelude.{ℕ, zero, suc, ◌+◌, ◌/◌, ◌==◌, Bool, false, ◌&&◌, min, nat_le, nat_lt, if◌then◌else◌, List, [], ◌∷◌, filter, length}
 use Rattle.std.specs.Prelude.{Option, Some, None}
 use Rattle.std.specs.List.{flat_map}
-use Rattle.psy_meaning.specs.Actions.{Action, History}
+use Rattle.psy_history.specs.Actions.{Action, History}
 
 -- An action that a cycle goes to, by its agent and its number
 pub record Turn : Type 0 where

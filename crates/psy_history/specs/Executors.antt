@@ -4,6 +4,7 @@ use Rattle.std.specs.List.{flat_map}
 use Rattle.psy_arith.specs.declared.operators.Trap.{Trap}
 use Rattle.psy_tree.specs.declared.unit.AgentDecl.{AgentDecl}
 use Rattle.psy_tree.specs.declared.unit.Unit.{Unit as Whole}
+use Rattle.psy_tree.specs.Parts.{agent_at}
 use Rattle.psy_code.specs.declared.code.AgentCode.{AgentCode}
 use Rattle.psy_code.specs.declared.code.Code.{Code}
 use Rattle.psy_code.specs.Execution.{Copy, Frame, Machine, Run, Running, RanTo, TrappedBy, NoRun, copy_from, copy_of, run_code, standing}
@@ -44,10 +45,6 @@ abbrev pub past_budget : ℕ → Deeds → Deeds
 past_budget budget deeds = record deeds { steps = budget + 1 }
 
 -- ---- statements
-
--- The agent of a number: one without points where there is none
-abbrev pub agent_at : Whole → ℕ → AgentDecl
-agent_at unit agent = get_or unit.agents agent (record { name = []; clock = 0; budget = 0; slots = []; points = []; stmts = [] })
 
 -- Cells cut into lists of these lengths
 abbrev pub cut : List ℕ → List ℤ → List (List ℤ)

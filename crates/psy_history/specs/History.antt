@@ -3,10 +3,10 @@
 use Rattle.std.specs.Prelude.{ℕ, zero, suc, ◌==◌, if◌then◌else◌, List, [], ◌∷◌, Option, Some, None}
 use Rattle.psy_base.specs.declared.message.Message.{Message}
 use Rattle.psy_code.specs.Views.{View}
-use Rattle.psy_meaning.specs.Actions.{Action, History, Next, System, charge_of, next_of, timing, verdict_of}
-use Rattle.psy_meaning.specs.Executors.{Acted}
+use Rattle.psy_history.specs.Actions.{Action, History, Next, System, charge_of, next_of, timing, verdict_of}
+use Rattle.psy_history.specs.Executors.{Acted}
 use Rattle.psy_meaning.specs.Timing.{budget_at, deadline}
-use Rattle.psy_meaning.specs.Visible.{seen_at, view_of}
+use Rattle.psy_history.specs.Visible.{seen_at, view_of}
 
 -- What is recorded of an action that starts there, sees this, and came to that
 abbrev pub recorded : System → ℕ → Next → View → (ℕ → List Message) → Acted → Action

@@ -1,33 +1,14 @@
 -- The summary of a run: how much slack its actions kept, and how much of each buffer was used.
-use Rattle.std.specs.Prelude.{ℕ, ◌+◌, ◌-◌, ◌*◌, ◌/◌, ◌==◌, nat_le, min, max, List, [], ◌∷◌, map, filter, length, Option, Some, None}
+use Rattle.std.specs.Prelude.{ℕ, ◌+◌, ◌-◌, ◌*◌, ◌/◌, ◌==◌, nat_le, List, [], ◌∷◌, map, filter, length, Option, Some, None}
 use Rattle.std.specs.List.{flat_map, range_with_len}
+use Rattle.psy_base.specs.Extremes.{greatest_of, least_of, most_of}
 use Rattle.psy_budget.specs.Charges.{cycle_of}
 use Rattle.psy_clock.specs.Dates.{count}
 use Rattle.psy_code.specs.Views.{Looked}
-use Rattle.psy_meaning.specs.Actions.{Action, History, System, publishing}
-use Rattle.psy_meaning.specs.History.{history}
-use Rattle.psy_meaning.specs.Schedule.{Turn, cycle_of_unit, finish}
-use Rattle.psy_meaning.specs.Visible.{held}
-
--- The lesser of a number and the least one so far
-abbrev pub lesser : ℕ → Option ℕ → Option ℕ
-lesser n None = Some n
-lesser n (Some least) = Some (min n least)
-
--- The least of some numbers
-abbrev pub least_of : List ℕ → Option ℕ
-least_of [] = None
-least_of (n ∷ numbers) = lesser n (least_of numbers)
-
--- The greater of a number and the greatest one so far
-abbrev pub greater : ℕ → Option ℕ → Option ℕ
-greater n None = Some n
-greater n (Some greatest) = Some (max n greatest)
-
--- The greatest of some numbers
-abbrev pub greatest_of : List ℕ → Option ℕ
-greatest_of [] = None
-greatest_of (n ∷ numbers) = greater n (greatest_of numbers)
+use Rattle.psy_history.specs.Actions.{Action, History, System, publishing}
+use Rattle.psy_history.specs.History.{history}
+use Rattle.psy_history.specs.Schedule.{Turn, cycle_of_unit, finish}
+use Rattle.psy_history.specs.Visible.{held}
 
 -- The actions that are due by a date
 abbrev pub due_by : ℕ → List Action → List Action
@@ -57,11 +38,6 @@ ages_of s turns variable r =
 abbrev pub reach : System → List (Option Turn) → History → ℕ → Option ℕ
 reach s turns h variable =
     greatest_of (flat_map (λ agent. flat_map (ages_of s turns variable) (h agent)) (range_with_len 0 (length s.unit.agents)))
-
--- The greatest of some numbers, and 0 where there are none
-abbrev pub most_of : List ℕ → ℕ
-most_of [] = 0
-most_of (n ∷ numbers) = max n (most_of numbers)
 
 -- The greatest number of messages that a stream held at a date up to this one
 abbrev pub most_held : System → ℕ → ℕ → ℕ
