@@ -3,6 +3,7 @@
 #![tactic(auto)]
 
 mod asked;
+mod clean;
 mod commands;
 mod costs;
 pub mod laws;
@@ -18,5 +19,6 @@ mod texts;
 mod told;
 mod top;
 
+pub use clean::psyc_over_clean;
 pub use run::run_loop;
 pub use top::psyc;
