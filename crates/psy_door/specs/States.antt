@@ -1,6 +1,6 @@
 -- What contracts see of the forms in memory.
-use Rattle.std.specs.Prelude.{◌≡◌, ℕ, ◌+◌, ◌-◌, ◌<◌, ◌^◌, List, ◌++◌, length, take, min, Contains, ◌⊎◌, Option, None, Some, Bool, ◌&&◌, nat_le}
-use Rattle.std.specs.Prelude.{if◌then◌else◌, Result, Ok, MatchResult}
+use Rattle.std.specs.Prelude.{◌≡◌, ℕ, ◌+◌, ◌-◌, ◌<◌, ◌^◌, List, ◌++◌, length, take, min, Contains, ◌⊎◌, Bool, ◌&&◌, nat_le, if◌then◌else◌}
+use Rattle.std.specs.Prelude.{Option, None, Some, Result, Ok, MatchResult}
 use Rattle.std.specs.FinMap.{get}
 use Rattle.psy_door.specs.Files.{Pairs, files_of}
 use Rattle.psy_door.specs.declared.sink.Failed.{Failed}

@@ -24,3 +24,4 @@ mod TextLemmas
 mod ToldLemmas
 mod TopLemmas
 mod WritingLemmas
+mod FaultLemmas

@@ -1,5 +1,5 @@
 -- How a call of the top ends. The counts of faults are those of the shelf and the sink before and after it.
-use Rattle.std.specs.Prelude.{◌≡◌, ◌⊎◌, ℕ, ◌+◌, List, [], Option, None, ⊤}
+use Rattle.std.specs.Prelude.{◌≡◌, ◌≢◌, ◌⊎◌, ℕ, ◌+◌, List, [], Option, None, ⊤}
 use Rattle.std.specs.List.{All}
 use Rattle.psy_base.specs.declared.limits.TheConstants.{FILE_BYTES}
 use Rattle.psy_door.specs.Faults.{Rose}
@@ -35,6 +35,10 @@ pub data Halts {X : Type 0} (course : Course X) (failed : List ℕ) (before afte
 -- Where a command stopped at a file that is too long, the shelf took one byte more than a file may have.
 abbrev pub TookLimit : ℕ → Stop → Type 0
 TookLimit taken at = (file : File) → at ≡ stop.Refused (TooLong file) → taken ≡ FILE_BYTES + 1
+
+-- Where it stopped at no file that couldn't be read, the count of the shelf's faults is as before.
+abbrev pub Unfailed : ℕ → ℕ → Stop → Type 0
+Unfailed before after at = ((file : File) → at ≢ stop.Unread file) → after ≡ before
 
 -- A limit was passed: a step refused, and its line was added; where a file was too long, the shelf took one byte more than a file may have.
 pub record IsPastLimit {X : Type 0} (course : Course X) (old now : Option (List ℕ)) (taken : ℕ) : Type 0 where

@@ -1,5 +1,5 @@
 //! The commands: each is its list of steps.
-ghost use Rattle.std.specs.Prelude.{◌≡◌, ◌≤◌, ℕ, List, map, string_bytes, IfOk, IfErr, option_copied};
+ghost use Rattle.std.specs.Prelude.{◌≡◌, ◌≤◌, ℕ, List, map, string_bytes, IfOk, IfErr, OnOk, option_copied};
 ghost use Rattle.psy_dates.specs.Plans.{IsPlan};
 ghost use Rattle.psy_history.specs.Compiled.{AreInputs};
 ghost use Rattle.psy_history.specs.Scripts.{IsScript};
@@ -8,7 +8,7 @@ ghost use Rattle.psy_kernel.specs.Progress.{booted};
 ghost use Rattle.psy_meaning.specs.Units.{IsOfText};
 ghost use Rattle.psy_run.specs.Answer.{supplying, running, checking, drawing, making, trying, answering};
 ghost use Rattle.psy_run.specs.Asked.{Command as Asked, Asks};
-ghost use Rattle.psy_run.specs.Outcome.{CanServe, Halts, TookLimit};
+ghost use Rattle.psy_run.specs.Outcome.{CanServe, Halts, TookLimit, Unfailed};
 ghost use Rattle.psy_run.specs.Services.{service_of};
 ghost use Rattle.psy_run.specs.Supplies.{supply_of};
 
@@ -67,6 +67,8 @@ fn run<F: Shelf>(
     ensures err { IfErr result (Halts (running (F.files shelf.old) name.now until (option_copied inputs.entry) (option_copied script.entry))
         (F.failed_name shelf.new) (F.faults shelf.old) (F.faults shelf.new)) }
     ensures long { IfErr result (TookLimit (F.taken shelf.new)) }
+    ensures unfailed { OnOk result (F.faults shelf.new ≡ F.faults shelf.old) }
+    ensures unread { IfErr result (Unfailed (F.faults shelf.old) (F.faults shelf.new)) }
     ensures can { IfOk result CanServe }
     ensures shelf { (F.faults shelf.old ≤ F.faults shelf.new) × (F.files shelf.new ≡ F.files shelf.old) }
 {
@@ -86,6 +88,8 @@ fn check<F: Shelf>(alloc: Global, shelf: &mut F, name: &str, until: u32) -> Resu
     ensures ok { IfOk result (λ served. (checking (F.files shelf.old) name.now until).gives (service_of served)) }
     ensures err { IfErr result (Halts (checking (F.files shelf.old) name.now until) (F.failed_name shelf.new) (F.faults shelf.old) (F.faults shelf.new)) }
     ensures long { IfErr result (TookLimit (F.taken shelf.new)) }
+    ensures unfailed { OnOk result (F.faults shelf.new ≡ F.faults shelf.old) }
+    ensures unread { IfErr result (Unfailed (F.faults shelf.old) (F.faults shelf.new)) }
     ensures can { IfOk result CanServe }
     ensures shelf { (F.faults shelf.old ≤ F.faults shelf.new) × (F.files shelf.new ≡ F.files shelf.old) }
 {
@@ -104,6 +108,8 @@ fn draw<F: Shelf>(alloc: Global, shelf: &mut F, name: &str) -> Result<Served, St
     ensures ok { IfOk result (λ served. (drawing (F.files shelf.old) name.now).gives (service_of served)) }
     ensures err { IfErr result (Halts (drawing (F.files shelf.old) name.now) (F.failed_name shelf.new) (F.faults shelf.old) (F.faults shelf.new)) }
     ensures long { IfErr result (TookLimit (F.taken shelf.new)) }
+    ensures unfailed { OnOk result (F.faults shelf.new ≡ F.faults shelf.old) }
+    ensures unread { IfErr result (Unfailed (F.faults shelf.old) (F.faults shelf.new)) }
     ensures can { IfOk result CanServe }
     ensures shelf { (F.faults shelf.old ≤ F.faults shelf.new) × (F.files shelf.new ≡ F.files shelf.old) }
 {
@@ -150,6 +156,8 @@ pub fn judge<F: Shelf>(alloc: Global, words: &[String], shelf: &mut F) -> Result
     ensures err { IfErr result (Halts (answering (map string_bytes words.now) (F.files shelf.old)) (F.failed_name shelf.new) (F.faults shelf.old)
         (F.faults shelf.new)) }
     ensures long { IfErr result (TookLimit (F.taken shelf.new)) }
+    ensures unfailed { OnOk result (F.faults shelf.new ≡ F.faults shelf.old) }
+    ensures unread { IfErr result (Unfailed (F.faults shelf.old) (F.faults shelf.new)) }
     ensures can { IfOk result CanServe }
     ensures asked { IfErr result (λ stop. stop ≡ Stop.Memory → (command : Asked) × Asks (map string_bytes words.now) command) }
     ensures shelf { (F.faults shelf.old ≤ F.faults shelf.new) × (F.files shelf.new ≡ F.files shelf.old) }

@@ -3,6 +3,7 @@
 #![tactic(auto)]
 
 mod asked;
+mod clean;
 mod commands;
 mod costs;
 mod extent;
@@ -21,6 +22,7 @@ mod texts;
 mod told;
 mod top;
 
+pub use clean::psyc_over_clean;
 pub use kernels::kernel_of;
 pub use run::run_loop;
 pub use top::psyc;

@@ -17,6 +17,7 @@ fn write_date<S: Sink>(kernel: &mut Kernel, out: &mut S) -> Result<(), WriteFaul
     requires none { kernel.old.given ≡ 0 }
     ensures counted { S.faults out.old ≤ S.faults out.new }
     ensures failed { OnErr result (Rose (S.faults out.old) (S.faults out.new)) }
+    ensures unfailed { OnOk result (S.faults out.new ≡ S.faults out.old) }
     ensures given { OnOk result (kernel.new ≡ all_given kernel.old) }
     ensures written { Written (S.held out.old) (S.held out.new) result (text_of (lines_told kernel.old)) }
     ensures cut { IfErr result (λ fault. IsCutAt (S.held out.old) (S.held out.new) (lines_told kernel.old) fault.taken) }
@@ -37,6 +38,7 @@ fn run_dates<S: Sink>(kernel: &mut Kernel, out: &mut S) -> Result<(), WriteFault
     requires booted { kernel.old ≡ booted kernel.old.plan kernel.old.inputs kernel.old.script }
     ensures counted { S.faults out.old ≤ S.faults out.new }
     ensures failed { OnErr result (Rose (S.faults out.old) (S.faults out.new)) }
+    ensures unfailed { OnOk result (S.faults out.new ≡ S.faults out.old) }
     ensures over { OnOk result (kernel.new ≡ ended kernel.old) }
     ensures written { Written (S.held out.old) (S.held out.new) result (log_of (system kernel.old) (kernel.old.plan.until + 1)) }
     ensures cut { IfErr result (λ fault. IsCutAt (S.held out.old) (S.held out.new)
@@ -87,6 +89,7 @@ fn write_summary<S: Sink>(kernel: &Kernel, out: &mut S) -> Result<(), WriteFault
     requires over { stage_of kernel.now ≡ Over }
     ensures counted { S.faults out.old ≤ S.faults out.new }
     ensures failed { OnErr result (Rose (S.faults out.old) (S.faults out.new)) }
+    ensures unfailed { OnOk result (S.faults out.new ≡ S.faults out.old) }
     ensures written { Written (S.held out.old) (S.held out.new) result (text_of (summary_told kernel.now)) }
     ensures cut { IfErr result (λ fault. IsCutAt (S.held out.old) (S.held out.new) (summary_told kernel.now) fault.taken) }
 {
@@ -108,6 +111,7 @@ pub fn run_loop<S: Sink>(kernel: &mut Kernel, out: &mut S) -> Result<(), WriteFa
     requires booted { kernel.old ≡ booted kernel.old.plan kernel.old.inputs kernel.old.script }
     ensures counted { S.faults out.old ≤ S.faults out.new }
     ensures failed { OnErr result (Rose (S.faults out.old) (S.faults out.new)) }
+    ensures unfailed { OnOk result (S.faults out.new ≡ S.faults out.old) }
     ensures over { OnOk result (kernel.new ≡ ended kernel.old) }
     ensures written { Written (S.held out.old) (S.held out.new) result
         (run_text (system kernel.old) (order kernel.old) kernel.old.plan.sizes kernel.old.plan.until) }
@@ -125,6 +129,7 @@ pub fn trial_loop<S: Sink>(kernel: &mut Kernel, out: &mut S) -> Result<(), Write
     requires booted { kernel.old ≡ booted kernel.old.plan kernel.old.inputs kernel.old.script }
     ensures counted { S.faults out.old ≤ S.faults out.new }
     ensures failed { OnErr result (Rose (S.faults out.old) (S.faults out.new)) }
+    ensures unfailed { OnOk result (S.faults out.new ≡ S.faults out.old) }
     ensures over { OnOk result (kernel.new ≡ ended kernel.old) }
     ensures written { Written (S.held out.old) (S.held out.new) result
         (text_of (summary_of (system kernel.old) (order kernel.old) kernel.old.plan.sizes kernel.old.plan.until)) }

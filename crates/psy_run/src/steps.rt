@@ -1,9 +1,9 @@
 //! The steps that judge a program's file, each with its refusal.
-ghost use Rattle.std.specs.Prelude.{ℕ, ◌≡◌, ◌≤◌, List, length, IfOk, IfErr};
+ghost use Rattle.std.specs.Prelude.{ℕ, ◌≡◌, ◌≤◌, List, length, IfOk, IfErr, OnOk};
 ghost use Rattle.psy_base.specs.declared.limits.TheConstants.{FILE_BYTES};
 ghost use Rattle.psy_meaning.specs.Units.{IsOfText};
 ghost use Rattle.psy_run.specs.Answer.{compiling, translating};
-ghost use Rattle.psy_run.specs.Outcome.{Halts, TookLimit};
+ghost use Rattle.psy_run.specs.Outcome.{Halts, TookLimit, Unfailed};
 ghost use Rattle.psy_run.specs.Steps.{reading, lexing, parsing, resolving};
 
 use crate::refusal::{File, Refusal, Stop};
@@ -21,6 +21,8 @@ pub fn read<F: Shelf>(alloc: Global, shelf: &mut F, file: File, name: &str) -> R
     ensures ok { IfOk result (λ bytes. (reading (F.files shelf.old) file name.now).gives bytes.items) }
     ensures err { IfErr result (Halts (reading (F.files shelf.old) file name.now) (F.failed_name shelf.new) (F.faults shelf.old) (F.faults shelf.new)) }
     ensures long { IfErr result (TookLimit (F.taken shelf.new)) }
+    ensures unfailed { OnOk result (F.faults shelf.new ≡ F.faults shelf.old) }
+    ensures unread { IfErr result (Unfailed (F.faults shelf.old) (F.faults shelf.new)) }
     ensures shelf { (F.faults shelf.old ≤ F.faults shelf.new) × (F.files shelf.new ≡ F.files shelf.old) }
 {
     match shelf.fetch(alloc, name) {
@@ -93,6 +95,8 @@ pub fn compile<F: Shelf>(alloc: Global, shelf: &mut F, name: &str) -> Result<Uni
     ensures text { IfOk result IsOfText }
     ensures err { IfErr result (Halts (compiling (F.files shelf.old) name.now) (F.failed_name shelf.new) (F.faults shelf.old) (F.faults shelf.new)) }
     ensures long { IfErr result (TookLimit (F.taken shelf.new)) }
+    ensures unfailed { OnOk result (F.faults shelf.new ≡ F.faults shelf.old) }
+    ensures unread { IfErr result (Unfailed (F.faults shelf.old) (F.faults shelf.new)) }
     ensures shelf { (F.faults shelf.old ≤ F.faults shelf.new) × (F.files shelf.new ≡ F.files shelf.old) }
 {
     let bytes = read(alloc, shelf, File::Program, name)?;

@@ -1,5 +1,5 @@
 //! The texts of `check` and `graph`.
-ghost use Rattle.std.specs.Prelude.{◌≡◌, ◌≤◌, ◌++◌, flat_map, length, take, OnErr};
+ghost use Rattle.std.specs.Prelude.{◌≡◌, ◌≤◌, ◌++◌, flat_map, length, take, OnOk, OnErr};
 ghost use Rattle.psy_base.specs.declared.limits.TheConstants.{WORD_BYTES, NODES};
 ghost use Rattle.psy_door.specs.Faults.{Rose};
 ghost use Rattle.psy_log.specs.Forms.{line_of, name_of, node_line};
@@ -23,6 +23,7 @@ pub fn write_note<S: Sink>(out: &mut S, note: &Note) -> Result<(), WriteFault>
     requires { length (name_of note.now) ≤ WORD_BYTES }
     ensures counted { S.faults out.old ≤ S.faults out.new }
     ensures failed { OnErr result (Rose (S.faults out.old) (S.faults out.new)) }
+    ensures unfailed { OnOk result (S.faults out.new ≡ S.faults out.old) }
     ensures written { Written (S.held out.old) (S.held out.new) result (line_of note.now) }
 {
     let mut line = Line::new();
@@ -35,6 +36,7 @@ fn write_rings<S: Sink>(variables: &[VarDecl], rings: &[u32], out: &mut S) -> Re
     requires { All (λ v. length v.name ≤ WORD_BYTES) variables.now }
     ensures counted { S.faults out.old ≤ S.faults out.new }
     ensures failed { OnErr result (Rose (S.faults out.old) (S.faults out.new)) }
+    ensures unfailed { OnOk result (S.faults out.new ≡ S.faults out.old) }
     ensures written { Written (S.held out.old) (S.held out.new) result (rings_text variables.now rings.now) }
 {
     let count = variables.len().min(rings.len());
@@ -61,6 +63,7 @@ fn write_queues<S: Sink>(
     requires { All (λ s. length s.name ≤ WORD_BYTES) streams.now }
     ensures counted { S.faults out.old ≤ S.faults out.new }
     ensures failed { OnErr result (Rose (S.faults out.old) (S.faults out.new)) }
+    ensures unfailed { OnOk result (S.faults out.new ≡ S.faults out.old) }
     ensures written { Written (S.held out.old) (S.held out.new) result (queues_text streams.now queues.now) }
 {
     let count = streams.len().min(queues.len());
@@ -127,6 +130,7 @@ pub fn write_check<S: Sink>(
     requires { IsBare unit.now }
     ensures counted { S.faults out.old ≤ S.faults out.new }
     ensures failed { OnErr result (Rose (S.faults out.old) (S.faults out.new)) }
+    ensures unfailed { OnOk result (S.faults out.new ≡ S.faults out.old) }
     ensures written { Written (S.held out.old) (S.held out.new) result (check_text unit.now sizes.now lines.now extent) }
 {
     if let Err(fault) = write_rings(unit.variables.as_slice(), sizes.rings.as_slice(), out) {
@@ -150,6 +154,7 @@ fn write_node<S: Sink>(
 ) -> Result<(), WriteFault>
     ensures counted { S.faults out.old ≤ S.faults out.new }
     ensures failed { OnErr result (Rose (S.faults out.old) (S.faults out.new)) }
+    ensures unfailed { OnOk result (S.faults out.new ≡ S.faults out.old) }
     ensures written { Written (S.held out.old) (S.held out.new) result
         (node_line number node.now.point node.now.phase node.now.budget (get_or costs.now node.now.point 0) node.now.due) }
 {
@@ -175,6 +180,7 @@ fn write_nodes<S: Sink>(nodes: &[Node], costs: &[u64], out: &mut S) -> Result<()
     requires { length nodes.now ≤ NODES }
     ensures counted { S.faults out.old ≤ S.faults out.new }
     ensures failed { OnErr result (Rose (S.faults out.old) (S.faults out.new)) }
+    ensures unfailed { OnOk result (S.faults out.new ≡ S.faults out.old) }
     ensures written { Written (S.held out.old) (S.held out.new) result (nodes_text costs.now 0 nodes.now) }
 {
     'nodes: for (number, node) in nodes.iter().enumerate() {
@@ -189,6 +195,7 @@ fn write_nodes<S: Sink>(nodes: &[Node], costs: &[u64], out: &mut S) -> Result<()
 fn write_edges<S: Sink>(edges: &[Edge], out: &mut S) -> Result<(), WriteFault>
     ensures counted { S.faults out.old ≤ S.faults out.new }
     ensures failed { OnErr result (Rose (S.faults out.old) (S.faults out.new)) }
+    ensures unfailed { OnOk result (S.faults out.new ≡ S.faults out.old) }
     ensures written { Written (S.held out.old) (S.held out.new) result (flat_map edge_text edges.now) }
 {
     'edges: for edge in edges {
@@ -215,6 +222,7 @@ fn write_agent<S: Sink>(
     requires small { IsSmall graph.now }
     ensures counted { S.faults out.old ≤ S.faults out.new }
     ensures failed { OnErr result (Rose (S.faults out.old) (S.faults out.new)) }
+    ensures unfailed { OnOk result (S.faults out.new ≡ S.faults out.old) }
     ensures written { Written (S.held out.old) (S.held out.new) result (agent_text agent.now graph.now costs.now) }
 {
     let note = Note::AgentGraph {
@@ -242,6 +250,7 @@ pub fn write_graph<S: Sink>(
     requires small { All IsSmall graphs.now }
     ensures counted { S.faults out.old ≤ S.faults out.new }
     ensures failed { OnErr result (Rose (S.faults out.old) (S.faults out.new)) }
+    ensures unfailed { OnOk result (S.faults out.new ≡ S.faults out.old) }
     ensures written { Written (S.held out.old) (S.held out.new) result (graph_text unit.now.agents graphs.now costs.now) }
 {
     let agents = unit.agents.as_slice();

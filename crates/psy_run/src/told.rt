@@ -1,10 +1,10 @@
 //! The steps on what a run is told: its inputs, its script, and how many cycles it may have.
-ghost use Rattle.std.specs.Prelude.{ℕ, ◌≡◌, ◌≤◌, List, IfOk, IfErr, option_copied};
+ghost use Rattle.std.specs.Prelude.{ℕ, ◌≡◌, ◌≤◌, List, IfOk, IfErr, OnOk, option_copied};
 ghost use Rattle.psy_history.specs.Compiled.{AreInputs};
 ghost use Rattle.psy_history.specs.Scripts.{IsScript};
 ghost use Rattle.psy_meaning.specs.Units.{IsOfText};
 ghost use Rattle.psy_run.specs.Answer.{listing, scripting};
-ghost use Rattle.psy_run.specs.Outcome.{Halts, TookLimit};
+ghost use Rattle.psy_run.specs.Outcome.{Halts, TookLimit, Unfailed};
 ghost use Rattle.psy_run.specs.Refusals.{stop_by};
 ghost use Rattle.psy_run.specs.Services.{no_inputs, no_script};
 ghost use Rattle.psy_run.specs.Steps.{stating, directing, pacing};
@@ -90,6 +90,8 @@ pub fn inputs_of<F: Shelf>(
     ensures err { IfErr result (Halts (listing (F.files shelf.old) unit.now (option_copied name.entry)) (F.failed_name shelf.new) (F.faults shelf.old)
         (F.faults shelf.new)) }
     ensures long { IfErr result (TookLimit (F.taken shelf.new)) }
+    ensures unfailed { OnOk result (F.faults shelf.new ≡ F.faults shelf.old) }
+    ensures unread { IfErr result (Unfailed (F.faults shelf.old) (F.faults shelf.new)) }
     ensures shelf { (F.faults shelf.old ≤ F.faults shelf.new) × (F.files shelf.new ≡ F.files shelf.old) }
 {
     let Some(name) = name else {
@@ -112,6 +114,8 @@ pub fn script_of<F: Shelf>(
     ensures err { IfErr result (Halts (scripting (F.files shelf.old) unit.now (option_copied name.entry)) (F.failed_name shelf.new) (F.faults shelf.old)
         (F.faults shelf.new)) }
     ensures long { IfErr result (TookLimit (F.taken shelf.new)) }
+    ensures unfailed { OnOk result (F.faults shelf.new ≡ F.faults shelf.old) }
+    ensures unread { IfErr result (Unfailed (F.faults shelf.old) (F.faults shelf.new)) }
     ensures shelf { (F.faults shelf.old ≤ F.faults shelf.new) × (F.files shelf.new ≡ F.files shelf.old) }
 {
     let Some(name) = name else {

@@ -1,5 +1,5 @@
 //! The top call.
-ghost use Rattle.std.specs.Prelude.{◌≡◌, ◌≢◌, ℕ, ℤ, ◌≤◌, ◌⊎◌, List, [], map, string_bytes, Option, None, Some, IfSome, OnErr, MatchResult};
+ghost use Rattle.std.specs.Prelude.{◌≡◌, ◌≢◌, ℕ, ℤ, ◌≤◌, ◌⊎◌, List, [], map, string_bytes, Option, None, Some, IfSome, OnOk, OnErr, MatchResult};
 ghost use Rattle.psy_base.specs.declared.sizes.Sizes.{Sizes};
 ghost use Rattle.psy_door.specs.Faults.{Rose};
 ghost use Rattle.psy_door.specs.Files.{Files};
@@ -36,6 +36,7 @@ use std::alloc::Global;
 // Writes a line and answers with this status.
 fn say<S: Sink>(line: &Line, status: u8, out: &mut S) -> u8
     ensures counted { S.faults out.old ≤ S.faults out.new }
+    ensures unfailed { result ≢ 4 → S.faults out.new ≡ S.faults out.old }
     ensures said { Says (S.held out.old) (S.held out.new) (S.faults out.old) (S.faults out.new) result status line.now }
 {
     match write_all_of(out, line.bytes()) {
@@ -51,6 +52,7 @@ fn refuse<S: Sink>(stop: Stop, out: &mut S) -> u8
         → Says (S.held out.old) (S.held out.new) (S.faults out.old) (S.faults out.new) result (status_of refusal) (line_of refusal) }
     ensures unread { (file : Role) → stop ≡ Stop.Unread file
         → Says (S.held out.old) (S.held out.new) (S.faults out.old) (S.faults out.new) result 3 (read_line (file_name file)) }
+    ensures unfailed { result ≢ 4 → S.faults out.new ≡ S.faults out.old }
     ensures memory { stop ≡ Stop.Memory → (result ≡ 8) × Grew (S.held out.old) (S.held out.new) [] }
 {
     match stop {
@@ -70,6 +72,7 @@ fn run<S: Sink>(
     requires empty { left.old ≡ None }
     ensures counted { S.faults out.old ≤ S.faults out.new }
     ensures failed { OnErr result (Rose (S.faults out.old) (S.faults out.new)) }
+    ensures unfailed { OnOk result (S.faults out.new ≡ S.faults out.old) }
     ensures written { Written (S.held out.old) (S.held out.new) result (text_of (service_of (Served.Ran kernel))) }
     ensures over { MatchResult result (λ done. Leaves (service_of (Served.Ran kernel)) left.new) (λ fault. left.new ≡ None) }
 {
@@ -91,6 +94,7 @@ fn try_run<S: Sink>(
     requires empty { left.old ≡ None }
     ensures counted { S.faults out.old ≤ S.faults out.new }
     ensures failed { OnErr result (Rose (S.faults out.old) (S.faults out.new)) }
+    ensures unfailed { OnOk result (S.faults out.new ≡ S.faults out.old) }
     ensures written { Written (S.held out.old) (S.held out.new) result (text_of (service_of (Served.Tried kernel))) }
     ensures over { MatchResult result (λ done. Leaves (service_of (Served.Tried kernel)) left.new) (λ fault. left.new ≡ None) }
 {
@@ -108,6 +112,7 @@ fn serve<S: Sink>(served: Served, out: &mut S, left: &mut Option<Kernel>) -> Res
     requires empty { left.old ≡ None }
     ensures counted { S.faults out.old ≤ S.faults out.new }
     ensures failed { OnErr result (Rose (S.faults out.old) (S.faults out.new)) }
+    ensures unfailed { OnOk result (S.faults out.new ≡ S.faults out.old) }
     ensures written { Written (S.held out.old) (S.held out.new) result (text_of (service_of served)) }
     ensures over { MatchResult result (λ done. Leaves (service_of served) left.new) (λ fault. left.new ≡ None) }
     ensures bounded { IsBounded (service_of served) }
@@ -151,6 +156,8 @@ fn answer<F: Shelf, S: Sink>(
     ensures limit { result ≡ 7 → IsPastLimit (answering (map string_bytes words.now) (F.files shelf.old)) (S.held out.old) (S.held out.new)
         (F.taken shelf.new) }
     ensures shelf { (F.faults shelf.old ≤ F.faults shelf.new) × (F.files shelf.new ≡ F.files shelf.old) }
+    ensures unfailed_reads { result ≢ 3 → result ≢ 4 → F.faults shelf.new ≡ F.faults shelf.old }
+    ensures unfailed_writes { result ≢ 4 → S.faults out.new ≡ S.faults out.old }
     ensures sink { S.faults out.old ≤ S.faults out.new }
 {
     match judge(alloc, words, shelf) {
@@ -223,6 +230,10 @@ pub fn psyc<F: Shelf, S: Sink>(
         }) status text kernel
         × GrewByFront (S.held out.old) (S.held out.new) text }
     ensures memory { result ≡ 8 → Grew (S.held out.old) (S.held out.new) [] }
+
+    // A call of the shelf that failed is answered by 3, and one of the sink by 4: none is made again, and none is passed over.
+    ensures unfailed_reads { result ≢ 3 → result ≢ 4 → F.faults shelf.new ≡ F.faults shelf.old }
+    ensures unfailed_writes { result ≢ 4 → S.faults out.new ≡ S.faults out.old }
 
     // What is left did what the text tells, is over, and is there after a run alone. A run keeps its bounds: no action that was due
     // finished behind its deadline, no ring was reached for beyond its size, no queue held more than its places.

@@ -21,6 +21,7 @@ use std::alloc::Global;
 // Writes a text and answers with this status.
 fn say<S: Sink>(text: &[u8], status: u8, out: &mut S) -> u8
     ensures counted { S.faults out.old ≤ S.faults out.new }
+    ensures unfailed { result ≢ 4 → S.faults out.new ≡ S.faults out.old }
     ensures said { Says (S.held out.old) (S.held out.new) (S.faults out.old) (S.faults out.new) result status text.now }
 {
     match write_all_of(out, text) {
@@ -73,6 +74,9 @@ pub fn psyview<T: Texts, S: Sink>(alloc: Global, words: &[String], texts: &mut T
         × MayAnswer (map string_bytes words.now) (T.files texts.old) (T.faults texts.old) (T.faults texts.new) status text
         × GrewByFront (S.held out.old) (S.held out.new) text }
     ensures memory { result ≡ 8 → Grew (S.held out.old) (S.held out.new) [] }
+
+    // A call of the sink that failed is answered by 4: none is made again, and none is passed over.
+    ensures unfailed_writes { result ≢ 4 → S.faults out.new ≡ S.faults out.old }
     ensures texts { (T.faults texts.old ≤ T.faults texts.new) × (T.files texts.new ≡ T.files texts.old) }
     ensures sink { S.faults out.old ≤ S.faults out.new }
 {

@@ -3,7 +3,7 @@ use crate::left::is_sound;
 use psy_base::Memory;
 use psy_cases::{Answer, Asked};
 use psy_door::{CleanShelf, CleanSink, ShelfMap, SinkVec};
-use psy_run::psyc;
+use psy_run::{psyc, psyc_over_clean};
 use std::alloc::Global;
 
 /// What is answered over a shelf and a sink of which some calls may fail.
@@ -24,7 +24,7 @@ pub fn clean_devices(alloc: Global, asked: Asked<'_>) -> Result<Answer, Memory> 
     let mut shelf = CleanShelf::new(asked.files);
     let mut out = CleanSink::new(alloc, asked.room)?;
     let mut left = None;
-    let status = psyc(alloc, asked.words, &mut shelf, &mut out, &mut left);
+    let status = psyc_over_clean(alloc, asked.words, &mut shelf, &mut out, &mut left);
     Ok(Answer {
         status,
         text: Vec::from_slice(alloc, out.bytes())?,

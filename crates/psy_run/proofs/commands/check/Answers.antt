@@ -4,6 +4,7 @@ use Rattle.psy_run.specs.Answer.{compiling, supplying}
 use Rattle.psy_run.specs.Supplies.{supply_of}
 use Rattle.psy_run.proofs.Courses.{gives_then, halts_exit, halts_first, halts_later}
 use Rattle.psy_run.proofs.LongFiles.{took_exit, took_never, supplying_never_long}
+use Rattle.psy_run.proofs.FaultLemmas.{unfailed_exit}
 use Rattle.psy_run.proofs.commands.check.Goals as goal
 
 pub returns-in_err-unit-clause-err : goal.returns-in_err-unit-clause-err
@@ -25,3 +26,9 @@ returns-in_err-unit-clause-long g c = took_exit _ _ _ c.from_residual.ensures.1 
 
 pub returns-in_err-supply-clause-long : goal.returns-in_err-supply-clause-long
 returns-in_err-supply-clause-long g c = took_exit _ _ _ c.from_residual-in_err-supply.ensures.1 (took_never (supplying _ _) [] 0 0 _ _ (supplying_never_long _ _) (c.in_err-supply.ensures.err _ _ _))
+
+pub returns-in_err-unit-clause-unread : goal.returns-in_err-unit-clause-unread
+returns-in_err-unit-clause-unread g c = unfailed_exit _ _ _ _ c.from_residual.ensures.1 c.in_err-unit.ensures.unread
+
+pub returns-in_err-supply-clause-unread : goal.returns-in_err-supply-clause-unread
+returns-in_err-supply-clause-unread g c = unfailed_exit _ _ _ _ c.from_residual-in_err-supply.ensures.1 (λ other. c.in_ok-unit.ensures.unfailed)

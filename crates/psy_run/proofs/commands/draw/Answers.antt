@@ -5,6 +5,7 @@ use Rattle.psy_run.specs.Outcome.{TookLimit}
 use Rattle.psy_run.specs.Steps.{graphing, costing}
 use Rattle.psy_run.proofs.Courses.{gives_then, halts_exit, halts_first, halts_later, halts_for_memory}
 use Rattle.psy_run.proofs.LongFiles.{took_exit, took_for_memory, took_never, graphing_never_long}
+use Rattle.psy_run.proofs.FaultLemmas.{unfailed_exit}
 use Rattle.psy_run.proofs.commands.draw.Goals as goal
 
 pub returns-in_err-unit-clause-err : goal.returns-in_err-unit-clause-err
@@ -29,3 +30,12 @@ returns-in_err-graphs-clause-long g c = took_exit _ _ _ c.from_residual-in_err-g
 
 pub returns-in_err-costs-clause-long : goal.returns-in_err-costs-clause-long
 returns-in_err-costs-clause-long g c = took_exit _ _ _ c.from_residual-in_err-costs.ensures.1 (subst (TookLimit _) (sym c.in_err-costs.ensures.err) (took_for_memory _))
+
+pub returns-in_err-unit-clause-unread : goal.returns-in_err-unit-clause-unread
+returns-in_err-unit-clause-unread g c = unfailed_exit _ _ _ _ c.from_residual.ensures.1 c.in_err-unit.ensures.unread
+
+pub returns-in_err-graphs-clause-unread : goal.returns-in_err-graphs-clause-unread
+returns-in_err-graphs-clause-unread g c = unfailed_exit _ _ _ _ c.from_residual-in_err-graphs.ensures.1 (λ other. c.in_ok-unit.ensures.unfailed)
+
+pub returns-in_err-costs-clause-unread : goal.returns-in_err-costs-clause-unread
+returns-in_err-costs-clause-unread g c = unfailed_exit _ _ _ _ c.from_residual-in_err-costs.ensures.1 (λ other. c.in_ok-unit.ensures.unfailed)

@@ -9,6 +9,7 @@ use Rattle.psy_run.specs.Services.{service_of}
 use Rattle.psy_run.specs.Steps.{asking}
 use Rattle.psy_run.proofs.Courses.{halts_first, halts_last, gives_last}
 use Rattle.psy_run.proofs.LongFiles.{not_words, took_last, trying_never_long}
+use Rattle.psy_run.proofs.FaultLemmas.{unfailed_last}
 use Rattle.psy_run.proofs.commands.judge.Goals as goal
 
 pub returns-in-None-clause-err : goal.returns-in-None-clause-err
@@ -52,3 +53,9 @@ returns-in-Some-Make-clause-long g c = took_last (making _) _ _ _ _ _ (λ file s
 
 pub returns-in-Some-Trial-clause-long : goal.returns-in-Some-Trial-clause-long
 returns-in-Some-Trial-clause-long g c = took_last (trying _ _) _ _ _ _ _ (trying_never_long _ _) (c.try_made.ensures.err [] 0 0)
+
+pub returns-in-Some-Make-clause-unread : goal.returns-in-Some-Make-clause-unread
+returns-in-Some-Make-clause-unread g c = unfailed_last _ _ _ refl
+
+pub returns-in-Some-Trial-clause-unread : goal.returns-in-Some-Trial-clause-unread
+returns-in-Some-Trial-clause-unread g c = unfailed_last _ _ _ refl

@@ -1,4 +1,5 @@
 -- What is left of the proof of `commands::run`.
+use Rattle.std.proofs.Common.{◌∙◌}
 use Rattle.std.specs.Prelude.{[], option_copied}
 use Rattle.psy_run.specs.Answer.{compiling, supplying, listing, scripting}
 use Rattle.psy_run.specs.Outcome.{halts_memory}
@@ -7,6 +8,7 @@ use Rattle.psy_run.specs.Supplies.{supply_of}
 use Rattle.psy_run.proofs.Courses.{halts_exit, halts_first, halts_later}
 use Rattle.psy_run.proofs.ToldLemmas.{halts_behind, gives_behind, run_unlisted, run_unscripted, run_unpaced, run_gives, can_run, ran_is}
 use Rattle.psy_run.proofs.LongFiles.{took_exit, took_for_memory, took_never, supplying_never_long, pacing_never_long}
+use Rattle.psy_run.proofs.FaultLemmas.{unfailed_behind, unfailed_exit}
 use Rattle.psy_run.proofs.commands.run.Goals as goal
 
 pub returns-in_err-unit-clause-err : goal.returns-in_err-unit-clause-err
@@ -88,3 +90,23 @@ returns-in_err-pace-clause-long g c = took_exit _ _ _ c.from_residual-in_err-pac
 
 pub returns-in-Err-clause-long : goal.returns-in-Err-clause-long
 returns-in-Err-clause-long g c = took_for_memory _
+
+pub returns-in_err-unit-clause-unread : goal.returns-in_err-unit-clause-unread
+returns-in_err-unit-clause-unread g c = unfailed_exit _ _ _ _ c.from_residual.ensures.1 c.in_err-unit.ensures.unread
+
+pub returns-in_err-supply-clause-unread : goal.returns-in_err-supply-clause-unread
+returns-in_err-supply-clause-unread g c = unfailed_exit _ _ _ _ c.from_residual-in_err-supply.ensures.1 (λ other. c.in_ok-unit.ensures.unfailed)
+
+pub returns-in_err-inputs-clause-unread : goal.returns-in_err-inputs-clause-unread
+returns-in_err-inputs-clause-unread g c = unfailed_exit _ _ _ _ c.from_residual-in_err-inputs.ensures.1 (unfailed_behind _ _ _ _ c.in_ok-unit.ensures.unfailed c.in_err-inputs.ensures.unread)
+
+pub returns-in_err-script-clause-unread : goal.returns-in_err-script-clause-unread
+returns-in_err-script-clause-unread g c = unfailed_exit _ _ _ _ c.from_residual-in_err-script.ensures.1
+    (unfailed_behind _ _ _ _ (c.in_ok-inputs.ensures.unfailed ∙ c.in_ok-unit.ensures.unfailed) c.in_err-script.ensures.unread)
+
+pub returns-in_err-pace-clause-unread : goal.returns-in_err-pace-clause-unread
+returns-in_err-pace-clause-unread g c = unfailed_exit _ _ _ _ c.from_residual-in_err-pace.ensures.1
+    (λ other. c.in_ok-script.ensures.unfailed ∙ c.in_ok-inputs.ensures.unfailed ∙ c.in_ok-unit.ensures.unfailed)
+
+pub returns-in-Err-clause-unread : goal.returns-in-Err-clause-unread
+returns-in-Err-clause-unread g c = λ other. c.in_ok-script.ensures.unfailed ∙ c.in_ok-inputs.ensures.unfailed ∙ c.in_ok-unit.ensures.unfailed

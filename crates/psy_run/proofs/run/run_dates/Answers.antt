@@ -39,7 +39,7 @@ stages-preserved g c =
       within = omega (arith, due.2, c.stages.invariant.within, until, dates);
       cycles = rw dates (cycles-after old.plan.unit.quantum p.dates q.cycles cycles);
       over = λ last. let e : p.dates ≡ old.plan.until = omega (arith, dates, last) in cycles ∙ ap (λ n. n * old.plan.unit.quantum) e;
-      counted = omega (arith, c.stages.invariant.counted, c.in_default.ensures.counted);
+      unfailed = c.in_default.ensures.unfailed ∙ c.stages.invariant.unfailed;
       grew =
           rw dates
           (Grew-date _ _ _ (system old) refl p.dates c.stages.invariant.grew

@@ -13,7 +13,7 @@ invariant-stages g l =
       within : l.kernel.dates ≤ l.fn.kernel.plan.until + 1;
       cycles : l.kernel.cycles ≤ l.kernel.dates * l.fn.kernel.plan.unit.quantum;
       over : l.kernel.dates ≡ l.fn.kernel.plan.until + 1 → l.kernel.cycles ≡ l.fn.kernel.plan.until * l.fn.kernel.plan.unit.quantum;
-      counted : g.S.Sink.faults l.fn.out ≤ g.S.Sink.faults l.out;
+      unfailed : g.S.Sink.faults l.out ≡ g.S.Sink.faults l.fn.out;
       grew : Grew (g.S.Sink.held l.fn.out) (g.S.Sink.held l.out) (log_of (system l.fn.kernel) l.kernel.dates);
     }
 

@@ -1,5 +1,5 @@
 -- What is left of the proof of `run::write_date`.
-use Rattle.std.proofs.Common.{◌≡◌, ap, subst, refl, ◌+◌, ◌-◌, ◌<◌, length, slice_get, take, Some, arith}
+use Rattle.std.proofs.Common.{◌≡◌, ◌∙◌, ap, subst, refl, ◌+◌, ◌-◌, ◌<◌, length, slice_get, take, Some, arith}
 use Rattle.std.proofs.lemmas.Option.{slice_get_within}
 use Rattle.psy_door.specs.Growth.{Grew, GrewByFront}
 use Rattle.psy_kernel.specs.Progress.{lines_told}
@@ -33,7 +33,7 @@ lines-preserved g c =
     record {
       same = given-set c.next_line.new.self c.lines.kernel c.args.kernel.now after c.lines.invariant.same;
       within = omega (arith, less, next);
-      counted = omega (arith, c.lines.invariant.counted, c.in_default.ensures.counted);
+      unfailed = c.in_default.ensures.unfailed ∙ c.lines.invariant.unfailed;
       grew =
           rw next
           (Grew-line _ _ _ (lines_told c.args.kernel.now) c.lines.kernel.given c.next_line.new.line at c.lines.invariant.grew

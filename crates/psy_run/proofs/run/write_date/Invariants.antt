@@ -10,7 +10,7 @@ invariant-lines g l =
     record {
       same : l.kernel ≡ record (l.fn.kernel) { given = l.kernel.given };
       within : l.kernel.given ≤ length (lines_told l.fn.kernel);
-      counted : g.S.Sink.faults l.fn.out ≤ g.S.Sink.faults l.out;
+      unfailed : g.S.Sink.faults l.out ≡ g.S.Sink.faults l.fn.out;
       grew : Grew (g.S.Sink.held l.fn.out) (g.S.Sink.held l.out) (text_of (take l.kernel.given (lines_told l.fn.kernel)));
     }
 

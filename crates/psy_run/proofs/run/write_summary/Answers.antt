@@ -1,5 +1,5 @@
 -- What is left of the proof of `run::write_summary`.
-use Rattle.std.proofs.Common.{subst, refl, ◌+◌, ◌-◌, ◌<◌, ◌≤◌, length, take, arith}
+use Rattle.std.proofs.Common.{◌∙◌, subst, refl, ◌+◌, ◌-◌, ◌<◌, ◌≤◌, length, take, arith}
 use Rattle.std.proofs.lemmas.Option.{slice_get_within}
 use Rattle.psy_door.specs.Growth.{Grew, GrewByFront}
 use Rattle.psy_kernel.specs.Progress.{summary_told}
@@ -32,7 +32,7 @@ lines-preserved g c =
     let within : c.lines.place + 1 ≤ length (summary_told c.args.kernel.now) = omega (arith, less) in
     record {
       within = within;
-      counted = omega (arith, c.lines.invariant.counted, c.in_default.ensures.counted);
+      unfailed = c.in_default.ensures.unfailed ∙ c.lines.invariant.unfailed;
       grew =
           Grew-line _ _ _ (summary_told c.args.kernel.now) c.lines.place c.summary_line.new.line at c.lines.invariant.grew
           (subst (Grew (g.S.Sink.held c.lines.out) (g.S.Sink.held c.write_all_of.new.out)) c.bytes.ensures c.in_default.ensures.written);

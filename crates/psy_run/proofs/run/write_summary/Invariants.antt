@@ -1,5 +1,5 @@
 -- What each loop of `run::write_summary` keeps.
-use Rattle.std.proofs.Common.{◌≤◌, ◌-◌, length, take}
+use Rattle.std.proofs.Common.{◌≡◌, ◌≤◌, ◌-◌, length, take}
 use Rattle.psy_door.specs.Growth.{Grew}
 use Rattle.psy_kernel.specs.Progress.{summary_told}
 use Rattle.psy_kernel.specs.Texts.{text_of}
@@ -9,7 +9,7 @@ abbrev pub invariant-lines : goal.invariant-lines
 invariant-lines g l =
     record {
       within : l.place ≤ length (summary_told l.kernel);
-      counted : g.S.Sink.faults l.fn.out ≤ g.S.Sink.faults l.out;
+      unfailed : g.S.Sink.faults l.out ≡ g.S.Sink.faults l.fn.out;
       grew : Grew (g.S.Sink.held l.fn.out) (g.S.Sink.held l.out) (text_of (take l.place (summary_told l.kernel)));
     }
 

@@ -4,6 +4,7 @@ use Rattle.psy_run.specs.declared.refusal.File.TheVariants.{Program}
 use Rattle.psy_run.specs.Steps.{reading}
 use Rattle.psy_run.proofs.Courses.{halts_exit, halts_first, halts_last, gives_last}
 use Rattle.psy_run.proofs.LongFiles.{took_exit, took_last, translating_never_long}
+use Rattle.psy_run.proofs.FaultLemmas.{unfailed_exit, unfailed_last}
 use Rattle.psy_run.proofs.steps.compile.Goals as goal
 
 pub returns-in_err-bytes-clause-err : goal.returns-in_err-bytes-clause-err
@@ -20,3 +21,9 @@ returns-in_err-bytes-clause-long g c = took_exit _ _ _ c.from_residual.ensures.1
 
 pub returns-clause-long : goal.returns-clause-long
 returns-clause-long g c = took_last _ _ _ _ _ _ (translating_never_long _) (c.translate.ensures.err [] 0 0)
+
+pub returns-in_err-bytes-clause-unread : goal.returns-in_err-bytes-clause-unread
+returns-in_err-bytes-clause-unread g c = unfailed_exit _ _ _ _ c.from_residual.ensures.1 c.in_err-bytes.ensures.unread
+
+pub returns-clause-unread : goal.returns-clause-unread
+returns-clause-unread g c = unfailed_last _ _ _ c.in_ok-bytes.ensures.unfailed

@@ -1,5 +1,5 @@
 -- What is left of the proof of `texts::write_edges`.
-use Rattle.std.proofs.Common.{◌+◌, flat_map, take, arith}
+use Rattle.std.proofs.Common.{◌∙◌, ◌+◌, flat_map, take, arith}
 use Rattle.psy_run.specs.Texts.{edge_text}
 use Rattle.psy_run.proofs.TextLemmas.{items_more, items_split}
 use Rattle.psy_run.proofs.WritingLemmas.{Grew-item, GrewByFront-item}
@@ -16,6 +16,6 @@ edges-preserved g c =
     let edges = c.args.edges.now in
     let i = c.edges.edge-index in
     record {
-      counted = omega (arith, c.in_default.ensures.counted, c.edges.invariant.counted);
+      unfailed = c.in_default.ensures.unfailed ∙ c.edges.invariant.unfailed;
       grew = Grew-item _ _ _ (flat_map edge_text (take i edges)) _ _ (items_more edge_text edges i _ c.edges-test.true) c.edges.invariant.grew c.in_default.ensures.written;
     }

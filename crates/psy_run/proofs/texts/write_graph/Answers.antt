@@ -45,7 +45,7 @@ agents-preserved g c =
     let more = agents_more agents graphs costs i agent graph list within within' within'' in
     let whole = subst (λ t. Grew (g.S.Sink.held c.agents.out) (g.S.Sink.held c.write_agent.new.out) t) text c.in_default.ensures.written in
     record {
-      counted = omega (arith, c.in_default.ensures.counted, c.agents.invariant.counted);
+      unfailed = c.in_default.ensures.unfailed ∙ c.agents.invariant.unfailed;
       grew = Grew-item _ _ _ (graph_text (take i agents) (take i graphs) (take i costs)) _ _ more c.agents.invariant.grew whole;
     }
 

@@ -1,5 +1,5 @@
 -- What is left of the proof of `texts::write_nodes`.
-use Rattle.std.proofs.Common.{◌+◌, take, arith}
+use Rattle.std.proofs.Common.{◌∙◌, ◌+◌, take, arith}
 use Rattle.psy_run.specs.Texts.{nodes_text}
 use Rattle.psy_run.proofs.TextLemmas.{nodes_more, nodes_split}
 use Rattle.psy_run.proofs.WritingLemmas.{Grew-item, GrewByFront-item}
@@ -18,6 +18,6 @@ nodes-preserved g c =
     let costs = c.args.costs.now in
     let i = c.nodes.number in
     record {
-      counted = omega (arith, c.in_default.ensures.counted, c.nodes.invariant.counted);
+      unfailed = c.in_default.ensures.unfailed ∙ c.nodes.invariant.unfailed;
       grew = Grew-item _ _ _ (nodes_text costs 0 (take i nodes)) _ _ (nodes_more costs nodes i _ c.nodes-test.true) c.nodes.invariant.grew c.in_default.ensures.written;
     }

@@ -34,7 +34,7 @@ streams-preserved g c =
     let line = ap (λ name. stream_size_line name size) c.bytes.ensures ∙ ap (λ (s : StreamDecl). stream_size_line s.name size) c.index-streams-number.is in
     let whole = subst (λ text. Grew (g.S.Sink.held c.streams.out) (g.S.Sink.held c.write_note.new.out) text) line c.in_default.ensures.written in
     record {
-      counted = omega (arith, c.in_default.ensures.counted, c.streams.invariant.counted);
+      unfailed = c.in_default.ensures.unfailed ∙ c.streams.invariant.unfailed;
       grew = Grew-item _ _ _ (queues_text (take i streams) (take i queues)) _ _ (sizes_more (λ (s : StreamDecl). stream_size_line s.name) streams queues i stream 0 within within') c.streams.invariant.grew whole;
     }
 

@@ -34,7 +34,7 @@ variables-preserved g c =
     let line = ap (λ name. variable_size_line name size) c.bytes.ensures ∙ ap (λ (v : VarDecl). variable_size_line v.name size) c.index-variables-number.is in
     let whole = subst (λ text. Grew (g.S.Sink.held c.variables.out) (g.S.Sink.held c.write_note.new.out) text) line c.in_default.ensures.written in
     record {
-      counted = omega (arith, c.in_default.ensures.counted, c.variables.invariant.counted);
+      unfailed = c.in_default.ensures.unfailed ∙ c.variables.invariant.unfailed;
       grew = Grew-item _ _ _ (rings_text (take i variables) (take i rings)) _ _ (sizes_more (λ (v : VarDecl). variable_size_line v.name) variables rings i variable 0 within within') c.variables.invariant.grew whole;
     }
 

@@ -1,5 +1,5 @@
 -- What each loop of `texts::write_rings` keeps.
-use Rattle.std.proofs.Common.{◌≤◌, take}
+use Rattle.std.proofs.Common.{◌≡◌, take}
 use Rattle.psy_door.specs.Growth.{Grew}
 use Rattle.psy_run.specs.Texts.{rings_text}
 use Rattle.psy_run.proofs.texts.write_rings.Given as goal
@@ -7,6 +7,6 @@ use Rattle.psy_run.proofs.texts.write_rings.Given as goal
 abbrev pub invariant-variables : goal.invariant-variables
 invariant-variables g l =
     record {
-      counted : g.S.Sink.faults l.fn.out ≤ g.S.Sink.faults l.out;
+      unfailed : g.S.Sink.faults l.out ≡ g.S.Sink.faults l.fn.out;
       grew : Grew (g.S.Sink.held l.fn.out) (g.S.Sink.held l.out) (rings_text (take l.number l.variables) (take l.number l.rings));
     }

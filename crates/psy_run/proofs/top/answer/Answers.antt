@@ -5,6 +5,7 @@ use Rattle.psy_run.specs.Services.{service_of}
 use Rattle.psy_run.proofs.MeaningText.{some_left}
 use Rattle.psy_run.proofs.TopLemmas.{ends_stopped, ends_served, ends_unwritten}
 use Rattle.psy_run.proofs.LongFiles.{limit_passed}
+use Rattle.psy_run.proofs.FaultLemmas.{unfailed_answer}
 use Rattle.psy_run.proofs.top.answer.Goals as goal
 
 pub returns-in-Err-clause-ends : goal.returns-in-Err-clause-ends
@@ -20,3 +21,6 @@ returns-in-Err-serve-clause-ends g c = ends_unwritten _ _ _ _ _ _ (service_of c.
 
 pub returns-in-Err-clause-limit : goal.returns-in-Err-clause-limit
 returns-in-Err-clause-limit g c = limit_passed _ _ _ _ _ _ _ _ _ _ c.in-Err.stop c.in-Err.ensures.err c.in-Err.ensures.long c.refuse.ensures.refused c.refuse.ensures.unread c.refuse.ensures.memory
+
+pub returns-in-Err-clause-unfailed_reads : goal.returns-in-Err-clause-unfailed_reads
+returns-in-Err-clause-unfailed_reads g c = unfailed_answer _ _ _ _ _ _ _ c.in-Err.stop c.in-Err.ensures.unread c.refuse.ensures.unread
