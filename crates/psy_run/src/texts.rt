@@ -86,6 +86,7 @@ fn write_rates<S: Sink>(agents: &[AgentDecl], lines: &[Rate], out: &mut S) -> Re
     requires { All (λ agent. length agent.name ≤ WORD_BYTES) agents.now }
     ensures counted { S.faults out.old ≤ S.faults out.new }
     ensures failed { OnErr result (Rose (S.faults out.old) (S.faults out.new)) }
+    ensures unfailed { OnOk result (S.faults out.new ≡ S.faults out.old) }
     ensures written { Written (S.held out.old) (S.held out.new) result (rates_text agents.now lines.now) }
 {
     let count = agents.len().min(lines.len());
@@ -108,6 +109,7 @@ fn write_rates<S: Sink>(agents: &[AgentDecl], lines: &[Rate], out: &mut S) -> Re
 fn write_verdict<S: Sink>(extent: Extent, out: &mut S) -> Result<(), WriteFault>
     ensures counted { S.faults out.old ≤ S.faults out.new }
     ensures failed { OnErr result (Rose (S.faults out.old) (S.faults out.new)) }
+    ensures unfailed { OnOk result (S.faults out.new ≡ S.faults out.old) }
     ensures written { Written (S.held out.old) (S.held out.new) result (verdict_text extent) }
 {
     let note = match extent {

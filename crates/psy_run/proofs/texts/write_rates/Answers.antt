@@ -35,7 +35,7 @@ agents-preserved g c =
     let text = ap (λ name. rate_line name line.rate line.intercept) c.bytes.ensures ∙ (λ k. rate_text (c.index-agents-number.is k) (c.index-lines-number.is k)) in
     let whole = subst (λ text. Grew (g.S.Sink.held c.agents.out) (g.S.Sink.held c.write_note.new.out) text) text c.in_default.ensures.written in
     record {
-      counted = omega (arith, c.in_default.ensures.counted, c.agents.invariant.counted);
+      unfailed = c.in_default.ensures.unfailed ∙ c.agents.invariant.unfailed;
       grew = Grew-item _ _ _ (rates_text (take i agents) (take i lines)) _ _ (sizes_more rate_text agents lines i agent line within within') c.agents.invariant.grew whole;
     }
 

@@ -1,5 +1,5 @@
 -- What each loop of `texts::write_rates` keeps.
-use Rattle.std.proofs.Common.{◌≤◌, take}
+use Rattle.std.proofs.Common.{◌≡◌, take}
 use Rattle.psy_door.specs.Growth.{Grew}
 use Rattle.psy_run.specs.Texts.{rates_text}
 use Rattle.psy_run.proofs.texts.write_rates.Given as goal
@@ -7,6 +7,6 @@ use Rattle.psy_run.proofs.texts.write_rates.Given as goal
 abbrev pub invariant-agents : goal.invariant-agents
 invariant-agents g l =
     record {
-      counted : g.S.Sink.faults l.fn.out ≤ g.S.Sink.faults l.out;
+      unfailed : g.S.Sink.faults l.out ≡ g.S.Sink.faults l.fn.out;
       grew : Grew (g.S.Sink.held l.fn.out) (g.S.Sink.held l.out) (rates_text (take l.number l.agents) (take l.number l.lines));
     }
