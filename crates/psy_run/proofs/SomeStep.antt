@@ -1,11 +1,11 @@
 -- Each step comes to some end.
-use Rattle.std.proofs.Common.{◌≡◌, ◌∙◌, sym, subst, refl, ℕ, zero, suc, ◌+◌, ◌*◌, ◌<◌, ◌≤◌, List, [], ◌∷◌, length, ◌⊎◌, inl, inr, Option, Some, None, slice_get}
+use Rattle.std.proofs.Common.{◌≡◌, ◌∙◌, sym, subst, refl, ℕ, suc, ◌+◌, ◌*◌, ◌<◌, ◌≤◌, List, [], ◌∷◌, length, ◌⊎◌, inl, inr, Option, Some, None, slice_get}
 use Rattle.std.specs.List.{All, Any}
 use Rattle.std.proofs.lemmas.Option.{same_Some, none-some}
 use Rattle.psy_base.specs.declared.edge.Edge.{Edge}
 use Rattle.psy_base.specs.declared.limits.TheConstants.{COST, EDGES, FILE_BYTES, LINES, RUN, WINDOW_CELLS}
 use Rattle.psy_base.specs.declared.sizes.Sizes.{Sizes}
-use Rattle.psy_base.specs.Paths.{FitsDueLast, IsGreatestWeight}
+use Rattle.psy_base.specs.Paths.{IsGreatestWeight}
 use Rattle.psy_door.specs.Files.{Files, bytes_under}
 use Rattle.psy_tree.specs.declared.faults.LexKind.{LexKind}
 use Rattle.psy_tree.specs.declared.raw.Raw.{Raw}
@@ -27,7 +27,6 @@ use Rattle.psy_meaning.specs.Flow.{AreAllNexts, AreNexts, IsCut, HasCost}
 use Rattle.psy_meaning.specs.Units.{IsOfText}
 use Rattle.psy_meaning.proofs.lemmas.Demands.{feasible-or-overload}
 use Rattle.psy_window.specs.declared.span.Span.{Span}
-use Rattle.psy_window.specs.declared.span.Span.TheVariants.{DueLast}
 use Rattle.psy_window.specs.Windows.{IsEdge, Fits}
 use Rattle.psy_graph.specs.declared.fault.GraphFault.{GraphFault}
 use Rattle.psy_graph.specs.declared.fault.GraphFault.TheVariants as fault
@@ -56,7 +55,6 @@ use Rattle.psy_run.proofs.Courses.{IsSome, some_unless}
 use Rattle.psy_run.proofs.Decisions.{most_or_more, all_or_any, list_of}
 use Rattle.psy_run.proofs.OneStep.{IsUntold, TextsHold}
 use Rattle.psy_run.proofs.SupplyLemmas.{edges_fit, some_demand, no_horizon, nearer_is}
-use Rattle.std.proofs.lemmas.Option.{get_or_from_slice_get, slice_get_within}
 
 -- What the laws of the steps say of some end.
 pub record StepsEnd : Type 0 where

@@ -21,7 +21,7 @@ use Rattle.psy_meaning.specs.Flow.{AreAllNexts}
 use Rattle.psy_meaning.proofs.lemmas.Demands.{AreGreatest, feasible-is, overload-is, demand-some, feasible-or-overload, feasible-no-overload, overload-one}
 use Rattle.psy_rate.specs.declared.line.Rate.{Rate}
 use Rattle.psy_rate.specs.Horizons.{Covers, IsHorizonOf, IsHorizon, AreFeasible, HaveDemands}
-use Rattle.psy_rate.specs.Lines.{IsRateOf, AreRates, AreAll}
+use Rattle.psy_rate.specs.Lines.{AreRates, AreAll}
 use Rattle.psy_sizes.specs.declared.fault.SizeFault.{SizeFault}
 use Rattle.psy_sizes.specs.declared.fault.SizeFault.TheVariants as size
 use Rattle.psy_sizes.specs.Faults.{IsCause as IsSizeCause}
@@ -38,7 +38,7 @@ use Rattle.psy_run.specs.Bounds.{IsMet}
 use Rattle.psy_run.specs.Courses.{in_row}
 use Rattle.psy_run.specs.Extents.{IsExtent, IsNearer, length_of as top_of}
 use Rattle.psy_run.specs.Outcome.{Halts, halts_refused, halts_memory}
-use Rattle.psy_run.specs.Steps.{graphing, sizing, rating, extending, windowing, demanding, edges_of, HasCells, PassesCells, IsUndrawn, IsUnsized}
+use Rattle.psy_run.specs.Steps.{graphing, sizing, windowing, demanding, edges_of, HasCells, PassesCells, IsUndrawn, IsUnsized}
 use Rattle.psy_run.specs.Tables.{AreAllWeights, IsLine, AreLines}
 use Rattle.psy_run.proofs.Courses.{gives_then, halts_first, halts_later}
 use Rattle.psy_run.proofs.RowLemmas.{there}

@@ -4,6 +4,7 @@ ghost use Rattle.std.specs.List.{All};
 ghost use Rattle.psy_base.specs.declared.limits.TheConstants.{AGENTS};
 ghost use Rattle.psy_run.specs.Extents.{IsExtent, IsNearer, length_of};
 
+use psy_base::Items;
 use psy_rate::{Rate, horizon};
 
 /// Up to which length the demand is looked at.
@@ -28,13 +29,13 @@ impl Extent {
 }
 
 /// Up to which length the demand is looked at, by the lines of all agents, in a program of so many cycles a tick.
-pub fn extent_of(lines: &[Rate], quantum: u32, until: u32) -> Extent
+pub fn extent_of(lines: &Items<Rate>, quantum: u32, until: u32) -> Extent
     requires few { length lines.now ≤ AGENTS }
     requires rates { All (λ line. line.rate ≤ 2 ^ 40) lines.now }
     requires intercepts { All (λ line. line.intercept < 2 ^ 50) lines.now }
     ensures { IsExtent quantum lines.now until result }
 {
-    match horizon(lines, quantum) {
+    match horizon(lines.as_slice(), quantum) {
         None => Extent::LastDate(until),
         Some(length) => within(length, until),
     }

@@ -18,7 +18,10 @@ fn line_of(alloc: Global, graph: &Graph) -> Result<Rate, Memory>
     ensures { IfOk result (IsLine graph.now) }
 {
     let nodes = graph.nodes.len() as u32;
-    certify(alloc, graph.edges.as_slice(), nodes)
+    match certify(alloc, graph.edges.as_slice(), nodes) {
+        Ok(line) => Ok(line),
+        Err(memory) => Err(memory),
+    }
 }
 
 // The lines above the demands of all agents.

@@ -133,7 +133,7 @@ pub fn supply(alloc: Global, unit: &Unit, until: u32) -> Result<Supplied, Stop>
     let nexts = all_nexts(alloc, unit)?;
     let sizes = sizes(alloc, unit, &graphs)?;
     let lines = lines_of(alloc, &graphs)?;
-    let extent = extent_of(lines.as_slice(), unit.quantum, until);
+    let extent = extent_of(&lines, unit.quantum, until);
     let top = extent.length();
     let lists = all_weights(alloc, &graphs, top)?;
     demand(unit, &lists, top)?;

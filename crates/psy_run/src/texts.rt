@@ -112,13 +112,15 @@ fn write_verdict<S: Sink>(extent: Extent, out: &mut S) -> Result<(), WriteFault>
     ensures unfailed { OnOk result (S.faults out.new ≡ S.faults out.old) }
     ensures written { Written (S.held out.old) (S.held out.new) result (verdict_text extent) }
 {
-    let note = match extent {
-        Extent::Horizon(_) => Note::Always,
-        Extent::LastDate(date) => Note::Feasible {
-            until: u64::from(date),
-        },
-    };
-    write_note(out, &note)
+    match extent {
+        Extent::Horizon(_) => write_note(out, &Note::Always),
+        Extent::LastDate(date) => write_note(
+            out,
+            &Note::Feasible {
+                until: u64::from(date),
+            },
+        ),
+    }
 }
 
 /// Writes the sizes of a program's rings and queues, the lines above the demands of its agents, and over which lengths the demand is met.

@@ -1,5 +1,5 @@
 -- What is left of the proof of `rates::lines_of_all`.
-use Rattle.std.proofs.Common.{◌≡◌, ◌∙◌, ap, sym, subst, ℕ, ◌<◌, List, [], ◌∷◌, length, length-append, get_or, slice_get, Some, arith}
+use Rattle.std.proofs.Common.{◌≡◌, ◌∙◌, ap, sym, subst, ℕ, ◌<◌, [], ◌∷◌, length, length-append, get_or, slice_get, Some, arith}
 use Rattle.psy_graph.specs.declared.graph.Graph.{Graph}
 use Rattle.psy_rate.specs.declared.line.Rate.{Rate}
 use Rattle.psy_run.specs.Tables.{IsLine}

@@ -1,5 +1,5 @@
 -- What each loop of `rates::lines_of_all` keeps.
-use Rattle.std.proofs.Common.{◌≡◌, ℕ, List, length, slice_get, Some}
+use Rattle.std.proofs.Common.{◌≡◌, ℕ, length, slice_get, Some}
 use Rattle.psy_graph.specs.declared.graph.Graph.{Graph}
 use Rattle.psy_rate.specs.declared.line.Rate.{Rate}
 use Rattle.psy_run.specs.Tables.{IsLine}

@@ -1,7 +1,6 @@
 -- What is left of the proof of `texts::write_check`.
 use Rattle.std.proofs.Common.{◌≡◌, ◌++◌, List, ℕ, subst}
 use Rattle.psy_door.specs.Growth.{Grew, GrewByFront}
-use Rattle.psy_log.specs.Writing.{Written}
 use Rattle.psy_rate.specs.declared.line.Rate.{Rate}
 use Rattle.psy_tree.specs.declared.unit.AgentDecl.{AgentDecl}
 use Rattle.psy_tree.specs.declared.unit.StreamDecl.{StreamDecl}

@@ -1,9 +1,7 @@
 -- What is left of the proof of `texts::write_rates`.
-use Rattle.std.proofs.Common.{◌≡◌, ◌∙◌, ap, subst, ◌+◌, ◌<◌, get_or, length, take, min, arith}
+use Rattle.std.proofs.Common.{◌≡◌, ◌∙◌, ap, subst, ◌+◌, ◌<◌, length, take, min, arith}
 use Rattle.psy_door.specs.Growth.{Grew, GrewByFront}
 use Rattle.psy_log.specs.Forms.{rate_line}
-use Rattle.psy_rate.specs.declared.line.Rate.{Rate}
-use Rattle.psy_tree.specs.declared.unit.AgentDecl.{AgentDecl}
 use Rattle.psy_run.specs.Texts.{rates_text, rate_text}
 use Rattle.psy_run.proofs.TextLemmas.{sizes_more, sizes_split, sizes_all}
 use Rattle.psy_run.proofs.WritingLemmas.{Grew-item, GrewByFront-item}
