@@ -1,5 +1,5 @@
 -- What is left of the proof of `calendar::Calendar::pass`.
-use Rattle.std.proofs.Common.{◌<◌, ◌≤◌, All, subst, arith}
+use Rattle.std.proofs.Common.{◌<◌, All, subst, arith}
 use Rattle.psy_dates.proofs.Calendars.{all_later}
 use Rattle.psy_dates.proofs.calendar.Calendar.pass.Goals as goal
 
