@@ -173,7 +173,7 @@ module _ (s : System) (turns : List (Option Turn)) (sizes : Sizes) (until : ℕ)
         variables = names.variables;
         streams = names.streams;
         counts = λ agent. (let actions = history s (until + 1) agent in
-            let few : length (due_by until actions) < 2 ^ 50 = omega (arith, length_filter (λ (r : Action). nat_le r.deadline until) actions, few_actions s (until + 1) agent, most) in
+            let few : length (due_by until actions) < 2 ^ 64 = omega (arith, length_filter (λ (r : Action). nat_le r.deadline until) actions, few_actions s (until + 1) agent, most) in
             subst (λ n. IsLong (added_to n (length (due_by until actions)))) (sym (plain.count agent)) few);
         slacks = λ agent. (let due = due_by until (history s (until + 1) agent) in
             let slacks = map (slack_of s.unit.quantum turns) due in
