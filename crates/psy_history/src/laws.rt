@@ -1,7 +1,7 @@
 //! Laws of the dated history, each the contract of a function that does nothing.
 
-ghost use Rattle.std.specs.Prelude.{◌≡◌, ℕ, ◌+◌, ◌*◌, ◌/◌, ◌==◌, ◌<◌, ◌≤◌, if◌then◌else◌, List, [], ◌∷◌, Option, None, Some, ℤ, drop, false, filter, length, true};
-ghost use Rattle.std.specs.Prelude.{map, nat_le, slice_get, take, FitsSigned};
+ghost use Rattle.std.specs.Prelude.{◌≡◌, ℕ, ◌+◌, ◌*◌, ◌/◌, ◌==◌, ◌<◌, ◌≤◌, if◌then◌else◌, List, [], ◌∷◌, Option, None, Some, ℤ, drop, filter, length};
+ghost use Rattle.std.specs.Prelude.{false, map, nat_le, slice_get, take, true, FitsSigned};
 ghost use Rattle.std.specs.Int.{w32};
 ghost use Rattle.std.specs.List.{All, Contains, count_by};
 ghost use Rattle.psy_base.specs.declared.limits.TheConstants.{QUEUE};
