@@ -1,6 +1,7 @@
 -- How the agents of a history begin, and what that says of their seats.
 use Rattle.std.proofs.Common.{◌≡◌, ℕ, suc, ◌+◌, ◌-◌, ◌<◌, ◌≤◌, Bool, true, false, List, [], ◌∷◌, length, Option, Some, None, refl, sym, ap, ◌∙◌, inl, inr, arith}
 use Rattle.std.proofs.lemmas.Bool.{cases_lt}
+use Rattle.psy_base.specs.declared.limits.TheConstants.{STALL}
 use Rattle.psy_code.specs.declared.code.Code.{Code}
 use Rattle.psy_history.specs.Actions.{Action, Next, System, first_action}
 use Rattle.psy_history.specs.History.{history}
@@ -23,7 +24,7 @@ pub record AreBegun (s : System) (date : ℕ) : Type 0 where
   pub waits : (agent : ℕ) → agent < length s.unit.agents → s.opening.silent agent ≡ false → history s date agent ≡ []
       → s.opening.starts agent ≡ Some (first_action s.unit s.nexts s.executor agent)
   pub unstarted : (agent : ℕ) → s.opening.silent agent ≡ true → s.opening.starts agent ≡ None
-  pub numbers : (agent : ℕ) → first_number s agent ≤ 1000000
+  pub numbers : (agent : ℕ) → first_number s agent ≤ STALL
 
 -- A silent agent of a sound opening starts no action.
 starts_none : (s : System) (ways : Ways) (code : Code) → IsSound s ways code → (agent : ℕ) → s.opening.silent agent ≡ true → (o : Option Next) → s.opening.starts agent ≡ o → o ≡ None
@@ -31,7 +32,7 @@ starts_none s ways code sound agent silent None is = refl
 starts_none s ways code sound agent silent (Some n) is = (let no : true ≡ false = sym silent ∙ (sound.known agent n is).1 in absurd cc)
 
 -- The first numbers of a sound opening
-small_number : (s : System) (ways : Ways) (code : Code) → IsSound s ways code → (agent : ℕ) (o : Option Next) → s.opening.starts agent ≡ o → number_of o ≤ 1000000
+small_number : (s : System) (ways : Ways) (code : Code) → IsSound s ways code → (agent : ℕ) (o : Option Next) → s.opening.starts agent ≡ o → number_of o ≤ STALL
 small_number s ways code sound agent None is = omega arith
 small_number s ways code sound agent (Some n) is = elim (sound.places agent n is) [
   | inl begun ↦ begun.number

@@ -3,6 +3,7 @@ use Rattle.std.proofs.Common.{◌≡◌, ℕ, suc, ◌+◌, ◌-◌, ◌^◌, �
 use Rattle.std.specs.Prelude.{slice_get, if◌then◌else◌, ℤ, pos}
 use Rattle.std.proofs.lemmas.Option.{get_or_from_slice_get, same_Some, slice_get-get_or, slice_get_within}
 use Rattle.std.proofs.lemmas.List.Elements.{All-get_or}
+use Rattle.psy_base.specs.declared.limits.TheConstants.{STALL}
 use Rattle.psy_budget.specs.declared.charge.Stall.{Stall}
 use Rattle.psy_clock.specs.Dates.{IsClock}
 use Rattle.psy_queue.specs.Order.{Queued}
@@ -35,7 +36,7 @@ one_back : (n : ℕ) → (n + 1) - 1 ≡ n
 one_back n = omega arith
 
 -- An agent has done fewer actions than there were dates
-pub seat_numbered : (s : System) → IsLawful s → (date agent : ℕ) (turns : List (Option Turn)) (seat : Seat) → first_number s agent ≤ 1000000 → date ≤ 2 ^ 32 → IsSeated (s.opening.silent agent) s.opening.dates (date - 1) turns (history s date agent) seat → IsNumbered seat
+pub seat_numbered : (s : System) → IsLawful s → (date agent : ℕ) (turns : List (Option Turn)) (seat : Seat) → first_number s agent ≤ STALL → date ≤ 2 ^ 32 → IsSeated (s.opening.silent agent) s.opening.dates (date - 1) turns (history s date agent) seat → IsNumbered seat
 seat_numbered s lawful date agent turns seat small early = from (history s date agent) refl
   where
     from : (actions : List Action) → history s date agent ≡ actions → IsSeated (s.opening.silent agent) s.opening.dates (date - 1) turns actions seat → IsNumbered seat
