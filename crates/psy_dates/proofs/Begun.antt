@@ -1,5 +1,5 @@
 -- How the agents of a history begin, and what that says of their seats.
-use Rattle.std.proofs.Common.{◌≡◌, ℕ, suc, ◌+◌, ◌-◌, ◌<◌, ◌≤◌, Bool, true, false, List, [], ◌∷◌, length, Option, Some, None, refl, sym, ap, ◌∙◌, inl, inr, arith}
+use Rattle.std.proofs.Common.{◌≡◌, ℕ, ◌-◌, ◌<◌, ◌≤◌, Bool, true, false, List, [], ◌∷◌, length, Option, Some, None, refl, sym, ap, ◌∙◌, inl, inr, arith}
 use Rattle.std.proofs.lemmas.Bool.{cases_lt}
 use Rattle.psy_base.specs.declared.limits.TheConstants.{STALL}
 use Rattle.psy_code.specs.declared.code.Code.{Code}
@@ -7,13 +7,12 @@ use Rattle.psy_history.specs.Actions.{Action, Next, System, first_action}
 use Rattle.psy_history.specs.History.{history}
 use Rattle.psy_history.specs.Openings.{IsSound}
 use Rattle.psy_history.specs.Regular.{first_number, number_of}
-use Rattle.psy_history.specs.Runs.{IsRun}
 use Rattle.psy_history.specs.Schedule.{Turn}
 use Rattle.psy_history.specs.Ways.{Ways}
 use Rattle.psy_dates.specs.declared.seat.Phase.TheVariants as phase
 use Rattle.psy_dates.specs.declared.seat.Seat.{Seat}
 use Rattle.psy_dates.specs.Moves.{IsNumbered, ends_by}
-use Rattle.psy_dates.specs.Standing.{IsSeated, SeatOf, SeatStands}
+use Rattle.psy_dates.specs.Standing.{IsSeated, SeatOf}
 
 -- What is known of them at a date behind those that were done before: no action starts before, nor one of a silent agent; an agent that isn't
 -- silent and has no action begins as in a whole run; and the first numbers are small.

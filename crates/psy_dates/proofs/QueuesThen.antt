@@ -14,7 +14,7 @@ use Rattle.psy_history.specs.Regular.{IsLawful}
 use Rattle.psy_dates.specs.declared.seat.Phase.TheVariants as phase
 use Rattle.psy_dates.specs.declared.seat.Seat.{Seat}
 use Rattle.psy_dates.specs.Messages.{gone_by, settled_then, sweeps_by}
-use Rattle.psy_dates.specs.Moves.{ends_at, ends_by}
+use Rattle.psy_dates.specs.Moves.{ends_at}
 use Rattle.psy_dates.specs.Standing.{IsSeated, KeepsSends, KeepsTakes}
 use Rattle.psy_dates.proofs.Endings.{tells}
 use Rattle.psy_dates.proofs.Begun.{AreBegun, ends_none, seat_of_last}

@@ -1,5 +1,5 @@
 -- What is left of the proof of `laws::openings`.
-use Rattle.std.proofs.Common.{◌≡◌, ℕ, zero, suc, ◌≤◌, ◌<◌, true, false, Some, refl, sym, ap, ◌∙◌, inl, inr, arith}
+use Rattle.std.proofs.Common.{◌≡◌, ℕ, zero, suc, ◌≤◌, true, false, Some, refl, sym, ap, ◌∙◌, inl, inr, arith}
 use Rattle.psy_clock.specs.Dates.{IsClock}
 use Rattle.psy_history.specs.Actions.{clock_of, next_of, variable_of}
 use Rattle.psy_history.specs.Rings.{ring_of}
