@@ -1,4 +1,5 @@
 -- The lemmas of this crate, by subject.
+pub mod Begun
 pub mod Committed
 pub mod Dates
 pub mod Endings

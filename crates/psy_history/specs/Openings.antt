@@ -2,6 +2,7 @@
 use Rattle.std.specs.Prelude.{◌≡◌, ◌⊎◌, ℕ, suc, ◌<◌, ◌≤◌, ◌^◌, true, false, List, length, map, Option, Some, None, slice_get, FitsSigned, ℤ}
 use Rattle.std.specs.Int.{w32}
 use Rattle.std.specs.List.{All, AllPairs}
+use Rattle.psy_base.specs.declared.limits.TheConstants.{QUEUE, STALL}
 use Rattle.psy_base.specs.declared.message.Message.{Message}
 use Rattle.psy_clock.specs.Dates.{count}
 use Rattle.psy_code.specs.declared.code.Code.{Code}
@@ -32,7 +33,7 @@ HasBegun s agent = (n : Next) → s.opening.starts agent ≡ Some n → n.start 
 pub record IsBegun (s : System) (agent : ℕ) (n : Next) : Type 0 where
   pub last : suc n.start ≡ s.opening.dates
   pub first : first_date (timing s agent) ≤ n.start
-  pub number : n.number ≤ 1000000
+  pub number : n.number ≤ STALL
   pub committed : (variable : ℕ) → (variable_of s variable).owner ≡ Some agent → s.opening.committed variable ≡ copy_in n.carried variable
 
 -- It hasn't begun: its first date lies behind those that were done, and its variables have their first values.
@@ -58,7 +59,7 @@ pub record IsHeldBefore (s : System) (stream : ℕ) (m : Message) : Type 0 where
 pub record AreHeldBefore (s : System) (stream : ℕ) (messages : List Message) : Type 0 where
   pub each : All (IsHeldBefore s stream) messages
   pub rise : AllPairs (λ m n. comes_before m n ≡ true) messages
-  pub few : length messages ≤ 65536
+  pub few : length messages ≤ QUEUE
 
 -- ---- variables
 
