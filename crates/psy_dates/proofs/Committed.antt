@@ -12,7 +12,8 @@ use Rattle.psy_dates.specs.declared.seat.Phase.{Phase}
 use Rattle.psy_dates.specs.declared.seat.Phase.TheVariants as phase
 use Rattle.psy_dates.specs.declared.seat.Seat.{Seat}
 use Rattle.psy_dates.specs.Moves.{ends_at, ends_by}
-use Rattle.psy_dates.specs.Standing.{KeepsCopy, SeatOf, SeatStands, TellsEnd, phase_by, phase_of}
+use Rattle.psy_dates.specs.Standing.{IsSeated, KeepsCopy, SeatOf, TellsEnd, phase_by, phase_of}
+use Rattle.psy_dates.proofs.Begun.{ends_none, seat_of_last}
 use Rattle.psy_dates.proofs.Histories.{goes_on, is_regular, starts, stays, was_started}
 use Rattle.psy_dates.proofs.Phases.{by_ended, ended_before, of_done}
 use Rattle.psy_dates.proofs.Seats.{acting}
@@ -113,13 +114,13 @@ module _ (s : System) (lawful : IsLawful s) (date : ℕ) (turns : List (Option T
     by_verdict variable value copy (Trapped kind) e stood kept = stopped variable value copy (ap is_done e) (λ by. ap (commit variable by r.after (committed_in s variable by before)) e) stood
     by_verdict variable value copy Overran e stood kept = stopped variable value copy (ap is_done e) (λ by. ap (commit variable by r.after (committed_in s variable by before)) e) stood
 
-  pub committed_moves : (variable : ℕ) (value copy : ℤ) (seat : Seat) → (seat.deadline ≤ date → seat.phase ≢ phase.Acting) → SeatStands (date - 1) turns (history s date agent) seat → value ≡ committed_in s variable (date - 1) (history s date agent) → KeepsCopy (date - 1) turns variable (history s date agent) copy
+  pub committed_moves : (variable : ℕ) (value copy : ℤ) (seat : Seat) → (seat.deadline ≤ date → seat.phase ≢ phase.Acting) → IsSeated (s.opening.silent agent) s.opening.dates (date - 1) turns (history s date agent) seat → value ≡ committed_in s variable (date - 1) (history s date agent) → KeepsCopy (date - 1) turns variable (history s date agent) copy
       → (if ends_at date (Some seat) then copy else value) ≡ committed_in s variable date (history s (suc date) agent)
   committed_moves variable value copy seat late stands stood kept = from (history s date agent) refl stands stood kept ∙ sym (same_by variable)
     where
-      from : (actions : List Action) → history s date agent ≡ actions → SeatStands (date - 1) turns actions seat → value ≡ committed_in s variable (date - 1) actions → KeepsCopy (date - 1) turns variable actions copy → (if ends_at date (Some seat) then copy else value) ≡ committed_in s variable date (history s date agent)
-      from [] is waits stood kept = cond-false (ends_at date (Some seat)) copy value (ap (λ p. ends_by p (seat.end == date)) waits) ∙ stood ∙ sym (ap (committed_in s variable date) is)
-      from (r ∷ before) is stands stood kept = by_verdict r before is seat stands late variable value copy r.verdict refl stood kept ∙ sym (ap (committed_in s variable date) is)
+      from : (actions : List Action) → history s date agent ≡ actions → IsSeated (s.opening.silent agent) s.opening.dates (date - 1) turns actions seat → value ≡ committed_in s variable (date - 1) actions → KeepsCopy (date - 1) turns variable actions copy → (if ends_at date (Some seat) then copy else value) ≡ committed_in s variable date (history s date agent)
+      from [] is waits stood kept = cond-false (ends_at date (Some seat)) copy value (ends_none (s.opening.silent agent) s.opening.dates (date - 1) turns seat (seat.end == date) waits) ∙ stood ∙ sym (ap (committed_in s variable date) is)
+      from (r ∷ before) is stands stood kept = by_verdict r before is seat (seat_of_last (s.opening.silent agent) s.opening.dates (date - 1) turns r before seat stands) late variable value copy r.verdict refl stood kept ∙ sym (ap (committed_in s variable date) is)
 
   pub kept_moves : ((number : ℕ) → first_number s agent + length (history s date agent) ≤ number → units agent number turns ≡ 0) → (variable : ℕ) (copy : ℤ) → ((n : Next) → next_of s agent (history s date agent) ≡ Some n → first_number s agent + length (history s date agent) ≤ n.number) → KeepsCopy (date - 1) turns variable (history s date agent) copy → KeepsCopy date turns variable (history s (suc date) agent) copy
   kept_moves unstarted variable copy numbered kept = from (next_of s agent (history s date agent)) refl

@@ -3,14 +3,13 @@ use Rattle.std.proofs.Common.{◌≡◌, ℕ, suc, ◌+◌, ◌-◌, ◌^◌, �
 use Rattle.std.specs.Prelude.{slice_get, if◌then◌else◌, ℤ, pos}
 use Rattle.std.proofs.lemmas.Option.{get_or_from_slice_get, same_Some, slice_get-get_or, slice_get_within}
 use Rattle.std.proofs.lemmas.List.Elements.{All-get_or}
+use Rattle.psy_base.specs.declared.limits.TheConstants.{STALL}
 use Rattle.psy_budget.specs.declared.charge.Stall.{Stall}
 use Rattle.psy_clock.specs.Dates.{IsClock}
-use Rattle.psy_code.specs.Views.{found_in}
 use Rattle.psy_queue.specs.Order.{Queued}
-use Rattle.psy_history.specs.Actions.{Action, Next, System, first_action, publishing, stream_of, variable_of}
-use Rattle.psy_history.specs.Executors.{by_code}
+use Rattle.psy_history.specs.Actions.{Action, Opening, System, publishing, stream_of, variable_of}
 use Rattle.psy_history.specs.History.{history}
-use Rattle.psy_tree.specs.Parts.{no_agent, stream_at}
+use Rattle.psy_tree.specs.Parts.{stream_at}
 use Rattle.psy_history.specs.Schedule.{Turn, units}
 use Rattle.psy_meaning.specs.Timing.{first_date}
 use Rattle.psy_meaning.specs.Units.{IsBare, OwnedWithin}
@@ -23,29 +22,29 @@ use Rattle.psy_dates.specs.declared.shared.Shared.{Shared}
 use Rattle.psy_dates.specs.Messages.{nowhere, sent_from, settled_then, with_entered}
 use Rattle.psy_dates.specs.Moves.{IsNumbered, commits_at, ends_at, owner_of, seat_then, timing_in}
 use Rattle.psy_dates.specs.Outboxes.{Outboxed}
-use Rattle.psy_dates.specs.Plans.{system_of}
+use Rattle.psy_dates.specs.Plans.{opened_of, system_of}
 use Rattle.psy_dates.specs.Publications.{ring_then}
-use Rattle.psy_dates.specs.Standing.{KeepsCopy, KeepsTakes, NoneActs, OutboxStands, RingStands, SeatStands, SharedStands, committed_by, dates_done}
+use Rattle.psy_dates.specs.Standing.{IsSeated, KeepsCopy, KeepsTakes, NoneActs, OutboxStands, RingStands, SharedStands, committed_by, dates_done}
+use Rattle.psy_dates.proofs.Begun.{AreBegun, none_numbered, seat_of_last}
 use Rattle.psy_dates.proofs.Committed.{committed_moves, kept_moves}
 use Rattle.psy_dates.proofs.Histories.{few, numbered, was_started}
 use Rattle.psy_dates.proofs.Publications.{Goes, ring_moves}
-use Rattle.psy_dates.proofs.Seats.{seat_moves}
+use Rattle.psy_dates.proofs.Seats.{seated_moves}
 use Rattle.psy_dates.proofs.StreamLaws.{AreStreamLaws}
 use Rattle.psy_dates.proofs.StreamsThen.{outbox_stands, queue_stands, takes_stand}
 
 one_back : (n : ℕ) → (n + 1) - 1 ≡ n
 one_back n = omega arith
 
-waits_not : phase.Waiting ≡ phase.Ended → ⊥
-waits_not e = cc
-
 -- An agent has done fewer actions than there were dates
-pub seat_numbered : (s : System) → IsLawful s → (date agent : ℕ) (turns : List (Option Turn)) (seat : Seat) → first_number s agent ≡ 0 → date ≤ 2 ^ 40 → SeatStands (date - 1) turns (history s date agent) seat → IsNumbered seat
-seat_numbered s lawful date agent turns seat none early = from (history s date agent) refl
+pub seat_numbered : (s : System) → IsLawful s → (date agent : ℕ) (turns : List (Option Turn)) (seat : Seat) → first_number s agent ≤ STALL → date ≤ 2 ^ 32 → IsSeated (s.opening.silent agent) s.opening.dates (date - 1) turns (history s date agent) seat → IsNumbered seat
+seat_numbered s lawful date agent turns seat small early = from (history s date agent) refl
   where
-    from : (actions : List Action) → history s date agent ≡ actions → SeatStands (date - 1) turns actions seat → IsNumbered seat
-    from [] is waits = λ ended. absurd (waits_not (sym waits ∙ ended))
-    from (r ∷ before) is stands = λ ended. omega (arith, none, early, stands.number, (was_started s lawful date agent r before is).number, few s lawful date agent r before is)
+    from : (actions : List Action) → history s date agent ≡ actions → IsSeated (s.opening.silent agent) s.opening.dates (date - 1) turns actions seat → IsNumbered seat
+    from [] is waits = none_numbered (s.opening.silent agent) s.opening.dates (date - 1) turns seat waits
+    from (r ∷ before) is sits =
+        let stands = seat_of_last (s.opening.silent agent) s.opening.dates (date - 1) turns r before seat sits in
+        λ ended. omega (arith, small, early, stands.number, (was_started s lawful date agent r before is).number, few s lawful date agent r before is)
 
 -- What a date changes
 pub record Moved (plan : Plan) (inputs : List (List ℤ)) (date : ℕ) (old new : Shared) : Type 0 where
@@ -66,12 +65,13 @@ pub record Moved (plan : Plan) (inputs : List (List ℤ)) (date : ℕ) (old new 
   pub taken : (stream n : ℕ) → slice_get old.taken.items stream ≡ Some n → slice_get new.taken.items stream ≡ Some (if ends_at date (slice_get old.seats.items (stream_at plan.unit stream).receiver) then 0 else n)
   pub calendar : CalendarStands plan.unit.clocks (date + 1) new.calendar
 
-module _ (plan : Plan) (inputs : List (List ℤ)) (stalls : ℕ → List Stall) (bare : IsBare plan.unit) (lawful : IsLawful (system_of plan inputs stalls)) (laws : AreStreamLaws (system_of plan inputs stalls)) (date : ℕ) (turns : List (Option Turn))
-    (goes : (variable : ℕ) → IsClock (publishing (system_of plan inputs stalls) variable) → Goes (system_of plan inputs stalls) date variable)
-    (unstarted : (agent number : ℕ) → first_number (system_of plan inputs stalls) agent + length (history (system_of plan inputs stalls) date agent) ≤ number → units agent number turns ≡ 0)
-    (old new : Shared) (due : NoneActs date old.seats.items) (stands : SharedStands (system_of plan inputs stalls) turns date old) (moved : Moved plan inputs date old new) where
+module _ (plan : Plan) (opening : Opening) (inputs : List (List ℤ)) (stalls : ℕ → List Stall) (bare : IsBare plan.unit) (lawful : IsLawful (opened_of plan opening inputs stalls)) (laws : AreStreamLaws (opened_of plan opening inputs stalls)) (date : ℕ)
+    (begun : AreBegun (opened_of plan opening inputs stalls) date) (turns : List (Option Turn))
+    (goes : (variable : ℕ) → IsClock (publishing (opened_of plan opening inputs stalls) variable) → Goes (opened_of plan opening inputs stalls) date variable)
+    (unstarted : (agent number : ℕ) → first_number (opened_of plan opening inputs stalls) agent + length (history (opened_of plan opening inputs stalls) date agent) ≤ number → units agent number turns ≡ 0)
+    (old new : Shared) (due : NoneActs date old.seats.items) (stands : SharedStands (opened_of plan opening inputs stalls) turns date old) (moved : Moved plan inputs date old new) where
   abbrev s : System
-  s = system_of plan inputs stalls
+  s = opened_of plan opening inputs stalls
 
   -- a seat by its agent
   seat_at : (agent : ℕ) → agent < length plan.unit.agents → (seat : Seat) × (slice_get old.seats.items agent ≡ Some seat)
@@ -79,19 +79,16 @@ module _ (plan : Plan) (inputs : List (List ℤ)) (stalls : ℕ → List Stall) 
       let none : Seat = record { phase = phase.Waiting; number = 0; point = 0; start = 0; deadline = 0; end = 0; reached = 0; trap = None } in
       (get_or old.seats.items agent none, slice_get-get_or old.seats.items agent none (omega (arith, l, stands.seated)))
 
-  abbrev first : ℕ → Next
-  first agent = first_action plan.unit plan.nexts (by_code plan.code) agent
+  -- The seat of an agent, as its history has it
+  abbrev Sits : ℕ → ℕ → Seat → Type 0
+  Sits done agent = IsSeated (opening.silent agent) opening.dates date turns (history s done agent)
 
-  starts : (agent : ℕ) → agent < length plan.unit.agents → s.opening.starts agent ≡ Some (first agent)
-  starts agent l = ap (λ found. found_in found (λ a. Some (first agent))) (slice_get-get_or plan.unit.agents agent no_agent l)
-
-  seat_stands : (agent : ℕ) (seat : Seat) → slice_get new.seats.items agent ≡ Some seat → SeatStands date turns (history s (suc date) agent) seat
+  seat_stands : (agent : ℕ) (seat : Seat) → slice_get new.seats.items agent ≡ Some seat → Sits (suc date) agent seat
   seat_stands agent seat is =
       let within : agent < length plan.unit.agents = omega (arith, slice_get_within new.seats.items agent seat is, moved.seated, stands.seated) in
       let (before, was) = seat_at agent within in
       let same : seat_then (timing_in plan agent) date before ≡ seat = same_Some _ _ (sym (moved.seats agent before was) ∙ is) in
-      subst (SeatStands date turns (history s (suc date) agent)) same
-      (seat_moves s lawful date turns agent (unstarted agent) before (first agent) (starts agent within) refl refl refl (due agent before was) (stands.seats agent before was))
+      subst (Sits (suc date) agent) same (seated_moves s lawful date turns agent (unstarted agent) before begun within (due agent before was) (stands.seats agent before was))
 
   committed_is : (variable : ℕ) (value : ℤ) → slice_get new.committed.items variable ≡ Some value → value ≡ committed_by s (history s (suc date)) variable date (variable_of s variable).owner
   committed_is variable value is = sym (get_or_from_slice_get new.committed.items variable value (pos 0) is) ∙ moved.committed variable within ∙ by_owner (variable_of s variable).owner (bare.variables variable _ within).owner before copies
@@ -130,18 +127,17 @@ module _ (plan : Plan) (inputs : List (List ℤ)) (stalls : ℕ → List Stall) 
       let within : variable < length plan.unit.variables = omega (arith, slice_get_within new.rings.items variable ring is, moved.ringed, stands.ringed) in
       let before = get_or old.rings.items variable [] in
       let was : slice_get old.rings.items variable ≡ Some before = slice_get-get_or old.rings.items variable [] (omega (arith, within, stands.ringed)) in
-      let behind : 0 ≤ date = omega arith in
       let value = get_or new.committed.items variable (pos 0) in
       let committed = committed_is variable value (slice_get-get_or new.committed.items variable (pos 0) (omega (arith, within, moved.valued, stands.valued))) in
       subst (RingStands s (date + 1) variable) (same_Some _ _ (sym (moved.rings variable before was) ∙ is))
-      (ring_moves s date variable behind (goes variable (clock_is variable within)) new.committed.items before
+      (ring_moves s date variable begun.behind (goes variable (clock_is variable within)) new.committed.items before
       (subst (λ n. value ≡ committed_by s (history s n) variable date (variable_of s variable).owner) (sym (add-one date)) committed) (stands.rings variable before was))
 
   pub shared_moves : SharedStands s turns (date + 1) new
   shared_moves = record {
     date = ap dates_done moved.date_is;
     seated = moved.seated ∙ stands.seated;
-    seats = λ agent seat is. subst (λ d. SeatStands d turns (history s (date + 1) agent) seat) (sym (one_back date)) (subst (λ n. SeatStands date turns (history s n agent) seat) (sym (add-one date)) (seat_stands agent seat is));
+    seats = λ agent seat is. subst (λ d. IsSeated (opening.silent agent) opening.dates d turns (history s (date + 1) agent) seat) (sym (one_back date)) (subst (λ n. Sits n agent seat) (sym (add-one date)) (seat_stands agent seat is));
     valued = moved.valued ∙ stands.valued;
     committed = λ variable value is. subst (λ d. value ≡ committed_by s (history s (date + 1)) variable d (variable_of s variable).owner) (sym (one_back date)) (subst (λ n. value ≡ committed_by s (history s n) variable date (variable_of s variable).owner) (sym (add-one date)) (committed_is variable value is));
     kept = ap length moved.ended ∙ stands.kept;
@@ -149,10 +145,14 @@ module _ (plan : Plan) (inputs : List (List ℤ)) (stalls : ℕ → List Stall) 
     ringed = moved.ringed ∙ stands.ringed;
     rings = ring_stands;
     queued = moved.queued ∙ stands.queued;
-    queues = queue_stands plan inputs stalls bare lawful laws date turns old due stands new.queues.items moved.queued moved.queues;
+    queues = queue_stands plan opening inputs stalls bare lawful laws date begun turns old due stands new.queues.items moved.queued moved.queues;
     boxed = moved.boxed ∙ stands.boxed;
-    outboxes = λ agent outbox is. subst (λ d. OutboxStands s d turns agent (history s (date + 1) agent) outbox) (sym (one_back date)) (subst (λ n. OutboxStands s date turns agent (history s n agent) outbox) (sym (add-one date)) (outbox_stands plan inputs stalls bare lawful laws date turns old due stands unstarted new.outboxes.items moved.boxed moved.outboxes agent outbox is));
+    outboxes = λ agent outbox is. subst (λ d. OutboxStands s d turns agent (history s (date + 1) agent) outbox) (sym (one_back date)) (subst (λ n. OutboxStands s date turns agent (history s n agent) outbox) (sym (add-one date)) (outbox_stands plan opening inputs stalls bare lawful laws date begun turns old due stands unstarted new.outboxes.items moved.boxed moved.outboxes agent outbox is));
     taking = moved.taking ∙ stands.taking;
+<<<<<<< HEAD
     taken = λ stream n is. subst (λ d. KeepsTakes d turns stream (history s (date + 1) (stream_of s stream).receiver) n) (sym (one_back date)) (subst (λ k. KeepsTakes date turns stream (history s k (stream_of s stream).receiver) n) (sym (add-one date)) (takes_stand plan inputs stalls bare lawful laws date turns old due stands unstarted new.taken.items moved.taking moved.taken stream n is));
     calendar = moved.calendar;
+=======
+    taken = λ stream n is. subst (λ d. KeepsTakes d turns stream (history s (date + 1) (stream_of s stream).receiver) n) (sym (one_back date)) (subst (λ k. KeepsTakes date turns stream (history s k (stream_of s stream).receiver) n) (sym (add-one date)) (takes_stand plan opening inputs stalls bare lawful laws date begun turns old due stands unstarted new.taken.items moved.taking moved.taken stream n is));
+>>>>>>> 30fcb0c6a27c785ab3103701bccab9fc90d242c7
   }

@@ -15,7 +15,8 @@ use Rattle.psy_dates.specs.declared.seat.Phase.{Phase}
 use Rattle.psy_dates.specs.declared.seat.Phase.TheVariants as phase
 use Rattle.psy_dates.specs.declared.seat.Seat.{Seat}
 use Rattle.psy_dates.specs.Moves.{ends_at, ends_by, seat_by, seat_then}
-use Rattle.psy_dates.specs.Standing.{KeepsSends, KeepsTakes, SeatStands, phase_by, phase_of}
+use Rattle.psy_dates.specs.Standing.{IsSeated, KeepsSends, KeepsTakes, phase_by, phase_of}
+use Rattle.psy_dates.proofs.Begun.{ends_none, seat_of_last}
 use Rattle.psy_dates.proofs.Endings.{tells}
 use Rattle.psy_dates.proofs.Histories.{goes_on, numbered, starts, stays, was_started}
 use Rattle.psy_dates.proofs.Phases.{ended_before}
@@ -87,7 +88,7 @@ never_waits false true done e = cc
 never_waits false false true e = cc
 never_waits false false false e = cc
 
-module _ (s : System) (lawful : IsLawful s) (date : ℕ) (turns : List (Option Turn)) (agent : ℕ) (seat : Seat) (late : seat.deadline ≤ date → seat.phase ≢ phase.Acting) (stands : SeatStands (date - 1) turns (history s date agent) seat) (X : Type 0) (nothing : X) (of : Action → X) (x : X) (kept : Kept nothing of (date - 1) turns (history s date agent) x) where
+module _ (s : System) (lawful : IsLawful s) (date : ℕ) (turns : List (Option Turn)) (agent : ℕ) (seat : Seat) (late : seat.deadline ≤ date → seat.phase ≢ phase.Acting) (stands : IsSeated (s.opening.silent agent) s.opening.dates (date - 1) turns (history s date agent) seat) (X : Type 0) (nothing : X) (of : Action → X) (x : X) (kept : Kept nothing of (date - 1) turns (history s date agent) x) where
   -- It is gone where the action ends.
   abbrev pub kept_then : X
   kept_then = if ends_at date (Some seat) then nothing else x
@@ -95,9 +96,10 @@ module _ (s : System) (lawful : IsLawful s) (date : ℕ) (turns : List (Option T
   no_start : ((n : Next) → next_of s agent (history s date agent) ≡ Some n → n.start ≡ date → ⊥) → Kept nothing of date turns (history s date agent) kept_then
   no_start never = from (history s date agent) refl stands kept
     where
-      from : (actions : List Action) → history s date agent ≡ actions → SeatStands (date - 1) turns actions seat → Kept nothing of (date - 1) turns actions x → Kept nothing of date turns actions kept_then
-      from [] is waits here = cond-false (ends_at date (Some seat)) nothing x (ap (λ p. ends_by p (seat.end == date)) waits) ∙ here
-      from (r ∷ before) is of_seat here =
+      from : (actions : List Action) → history s date agent ≡ actions → IsSeated (s.opening.silent agent) s.opening.dates (date - 1) turns actions seat → Kept nothing of (date - 1) turns actions x → Kept nothing of date turns actions kept_then
+      from [] is waits here = cond-false (ends_at date (Some seat)) nothing x (ends_none (s.opening.silent agent) s.opening.dates (date - 1) turns seat (seat.end == date) waits) ∙ here
+      from (r ∷ before) is seated here =
+          let of_seat = seat_of_last (s.opening.silent agent) s.opening.dates (date - 1) turns r before seat seated in
           let told = tells s lawful date turns agent r before is seat of_seat late in
           let goes : ends_at date (Some seat) ≡ false = elim (cases_Bool (ended_at date r.verdict)) [
             | inl ends ↦ (let (m, next, at) = follows_there date r.number r r.verdict ends in absurd (never m (ap (next_of s agent) is ∙ next) at))
@@ -125,9 +127,10 @@ module _ (s : System) (lawful : IsLawful s) (date : ℕ) (turns : List (Option T
     | inr still ↦ cond-false (ends_at date (Some seat)) nothing x still ∙ from still (history s date agent) refl stands kept
   ]
     where
-      from : ends_at date (Some seat) ≡ false → (actions : List Action) → history s date agent ≡ actions → SeatStands (date - 1) turns actions seat → Kept nothing of (date - 1) turns actions x → x ≡ nothing
+      from : ends_at date (Some seat) ≡ false → (actions : List Action) → history s date agent ≡ actions → IsSeated (s.opening.silent agent) s.opening.dates (date - 1) turns actions seat → Kept nothing of (date - 1) turns actions x → x ≡ nothing
       from still [] is waits here = here
-      from still (r ∷ before) is of_seat here =
+      from still (r ∷ before) is seated here =
+          let of_seat = seat_of_last (s.opening.silent agent) s.opening.dates (date - 1) turns r before seat seated in
           let was = was_started s lawful date agent r before is in
           let begun : seat.phase ≡ phase.Waiting → ⊥ = λ waits. never_waits _ _ _ (sym of_seat.phase ∙ waits) in
           let start : r.start ≡ was.next.start = ap (λ (q : Action). q.start) was.made in

@@ -15,3 +15,4 @@ mod Seats
 mod StreamLaws
 mod StreamsThen
 mod Values
+mod Begun

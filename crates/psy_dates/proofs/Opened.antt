@@ -1,5 +1,5 @@
 -- What the agents share before date 0 stands for the empty history.
-use Rattle.std.proofs.Common.{◌≡◌, ℕ, ◌-◌, ◌<◌, ◌≤◌, List, [], All, length, get_or, Option, Some, None, refl, sym, ap, subst, ◌∙◌, arith}
+use Rattle.std.proofs.Common.{◌≡◌, ℕ, ◌+◌, ◌-◌, ◌<◌, ◌≤◌, List, [], All, length, get_or, Option, Some, None, refl, sym, ap, subst, ◌∙◌, arith}
 use Rattle.std.specs.Prelude.{map, replicate, slice_get, ℤ, pos}
 use Rattle.std.proofs.lemmas.List.{get_or-map, length-map, length-replicate}
 use Rattle.std.proofs.lemmas.List.Elements.{All-get_or}
@@ -81,8 +81,10 @@ first_stands plan inputs stalls shared sizes is =
       queues = λ stream queue at. (let within : stream < length plan.sizes.queues = omega (arith, slice_get_within shared.queues.items stream queue at, is.queued) in
           let size = get_or plan.sizes.queues stream 0 in
           let first : QueueStands s 0 stream (record { size = size; messages = [] }) = record {
+            places = size;
             size = sizes.queues.each stream size (slice_get-get_or plan.sizes.queues stream 0 within);
             small = sizes.small_queues stream 0 within;
+            room = (let same : size ≡ size + 0 = omega arith in same);
             messages = refl;
           } in
           subst (QueueStands s 0 stream) (same_Some _ _ (sym (is.queues stream within) ∙ at)) first);

@@ -5,7 +5,7 @@ use Rattle.std.proofs.lemmas.Bool.{cases_Bool, cases_eq, cond-true, cond-false, 
 use Rattle.psy_base.specs.declared.message.Message.{Message}
 use Rattle.psy_code.specs.declared.look.Sent.{Sent}
 use Rattle.psy_queue.specs.Order.{Queued}
-use Rattle.psy_history.specs.Actions.{Action, Next, System, Verdict, Done, Trapped, Overran, next_by, next_of, stream_of}
+use Rattle.psy_history.specs.Actions.{Action, Next, System, Verdict, Done, Trapped, Overran, first_action, next_by, next_of, stream_of}
 use Rattle.psy_history.specs.History.{action_of, history}
 use Rattle.psy_history.specs.Schedule.{Turn}
 use Rattle.psy_history.specs.Visible.{messages_by, messages_from, taken}
@@ -14,9 +14,10 @@ use Rattle.psy_history.specs.Regular.{IsLawful}
 use Rattle.psy_dates.specs.declared.seat.Phase.TheVariants as phase
 use Rattle.psy_dates.specs.declared.seat.Seat.{Seat}
 use Rattle.psy_dates.specs.Messages.{gone_by, settled_then, sweeps_by}
-use Rattle.psy_dates.specs.Moves.{ends_at, ends_by}
-use Rattle.psy_dates.specs.Standing.{KeepsSends, KeepsTakes, SeatStands}
+use Rattle.psy_dates.specs.Moves.{ends_at}
+use Rattle.psy_dates.specs.Standing.{IsSeated, KeepsSends, KeepsTakes}
 use Rattle.psy_dates.proofs.Endings.{tells}
+use Rattle.psy_dates.proofs.Begun.{AreBegun, ends_none, seat_of_last}
 use Rattle.psy_dates.proofs.Entering.{length_entered}
 use Rattle.psy_dates.proofs.Histories.{goes_on, is_regular, starts, stays, was_started}
 
@@ -47,7 +48,7 @@ sent_there s date stream agent sends (Done point end) e = ap (λ n. messages_fro
 sent_there s date stream agent sends (Trapped kind) e = cc
 sent_there s date stream agent sends Overran e = cc
 
-module _ (s : System) (lawful : IsLawful s) (date : ℕ) (turns : List (Option Turn)) (agent : ℕ) (seat : Seat) (late : seat.deadline ≤ date → seat.phase ≢ phase.Acting) (stands : SeatStands (date - 1) turns (history s date agent) seat) where
+module _ (s : System) (lawful : IsLawful s) (date : ℕ) (turns : List (Option Turn)) (agent : ℕ) (seat : Seat) (late : seat.deadline ≤ date → seat.phase ≢ phase.Acting) (stands : IsSeated (s.opening.silent agent) s.opening.dates (date - 1) turns (history s date agent) seat) where
   -- the messages of an agent's action that ends there
   pub enters_there : (stream : ℕ) (sends : List Sent) → KeepsSends (date - 1) turns (history s date agent) sends → (if ends_at date (Some seat) then messages_from s stream agent date 0 sends else []) ≡ entering_of s date stream (history s date agent)
   enters_there stream sends kept = from (history s date agent) refl stands kept
@@ -55,10 +56,10 @@ module _ (s : System) (lawful : IsLawful s) (date : ℕ) (turns : List (Option T
       mine : List Message
       mine = messages_from s stream agent date 0 sends
 
-      from : (actions : List Action) → history s date agent ≡ actions → SeatStands (date - 1) turns actions seat → KeepsSends (date - 1) turns actions sends → (if ends_at date (Some seat) then messages_from s stream agent date 0 sends else []) ≡ entering_of s date stream actions
-      from [] is waits keeps = cond-false (ends_at date (Some seat)) (messages_from s stream agent date 0 sends) [] (ap (λ p. ends_by p (seat.end == date)) waits)
-      from (r ∷ before) is of keeps =
-          let told = tells s lawful date turns agent r before is seat of late in
+      from : (actions : List Action) → history s date agent ≡ actions → IsSeated (s.opening.silent agent) s.opening.dates (date - 1) turns actions seat → KeepsSends (date - 1) turns actions sends → (if ends_at date (Some seat) then messages_from s stream agent date 0 sends else []) ≡ entering_of s date stream actions
+      from [] is waits keeps = cond-false (ends_at date (Some seat)) (messages_from s stream agent date 0 sends) [] (ends_none (s.opening.silent agent) s.opening.dates (date - 1) turns seat (seat.end == date) waits)
+      from (r ∷ before) is seated keeps =
+          let told = tells s lawful date turns agent r before is seat (seat_of_last (s.opening.silent agent) s.opening.dates (date - 1) turns r before seat seated) late in
           let its = messages_by s stream r.agent r.deeds.sends r.verdict in
           elim (cases_Bool (ended_at date r.verdict)) [
             | inl ends ↦ cond-true (ends_at date (Some seat)) (messages_from s stream agent date 0 sends) [] (told.ends ∙ ends)
@@ -70,16 +71,21 @@ module _ (s : System) (lawful : IsLawful s) (date : ℕ) (turns : List (Option T
           ]
 
   -- a queue whose receiver this agent is
-  pub settles_there : (stream took first : ℕ) (n : Next) → s.opening.starts agent ≡ Some n → n.start ≡ first → KeepsTakes (date - 1) turns stream (history s date agent) took → (queue : Queued)
+  pub settles_there : (stream took first : ℕ) → AreBegun s date → agent < length s.unit.agents → (first_action s.unit s.nexts s.executor agent).start ≡ first → KeepsTakes (date - 1) turns stream (history s date agent) took → (queue : Queued)
       → settled_then date first seat took queue ≡ settled_queue s date stream agent (history s date agent) queue
-  settles_there stream took first n starts start kept queue = from (history s date agent) refl stands kept
+  settles_there stream took first begun less start kept queue = from (history s date agent) refl stands kept
     where
-      from : (actions : List Action) → history s date agent ≡ actions → SeatStands (date - 1) turns actions seat → KeepsTakes (date - 1) turns stream actions took → settled_then date first seat took queue ≡ settled_queue s date stream agent actions queue
-      from [] is waits keeps = settled_alike s date stream agent first [] seat took queue
-          (ap (sweeps_by date first seat) waits ∙ ap (λ k. k == date) (sym start) ∙ sym (ap (sweeps (s.opening.silent agent) date []) starts))
-          (λ sweep. ap (gone_by took) waits)
-      from (r ∷ before) is of keeps =
-          let told = tells s lawful date turns agent r before is seat of late in
+      -- an agent without actions waits, or it is silent
+      none : (quiet : Bool) → s.opening.silent agent ≡ quiet → history s date agent ≡ [] → IsSeated quiet s.opening.dates (date - 1) turns [] seat → (sweeps_by date first seat seat.phase ≡ sweeps quiet date [] (s.opening.starts agent)) × (gone_by took seat.phase ≡ 0)
+      none false loud is waits =
+          (ap (sweeps_by date first seat) waits ∙ ap (λ k. k == date) (sym start) ∙ sym (ap (sweeps false date []) (begun.waits agent less loud is)), ap (gone_by took) waits)
+      none true silent is rests =
+          (ap (sweeps_by date first seat) rests.phase ∙ sym (ap (sweeps true date []) (begun.unstarted agent silent)), ap (gone_by took) rests.phase)
+
+      from : (actions : List Action) → history s date agent ≡ actions → IsSeated (s.opening.silent agent) s.opening.dates (date - 1) turns actions seat → KeepsTakes (date - 1) turns stream actions took → settled_then date first seat took queue ≡ settled_queue s date stream agent actions queue
+      from [] is seated keeps = (let its = none (s.opening.silent agent) refl is seated in settled_alike s date stream agent first [] seat took queue its.0 (λ sweep. its.1))
+      from (r ∷ before) is seated keeps =
+          let told = tells s lawful date turns agent r before is seat (seat_of_last (s.opening.silent agent) s.opening.dates (date - 1) turns r before seat seated) late in
           settled_alike s date stream agent first (r ∷ before) seat took queue (told.swept first) (λ sweep. elim (cases_Bool (ended_at date r.verdict)) [
             | inl ends ↦ ap (gone_by took) (told.ended ends).0 ∙ keeps (told.ended ends).1 ∙ sym (cond-true (ended_at date r.verdict) (length (taken r stream)) 0 ends)
             | inr still ↦ told.other took still (told.swept 0 ∙ sym (told.swept first) ∙ sweep) ∙ sym (cond-false (ended_at date r.verdict) (length (taken r stream)) 0 still)
@@ -103,7 +109,7 @@ module _ (s : System) (lawful : IsLawful s) (agent : ℕ) (r : Action) (before :
       ]
 
   module _ (stream point end : ℕ) (receives : (stream_of s stream).receiver ≡ agent) (verdict : r.verdict ≡ Done point end)
-      (next : (date : ℕ) → queue_of s (date + 1) stream ≡ entered (entering s date stream) (settled s date stream (queue_of s date stream)))
+      (next : (date : ℕ) → history s date agent ≡ r ∷ before → queue_of s (date + 1) stream ≡ entered (entering s date stream) (settled s date stream (queue_of s date stream)))
       (look : (date : ℕ) → history s (date + 1) agent ≡ r ∷ before → date < r.deadline → length (r.seen stream) ≤ length (queue_of s (date + 1) stream)) where
     -- nothing goes before the action ends
     unsettled : (date : ℕ) → history s date agent ≡ r ∷ before → date < end → settled s date stream (queue_of s date stream) ≡ queue_of s date stream
@@ -128,7 +134,7 @@ module _ (s : System) (lawful : IsLawful s) (agent : ℕ) (r : Action) (before :
         more : (date : ℕ) → history s date agent ≡ r ∷ before → date < end → length (queue_of s date stream) ≤ length (queue_of s (suc date) stream)
         more date is early =
             let held = queue_of s date stream in
-            let new : queue_of s (suc date) stream ≡ entered (entering s date stream) held = ap (λ k. queue_of s k stream) (sym (add-one date)) ∙ next date ∙ ap (entered (entering s date stream)) (unsettled date is early) in
+            let new : queue_of s (suc date) stream ≡ entered (entering s date stream) held = ap (λ k. queue_of s k stream) (sym (add-one date)) ∙ next date is ∙ ap (entered (entering s date stream)) (unsettled date is early) in
             omega (arith, ap length new, length_entered (entering s date stream) held)
 
         on : (date : ℕ) → history s (suc date) agent ≡ r ∷ before → date < end → (r.start ≡ date → ⊥) → length (r.seen stream) ≤ length (queue_of s (suc date) stream)

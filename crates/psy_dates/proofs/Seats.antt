@@ -1,8 +1,8 @@
 -- The seat of an agent stands for its actions up to a date, where it did so for those before.
-use Rattle.std.proofs.Common.{◌≡◌, ℕ, suc, ◌+◌, ◌-◌, ◌<◌, ◌≤◌, true, false, List, [], ◌∷◌, length, Option, Some, None, refl, sym, ap, subst, ◌∙◌, inl, inr, arith}
+use Rattle.std.proofs.Common.{◌≡◌, ℕ, suc, ◌+◌, ◌-◌, ◌<◌, ◌≤◌, Bool, true, false, List, [], ◌∷◌, length, Option, Some, None, refl, sym, ap, subst, ◌∙◌, inl, inr, arith}
 use Rattle.std.specs.Prelude.{nat_le, ◌==◌, ◌≢◌}
 use Rattle.std.proofs.lemmas.Bool.{cases_Bool, cases_eq, cond-true, cond-false, eq-eqb, ne_eqb, leb-true, leb-false, le-leb, lt-leb}
-use Rattle.psy_history.specs.Actions.{Action, Next, System, Verdict, Done, Trapped, Overran, is_done, next_by, next_of, timing}
+use Rattle.psy_history.specs.Actions.{Action, Next, System, Verdict, Done, Trapped, Overran, first_action, is_done, next_by, next_of, timing}
 use Rattle.psy_history.specs.History.{action_of, history}
 use Rattle.psy_history.specs.Schedule.{Turn, is_pending, units}
 use Rattle.psy_meaning.specs.Timing.{deadline, first_date}
@@ -11,7 +11,8 @@ use Rattle.psy_dates.specs.declared.seat.Phase.{Phase}
 use Rattle.psy_dates.specs.declared.seat.Phase.TheVariants as phase
 use Rattle.psy_dates.specs.declared.seat.Seat.{Seat}
 use Rattle.psy_dates.specs.Moves.{begun_at, seat_by, seat_then}
-use Rattle.psy_dates.specs.Standing.{SeatOf, SeatStands, TellsEnd, phase_by, phase_of}
+use Rattle.psy_dates.specs.Standing.{IsQuiet, IsSeated, SeatOf, SeatStands, TellsEnd, phase_by, phase_of}
+use Rattle.psy_dates.proofs.Begun.{AreBegun}
 use Rattle.psy_dates.proofs.Histories.{goes_on, is_regular, starts, stays, was_started}
 use Rattle.psy_dates.proofs.Phases.{of_done, of_started, of_stopped, tells_acting, tells_silent}
 
@@ -144,9 +145,23 @@ module _ (s : System) (lawful : IsLawful s) (date : ℕ) (turns : List (Option T
     by_verdict (Trapped kind) e = stopped (ap is_done e) (ap (next_by r.number r.after) e)
     by_verdict Overran e = stopped (ap is_done e) (ap (next_by r.number r.after) e)
 
-  pub seat_moves : (seat : Seat) (n : Next) → s.opening.starts agent ≡ Some n → n.number ≡ 0 → n.point ≡ 0 → n.start ≡ first_date (timing s agent) → (seat.deadline ≤ date → seat.phase ≢ phase.Acting) → SeatStands (date - 1) turns (history s date agent) seat → SeatStands date turns (history s (suc date) agent) (seat_then (timing s agent) date seat)
-  seat_moves seat n starts number point start late stands = from (history s date agent) refl stands
+  -- ---- a silent agent without actions
+
+  still_quiet : (before : ℕ) (seat : Seat) → IsQuiet before seat → IsQuiet before (seat_then (timing s agent) date seat)
+  still_quiet before seat rests = (let same : seat_then (timing s agent) date seat ≡ seat = ap (seat_by (timing s agent) date seat) rests.phase in subst (IsQuiet before) (sym same) rests)
+
+  -- The seat of each agent, silent from before or not
+  pub seated_moves : (seat : Seat) → AreBegun s date → agent < length s.unit.agents → (seat.deadline ≤ date → seat.phase ≢ phase.Acting)
+      → IsSeated (s.opening.silent agent) s.opening.dates (date - 1) turns (history s date agent) seat
+      → IsSeated (s.opening.silent agent) s.opening.dates date turns (history s (suc date) agent) (seat_then (timing s agent) date seat)
+  seated_moves seat begun less late stands = from (s.opening.silent agent) refl (history s date agent) refl stands
     where
-      from : (actions : List Action) → history s date agent ≡ actions → SeatStands (date - 1) turns actions seat → SeatStands date turns (history s (suc date) agent) (seat_then (timing s agent) date seat)
-      from [] is waits = first seat n starts number point start is waits
-      from (r ∷ before) is stands = by_verdict r before is seat stands late r.verdict refl
+      from : (quiet : Bool) → s.opening.silent agent ≡ quiet → (actions : List Action) → history s date agent ≡ actions → IsSeated quiet s.opening.dates (date - 1) turns actions seat
+          → IsSeated quiet s.opening.dates date turns (history s (suc date) agent) (seat_then (timing s agent) date seat)
+      from false loud [] is waits =
+          let n : Next = first_action s.unit s.nexts s.executor agent in
+          first seat n (begun.waits agent less loud is) refl refl refl is waits
+      from false loud (r ∷ before) is of = by_verdict r before is seat of late r.verdict refl
+      from true silent [] is rests =
+          subst (λ actions. IsSeated true s.opening.dates date turns actions (seat_then (timing s agent) date seat)) (sym (begun.silent (suc date) agent silent)) (still_quiet s.opening.dates seat rests)
+      from true silent (r ∷ before) is of = (let no : [] ≡ r ∷ before = sym (begun.silent date agent silent) ∙ is in absurd cc)

@@ -8,7 +8,7 @@ use Rattle.psy_budget.specs.declared.charge.Stall.{Stall}
 use Rattle.psy_code.specs.declared.code.Code.{Code}
 use Rattle.psy_tree.specs.declared.unit.StreamDecl.{StreamDecl}
 use Rattle.psy_tree.specs.declared.unit.Unit.{Unit as Whole}
-use Rattle.psy_history.specs.Actions.{Action, System}
+use Rattle.psy_history.specs.Actions.{Action, Opening, System}
 use Rattle.psy_history.specs.History.{history}
 use Rattle.psy_meaning.specs.Kept.{IsSentOf}
 use Rattle.psy_meaning.specs.QueueSizes.{IsQueueSize}
@@ -17,13 +17,13 @@ use Rattle.psy_history.specs.Runs.{IsRun}
 use Rattle.psy_history.specs.Ways.{IsSentBy, OfText, Ways}
 use Rattle.psy_history.specs.WaySizes as by_ways
 use Rattle.psy_dates.specs.declared.plan.Plan.{Plan}
-use Rattle.psy_dates.specs.Plans.{system_of}
+use Rattle.psy_dates.specs.Plans.{opened_of}
 
 -- What is known of a history's streams
 pub record AreStreamLaws (s : System) : Type 0 where
-  pub next : (date stream : ℕ) → stream < length s.unit.streams → queue_of s (date + 1) stream ≡ entered (entering s date stream) (settled s date stream (queue_of s date stream))
+  pub next : (date stream : ℕ) → s.opening.dates ≤ date → stream < length s.unit.streams → queue_of s (date + 1) stream ≡ entered (entering s date stream) (settled s date stream (queue_of s date stream))
   pub look : (date stream agent : ℕ) (decl : StreamDecl) (r : Action) (before : List Action) → slice_get s.unit.streams stream ≡ Some decl → decl.receiver ≡ agent → history s (date + 1) agent ≡ r ∷ before → date < r.deadline → length (r.seen stream) ≤ length (queue_of s (date + 1) stream)
-  pub held : (date stream size : ℕ) → stream < length s.unit.streams → IsQueueSize s.unit s.nexts stream size → size ≤ QUEUE → length (queue_of s date stream) ≤ size
+  pub held : (date stream size : ℕ) → stream < length s.unit.streams → IsQueueSize s.unit s.nexts stream size → size ≤ QUEUE → length (queue_of s date stream) ≤ size + length (s.opening.messages stream)
   pub fit : (date agent : ℕ) (r : Action) (before : List Action) → history s date agent ≡ r ∷ before → All (IsSentOf s.unit) r.deeds.sends
 
 -- What holds of each run
@@ -35,22 +35,21 @@ abbrev Looks : System → Type 0
 Looks s = (date stream agent : ℕ) (decl : StreamDecl) (r : Action) (before : List Action) → slice_get s.unit.streams stream ≡ Some decl → decl.receiver ≡ agent → history s (date + 1) agent ≡ r ∷ before → date < r.deadline
     → (filter (λ (m : Message). nat_le m.visible r.start) (queue_of s (date + 1) stream) ≡ r.seen stream) × (take (length (r.seen stream)) (queue_of s (date + 1) stream) ≡ r.seen stream)
 
-pub stream_laws : (plan : Plan) (inputs : List (List ℤ)) (stalls : ℕ → List Stall) → IsRun (system_of plan inputs stalls) (OfText plan.unit) plan.code
+pub stream_laws : (plan : Plan) (opening : Opening) (inputs : List (List ℤ)) (stalls : ℕ → List Stall) → IsRun (opened_of plan opening inputs stalls) (OfText plan.unit) plan.code
     → ((unit : Whole) (nexts : List (List (List ℕ))) (stream size : ℕ) → IsQueueSize unit nexts stream size → by_ways.IsQueueSize unit (OfText unit) nexts stream size)
     → OfEach (λ s ways. (dates agent : ℕ) → All (λ r. All (IsSentBy ways s.unit) r.deeds.sends) (history s dates agent))
     → OfEach (λ s ways. (date stream : ℕ) → s.opening.dates ≤ date → stream < length s.unit.streams → queue_of s (date + 1) stream ≡ entered (entering s date stream) (settled s date stream (queue_of s date stream)))
     → OfEach (λ s ways. Looks s)
     → OfEach (λ s ways. (date stream size : ℕ) → stream < length s.unit.streams → by_ways.IsQueueSize s.unit ways s.nexts stream size → size ≤ QUEUE → length (queue_of s date stream) ≤ size + length (s.opening.messages stream))
-    → AreStreamLaws (system_of plan inputs stalls)
-stream_laws plan inputs stalls run of_text sends next look held =
-    let s = system_of plan inputs stalls in
+    → AreStreamLaws (opened_of plan opening inputs stalls)
+stream_laws plan opening inputs stalls run of_text sends next look held =
+    let s = opened_of plan opening inputs stalls in
     let ways = OfText plan.unit in
     record {
-      next = λ date stream less. (let behind : 0 ≤ date = omega arith in next s ways plan.code run date stream behind less);
+      next = next s ways plan.code run;
       look = λ date stream agent decl r before at is there early.
           (let first = (look s ways plan.code run date stream agent decl r before at is there early).1 in omega (arith, ap length first, length-take (length (r.seen stream)) (queue_of s (date + 1) stream)));
-      held = λ date stream size less is small.
-          (let few : length (queue_of s date stream) ≤ size + 0 = held s ways plan.code run date stream size less (of_text plan.unit plan.nexts stream size is) small in omega (arith, few));
+      held = λ date stream size less is small. held s ways plan.code run date stream size less (of_text plan.unit plan.nexts stream size is) small;
       fit = λ date agent r before is.
           All-weaker (IsSentBy ways plan.unit) (IsSentOf plan.unit) (λ sent by. by.fits) r.deeds.sends
           (All-head (λ (x : Action). All (IsSentBy ways plan.unit) x.deeds.sends) r before (subst (All (λ (x : Action). All (IsSentBy ways plan.unit) x.deeds.sends)) is (sends s ways plan.code run date agent)));

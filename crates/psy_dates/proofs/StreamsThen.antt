@@ -7,14 +7,12 @@ use Rattle.std.proofs.lemmas.Option.{get_or_from_slice_get, same_Some, slice_get
 use Rattle.psy_base.specs.declared.message.Message.{Message}
 use Rattle.psy_budget.specs.declared.charge.Stall.{Stall}
 use Rattle.psy_code.specs.declared.look.Sent.{Sent}
-use Rattle.psy_code.specs.Views.{found_in}
 use Rattle.psy_queue.specs.Order.{Queued}
 use Rattle.psy_tree.specs.declared.unit.StreamDecl.{StreamDecl}
-use Rattle.psy_history.specs.Actions.{Action, Next, System, Verdict, Done, Trapped, Overran, first_action}
-use Rattle.psy_history.specs.Executors.{by_code}
+use Rattle.psy_history.specs.Actions.{Action, Opening, System, Verdict, Done, Trapped, Overran}
 use Rattle.psy_history.specs.History.{history}
 use Rattle.psy_meaning.specs.Kept.{IsSentOf}
-use Rattle.psy_tree.specs.Parts.{no_agent, stream_at}
+use Rattle.psy_tree.specs.Parts.{stream_at}
 use Rattle.psy_history.specs.Schedule.{Turn, units}
 use Rattle.psy_meaning.specs.Timing.{first_date}
 use Rattle.psy_meaning.specs.Units.{IsBare}
@@ -26,10 +24,11 @@ use Rattle.psy_dates.specs.declared.seat.Phase.TheVariants as phase
 use Rattle.psy_dates.specs.declared.seat.Seat.{Seat}
 use Rattle.psy_dates.specs.declared.shared.Shared.{Shared}
 use Rattle.psy_dates.specs.Messages.{HaveRoom, nowhere, sends_of, sent_by, sent_from, settled_then, with_entered}
-use Rattle.psy_dates.specs.Moves.{ends_at, ends_by, seat_then, timing_in}
+use Rattle.psy_dates.specs.Moves.{ends_at, seat_then, timing_in}
 use Rattle.psy_dates.specs.Outboxes.{Outboxed}
-use Rattle.psy_dates.specs.Plans.{system_of}
-use Rattle.psy_dates.specs.Standing.{Begins, GoesOn, KeepsSends, KeepsTakes, NoneActs, OutboxStands, QueueStands, SeatStands, SharedStands}
+use Rattle.psy_dates.specs.Plans.{opened_of, system_of}
+use Rattle.psy_dates.specs.Standing.{Begins, GoesOn, IsSeated, KeepsSends, KeepsTakes, NoneActs, OutboxStands, QueueStands, SharedStands}
+use Rattle.psy_dates.proofs.Begun.{AreBegun, ends_none, seat_of_last, stands_behind}
 use Rattle.psy_dates.proofs.Endings.{tells}
 use Rattle.psy_dates.proofs.Entering.{length_entered}
 use Rattle.psy_dates.proofs.Histories.{was_started}
@@ -38,11 +37,11 @@ use Rattle.psy_dates.proofs.Lists.{same_joined}
 use Rattle.psy_dates.proofs.QueuesThen.{enters_there, seen_held, settles_there}
 use Rattle.psy_dates.proofs.StreamLaws.{AreStreamLaws}
 
--- A message is the same whatever the inputs and stalls
-same_messages : (plan : Plan) (inputs : List (List ℤ)) (stalls : ℕ → List Stall) (stream agent end number : ℕ) (sends : List Sent) → messages_from (system_of plan [] (λ a. [])) stream agent end number sends ≡ messages_from (system_of plan inputs stalls) stream agent end number sends
-same_messages plan inputs stalls stream agent end number [] = refl
-same_messages plan inputs stalls stream agent end number (sent ∷ sends) =
-    ap (λ ms. if sent.stream == stream then message_of (system_of plan inputs stalls) agent end number sent ∷ ms else ms) (same_messages plan inputs stalls stream agent end (number + 1) sends)
+-- A message is the same whatever the opening, the inputs and the stalls
+same_messages : (plan : Plan) (opening : Opening) (inputs : List (List ℤ)) (stalls : ℕ → List Stall) (stream agent end number : ℕ) (sends : List Sent) → messages_from (system_of plan [] (λ a. [])) stream agent end number sends ≡ messages_from (opened_of plan opening inputs stalls) stream agent end number sends
+same_messages plan opening inputs stalls stream agent end number [] = refl
+same_messages plan opening inputs stalls stream agent end number (sent ∷ sends) =
+    ap (λ ms. if sent.stream == stream then message_of (opened_of plan opening inputs stalls) agent end number sent ∷ ms else ms) (same_messages plan opening inputs stalls stream agent end (number + 1) sends)
 
 -- An action that ends at a date reached a point
 done_there : (date : ℕ) (v : Verdict) → ended_at date v ≡ true → (point : ℕ) × (v ≡ Done point date)
@@ -58,10 +57,10 @@ cleared : (ends : Bool) (outbox : Outboxed) → (if ends then record outbox { se
 cleared true outbox = refl
 cleared false outbox = refl
 
-module _ (plan : Plan) (inputs : List (List ℤ)) (stalls : ℕ → List Stall) (bare : IsBare plan.unit) (lawful : IsLawful (system_of plan inputs stalls)) (laws : AreStreamLaws (system_of plan inputs stalls)) (date : ℕ) (turns : List (Option Turn))
-    (old : Shared) (due : NoneActs date old.seats.items) (stands : SharedStands (system_of plan inputs stalls) turns date old) where
+module _ (plan : Plan) (opening : Opening) (inputs : List (List ℤ)) (stalls : ℕ → List Stall) (bare : IsBare plan.unit) (lawful : IsLawful (opened_of plan opening inputs stalls)) (laws : AreStreamLaws (opened_of plan opening inputs stalls)) (date : ℕ)
+    (begun : AreBegun (opened_of plan opening inputs stalls) date) (turns : List (Option Turn)) (old : Shared) (due : NoneActs date old.seats.items) (stands : SharedStands (opened_of plan opening inputs stalls) turns date old) where
   abbrev s : System
-  s = system_of plan inputs stalls
+  s = opened_of plan opening inputs stalls
 
   abbrev pub receiver : ℕ → ℕ
   receiver stream = (stream_at plan.unit stream).receiver
@@ -75,7 +74,7 @@ module _ (plan : Plan) (inputs : List (List ℤ)) (stalls : ℕ → List Stall) 
   seat_at : (agent : ℕ) → agent < length plan.unit.agents → slice_get old.seats.items agent ≡ Some (seat_of agent)
   seat_at agent l = slice_get-get_or old.seats.items agent nowhere (omega (arith, l, stands.seated))
 
-  seated : (agent : ℕ) → agent < length plan.unit.agents → SeatStands (date - 1) turns (history s date agent) (seat_of agent)
+  seated : (agent : ℕ) → agent < length plan.unit.agents → IsSeated (opening.silent agent) opening.dates (date - 1) turns (history s date agent) (seat_of agent)
   seated agent l = stands.seats agent (seat_of agent) (seat_at agent l)
 
   late : (agent : ℕ) → agent < length plan.unit.agents → (seat_of agent).deadline ≤ date → (seat_of agent).phase ≡ phase.Acting → ⊥
@@ -107,14 +106,15 @@ module _ (plan : Plan) (inputs : List (List ℤ)) (stalls : ℕ → List Stall) 
       now : ends_at date (Some (seat_of (receiver stream))) ≡ true
       now = ap (ends_at date) (sym (seat_at (receiver stream) known)) ∙ ends
 
-      from : (actions : List Action) → history s date (receiver stream) ≡ actions → SeatStands (date - 1) turns actions (seat_of (receiver stream)) → KeepsTakes (date - 1) turns stream actions (get_or old.taken.items stream 0) → get_or old.taken.items stream 0 ≤ length queue.messages
-      from [] is waits keeps = absurd (ends_nowhere (sym now ∙ ap (λ p. ends_by p ((seat_of (receiver stream)).end == date)) waits))
-      from (r ∷ before) is of keeps =
+      from : (actions : List Action) → history s date (receiver stream) ≡ actions → IsSeated (opening.silent (receiver stream)) opening.dates (date - 1) turns actions (seat_of (receiver stream)) → KeepsTakes (date - 1) turns stream actions (get_or old.taken.items stream 0) → get_or old.taken.items stream 0 ≤ length queue.messages
+      from [] is waits keeps = absurd (ends_nowhere (sym now ∙ ends_none (opening.silent (receiver stream)) opening.dates (date - 1) turns (seat_of (receiver stream)) ((seat_of (receiver stream)).end == date) waits))
+      from (r ∷ before) is sits keeps =
+          let of = seat_of_last (opening.silent (receiver stream)) opening.dates (date - 1) turns r before (seat_of (receiver stream)) sits in
           let told = tells s lawful date turns (receiver stream) r before is (seat_of (receiver stream)) of (late (receiver stream) known) in
           let ended : ended_at date r.verdict ≡ true = sym told.ends ∙ now in
           let (point, verdict) = done_there date r.verdict ended in
           let past : suc (date - 1) ≡ date = omega (arith, (was_started s lawful date (receiver stream) r before is).at) in
-          let seen = seen_held s lawful (receiver stream) r before stream point date refl verdict (λ d. laws.next d stream within)
+          let seen = seen_held s lawful (receiver stream) r before stream point date refl verdict (λ d there. laws.next d stream (stands_behind s date begun d (receiver stream) r before there) within)
           (λ d. laws.look d stream (receiver stream) (stream_at plan.unit stream) r before (slice_get-get_or plan.unit.streams stream _ within) refl) (date - 1) (ap (λ d. history s d (receiver stream)) past ∙ is) (omega (arith, past)) in
           let front = length-take (count_by (λ k. k == stream) r.deeds.takes) (r.seen stream) in
           let there : length (queue_of s date stream) ≡ length queue.messages = ap length (sym (stands.queues stream queue at).messages) in
@@ -129,9 +129,10 @@ module _ (plan : Plan) (inputs : List (List ℤ)) (stalls : ℕ → List Stall) 
     | inr beyond ↦ absurd (ends_nowhere (sym ends ∙ ap (ends_at date) (slice_get_past old.seats.items agent (omega (arith, beyond, stands.seated)))))
   ]
     where
-      from : agent < length plan.unit.agents → (actions : List Action) → history s date agent ≡ actions → SeatStands (date - 1) turns actions (seat_of agent) → KeepsSends (date - 1) turns actions (sends_of old.outboxes.items agent) → All (IsSentOf plan.unit) (sends_of old.outboxes.items agent)
-      from known [] is waits keeps = absurd (ends_nowhere (sym ends ∙ ap (ends_at date) (seat_at agent known) ∙ ap (λ p. ends_by p ((seat_of agent).end == date)) waits))
-      from known (r ∷ before) is of keeps =
+      from : agent < length plan.unit.agents → (actions : List Action) → history s date agent ≡ actions → IsSeated (opening.silent agent) opening.dates (date - 1) turns actions (seat_of agent) → KeepsSends (date - 1) turns actions (sends_of old.outboxes.items agent) → All (IsSentOf plan.unit) (sends_of old.outboxes.items agent)
+      from known [] is waits keeps = absurd (ends_nowhere (sym ends ∙ ap (ends_at date) (seat_at agent known) ∙ ends_none (opening.silent agent) opening.dates (date - 1) turns (seat_of agent) ((seat_of agent).end == date) waits))
+      from known (r ∷ before) is sits keeps =
+          let of = seat_of_last (opening.silent agent) opening.dates (date - 1) turns r before (seat_of agent) sits in
           let told = tells s lawful date turns agent r before is (seat_of agent) of (late agent known) in
           let ended : ended_at date r.verdict ≡ true = sym told.ends ∙ ap (ends_at date) (sym (seat_at agent known)) ∙ ends in
           subst (All (IsSentOf plan.unit)) (sym (keeps (told.ended ended).1)) (laws.fit date agent r before is)
@@ -146,7 +147,7 @@ module _ (plan : Plan) (inputs : List (List ℤ)) (stalls : ℕ → List Stall) 
       each : (agent : ℕ) → agent < length plan.unit.agents → sent_by (system_of plan [] (λ agent. [])) date old.seats.items old.outboxes.items stream agent ≡ entering_of s date stream (history s date agent)
       each agent known =
           ap (λ found. if ends_at date found then messages_from (system_of plan [] (λ agent. [])) stream agent date 0 (sends_of old.outboxes.items agent) else []) (seat_at agent known)
-          ∙ ap (λ ms. if ends_at date (Some (seat_of agent)) then ms else []) (same_messages plan inputs stalls stream agent date 0 (sends_of old.outboxes.items agent))
+          ∙ ap (λ ms. if ends_at date (Some (seat_of agent)) then ms else []) (same_messages plan opening inputs stalls stream agent date 0 (sends_of old.outboxes.items agent))
           ∙ enters_there s lawful date turns agent (seat_of agent) (late agent known) (seated agent known) stream (sends_of old.outboxes.items agent) (sent agent known)
 
   -- ---- the queues
@@ -160,9 +161,7 @@ module _ (plan : Plan) (inputs : List (List ℤ)) (stalls : ℕ → List Stall) 
       let within : stream < length plan.unit.streams = omega (arith, slice_get_within old.queues.items stream queue at, stands.queued) in
       let agent = receiver stream in
       let known = received stream within in
-      let first : Next = first_action plan.unit plan.nexts (by_code plan.code) agent in
-      let starts : s.opening.starts agent ≡ Some first = ap (λ found. found_in found (λ a. Some first)) (slice_get-get_or plan.unit.agents agent no_agent known) in
-      settles_there s lawful date turns agent (seat_of agent) (late agent known) (seated agent known) stream (get_or old.taken.items stream 0) (first_date (timing_in plan agent)) first starts refl (took stream within) queue
+      settles_there s lawful date turns agent (seat_of agent) (late agent known) (seated agent known) stream (get_or old.taken.items stream 0) (first_date (timing_in plan agent)) begun known refl (took stream within) queue
       ∙ ap (λ messages. record queue { messages = settled s date stream messages }) (stands.queues stream queue at).messages
 
   whole : (stream : ℕ) (queue : Queued) → slice_get old.queues.items stream ≡ Some queue → with_entered (all_sent stream) (queue_then stream queue) ≡ record queue { messages = queue_of s (date + 1) stream }
@@ -170,7 +169,7 @@ module _ (plan : Plan) (inputs : List (List ℤ)) (stalls : ℕ → List Stall) 
       let within : stream < length plan.unit.streams = omega (arith, slice_get_within old.queues.items stream queue at, stands.queued) in
       ap (with_entered (all_sent stream)) (settled_is stream queue at)
       ∙ ap (λ more. record queue { messages = entered more (settled s date stream (queue_of s date stream)) }) (sent_is stream)
-      ∙ ap (λ messages. record queue { messages = messages }) (sym (laws.next date stream within))
+      ∙ ap (λ messages. record queue { messages = messages }) (sym (laws.next date stream begun.behind within))
 
   -- there is room for what enters
   pub has_room : (now : List Queued) → length now ≡ length old.queues.items → ((stream : ℕ) (queue : Queued) → slice_get old.queues.items stream ≡ Some queue → slice_get now stream ≡ Some (queue_then stream queue)) → HaveRoom all_sent now
@@ -180,11 +179,11 @@ module _ (plan : Plan) (inputs : List (List ℤ)) (stalls : ℕ → List Stall) 
       let queue = get_or old.queues.items stream none in
       let at : slice_get old.queues.items stream ≡ Some queue = slice_get-get_or old.queues.items stream none within in
       let its = stands.queues stream queue at in
-      let fits = laws.held (date + 1) stream queue.size (omega (arith, within, stands.queued)) its.size its.small in
+      let fits = laws.held (date + 1) stream its.places (omega (arith, within, stands.queued)) its.size its.small in
       let behind : with_entered (all_sent stream) held ≡ record queue { messages = queue_of s (date + 1) stream } = ap (with_entered (all_sent stream)) (same_Some _ _ (sym is ∙ settles stream queue at)) ∙ whole stream queue at in
       let long : length (entered (all_sent stream) held.messages) ≡ length (queue_of s (date + 1) stream) = ap (λ (q : Queued). length q.messages) behind in
       let size : held.size ≡ queue.size = ap (λ (q : Queued). q.size) behind in
-      omega (arith, length_entered (all_sent stream) held.messages, long, size, fits)
+      omega (arith, length_entered (all_sent stream) held.messages, long, size, its.room, fits)
 
   pub queue_stands : (new : List Queued) → length new ≡ length old.queues.items → ((stream : ℕ) (queue : Queued) → slice_get old.queues.items stream ≡ Some queue → slice_get new stream ≡ Some (with_entered (all_sent stream) (queue_then stream queue)))
       → (stream : ℕ) (queue : Queued) → slice_get new stream ≡ Some queue → QueueStands s (date + 1) stream queue
@@ -194,7 +193,7 @@ module _ (plan : Plan) (inputs : List (List ℤ)) (stalls : ℕ → List Stall) 
       let queue = get_or old.queues.items stream none in
       let at : slice_get old.queues.items stream ≡ Some queue = slice_get-get_or old.queues.items stream none within in
       let its = stands.queues stream queue at in
-      subst (QueueStands s (date + 1) stream) (sym (whole stream queue at) ∙ same_Some _ _ (sym (moves stream queue at) ∙ is)) (record { size = its.size; small = its.small; messages = refl })
+      subst (QueueStands s (date + 1) stream) (sym (whole stream queue at) ∙ same_Some _ _ (sym (moves stream queue at) ∙ is)) (record { places = its.places; size = its.size; small = its.small; room = its.room; messages = refl })
 
   -- ---- what was sent and taken
 

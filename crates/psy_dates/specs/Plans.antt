@@ -2,7 +2,8 @@
 use Rattle.std.specs.Prelude.{ℕ, List, [], ℤ}
 use Rattle.psy_base.specs.declared.edge.Edge.{Edge}
 use Rattle.psy_budget.specs.declared.charge.Stall.{Stall}
-use Rattle.psy_history.specs.Actions.{System}
+use Rattle.psy_history.specs.Actions.{Opening, System, plain}
+use Rattle.psy_history.specs.Executors.{by_code}
 use Rattle.psy_meaning.specs.BufferSizes.{AreSizes}
 use Rattle.psy_meaning.specs.Demand.{IsFeasible}
 use Rattle.psy_history.specs.Compiled.{AreEdgesOf, IsCompiled, coded}
@@ -11,6 +12,14 @@ use Rattle.psy_dates.specs.declared.plan.Plan.{Plan}
 -- The history of a plan's code, with these inputs and stalls
 abbrev pub system_of : Plan → List (List ℤ) → (ℕ → List Stall) → System
 system_of plan inputs stalls = coded plan.unit plan.code plan.nexts stalls inputs
+
+-- The history of a plan's code that begins with an opening
+abbrev pub opened_of : Plan → Opening → List (List ℤ) → (ℕ → List Stall) → System
+opened_of plan opening inputs stalls = record (system_of plan inputs stalls) { opening = opening }
+
+-- The opening of a whole run of a plan
+abbrev pub whole_of : Plan → Opening
+whole_of plan = plain plan.unit plan.nexts (by_code plan.code)
 
 -- The processor can supply what the plan's agents may demand up to its last date.
 pub record IsFeasibleFor (plan : Plan) : Type 0 where

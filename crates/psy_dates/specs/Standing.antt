@@ -1,5 +1,5 @@
 -- When what the agents share stands for a dated history.
-use Rattle.std.specs.Prelude.{◌≡◌, ◌≢◌, ℕ, ◌+◌, ◌-◌, ◌<◌, ◌≤◌, Bool, true, false, List, [], ◌∷◌, length, Option, Some, None, slice_get, ⊤, ℤ}
+use Rattle.std.specs.Prelude.{◌≡◌, ◌≢◌, ℕ, suc, ◌+◌, ◌-◌, ◌<◌, ◌≤◌, Bool, true, false, List, [], ◌∷◌, length, Option, Some, None, slice_get, ⊤, ℤ}
 use Rattle.psy_arith.specs.declared.operators.Trap.{Trap}
 use Rattle.psy_base.specs.declared.limits.TheConstants.{QUEUE}
 use Rattle.psy_code.specs.declared.look.Sent.{Sent}
@@ -65,6 +65,18 @@ abbrev pub SeatStands : ℕ → List (Option Turn) → List Action → Seat → 
 SeatStands date turns [] seat = seat.phase ≡ phase.Waiting
 SeatStands date turns (r ∷ before) seat = SeatOf date turns r seat
 
+-- The seat of a silent agent that has no actions: it fell silent at the last of so many dates that were done before, by no trap that is known.
+pub record IsQuiet (dates : ℕ) (seat : Seat) : Type 0 where
+  pub phase : seat.phase ≡ phase.Silent
+  pub deadline : suc seat.deadline ≡ dates
+  pub trap : seat.trap ≡ None
+
+-- The seat of an agent with these actions in a history that begins behind so many dates, by whether the agent was silent then
+abbrev pub IsSeated : Bool → ℕ → ℕ → List (Option Turn) → List Action → Seat → Type 0
+IsSeated false before date turns actions seat = SeatStands date turns actions seat
+IsSeated true before date turns [] seat = IsQuiet before seat
+IsSeated true before date turns (r ∷ earlier) seat = SeatOf date turns r seat
+
 -- The value committed by a date, by the variable's owner: an input keeps its first value.
 abbrev pub committed_by : System → History → ℕ → ℕ → Option ℕ → ℤ
 committed_by s h variable date (Some owner) = committed_in s variable date (h owner)
@@ -84,10 +96,13 @@ pub record RingStands (s : System) (dates variable : ℕ) (ring : List ℤ) : Ty
   pub size : IsRingSize s.unit s.nexts variable (length ring)
   pub values : ring ≡ ring_of s dates variable (length ring)
 
--- The queue of a stream has the size that it needs, and holds what the stream holds when the first so many dates are done.
+-- The queue of a stream has the places that it needs, and as many more as the stream held messages when the history began; and it holds what
+-- the stream holds when the first so many dates are done.
 pub record QueueStands (s : System) (dates stream : ℕ) (queue : Queued) : Type 0 where
-  pub size : IsQueueSize s.unit s.nexts stream queue.size
-  pub small : queue.size ≤ QUEUE
+  pub places : ℕ
+  pub size : IsQueueSize s.unit s.nexts stream places
+  pub small : places ≤ QUEUE
+  pub room : queue.size ≡ places + length (s.opening.messages stream)
   pub messages : queue.messages ≡ queue_of s dates stream
 
 -- What an agent that has ended its action sent is kept; before its first action there is nothing.
@@ -109,7 +124,8 @@ KeepsTakes date turns stream (r ∷ before) n = phase_of date turns r ≡ phase.
 pub record SharedStands (s : System) (turns : List (Option Turn)) (dates : ℕ) (shared : Shared) : Type 0 where
   pub date : dates_done shared.date ≡ dates
   pub seated : length shared.seats.items ≡ length s.unit.agents
-  pub seats : (agent : ℕ) (seat : Seat) → slice_get shared.seats.items agent ≡ Some seat → SeatStands (dates - 1) turns (history s dates agent) seat
+  pub seats : (agent : ℕ) (seat : Seat) → slice_get shared.seats.items agent ≡ Some seat
+      → IsSeated (s.opening.silent agent) s.opening.dates (dates - 1) turns (history s dates agent) seat
   pub valued : length shared.committed.items ≡ length s.unit.variables
   pub committed : (variable : ℕ) (value : ℤ) → slice_get shared.committed.items variable ≡ Some value
       → value ≡ committed_at s (history s dates) variable (dates - 1)

@@ -3,7 +3,10 @@ ghost use Rattle.std.specs.Prelude.{◌≡◌, ℕ, ◌+◌, ◌*◌, ◌≤◌,
 ghost use Rattle.psy_budget.specs.declared.charge.Stall.{Stall};
 ghost use Rattle.psy_history.specs.Compiled.{AreInputs};
 ghost use Rattle.psy_history.specs.Scheduled.{turns_of};
-ghost use Rattle.psy_dates.specs.Plans.{IsPlan, system_of};
+ghost use Rattle.psy_history.specs.Actions.{Opening};
+ghost use Rattle.psy_history.specs.Openings.{IsSound};
+ghost use Rattle.psy_history.specs.Ways.{OfText};
+ghost use Rattle.psy_dates.specs.Plans.{IsPlan, opened_of};
 ghost use Rattle.psy_dates.specs.Outboxes.{Outboxed};
 ghost use Rattle.psy_dates.specs.Standing.{Begins, GoesOn, NoneActs, SharedStands, dates_done};
 ghost use Rattle.psy_tree.specs.declared.unit.StreamDecl.{StreamDecl};
@@ -16,7 +19,7 @@ use crate::plan::Plan;
 use crate::rings::publish_all;
 use crate::settles::settle_all;
 use crate::shared::Shared;
-use psy_history::laws::{compiled, given, queue_sizes, queues, regular, rings};
+use psy_history::laws::{compiled, given, openings, queue_sizes, queues, regular, rings};
 
 /// Does a date. The actions that end there commit. Of each stream whose receiver ends there what it took goes, and what has expired where
 /// the receiver starts there or is silent. The messages of the actions that end there enter. Each variable whose clock has that date
@@ -29,16 +32,18 @@ pub fn at_date(shared: &mut Shared, plan: &Plan, date: u64)
     requires within { date ≤ plan.now.until }
     // no action that is due is pending
     requires due { NoneActs date shared.old.seats.items }
-    // it stands for the history of the dates before, with all their cycles done, for some script
-    requires stands { (stalls : ℕ → List Stall) × (order : ℕ → List ℕ)
-        × SharedStands (system_of plan.now shared.old.inputs.lists stalls)
-        (turns_of (system_of plan.now shared.old.inputs.lists stalls) order (date * plan.now.unit.quantum)) date shared.old }
-    // for each script for which it does, it stands for the history up to this date
-    ensures stands { (stalls : ℕ → List Stall) (order : ℕ → List ℕ)
-        → SharedStands (system_of plan.now shared.old.inputs.lists stalls)
-        (turns_of (system_of plan.now shared.old.inputs.lists stalls) order (date * plan.now.unit.quantum)) date shared.old
-        → SharedStands (system_of plan.now shared.old.inputs.lists stalls)
-        (turns_of (system_of plan.now shared.old.inputs.lists stalls) order (date * plan.now.unit.quantum)) (date + 1) shared.new }
+    // it stands for the history of the dates before, with all their cycles done, for some sound opening and some script
+    requires stands { (opening : Opening) × (stalls : ℕ → List Stall) × (order : ℕ → List ℕ)
+        × IsSound (opened_of plan.now opening shared.old.inputs.lists stalls) (OfText plan.now.unit) plan.now.code × (opening.dates ≤ date)
+        × SharedStands (opened_of plan.now opening shared.old.inputs.lists stalls)
+        (turns_of (opened_of plan.now opening shared.old.inputs.lists stalls) order (date * plan.now.unit.quantum)) date shared.old }
+    // for each opening and script for which it does, it stands for the history up to this date
+    ensures stands { (opening : Opening) (stalls : ℕ → List Stall) (order : ℕ → List ℕ)
+        → IsSound (opened_of plan.now opening shared.old.inputs.lists stalls) (OfText plan.now.unit) plan.now.code → opening.dates ≤ date
+        → SharedStands (opened_of plan.now opening shared.old.inputs.lists stalls)
+        (turns_of (opened_of plan.now opening shared.old.inputs.lists stalls) order (date * plan.now.unit.quantum)) date shared.old
+        → SharedStands (opened_of plan.now opening shared.old.inputs.lists stalls)
+        (turns_of (opened_of plan.now opening shared.old.inputs.lists stalls) order (date * plan.now.unit.quantum)) (date + 1) shared.new }
     // an action that starts there has sent and taken nothing, and what one that goes on has sent and taken stays
     ensures begun { (agent : ℕ) → Begins date shared.new.seats.items agent
         → ((outbox : Outboxed) → slice_get shared.new.outboxes.items agent ≡ Some outbox → outbox.sends ≡ [])
@@ -51,6 +56,7 @@ pub fn at_date(shared: &mut Shared, plan: &Plan, date: u64)
     ensures inputs { shared.new.inputs ≡ shared.old.inputs }
 {
     compiled();
+    openings();
     given();
     regular();
     rings();

@@ -41,6 +41,7 @@ mod NextStarts
 mod Numbers
 mod OneAction
 mod OpenedBuffers
+mod OpenedRuns
 mod OpenedStarts
 mod OutboxSizes
 mod Owned

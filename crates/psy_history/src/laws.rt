@@ -1,7 +1,7 @@
 //! Laws of the dated history, each the contract of a function that does nothing.
 
 ghost use Rattle.std.specs.Prelude.{◌≡◌, ℕ, ◌+◌, ◌*◌, ◌/◌, ◌==◌, ◌<◌, ◌≤◌, if◌then◌else◌, List, [], ◌∷◌, Option, None, Some, ℤ, drop, filter, length};
-ghost use Rattle.std.specs.Prelude.{map, nat_le, slice_get, take, FitsSigned};
+ghost use Rattle.std.specs.Prelude.{false, map, nat_le, slice_get, take, true, FitsSigned};
 ghost use Rattle.std.specs.Int.{w32};
 ghost use Rattle.std.specs.List.{All, Contains, count_by};
 ghost use Rattle.psy_base.specs.declared.limits.TheConstants.{QUEUE};
@@ -16,7 +16,7 @@ ghost use Rattle.psy_code.specs.Views.{Send, messages_of, past_of};
 ghost use Rattle.psy_tree.specs.declared.unit.StreamDecl.{StreamDecl};
 ghost use Rattle.psy_tree.specs.declared.unit.Unit.{Unit as Whole};
 ghost use Rattle.psy_tree.specs.declared.unit.VarDecl.{VarDecl};
-ghost use Rattle.psy_history.specs.Actions.{Action, Done, History, System, publishing};
+ghost use Rattle.psy_history.specs.Actions.{Action, Done, History, Opening, System, first_action, publishing};
 ghost use Rattle.psy_history.specs.Executors.{agent_code_at};
 ghost use Rattle.psy_tree.specs.Parts.{agent_at};
 ghost use Rattle.psy_base.specs.Extremes.{IsGreatest};
@@ -81,13 +81,21 @@ pub fn regular()
     distances();
 }
 
-/// What a history begins with: the plain opening is one that it may have. No action starts before the last date that was done before; when
-/// it begins, rings hold the values that were published, and queues the messages that were held.
+/// What a history begins with: the plain opening is one that it may have, and what else a run keeps doesn't depend on it. No action starts
+/// before the last date that was done before, and a silent agent starts none; one that has started none behind that date begins as in a whole
+/// run. When the history begins, rings hold the values that were published, and queues the messages that were held.
 pub fn openings()
     ensures plain { (unit : Whole) (code : Code) (nexts : List (List (List ℕ))) (stalls : ℕ → List Stall) (inputs : List (List ℤ))
         → IsCompiled unit code nexts → AreInputs unit inputs → IsSound (coded unit code nexts stalls inputs) (OfText unit) code }
+    ensures run { (s : System) (opening : Opening) (ways : Ways) (code : Code) → IsRun s ways code
+        → IsSound (record s { opening = opening }) ways code → IsRun (record s { opening = opening }) ways code }
     ensures none { (s : System) (ways : Ways) (code : Code) → IsRun s ways code
         → (date agent : ℕ) → date < s.opening.dates → history s date agent ≡ [] }
+    ensures silent { (s : System) (ways : Ways) (code : Code) → IsRun s ways code
+        → (date agent : ℕ) → s.opening.silent agent ≡ true → history s date agent ≡ [] }
+    ensures waits { (s : System) (ways : Ways) (code : Code) → IsRun s ways code
+        → (date agent : ℕ) → s.opening.dates ≤ date → agent < length s.unit.agents → s.opening.silent agent ≡ false → history s date agent ≡ []
+        → s.opening.starts agent ≡ Some (first_action s.unit s.nexts s.executor agent) }
     ensures rings { (s : System) (ways : Ways) (code : Code) → IsRun s ways code
         → (variable size : ℕ) → 1 ≤ s.opening.dates → variable < length s.unit.variables → IsRingSize s.unit ways s.nexts variable size
         → ring_of s s.opening.dates variable size ≡ s.opening.published variable }

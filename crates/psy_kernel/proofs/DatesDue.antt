@@ -1,5 +1,5 @@
 -- A kernel whose next date is due: every action that is due by then is over.
-use Rattle.std.proofs.Common.{◌≡◌, ℤ, ℕ, suc, ◌+◌, ◌-◌, ◌*◌, ◌^◌, ◌≤◌, true, false, List, length, Option, Some, None, ap, sym, subst, ◌∙◌, arith}
+use Rattle.std.proofs.Common.{◌≡◌, ℤ, ℕ, suc, ◌+◌, ◌-◌, ◌*◌, ◌^◌, ◌≤◌, true, false, List, length, Option, Some, None, refl, ap, sym, subst, ◌∙◌, arith}
 use Rattle.std.specs.List.{Contains, slice_get}
 use Rattle.std.proofs.Math.Numerals.{add-one}
 use Rattle.psy_budget.specs.Charges.{Charged}
@@ -13,6 +13,7 @@ use Rattle.psy_history.specs.History.{history}
 use Rattle.psy_history.specs.Schedule.{is_pending, units}
 use Rattle.psy_history.specs.Summary.{reach}
 use Rattle.psy_history.specs.Compiled.{AreInputs, IsCompiled, coded}
+use Rattle.psy_history.specs.Openings.{IsSound}
 use Rattle.psy_history.specs.Regular.{IsLawful, first_number}
 use Rattle.psy_history.specs.Runs.{IsRun}
 use Rattle.psy_history.specs.Ways.{OfText, Ways}
@@ -63,6 +64,7 @@ pub record IsDue (k : Inside) (date : ℕ) : Type 0 where
   pub due : stage_of (progress_of k) ≡ DateDue (dates_done k.shared.date)
   pub small : date ≤ 2 ^ 32
   pub lawful : IsLawful (system (progress_of k))
+  pub sound : IsSound (system (progress_of k)) (OfText k.plan.unit) k.plan.code
   pub no_cycle : Unstarted
   pub in_time : InTime
 
@@ -73,6 +75,7 @@ is_due k p date h view due is_date small well lawful no_cycle in_time = record {
   due = subst (λ q. stage_of q ≡ DateDue q.dates) (sym view) due;
   small = small;
   lawful = lawful (system (progress_of k)) (OfText k.plan.unit) k.plan.code (well k.plan.unit k.plan.code k.plan.nexts (stalls_of k.script) k.shared.inputs.lists h.plan.compiled h.inputs);
+  sound = (well k.plan.unit k.plan.code k.plan.nexts (stalls_of k.script) k.shared.inputs.lists h.plan.compiled h.inputs).opened;
   no_cycle = no_cycle;
   in_time = in_time;
 }
@@ -95,6 +98,13 @@ module _ (k : Inside) (date : ℕ) (at : IsDue k date) where
 
   abbrev pub ties : ℕ → List ℕ
   ties = order (progress_of k)
+
+  -- its history is a whole one
+  pub whole_sound : IsSound its (OfText k.plan.unit) k.plan.code
+  whole_sound = at.sound
+
+  pub from_first : 0 ≤ date
+  from_first = omega arith
 
   pub filled : k.cycles ≡ date * k.plan.unit.quantum
   filled = subst (λ d. k.cycles ≡ d * k.plan.unit.quantum) (sym is_date) (date_due (progress_of k) due).1

@@ -22,7 +22,7 @@ most_more : (ns : List ℕ) (n : ℕ) → most_of (ns ++ n ∷ []) ≡ max (most
 most_more [] n = omega arith
 most_more (m ∷ ns) n = (let rest : most_of (ns ++ n ∷ []) ≡ max (most_of ns) n = most_more ns n in omega (arith, rest))
 
-module _ (s : System) (none : s.opening.dates ≡ 0) (unheld : (stream : ℕ) → s.opening.most stream ≡ 0) (stream : ℕ) where
+module _ (s : System) (whole : s.opening.dates ≡ 0) (unheld : (stream : ℕ) → s.opening.most stream ≡ 0) (stream : ℕ) where
   abbrev held_by : ℕ → ℕ
   held_by date = length (held s (history s (date + 1)) stream date)
 
@@ -36,13 +36,13 @@ module _ (s : System) (none : s.opening.dates ≡ 0) (unheld : (stream : ℕ) �
       ∙ ap (λ n. max n (held_by date)) (sym (before date))
     where
       all : (d : ℕ) → most_held s d stream ≡ most_of (map held_by (range_with_len 0 (d + 1)))
-      all d = ap (λ n. at_least (s.opening.most stream) (most_of (map held_by (dates_from n (d + 1))))) none ∙ ap (λ n. at_least n (most_of (map held_by (range_with_len 0 (d + 1))))) (unheld stream)
+      all d = ap (λ n. at_least (s.opening.most stream) (most_of (map held_by (dates_from n (d + 1))))) whole ∙ ap (λ n. at_least n (most_of (map held_by (range_with_len 0 (d + 1))))) (unheld stream)
 
       before : (d : ℕ) → most_held_in s d stream ≡ most_of (map held_by (range_with_len 0 d))
       before zero = refl
       before (suc d) = all d ∙ ap (λ n. most_of (map held_by (range_with_len 0 n))) (add-one d)
 
-module _ (s : System) (none : s.opening.dates ≡ 0) (unheld : (stream : ℕ) → s.opening.most stream ≡ 0) (turns : List (Option Turn)) (date : ℕ) (shared : Shared) (stands : SharedStands s turns (date + 1) shared)
+module _ (s : System) (whole : s.opening.dates ≡ 0) (unheld : (stream : ℕ) → s.opening.most stream ≡ 0) (turns : List (Option Turn)) (date : ℕ) (shared : Shared) (stands : SharedStands s turns (date + 1) shared)
     (before after : List ℕ) (count : length before ≡ length s.unit.streams) (was : (stream n : ℕ) → slice_get before stream ≡ Some n → n ≡ most_held_in s date stream)
     (done : IsDoneBelow (held_at shared.queues.items) (length shared.queues.items) before after) where
   -- By stream, the greatest number of messages is that of the dates up to this one.
@@ -57,8 +57,8 @@ module _ (s : System) (none : s.opening.dates ≡ 0) (unheld : (stream : ℕ) �
       let had : slice_get before stream ≡ Some old = slice_get-get_or before stream 0 (omega (arith, within, count)) in
       let made : slice_get after stream ≡ Some (held_at queues stream old) = done.done stream old (omega (arith, within, stands.queued)) had in
       let is : n ≡ held_at queues stream old = (let both : Some n ≡ Some (held_at queues stream old) = sym at ∙ made in cc) in
-      let holds : length queue.messages ≡ held_by s none unheld stream date = ap length ((stands.queues stream queue there).messages ∙ queue_is) in
-      is ∙ ap (λ k. max k (length queue.messages)) (was stream old had) ∙ ap (λ k. max (most_held_in s date stream) k) holds ∙ sym (most_held_more s none unheld stream date)
+      let holds : length queue.messages ≡ held_by s whole unheld stream date = ap length ((stands.queues stream queue there).messages ∙ queue_is) in
+      is ∙ ap (λ k. max k (length queue.messages)) (was stream old had) ∙ ap (λ k. max (most_held_in s date stream) k) holds ∙ sym (most_held_more s whole unheld stream date)
     where
       queue_is : queue_of s (date + 1) stream ≡ held s (history s (date + 1)) stream date
       queue_is = ap (λ d. queue_of s d stream) (add-one date) ∙ ap (λ d. held s (history s d) stream date) (sym (add-one date))

@@ -1,6 +1,6 @@
 -- What all agents have and share, before some cycles and behind them.
 use Rattle.std.proofs.Common.{◌≡◌, ◌≢◌, refl, sym, ap, ◌∙◌, subst, inl, inr, arith}
-use Rattle.std.specs.Prelude.{ℕ, zero, suc, ◌-◌, ◌<◌, ◌≤◌, List, [], ◌∷◌, length, Option, Some, None, slice_get, slice_set, ℤ}
+use Rattle.std.specs.Prelude.{ℕ, zero, suc, ◌-◌, ◌<◌, ◌≤◌, Bool, true, false, List, [], ◌∷◌, length, Option, Some, None, slice_get, slice_set, ℤ}
 use Rattle.std.specs.List.{All}
 use Rattle.std.proofs.lemmas.Bool.{cases_eq, cases_lt}
 use Rattle.std.proofs.lemmas.List.{get_or_past, length-set}
@@ -12,7 +12,7 @@ use Rattle.psy_dates.specs.declared.seat.Seat.{Seat}
 use Rattle.psy_dates.specs.declared.shared.Shared.{Shared}
 use Rattle.psy_dates.specs.Calendars.{CalendarStands}
 use Rattle.psy_dates.specs.Outboxes.{Outboxed}
-use Rattle.psy_dates.specs.Standing.{KeepsCopy, KeepsSends, KeepsTakes, OutboxStands, SeatStands, SharedStands, dates_done}
+use Rattle.psy_dates.specs.Standing.{IsSeated, KeepsCopy, KeepsSends, KeepsTakes, OutboxStands, SeatStands, SharedStands, dates_done}
 use Rattle.psy_history.specs.Regular.{AreRegular, IsLawful, IsRegular}
 use Rattle.psy_machine.specs.Stepping.{AgentMachine}
 use Rattle.psy_history.specs.Actions.{Action, System, stream_of, variable_of}
@@ -51,11 +51,25 @@ found [] place less = absurd (omega (arith, less))
 found (x ∷ xs) zero less = (x, refl)
 found (x ∷ xs) (suc place) less = found xs place (omega (arith, less))
 
+-- The seat of an agent as its history has it, whether the agent was silent from before or not
+seated_kept : (quiet : Bool) (before : ℕ) (turns now : List (Option Turn)) (date : ℕ) (actions : List Action) (seat : Seat) → All (AreSameFor turns now) actions → IsSeated quiet before date turns actions seat → IsSeated quiet before date now actions seat
+seated_kept false before turns now date actions seat same h = seat_kept turns now date actions seat same h
+seated_kept true before turns now date [] seat same h = h
+seated_kept true before turns now date (r ∷ earlier) seat same h = seat_kept turns now date (r ∷ earlier) seat same h
+
+seated_last : (quiet : Bool) (before date : ℕ) (turns : List (Option Turn)) (r : Action) (earlier : List Action) (seat : Seat) → IsSeated quiet before date turns (r ∷ earlier) seat → SeatStands date turns (r ∷ earlier) seat
+seated_last false before date turns r earlier seat h = h
+seated_last true before date turns r earlier seat h = h
+
+last_seated : (quiet : Bool) (before date : ℕ) (turns : List (Option Turn)) (r : Action) (earlier : List Action) (seat : Seat) → SeatStands date turns (r ∷ earlier) seat → IsSeated quiet before date turns (r ∷ earlier) seat
+last_seated false before date turns r earlier seat h = h
+last_seated true before date turns r earlier seat h = h
+
 shared_same : (s : System) (turns now : List (Option Turn)) (dates : ℕ) (shared : Shared) → ((agent : ℕ) → All (AreSameFor turns now) (history s dates agent)) → SharedStands s turns dates shared → SharedStands s now dates shared
 shared_same s turns now dates shared same h = record {
   date = h.date;
   seated = h.seated;
-  seats = λ agent seat at. seat_kept turns now (dates - 1) (history s dates agent) seat (same agent) (h.seats agent seat at);
+  seats = λ agent seat at. seated_kept (s.opening.silent agent) s.opening.dates turns now (dates - 1) (history s dates agent) seat (same agent) (h.seats agent seat at);
   valued = h.valued;
   committed = h.committed;
   kept = h.kept;
@@ -124,7 +138,9 @@ module _ (s : System) (code : Code) (until : ℕ) (turns : List (Option Turn)) (
       → OneStands s code turns until date agent (r ∷ before) charge machine waits figure seat shared.ended.items
   one_of date agent r before last is machine charge waits figure seat m c w f x = record {
     stands = subst (λ actions. AgentStands s code turns until agent actions charge machine waits figure) is (p.agents agent machine charge waits figure m c w f);
-    seated = subst (λ actions. SeatStands date turns actions seat) is (subst (λ d. SeatStands d turns (history s dates agent) seat) last (p.shares.seats agent seat x));
+    seated = seated_last (s.opening.silent agent) s.opening.dates date turns r before seat
+        (subst (λ actions. IsSeated (s.opening.silent agent) s.opening.dates date turns actions seat) is
+        (subst (λ d. IsSeated (s.opening.silent agent) s.opening.dates d turns (history s dates agent) seat) last (p.shares.seats agent seat x)));
     kept = λ variable value at owned. subst (λ actions. KeepsCopy date turns variable actions value) is (subst (λ d. KeepsCopy d turns variable (history s dates agent) value) last (p.shares.ended variable agent value at owned));
   }
 
@@ -189,12 +205,15 @@ module _ (s : System) (code : Code) (until : ℕ) (turns : List (Option Turn)) (
             (deeds_kept turns now s code (history s dates other) x.sends shared.taken.items (others_same other differs) (p.doing other x (sym (get_set_other shared.outboxes.items agent other outbox differs) ∙ at)))
       ]
 
-      seats_given : (other : ℕ) (x : Seat) → slice_get (slice_set shared.seats.items agent seat) other ≡ Some x → SeatStands (dates - 1) now (history s dates other) x
+      seats_given : (other : ℕ) (x : Seat) → slice_get (slice_set shared.seats.items agent seat) other ≡ Some x → IsSeated (s.opening.silent other) s.opening.dates (dates - 1) now (history s dates other) x
       seats_given other x at = elim (cases_eq other agent) [
         | inl same ↦
             (let x_is : x ≡ seat = get_set_same shared.seats.items agent seat x (sym (ap (slice_get (slice_set shared.seats.items agent seat)) same) ∙ at) in
-            subst (λ a. SeatStands (dates - 1) now (history s dates a) x) (sym same) (subst (λ actions. SeatStands (dates - 1) now actions x) (sym is) (subst (λ d. SeatStands d now (r ∷ before) x) (sym last) (subst (SeatStands date now (r ∷ before)) (sym x_is) one.seated))))
-        | inr differs ↦ seat_kept turns now (dates - 1) (history s dates other) x (others_same other differs) (p.shares.seats other x (sym (get_set_other shared.seats.items agent other seat differs) ∙ at))
+            let own : IsSeated (s.opening.silent agent) s.opening.dates date now (r ∷ before) x = last_seated (s.opening.silent agent) s.opening.dates date now r before x (subst (SeatStands date now (r ∷ before)) (sym x_is) one.seated) in
+            subst (λ a. IsSeated (s.opening.silent a) s.opening.dates (dates - 1) now (history s dates a) x) (sym same)
+            (subst (λ actions. IsSeated (s.opening.silent agent) s.opening.dates (dates - 1) now actions x) (sym is)
+            (subst (λ d. IsSeated (s.opening.silent agent) s.opening.dates d now (r ∷ before) x) (sym last) own)))
+        | inr differs ↦ seated_kept (s.opening.silent other) s.opening.dates turns now (dates - 1) (history s dates other) x (others_same other differs) (p.shares.seats other x (sym (get_set_other shared.seats.items agent other seat differs) ∙ at))
       ]
 
       ended_given : (variable owner : ℕ) (value : ℤ) → slice_get ended variable ≡ Some value → (variable_of s variable).owner ≡ Some owner → KeepsCopy (dates - 1) now variable (history s dates owner) value

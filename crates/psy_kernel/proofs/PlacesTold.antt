@@ -10,7 +10,7 @@ use Rattle.psy_history.specs.Schedule.{Turn}
 use Rattle.psy_history.specs.Regular.{AreRegular}
 use Rattle.psy_dates.specs.declared.seat.Seat.{Seat}
 use Rattle.psy_dates.specs.declared.shared.Shared.{Shared}
-use Rattle.psy_dates.specs.Standing.{SeatStands, SharedStands, committed_at}
+use Rattle.psy_dates.specs.Standing.{IsSeated, SeatStands, SharedStands, committed_at}
 use Rattle.psy_kernel.specs.declared.kernel.lines.Mark.{Mark}
 use Rattle.psy_kernel.specs.Standing.{told_from}
 use Rattle.psy_kernel.specs.Telling.{IsNextTold, IsToldBy, TellsStop, TellsValue, places_of, told_by}
@@ -22,10 +22,10 @@ module _ (s : System) (turns : List (Option Turn)) (date : ℕ) (shared : Shared
   last : date + 1 - 1 ≡ date
   last = omega arith
 
-  pub agent_told : (seat : Seat) (name : List ℕ) → AreRegular s (date + 1) place (history s (date + 1) place) → place < length s.unit.agents
+  pub agent_told : s.opening.silent place ≡ false → (seat : Seat) (name : List ℕ) → AreRegular s (date + 1) place (history s (date + 1) place) → place < length s.unit.agents
       → slice_get shared.seats.items place ≡ Some seat → name ≡ (agent_at s.unit place).name → TellsStop seat name date result old new → IsToldBy s date (told_by s date place) result old new
-  agent_told seat name regular within at named told =
-      let seated : SeatStands date turns (history s (date + 1) place) seat = subst (λ d. SeatStands d turns (history s (date + 1) place) seat) last (stands.seats place seat at) in
+  agent_told loud seat name regular within at named told =
+      let seated : SeatStands date turns (history s (date + 1) place) seat = subst (λ d. SeatStands d turns (history s (date + 1) place) seat) last (subst (λ quiet. IsSeated quiet s.opening.dates (date + 1 - 1) turns (history s (date + 1) place) seat) loud (stands.seats place seat at)) in
       let tells : TellsStop seat (agent_at s.unit place).name date result old new = subst (λ n. TellsStop seat n date result old new) named told in
       subst (λ es. IsToldBy s date es result old new) (sym (told_stop s date place within)) (seat_told s date (date + 1) place turns seat old new result (history s (date + 1) place) seated regular tells)
 

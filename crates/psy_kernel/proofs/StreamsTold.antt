@@ -41,7 +41,7 @@ module _ (s : System) (turns : List (Option Turn)) (date : ℕ) (shared : Shared
   shown_few bound within =
       let queue = some_at shared.queues.items stream (omega (arith, within, stands.queued)) in
       let its = stands.queues stream queue.0 queue.1 in
-      omega (arith, length-map (of_date date (messages s (history s (date + 1)) stream)) event_of, ap length shows, fewer (λ m. m.visible == date) (queue_of s (date + 1) stream), bound queue.0.size its.size its.small, its.small)
+      omega (arith, length-map (of_date date (messages s (history s (date + 1)) stream)) event_of, ap length shows, fewer (λ m. m.visible == date) (queue_of s (date + 1) stream), bound its.places its.size its.small, its.small)
 
   -- The queue of a stream tells what it shows.
   pub stream_told : (shown : ℕ) (old new : List ℕ) (result : Bool) (queue : Queued) (name : List ℕ) → slice_get shared.queues.items stream ≡ Some queue → name ≡ (stream_of s stream).name

@@ -18,8 +18,9 @@ use Rattle.psy_dates.specs.declared.shared.Shared.{Shared}
 use Rattle.psy_dates.specs.Messages.{HaveRoom, nowhere, sends_of, sent_from, settled_then, with_entered}
 use Rattle.psy_dates.specs.Moves.{IsNumbered, commits_at, ends_at, owner_of, timing_in}
 use Rattle.psy_dates.specs.Outboxes.{Outboxed}
-use Rattle.psy_dates.specs.Plans.{system_of}
+use Rattle.psy_dates.specs.Plans.{opened_of, system_of}
 use Rattle.psy_dates.specs.Publications.{ring_then}
+use Rattle.psy_dates.proofs.Begun.{are_begun}
 use Rattle.psy_dates.proofs.Dates.{Moved, seat_numbered, shared_moves}
 use Rattle.psy_dates.proofs.StreamLaws.{stream_laws}
 use Rattle.psy_dates.proofs.StreamsThen.{box_begun, box_goes, has_room, holds_taken, sends_of_unit, take_begun, take_goes}
@@ -29,13 +30,15 @@ pub move_all-requires-clause-numbered : goal.move_all-requires-clause-numbered
 move_all-requires-clause-numbered c =
     let plan = c.args.plan.now in
     let inputs = c.args.shared.now.inputs.lists in
-    let (stalls, order, stands) = c.requires.stands in
-    let s = system_of plan inputs stalls in
+    let (opening, stalls, order, sound, behind, stands) = c.requires.stands in
+    let s = opened_of plan opening inputs stalls in
     let seats = c.args.shared.now.seats.items in
-    let early : c.args.date ≤ 2 ^ 40 = omega arith in
-    let run = c.compiled.ensures.run plan.unit plan.code plan.nexts stalls inputs c.requires.plan.compiled c.requires.inputs in
+    let early : c.args.date ≤ 2 ^ 32 = omega arith in
+    let whole = c.compiled.ensures.run plan.unit plan.code plan.nexts stalls inputs c.requires.plan.compiled c.requires.inputs in
+    let run = c.openings.ensures.run (system_of plan inputs stalls) opening (OfText plan.unit) plan.code whole sound in
     let lawful = c.regular.ensures.lawful s (OfText plan.unit) plan.code run in
-    let numbered : All IsNumbered seats = λ k d l. seat_numbered s lawful c.args.date k (turns_of s order (c.args.date * plan.unit.quantum)) (get_or seats k d) (c.compiled.ensures.numbers plan.unit plan.code plan.nexts stalls inputs k) early (stands.seats k (get_or seats k d) (slice_get-get_or seats k d l)) in
+    let begun = are_begun s (OfText plan.unit) plan.code c.args.date sound behind (c.openings.ensures.none s (OfText plan.unit) plan.code run) (c.openings.ensures.silent s (OfText plan.unit) plan.code run) (c.openings.ensures.waits s (OfText plan.unit) plan.code run) in
+    let numbered : All IsNumbered seats = λ k d l. seat_numbered s lawful c.args.date k (turns_of s order (c.args.date * plan.unit.quantum)) (get_or seats k d) (begun.numbers k) early (stands.seats k (get_or seats k d) (slice_get-get_or seats k d l)) in
     subst (All IsNumbered) (sym c.deref_mut-7.ensures.value) numbered
 
 pub settle_all-requires-clause-held : goal.settle_all-requires-clause-held
@@ -43,13 +46,15 @@ settle_all-requires-clause-held c stream queue at ends =
     let plan = c.args.plan.now in
     let old = c.args.shared.now in
     let inputs = old.inputs.lists in
-    let (stalls, order, stands) = c.requires.stands in
-    let s = system_of plan inputs stalls in
-    let run = c.compiled.ensures.run plan.unit plan.code plan.nexts stalls inputs c.requires.plan.compiled c.requires.inputs in
+    let (opening, stalls, order, sound, behind, stands) = c.requires.stands in
+    let s = opened_of plan opening inputs stalls in
+    let whole = c.compiled.ensures.run plan.unit plan.code plan.nexts stalls inputs c.requires.plan.compiled c.requires.inputs in
+    let run = c.openings.ensures.run (system_of plan inputs stalls) opening (OfText plan.unit) plan.code whole sound in
     let lawful = c.regular.ensures.lawful s (OfText plan.unit) plan.code run in
-    let laws = stream_laws plan inputs stalls run c.compiled.ensures.queue c.regular.ensures.sends c.queues.ensures.next c.queues.ensures.look c.queue_sizes.ensures.held in
+    let begun = are_begun s (OfText plan.unit) plan.code c.args.date sound behind (c.openings.ensures.none s (OfText plan.unit) plan.code run) (c.openings.ensures.silent s (OfText plan.unit) plan.code run) (c.openings.ensures.waits s (OfText plan.unit) plan.code run) in
+    let laws = stream_laws plan opening inputs stalls run c.compiled.ensures.queue c.regular.ensures.sends c.queues.ensures.next c.queues.ensures.look c.queue_sizes.ensures.held in
     subst (λ xs. get_or xs stream 0 ≤ length queue.messages) (sym c.deref-4.ensures.value)
-    (holds_taken plan inputs stalls c.requires.plan.compiled.text.bare lawful laws c.args.date (turns_of s order (c.args.date * plan.unit.quantum)) old c.requires.due stands stream queue
+    (holds_taken plan opening inputs stalls c.requires.plan.compiled.text.bare lawful laws c.args.date begun (turns_of s order (c.args.date * plan.unit.quantum)) old c.requires.due stands stream queue
     (ap (λ xs. slice_get xs stream) (sym c.deref_mut-2.ensures.value) ∙ at) (ap (λ xs. ends_at c.args.date (slice_get xs (stream_at plan.unit stream).receiver)) (sym c.deref-3.ensures.value) ∙ ends))
 
 pub enter_all-requires-clause-sent : goal.enter_all-requires-clause-sent
@@ -57,13 +62,15 @@ enter_all-requires-clause-sent c agent ends =
     let plan = c.args.plan.now in
     let old = c.args.shared.now in
     let inputs = old.inputs.lists in
-    let (stalls, order, stands) = c.requires.stands in
-    let s = system_of plan inputs stalls in
-    let run = c.compiled.ensures.run plan.unit plan.code plan.nexts stalls inputs c.requires.plan.compiled c.requires.inputs in
+    let (opening, stalls, order, sound, behind, stands) = c.requires.stands in
+    let s = opened_of plan opening inputs stalls in
+    let whole = c.compiled.ensures.run plan.unit plan.code plan.nexts stalls inputs c.requires.plan.compiled c.requires.inputs in
+    let run = c.openings.ensures.run (system_of plan inputs stalls) opening (OfText plan.unit) plan.code whole sound in
     let lawful = c.regular.ensures.lawful s (OfText plan.unit) plan.code run in
-    let laws = stream_laws plan inputs stalls run c.compiled.ensures.queue c.regular.ensures.sends c.queues.ensures.next c.queues.ensures.look c.queue_sizes.ensures.held in
+    let begun = are_begun s (OfText plan.unit) plan.code c.args.date sound behind (c.openings.ensures.none s (OfText plan.unit) plan.code run) (c.openings.ensures.silent s (OfText plan.unit) plan.code run) (c.openings.ensures.waits s (OfText plan.unit) plan.code run) in
+    let laws = stream_laws plan opening inputs stalls run c.compiled.ensures.queue c.regular.ensures.sends c.queues.ensures.next c.queues.ensures.look c.queue_sizes.ensures.held in
     subst (λ xs. All (IsSentOf plan.unit) (sends_of xs agent)) (sym c.deref-6.ensures.value)
-    (sends_of_unit plan inputs stalls c.requires.plan.compiled.text.bare lawful laws c.args.date (turns_of s order (c.args.date * plan.unit.quantum)) old c.requires.due stands agent
+    (sends_of_unit plan opening inputs stalls c.requires.plan.compiled.text.bare lawful laws c.args.date begun (turns_of s order (c.args.date * plan.unit.quantum)) old c.requires.due stands agent
     (ap (λ xs. ends_at c.args.date (slice_get xs agent)) (sym c.deref-5.ensures.value) ∙ ends))
 
 pub enter_all-requires-clause-room : goal.enter_all-requires-clause-room
@@ -72,17 +79,19 @@ enter_all-requires-clause-room c =
     let old = c.args.shared.now in
     let inputs = old.inputs.lists in
     let date = c.args.date in
-    let (stalls, order, stands) = c.requires.stands in
-    let s = system_of plan inputs stalls in
-    let run = c.compiled.ensures.run plan.unit plan.code plan.nexts stalls inputs c.requires.plan.compiled c.requires.inputs in
+    let (opening, stalls, order, sound, behind, stands) = c.requires.stands in
+    let s = opened_of plan opening inputs stalls in
+    let whole = c.compiled.ensures.run plan.unit plan.code plan.nexts stalls inputs c.requires.plan.compiled c.requires.inputs in
+    let run = c.openings.ensures.run (system_of plan inputs stalls) opening (OfText plan.unit) plan.code whole sound in
     let lawful = c.regular.ensures.lawful s (OfText plan.unit) plan.code run in
-    let laws = stream_laws plan inputs stalls run c.compiled.ensures.queue c.regular.ensures.sends c.queues.ensures.next c.queues.ensures.look c.queue_sizes.ensures.held in
+    let begun = are_begun s (OfText plan.unit) plan.code c.args.date sound behind (c.openings.ensures.none s (OfText plan.unit) plan.code run) (c.openings.ensures.silent s (OfText plan.unit) plan.code run) (c.openings.ensures.waits s (OfText plan.unit) plan.code run) in
+    let laws = stream_laws plan opening inputs stalls run c.compiled.ensures.queue c.regular.ensures.sends c.queues.ensures.next c.queues.ensures.look c.queue_sizes.ensures.held in
     let now : (with_items old.queues c.settle_all.new.queues).items ≡ c.settle_all.new.queues = with_items_is old.queues c.settle_all.new.queues (c.settle_all.auto.queues ∙ c.deref_mut-2.ensures.len) in
     let sent : List Seat → List Outboxed → ℕ → _ = λ seats outboxes. sent_from (system_of plan [] (λ agent. [])) date seats outboxes 0 (length plan.unit.agents) in
     subst (HaveRoom (sent c.deref-5.result.now c.deref-6.result.now)) (sym (c.deref_mut-3.ensures.value ∙ now))
     (subst (λ seats. HaveRoom (sent seats c.deref-6.result.now) c.settle_all.new.queues) (sym c.deref-5.ensures.value)
     (subst (λ outboxes. HaveRoom (sent old.seats.items outboxes) c.settle_all.new.queues) (sym c.deref-6.ensures.value)
-    (has_room plan inputs stalls c.requires.plan.compiled.text.bare lawful laws date (turns_of s order (date * plan.unit.quantum)) old c.requires.due stands c.settle_all.new.queues (c.settle_all.auto.queues ∙ ap length c.deref_mut-2.ensures.value)
+    (has_room plan opening inputs stalls c.requires.plan.compiled.text.bare lawful laws date begun (turns_of s order (date * plan.unit.quantum)) old c.requires.due stands c.settle_all.new.queues (c.settle_all.auto.queues ∙ ap length c.deref_mut-2.ensures.value)
     (λ stream queue at. c.settle_all.ensures stream queue (ap (λ xs. slice_get xs stream) c.deref_mut-2.ensures.value ∙ at)
     ∙ ap (λ xs. Some (settled_then date (first_date (timing_in plan (stream_at plan.unit stream).receiver)) (get_or xs (stream_at plan.unit stream).receiver nowhere) (get_or c.deref-4.result.now stream 0) queue)) c.deref-3.ensures.value
     ∙ ap (λ xs. Some (settled_then date (first_date (timing_in plan (stream_at plan.unit stream).receiver)) (get_or old.seats.items (stream_at plan.unit stream).receiver nowhere) (get_or xs stream 0) queue)) c.deref-4.ensures.value))))
@@ -188,35 +197,39 @@ moved_by c =
         settled_then c.args.date (first_date (timing_in c.args.plan.now (stream_at c.args.plan.now.unit stream).receiver)) (get_or seats (stream_at c.args.plan.now.unit stream).receiver nowhere) (get_or taken stream 0) queue
 
 pub returns-clause-stands : goal.returns-clause-stands
-returns-clause-stands c stalls order stands =
+returns-clause-stands c opening stalls order sound behind stands =
     let plan = c.args.plan.now in
     let old = c.args.shared.now in
     let inputs = old.inputs.lists in
     let date = c.args.date in
-    let s = system_of plan inputs stalls in
+    let s = opened_of plan opening inputs stalls in
     let bare = c.requires.plan.compiled.text.bare in
-    let run = c.compiled.ensures.run plan.unit plan.code plan.nexts stalls inputs c.requires.plan.compiled c.requires.inputs in
+    let whole = c.compiled.ensures.run plan.unit plan.code plan.nexts stalls inputs c.requires.plan.compiled c.requires.inputs in
+    let run = c.openings.ensures.run (system_of plan inputs stalls) opening (OfText plan.unit) plan.code whole sound in
     let lawful = c.regular.ensures.lawful s (OfText plan.unit) plan.code run in
-    let laws = stream_laws plan inputs stalls run c.compiled.ensures.queue c.regular.ensures.sends c.queues.ensures.next c.queues.ensures.look c.queue_sizes.ensures.held in
+    let begun = are_begun s (OfText plan.unit) plan.code c.args.date sound behind (c.openings.ensures.none s (OfText plan.unit) plan.code run) (c.openings.ensures.silent s (OfText plan.unit) plan.code run) (c.openings.ensures.waits s (OfText plan.unit) plan.code run) in
+    let laws = stream_laws plan opening inputs stalls run c.compiled.ensures.queue c.regular.ensures.sends c.queues.ensures.next c.queues.ensures.look c.queue_sizes.ensures.held in
     let cycles = date * plan.unit.quantum in
     let upto : cycles ≤ date * plan.unit.quantum = omega arith in
-    shared_moves plan inputs stalls bare lawful laws date (turns_of s order cycles) (λ variable clock size. c.rings.ensures.next s date variable size lawful clock) (λ agent number new. c.given.ensures.unstarted s order date cycles agent number lawful bare.quantum.0 upto new) old (new_of c) c.requires.due stands (moved_by c)
+    shared_moves plan opening inputs stalls bare lawful laws date begun (turns_of s order cycles) (λ variable clock size. c.rings.ensures.next s date variable size lawful clock) (λ agent number new. c.given.ensures.unstarted s order date cycles agent number lawful bare.quantum.0 upto new) old (new_of c) c.requires.due stands (moved_by c)
 
 pub returns-clause-begun : goal.returns-clause-begun
 returns-clause-begun c agent begins =
     let plan = c.args.plan.now in
     let old = c.args.shared.now in
     let inputs = old.inputs.lists in
-    let (stalls, order, stands) = c.requires.stands in
-    let s = system_of plan inputs stalls in
-    let run = c.compiled.ensures.run plan.unit plan.code plan.nexts stalls inputs c.requires.plan.compiled c.requires.inputs in
+    let (opening, stalls, order, sound, behind, stands) = c.requires.stands in
+    let s = opened_of plan opening inputs stalls in
+    let whole = c.compiled.ensures.run plan.unit plan.code plan.nexts stalls inputs c.requires.plan.compiled c.requires.inputs in
+    let run = c.openings.ensures.run (system_of plan inputs stalls) opening (OfText plan.unit) plan.code whole sound in
     let lawful = c.regular.ensures.lawful s (OfText plan.unit) plan.code run in
-    let laws = stream_laws plan inputs stalls run c.compiled.ensures.queue c.regular.ensures.sends c.queues.ensures.next c.queues.ensures.look c.queue_sizes.ensures.held in
+    let begun = are_begun s (OfText plan.unit) plan.code c.args.date sound behind (c.openings.ensures.none s (OfText plan.unit) plan.code run) (c.openings.ensures.silent s (OfText plan.unit) plan.code run) (c.openings.ensures.waits s (OfText plan.unit) plan.code run) in
+    let laws = stream_laws plan opening inputs stalls run c.compiled.ensures.queue c.regular.ensures.sends c.queues.ensures.next c.queues.ensures.look c.queue_sizes.ensures.held in
     let turns = turns_of s order (c.args.date * plan.unit.quantum) in
     let moved = moved_by c in
     let new = new_of c in (
-      box_begun plan inputs stalls c.requires.plan.compiled.text.bare lawful laws c.args.date turns old c.requires.due stands new.seats.items moved.seated moved.seats new.outboxes.items moved.outboxes agent begins,
-      take_begun plan inputs stalls c.requires.plan.compiled.text.bare lawful laws c.args.date turns old c.requires.due stands new.seats.items moved.seated moved.seats new.taken.items moved.taken agent begins,
+      box_begun plan opening inputs stalls c.requires.plan.compiled.text.bare lawful laws c.args.date begun turns old c.requires.due stands new.seats.items moved.seated moved.seats new.outboxes.items moved.outboxes agent begins,
+      take_begun plan opening inputs stalls c.requires.plan.compiled.text.bare lawful laws c.args.date begun turns old c.requires.due stands new.seats.items moved.seated moved.seats new.taken.items moved.taken agent begins,
     )
 
 pub returns-clause-going : goal.returns-clause-going
@@ -224,14 +237,16 @@ returns-clause-going c agent goes =
     let plan = c.args.plan.now in
     let old = c.args.shared.now in
     let inputs = old.inputs.lists in
-    let (stalls, order, stands) = c.requires.stands in
-    let s = system_of plan inputs stalls in
-    let run = c.compiled.ensures.run plan.unit plan.code plan.nexts stalls inputs c.requires.plan.compiled c.requires.inputs in
+    let (opening, stalls, order, sound, behind, stands) = c.requires.stands in
+    let s = opened_of plan opening inputs stalls in
+    let whole = c.compiled.ensures.run plan.unit plan.code plan.nexts stalls inputs c.requires.plan.compiled c.requires.inputs in
+    let run = c.openings.ensures.run (system_of plan inputs stalls) opening (OfText plan.unit) plan.code whole sound in
     let lawful = c.regular.ensures.lawful s (OfText plan.unit) plan.code run in
-    let laws = stream_laws plan inputs stalls run c.compiled.ensures.queue c.regular.ensures.sends c.queues.ensures.next c.queues.ensures.look c.queue_sizes.ensures.held in
+    let begun = are_begun s (OfText plan.unit) plan.code c.args.date sound behind (c.openings.ensures.none s (OfText plan.unit) plan.code run) (c.openings.ensures.silent s (OfText plan.unit) plan.code run) (c.openings.ensures.waits s (OfText plan.unit) plan.code run) in
+    let laws = stream_laws plan opening inputs stalls run c.compiled.ensures.queue c.regular.ensures.sends c.queues.ensures.next c.queues.ensures.look c.queue_sizes.ensures.held in
     let turns = turns_of s order (c.args.date * plan.unit.quantum) in
     let moved = moved_by c in
     let new = new_of c in (
-      box_goes plan inputs stalls c.requires.plan.compiled.text.bare lawful laws c.args.date turns old c.requires.due stands new.seats.items moved.seated moved.seats new.outboxes.items moved.outboxes agent goes,
-      take_goes plan inputs stalls c.requires.plan.compiled.text.bare lawful laws c.args.date turns old c.requires.due stands new.seats.items moved.seated moved.seats new.taken.items moved.taken agent goes,
+      box_goes plan opening inputs stalls c.requires.plan.compiled.text.bare lawful laws c.args.date begun turns old c.requires.due stands new.seats.items moved.seated moved.seats new.outboxes.items moved.outboxes agent goes,
+      take_goes plan opening inputs stalls c.requires.plan.compiled.text.bare lawful laws c.args.date begun turns old c.requires.due stands new.seats.items moved.seated moved.seats new.taken.items moved.taken agent goes,
     )

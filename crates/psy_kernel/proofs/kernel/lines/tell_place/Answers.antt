@@ -1,5 +1,5 @@
 -- What is left of the proof of `kernel::lines::tell_place`.
-use Rattle.std.proofs.Common.{◌≡◌, ◌+◌, ◌-◌, ◌<◌, ◌≤◌, ℕ, length, get_or, slice_get, Some, ℤ, w32, to_z, of_z, sym, ap, subst, ◌∙◌, arith}
+use Rattle.std.proofs.Common.{◌≡◌, refl, ◌+◌, ◌-◌, ◌<◌, ◌≤◌, ℕ, length, get_or, slice_get, Some, ℤ, w32, to_z, of_z, sym, ap, subst, ◌∙◌, arith}
 use Rattle.std.proofs.lemmas.Int.{to_z-of_z}
 use Rattle.std.proofs.lemmas.Option.{slice_get_read}
 use Rattle.psy_clock.specs.declared.clock.Clock.{Clock}
@@ -27,7 +27,7 @@ returns-then-place-agents-clause-told c =
     let named : c.bytes.result.now ≡ (agent_at plan.unit c.args.place).name =
     c.bytes.ensures ∙ ap (λ (a : AgentDecl). a.name) (agent_found plan.unit c.args.place c.as_slice-agents.result.now c.index-agents-place.result c.as_slice-agents.ensures within) in
     λ stalls turns stands.
-    agent_told (system_of plan shared.inputs.lists stalls) turns c.args.date shared stands c.args.place c.tell_stop.result c.args.line.now c.tell_stop.new.line c.index.result.now c.bytes.result.now
+    agent_told (system_of plan shared.inputs.lists stalls) turns c.args.date shared stands c.args.place c.tell_stop.result c.args.line.now c.tell_stop.new.line refl c.index.result.now c.bytes.result.now
     ((c.regular.ensures.lawful (system_of plan shared.inputs.lists stalls) (OfText plan.unit) plan.code (c.compiled.ensures.run plan.unit plan.code plan.nexts stalls shared.inputs.lists c.requires.plan.compiled c.requires.inputs)).actions (c.args.date + 1) c.args.place)
     among at named c.tell_stop.ensures.told
 
