@@ -149,10 +149,6 @@ module _ (plan : Plan) (opening : Opening) (inputs : List (List ℤ)) (stalls : 
     boxed = moved.boxed ∙ stands.boxed;
     outboxes = λ agent outbox is. subst (λ d. OutboxStands s d turns agent (history s (date + 1) agent) outbox) (sym (one_back date)) (subst (λ n. OutboxStands s date turns agent (history s n agent) outbox) (sym (add-one date)) (outbox_stands plan opening inputs stalls bare lawful laws date begun turns old due stands unstarted new.outboxes.items moved.boxed moved.outboxes agent outbox is));
     taking = moved.taking ∙ stands.taking;
-<<<<<<< HEAD
-    taken = λ stream n is. subst (λ d. KeepsTakes d turns stream (history s (date + 1) (stream_of s stream).receiver) n) (sym (one_back date)) (subst (λ k. KeepsTakes date turns stream (history s k (stream_of s stream).receiver) n) (sym (add-one date)) (takes_stand plan inputs stalls bare lawful laws date turns old due stands unstarted new.taken.items moved.taking moved.taken stream n is));
-    calendar = moved.calendar;
-=======
     taken = λ stream n is. subst (λ d. KeepsTakes d turns stream (history s (date + 1) (stream_of s stream).receiver) n) (sym (one_back date)) (subst (λ k. KeepsTakes date turns stream (history s k (stream_of s stream).receiver) n) (sym (add-one date)) (takes_stand plan opening inputs stalls bare lawful laws date begun turns old due stands unstarted new.taken.items moved.taking moved.taken stream n is));
->>>>>>> 30fcb0c6a27c785ab3103701bccab9fc90d242c7
+    calendar = moved.calendar;
   }

@@ -2,11 +2,7 @@
 use Rattle.std.specs.Prelude.{◌≡◌, ◌⊎◌, ℕ, suc, ◌<◌, ◌≤◌, ◌^◌, true, false, List, length, map, Option, Some, None, slice_get, FitsSigned, ℤ}
 use Rattle.std.specs.Int.{w32}
 use Rattle.std.specs.List.{All, AllPairs}
-<<<<<<< HEAD
 use Rattle.psy_base.specs.declared.limits.TheConstants.{QUEUE, UNTIL}
-=======
-use Rattle.psy_base.specs.declared.limits.TheConstants.{QUEUE, STALL}
->>>>>>> 30fcb0c6a27c785ab3103701bccab9fc90d242c7
 use Rattle.psy_base.specs.declared.message.Message.{Message}
 use Rattle.psy_clock.specs.Dates.{count}
 use Rattle.psy_code.specs.declared.code.Code.{Code}
@@ -37,11 +33,7 @@ HasBegun s agent = (n : Next) → s.opening.starts agent ≡ Some n → n.start 
 pub record IsBegun (s : System) (agent : ℕ) (n : Next) : Type 0 where
   pub last : suc n.start ≡ s.opening.dates
   pub first : first_date (timing s agent) ≤ n.start
-<<<<<<< HEAD
   pub number : n.number ≤ UNTIL
-=======
-  pub number : n.number ≤ STALL
->>>>>>> 30fcb0c6a27c785ab3103701bccab9fc90d242c7
   pub committed : (variable : ℕ) → (variable_of s variable).owner ≡ Some agent → s.opening.committed variable ≡ copy_in n.carried variable
 
 -- It hasn't begun: its first date lies behind those that were done, and its variables have their first values.
