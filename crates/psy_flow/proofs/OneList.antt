@@ -78,9 +78,9 @@ nexts_one functions agent xs ys a b =
 all_nexts_one : (unit : Whole) (lists others : List (List (List ℕ))) → AreAllNexts unit lists → AreAllNexts unit others → lists ≡ others
 all_nexts_one unit lists others a b =
     same_lists lists others (a.count ∙ sym b.count) (λ number xs ys at also.
-        let less = slice_get_within lists number xs at in
-        let here = slice_get-get_or unit.agents number no_agent (omega (arith, less, a.count)) in
-        nexts_one unit.functions (agent_at unit number) xs ys (a.each number (agent_at unit number) xs here at) (b.each number (agent_at unit number) ys here also))
+    let less = slice_get_within lists number xs at in
+    let here = slice_get-get_or unit.agents number no_agent (omega (arith, less, a.count)) in
+    nexts_one unit.functions (agent_at unit number) xs ys (a.each number (agent_at unit number) xs here at) (b.each number (agent_at unit number) ys here also))
 
 delays_one : (unit : Whole) (xs ys : List ℕ) → AreDelays unit xs → AreDelays unit ys → xs ≡ ys
 delays_one unit xs ys a b = same_lists xs ys (a.count ∙ sym b.count) (λ stream x y at also. a.each stream x at ∙ sym (b.each stream y also))

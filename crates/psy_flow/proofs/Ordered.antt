@@ -46,4 +46,3 @@ module _ {X : Type 0} (Before : X → X → Type 0) (strict : (x y : X) → Befo
       let on = λ (z : X) (c : Contains xs z). not_first x y xs ys z same a c (first_or_later y ys z ((both z).0 (at_later x xs z c))) in
       let back = λ (z : X) (c : Contains ys z). not_first y x ys xs z (sym same) b c (first_or_later x xs z ((both z).1 (at_later y ys z c))) in
       ap (λ w. w ∷ xs) same ∙ ap (λ ws. y ∷ ws) (same_elements xs ys (pairs_later x xs a) (pairs_later y ys b) (λ z. (on z, back z)))
-

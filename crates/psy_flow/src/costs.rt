@@ -4,8 +4,8 @@ ghost use Rattle.std.specs.Prelude.{◌≡◌, ◌≤◌, [], None, min, take, l
 ghost use Rattle.psy_base.specs.declared.limits.TheConstants.{FUNCTIONS};
 ghost use Rattle.psy_flow.specs.Tops.{limit_of, called, call_most, stmts_tops, capped_from};
 
-use crate::gauge::Gauge;
 use crate::counts::tops_of_stmts;
+use crate::gauge::Gauge;
 use psy_base::limits;
 use psy_tree::FunctionDecl;
 

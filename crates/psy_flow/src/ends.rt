@@ -43,7 +43,12 @@ fn mark_ends(reached: &mut Items<bool>, instrs: &[Instr], places: &[usize])
 
 /// The points where the ways through code from a place end, in rising order, where each of them is one of the first so many. The only error
 /// is want of memory.
-pub fn code_next_points(alloc: Global, instrs: &[Instr], from: usize, points: usize) -> Result<Items<u32>, Memory>
+pub fn code_next_points(
+    alloc: Global,
+    instrs: &[Instr],
+    from: usize,
+    points: usize,
+) -> Result<Items<u32>, Memory>
     requires inside { StaysIn instrs.now from }
     requires named { (place point : ℕ) → IsPassed instrs.now from place → slice_get instrs.now place ≡ Some (instruction.Advance point)
         → point < points }

@@ -12,8 +12,7 @@ ghost use Rattle.psy_meaning.specs.Flow.{AreNexts, HasCost, IsCut, IsMostSends, 
 ghost use Rattle.psy_meaning.specs.ListedWays.{AreWaysOf, IsSendWay};
 ghost use Rattle.psy_flow.specs.Agents.{IsAgentOf, IsKnown};
 
-use psy_meaning::laws::named as can_name;
-use psy_meaning::laws::{follows, sound};
+use psy_meaning::laws::{follows, named as can_name, sound};
 
 /// An agent of a text is sound, and goes on from each of its points.
 pub fn known()

@@ -8,9 +8,9 @@ ghost use Rattle.psy_flow.specs.Agents.{IsOfSome, IsAgentOf};
 ghost use Rattle.psy_flow.specs.Listed.{AreAgentWays};
 
 use crate::delays::delays;
-use crate::pushes::push;
 use crate::looking::looks_from;
 use crate::next::next_points;
+use crate::pushes::push;
 use crate::sending::sends_from;
 use psy_base::{Items, Memory, SendWay, Ways};
 use psy_tree::{AgentDecl, Unit};
@@ -28,7 +28,12 @@ pub struct AgentWays {
 }
 
 // The ways of an agent of a program with so many variables and streams.
-fn ways_of(alloc: Global, agent: &AgentDecl, variables: u32, streams: u32) -> Result<AgentWays, Memory>
+fn ways_of(
+    alloc: Global,
+    agent: &AgentDecl,
+    variables: u32,
+    streams: u32,
+) -> Result<AgentWays, Memory>
     requires text { IsOfSome agent.now }
     ensures { IfOk result (λ ways. (unit : Whole) (number : ℕ) → IsAgentOf unit number agent.now → length unit.variables ≡ variables
         → length unit.streams ≡ streams → AreAgentWays unit.functions agent.now ways) }

@@ -22,7 +22,12 @@ fn push_if(list: &mut Items<u32>, variable: u32, looks: bool) -> Result<(), Memo
 }
 
 /// All variables at which a way from a point looks, in rising order, where the program has so many variables. The only error is want of memory.
-pub fn looks_from(alloc: Global, agent: &AgentDecl, point: u32, variables: u32) -> Result<Items<u32>, Memory>
+pub fn looks_from(
+    alloc: Global,
+    agent: &AgentDecl,
+    point: u32,
+    variables: u32,
+) -> Result<Items<u32>, Memory>
     requires text { IsOfSome agent.now }
     requires point { point < length agent.now.points }
     ensures { IfOk result (λ list. (unit : Whole) (number : ℕ) → IsAgentOf unit number agent.now → length unit.variables ≡ variables

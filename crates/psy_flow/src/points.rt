@@ -5,9 +5,9 @@ ghost use Rattle.psy_meaning.specs.Rest.{rest, rests_of, rests_of_list};
 ghost use Rattle.psy_flow.specs.Tops.{called, capped_tops, pieces_tops};
 ghost use Rattle.psy_flow.specs.Behind.{IsBehind};
 
+use crate::counts::{tops_of_stmt, tops_of_stmts};
 use crate::gauge::Gauge;
 use crate::tops::Tops;
-use crate::counts::{tops_of_stmt, tops_of_stmts};
 use psy_tree::Stmt;
 
 /// What comes of going to an `advance` by its number, counted from 0 in the order of the text.

@@ -24,7 +24,13 @@ fn push_some(ways: &mut Items<SendWay>, way: SendWay) -> Result<(), Memory>
 }
 
 // The sends to the first so many streams on the ways from a point to another, behind those of the ways to earlier points.
-fn add_sends(ways: &mut Items<SendWay>, agent: &AgentDecl, point: u32, to: u32, streams: u32) -> Result<(), Memory>
+fn add_sends(
+    ways: &mut Items<SendWay>,
+    agent: &AgentDecl,
+    point: u32,
+    to: u32,
+    streams: u32,
+) -> Result<(), Memory>
     requires text { IsOfSome agent.now }
     requires point { point < length agent.now.points }
     ensures { OnOk result ((unit : Whole) (number : ℕ) → IsAgentOf unit number agent.now → AreSendsUpTo unit.functions agent.now point to 0 ways.old
@@ -39,7 +45,13 @@ fn add_sends(ways: &mut Items<SendWay>, agent: &AgentDecl, point: u32, to: u32, 
 
 /// All sends of the ways from a point in order, where these are the points that may follow it, and the program has so many streams. The only
 /// error is want of memory.
-pub fn sends_from(alloc: Global, agent: &AgentDecl, point: u32, nexts: &[u32], streams: u32) -> Result<Items<SendWay>, Memory>
+pub fn sends_from(
+    alloc: Global,
+    agent: &AgentDecl,
+    point: u32,
+    nexts: &[u32],
+    streams: u32,
+) -> Result<Items<SendWay>, Memory>
     requires text { IsOfSome agent.now }
     requires point { point < length agent.now.points }
     ensures { IfOk result (λ list. (unit : Whole) (number : ℕ) → IsAgentOf unit number agent.now → length unit.streams ≡ streams → Rises nexts.now

@@ -52,7 +52,13 @@ fn goes_on_at(instrs: &[Instr], place: usize) -> Onward
 }
 
 // Marks a place and lists it, unless it is marked.
-fn meet(instrs: &[Instr], from: usize, marks: &mut Items<bool>, places: &mut Items<usize>, place: usize) -> Result<(), Memory>
+fn meet(
+    instrs: &[Instr],
+    from: usize,
+    marks: &mut Items<bool>,
+    places: &mut Items<usize>,
+    place: usize,
+) -> Result<(), Memory>
     requires met { AreMet instrs.now from marks.old places.old }
     requires passed { IsPassed instrs.now from place }
     requires inside { place < length instrs.now }
@@ -93,7 +99,13 @@ fn meet_some(
 }
 
 // Meets the places where ways go on from the one of this number.
-fn follow(instrs: &[Instr], from: usize, marks: &mut Items<bool>, places: &mut Items<usize>, at: usize) -> Result<(), Memory>
+fn follow(
+    instrs: &[Instr],
+    from: usize,
+    marks: &mut Items<bool>,
+    places: &mut Items<usize>,
+    at: usize,
+) -> Result<(), Memory>
     requires inside { StaysIn instrs.now from }
     requires met { AreMet instrs.now from marks.old places.old }
     requires at { at < length places.old }

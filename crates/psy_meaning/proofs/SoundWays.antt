@@ -1,19 +1,17 @@
 -- What a sound agent's ways keep: what each instruction keeps, each look that isn't too deep, and each send that is allowed.
-use Rattle.std.proofs.Common.{◌≡◌, ℕ, zero, suc, ◌+◌, true, false, List, [], ◌∷◌, ◌++◌, map, length, Some, None, sym, ap, subst, ◌∙◌, inl, inr, refl, slice_get}
+use Rattle.std.proofs.Common.{◌≡◌, ℕ, zero, suc, ◌+◌, true, false, List, [], ◌∷◌, ◌++◌, map, Some, None, sym, subst, inl, inr}
 use Rattle.std.proofs.lemmas.Option.{none-some}
 use Rattle.psy_arith.specs.declared.operators.Op2.{Op2}
 use Rattle.psy_arith.specs.declared.operators.Op2.TheVariants as op
-use Rattle.psy_tree.specs.declared.unit.AgentDecl.{AgentDecl}
 use Rattle.psy_tree.specs.declared.unit.Expr.{Expr, roll-Expr, rec-roll-Expr, map-Expr, ind-Expr}
 use Rattle.psy_tree.specs.declared.unit.Expr.TheOpen.{Expr-F}
 use Rattle.psy_tree.specs.declared.unit.FunctionDecl.{FunctionDecl}
 use Rattle.psy_tree.specs.declared.unit.Stmt.{Stmt, roll-Stmt, rec-roll-Stmt, map-Stmt, ind-Stmt}
 use Rattle.psy_tree.specs.declared.unit.Stmt.TheOpen.{Stmt-F}
-use Rattle.psy_tree.specs.declared.unit.Unit.{Unit as Whole}
 use Rattle.psy_meaning.specs.Rest.{rest}
-use Rattle.psy_meaning.specs.Sound.{Scope, Each, EachOr, HasPast, CanSend, sound_expr_step, sound_stmt_step, IsSoundExpr, IsSoundStmt, AreSound, function_scope, AreSoundFunctions, agent_scope, IsSoundUnit}
+use Rattle.psy_meaning.specs.Sound.{Scope, Each, HasPast, CanSend, sound_expr_step, sound_stmt_step, IsSoundExpr, IsSoundStmt, AreSound, function_scope, AreSoundFunctions}
 use Rattle.psy_meaning.specs.Statements.{Piece, Do, Hop}
-use Rattle.psy_meaning.specs.Ways.{Meter, Sending, Way, Course, End, Fell, Back, To, here, one, looking, sending, both, either, falling, returning, reaching, behind, and_on, or_else, ways_through, binary_way, courses_through, turning, expr_way_step, expr_way, course_step, course_by, piece_course, callee_way, with_way, callee_ways_from, callee_ways, unmetered, IsWay}
+use Rattle.psy_meaning.specs.Ways.{Meter, Sending, Way, Course, End, Fell, Back, To, here, one, looking, sending, both, either, falling, returning, reaching, behind, and_on, or_else, ways_through, binary_way, courses_through, turning, expr_way_step, expr_way, course_step, course_by, piece_course, callee_way, with_way, callee_ways_from, callee_ways}
 use Rattle.psy_meaning.proofs.lemmas.Layers.{natural_expr, natural_stmt}
 use Rattle.psy_meaning.proofs.OpenWays.{lazy, two}
 use Rattle.psy_meaning.proofs.lemmas.RestPieces.{PartsHave, PiecesHave, rest_has}

@@ -1,5 +1,5 @@
 -- The ways of a program's actions as its code goes them, whatever the values: each test with a jump goes on or jumps.
-use Rattle.std.specs.Prelude.{◌≡◌, ◌⊎◌, ℕ, ◌+◌, ◌<◌, ◌≤◌, min, Bool, false, ◌==◌, List, [], ◌∷◌, length, get_or, Option, Some, None, slice_get, ◌↔◌, ⊤}
+use Rattle.std.specs.Prelude.{◌≡◌, ◌⊎◌, ℕ, ◌+◌, ◌<◌, ◌≤◌, min, Bool, false, ◌==◌, List, [], ◌∷◌, length, get_or, Option, Some, slice_get, ◌↔◌, ⊤}
 use Rattle.std.specs.List.{AllPairs, Contains, count_by}
 use Rattle.psy_base.specs.declared.limits.TheConstants.{SENDS}
 use Rattle.psy_base.specs.declared.ways.SendWay.{SendWay}

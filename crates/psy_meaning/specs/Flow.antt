@@ -1,5 +1,5 @@
 -- What follows a point of an agent, on all ways: the points that may come next, and the most that a way there costs and sends.
-use Rattle.std.specs.Prelude.{◌≡◌, ◌⊎◌, ℕ, ◌<◌, ◌≤◌, min, ◌==◌, List, Some, length, slice_get, ◌↔◌}
+use Rattle.std.specs.Prelude.{◌≡◌, ◌⊎◌, ℕ, ◌<◌, min, ◌==◌, List, Some, length, slice_get, ◌↔◌}
 use Rattle.std.specs.List.{count_by, Contains}
 use Rattle.psy_base.specs.Extremes.{IsGreatest}
 use Rattle.psy_base.specs.declared.limits.TheConstants.{SENDS}

@@ -164,12 +164,20 @@ fn expect_lists(rt: &impl Abort, lists: &Items<Items<Items<u32>>>, wanted: &[&[u
     assert_eq!(rt; own.len(), wanted.len());
     for (point, list) in wanted.iter().enumerate() {
         assert!(rt; point < own.len());
-        assert_eq!(rt; own.as_slice()[point].as_slice(), *list, "from point {point}");
+        assert_eq!(rt;
+            own.as_slice()[point].as_slice(),
+            *list,
+            "from point {point}"
+        );
     }
 }
 
 // The same for sends: where the ways end, the stream and the most sends.
-fn expect_sends(rt: &impl Abort, lists: &Items<Items<Items<SendWay>>>, wanted: &[&[(u32, u32, u64)]]) {
+fn expect_sends(
+    rt: &impl Abort,
+    lists: &Items<Items<Items<SendWay>>>,
+    wanted: &[&[(u32, u32, u64)]],
+) {
     assert_eq!(rt; lists.len(), 1);
     let own = &lists.as_slice()[0];
     assert_eq!(rt; own.len(), wanted.len());

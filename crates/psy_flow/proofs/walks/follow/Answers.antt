@@ -44,8 +44,8 @@ returns-clause-followed c =
     let passed : IsPassed instrs c.args.from place = subst (IsPassed instrs c.args.from) (sym read) (c.requires.met.passed (get_or places c.args.at 0) (Contains-get_or places c.args.at 0 c.requires.at)) in
     let (i, here) = there instrs place (c.requires.inside place passed) in
     subst (MayFollow instrs c.meet_some-2.new.places) read (followed instrs place i c.meet_some-2.new.places here
-        (λ p e. grown_has c.meet_some.new.places c.meet_some-2.new.places p c.in_ok-meet_some-2.ensures.grown (c.in_ok-meet_some.ensures.there p (e ∙ sym (ap (λ o. o.next) (c.goes_on_at-to.ensures i here)))))
-        (λ p e. c.in_ok-meet_some-2.ensures.there p (e ∙ sym (ap (λ o. o.jump) (c.goes_on_at-to.ensures i here)))))
+    (λ p e. grown_has c.meet_some.new.places c.meet_some-2.new.places p c.in_ok-meet_some-2.ensures.grown (c.in_ok-meet_some.ensures.there p (e ∙ sym (ap (λ o. o.next) (c.goes_on_at-to.ensures i here)))))
+    (λ p e. c.in_ok-meet_some-2.ensures.there p (e ∙ sym (ap (λ o. o.jump) (c.goes_on_at-to.ensures i here)))))
 
 pub returns-clause-grown : goal.returns-clause-grown
 returns-clause-grown c = grown_on c.args.places.now c.meet_some.new.places c.meet_some-2.new.places c.in_ok-meet_some.ensures.grown c.in_ok-meet_some-2.ensures.grown
