@@ -92,7 +92,7 @@ fn write_rates<S: Sink>(agents: &[AgentDecl], lines: &[Rate], out: &mut S) -> Re
     let count = agents.len().min(lines.len());
     'agents: for number in 0..count {
         let agent = &agents[number];
-        let line = lines[number];
+        let line = &lines[number];
         let note = Note::Rate {
             agent: agent.name.bytes(),
             rate: line.rate,
