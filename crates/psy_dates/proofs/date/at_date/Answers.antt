@@ -97,20 +97,20 @@ enter_all-requires-clause-room c =
     ∙ ap (λ xs. Some (settled_then date (first_date (timing_in plan (stream_at plan.unit stream).receiver)) (get_or old.seats.items (stream_at plan.unit stream).receiver nowhere) (get_or xs stream 0) queue)) c.deref-4.ensures.value))))
 
 pub publish_all-requires-clause-calendar : goal.publish_all-requires-clause-calendar
-publish_all-requires-clause-calendar c = (c.requires.stands.2).calendar
+publish_all-requires-clause-calendar c = (c.requires.stands.5).calendar
 
 pub pass-requires-clause-clocks : goal.pass-requires-clause-clocks
 pass-requires-clause-clocks c = subst (All IsClock) (sym c.as_slice-2.ensures) c.requires.plan.compiled.text.bare.clocks
 
 pub pass-requires-clause-count : goal.pass-requires-clause-count
-pass-requires-clause-count c = (c.requires.stands.2).calendar.count ∙ ap length (sym c.as_slice-2.ensures)
+pass-requires-clause-count c = (c.requires.stands.5).calendar.count ∙ ap length (sym c.as_slice-2.ensures)
 
 pub pass-requires-clause-nexts : goal.pass-requires-clause-nexts
-pass-requires-clause-nexts c = subst (λ clocks. AreNext clocks c.args.date c.args.shared.now.calendar) (sym c.as_slice-2.ensures) (c.requires.stands.2).calendar.nexts
+pass-requires-clause-nexts c = subst (λ clocks. AreNext clocks c.args.date c.args.shared.now.calendar) (sym c.as_slice-2.ensures) (c.requires.stands.5).calendar.nexts
 
 pub move_all-requires-clause-calendar : goal.move_all-requires-clause-calendar
 move_all-requires-clause-calendar c = record {
-  count = c.pass.ensures.count ∙ (c.requires.stands.2).calendar.count;
+  count = c.pass.ensures.count ∙ (c.requires.stands.5).calendar.count;
   nexts = subst (λ clocks. AreNext clocks (c.args.date + 1) c.pass.new.self) c.as_slice-2.ensures c.pass.ensures.nexts;
 }
 
@@ -148,7 +148,7 @@ moved_by c =
     with_items_is old.taken c.clear_takes.new.taken (c.clear_takes.auto.taken ∙ c.deref_mut-6.ensures.len) in
     let seats : (with_items old.seats c.move_all.new.seats).items ≡ c.move_all.new.seats =
     with_items_is old.seats c.move_all.new.seats (c.move_all.auto.seats ∙ c.deref_mut-7.ensures.len) in
-    let calendar : CalendarStands plan.unit.clocks date old.calendar = (c.requires.stands.2).calendar in
+    let calendar : CalendarStands plan.unit.clocks date old.calendar = (c.requires.stands.5).calendar in
     record {
       date_is = refl;
       seated = ap length seats ∙ c.move_all.auto.seats ∙ ap length c.deref_mut-7.ensures.value;
