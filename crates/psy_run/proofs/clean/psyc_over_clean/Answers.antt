@@ -15,4 +15,4 @@ returns-clause-complete c status text answers = elim (c.psyc.ensures.complete (f
 ]
 
 pub returns-clause-never : goal.returns-clause-never
-returns-clause-never c = (λ three. never_rose (c.psyc.ensures.read three).1.0.rose, λ four. never_rose (c.psyc.ensures.write four))
+returns-clause-never c = (λ three. never_rose (c.psyc.ensures.read three).1.rose, λ four. never_rose (c.psyc.ensures.write four))
