@@ -2,7 +2,6 @@
 //! through them one by one wouldn't be done in hours; the command has a limit far below.
 #![tactic(auto)]
 
-use psy_base::limits::UNTIL;
 use psy_door::SinkVec;
 use psy_run::{kernel_of, run_loop};
 use std::alloc::Global;
@@ -12,11 +11,14 @@ use std::process::ExitCode;
 const COUNTER: &[u8] = b"tick 1000000; clock c = 10 * tick; temporal v of A on c = 0 depth 1; \
 agent A on c budget 40 { int n = 0; body { n = n + 1; v = n; advance 1 on c; } }";
 
-/// What its run up to the last date that a program can have writes.
+/// The last date of its run.
+const LAST: u32 = 100_000;
+
+/// What its run writes.
 fn written(alloc: Global) -> Option<SinkVec> {
     let text = Vec::from_slice(alloc, COUNTER).ok()?;
-    let mut kernel = kernel_of(alloc, &text, UNTIL)?;
-    let room = 10 * UNTIL as usize;
+    let mut kernel = kernel_of(alloc, &text, LAST)?;
+    let room = 10 * LAST as usize;
     let mut out = SinkVec::new(alloc, room, room, Vec::new(alloc)).ok()?;
     run_loop(&mut kernel, &mut out).ok()?;
     Some(out)
