@@ -117,13 +117,15 @@ module _ (s : System) (ways : Ways) (code : Code) (laws : AreRunLaws code) (run 
       let firsts = first_copies s.unit agent in
       let numbers = range_with_len 0 (length (agent_code_at code agent).cells) in
       let copies : List Copy = map (λ (c : Copy). record { variable = c.variable; value = pos 0 }) firsts in
-      let carried : Carried = record { cells = map (λ n. pos 0) numbers; copies = copies } in
-      (carried, record {
-        cells = length-map-range_with_len (λ n. pos 0) 0 (length (agent_code_at code agent).cells);
-        values = all_made (FitsSigned w32) (λ n. pos 0) numbers (λ n. zero_fits);
-        variables = map-map (λ (c : Copy). c.variable) (λ (c : Copy). record { variable = c.variable; value = pos 0 }) firsts;
-        copies = All-map (λ (c : Copy). FitsSigned w32 c.value) (λ (c : Copy). record { variable = c.variable; value = pos 0 }) firsts (λ i d less. zero_fits);
-      })
+      let carried : Carried = record { cells = map (λ n. pos 0) numbers; copies = copies } in (
+        carried,
+        record {
+          cells = length-map-range_with_len (λ n. pos 0) 0 (length (agent_code_at code agent).cells);
+          values = all_made (FitsSigned w32) (λ n. pos 0) numbers (λ n. zero_fits);
+          variables = map-map (λ (c : Copy). c.variable) (λ (c : Copy). record { variable = c.variable; value = pos 0 }) firsts;
+          copies = All-map (λ (c : Copy). FitsSigned w32 c.value) (λ (c : Copy). record { variable = c.variable; value = pos 0 }) firsts (λ i d less. zero_fits);
+        },
+      )
 
   -- The longest of an agent lasts a tick at least.
   pub lasts_some : (agent : ℕ) → agent < length s.unit.agents → (longest : ℕ) → IsGreatest (MayLast (timing s agent)) longest → 1 ≤ longest
