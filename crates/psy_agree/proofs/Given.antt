@@ -10,6 +10,7 @@ use Rattle.psy_base.specs.declared.message.Message.{Message}
 use Rattle.psy_base.specs.declared.sizes.Sizes.{Sizes}
 use Rattle.psy_budget.specs.declared.charge.Stall.{Stall}
 use Rattle.psy_door.specs.Files.{Files}
+use Rattle.psy_flow.specs.Costs.{AreAllCosts}
 use Rattle.psy_graph.specs.declared.graph.Graph.{Graph}
 use Rattle.psy_graph.specs.Graphs.{AreGraphs}
 use Rattle.psy_graph.specs.Near.{IsNear}
@@ -40,7 +41,6 @@ use Rattle.psy_run.specs.Answer.{Supply, answering, checking, compiling, drawing
 use Rattle.psy_run.specs.Bounds.{IsBounded, KeepsBounds}
 use Rattle.psy_run.specs.Courses.{in_row}
 use Rattle.psy_run.specs.Services.{Service, Ran, Drawn, meaning_of, no_inputs, no_script, text_of}
-use Rattle.psy_run.specs.Steps.{AreAllCosts}
 use Rattle.psy_script.specs.Inputs.{AreListsOf}
 use Rattle.psy_run.specs.Asked.{Asks, Command, asks_check, asks_graph, asks_make, asks_run, asks_run_with_inputs, asks_run_with_script, asks_trial}
 use Rattle.psy_history.specs.Scripts.{order_of, stalls_of}

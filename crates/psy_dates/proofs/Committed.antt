@@ -13,7 +13,7 @@ use Rattle.psy_dates.specs.declared.seat.Phase.TheVariants as phase
 use Rattle.psy_dates.specs.declared.seat.Seat.{Seat}
 use Rattle.psy_dates.specs.Moves.{ends_at, ends_by}
 use Rattle.psy_dates.specs.Standing.{IsSeated, KeepsCopy, SeatOf, TellsEnd, phase_by, phase_of}
-use Rattle.psy_dates.proofs.Begun.{ends_none, seat_of_last}
+use Rattle.psy_dates.proofs.lemmas.Begun.{ends_none, seat_of_last}
 use Rattle.psy_dates.proofs.Histories.{goes_on, is_regular, starts, stays, was_started}
 use Rattle.psy_dates.proofs.Phases.{by_ended, ended_before, of_done}
 use Rattle.psy_dates.proofs.Seats.{acting}

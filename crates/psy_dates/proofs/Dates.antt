@@ -25,7 +25,7 @@ use Rattle.psy_dates.specs.Outboxes.{Outboxed}
 use Rattle.psy_dates.specs.Plans.{opened_of, system_of}
 use Rattle.psy_dates.specs.Publications.{ring_then}
 use Rattle.psy_dates.specs.Standing.{IsSeated, KeepsCopy, KeepsTakes, NoneActs, OutboxStands, RingStands, SharedStands, committed_by, dates_done}
-use Rattle.psy_dates.proofs.Begun.{AreBegun, none_numbered, seat_of_last}
+use Rattle.psy_dates.proofs.lemmas.Begun.{AreBegun, none_numbered, seat_of_last}
 use Rattle.psy_dates.proofs.Committed.{committed_moves, kept_moves}
 use Rattle.psy_dates.proofs.Histories.{few, numbered, was_started}
 use Rattle.psy_dates.proofs.Publications.{Goes, ring_moves}

@@ -16,7 +16,7 @@ use Rattle.psy_dates.specs.declared.seat.Phase.TheVariants as phase
 use Rattle.psy_dates.specs.declared.seat.Seat.{Seat}
 use Rattle.psy_dates.specs.Moves.{ends_at, ends_by, seat_by, seat_then}
 use Rattle.psy_dates.specs.Standing.{IsSeated, KeepsSends, KeepsTakes, phase_by, phase_of}
-use Rattle.psy_dates.proofs.Begun.{ends_none, seat_of_last}
+use Rattle.psy_dates.proofs.lemmas.Begun.{ends_none, seat_of_last}
 use Rattle.psy_dates.proofs.Endings.{tells}
 use Rattle.psy_dates.proofs.Histories.{goes_on, numbered, starts, stays, was_started}
 use Rattle.psy_dates.proofs.Phases.{ended_before}

@@ -1,4 +1,5 @@
 -- The lemmas of this crate, by subject.
+pub mod lemmas
 mod Calendars
 mod Committed
 mod Dates
@@ -15,4 +16,3 @@ mod Seats
 mod StreamLaws
 mod StreamsThen
 mod Values
-mod Begun

@@ -17,7 +17,7 @@ use Rattle.psy_dates.specs.Messages.{gone_by, settled_then, sweeps_by}
 use Rattle.psy_dates.specs.Moves.{ends_at}
 use Rattle.psy_dates.specs.Standing.{IsSeated, KeepsSends, KeepsTakes}
 use Rattle.psy_dates.proofs.Endings.{tells}
-use Rattle.psy_dates.proofs.Begun.{AreBegun, ends_none, seat_of_last}
+use Rattle.psy_dates.proofs.lemmas.Begun.{AreBegun, ends_none, seat_of_last}
 use Rattle.psy_dates.proofs.Entering.{length_entered}
 use Rattle.psy_dates.proofs.Histories.{goes_on, is_regular, starts, stays, was_started}
 

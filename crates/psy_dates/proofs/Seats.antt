@@ -12,7 +12,7 @@ use Rattle.psy_dates.specs.declared.seat.Phase.TheVariants as phase
 use Rattle.psy_dates.specs.declared.seat.Seat.{Seat}
 use Rattle.psy_dates.specs.Moves.{begun_at, seat_by, seat_then}
 use Rattle.psy_dates.specs.Standing.{IsQuiet, IsSeated, SeatOf, SeatStands, TellsEnd, phase_by, phase_of}
-use Rattle.psy_dates.proofs.Begun.{AreBegun}
+use Rattle.psy_dates.proofs.lemmas.Begun.{AreBegun}
 use Rattle.psy_dates.proofs.Histories.{goes_on, is_regular, starts, stays, was_started}
 use Rattle.psy_dates.proofs.Phases.{of_done, of_started, of_stopped, tells_acting, tells_silent}
 

@@ -28,7 +28,7 @@ use Rattle.psy_dates.specs.Moves.{ends_at, seat_then, timing_in}
 use Rattle.psy_dates.specs.Outboxes.{Outboxed}
 use Rattle.psy_dates.specs.Plans.{opened_of, system_of}
 use Rattle.psy_dates.specs.Standing.{Begins, GoesOn, IsSeated, KeepsSends, KeepsTakes, NoneActs, OutboxStands, QueueStands, SharedStands}
-use Rattle.psy_dates.proofs.Begun.{AreBegun, ends_none, seat_of_last, stands_behind}
+use Rattle.psy_dates.proofs.lemmas.Begun.{AreBegun, ends_none, seat_of_last, stands_behind}
 use Rattle.psy_dates.proofs.Endings.{tells}
 use Rattle.psy_dates.proofs.Entering.{length_entered}
 use Rattle.psy_dates.proofs.Histories.{was_started}

@@ -1,4 +1,5 @@
 -- The definitions of this crate, by subject.
+pub mod Beginnings
 pub mod BoxStanding
 pub mod Calendars
 pub mod Messages

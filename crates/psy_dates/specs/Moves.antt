@@ -1,5 +1,5 @@
 -- What a date does: to the seats of agents, and to the values committed.
-use Rattle.std.specs.Prelude.{◌≡◌, ℕ, ◌+◌, ◌<◌, ◌^◌, ◌==◌, Bool, false, nat_le, if◌then◌else◌, List, [], Option, Some, None, slice_get, get_or, pos}
+use Rattle.std.specs.Prelude.{◌≡◌, ℕ, ◌+◌, ◌<◌, ◌^◌, ◌==◌, Bool, false, nat_le, if◌then◌else◌, List, [], Option, Some, None, slice_get, get_or}
 use Rattle.psy_tree.specs.declared.unit.VarDecl.{VarDecl}
 use Rattle.psy_tree.specs.Parts.{agent_at, no_variable}
 use Rattle.psy_meaning.specs.Timing.{Timing, timing_of, first_date, deadline}

@@ -1,6 +1,6 @@
 //! By clock its next date.
 
-ghost use Rattle.std.specs.Prelude.{◌≡◌, ◌+◌, ◌^◌, ◌<◌, ◌≤◌, IfOk, IsFalse, Some, get_or, length, slice_get};
+ghost use Rattle.std.specs.Prelude.{◌≡◌, ℕ, ◌+◌, ◌^◌, ◌<◌, ◌≤◌, IfOk, IsFalse, IsTrue, Some, false, get_or, length, slice_get, true};
 ghost use Rattle.std.specs.List.{All};
 ghost use Rattle.psy_clock.specs.Dates.{IsClock, from_date};
 ghost use Rattle.psy_history.specs.Lines.{is_date};
@@ -134,6 +134,22 @@ impl Calendar {
         ensures { result ≡ is_date (get_or clocks.now clock no_clock) date }
     {
         had(clocks[clock as usize], date, self.next(clock))
+    }
+
+    /// Whether some clock has a date, when each clock's next one behind it is told.
+    pub fn any_had(&self, clocks: &[Clock], date: u64) -> bool
+        requires clocks { All IsClock clocks.now }
+        requires early { date ≤ 2 ^ 40 }
+        requires stands { CalendarStands clocks.now (date + 1) self.now }
+        ensures some { IsTrue result → (clock : ℕ) × (clock < length clocks.now) × (is_date (get_or clocks.now clock no_clock) date ≡ true) }
+        ensures none { IsFalse result → (clock : ℕ) → clock < length clocks.now → is_date (get_or clocks.now clock no_clock) date ≡ false }
+    {
+        'clocks: for clock in 0..clocks.len() {
+            if had(clocks[clock], date, self.nexts[clock]) {
+                return true;
+            }
+        }
+        false
     }
 
     /// A date passes: each clock that had it next goes on to its next one.

@@ -10,6 +10,7 @@ mod date;
 mod due;
 mod enters;
 mod moves;
+mod opening;
 mod outbox;
 mod plan;
 mod rings;
@@ -19,6 +20,7 @@ mod shared;
 
 pub use calendar::Calendar;
 pub use date::at_date;
+pub use opening::{AgentOpening, Opening, Standing, StreamOpening, VarOpening};
 pub use outbox::Outbox;
 pub use plan::Plan;
 pub use psy_code::Sent;

@@ -30,7 +30,7 @@ bare_layer (Stmt-F.Timed test body) h = absurd (h.timed test body (stmt.rolls-Ti
 bare_layer (Stmt-F.Bounded test most body) h = absurd (h.bounded test most body (stmt.rolls-Bounded test most body))
 bare_layer x h = para-roll-Stmt Rests rests_step x
 
-rests_bare : (t : Stmt) → Bare t → rests_of t ≡ []
+pub rests_bare : (t : Stmt) → Bare t → rests_of t ≡ []
 rests_bare = ind-Stmt (λ t. Bare t → rests_of t ≡ []) (λ x y is. bare_layer x)
 
 pub nothing_in : (t : Stmt) (n : ℕ) → Bare t → n ≡ length (rests_of t) + n

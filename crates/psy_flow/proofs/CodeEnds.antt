@@ -1,12 +1,12 @@
 -- The points where ways through code end: those of the `Advance` instructions that are passed.
-use Rattle.std.proofs.Common.{◌≡◌, ◌⊎◌, ℕ, ◌+◌, ◌<◌, ◌||◌, Bool, true, false, List, [], ◌∷◌, length, get_or, nat_eq, replicate, Option, None, Some, refl, sym, ap, subst, ◌∙◌, inl, inr, arith}
-use Rattle.std.specs.Prelude.{◌↔◌, ◌≢◌, slice_get}
-use Rattle.std.specs.List.{All, Any, Contains, list_any}
+use Rattle.std.proofs.Common.{◌≡◌, ℕ, ◌<◌, Bool, true, false, List, [], ◌∷◌, replicate, Option, None, Some, refl, ap, ◌∙◌, arith}
+use Rattle.std.specs.Prelude.{◌≢◌, slice_get}
+use Rattle.std.specs.List.{list_any}
 use Rattle.std.proofs.lemmas.Bool.{false≢true}
 use Rattle.std.proofs.lemmas.List.Folds.{Any-from_list_any, list_any_at}
 use Rattle.psy_code.specs.declared.instr.Instr.{Instr}
 use Rattle.psy_code.specs.declared.instr.Instr.TheVariants as instr
-use Rattle.psy_meaning.specs.CodeWays.{AreCodeNexts, GoesOn, IsCodeWay, IsPassed, ends, first, goes, later}
+use Rattle.psy_meaning.specs.CodeWays.{AreCodeNexts, IsCodeWay, IsPassed, ends, first, goes, later}
 use Rattle.psy_flow.specs.Reach.{marked, numbers_of}
 use Rattle.psy_flow.specs.Walks.{ArePassed, ends_at, ends_there, end_of}
 use Rattle.psy_flow.proofs.MarkedNumbers.{numbered, numbers, numbers_rise}

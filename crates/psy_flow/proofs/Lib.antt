@@ -1,11 +1,16 @@
 -- The lemmas of this crate, by subject.
 mod AllNexts
+mod AndOns
 mod BehindTops
 mod CallTops
 mod Capped
 mod CappedCosts
 mod CodeEnds
+mod CodeRows
+mod CodeSendCounts
+mod CodeSpots
 mod CostRows
+mod CountsThen
 mod Cuts
 mod DelaysAmong
 mod Greatest
@@ -21,13 +26,18 @@ mod NextPoints
 mod OneList
 mod Onwards
 mod Ordered
+mod PartKinds
+mod PassRows
 mod PointTops
+mod QuestWays
+mod RaisedTo
 mod ReachPieces
 mod ReachRests
 mod ReachTops
 mod ReachVariants
 mod Related
 mod Rests
+mod Rounds
 mod Rows
 mod SendsUpTo
 mod Silent
@@ -39,3 +49,5 @@ mod Turnings
 mod Uncapped
 mod WalksMet
 mod WayRows
+mod WorthCells
+mod WorstCosts

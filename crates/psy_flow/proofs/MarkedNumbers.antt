@@ -70,7 +70,7 @@ marked_set n (suc count) (suc k) also s =
     let (less, held) = marked_set (n + 1) count k also s in
     (omega (arith, less), ap also next ∙ held)
 
-set_marked : (n count k : ℕ) (also : ℕ → Bool) → k < count → also (n + k) ≡ true → slice_get (marked_from n (replicate count false) also) k ≡ Some true
+pub set_marked : (n count k : ℕ) (also : ℕ → Bool) → k < count → also (n + k) ≡ true → slice_get (marked_from n (replicate count false) also) k ≡ Some true
 set_marked n zero k also l e = absurd (omega (arith, l))
 set_marked n (suc count) zero also l e = let here : n ≡ n + 0 = omega arith in ap Some (ap also here ∙ e)
 set_marked n (suc count) (suc k) also l e =

@@ -10,7 +10,7 @@ use Rattle.psy_flow.specs.Tops.{in_step, falling, plus, greater, behind, or_else
 use Rattle.psy_flow.proofs.Limits.{same_tops, capped-capped, capped-and_on, behind_like, step_is}
 use Rattle.psy_flow.proofs.Throughs.{and_on-last, through-append}
 
-greater-none : (x : Option ℕ) → greater x None ≡ x
+pub greater-none : (x : Option ℕ) → greater x None ≡ x
 greater-none None = refl
 greater-none (Some a) = refl
 

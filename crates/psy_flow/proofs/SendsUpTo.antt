@@ -1,19 +1,16 @@
 -- The sends on the ways from a point, one stream and one next point after the other.
 use Rattle.std.proofs.Common.{◌≡◌, ◌⊎◌, ℕ, ◌+◌, ◌<◌, ◌≤◌, Bool, true, false, List, [], ◌∷◌, ◌++◌, length, get_or, take, refl, sym, ap, subst, ◌∙◌, inl, inr, arith}
-use Rattle.std.specs.Prelude.{nat_lt}
-use Rattle.std.specs.List.{Contains}
+use Rattle.std.specs.Prelude.{nat_lt, ◌↔◌}
+use Rattle.std.specs.List.{AllPairs, Contains}
 use Rattle.std.proofs.lemmas.Bool.{cases_lt}
 use Rattle.std.proofs.lemmas.List.{append-nil, take_more, length-take-le, get_or-take, get_or_default}
 use Rattle.std.proofs.lemmas.List.Elements.{Contains-append_left, Contains-push, Contains-push_cases, Contains-get_or}
 use Rattle.std.proofs.lemmas.List.Quantifiers.{all_pairs_push}
 use Rattle.std.proofs.lemmas.Option.{slice_get-get_or}
 use Rattle.psy_base.specs.declared.ways.SendWay.{SendWay}
-use Rattle.psy_tree.specs.declared.unit.AgentDecl.{AgentDecl}
-use Rattle.psy_tree.specs.declared.unit.FunctionDecl.{FunctionDecl}
-use Rattle.psy_meaning.specs.Flow.{IsMostSends, Rises}
-use Rattle.psy_meaning.specs.ListedWays.{AreSends, IsSendWay, IsWayBefore}
+use Rattle.psy_meaning.specs.Flow.{Rises}
+use Rattle.psy_meaning.specs.ListedWays.{IsWayBefore}
 use Rattle.psy_flow.specs.Listed.{some_way, IsUpTo, AreSendsUpTo, AreSendsAmong}
-use Rattle.psy_flow.proofs.Cuts.{one_most}
 
 -- A way of sends by its parts
 abbrev send_way : ℕ → ℕ → ℕ → SendWay
@@ -44,9 +41,9 @@ less_before xs rise i inside n (k, short, is) less =
     not_below k (inl above) here high short = omega (arith, rising xs rise i k above short, here, less)
     not_below k (inr not) here high short = let same : k ≡ i = omega (arith, not, high) in omega (arith, ap (λ j. get_or xs j 0) same, here, less)
 
-module _ (functions : List FunctionDecl) (agent : AgentDecl) (point : ℕ) where
+module _ (Most : ℕ → ℕ → ℕ → Type 0) (one : (to stream n m : ℕ) → Most to stream n → Most to stream m → n ≡ m) where
   abbrev pub Is : SendWay → Type 0
-  Is way = IsSendWay functions agent point way
+  Is way = Most way.to way.stream way.most × (1 ≤ way.most)
 
   -- ---- one stream more
 
@@ -66,7 +63,7 @@ module _ (functions : List FunctionDecl) (agent : AgentDecl) (point : ℕ) where
   same_way : (way other : SendWay) → way.to ≡ other.to → way.stream ≡ other.stream → way.most ≡ other.most → way ≡ other
   same_way way other a b c = ap (λ t. send_way t way.stream way.most) a ∙ ap (λ s. send_way other.to s way.most) b ∙ ap (λ m. send_way other.to other.stream m) c
 
-  with_one : (to stream : ℕ) (sends : List SendWay) (new : SendWay) → new.to ≡ to → new.stream ≡ stream → AreSendsUpTo functions agent point to stream sends → Is new → AreSendsUpTo functions agent point to (stream + 1) (sends ++ new ∷ [])
+  with_one : (to stream : ℕ) (sends : List SendWay) (new : SendWay) → new.to ≡ to → new.stream ≡ stream → AreSendsUpTo Most to stream sends → Is new → AreSendsUpTo Most to (stream + 1) (sends ++ new ∷ [])
   with_one to stream sends new a b kept is = record {
     rise = all_pairs_push IsWayBefore sends new kept.rise (λ k d inside. (
         let up = ((kept.each (get_or sends k d)).0 (Contains-get_or sends k d inside)).0 in
@@ -81,13 +78,13 @@ module _ (functions : List FunctionDecl) (agent : AgentDecl) (point : ℕ) where
         | inr (e, f) ↦ (
             let first : new.to ≡ way.to = a ∙ sym e in
             let second : new.stream ≡ way.stream = b ∙ sym f in
-            let third : new.most ≡ way.most = one_most functions agent point way.to way.stream new.most way.most (subst (λ s. IsMostSends functions agent point way.to s new.most) second (subst (λ t. IsMostSends functions agent point t new.stream new.most) first is.0)) sent.0 in
+            let third : new.most ≡ way.most = one way.to way.stream new.most way.most (subst (λ s. Most way.to s new.most) second (subst (λ t. Most t new.stream new.most) first is.0)) sent.0 in
             subst (Contains (sends ++ new ∷ [])) (same_way new way first second third) (Contains-push sends new))
       ]),
     );
   }
 
-  without : (to stream : ℕ) (sends : List SendWay) → AreSendsUpTo functions agent point to stream sends → IsMostSends functions agent point to stream 0 → AreSendsUpTo functions agent point to (stream + 1) sends
+  without : (to stream : ℕ) (sends : List SendWay) → AreSendsUpTo Most to stream sends → Most to stream 0 → AreSendsUpTo Most to (stream + 1) sends
   without to stream sends kept none = record {
     rise = kept.rise;
     each = λ way. (
@@ -95,34 +92,34 @@ module _ (functions : List FunctionDecl) (agent : AgentDecl) (point : ℕ) where
       (λ (up, sent). elim (up_or to stream way up) [
         | inl before ↦ (kept.each way).1 (before, sent)
         | inr (e, f) ↦ (
-            let same = one_most functions agent point to stream way.most 0 (subst (λ s. IsMostSends functions agent point to s way.most) f (subst (λ t. IsMostSends functions agent point t way.stream way.most) e sent.0)) none in
+            let same = one to stream way.most 0 (subst (λ s. Most to s way.most) f (subst (λ t. Most t way.stream way.most) e sent.0)) none in
             absurd (omega (arith, same, sent.1)))
       ]),
     );
   }
 
-  more_by : (to stream most : ℕ) (sends : List SendWay) (b : Bool) → nat_lt 0 most ≡ b → AreSendsUpTo functions agent point to stream sends → IsMostSends functions agent point to stream most → AreSendsUpTo functions agent point to (stream + 1) (sends ++ some_way (record { to = to; stream = stream; most = most }))
+  more_by : (to stream most : ℕ) (sends : List SendWay) (b : Bool) → nat_lt 0 most ≡ b → AreSendsUpTo Most to stream sends → Most to stream most → AreSendsUpTo Most to (stream + 1) (sends ++ some_way (record { to = to; stream = stream; most = most }))
   more_by to stream most sends true so kept is =
       let new : SendWay = record { to = to; stream = stream; most = most } in
       let some : 1 ≤ most = grind (arith, so) in
       rw so (with_one to stream sends new refl refl kept (is, some))
   more_by to stream most sends false so kept is =
       let none : most ≡ 0 = grind (arith, so) in
-      rw so (subst (AreSendsUpTo functions agent point to (stream + 1)) (sym (append-nil sends)) (without to stream sends kept (subst (IsMostSends functions agent point to stream) none is)))
+      rw so (subst (AreSendsUpTo Most to (stream + 1)) (sym (append-nil sends)) (without to stream sends kept (subst (Most to stream) none is)))
 
-  pub sends_more : (to stream most : ℕ) (sends : List SendWay) → AreSendsUpTo functions agent point to stream sends → IsMostSends functions agent point to stream most → AreSendsUpTo functions agent point to (stream + 1) (sends ++ some_way (record { to = to; stream = stream; most = most }))
+  pub sends_more : (to stream most : ℕ) (sends : List SendWay) → AreSendsUpTo Most to stream sends → Most to stream most → AreSendsUpTo Most to (stream + 1) (sends ++ some_way (record { to = to; stream = stream; most = most }))
   sends_more to stream most sends kept is = more_by to stream most sends (nat_lt 0 most) refl kept is
 
   -- ---- one next point more
 
-  pub among_none : AreSendsAmong functions agent point [] []
+  pub among_none : AreSendsAmong Most [] []
   among_none = record {
     rise = λ i j d less inside. absurd (omega (arith, inside));
     each = λ way. ((λ c. absurd (omega (arith, c.1))), (λ (c, sent). absurd (omega (arith, c.1))));
   }
 
   module _ (nexts : List ℕ) (streams : ℕ) (rise : Rises nexts) (there : (way : SendWay) → Is way → (way.stream < streams) × Contains nexts way.to) where
-    pub among_up : (i : ℕ) (sends : List SendWay) → i < length nexts → AreSendsAmong functions agent point (take i nexts) sends → AreSendsUpTo functions agent point (get_or nexts i 0) 0 sends
+    pub among_up : (i : ℕ) (sends : List SendWay) → i < length nexts → AreSendsAmong Most (take i nexts) sends → AreSendsUpTo Most (get_or nexts i 0) 0 sends
     among_up i sends inside kept = record {
       rise = kept.rise;
       each = λ way. (
@@ -134,11 +131,11 @@ module _ (functions : List FunctionDecl) (agent : AgentDecl) (point : ℕ) where
       );
     }
 
-    pub up_among : (i : ℕ) (sends : List SendWay) → i < length nexts → AreSendsUpTo functions agent point (get_or nexts i 0) streams sends → AreSendsAmong functions agent point (take (i + 1) nexts) sends
+    pub up_among : (i : ℕ) (sends : List SendWay) → i < length nexts → AreSendsUpTo Most (get_or nexts i 0) streams sends → AreSendsAmong Most (take (i + 1) nexts) sends
     up_among i sends inside kept =
         let to = get_or nexts i 0 in
         let more : take (i + 1) nexts ≡ take i nexts ++ to ∷ [] = take_more nexts i 0 inside in
-        subst (λ ns. AreSendsAmong functions agent point ns sends) (sym more) (record {
+        subst (λ ns. AreSendsAmong Most ns sends) (sym more) (record {
           rise = kept.rise;
           each = λ way. (
             (λ c. let (up, sent) = (kept.each way).0 c in
@@ -153,5 +150,5 @@ module _ (functions : List FunctionDecl) (agent : AgentDecl) (point : ℕ) where
           );
         })
 
-    pub among_all : (sends : List SendWay) → AreSendsAmong functions agent point nexts sends → AreSends functions agent point sends
-    among_all sends kept = record { rise = kept.rise; each = λ way. ((λ c. ((kept.each way).0 c).1), (λ sent. (kept.each way).1 ((there way sent).1, sent))) }
+    pub among_all : (sends : List SendWay) → AreSendsAmong Most nexts sends → AllPairs IsWayBefore sends × ((way : SendWay) → Contains sends way ↔ Is way)
+    among_all sends kept = (kept.rise, (λ way. ((λ c. ((kept.each way).0 c).1), (λ sent. (kept.each way).1 ((there way sent).1, sent)))))

@@ -145,6 +145,53 @@ module _ (instrs : List Instr) (from : ℕ) where
     each = λ place. ((λ c. met.passed place c), (λ passed. met_all marks places met begun done place passed));
   }
 
+-- ---- marks taken away
+
+-- What is still marked when so many of the places aren't any more
+pub record AreLeft (before marks : List Bool) (places : List ℕ) (done : ℕ) : Type 0 where
+  pub count : length marks ≡ length before
+  pub left : (place : ℕ) → IsMarked marks place → (k : ℕ) × (done ≤ k) × (k < length places) × (get_or places k 0 ≡ place)
+
+pub left_all : (marks : List Bool) (places : List ℕ) → ((place : ℕ) → IsMarked marks place → Contains places place) → AreLeft marks marks places 0
+left_all marks places listed = record {
+  count = refl;
+  left = λ place m. (let (k, less, is) = listed place m in (k, omega arith, less, get_or_default places k 0 place less ∙ is));
+}
+
+length-unmarked : (marks : List Bool) (p : ℕ) → length (slice_set marks p false) ≡ length marks
+length-unmarked [] p = refl
+length-unmarked (m ∷ marks) zero = refl
+length-unmarked (m ∷ marks) (suc p) = omega (arith, length-unmarked marks p)
+
+-- Where a mark is taken away, another stood before.
+marked_other : (marks : List Bool) (p q : ℕ) → IsMarked (slice_set marks p false) q → IsMarked marks q × (p ≡ q → ⊥)
+marked_other [] p q h = absurd (none-some true h)
+marked_other (m ∷ marks) zero zero h = absurd (false≢true (same_Some false true h))
+marked_other (m ∷ marks) zero (suc q) h = (h, λ e. omega (arith, e))
+marked_other (m ∷ marks) (suc p) zero h = (h, λ e. omega (arith, e))
+marked_other (m ∷ marks) (suc p) (suc q) h = let (was, other) = marked_other marks p q h in (was, λ e. other (omega (arith, e)))
+
+pub left_less : (before marks : List Bool) (places : List ℕ) (k : ℕ) → get_or places k 0 < length marks → AreLeft before marks places k → AreLeft before (slice_set marks (get_or places k 0) false) places (k + 1)
+left_less before marks places k inside kept = record {
+  count = length-unmarked marks (get_or places k 0) ∙ kept.count;
+  left = λ place m. (
+      let (was, other) = marked_other marks (get_or places k 0) place m in
+      let (j, low, less, is) = kept.left place was in
+      elim (cases_lt k j) [
+        | inl above ↦ (j, omega (arith, above), less, is)
+        | inr not ↦ (let same : k ≡ j = omega (arith, low, not) in absurd (other (ap (λ n. get_or places n 0) same ∙ is)))
+      ]);
+}
+
+no_mark : (marks : List Bool) → ((place : ℕ) → IsMarked marks place → ⊥) → marks ≡ replicate (length marks) false
+no_mark [] none = refl
+no_mark (true ∷ marks) none = absurd (none 0 refl)
+no_mark (false ∷ marks) none = ap (λ ms. false ∷ ms) (no_mark marks (λ place m. none (suc place) m))
+
+pub left_none : (before marks : List Bool) (places : List ℕ) (done : ℕ) → length places ≤ done → AreLeft before marks places done → marks ≡ replicate (length before) false
+left_none before marks places done all kept =
+    no_mark marks (λ place m. (let (k, low, less, is) = kept.left place m in omega (arith, low, less, all))) ∙ ap (λ n. replicate n false) kept.count
+
 -- ---- after one instruction
 
 -- Where a way may go on after an instruction that is passed, it passes.

@@ -53,7 +53,7 @@ AllSendsAt unit number lists = (agent : AgentDecl) → slice_get unit.agents num
 
 -- ---- of all agents
 
-counts_same : {X : Type 0} (lists : List (List X)) (agents : List AgentDecl) → length lists ≡ length agents → ((i : ℕ) (list : List X) (a : AgentDecl) → slice_get lists i ≡ Some list → slice_get agents i ≡ Some a → length list ≡ length a.points) →
+pub counts_same : {X : Type 0} (lists : List (List X)) (agents : List AgentDecl) → length lists ≡ length agents → ((i : ℕ) (list : List X) (a : AgentDecl) → slice_get lists i ≡ Some list → slice_get agents i ≡ Some a → length list ≡ length a.points) →
     map length lists ≡ map (λ (a : AgentDecl). length a.points) agents
 counts_same [] [] count each = refl
 counts_same [] (a ∷ agents) count each = absurd (omega (arith, count))

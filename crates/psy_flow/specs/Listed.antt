@@ -1,5 +1,5 @@
 -- The lists of an agent's ways while they grow.
-use Rattle.std.specs.Prelude.{◌≡◌, ◌⊎◌, ◌↔◌, ℕ, ◌<◌, ◌==◌, nat_lt, Bool, if◌then◌else◌, List, [], ◌∷◌, filter, map, length, Some, slice_get}
+use Rattle.std.specs.Prelude.{◌≡◌, ◌⊎◌, ◌↔◌, ℕ, ◌<◌, ◌≤◌, ◌==◌, nat_lt, Bool, if◌then◌else◌, List, [], ◌∷◌, filter, map, length, Some, slice_get}
 use Rattle.std.specs.List.{AllPairs, Contains}
 use Rattle.psy_base.specs.Extremes.{most_of}
 use Rattle.psy_base.specs.declared.ways.SendWay.{SendWay}
@@ -7,7 +7,7 @@ use Rattle.psy_tree.specs.declared.unit.AgentDecl.{AgentDecl}
 use Rattle.psy_tree.specs.declared.unit.FunctionDecl.{FunctionDecl}
 use Rattle.psy_tree.specs.declared.unit.Unit.{Unit as Whole}
 use Rattle.psy_meaning.specs.Flow.{AreNexts, MayLook}
-use Rattle.psy_meaning.specs.ListedWays.{AreLooks, AreSends, IsSendWay, IsWayBefore}
+use Rattle.psy_meaning.specs.ListedWays.{AreLooks, AreSends, IsWayBefore}
 use Rattle.psy_meaning.specs.QueueSizes.{delay_of}
 use Rattle.psy_meaning.specs.Ways.{Sending}
 use Rattle.psy_flow.specs.declared.listed.AgentWays.{AgentWays}
@@ -33,15 +33,15 @@ some_way way = if nat_lt 0 way.most then way ∷ [] else []
 abbrev pub IsUpTo : ℕ → ℕ → SendWay → Type 0
 IsUpTo to streams way = (way.to < to) ⊎ ((way.to ≡ to) × (way.stream < streams))
 
--- All such sends of the ways from a point
-pub record AreSendsUpTo (functions : List FunctionDecl) (agent : AgentDecl) (point to streams : ℕ) (sends : List SendWay) : Type 0 where
+-- All such ways that have some sends, where these are the most of them by end and stream
+pub record AreSendsUpTo (Most : ℕ → ℕ → ℕ → Type 0) (to streams : ℕ) (sends : List SendWay) : Type 0 where
   pub rise : AllPairs IsWayBefore sends
-  pub each : (way : SendWay) → Contains sends way ↔ (IsUpTo to streams way × IsSendWay functions agent point way)
+  pub each : (way : SendWay) → Contains sends way ↔ (IsUpTo to streams way × (Most way.to way.stream way.most × (1 ≤ way.most)))
 
--- All sends of the ways from a point to some points
-pub record AreSendsAmong (functions : List FunctionDecl) (agent : AgentDecl) (point : ℕ) (nexts : List ℕ) (sends : List SendWay) : Type 0 where
+-- All ways to some points that have some sends
+pub record AreSendsAmong (Most : ℕ → ℕ → ℕ → Type 0) (nexts : List ℕ) (sends : List SendWay) : Type 0 where
   pub rise : AllPairs IsWayBefore sends
-  pub each : (way : SendWay) → Contains sends way ↔ (Contains nexts way.to × IsSendWay functions agent point way)
+  pub each : (way : SendWay) → Contains sends way ↔ (Contains nexts way.to × (Most way.to way.stream way.most × (1 ≤ way.most)))
 
 -- ---- delays
 

@@ -1,6 +1,6 @@
 //! The delays of the sends of a program's text.
 
-ghost use Rattle.std.specs.Prelude.{◌≡◌, ℕ, ◌+◌, ◌-◌, ◌*◌, IfOk};
+ghost use Rattle.std.specs.Prelude.{◌≡◌, ◌+◌, ◌-◌, ◌*◌, IfOk};
 ghost use Rattle.psy_meaning.specs.ListedWays.{AreDelays};
 ghost use Rattle.psy_meaning.specs.QueueSizes.{longest_delay, period_of, sendings_in, sendings_of};
 ghost use Rattle.psy_meaning.specs.Units.{IsOfText};
@@ -20,8 +20,8 @@ fn period(unit: &Unit, clock: u32) -> u32
     }
 }
 
-// The most ticks from the end of an action to the date from which a message is visible that it sends `after` dates of a clock.
-fn delay(unit: &Unit, after: u32, clock: u32) -> u64
+/// The most ticks from the end of an action to the date from which a message is visible that it sends `after` dates of a clock.
+pub fn delay(unit: &Unit, after: u32, clock: u32) -> u64
     ensures { result ≡ (after + 1) * period_of unit.now clock - 1 }
 {
     ((u64::from(after) + 1) * u64::from(period(unit, clock))).saturating_sub(1)

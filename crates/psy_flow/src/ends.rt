@@ -6,7 +6,7 @@ ghost use Rattle.psy_base.specs.declared.limits.TheConstants.{POINTS};
 ghost use Rattle.psy_code.specs.declared.instr.Instr.TheVariants as instruction;
 ghost use Rattle.psy_meaning.specs.CodeWays.{AreCodeNexts, IsPassed};
 ghost use Rattle.psy_flow.specs.Reach.{marked};
-ghost use Rattle.psy_flow.specs.Walks.{StaysIn, ends_at, ends_there};
+ghost use Rattle.psy_flow.specs.Walks.{ArePassed, StaysIn, ends_at, ends_there};
 
 use crate::next::{marked_numbers, no_marks};
 use crate::reach::mark;
@@ -41,6 +41,27 @@ fn mark_ends(reached: &mut Items<bool>, instrs: &[Instr], places: &[usize])
     }
 }
 
+/// The points where the ways through code from a place end, in rising order, where each of them is one of the first so many, and the places are
+/// those that ways from there pass. The only error is want of memory.
+pub fn ends_among(
+    alloc: Global,
+    instrs: &[Instr],
+    from: usize,
+    places: &[usize],
+    points: usize,
+) -> Result<Items<u32>, Memory>
+    requires inside { StaysIn instrs.now from }
+    requires passed { ArePassed instrs.now from places.now }
+    requires named { (place point : ℕ) → IsPassed instrs.now from place → slice_get instrs.now place ≡ Some (instruction.Advance point)
+        → point < points }
+    requires few { points ≤ POINTS }
+    ensures { IfOk result (AreCodeNexts instrs.now from) }
+{
+    let mut reached = no_marks(alloc, points)?;
+    mark_ends(&mut reached, instrs, places);
+    marked_numbers(alloc, reached.as_slice())
+}
+
 /// The points where the ways through code from a place end, in rising order, where each of them is one of the first so many. The only error
 /// is want of memory.
 pub fn code_next_points(
@@ -56,7 +77,5 @@ pub fn code_next_points(
     ensures { IfOk result (AreCodeNexts instrs.now from) }
 {
     let places = passed(alloc, instrs, from)?;
-    let mut reached = no_marks(alloc, points)?;
-    mark_ends(&mut reached, instrs, places.as_slice());
-    marked_numbers(alloc, reached.as_slice())
+    ends_among(alloc, instrs, from, places.as_slice(), points)
 }

@@ -3,7 +3,12 @@
 //! It may know trees and code, their ways and their measures.
 #![tactic(auto)]
 
+mod backwards;
 mod calls;
+mod code_delays;
+mod code_lists;
+mod code_looks;
+mod code_sends;
 mod costs;
 mod counts;
 mod delays;
@@ -16,18 +21,24 @@ pub mod laws;
 mod listed;
 mod looking;
 mod next;
+mod parts;
 mod points;
 mod pushes;
+mod quests;
 mod reach;
 mod sending;
+mod settling;
 mod stack;
 mod statements;
 mod tops;
 mod walks;
+mod worst_costs;
 
+pub use code_lists::code_ways;
 pub use depths::Depths;
 pub use ends::code_next_points;
 pub use flow::{looks, most_sends, worst};
 pub use listed::ways;
 pub use next::next_points;
 pub use stack::depth_of_stack;
+pub use worst_costs::worsts;

@@ -3,7 +3,7 @@
 ghost use Rattle.std.specs.Prelude.{◌≡◌, ◌++◌, ◌<◌, ◌↔◌, ℕ, length, IfOk, OnOk};
 ghost use Rattle.std.specs.List.{Contains};
 ghost use Rattle.psy_tree.specs.declared.unit.Unit.{Unit as Whole};
-ghost use Rattle.psy_meaning.specs.Flow.{IsNext, Rises};
+ghost use Rattle.psy_meaning.specs.Flow.{IsMostSends, IsNext, Rises};
 ghost use Rattle.psy_meaning.specs.ListedWays.{AreSends};
 ghost use Rattle.psy_flow.specs.Agents.{IsOfSome, IsAgentOf};
 ghost use Rattle.psy_flow.specs.Listed.{AreSendsUpTo, some_way};
@@ -14,7 +14,8 @@ use psy_base::{Items, Memory, SendWay};
 use psy_tree::AgentDecl;
 use std::alloc::Global;
 
-fn push_some(ways: &mut Items<SendWay>, way: SendWay) -> Result<(), Memory>
+/// A list with this way more, where it has some sends.
+pub fn push_some(ways: &mut Items<SendWay>, way: SendWay) -> Result<(), Memory>
     ensures { OnOk result (ways.new ≡ ways.old ++ some_way way) }
 {
     if way.most > 0 {
@@ -33,8 +34,9 @@ fn add_sends(
 ) -> Result<(), Memory>
     requires text { IsOfSome agent.now }
     requires point { point < length agent.now.points }
-    ensures { OnOk result ((unit : Whole) (number : ℕ) → IsAgentOf unit number agent.now → AreSendsUpTo unit.functions agent.now point to 0 ways.old
-        → AreSendsUpTo unit.functions agent.now point to streams ways.new) }
+    ensures { OnOk result ((unit : Whole) (number : ℕ) → IsAgentOf unit number agent.now
+        → AreSendsUpTo (IsMostSends unit.functions agent.now point) to 0 ways.old
+        → AreSendsUpTo (IsMostSends unit.functions agent.now point) to streams ways.new) }
 {
     'streams: for stream in 0..streams {
         let most = most_sends(agent, point, to, stream);

@@ -1,10 +1,10 @@
 //! The places that ways through code pass.
 
-ghost use Rattle.std.specs.Prelude.{◌≡◌, ◌<◌, ℕ, length, Some, IfOk, OnOk, slice_get, slice_index_or};
-ghost use Rattle.std.specs.List.{Contains};
+ghost use Rattle.std.specs.Prelude.{◌≡◌, ◌<◌, ℕ, false, length, replicate, Some, IfOk, OnOk, slice_get, slice_index_or};
+ghost use Rattle.std.specs.List.{All, Contains};
 ghost use Rattle.psy_code.specs.declared.instr.Instr.{Instr as Instruction};
 ghost use Rattle.psy_meaning.specs.CodeWays.{IsPassed};
-ghost use Rattle.psy_flow.specs.Walks.{AreMet, ArePassed, IsGrown, MayFollow, StaysIn, onward_of};
+ghost use Rattle.psy_flow.specs.Walks.{AreMet, ArePassed, IsGrown, IsMarked, MayFollow, StaysIn, onward_of};
 
 use crate::next::no_marks;
 use psy_base::{Items, Memory};
@@ -43,8 +43,8 @@ fn goes_on(instr: &Instr, place: usize, count: usize) -> Onward
     }
 }
 
-// Where a way may go on after the instruction at a place of the code.
-fn goes_on_at(instrs: &[Instr], place: usize) -> Onward
+/// Where a way may go on after the instruction at a place of the code.
+pub fn goes_on_at(instrs: &[Instr], place: usize) -> Onward
     requires { place < length instrs.now }
     ensures { (i : Instruction) → slice_get instrs.now place ≡ Some i → result ≡ onward_of i place }
 {
@@ -120,18 +120,46 @@ fn follow(
     Ok(())
 }
 
+// Takes the marks away that were set when these places were met.
+fn unmark(marks: &mut Items<bool>, places: &[usize])
+    requires inside { All (λ place. place < length marks.old) places.now }
+    requires listed { (place : ℕ) → IsMarked marks.old place → Contains places.now place }
+    ensures { marks.new ≡ replicate (length marks.old) false }
+{
+    'places: for place in places {
+        marks.set(*place, false);
+    }
+}
+
+/// The places that ways from a place pass, each once, in time and memory by their number: the marks, one for each instruction and none of them
+/// set, are left so. The only error is want of memory.
+pub fn passed_by_marks(
+    alloc: Global,
+    instrs: &[Instr],
+    from: usize,
+    marks: &mut Items<bool>,
+) -> Result<Items<usize>, Memory>
+    requires inside { StaysIn instrs.now from }
+    requires clear { marks.old ≡ replicate (length instrs.now) false }
+    ensures places { IfOk result (ArePassed instrs.now from) }
+    ensures clear { OnOk result (marks.new ≡ replicate (length instrs.now) false) }
+{
+    let mut places = Items::new(alloc);
+    meet(instrs, from, marks, &mut places, from)?;
+    let mut at = 0;
+    'places: while at < places.len() {
+        follow(instrs, from, marks, &mut places, at)?;
+        at += 1;
+    }
+    unmark(marks, places.as_slice());
+    Ok(places)
+}
+
 /// The places that ways from a place pass, each once. The only error is want of memory.
 pub fn passed(alloc: Global, instrs: &[Instr], from: usize) -> Result<Items<usize>, Memory>
     requires inside { StaysIn instrs.now from }
     ensures { IfOk result (ArePassed instrs.now from) }
 {
     let mut marks = no_marks(alloc, instrs.len())?;
-    let mut places = Items::new(alloc);
-    meet(instrs, from, &mut marks, &mut places, from)?;
-    let mut at = 0;
-    'places: while at < places.len() {
-        follow(instrs, from, &mut marks, &mut places, at)?;
-        at += 1;
-    }
-    Ok(places)
+    passed_by_marks(alloc, instrs, from, &mut marks)
 }

@@ -10,7 +10,9 @@ use Rattle.psy_budget.specs.declared.charge.Stall.{Stall}
 use Rattle.psy_budget.specs.Charges.{Charged, StallsRise}
 use Rattle.psy_code.specs.declared.code.Code.{Code}
 use Rattle.psy_machine.specs.Stepping.{AgentMachine, IsNew, IsOf}
+use Rattle.psy_base.specs.Extremes.{least_of}
 use Rattle.psy_history.specs.Actions.{System}
+use Rattle.psy_history.specs.Summary.{added_to, numbers_in}
 use Rattle.psy_dates.specs.declared.plan.Plan.{Plan}
 use Rattle.psy_kernel.specs.declared.kernel.Figure.{Figure}
 use Rattle.psy_history.specs.declared.told.Order.{Order}
@@ -79,16 +81,16 @@ in_force_at_first orders first false rise head e =
 
 -- ---- an agent that hasn't started
 
-pub first_stands : (s : System) (code : Code) (until agent : ℕ) (charge : Charged) (machine : AgentMachine) (waits : Option ℕ) (figure : Figure) → charge ≡ record { stalls = s.stalls agent; started = 0; budget = 0; consumed = 0; paid = 0 } → IsNew code agent machine → IsOf code machine → waits ≡ None → figure ≡ record { count = 0; slack = None } → AgentStands s code [] until agent [] charge machine waits figure
-first_stands s code until agent charge machine waits figure charged new of_code idle empty = record {
-  charged = charged;
+pub first_stands : (s : System) (code : Code) (until agent : ℕ) (charge : Charged) (machine : AgentMachine) (waits : Option ℕ) (figure : Figure) → charge ≡ record { stalls = s.stalls agent; started = 0; budget = 0; consumed = 0; paid = 0 } → IsNew code agent machine → IsOf code machine → waits ≡ None → figure ≡ record { count = 0; slack = None } → s.opening.count agent ≡ 0 → s.opening.slack agent ≡ None → AgentStands s code [] until agent [] charge machine waits figure
+first_stands s code until agent charge machine waits figure charged new of_code idle empty uncounted unslacked = record {
+  charged = λ loud. charged;
   is_agent = new.2;
   of_code = of_code;
-  executes = new;
+  executes = λ loud. new;
   ready = idle;
-  counted = ap (λ (f : Figure). f.count) empty;
-  slacked = ap (λ (f : Figure). f.slack) empty;
+  counted = ap (λ (f : Figure). f.count) empty ∙ sym (ap (λ n. added_to n 0) uncounted);
+  slacked = ap (λ (f : Figure). f.slack) empty ∙ sym (ap (λ o. least_of (numbers_in o ++ [])) unslacked);
 }
 
-pub view_booted : (plan : Plan) (script : Script) (inputs lists : List (List ℤ)) (dates : ℕ) → lists ≡ inputs → dates ≡ 0 → ◌≡◌ {A = Progress} (record { plan = plan; inputs = lists; script = script; dates = dates; cycles = 0; given = 0 }) (booted plan inputs script)
+pub view_booted : (plan : Plan) (script : Script) (inputs lists : List (List ℤ)) (dates : ℕ) → lists ≡ inputs → dates ≡ 0 → ◌≡◌ {A = Progress} (record { plan = plan; inputs = lists; script = script; opening = None; dates = dates; cycles = 0; given = 0 }) (booted plan inputs script)
 view_booted plan script inputs lists dates same none = cc (same, none)

@@ -6,11 +6,11 @@ use Rattle.psy_budget.specs.Charges.{tick_of}
 use Rattle.psy_code.specs.Execution.{Stuck, call_of}
 use Rattle.psy_code.specs.Views.{PermitsAll}
 use Rattle.psy_dates.specs.declared.plan.Plan.{Plan}
-use Rattle.psy_dates.specs.Plans.{system_of}
+use Rattle.psy_dates.specs.Plans.{opened_of}
 use Rattle.psy_machine.specs.declared.machine.Step.{Step}
 use Rattle.psy_machine.specs.declared.machine.Step.TheVariants as step
 use Rattle.psy_machine.specs.Stepping.{AgentMachine, Answers, IsOf, next_for, stepped, window_after}
-use Rattle.psy_history.specs.Actions.{Action, System}
+use Rattle.psy_history.specs.Actions.{Action, Opening, System}
 use Rattle.psy_kernel.specs.declared.eyes.Eyes.{Eyes}
 use Rattle.psy_kernel.specs.Acting.{AfterCycle, HasDoneBy}
 use Rattle.psy_kernel.specs.Cycles.{IsNear, reach_by}
@@ -21,9 +21,9 @@ use Rattle.psy_kernel.specs.Stretches.{AfterCycles, AllPay, AreReaches, HasDoneI
 use Rattle.psy_kernel.proofs.OnTheWay as on
 
 -- What is given of an action that had so many cycles, with what `Holds` says
-abbrev pub IsMeant : (System → Action → ℕ → Type 0) → Plan → ℕ → ℕ → ℕ → AgentMachine → Eyes → (List (List ℤ)) → (ℕ → List Stall) → Action → ℕ → Type 0
-IsMeant Holds plan start date most first before inputs stalls r had =
-    MayGoOn (system_of plan inputs stalls) plan.code r had (had + most) start date first before.scene.now before.taken.now.items before.outbox.now × Holds (system_of plan inputs stalls) r had
+abbrev pub IsMeant : (System → Action → ℕ → Type 0) → Plan → ℕ → ℕ → ℕ → AgentMachine → Eyes → Opening → (List (List ℤ)) → (ℕ → List Stall) → Action → ℕ → Type 0
+IsMeant Holds plan start date most first before opening inputs stalls r had =
+    MayGoOn (opened_of plan opening inputs stalls) plan.code r had (had + most) start date first before.scene.now before.taken.now.items before.outbox.now × Holds (opened_of plan opening inputs stalls) r had
 
 -- What is kept behind n cycles of it
 pub record AreKept (Holds : System → Action → ℕ → Type 0) (plan : Plan) (start date most : ℕ) (first : AgentMachine) (before : Eyes) (reaches : List (Option ℕ)) (n : ℕ) (machine : AgentMachine) (now : Eyes) (reaches' : List (Option ℕ)) : Type 0 where
@@ -35,10 +35,10 @@ pub record AreKept (Holds : System → Action → ℕ → Type 0) (plan : Plan) 
   pub size : now.outbox.now.size ≡ before.outbox.now.size
   pub taking : length now.taken.now.items ≡ length before.taken.now.items
   pub others : (stream : ℕ) → (is_mine before.scene.now stream ≡ Some true → ⊥) → slice_get now.taken.now.items stream ≡ slice_get before.taken.now.items stream
-  pub on_way : (inputs : List (List ℤ)) (stalls : ℕ → List Stall) (r : Action) (had : ℕ) → IsMeant Holds plan start date most first before inputs stalls r had
-      → IsOnWay (system_of plan inputs stalls) plan.code r (had + n) machine now.outbox.now.sends now.taken.now.items
-  pub reached : (inputs : List (List ℤ)) (stalls : ℕ → List Stall) (r : Action) (had : ℕ) → IsMeant Holds plan start date most first before inputs stalls r had
-      → (reach : ℕ → ℕ → Option ℕ) → AreReaches (system_of plan inputs stalls) plan.code r had (had + most) date reach
+  pub on_way : (opening : Opening) (inputs : List (List ℤ)) (stalls : ℕ → List Stall) (r : Action) (had : ℕ) → IsMeant Holds plan start date most first before opening inputs stalls r had
+      → IsOnWay (opened_of plan opening inputs stalls) plan.code r (had + n) machine now.outbox.now.sends now.taken.now.items
+  pub reached : (opening : Opening) (inputs : List (List ℤ)) (stalls : ℕ → List Stall) (r : Action) (had : ℕ) → IsMeant Holds plan start date most first before opening inputs stalls r had
+      → (reach : ℕ → ℕ → Option ℕ) → AreReaches (opened_of plan opening inputs stalls) plan.code r had (had + most) date reach
       → (variable : ℕ) → slice_get reaches variable ≡ Some (reach had variable) → slice_get reaches' variable ≡ Some (reach (had + n) variable)
 
 module _ (Holds : System → Action → ℕ → Type 0) (plan : Plan) (start date most : ℕ) (first : AgentMachine) (before : Eyes) (reaches : List (Option ℕ)) where
@@ -53,9 +53,9 @@ module _ (Holds : System → Action → ℕ → Type 0) (plan : Plan) (start dat
     size = refl;
     taking = refl;
     others = λ stream other. refl;
-    on_way = λ inputs stalls r had m.
-        subst (λ u. IsOnWay (system_of plan inputs stalls) plan.code r u first before.outbox.now.sends before.taken.now.items) (omega arith) (MayGoOn.on_way m.0);
-    reached = λ inputs stalls r had m reach are variable at. at ∙ ap (λ u. Some (reach u variable)) (omega arith);
+    on_way = λ opening inputs stalls r had m.
+        subst (λ u. IsOnWay (opened_of plan opening inputs stalls) plan.code r u first before.outbox.now.sends before.taken.now.items) (omega arith) (MayGoOn.on_way m.0);
+    reached = λ opening inputs stalls r had m reach are variable at. at ∙ ap (λ u. Some (reach u variable)) (omega arith);
   }
 
 -- The look that was noted is forgotten
@@ -83,9 +83,9 @@ Pays most s r had = AllPay s r had (had + most)
 
 module _ {plan : Plan} {start date most : ℕ} {first : AgentMachine} {before : Eyes} {reaches : List (Option ℕ)} where
   module _ {n : ℕ} {machine : AgentMachine} {now : Eyes} {reaches' : List (Option ℕ)} (kept : AreKept (Pays most) plan start date most first before reaches n machine now reaches') (few : n < most) (fresh : now.noted ≡ None) where
-    module _ (inputs : List (List ℤ)) (stalls : ℕ → List Stall) (r : Action) (had : ℕ) (m : IsMeant (Pays most) plan start date most first before inputs stalls r had) where
+    module _ (opening : Opening) (inputs : List (List ℤ)) (stalls : ℕ → List Stall) (r : Action) (had : ℕ) (m : IsMeant (Pays most) plan start date most first before opening inputs stalls r had) where
       abbrev s : System
-      s = system_of plan inputs stalls
+      s = opened_of plan opening inputs stalls
 
       low : had ≤ had + n
       low = omega arith
@@ -97,7 +97,7 @@ module _ {plan : Plan} {start date most : ℕ} {first : AgentMachine} {before : 
       pays = m.1 (had + n) low high
 
       on_now : IsOnWay s plan.code r (had + n) machine now.outbox.now.sends now.taken.now.items
-      on_now = kept.on_way inputs stalls r had m
+      on_now = kept.on_way opening inputs stalls r had m
 
       pub able : next_for plan.code (window_of now).view machine ≢ Stuck
       able = on.able s plan.code r had (had + most) start date first before.scene.now before.taken.now.items before.outbox.now m.0 (had + n) low high pays machine now kept.scene kept.size kept.taking fresh on_now
@@ -138,15 +138,15 @@ module _ {plan : Plan} {start date most : ℕ} {first : AgentMachine} {before : 
               (on.came s plan.code r had (had + most) start date first before.scene.now before.taken.now.items before.outbox.now m.0 (had + n) low high pays machine now kept.scene kept.size kept.taking fresh on_now after served rest machine' steps answer answers))
 
     module _ (after : Eyes) (served : window_of after ≡ window_after (window_of now) (call_of plan.code machine.machine)) (rest : KeepsRest now after) (reaches'' : List (Option ℕ)) (as_many : length reaches'' ≡ length reaches')
-        (noted : (inputs : List (List ℤ)) (stalls : ℕ → List Stall) (variable : ℕ) (n : Option ℕ) → slice_get reaches' variable ≡ Some n → slice_get reaches'' variable ≡ Some (reach_by (system_of plan inputs stalls) variable start date after.noted n)) where
+        (noted : (opening : Opening) (inputs : List (List ℤ)) (stalls : ℕ → List Stall) (variable : ℕ) (n : Option ℕ) → slice_get reaches' variable ≡ Some n → slice_get reaches'' variable ≡ Some (reach_by (opened_of plan opening inputs stalls) variable start date after.noted n)) where
       -- the rings are reached for as the look says
-      pub reached_now : (inputs : List (List ℤ)) (stalls : ℕ → List Stall) (r : Action) (had : ℕ) → IsMeant (Pays most) plan start date most first before inputs stalls r had
-          → (reach : ℕ → ℕ → Option ℕ) → AreReaches (system_of plan inputs stalls) plan.code r had (had + most) date reach
+      pub reached_now : (opening : Opening) (inputs : List (List ℤ)) (stalls : ℕ → List Stall) (r : Action) (had : ℕ) → IsMeant (Pays most) plan start date most first before opening inputs stalls r had
+          → (reach : ℕ → ℕ → Option ℕ) → AreReaches (opened_of plan opening inputs stalls) plan.code r had (had + most) date reach
           → (variable : ℕ) → slice_get reaches variable ≡ Some (reach had variable) → slice_get reaches'' variable ≡ Some (reach (had + (n + 1)) variable)
-      reached_now inputs stalls r had m reach are variable at =
+      reached_now opening inputs stalls r had m reach are variable at =
           let so : suc (had + n) ≡ had + (n + 1) = omega arith in
-          noted inputs stalls variable (reach (had + n) variable) (kept.reached inputs stalls r had m reach are variable at)
-          ∙ ap Some (sym (next_reach inputs stalls r had m after served reach are variable) ∙ ap (λ u. reach u variable) so)
+          noted opening inputs stalls variable (reach (had + n) variable) (kept.reached opening inputs stalls r had m reach are variable at)
+          ∙ ap Some (sym (next_reach opening inputs stalls r had m after served reach are variable) ∙ ap (λ u. reach u variable) so)
 
       -- the streams of others are left alone
       pub others_now : (stream : ℕ) → (is_mine before.scene.now stream ≡ Some true → ⊥) → slice_get after.taken.now.items stream ≡ slice_get before.taken.now.items stream
@@ -163,7 +163,7 @@ module _ {plan : Plan} {start date most : ℕ} {first : AgentMachine} {before : 
         size = rest.size ∙ kept.size;
         taking = rest.count ∙ kept.taking;
         others = others_now;
-        on_way = λ inputs stalls r had m.
-            subst (λ u. IsOnWay (system_of plan inputs stalls) plan.code r u machine' after.outbox.now.sends after.taken.now.items) (omega arith) (goes inputs stalls r had m after served rest machine' steps answers);
+        on_way = λ opening inputs stalls r had m.
+            subst (λ u. IsOnWay (opened_of plan opening inputs stalls) plan.code r u machine' after.outbox.now.sends after.taken.now.items) (omega arith) (goes opening inputs stalls r had m after served rest machine' steps answers);
         reached = reached_now;
       }

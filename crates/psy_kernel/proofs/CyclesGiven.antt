@@ -22,7 +22,7 @@ use Rattle.psy_history.specs.Summary.{reach}
 use Rattle.psy_ready.specs.Choice.{IsPick, pending_deadline}
 use Rattle.psy_tree.specs.declared.unit.StreamDecl.{StreamDecl}
 use Rattle.psy_tree.specs.declared.unit.VarDecl.{VarDecl}
-use Rattle.psy_kernel.specs.Cycles.{ActsIn, AreOver, AreQueuesOf, AreRingsOf, BoxStands, GetsCycle, IsCycleOf, IsGiven, LooksBack, OneStands}
+use Rattle.psy_kernel.specs.Cycles.{ActsIn, AreOver, AreQueuesOf, AreRingsOf, BoxStands, GetsCycle, IsGiven, LooksBack, OneStands}
 use Rattle.psy_kernel.specs.declared.kernel.Figure.{Figure}
 use Rattle.psy_kernel.specs.declared.kernel.Kernel.TheInside.{Inside}
 use Rattle.psy_history.specs.declared.told.Order.{Order}
@@ -32,7 +32,7 @@ use Rattle.psy_kernel.specs.Slices.{IsOverBy}
 use Rattle.psy_kernel.specs.Standing.{DeedsStand, HasDone, IsChosen, KernelStands, charge_after, progress_of}
 use Rattle.psy_kernel.specs.Stretches.{MayLast, given_to}
 use Rattle.psy_kernel.proofs.GivenCycles.{StaysSo, idle_reach, in_a_row, missed_all, own_stay, same_stays, was_pending}
-use Rattle.psy_kernel.proofs.Kernels.{IsBetween, IsDue, order_until, parts_in, run_in, turns_in}
+use Rattle.psy_kernel.proofs.Kernels.{IsBetween, IsDue, opening_in, order_until, parts_in, run_in, turns_in}
 use Rattle.psy_kernel.proofs.OtherAgents.{AreSameFor}
 use Rattle.psy_kernel.proofs.Parts.{PartsStand, given, idle, nobody_soonest, one_of, others_same, pick_known, pick_soonest, shared_given}
 use Rattle.psy_kernel.proofs.Stages.{IsInside}
@@ -109,6 +109,8 @@ module _ (k : Inside) (is : KernelStands k) (d : IsDue k) where
           all = is.all;
           orders = is.orders;
           choice = λ fresh. choice;
+          behind = is.behind;
+          before = is.before;
           place = is.place;
           unshown = is.unshown;
           given = is.given;
@@ -178,16 +180,16 @@ module _ (k : Inside) (is : KernelStands k) (d : IsDue k) where
               (looks.acts k.shared.rings.items k.shared.queues.items k.shared.taken.items outbox (subst (λ n. AreRingsOf (run_in k) n k.shared.rings.items) inside.0 rings_stand) (subst (λ n. AreQueuesOf (run_in k) n k.shared.queues.items) inside.0 queues_stand)
               is.shared.taking size did)
 
-          pub is_given : IsGiven k.plan k.shared.inputs.lists (stalls_of k.script) before_cycle now k.cycles agent r before charge machine (pending_deadline k.ready agent) figure seat k.shared.ended.items
+          pub is_given : IsGiven k.plan (opening_in k) k.shared.inputs.lists (stalls_of k.script) before_cycle now k.cycles agent r before charge machine (pending_deadline k.ready agent) figure seat k.shared.ended.items
               (sight_in k.plan.unit k.shared.rings.items k.shared.queues.items agent seat.start now) k.shared.taken.items outbox
           is_given =
-              let given : (start : ℕ) → start ≡ r.start → IsGiven k.plan k.shared.inputs.lists (stalls_of k.script) before_cycle date k.cycles agent r before charge machine (pending_deadline k.ready agent) figure seat k.shared.ended.items
+              let given : (start : ℕ) → start ≡ r.start → IsGiven k.plan (opening_in k) k.shared.inputs.lists (stalls_of k.script) before_cycle date k.cycles agent r before charge machine (pending_deadline k.ready agent) figure seat k.shared.ended.items
               (sight_in k.plan.unit k.shared.rings.items k.shared.queues.items agent start date) k.shared.taken.items outbox = λ start e. record {
                 gets = d.gets agent r before last t.pending;
                 has = one;
                 acts = subst (λ n. ActsIn (run_in k) k.plan.code r (units r.agent r.number before_cycle) (sight_in k.plan.unit k.shared.rings.items k.shared.queues.items agent n date) k.shared.taken.items outbox) (sym e) acts;
               } in
-              subst (λ n. IsGiven k.plan k.shared.inputs.lists (stalls_of k.script) before_cycle n k.cycles agent r before charge machine (pending_deadline k.ready agent) figure seat k.shared.ended.items
+              subst (λ n. IsGiven k.plan (opening_in k) k.shared.inputs.lists (stalls_of k.script) before_cycle n k.cycles agent r before charge machine (pending_deadline k.ready agent) figure seat k.shared.ended.items
               (sight_in k.plan.unit k.shared.rings.items k.shared.queues.items agent seat.start n) k.shared.taken.items outbox)
               (sym (now_is ∙ last_date dates date inside.0)) (given seat.start one.seated.start)
 
@@ -225,13 +227,13 @@ module _ (k : Inside) (is : KernelStands k) (d : IsDue k) where
         looks_on j less later =
             let e : turns_in k (k.cycles + j) ≡ given_turns j = row j (omega (arith, less)) (λ i below. was_pending (turn_of (Some r)) before_cycle r i j (omega (arith, below)) later) in
             subst (λ ts. LooksBack (run_in k) k.plan.code ts date r) e
-            (d.looks (k.cycles + j) agent r before (record { of_plan = d.cycle.of_plan; of_inputs = d.cycle.of_inputs; of_script = d.cycle.of_script; before = d.cycle.before; most = d.cycle.most; low = omega (arith, inside.2); high = omega (arith, high, less) }) last (subst (λ ts. is_pending ts r ≡ true) (sym e) later))
+            (d.looks (k.cycles + j) agent r before (record { of_plan = d.cycle.of_plan; of_inputs = d.cycle.of_inputs; of_script = d.cycle.of_script; sound = d.cycle.sound; before = d.cycle.before; most = d.cycle.most; low = omega (arith, inside.2); high = omega (arith, high, less) }) last (subst (λ ts. is_pending ts r ≡ true) (sym e) later))
 
         -- what it has, and what it sees with each of them
         pub may_last : (now : ℕ) → now ≡ dates - 1 → (machine : AgentMachine) (charge : Charged) (figure : Figure) (seat : Seat)
             → slice_get k.machines.items agent ≡ Some machine → slice_get k.charges.items agent ≡ Some charge → slice_get k.figures.items agent ≡ Some figure → slice_get k.shared.seats.items agent ≡ Some seat
             → (outbox : Outboxed) → slice_get k.shared.outboxes.items agent ≡ Some outbox
-            → MayLast k.plan k.shared.inputs.lists (stalls_of k.script) before_cycle now k.cycles agent most r before charge machine (pending_deadline k.ready agent) figure seat k.shared.ended.items
+            → MayLast k.plan (opening_in k) k.shared.inputs.lists (stalls_of k.script) before_cycle now k.cycles agent most r before charge machine (pending_deadline k.ready agent) figure seat k.shared.ended.items
             k.shared.rings.items k.shared.queues.items k.shared.taken.items outbox
         may_last now now_is machine charge figure seat m c f x outbox o =
             let here : now ≡ date = on_date now now_is in
@@ -312,6 +314,8 @@ module _ (k : Inside) (is : KernelStands k) (d : IsDue k) where
         all = is.all;
         orders = is.orders;
         choice = choice;
+        behind = is.behind;
+        before = is.before;
         place = is.place;
         unshown = is.unshown;
         given = is.given;

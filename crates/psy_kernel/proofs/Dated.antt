@@ -10,19 +10,19 @@ use Rattle.psy_code.specs.declared.code.Code.{Code}
 use Rattle.psy_machine.specs.Stepping.{AgentMachine}
 use Rattle.psy_ready.specs.Choice.{pending_deadline}
 use Rattle.psy_tree.specs.declared.unit.Unit.{Unit as Whole}
-use Rattle.psy_history.specs.Actions.{Action, System}
+use Rattle.psy_history.specs.Actions.{Action, Opening, System}
 use Rattle.psy_history.specs.History.{history}
 use Rattle.psy_history.specs.Schedule.{Turn, is_pending, units}
 use Rattle.psy_history.specs.Compiled.{coded}
 use Rattle.psy_history.specs.Regular.{IsLawful, first_number}
 use Rattle.psy_dates.specs.declared.seat.Seat.{Seat}
-use Rattle.psy_dates.specs.Standing.{SeatStands}
+use Rattle.psy_dates.proofs.lemmas.Begun.{AreBegun}
 use Rattle.psy_kernel.specs.declared.kernel.Figure.{Figure}
 use Rattle.psy_kernel.specs.declared.stage.Stage.TheVariants.{DateDue, CycleDue, Over}
 use Rattle.psy_kernel.specs.Progress.{Progress, stage_of}
 use Rattle.psy_kernel.specs.Standing.{AgentStands, InTick}
 use Rattle.psy_kernel.specs.Starting.{IsDoneBelow, charge_at, deadline_at, seat_at, starts_at}
-use Rattle.psy_kernel.proofs.Started.{agent_after, free_where}
+use Rattle.psy_kernel.proofs.Started.{Sits, agent_after, free_where}
 
 -- ---- what is due
 
@@ -57,19 +57,19 @@ tick_after quantum until date cycles within filled =
 same_item : {X : Type 0} (o : Option X) (x y : X) → o ≡ Some x → o ≡ Some y → x ≡ y
 same_item o x y e f = (let both : Some x ≡ Some y = sym e ∙ f in cc)
 
-module _ (unit : Whole) (code : Code) (nexts : List (List (List ℕ))) (stalls : ℕ → List Stall) (inputs : List (List ℤ)) where
+module _ (unit : Whole) (code : Code) (nexts : List (List (List ℕ))) (opening : Opening) (stalls : ℕ → List Stall) (inputs : List (List ℤ)) where
   abbrev of_code : System
-  of_code = coded unit code nexts stalls inputs
+  of_code = record (coded unit code nexts stalls inputs) { opening = opening }
 
-  module _ (date until : ℕ) (turns : List (Option Turn)) (lawful : IsLawful of_code) (small : date ≤ 2 ^ 32)
+  module _ (date until : ℕ) (turns : List (Option Turn)) (lawful : IsLawful of_code) (opens : AreBegun of_code date) (small : date ≤ 2 ^ 32)
       (unstarted : (agent number : ℕ) → first_number of_code agent + length (history of_code date agent) ≤ number → units agent number turns ≡ 0)
       (in_time : (agent : ℕ) (r : Action) → Contains (history of_code date agent) r → r.deadline ≤ date → is_pending turns r ≡ false)
       (machines : List AgentMachine) (charges : List Charged) (ready : List (Option ℕ)) (figures : List Figure)
       (charged : length charges ≡ length unit.agents) (waiting : length ready ≡ length unit.agents)
       (before : (agent : ℕ) (machine : AgentMachine) (charge : Charged) (waits : Option ℕ) (figure : Figure) → slice_get machines agent ≡ Some machine → slice_get charges agent ≡ Some charge → slice_get ready agent ≡ Some waits → slice_get figures agent ≡ Some figure → AgentStands of_code code turns until agent (history of_code date agent) charge machine waits figure)
       (seats : List Seat) (seated : length seats ≡ length unit.agents)
-      (sits : (agent : ℕ) (seat : Seat) → slice_get seats agent ≡ Some seat → SeatStands date turns (history of_code (suc date) agent) seat) where
-    seat_there : (agent : ℕ) → agent < length unit.agents → SeatStands date turns (history of_code (suc date) agent) (seat_at seats agent)
+      (sits : (agent : ℕ) (seat : Seat) → slice_get seats agent ≡ Some seat → Sits of_code date turns agent (history of_code (suc date) agent) seat) where
+    seat_there : (agent : ℕ) → agent < length unit.agents → Sits of_code date turns agent (history of_code (suc date) agent) (seat_at seats agent)
     seat_there agent l = sits agent (seat_at seats agent) (slice_get-get_or seats agent _ (omega (arith, l, seated)))
 
     pub agents_after : (charges' : List Charged) (ready' : List (Option ℕ)) → IsDoneBelow (charge_at date seats unit.agents) (length unit.agents) charges charges' → IsDoneBelow (deadline_at date seats) (length unit.agents) ready ready'
@@ -83,7 +83,7 @@ module _ (unit : Whole) (code : Code) (nexts : List (List (List ℕ))) (stalls :
         let its_charge : charge_at date seats unit.agents agent old_charge ≡ charge = same_item (slice_get charges' agent) _ charge (started.done agent old_charge l here_charge) ec in
         let its_waits : deadline_at date seats agent old_waits ≡ waits = same_item (slice_get ready' agent) _ waits (waited.done agent old_waits l here_waits) ew in
         let old = before agent machine old_charge old_waits figure em here_charge here_waits ef in
-        let new = agent_after unit code nexts stalls inputs date until agent turns lawful small (unstarted agent) (in_time agent) (seat_at seats agent) old_charge machine old_waits figure (seat_there agent l) old in
+        let new = agent_after unit code nexts opening stalls inputs date until agent turns lawful opens small (unstarted agent) (in_time agent) (seat_at seats agent) old_charge machine old_waits figure (seat_there agent l) old in
         subst (λ x. AgentStands of_code code turns until agent (history of_code (suc date) agent) x machine waits figure) its_charge (subst (λ y. AgentStands of_code code turns until agent (history of_code (suc date) agent) (charge_at date seats unit.agents agent old_charge) machine y figure) its_waits new)
 
     -- who starts wasn't waiting
@@ -95,6 +95,6 @@ module _ (unit : Whole) (code : Code) (nexts : List (List (List ℕ))) (stalls :
           let figure = get_or figures agent (record { count = 0; slack = None }) in
           let machine = get_or machines agent (record { agent = 0; machine = record { place = 0; operands = []; home = record { cells = []; counters = [] }; calls = []; copies = [] }; stack = 0; frames = 0 }) in
           let old = before agent machine charge waits figure (slice_get-get_or machines agent _ (omega (arith, l, machined))) (slice_get-get_or charges agent _ (omega (arith, l, charged))) (slice_get-get_or ready agent _ (omega (arith, l, waiting))) (slice_get-get_or figures agent _ (omega (arith, l, figured))) in
-          old.ready ∙ free_where unit code nexts stalls inputs date until agent turns lawful small (unstarted agent) (in_time agent) (seat_at seats agent) (seat_there agent l) starts)
+          old.ready ∙ free_where unit code nexts opening stalls inputs date until agent turns lawful opens small (unstarted agent) (in_time agent) (seat_at seats agent) (seat_there agent l) starts)
       | inr ge ↦ get_or_past ready agent None (omega (arith, ge, waiting))
     ]

@@ -1,5 +1,5 @@
 -- A kernel whose next date is due: every action that is due by then is over.
-use Rattle.std.proofs.Common.{◌≡◌, ℤ, ℕ, suc, ◌+◌, ◌-◌, ◌*◌, ◌^◌, ◌≤◌, true, false, List, length, Option, Some, None, refl, ap, sym, subst, ◌∙◌, arith}
+use Rattle.std.proofs.Common.{◌≡◌, ℤ, ℕ, suc, ◌+◌, ◌-◌, ◌*◌, ◌^◌, ◌<◌, ◌≤◌, Bool, true, false, nat_lt, if◌then◌else◌, List, [], length, Option, Some, None, refl, ap, sym, subst, ◌∙◌, arith}
 use Rattle.std.specs.List.{Contains, slice_get}
 use Rattle.std.proofs.Math.Numerals.{add-one}
 use Rattle.psy_budget.specs.Charges.{Charged}
@@ -8,7 +8,7 @@ use Rattle.psy_code.specs.declared.code.Code.{Code}
 use Rattle.psy_machine.specs.Stepping.{AgentMachine}
 use Rattle.psy_ready.specs.Choice.{pending_deadline}
 use Rattle.psy_tree.specs.declared.unit.Unit.{Unit as Whole}
-use Rattle.psy_history.specs.Actions.{Action, System}
+use Rattle.psy_history.specs.Actions.{Action, Opening, System, first_action}
 use Rattle.psy_history.specs.History.{history}
 use Rattle.psy_history.specs.Schedule.{is_pending, units}
 use Rattle.psy_history.specs.Summary.{reach}
@@ -21,18 +21,20 @@ use Rattle.psy_history.specs.Scheduled.{IsFinished, IsSupplied, turns_of}
 use Rattle.psy_dates.specs.declared.seat.Seat.{Seat}
 use Rattle.psy_dates.specs.declared.shared.Shared.{Shared}
 use Rattle.psy_dates.specs.Outboxes.{Outboxed}
-use Rattle.psy_dates.specs.Standing.{NoneActs, SeatStands, SharedStands, dates_done}
+use Rattle.psy_dates.specs.Standing.{NoneActs, SharedStands, dates_done}
+use Rattle.psy_dates.specs.Plans.{system_of}
+use Rattle.psy_dates.proofs.lemmas.Begun.{AreBegun, are_begun}
 use Rattle.psy_kernel.specs.declared.kernel.Figure.{Figure}
 use Rattle.psy_kernel.specs.declared.kernel.Kernel.TheInside.{Inside}
 use Rattle.psy_kernel.specs.declared.stage.Stage.TheVariants.{DateDue}
-use Rattle.psy_kernel.specs.Progress.{Progress, after_date, order, stage_of, system}
+use Rattle.psy_kernel.specs.Progress.{Progress, after_date, beginning, order, stage_of, system}
 use Rattle.psy_history.specs.Scripts.{stalls_of}
-use Rattle.psy_kernel.specs.Standing.{AgentStands, DeedsStand, InTick, KernelStands, given_at, most_held_in, progress_of}
+use Rattle.psy_kernel.specs.Standing.{AgentStands, DeedsStand, InTick, KernelStands, given_at, most_held_in, progress_of, told_from}
 use Rattle.psy_kernel.specs.Starting.{IsDoneBelow, charge_at, deadline_at, held_at, seat_at, starts_at}
 use Rattle.psy_kernel.proofs.Dated.{agents_after, date_due, free_before, tick_after, within_until}
 use Rattle.psy_kernel.proofs.DeedsDated.{HaveBegun, HaveStayed, deeds_after}
 use Rattle.psy_kernel.proofs.HeldMessages.{held_more}
-use Rattle.psy_kernel.proofs.Started.{none_acts}
+use Rattle.psy_kernel.proofs.Started.{Sits, none_acts}
 use Rattle.psy_kernel.proofs.Supplied.{supplied as is_supplied}
 use Rattle.psy_kernel.proofs.ToldPlaces.{none_first}
 
@@ -49,13 +51,16 @@ abbrev pub LeavesReach : Type 0
 LeavesReach = (s : System) (order : ℕ → List ℕ) (date cycles variable : ℕ) → IsLawful s → 1 ≤ s.unit.quantum → cycles ≤ date * s.unit.quantum
     → reach s (turns_of s order cycles) (history s (date + 1)) variable ≡ reach s (turns_of s order cycles) (history s date) variable
 
--- Compiled code runs well by the ways of its statements.
-abbrev pub RunsWell : Type 0
-RunsWell = (unit : Whole) (code : Code) (nexts : List (List (List ℕ))) (stalls : ℕ → List Stall) (inputs : List (List ℤ)) → IsCompiled unit code nexts → AreInputs unit inputs → IsRun (coded unit code nexts stalls inputs) (OfText unit) code
-
--- Runs are lawful.
-abbrev pub Lawful : Type 0
-Lawful = (s : System) (ways : Ways) (code : Code) → IsRun s ways code → IsLawful s
+-- Compiled code runs well by the ways of its statements, from wherever it begins soundly. Runs are lawful, and begin so.
+pub record AreRunLaws : Type 0 where
+  pub well : (unit : Whole) (code : Code) (nexts : List (List (List ℕ))) (stalls : ℕ → List Stall) (inputs : List (List ℤ)) → IsCompiled unit code nexts → AreInputs unit inputs → IsRun (coded unit code nexts stalls inputs) (OfText unit) code
+  pub opened : (s : System) (opening : Opening) (ways : Ways) (code : Code) → IsRun s ways code → IsSound (record s { opening = opening }) ways code → IsRun (record s { opening = opening }) ways code
+  pub lawful : (s : System) (ways : Ways) (code : Code) → IsRun s ways code → IsLawful s
+  pub none : (s : System) (ways : Ways) (code : Code) → IsRun s ways code → (date agent : ℕ) → date < s.opening.dates → history s date agent ≡ []
+  pub silent : (s : System) (ways : Ways) (code : Code) → IsRun s ways code → (date agent : ℕ) → s.opening.silent agent ≡ true → history s date agent ≡ []
+  pub waits : (s : System) (ways : Ways) (code : Code) → IsRun s ways code
+      → (date agent : ℕ) → s.opening.dates ≤ date → agent < length s.unit.agents → s.opening.silent agent ≡ false → history s date agent ≡ []
+      → s.opening.starts agent ≡ Some (first_action s.unit s.nexts s.executor agent)
 
 -- The kernel stands before this date, which is due.
 pub record IsDue (k : Inside) (date : ℕ) : Type 0 where
@@ -64,21 +69,36 @@ pub record IsDue (k : Inside) (date : ℕ) : Type 0 where
   pub due : stage_of (progress_of k) ≡ DateDue (dates_done k.shared.date)
   pub small : date ≤ 2 ^ 32
   pub lawful : IsLawful (system (progress_of k))
-  pub sound : IsSound (system (progress_of k)) (OfText k.plan.unit) k.plan.code
+  pub opens : AreBegun (system (progress_of k)) date
   pub no_cycle : Unstarted
   pub in_time : InTime
 
-pub is_due : (k : Inside) (p : Progress) (date : ℕ) → KernelStands k → progress_of k ≡ p → stage_of p ≡ DateDue p.dates → date ≡ p.dates → date ≤ 2 ^ 32 → RunsWell → Lawful → Unstarted → InTime → IsDue k date
-is_due k p date h view due is_date small well lawful no_cycle in_time = record {
+pub is_due : (k : Inside) (p : Progress) (date : ℕ) → KernelStands k → progress_of k ≡ p → stage_of p ≡ DateDue p.dates → date ≡ p.dates → date ≤ 2 ^ 32 → AreRunLaws → Unstarted → InTime → IsDue k date
+is_due k p date h view due is_date small laws no_cycle in_time = record {
   stands = h;
-  is_date = is_date ∙ ap (λ (q : Progress). q.dates) (sym view);
+  is_date = here;
   due = subst (λ q. stage_of q ≡ DateDue q.dates) (sym view) due;
   small = small;
-  lawful = lawful (system (progress_of k)) (OfText k.plan.unit) k.plan.code (well k.plan.unit k.plan.code k.plan.nexts (stalls_of k.script) k.shared.inputs.lists h.plan.compiled h.inputs);
-  sound = (well k.plan.unit k.plan.code k.plan.nexts (stalls_of k.script) k.shared.inputs.lists h.plan.compiled h.inputs).opened;
+  lawful = laws.lawful s ways code run;
+  opens = are_begun s ways code date h.sound (omega (arith, h.behind, here)) (laws.none s ways code run) (laws.silent s ways code run) (laws.waits s ways code run);
   no_cycle = no_cycle;
   in_time = in_time;
 }
+  where
+    s : System
+    s = system (progress_of k)
+
+    ways : Ways
+    ways = OfText k.plan.unit
+
+    code : Code
+    code = k.plan.code
+
+    here : date ≡ dates_done k.shared.date
+    here = is_date ∙ ap (λ (q : Progress). q.dates) (sym view)
+
+    run : IsRun s ways code
+    run = laws.opened (system_of k.plan k.shared.inputs.lists (stalls_of k.script)) (beginning (progress_of k)) ways code (laws.well k.plan.unit code k.plan.nexts (stalls_of k.script) k.shared.inputs.lists h.plan.compiled h.inputs) h.sound
 
 module _ (k : Inside) (date : ℕ) (at : IsDue k date) where
   h : KernelStands k
@@ -99,12 +119,15 @@ module _ (k : Inside) (date : ℕ) (at : IsDue k date) where
   abbrev pub ties : ℕ → List ℕ
   ties = order (progress_of k)
 
-  -- its history is a whole one
-  pub whole_sound : IsSound its (OfText k.plan.unit) k.plan.code
-  whole_sound = at.sound
+  -- its history begins soundly, with what was done before
+  abbrev pub begins : Opening
+  begins = beginning (progress_of k)
 
-  pub from_first : 0 ≤ date
-  from_first = omega arith
+  pub sound : IsSound its (OfText k.plan.unit) k.plan.code
+  sound = h.sound
+
+  pub later : begins.dates ≤ date
+  later = at.opens.behind
 
   pub filled : k.cycles ≡ date * k.plan.unit.quantum
   filled = subst (λ d. k.cycles ≡ d * k.plan.unit.quantum) (sym is_date) (date_due (progress_of k) due).1
@@ -136,7 +159,7 @@ module _ (k : Inside) (date : ℕ) (at : IsDue k date) where
   in_time agent r has by = subst (λ n. is_pending (turns_of its ties n) r ≡ false) (sym filled) (at.in_time its ties k.plan.until date agent r supplied within has by)
 
   pub none_due : NoneActs date k.shared.seats.items
-  none_due agent seat there by = none_acts k.plan.unit k.plan.code k.plan.nexts (stalls_of k.script) k.shared.inputs.lists date k.plan.until agent (turns_of its ties k.cycles) lawful small (unstarted agent) (in_time agent) seat (date - 1) (before.seats agent seat there) by
+  none_due agent seat there by = none_acts k.plan.unit k.plan.code k.plan.nexts begins (stalls_of k.script) k.shared.inputs.lists date k.plan.until agent (turns_of its ties k.cycles) lawful at.opens small (unstarted agent) (in_time agent) seat (date - 1) (before.seats agent seat there) by
 
   pub same_reach : LeavesReach → (variable : ℕ) (n : Option ℕ) → slice_get k.reaches.items variable ≡ Some n → n ≡ reach its (turns_of its ties k.cycles) (history its (date + 1)) variable
   same_reach leaves variable n there =
@@ -149,24 +172,24 @@ module _ (k : Inside) (date : ℕ) (at : IsDue k date) where
     pub after : SharedStands its (turns_of its ties k.cycles) (date + 1) shared
     after = subst (λ n. SharedStands its (turns_of its ties n) (date + 1) shared) (sym filled) done
 
-    sits : (agent : ℕ) (seat : Seat) → slice_get shared.seats.items agent ≡ Some seat → SeatStands date (turns_of its ties k.cycles) (history its (suc date) agent) seat
+    sits : (agent : ℕ) (seat : Seat) → slice_get shared.seats.items agent ≡ Some seat → Sits its date (turns_of its ties k.cycles) agent (history its (suc date) agent) seat
     sits agent seat there =
         let turns = turns_of its ties k.cycles in
-        let here : SeatStands (date + 1 - 1) turns (history its (suc date) agent) seat = subst (λ d. SeatStands (date + 1 - 1) turns (history its d agent) seat) (add-one date) (after.seats agent seat there) in
-        subst (λ d. SeatStands d turns (history its (suc date) agent) seat) (omega arith) here
+        let here : Sits its (date + 1 - 1) turns agent (history its (suc date) agent) seat = subst (λ d. Sits its (date + 1 - 1) turns agent (history its d agent) seat) (add-one date) (after.seats agent seat there) in
+        subst (λ d. Sits its d turns agent (history its (suc date) agent) seat) (omega arith) here
 
     was : (agent : ℕ) (machine : AgentMachine) (charge : Charged) (waits : Option ℕ) (figure : Figure) → slice_get k.machines.items agent ≡ Some machine → slice_get k.charges.items agent ≡ Some charge → slice_get k.ready agent ≡ Some waits → slice_get k.figures.items agent ≡ Some figure → AgentStands its k.plan.code (turns_of its ties k.cycles) k.plan.until agent (history its date agent) charge machine waits figure
     was agent machine charge waits figure em ec ew ef = subst (λ d. AgentStands its k.plan.code (turns_of its ties k.cycles) k.plan.until agent (history its d agent) charge machine waits figure) (sym is_date) (h.agents agent machine charge waits figure em ec ew ef)
 
     pub free : (agent : ℕ) → starts_at date (seat_at shared.seats.items agent) ≡ true → pending_deadline k.ready agent ≡ None
-    free = free_before k.plan.unit k.plan.code k.plan.nexts (stalls_of k.script) k.shared.inputs.lists date k.plan.until (turns_of its ties k.cycles) lawful small unstarted in_time k.machines.items k.charges.items k.ready k.figures.items h.charges h.waiting was shared.seats.items after.seated sits h.machined h.figured
+    free = free_before k.plan.unit k.plan.code k.plan.nexts begins (stalls_of k.script) k.shared.inputs.lists date k.plan.until (turns_of its ties k.cycles) lawful at.opens small unstarted in_time k.machines.items k.charges.items k.ready k.figures.items h.charges h.waiting was shared.seats.items after.seated sits h.machined h.figured
 
     pub agents : (charges : List Charged) (ready : List (Option ℕ)) → IsDoneBelow (charge_at date shared.seats.items k.plan.unit.agents) (length k.plan.unit.agents) k.charges.items charges → IsDoneBelow (deadline_at date shared.seats.items) (length k.plan.unit.agents) k.ready ready
         → (agent : ℕ) (machine : AgentMachine) (charge : Charged) (waits : Option ℕ) (figure : Figure) → slice_get k.machines.items agent ≡ Some machine → slice_get charges agent ≡ Some charge → slice_get ready agent ≡ Some waits → slice_get k.figures.items agent ≡ Some figure → AgentStands its k.plan.code (turns_of its ties k.cycles) k.plan.until agent (history its (suc date) agent) charge machine waits figure
-    agents = agents_after k.plan.unit k.plan.code k.plan.nexts (stalls_of k.script) k.shared.inputs.lists date k.plan.until (turns_of its ties k.cycles) lawful small unstarted in_time k.machines.items k.charges.items k.ready k.figures.items h.charges h.waiting was shared.seats.items after.seated sits
+    agents = agents_after k.plan.unit k.plan.code k.plan.nexts begins (stalls_of k.script) k.shared.inputs.lists date k.plan.until (turns_of its ties k.cycles) lawful at.opens small unstarted in_time k.machines.items k.charges.items k.ready k.figures.items h.charges h.waiting was shared.seats.items after.seated sits
 
     pub helds : (after : List ℕ) → IsDoneBelow (held_at shared.queues.items) (length shared.queues.items) k.helds.items after → (stream n : ℕ) → slice_get after stream ≡ Some n → n ≡ most_held_in its (date + 1) stream
-    helds after_each done_each = held_more its refl (λ stream. refl) (turns_of its ties k.cycles) date shared after k.helds.items after_each h.holding (λ stream n there. subst (λ d. n ≡ most_held_in its d stream) (sym is_date) (h.held stream n there)) done_each
+    helds after_each done_each = held_more its (turns_of its ties k.cycles) date later shared after k.helds.items after_each h.holding (λ stream n there. subst (λ d. n ≡ most_held_in its d stream) (sym is_date) (h.held stream n there)) done_each
 
     pub deeds : HaveBegun its date shared.seats.items shared.outboxes.items shared.taken.items → HaveStayed its date shared.seats.items k.shared.outboxes.items shared.outboxes.items k.shared.taken.items shared.taken.items
         → (agent : ℕ) (outbox : Outboxed) → slice_get shared.outboxes.items agent ≡ Some outbox → DeedsStand its k.plan.code (turns_of its ties k.cycles) (history its (suc date) agent) outbox.sends shared.taken.items
@@ -180,7 +203,12 @@ pub none_given : (s : System) (date : ℕ) → 0 ≡ given_at s (suc date) 0 0
 none_given s date =
     let none : 0 - length s.unit.agents ≡ 0 = omega arith in
     let none_more : 0 - length s.unit.variables ≡ 0 = omega arith in
-    rw (none, none_more) (ap length (sym (none_first s date 0)))
+    let untold : 0 ≡ length (told_from s date 0 0) = rw (none, none_more) (ap length (sym (none_first s date 0))) in
+    by (nat_lt date s.opening.dates) untold
+  where
+    by : (before : Bool) → 0 ≡ length (told_from s date 0 0) → 0 ≡ (if before then 0 else length (told_from s date 0 0))
+    by true untold = refl
+    by false untold = untold
 
-pub view_after : (k : Inside) (inputs : List (List ℤ)) (dates : ℕ) → inputs ≡ k.shared.inputs.lists → dates ≡ dates_done k.shared.date + 1 → ◌≡◌ {A = Progress} (record { plan = k.plan; inputs = inputs; script = k.script; dates = dates; cycles = k.cycles; given = 0 }) (after_date (progress_of k))
+pub view_after : (k : Inside) (inputs : List (List ℤ)) (dates : ℕ) → inputs ≡ k.shared.inputs.lists → dates ≡ dates_done k.shared.date + 1 → ◌≡◌ {A = Progress} (record { plan = k.plan; inputs = inputs; script = k.script; opening = k.opening; dates = dates; cycles = k.cycles; given = 0 }) (after_date (progress_of k))
 view_after k inputs dates same more = cc (same, more)

@@ -16,10 +16,10 @@ use Rattle.psy_history.specs.Regular.{IsLawful, IsRegular, WereStarted, begun_by
 use Rattle.psy_dates.specs.declared.seat.Phase.TheVariants as phase
 use Rattle.psy_dates.specs.declared.seat.Seat.{Seat}
 use Rattle.psy_dates.specs.Outboxes.{Outboxed}
-use Rattle.psy_dates.specs.Standing.{Begins, GoesOn, SeatOf, SeatStands}
+use Rattle.psy_dates.specs.Standing.{Begins, GoesOn, SeatOf}
 use Rattle.psy_kernel.specs.Standing.{DeedsStand, charge_after}
 use Rattle.psy_kernel.specs.Starting.{seat_at}
-use Rattle.psy_kernel.proofs.Started.{grown_by}
+use Rattle.psy_kernel.proofs.Started.{Sits, grown_by, last_sits}
 
 never_both : (b c : Bool) → c ≡ false → (b && c) ≡ false
 never_both true c e = e
@@ -48,7 +48,7 @@ module _ (s : System) (code : Code) (date : ℕ) (turns : List (Option Turn)) (l
     (unstarted : (agent number : ℕ) → first_number s agent + length (history s date agent) ≤ number → units agent number turns ≡ 0)
     (in_time : (agent : ℕ) (r : Action) → Contains (history s date agent) r → r.deadline ≤ date → is_pending turns r ≡ false)
     (seats : List Seat) (seated : length seats ≡ length s.unit.agents)
-    (sits : (agent : ℕ) (seat : Seat) → slice_get seats agent ≡ Some seat → SeatStands date turns (history s (suc date) agent) seat)
+    (sits : (agent : ℕ) (seat : Seat) → slice_get seats agent ≡ Some seat → Sits s date turns agent (history s (suc date) agent) seat)
     (boxes_before boxes : List Outboxed) (boxed : length boxes ≡ length s.unit.agents)
     (taken_before taken : List ℕ) (taking : length taken ≡ length s.unit.streams)
     (begun : HaveBegun s date seats boxes taken) (stayed : HaveStayed s date seats boxes_before boxes taken_before taken)
@@ -74,7 +74,7 @@ module _ (s : System) (code : Code) (date : ℕ) (turns : List (Option Turn)) (l
       let regular = All-head (IsRegular s agent) r (actions agent) (subst (All (IsRegular s agent)) grew (lawful.actions (suc date) agent).each) in
       let started = (subst (WereStarted s (suc date) agent) grew (lawful.actions (suc date) agent).were_started).0 in
       let none : units r.agent r.number turns ≡ 0 = unstarted r.agent r.number (omega (arith, started.number, ap (λ a. first_number s a + length (actions a)) regular.agent_is)) in
-      let sitting : SeatOf date turns r (seat_of agent) = subst (λ rs. SeatStands date turns rs (seat_of agent)) grew (sits agent (seat_of agent) (there agent l)) in
+      let sitting : SeatOf date turns r (seat_of agent) = last_sits s date agent turns r (actions agent) (seat_of agent) (subst (λ rs. Sits s date turns agent rs (seat_of agent)) grew (sits agent (seat_of agent) (there agent l))) in
       let begins = begun agent (seat_of agent, there agent l, acting date turns r (seat_of agent) sitting (omega (arith, regular.due, now)) pending, sitting.start ∙ now) in
       let its = agent_code_at code r.agent in
       record {
@@ -86,11 +86,12 @@ module _ (s : System) (code : Code) (date : ℕ) (turns : List (Option Turn)) (l
 
   -- ---- one that goes on
 
-  same_deeds : (agent : ℕ) (outbox : Outboxed) (rs : List Action) → agent < length s.unit.agents → slice_get boxes agent ≡ Some outbox → actions agent ≡ rs → SeatStands date turns rs (seat_of agent)
+  same_deeds : (agent : ℕ) (outbox : Outboxed) (rs : List Action) → agent < length s.unit.agents → slice_get boxes agent ≡ Some outbox → actions agent ≡ rs → Sits s date turns agent rs (seat_of agent)
       → ((before : Outboxed) → slice_get boxes_before agent ≡ Some before → DeedsStand s code turns rs before.sends taken_before) → DeedsStand s code turns rs outbox.sends taken
   same_deeds agent outbox [] l at is sitting old = tt {0}
-  same_deeds agent outbox (r ∷ before) l at is sitting old = λ pending.
-      (let has : Contains (r ∷ before) r = (0, omega arith, refl) in
+  same_deeds agent outbox (r ∷ before) l at is sits_so old = λ pending.
+      (let sitting = last_sits s date agent turns r before (seat_of agent) sits_so in
+      let has : Contains (r ∷ before) r = (0, omega arith, refl) in
       let regular = All-head (IsRegular s agent) r before (subst (All (IsRegular s agent)) is (lawful.actions date agent).each) in
       let started = (subst (WereStarted s date agent) is (lawful.actions date agent).were_started).0 in
       let due : date < r.deadline = elim (cases_lt date r.deadline) [
@@ -113,6 +114,6 @@ module _ (s : System) (code : Code) (date : ℕ) (turns : List (Option Turn)) (l
       let l : agent < length s.unit.agents = omega (arith, slice_get_within boxes agent outbox at, boxed) in
       elim (grown_by s (history s date) date agent (actions agent) (next_of s agent (actions agent))) [
         | inl same ↦ subst (λ rs. DeedsStand s code turns rs outbox.sends taken) (sym same)
-            (same_deeds agent outbox (actions agent) l at refl (subst (λ rs. SeatStands date turns rs (seat_of agent)) same (sits agent (seat_of agent) (there agent l))) (was agent))
+            (same_deeds agent outbox (actions agent) l at refl (subst (λ rs. Sits s date turns agent rs (seat_of agent)) same (sits agent (seat_of agent) (there agent l))) (was agent))
         | inr grew ↦ subst (λ rs. DeedsStand s code turns rs outbox.sends taken) (sym grew.3) (first_deeds agent grew.0 outbox l at grew.2 grew.3)
       ]

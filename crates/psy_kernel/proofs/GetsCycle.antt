@@ -7,11 +7,11 @@ use Rattle.std.proofs.lemmas.Nat.{mul-le}
 use Rattle.std.proofs.lemmas.List.Elements.{All-cons, All-head, All-nil, All-weaker}
 use Rattle.psy_budget.specs.declared.charge.Stall.{Stall}
 use Rattle.psy_dates.specs.declared.plan.Plan.{Plan}
-use Rattle.psy_dates.specs.Plans.{IsPlan, system_of}
+use Rattle.psy_dates.specs.Plans.{IsPlan, opened_of}
 use Rattle.psy_history.specs.Regular.{AreRegular, IsLawful, IsRegular, Runs, WasStarted, WereStarted, first_number}
 use Rattle.psy_history.specs.Scheduled.{IsFinished, IsSupplied, turns_of}
 use Rattle.psy_history.specs.Ways.{OfText}
-use Rattle.psy_history.specs.Actions.{Action, History, Next, System, charge_of, next_of, timing, verdict_of}
+use Rattle.psy_history.specs.Actions.{Action, History, Next, Opening, System, charge_of, next_of, timing, verdict_of}
 use Rattle.psy_tree.specs.Parts.{agent_at, no_agent, no_clock}
 use Rattle.psy_history.specs.History.{action_of, history, with_start}
 use Rattle.psy_history.specs.Schedule.{Turn, is_pending}
@@ -58,9 +58,9 @@ points_bare unit agent (head ∷ rest) h (suc point) inner less d = h.1 point d 
 abbrev pub PointsFollow : System → Type 0
 PointsFollow s = (agent point to : ℕ) → agent < length s.unit.agents → Contains (following (timing s agent) point) to → (1 ≤ to) × (to < length (agent_at s.unit agent).points)
 
-module _ (plan : Plan) (inputs : List (List ℤ)) (stalls : ℕ → List Stall) (is : IsPlan plan) where
+module _ (plan : Plan) (opening : Opening) (inputs : List (List ℤ)) (stalls : ℕ → List Stall) (is : IsPlan plan) where
   abbrev s : System
-  s = system_of plan inputs stalls
+  s = opened_of plan opening inputs stalls
 
   bare_agent : (agent : ℕ) → agent < length plan.unit.agents → IsBareAgent plan.unit (agent_at plan.unit agent)
   bare_agent agent less = is.compiled.text.bare.agents agent no_agent less
@@ -118,10 +118,10 @@ module _ (plan : Plan) (inputs : List (List ℤ)) (stalls : ℕ → List Stall) 
         by (r ∷ before) e = law s order plan.until date cycle agent r before supply (omega (arith, inside)) low e
 
     pub gets : ((s : System) (order : ℕ → List ℕ) (until date agent : ℕ) (r : Action) → IsSupplied s order until → date ≤ until → Contains (history s date agent) r → r.deadline ≤ date → IsFinished s order (date * s.unit.quantum) r)
-        → PointsFollow s
+        → PointsFollow s → ((agent : ℕ) → opening.count agent < 1125899906842624)
         → plan.until ≤ 4294967295 → (agent : ℕ) (r : Action) (before : List Action) → history s (date + 1) agent ≡ r ∷ before → All (Runs s (OfText plan.unit) plan.code) (history s (date + 1) agent) → is_pending turns r ≡ true
         → GetsCycle s plan.code turns plan.until date cycle agent r before
-    gets due within most agent r before e all_run pending =
+    gets due within small most agent r before e all_run pending =
         let are : AreRegular s (date + 1) agent (r ∷ before) = subst (AreRegular s (date + 1) agent) e (supply.lawful.actions (date + 1) agent) in
         let its : IsRegular s agent r = All-head (IsRegular s agent) r before are.each in
         let w : WasStarted s (date + 1) agent before r = are.were_started.0 in
@@ -140,6 +140,7 @@ module _ (plan : Plan) (inputs : List (List ℤ)) (stalls : ℕ → List Stall) 
           pending = pending;
           numbers = All-weaker (λ (q : Action). q.number < first_number s agent + length before) (λ (q : Action). q.number < r.number) (λ q less. omega (arith, less, w.number)) before (numbers_below s (date + 1) agent before are.were_started.1);
           few = omega (arith, are.few, inside);
+          counted = small agent;
           started = omega (arith, start, w.at);
           later = later;
           at = as_many s order cycle;

@@ -1,51 +1,146 @@
--- The copies that are kept of the first so many variables.
-use Rattle.std.proofs.Common.{◌≡◌, ◌≢◌, refl, sym, ap, ◌∙◌, inl, inr, arith}
-use Rattle.std.specs.Prelude.{ℕ, ◌+◌, ◌<◌, true, false, List, length, Option, Some, None, slice_get, slice_set, ℤ}
-use Rattle.std.proofs.lemmas.Bool.{cases_eq, eqb-true, eqb-false}
-use Rattle.psy_code.specs.Execution.{Copy, copy_of}
+-- The working copies that are kept are those of the variables that an agent owns.
+use Rattle.std.proofs.Common.{◌≡◌, ◌≢◌, refl, sym, ap, subst, ◌∙◌, inl, inr, arith, map}
+use Rattle.std.specs.Prelude.{◌⊎◌, ℕ, zero, suc, ◌+◌, ◌<◌, if◌then◌else◌, List, [], ◌∷◌, ◌++◌, length, get_or, Option, Some, None, slice_get, slice_set, ℤ}
+use Rattle.std.proofs.lemmas.Bool.{cases_eq, eq-eqb, ne_eqb}
+use Rattle.std.proofs.lemmas.Option.{slice_get-get_or, slice_get_read}
+use Rattle.psy_code.specs.declared.code.AgentCode.{AgentCode}
+use Rattle.psy_code.specs.declared.code.Code.{Code}
+use Rattle.psy_code.specs.declared.code.CopyInit.{CopyInit}
+use Rattle.psy_code.specs.Execution.{Copy, copy_from, copy_of}
+use Rattle.psy_meaning.specs.Alike.{ActsAlike, owned_copy, owned_from}
+use Rattle.psy_tree.specs.Parts.{agent_at, no_agent}
+use Rattle.psy_tree.specs.declared.unit.Unit.{Unit as Whole}
 use Rattle.psy_tree.specs.declared.unit.VarDecl.{VarDecl}
-use Rattle.psy_kernel.specs.Cycles.{is_owned}
 use Rattle.psy_kernel.proofs.Sets.{get_set_other, get_set_same}
 
-pub owned_is : (agent : ℕ) (owner : Option ℕ) → is_owned agent owner ≡ true → owner ≡ Some agent
-owned_is agent None e = cc
-owned_is agent (Some owner) e = ap (λ n. Some n) (eqb-true owner agent e)
+-- ---- what is listed
 
-pub not_owned : (agent : ℕ) (owner : Option ℕ) → is_owned agent owner ≡ false → owner ≡ Some agent → ⊥
-not_owned agent None e is = cc
-not_owned agent (Some owner) e is = eqb-false owner agent e (let same : owner ≡ agent = cc in same)
+-- The variable of this number is one of these, counted from a number on, and the agent owns it.
+abbrev IsOwned : ℕ → ℕ → List VarDecl → ℕ → Type 0
+IsOwned agent first variables number = (n : ℕ) × (v : VarDecl) × (number ≡ first + n) × (slice_get variables n ≡ Some v) × (v.owner ≡ Some agent)
 
--- Those of the agent are the machine's, and the others are as they were
-pub record AreKept (variables : List VarDecl) (agent : ℕ) (copies : List Copy) (before : List ℤ) (now : List ℤ) (n : ℕ) : Type 0 where
+abbrev IsListed : List Copy → ℕ → Type 0
+IsListed copies number = (place : ℕ) × (c : Copy) × (slice_get copies place ≡ Some c) × (c.variable ≡ number)
+
+at_front : {X : Type 0} (xs ys : List X) (place : ℕ) (x : X) → slice_get xs place ≡ Some x → slice_get (xs ++ ys) place ≡ Some x
+at_front [] ys place x e = cc
+at_front (y ∷ xs) ys zero x e = e
+at_front (y ∷ xs) ys (suc place) x e = at_front xs ys place x e
+
+at_back : {X : Type 0} (xs ys : List X) (place : ℕ) → slice_get (xs ++ ys) (length xs + place) ≡ slice_get ys place
+at_back [] ys place = (let same : 0 + place ≡ place = omega arith in ap (slice_get ys) same)
+at_back (x ∷ xs) ys place = (let same : suc (length xs) + place ≡ suc (length xs + place) = omega arith in ap (slice_get ((x ∷ xs) ++ ys)) same ∙ at_back xs ys place)
+
+one_listed : (agent first : ℕ) (v : VarDecl) (rest : List Copy) → v.owner ≡ Some agent → IsListed (owned_copy agent first v v.owner ++ rest) first
+one_listed agent first v rest owned =
+    let same : owned_copy agent first v v.owner ≡ record { variable = first; value = v.init } ∷ [] =
+    ap (owned_copy agent first v) owned ∙ ap (λ b. if b then record { variable = first; value = v.init } ∷ [] else []) (eq-eqb agent agent refl) in
+    subst (λ copies. IsListed (copies ++ rest) first) (sym same) (0, record { variable = first; value = v.init }, refl, refl)
+
+later_listed : (here rest : List Copy) (number : ℕ) → IsListed rest number → IsListed (here ++ rest) number
+later_listed here rest number l = (length here + l.0, l.1, at_back here rest l.0 ∙ l.2, l.3)
+
+-- Each variable that the agent owns is listed.
+listed_from : (agent first : ℕ) (variables : List VarDecl) (n : ℕ) (v : VarDecl) → slice_get variables n ≡ Some v → v.owner ≡ Some agent → IsListed (owned_from agent first variables) (first + n)
+listed_from agent first [] n v at owned = cc
+listed_from agent first (w ∷ rest) zero v at owned =
+    let same : w ≡ v = cc in
+    subst (IsListed (owned_from agent first (w ∷ rest))) (omega arith) (one_listed agent first w (owned_from agent (first + 1) rest) (ap (λ (x : VarDecl). x.owner) same ∙ owned))
+listed_from agent first (w ∷ rest) (suc n) v at owned =
+    subst (IsListed (owned_from agent first (w ∷ rest))) (omega arith)
+    (later_listed (owned_copy agent first w w.owner) (owned_from agent (first + 1) rest) (first + 1 + n) (listed_from agent (first + 1) rest n v at owned))
+
+owned_here : (agent first : ℕ) (v : VarDecl) (owner : Option ℕ) (place : ℕ) (c : Copy) → slice_get (owned_copy agent first v owner) place ≡ Some c → (owner ≡ Some agent) × (c.variable ≡ first)
+owned_here agent first v None place c at = cc
+owned_here agent first v (Some owner) place c at = elim (cases_eq owner agent) [
+  | inl same ↦
+      let one : owned_copy agent first v (Some owner) ≡ record { variable = first; value = v.init } ∷ [] = ap (λ b. if b then record { variable = first; value = v.init } ∷ [] else []) (eq-eqb owner agent same) in
+      (ap Some same, only place (ap (λ xs. slice_get xs place) (sym one) ∙ at))
+  | inr other ↦
+      let none : owned_copy agent first v (Some owner) ≡ [] = ap (λ b. if b then record { variable = first; value = v.init } ∷ [] else []) (ne_eqb owner agent other) in
+      let wrong : slice_get {X = Copy} [] place ≡ Some c = ap (λ xs. slice_get xs place) (sym none) ∙ at in cc
+]
+  where
+    only : (n : ℕ) → slice_get (record { variable = first; value = v.init } ∷ []) n ≡ Some c → c.variable ≡ first
+    only zero e = cc
+    only (suc n) e = cc
+
+in_either : {X : Type 0} (xs ys : List X) (place : ℕ) (x : X) → slice_get (xs ++ ys) place ≡ Some x → (slice_get xs place ≡ Some x) ⊎ ((n : ℕ) × (slice_get ys n ≡ Some x))
+in_either [] ys place x e = inr (place, e)
+in_either (y ∷ xs) ys zero x e = inl e
+in_either (y ∷ xs) ys (suc place) x e = in_either xs ys place x e
+
+-- Each variable that is listed is one that the agent owns.
+owned_each : (agent first : ℕ) (variables : List VarDecl) (place : ℕ) (c : Copy) → slice_get (owned_from agent first variables) place ≡ Some c → IsOwned agent first variables c.variable
+owned_each agent first [] place c at = cc
+owned_each agent first (v ∷ rest) place c at = elim (in_either (owned_copy agent first v v.owner) (owned_from agent (first + 1) rest) place c at) [
+  | inl here ↦ (let found = owned_here agent first v v.owner place c here in (0, v, found.1 ∙ omega arith, refl, found.0))
+  | inr later ↦ (let found = owned_each agent (first + 1) rest later.0 c later.1 in (suc found.0, found.1, found.2 ∙ omega arith, found.3, found.4))
+]
+
+-- ---- of code
+
+copied : (own : List CopyInit) (place : ℕ) (c : CopyInit) → slice_get own place ≡ Some c → slice_get (map copy_from own) place ≡ Some (copy_from c)
+copied [] place c e = cc
+copied (d ∷ own) zero c e = (let same : d ≡ c = cc in ap (λ x. Some (copy_from x)) same)
+copied (d ∷ own) (suc place) c e = copied own place c e
+
+copied_back : (own : List CopyInit) (place : ℕ) (c : Copy) → slice_get (map copy_from own) place ≡ Some c → (d : CopyInit) × (slice_get own place ≡ Some d) × (d.variable ≡ c.variable)
+copied_back [] place c e = cc
+copied_back (d ∷ own) zero c e = (let same : copy_from d ≡ c = cc in (d, refl, ap (λ (x : Copy). x.variable) same))
+copied_back (d ∷ own) (suc place) c e = copied_back own place c e
+
+module _ (agent : ℕ) (variables : List VarDecl) (own : List CopyInit) (is : map copy_from own ≡ owned_from agent 0 variables) where
+  pub own_owned : (place : ℕ) (c : CopyInit) → slice_get own place ≡ Some c → (v : VarDecl) × (slice_get variables c.variable ≡ Some v) × (v.owner ≡ Some agent)
+  own_owned place c at =
+      let found = owned_each agent 0 variables place (copy_from c) (ap (λ xs. slice_get xs place) (sym is) ∙ copied own place c at) in
+      (found.1, ap (slice_get variables) (found.2 ∙ omega arith) ∙ found.3, found.4)
+
+  pub owned_own : (variable : ℕ) (v : VarDecl) → slice_get variables variable ≡ Some v → v.owner ≡ Some agent → (place : ℕ) × (c : CopyInit) × (slice_get own place ≡ Some c) × (c.variable ≡ variable)
+  owned_own variable v at owned =
+      let listed = listed_from agent 0 variables variable v at owned in
+      let back = copied_back own listed.0 listed.1 (ap (λ xs. slice_get xs listed.0) is ∙ listed.2) in
+      (listed.0, back.0, back.1, back.2 ∙ listed.3 ∙ omega arith)
+
+-- The copies of an agent's code are those of the variables that it owns.
+pub copies_of : (unit : Whole) (code : Code) → ActsAlike unit code → (agent : ℕ) → agent < length unit.agents → (agents : List AgentCode) → agents ≡ code.agents → (its : AgentCode) → its ≡ get_or agents agent its
+    → (own : List CopyInit) → own ≡ its.copies → map copy_from own ≡ owned_from agent 0 unit.variables
+copies_of unit code alike agent known agents same its is own of =
+    let within : agent < length code.agents = omega (arith, known, alike.agents) in
+    let at : slice_get code.agents agent ≡ Some its = slice_get_read code.agents (length code.agents) agent its refl within (is ∙ ap (λ xs. get_or xs agent its) same) in
+    ap (map copy_from) of ∙ (alike.each agent (agent_at unit agent) its (slice_get-get_or unit.agents agent no_agent known) at).copies
+
+-- ---- the first so many of a list
+
+-- Those of the first so many are the machine's, and what isn't listed is as it was.
+pub record AreKept (listed : List CopyInit) (copies : List Copy) (before now : List ℤ) (n : ℕ) : Type 0 where
   pub all : length now ≡ length before
-  pub own : (variable : ℕ) (v : VarDecl) (value : ℤ) → variable < n → slice_get variables variable ≡ Some v → v.owner ≡ Some agent → slice_get now variable ≡ Some value → copy_of variable copies ≡ Some value
-  pub others : (variable : ℕ) (v : VarDecl) → slice_get variables variable ≡ Some v → v.owner ≢ Some agent → slice_get now variable ≡ slice_get before variable
+  pub own : (place : ℕ) (c : CopyInit) (value : ℤ) → place < n → slice_get listed place ≡ Some c → slice_get now c.variable ≡ Some value → copy_of c.variable copies ≡ Some value
+  pub others : (variable : ℕ) → ((place : ℕ) (c : CopyInit) → slice_get listed place ≡ Some c → c.variable ≢ variable) → slice_get now variable ≡ slice_get before variable
 
-module _ (variables : List VarDecl) (agent : ℕ) (copies : List Copy) (before : List ℤ) where
-  pub none_kept : AreKept variables agent copies before before 0
+module _ (own : List CopyInit) (copies : List Copy) (before : List ℤ) where
+  pub none_kept : AreKept own copies before before 0
   none_kept = record {
     all = refl;
-    own = λ variable v value less. absurd (omega (arith, less));
-    others = λ variable v is other. refl;
+    own = λ place c value less. absurd (omega (arith, less));
+    others = λ variable unlisted. refl;
   }
 
-  module _ (now : List ℤ) (n : ℕ) (w : VarDecl) (at : slice_get variables n ≡ Some w) (h : AreKept variables agent copies before now n) where
-    pub one_kept : (value : ℤ) → w.owner ≡ Some agent → copy_of n copies ≡ Some value → length (slice_set now n value) ≡ length now → AreKept variables agent copies before (slice_set now n value) (n + 1)
-    one_kept value owned copy same = record {
-      all = same ∙ h.all;
-      own = λ variable v x less is its here. elim (cases_eq variable n) [
-        | inl e ↦ (let x_is : x ≡ value = get_set_same now n value x (sym (ap (slice_get (slice_set now n value)) e) ∙ here) in ap (λ k. copy_of k copies) e ∙ copy ∙ ap (λ z. Some z) (sym x_is))
-        | inr other ↦ h.own variable v x (let low : variable < n = grind (arith, other, less) in low) is its (sym (get_set_other now n variable value other) ∙ here)
-      ];
-      others = λ variable v is other. get_set_other now n variable value (λ e. other (let same_v : Some v ≡ Some w = sym is ∙ ap (slice_get variables) e ∙ at in let v_is : v ≡ w = cc in ap (λ (u : VarDecl). u.owner) v_is ∙ owned)) ∙ h.others variable v is other;
-    }
+  pub one_kept : (now : List ℤ) (n : ℕ) (c : CopyInit) (value : ℤ) → slice_get own n ≡ Some c → copy_of c.variable copies ≡ Some value → length (slice_set now c.variable value) ≡ length now
+      → AreKept own copies before now n → AreKept own copies before (slice_set now c.variable value) (n + 1)
+  one_kept now n c value at copy same h = record {
+    all = same ∙ h.all;
+    own = λ place d x less is here. elim (cases_eq d.variable c.variable) [
+      | inl e ↦ (let x_is : x ≡ value = get_set_same now c.variable value x (ap (slice_get (slice_set now c.variable value)) (sym e) ∙ here) in ap (λ k. copy_of k copies) e ∙ copy ∙ ap Some (sym x_is))
+      | inr other ↦ elim (cases_eq place n) [
+        | inl last ↦ absurd (other (let both : Some d ≡ Some c = sym is ∙ ap (slice_get own) last ∙ at in let d_is : d ≡ c = cc in ap (λ (y : CopyInit). y.variable) d_is))
+        | inr earlier ↦ h.own place d x (let low : place < n = grind (arith, earlier, less) in low) is (sym (get_set_other now c.variable d.variable value other) ∙ here)
+      ]
+    ];
+    others = λ variable unlisted. get_set_other now c.variable variable value (λ e. unlisted n c at (sym e)) ∙ h.others variable unlisted;
+  }
 
-    pub none_more : (w.owner ≡ Some agent → ⊥) → AreKept variables agent copies before now (n + 1)
-    none_more not = record {
-      all = h.all;
-      own = λ variable v x less is its here. elim (cases_eq variable n) [
-        | inl e ↦ absurd (not (let same_v : Some v ≡ Some w = sym is ∙ ap (slice_get variables) e ∙ at in let w_is : w ≡ v = cc in ap (λ (u : VarDecl). u.owner) w_is ∙ its))
-        | inr other ↦ h.own variable v x (let low : variable < n = grind (arith, other, less) in low) is its here
-      ];
-      others = h.others;
-    }
+pub copy_there : (own : List CopyInit) (place : ℕ) → place < length own → (c : CopyInit) × (slice_get own place ≡ Some c)
+copy_there [] place l = absurd (omega (arith, l))
+copy_there (c ∷ own) zero l = (c, refl)
+copy_there (c ∷ own) (suc place) l = copy_there own place (omega (arith, l))

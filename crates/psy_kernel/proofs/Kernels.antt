@@ -1,6 +1,6 @@
 -- A kernel that has given its cycles and not yet counted them.
 use Rattle.std.proofs.Common.{◌≡◌, sym, ap, ◌∙◌, subst, arith}
-use Rattle.std.specs.Prelude.{ℕ, ◌+◌, ◌*◌, ◌<◌, ◌≤◌, Bool, true, false, nat_lt, List, ◌∷◌, length, slice_get, Option, None, Some, ℤ}
+use Rattle.std.specs.Prelude.{ℕ, suc, ◌+◌, ◌*◌, ◌<◌, ◌≤◌, Bool, true, false, nat_lt, List, ◌∷◌, length, slice_get, Option, None, Some, ℤ}
 use Rattle.std.specs.List.{range_with_len}
 use Rattle.std.proofs.lemmas.Bool.{ltb-false, true≢false}
 use Rattle.std.proofs.lemmas.Nat.{mul-le}
@@ -9,7 +9,9 @@ use Rattle.psy_dates.specs.Plans.{IsPlan}
 use Rattle.psy_history.specs.Compiled.{AreInputs}
 use Rattle.psy_dates.specs.Standing.{dates_done}
 use Rattle.psy_history.specs.Regular.{IsLawful}
-use Rattle.psy_history.specs.Actions.{Action, History, System}
+use Rattle.psy_history.specs.Actions.{Action, History, Opening, System}
+use Rattle.psy_history.specs.Openings.{IsSound}
+use Rattle.psy_history.specs.Ways.{OfText}
 use Rattle.psy_history.specs.History.{history}
 use Rattle.psy_history.specs.Schedule.{Turn, is_pending}
 use Rattle.psy_history.specs.Summary.{reach}
@@ -19,19 +21,23 @@ use Rattle.psy_kernel.specs.declared.kernel.Kernel.TheInside.{Inside}
 use Rattle.psy_history.specs.declared.told.Order.{Order}
 use Rattle.psy_history.specs.declared.told.Script.{Script}
 use Rattle.psy_kernel.specs.declared.stage.Stage.TheVariants.{CycleDue}
-use Rattle.psy_kernel.specs.Progress.{Progress, stage_of}
+use Rattle.psy_kernel.specs.Progress.{Progress, beginning, stage_of}
 use Rattle.psy_history.specs.Scripts.{order_of}
 use Rattle.psy_kernel.specs.Standing.{AreInForce, IsChosen, KernelStands, given_at, most_held_in, progress_of}
 use Rattle.psy_kernel.proofs.OrdersInForce.{in_force_is, lists_order, no_more}
 use Rattle.psy_kernel.proofs.Parts.{PartsStand}
 use Rattle.psy_kernel.proofs.Stages.{IsInside, cycle_due, inside_tick, tick_kept}
 
--- The run of a kernel
+-- Where the run of a kernel begins
+abbrev pub opening_in : Inside → Opening
+opening_in k = beginning (progress_of k)
+
+-- Its run
 abbrev pub run_in : Inside → System
-run_in k = run_of k.plan k.shared.inputs.lists k.script
+run_in k = run_of k.plan (opening_in k) k.shared.inputs.lists k.script
 
 abbrev pub turns_in : Inside → ℕ → List (Option Turn)
-turns_in k cycles = run_turns k.plan k.shared.inputs.lists k.script cycles
+turns_in k cycles = run_turns k.plan (opening_in k) k.shared.inputs.lists k.script cycles
 
 abbrev pub PartsIn : Inside → ℕ → Type 0
 PartsIn k cycles = PartsStand (run_in k) k.plan.code k.plan.until (turns_in k cycles) (dates_done k.shared.date) k.shared k.machines.items k.charges.items k.ready k.figures.items
@@ -48,13 +54,15 @@ HeldIn k = (stream n : ℕ) → slice_get k.helds.items stream ≡ Some n → n 
 pub record IsBetween (m : Inside) (n : ℕ) : Type 0 where
   pub date : ℕ
   pub dates : dates_done m.shared.date ≡ date + 1
-  pub cycle : IsCycleOf m.plan m.shared.inputs.lists m.script date m.cycles
+  pub cycle : IsCycleOf m.plan (opening_in m) m.shared.inputs.lists m.script date m.cycles
   pub inside : m.cycles + n ≤ (date + 1) * m.plan.unit.quantum
   pub parts : PartsIn m (m.cycles + n)
   pub reaching : length m.reaches.items ≡ length m.plan.unit.variables
   pub reached : ReachedIn m (m.cycles + n)
   pub holding : length m.helds.items ≡ length m.plan.unit.streams
   pub held : HeldIn m
+  pub behind : (opening_in m).dates ≤ dates_done m.shared.date
+  pub before : (last : ℕ) → (opening_in m).dates ≡ suc last → dates_done m.shared.date ≡ suc last → m.place ≡ length m.plan.unit.agents + length m.plan.unit.variables + length m.plan.unit.streams
   pub all : m.declared.items ≡ range_with_len 0 (length m.plan.unit.agents)
   pub orders : AreInForce m.script.orders m.passed m.cycles
   pub choice : m.stale ≡ false → IsChosen m.ready (order_of m.plan.unit m.script m.cycles) m.chosen
@@ -86,11 +94,12 @@ module _ (k : Inside) (is : KernelStands k) where
   pub inside_of : stage_of (progress_of k) ≡ CycleDue k.cycles → (date : ℕ) × IsInside k.plan.unit.quantum k.plan.until (dates_done k.shared.date) k.cycles date
   inside_of due = let h = cycle_due (progress_of k) due in inside_tick k.plan.unit.quantum k.plan.until (dates_done k.shared.date) k.cycles is.in_tick h.0 h.1
 
-  pub cycle_in : (most : k.plan.until ≤ 4294967295) (date : ℕ) → IsInside k.plan.unit.quantum k.plan.until (dates_done k.shared.date) k.cycles date → IsCycleOf k.plan k.shared.inputs.lists k.script date k.cycles
+  pub cycle_in : (most : k.plan.until ≤ 4294967295) (date : ℕ) → IsInside k.plan.unit.quantum k.plan.until (dates_done k.shared.date) k.cycles date → IsCycleOf k.plan (opening_in k) k.shared.inputs.lists k.script date k.cycles
   cycle_in most date h = record {
     of_plan = is.plan;
     of_inputs = is.inputs;
     of_script = is.script;
+    sound = is.sound;
     before = h.1;
     most = most;
     low = h.2;
@@ -116,6 +125,9 @@ module _ (m : Inside) (n : ℕ) (b : IsBetween m n) where
     plan = b.cycle.of_plan;
     inputs = b.cycle.of_inputs;
     script = b.cycle.of_script;
+    sound = b.cycle.sound;
+    behind = b.behind;
+    before = b.before;
     in_tick = tick_kept m.plan.unit.quantum m.plan.until (dates_done m.shared.date) m.cycles b.date n inside_between b.inside;
     shared = b.parts.shares;
     machined = b.parts.machined;
@@ -157,27 +169,27 @@ module _ (m : Inside) (n : ℕ) (b : IsBetween m n) where
 pub record IsDue (k : Inside) : Type 0 where
   pub date : ℕ
   pub inside : IsInside k.plan.unit.quantum k.plan.until (dates_done k.shared.date) k.cycles date
-  pub cycle : IsCycleOf k.plan k.shared.inputs.lists k.script date k.cycles
+  pub cycle : IsCycleOf k.plan (opening_in k) k.shared.inputs.lists k.script date k.cycles
   pub lawful : IsLawful (run_in k)
   pub over : (agent : ℕ) → AreOver (turns_in k k.cycles) (history (run_in k) (date + 1) agent)
   pub gets : (agent : ℕ) (r : Action) (before : List Action) → history (run_in k) (date + 1) agent ≡ r ∷ before → is_pending (turns_in k k.cycles) r ≡ true → GetsCycle (run_in k) k.plan.code (turns_in k k.cycles) k.plan.until date k.cycles agent r before
-  pub looks : (cycle agent : ℕ) (r : Action) (before : List Action) → IsCycleOf k.plan k.shared.inputs.lists k.script date cycle → history (run_in k) (date + 1) agent ≡ r ∷ before → is_pending (turns_in k cycle) r ≡ true → LooksBack (run_in k) k.plan.code (turns_in k cycle) date r
+  pub looks : (cycle agent : ℕ) (r : Action) (before : List Action) → IsCycleOf k.plan (opening_in k) k.shared.inputs.lists k.script date cycle → history (run_in k) (date + 1) agent ≡ r ∷ before → is_pending (turns_in k cycle) r ≡ true → LooksBack (run_in k) k.plan.code (turns_in k cycle) date r
   pub idle : (turns : List (Option Turn)) (h : History) (variable : ℕ) → reach (run_in k) (None ∷ turns) h variable ≡ reach (run_in k) turns h variable
   pub small : (date + 1) * k.plan.unit.quantum < 18446744073709551615
 
 module _ (k : Inside) (is : KernelStands k) where
-  small_cycles : (date : ℕ) → IsCycleOf k.plan k.shared.inputs.lists k.script date k.cycles → (date + 1) * k.plan.unit.quantum < 18446744073709551615
+  small_cycles : (date : ℕ) → IsCycleOf k.plan (opening_in k) k.shared.inputs.lists k.script date k.cycles → (date + 1) * k.plan.unit.quantum < 18446744073709551615
   small_cycles date c =
       let a = mul-le (date + 1) k.plan.unit.quantum 4294967295 1000000 (omega (arith, c.before, c.most)) is.plan.compiled.text.bare.quantum.1 in
       omega (arith, a)
 
   pub due_by : (p : Progress) → progress_of k ≡ p → stage_of p ≡ CycleDue p.cycles → k.plan.until ≤ 4294967295
-      → ((plan : Plan) (inputs : List (List ℤ)) (script : Script) → IsPlan plan → AreInputs plan.unit inputs → IsLawful (run_of plan inputs script))
-      → ((plan : Plan) (inputs : List (List ℤ)) (script : Script) (date cycle agent : ℕ) → IsCycleOf plan inputs script date cycle → AreOver (run_turns plan inputs script cycle) (history (run_of plan inputs script) (date + 1) agent))
-      → ((plan : Plan) (inputs : List (List ℤ)) (script : Script) (date cycle agent : ℕ) (r : Action) (before : List Action) → IsCycleOf plan inputs script date cycle → history (run_of plan inputs script) (date + 1) agent ≡ r ∷ before → is_pending (run_turns plan inputs script cycle) r ≡ true
-      → GetsCycle (run_of plan inputs script) plan.code (run_turns plan inputs script cycle) plan.until date cycle agent r before)
-      → ((plan : Plan) (inputs : List (List ℤ)) (script : Script) (date cycle agent : ℕ) (r : Action) (before : List Action) → IsCycleOf plan inputs script date cycle → history (run_of plan inputs script) (date + 1) agent ≡ r ∷ before → is_pending (run_turns plan inputs script cycle) r ≡ true
-      → LooksBack (run_of plan inputs script) plan.code (run_turns plan inputs script cycle) date r)
+      → ((plan : Plan) (opening : Opening) (inputs : List (List ℤ)) (script : Script) → IsPlan plan → AreInputs plan.unit inputs → IsSound (run_of plan opening inputs script) (OfText plan.unit) plan.code → IsLawful (run_of plan opening inputs script))
+      → ((plan : Plan) (opening : Opening) (inputs : List (List ℤ)) (script : Script) (date cycle agent : ℕ) → IsCycleOf plan opening inputs script date cycle → AreOver (run_turns plan opening inputs script cycle) (history (run_of plan opening inputs script) (date + 1) agent))
+      → ((plan : Plan) (opening : Opening) (inputs : List (List ℤ)) (script : Script) (date cycle agent : ℕ) (r : Action) (before : List Action) → IsCycleOf plan opening inputs script date cycle → history (run_of plan opening inputs script) (date + 1) agent ≡ r ∷ before → is_pending (run_turns plan opening inputs script cycle) r ≡ true
+      → GetsCycle (run_of plan opening inputs script) plan.code (run_turns plan opening inputs script cycle) plan.until date cycle agent r before)
+      → ((plan : Plan) (opening : Opening) (inputs : List (List ℤ)) (script : Script) (date cycle agent : ℕ) (r : Action) (before : List Action) → IsCycleOf plan opening inputs script date cycle → history (run_of plan opening inputs script) (date + 1) agent ≡ r ∷ before → is_pending (run_turns plan opening inputs script cycle) r ≡ true
+      → LooksBack (run_of plan opening inputs script) plan.code (run_turns plan opening inputs script cycle) date r)
       → ((s : System) (turns : List (Option Turn)) (h : History) (variable : ℕ) → reach s (None ∷ turns) h variable ≡ reach s turns h variable)
       → IsDue k
   due_by p e due most lawful over gets looks idle =
@@ -187,10 +199,10 @@ module _ (k : Inside) (is : KernelStands k) where
         date = w.0;
         inside = w.1;
         cycle = cycle;
-        lawful = lawful k.plan k.shared.inputs.lists k.script is.plan is.inputs;
-        over = λ agent. over k.plan k.shared.inputs.lists k.script w.0 k.cycles agent cycle;
-        gets = λ agent r before. gets k.plan k.shared.inputs.lists k.script w.0 k.cycles agent r before cycle;
-        looks = λ at agent r before. looks k.plan k.shared.inputs.lists k.script w.0 at agent r before;
+        lawful = lawful k.plan (opening_in k) k.shared.inputs.lists k.script is.plan is.inputs is.sound;
+        over = λ agent. over k.plan (opening_in k) k.shared.inputs.lists k.script w.0 k.cycles agent cycle;
+        gets = λ agent r before. gets k.plan (opening_in k) k.shared.inputs.lists k.script w.0 k.cycles agent r before cycle;
+        looks = λ at agent r before. looks k.plan (opening_in k) k.shared.inputs.lists k.script w.0 at agent r before;
         idle = idle (run_in k);
         small = small_cycles w.0 cycle;
       }

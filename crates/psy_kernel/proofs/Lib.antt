@@ -46,9 +46,11 @@ mod Stages
 mod Started
 mod Supplied
 mod Bursts
+mod Figures
 mod ManyCycles
 mod OnTheWay
 mod Scenes
 mod Stretched
 mod GivenCycles
 mod SliceEnds
+mod Unpublished

@@ -1,6 +1,6 @@
 -- What the pending action that gets a cycle sees by the rings, and how far back it looks, in the run of a plan.
 use Rattle.std.proofs.Common.{◌≡◌, refl, sym, ap, ◌∙◌, subst, arith}
-use Rattle.std.specs.Prelude.{ℕ, ◌+◌, ◌*◌, ◌/◌, ◌==◌, ◌<◌, ◌≤◌, List, [], ◌∷◌, drop, filter, length, map, nat_le, take, Option, Some, None, slice_get, ℤ, pos}
+use Rattle.std.specs.Prelude.{ℕ, ◌+◌, ◌*◌, ◌/◌, ◌==◌, ◌<◌, ◌≤◌, List, ◌∷◌, drop, filter, length, map, nat_le, take, Option, Some, slice_get, ℤ}
 use Rattle.std.specs.List.{All, Contains, count_by}
 use Rattle.std.proofs.lemmas.List.Elements.{All-contains}
 use Rattle.std.proofs.lemmas.Option.{slice_get_within}
@@ -14,7 +14,7 @@ use Rattle.psy_code.specs.declared.look.Sent.{Sent}
 use Rattle.psy_code.specs.Execution.{RunState, Running, call_of, run_code}
 use Rattle.psy_code.specs.Views.{Send, messages_of, past_of}
 use Rattle.psy_dates.specs.declared.plan.Plan.{Plan}
-use Rattle.psy_dates.specs.Plans.{IsPlan, system_of}
+use Rattle.psy_dates.specs.Plans.{IsPlan, opened_of}
 use Rattle.psy_history.specs.Compiled.{IsCompiled}
 use Rattle.psy_history.specs.Queues.{queue_of}
 use Rattle.psy_history.specs.Regular.{IsLawful, IsRegular, begun_by}
@@ -23,7 +23,7 @@ use Rattle.psy_history.specs.Runs.{IsRun}
 use Rattle.psy_history.specs.Scheduled.{IsSupplied, turns_of}
 use Rattle.psy_history.specs.Ways.{Looks, OfText, Ways}
 use Rattle.psy_history.specs.WaySizes as by_ways
-use Rattle.psy_history.specs.Actions.{Action, System, publishing, variable_of}
+use Rattle.psy_history.specs.Actions.{Action, Opening, System, publishing, variable_of}
 use Rattle.psy_history.specs.Executors.{agent_code_at}
 use Rattle.psy_tree.specs.Parts.{agent_at, no_clock, no_variable}
 use Rattle.psy_base.specs.Extremes.{IsGreatest}
@@ -91,9 +91,9 @@ clock_lawful plan is s e variable less =
     let bare : IsBare s.unit = subst IsBare (sym e) is.compiled.text.bare in
     bare.clocks (variable_of s variable).clock no_clock (IsBareVariable.clock (bare.variables variable no_variable less))
 
-module _ (plan : Plan) (inputs : List (List ℤ)) (stalls : ℕ → List Stall) (is : IsPlan plan) (run : IsRun (system_of plan inputs stalls) (OfText plan.unit) plan.code) (script : Script) (date cycle : ℕ) (low : date * plan.unit.quantum ≤ cycle) (high : cycle < (date + 1) * plan.unit.quantum) where
+module _ (plan : Plan) (opening : Opening) (inputs : List (List ℤ)) (stalls : ℕ → List Stall) (is : IsPlan plan) (run : IsRun (opened_of plan opening inputs stalls) (OfText plan.unit) plan.code) (script : Script) (date cycle : ℕ) (low : date * plan.unit.quantum ≤ cycle) (high : cycle < (date + 1) * plan.unit.quantum) where
   abbrev s : System
-  s = system_of plan inputs stalls
+  s = opened_of plan opening inputs stalls
 
   abbrev ways : Ways
   ways = OfText plan.unit

@@ -1,5 +1,5 @@
 -- What the agent has whose action gets many cycles in a row, and what it did.
-use Rattle.std.proofs.Common.{◌≡◌, ℕ, zero, suc, ◌+◌, ◌-◌, ◌*◌, ◌<◌, ◌≤◌, true, false, List, [], ◌∷◌, length, get_or, Option, Some, None, slice_get, ℤ, refl, sym, ap, ◌∙◌, subst, arith}
+use Rattle.std.proofs.Common.{◌≡◌, ℕ, zero, suc, ◌+◌, ◌-◌, ◌*◌, ◌^◌, ◌<◌, ◌≤◌, true, false, List, [], ◌∷◌, length, get_or, Option, Some, None, slice_get, ℤ, refl, sym, ap, ◌∙◌, subst, arith}
 use Rattle.std.specs.Prelude.{IsSome}
 use Rattle.std.proofs.lemmas.Bool.{cond-true, lt-ltb, le-ltb, ltb-true}
 use Rattle.std.proofs.lemmas.Nat.{mul-le}
@@ -14,9 +14,9 @@ use Rattle.psy_dates.specs.declared.plan.Plan.{Plan}
 use Rattle.psy_dates.specs.declared.seat.Seat.{Seat}
 use Rattle.psy_dates.specs.declared.seat.Phase.TheVariants as phase
 use Rattle.psy_dates.specs.Outboxes.{Outboxed}
-use Rattle.psy_dates.specs.Plans.{system_of}
+use Rattle.psy_dates.specs.Plans.{opened_of}
 use Rattle.psy_machine.specs.Stepping.{AgentMachine, IsOf}
-use Rattle.psy_history.specs.Actions.{Action, System, timing}
+use Rattle.psy_history.specs.Actions.{Action, Opening, System, timing}
 use Rattle.psy_history.specs.Executors.{agent_code_at}
 use Rattle.psy_history.specs.History.{history}
 use Rattle.psy_history.specs.Regular.{begun_by}
@@ -93,6 +93,7 @@ module _ (s : System) (code : Code) (turns : List (Option Turn)) (until date cyc
     pending = is_on r turns k less;
     numbers = g.numbers;
     few = g.few;
+    counted = g.counted;
     started = g.started;
     later = g.later;
     at = let e = length_many r turns k in omega (arith, e, g.at);
@@ -216,11 +217,11 @@ module _ (s : System) (code : Code) (turns : List (Option Turn)) (until date cyc
 
 -- ---- what is given of all of them
 
-module _ {plan : Plan} {inputs : List (List ℤ)} {stalls : ℕ → List Stall} {turns : List (Option Turn)} {date cycle agent most : ℕ} {r : Action} {before : List Action} {charge : Charged} {machine : AgentMachine} {waits : Option ℕ} {figure : Figure} {seat : Seat}
+module _ {plan : Plan} {opening : Opening} {inputs : List (List ℤ)} {stalls : ℕ → List Stall} {turns : List (Option Turn)} {date cycle agent most : ℕ} {r : Action} {before : List Action} {charge : Charged} {machine : AgentMachine} {waits : Option ℕ} {figure : Figure} {seat : Seat}
     {ended : List ℤ} {rings : List (List ℤ)} {queues : List Queued} {taken : List ℕ} {outbox : Outboxed}
-    (given : MayLast plan inputs stalls turns date cycle agent most r before charge machine waits figure seat ended rings queues taken outbox) where
+    (given : MayLast plan opening inputs stalls turns date cycle agent most r before charge machine waits figure seat ended rings queues taken outbox) where
   abbrev s : System
-  s = system_of plan inputs stalls
+  s = opened_of plan opening inputs stalls
 
   abbrev begun : ℕ
   begun = first r turns
@@ -288,7 +289,7 @@ module _ {plan : Plan} {inputs : List (List ℤ)} {stalls : ℕ → List Stall} 
   pub charged_at : charge ≡ charge_after s r begun
   charged_at = given.given.has.stands.charged
 
-  pub count_fits : figure.count ≤ plan.until
+  pub count_fits : figure.count ≤ 2 ^ 50 + plan.until
   count_fits = count_few s plan.code turns plan.until date cycle agent r before given.given.gets figure given.given.has.stands.counted given.given.has.stands.slacked
 
   -- behind them

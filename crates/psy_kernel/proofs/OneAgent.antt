@@ -1,6 +1,6 @@
 -- What the agent whose action gets a cycle has after it.
 use Rattle.std.proofs.Common.{◌≡◌, refl, sym, ap, ◌∙◌, subst, inl, inr, arith}
-use Rattle.std.specs.Prelude.{ℕ, suc, ◌+◌, ◌-◌, ◌*◌, ◌<◌, ◌≤◌, Bool, true, false, not, nat_le, nat_lt, if◌then◌else◌, List, [], ◌∷◌, filter, length, Option, Some, None, slice_get, ℤ, pos}
+use Rattle.std.specs.Prelude.{ℕ, suc, ◌+◌, ◌-◌, ◌*◌, ◌<◌, ◌≤◌, Bool, true, false, not, nat_le, nat_lt, if◌then◌else◌, List, [], ◌∷◌, filter, length, map, ◌^◌, Option, Some, None, slice_get, ℤ}
 use Rattle.std.specs.List.{All}
 use Rattle.std.proofs.lemmas.Bool.{cases_lt, cond-true, cond-false, and_right, ltb-true, lt-ltb, le-ltb, le-leb, lt-leb}
 use Rattle.std.proofs.lemmas.List.{get_or_past}
@@ -20,14 +20,15 @@ use Rattle.psy_history.specs.Schedule.{Turn, finish, is_of, is_pending, units, w
 use Rattle.psy_meaning.specs.States.{value_or_zero}
 use Rattle.psy_meaning.specs.Timing.{end_date}
 use Rattle.psy_tree.specs.declared.unit.VarDecl.{VarDecl}
-use Rattle.psy_history.specs.Summary.{due_by, slack, slack_of}
+use Rattle.psy_history.specs.Summary.{due_by, due_count, least_slack, slack_of}
 use Rattle.psy_base.specs.Extremes.{lesser}
 use Rattle.psy_kernel.specs.Acting.{AfterCycle, InAction}
 use Rattle.psy_kernel.specs.Cycles.{GetsCycle, OneStands, figured}
 use Rattle.psy_kernel.specs.declared.kernel.Figure.{Figure}
 use Rattle.psy_kernel.specs.declared.kernel.advance.Gone.TheVariants as gone
 use Rattle.psy_kernel.specs.Standing.{IsAtEnd, IsRunning, MachineIn, charge_after, settled}
-use Rattle.psy_kernel.proofs.OtherAgents.{AreSameFor, is_own, missed, other_number, settled_same, slack_settled_same}
+use Rattle.psy_kernel.proofs.Figures.{added_is, added_more, least_more}
+use Rattle.psy_kernel.proofs.OtherAgents.{AreSameFor, is_own, least_settled_same, missed, other_number, settled_same}
 use Rattle.psy_tree.specs.Parts.{no_variable}
 
 -- ---- settled actions
@@ -101,44 +102,45 @@ module _ (s : System) (code : Code) (turns : List (Option Turn)) (until date cyc
   settled_then = settled_behind (λ q. not (is_pending turns q)) until r before (ap not g.pending)
 
   -- the figures before
-  module _ (figure : Figure) (counted : figure.count ≡ length (settled turns until (r ∷ before))) (slacked : figure.slack ≡ slack s.unit.quantum turns (settled turns until (r ∷ before))) where
-    pub count_few : figure.count ≤ until
+  module _ (figure : Figure) (counted : figure.count ≡ due_count s agent (settled turns until (r ∷ before))) (slacked : figure.slack ≡ least_slack s turns agent (settled turns until (r ∷ before))) where
+    pub count_few : figure.count ≤ 2 ^ 50 + until
     count_few =
-        let e = counted ∙ ap length settled_then in
+        let e = counted ∙ ap (due_count s agent) settled_then ∙ added_is (s.opening.count agent) (length (settled turns until before)) in
         let a = filter_length (λ q. not (is_pending turns q)) (due_by until before) in
         let b = filter_length (λ (q : Action). nat_le q.deadline until) before in
-        omega (arith, e, a, b, g.few)
+        omega (arith, e, a, b, g.few, g.counted)
 
-    count_before : figure.count ≡ length (settled now until before)
-    count_before = counted ∙ ap length (settled_then ∙ sym (settled_same turns now until before older))
+    count_before : figure.count ≡ due_count s agent (settled now until before)
+    count_before = counted ∙ ap (due_count s agent) (settled_then ∙ sym (settled_same turns now until before older))
 
-    slack_before : figure.slack ≡ slack s.unit.quantum now (settled now until before)
-    slack_before = slacked ∙ ap (slack s.unit.quantum turns) settled_then ∙ sym (slack_settled_same turns now s.unit.quantum until before older)
+    slack_before : figure.slack ≡ least_slack s now agent (settled now until before)
+    slack_before = slacked ∙ ap (least_slack s turns agent) settled_then ∙ sym (least_settled_same turns now s until agent before older)
 
-    count_kept : is_pending now r ≡ true → figure.count ≡ length (settled now until (r ∷ before))
-    count_kept h = count_before ∙ ap length (sym (settled_now h))
+    count_kept : is_pending now r ≡ true → figure.count ≡ due_count s agent (settled now until (r ∷ before))
+    count_kept h = count_before ∙ ap (due_count s agent) (sym (settled_now h))
 
-    slack_kept : is_pending now r ≡ true → figure.slack ≡ slack s.unit.quantum now (settled now until (r ∷ before))
-    slack_kept h = slack_before ∙ ap (slack s.unit.quantum now) (sym (settled_now h))
+    slack_kept : is_pending now r ≡ true → figure.slack ≡ least_slack s now agent (settled now until (r ∷ before))
+    slack_kept h = slack_before ∙ ap (least_slack s now agent) (sym (settled_now h))
 
     abbrev after : Figure
     after = figured until s.unit.quantum r.deadline (cycle + 1) figure
 
     -- the figures of an action that is due by the last date, and of one that isn't
     abbrev AreFigures : Figure → Type 0
-    AreFigures f = (f.count ≡ length (settled now until (r ∷ before))) × (f.slack ≡ slack s.unit.quantum now (settled now until (r ∷ before)))
+    AreFigures f = (f.count ≡ due_count s agent (settled now until (r ∷ before))) × (f.slack ≡ least_slack s now agent (settled now until (r ∷ before)))
 
     figures_due : is_pending now r ≡ false → r.deadline ≤ until → AreFigures (record { count = figure.count + 1; slack = lesser (r.deadline * s.unit.quantum - (cycle + 1)) figure.slack })
     figures_due h due =
         let e = settled_first (λ q. not (is_pending now q)) until r before due (ap not h) in (
-          omega (arith, count_before, ap length e),
-          ap (λ n. lesser (r.deadline * s.unit.quantum - n) figure.slack) (sym finished) ∙ ap (lesser (slack_of s.unit.quantum now r)) slack_before ∙ ap (slack s.unit.quantum now) (sym e),
+          ap (λ n. n + 1) count_before ∙ added_more (s.opening.count agent) (length (settled now until before)) ∙ ap (due_count s agent) (sym e),
+          ap (λ n. lesser (r.deadline * s.unit.quantum - n) figure.slack) (sym finished) ∙ ap (lesser (slack_of s.unit.quantum now r)) slack_before
+              ∙ least_more (s.opening.slack agent) (slack_of s.unit.quantum now r) (map (slack_of s.unit.quantum now) (settled now until before)) ∙ ap (least_slack s now agent) (sym e),
         )
 
     figures_later : until < r.deadline → AreFigures figure
     figures_later later =
         let e = later_behind (λ q. not (is_pending now q)) until r before later in
-        (count_before ∙ ap length (sym e), slack_before ∙ ap (slack s.unit.quantum now) (sym e))
+        (count_before ∙ ap (due_count s agent) (sym e), slack_before ∙ ap (least_slack s now agent) (sym e))
 
     figures : is_pending now r ≡ false → AreFigures after
     figures h = elim (cases_lt until r.deadline) [

@@ -1,6 +1,6 @@
 -- A cycle that an action doesn't get changes nothing of it, and so nothing of what its agent has.
 use Rattle.std.proofs.Common.{◌≡◌, refl, sym, ap, ◌∙◌, subst}
-use Rattle.std.specs.Prelude.{ℕ, suc, ◌+◌, ◌-◌, ◌*◌, ◌==◌, Bool, true, false, not, nat_le, nat_lt, if◌then◌else◌, List, [], ◌∷◌, filter, map, length, slice_get, Option, Some, None, ℤ}
+use Rattle.std.specs.Prelude.{ℕ, suc, ◌+◌, ◌-◌, ◌*◌, ◌==◌, Bool, true, false, not, nat_le, nat_lt, if◌then◌else◌, List, [], ◌∷◌, ◌++◌, filter, map, length, slice_get, Option, Some, None, ℤ}
 use Rattle.std.specs.List.{All}
 use Rattle.std.proofs.lemmas.Bool.{cond-false, and_left, and_right, and_from, eq-eqb, ne_eqb}
 use Rattle.std.proofs.lemmas.List.Elements.{All-filter, All-head, All-tail, All-weaker}
@@ -15,7 +15,7 @@ use Rattle.psy_machine.specs.Stepping.{AgentMachine}
 use Rattle.psy_history.specs.Actions.{Action, System, is_done, is_silent, stream_of}
 use Rattle.psy_history.specs.Executors.{agent_code_at}
 use Rattle.psy_history.specs.Schedule.{Turn, finish, is_of, is_pending, units, work}
-use Rattle.psy_history.specs.Summary.{due_by, slack, slack_of}
+use Rattle.psy_history.specs.Summary.{due_by, due_count, least_slack, numbers_in, slack_of}
 use Rattle.psy_base.specs.Extremes.{least_of}
 use Rattle.psy_kernel.specs.declared.kernel.Figure.{Figure}
 use Rattle.psy_kernel.specs.Standing.{AgentStands, ChargeStands, DeedsStand, HasDone, MachineIn, MachineStands, charge_after, deadline_of, settled}
@@ -69,15 +69,15 @@ module _ (turns now : List (Option Turn)) where
       (All-weaker (AreSameFor turns now) (λ r. not (is_pending now r) ≡ not (is_pending turns r)) (λ r h. ap not (pending_same r h)) (due_by until actions)
       (All-filter (λ (r : Action). nat_le r.deadline until) (AreSameFor turns now) actions same))
 
-  pub slack_same : (quantum : ℕ) (actions : List Action) → All (AreSameFor turns now) actions → slack quantum now actions ≡ slack quantum turns actions
-  slack_same quantum actions same =
-      ap least_of (map_agree_on (slack_of quantum now) (slack_of quantum turns) actions
-      (All-weaker (AreSameFor turns now) (λ r. slack_of quantum now r ≡ slack_of quantum turns r) (slack_of_same quantum) actions same))
+  least_same : (s : System) (agent : ℕ) (actions : List Action) → All (AreSameFor turns now) actions → least_slack s now agent actions ≡ least_slack s turns agent actions
+  least_same s agent actions same =
+      ap (λ slacks. least_of (numbers_in (s.opening.slack agent) ++ slacks)) (map_agree_on (slack_of s.unit.quantum now) (slack_of s.unit.quantum turns) actions
+      (All-weaker (AreSameFor turns now) (λ r. slack_of s.unit.quantum now r ≡ slack_of s.unit.quantum turns r) (slack_of_same s.unit.quantum) actions same))
 
-  pub slack_settled_same : (quantum until : ℕ) (actions : List Action) → All (AreSameFor turns now) actions → slack quantum now (settled now until actions) ≡ slack quantum turns (settled turns until actions)
-  slack_settled_same quantum until actions same =
-      ap (slack quantum now) (settled_same until actions same)
-      ∙ slack_same quantum (settled turns until actions)
+  pub least_settled_same : (s : System) (until agent : ℕ) (actions : List Action) → All (AreSameFor turns now) actions → least_slack s now agent (settled now until actions) ≡ least_slack s turns agent (settled turns until actions)
+  least_settled_same s until agent actions same =
+      ap (least_slack s now agent) (settled_same until actions same)
+      ∙ least_same s agent (settled turns until actions)
       (All-filter (λ r. not (is_pending turns r)) (AreSameFor turns now) (due_by until actions) (All-filter (λ (r : Action). nat_le r.deadline until) (AreSameFor turns now) actions same))
 
   pub phase_same : (date : ℕ) (r : Action) → AreSameFor turns now r → phase_of date now r ≡ phase_of date turns r
@@ -111,8 +111,8 @@ module _ (turns now : List (Option Turn)) where
     of_code = h.of_code;
     executes = machine_kept s code agent actions machine same h.executes;
     ready = h.ready ∙ sym (deadline_kept actions same);
-    counted = h.counted ∙ ap length (sym (settled_same until actions same));
-    slacked = h.slacked ∙ sym (slack_settled_same s.unit.quantum until actions same);
+    counted = h.counted ∙ ap (due_count s agent) (sym (settled_same until actions same));
+    slacked = h.slacked ∙ sym (least_settled_same s until agent actions same);
   }
 
   pub seat_kept : (date : ℕ) (actions : List Action) (seat : Seat) → All (AreSameFor turns now) actions → SeatStands date turns actions seat → SeatStands date now actions seat

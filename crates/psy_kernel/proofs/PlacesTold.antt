@@ -6,11 +6,12 @@ use Rattle.psy_tree.specs.declared.unit.VarDecl.{VarDecl}
 use Rattle.psy_history.specs.Actions.{System, publishing, variable_of}
 use Rattle.psy_tree.specs.Parts.{agent_at}
 use Rattle.psy_history.specs.History.{history}
+use Rattle.psy_history.specs.Lines.{stops_of}
 use Rattle.psy_history.specs.Schedule.{Turn}
 use Rattle.psy_history.specs.Regular.{AreRegular}
 use Rattle.psy_dates.specs.declared.seat.Seat.{Seat}
 use Rattle.psy_dates.specs.declared.shared.Shared.{Shared}
-use Rattle.psy_dates.specs.Standing.{IsSeated, SeatStands, SharedStands, committed_at}
+use Rattle.psy_dates.specs.Standing.{IsQuiet, IsSeated, SeatStands, SharedStands, committed_at}
 use Rattle.psy_kernel.specs.declared.kernel.lines.Mark.{Mark}
 use Rattle.psy_kernel.specs.Standing.{told_from}
 use Rattle.psy_kernel.specs.Telling.{IsNextTold, IsToldBy, TellsStop, TellsValue, places_of, told_by}
@@ -22,12 +23,29 @@ module _ (s : System) (turns : List (Option Turn)) (date : ℕ) (shared : Shared
   last : date + 1 - 1 ≡ date
   last = omega arith
 
-  pub agent_told : s.opening.silent place ≡ false → (seat : Seat) (name : List ℕ) → AreRegular s (date + 1) place (history s (date + 1) place) → place < length s.unit.agents
-      → slice_get shared.seats.items place ≡ Some seat → name ≡ (agent_at s.unit place).name → TellsStop seat name date result old new → IsToldBy s date (told_by s date place) result old new
-  agent_told loud seat name regular within at named told =
-      let seated : SeatStands date turns (history s (date + 1) place) seat = subst (λ d. SeatStands d turns (history s (date + 1) place) seat) last (subst (λ quiet. IsSeated quiet s.opening.dates (date + 1 - 1) turns (history s (date + 1) place) seat) loud (stands.seats place seat at)) in
+  loud_told : (seat : Seat) (name : List ℕ) → AreRegular s (date + 1) place (history s (date + 1) place) → place < length s.unit.agents → SeatStands date turns (history s (date + 1) place) seat
+      → name ≡ (agent_at s.unit place).name → TellsStop seat name date result old new → IsToldBy s date (told_by s date place) result old new
+  loud_told seat name regular within seated named told =
       let tells : TellsStop seat (agent_at s.unit place).name date result old new = subst (λ n. TellsStop seat n date result old new) named told in
       subst (λ es. IsToldBy s date es result old new) (sym (told_stop s date place within)) (seat_told s date (date + 1) place turns seat old new result (history s (date + 1) place) seated regular tells)
+
+  -- A silent agent without actions fell silent at a date that was done before, and tells nothing.
+  quiet_told : s.opening.dates ≤ date → (seat : Seat) (name : List ℕ) → IsQuiet s.opening.dates seat → (result : Bool) → TellsStop seat name date result old new → IsToldBy s date [] result old new
+  quiet_told later seat name rests true told = absurd (omega (arith, later, rests.deadline, told.1))
+  quiet_told later seat name rests false told = (refl, told.1)
+
+  pub agent_told : s.opening.dates ≤ date → (s.opening.silent place ≡ true → history s (date + 1) place ≡ []) → (seat : Seat) (name : List ℕ) → AreRegular s (date + 1) place (history s (date + 1) place) → place < length s.unit.agents
+      → slice_get shared.seats.items place ≡ Some seat → name ≡ (agent_at s.unit place).name → TellsStop seat name date result old new → IsToldBy s date (told_by s date place) result old new
+  agent_told later none seat name regular within at named told = by (s.opening.silent place) refl
+    where
+      seated : IsSeated (s.opening.silent place) s.opening.dates date turns (history s (date + 1) place) seat
+      seated = subst (λ d. IsSeated (s.opening.silent place) s.opening.dates d turns (history s (date + 1) place) seat) last (stands.seats place seat at)
+
+      by : (quiet : Bool) → s.opening.silent place ≡ quiet → IsToldBy s date (told_by s date place) result old new
+      by true quiet =
+          let rests : IsQuiet s.opening.dates seat = subst (λ rs. IsSeated true s.opening.dates date turns rs seat) (none quiet) (subst (λ q. IsSeated q s.opening.dates date turns (history s (date + 1) place) seat) quiet seated) in
+          subst (λ es. IsToldBy s date es result old new) (sym (told_stop s date place within ∙ ap (stops_of date) (none quiet))) (quiet_told later seat name rests result told)
+      by false loud = loud_told seat name regular within (subst (λ q. IsSeated q s.opening.dates date turns (history s (date + 1) place) seat) loud seated) named told
 
   pub variable_told : s.opening.dates ≤ date → (v : VarDecl) (clock : Clock) (value : ℤ) → length s.unit.agents ≤ place → v ≡ variable_of s (place - length s.unit.agents) → clock ≡ publishing s (place - length s.unit.agents)
       → slice_get shared.committed.items (place - length s.unit.agents) ≡ Some value → TellsValue v clock value date result old new → IsToldBy s date (told_by s date place) result old new

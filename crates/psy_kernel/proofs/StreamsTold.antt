@@ -35,13 +35,13 @@ module _ (s : System) (turns : List (Option Turn)) (date : ℕ) (shared : Shared
   fewer : (p : Message → Bool) (ms : List Message) → length (filter p ms) ≤ length ms
   fewer p ms = omega (arith, length-filter_both p (λ m. not (p m)) (λ m. refl) ms)
 
-  -- A stream shows no more messages than a queue may have.
-  pub shown_few : (bound : (size : ℕ) → IsQueueSize s.unit s.nexts stream size → size ≤ QUEUE → length (queue_of s (date + 1) stream) ≤ size) → stream < length s.unit.streams
-      → length (map event_of (of_date date (messages s (history s (date + 1)) stream))) ≤ 65536
-  shown_few bound within =
+  -- A stream shows no more messages than a queue may have, and as many more as it held when the history began.
+  pub shown_few : (bound : (size : ℕ) → IsQueueSize s.unit s.nexts stream size → size ≤ QUEUE → length (queue_of s (date + 1) stream) ≤ size + length (s.opening.messages stream)) → length (s.opening.messages stream) ≤ QUEUE → stream < length s.unit.streams
+      → length (map event_of (of_date date (messages s (history s (date + 1)) stream))) ≤ 131072
+  shown_few bound few within =
       let queue = some_at shared.queues.items stream (omega (arith, within, stands.queued)) in
       let its = stands.queues stream queue.0 queue.1 in
-      omega (arith, length-map (of_date date (messages s (history s (date + 1)) stream)) event_of, ap length shows, fewer (λ m. m.visible == date) (queue_of s (date + 1) stream), bound its.places its.size its.small, its.small)
+      omega (arith, length-map (of_date date (messages s (history s (date + 1)) stream)) event_of, ap length shows, fewer (λ m. m.visible == date) (queue_of s (date + 1) stream), bound its.places its.size its.small, its.small, few)
 
   -- The queue of a stream tells what it shows.
   pub stream_told : (shown : ℕ) (old new : List ℕ) (result : Bool) (queue : Queued) (name : List ℕ) → slice_get shared.queues.items stream ≡ Some queue → name ≡ (stream_of s stream).name

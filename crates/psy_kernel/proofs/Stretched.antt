@@ -8,11 +8,11 @@ use Rattle.psy_budget.specs.Charges.{AllGoTo, Charged, IsStretch, tick_of, ticke
 use Rattle.psy_code.specs.declared.code.Code.{Code}
 use Rattle.psy_code.specs.declared.look.Sent.{Sent}
 use Rattle.psy_dates.specs.declared.plan.Plan.{Plan}
-use Rattle.psy_dates.specs.Plans.{system_of}
+use Rattle.psy_dates.specs.Plans.{opened_of}
 use Rattle.psy_machine.specs.declared.machine.Step.{Step}
 use Rattle.psy_machine.specs.declared.machine.Step.TheVariants as step
 use Rattle.psy_machine.specs.Stepping.{AgentMachine, IsOf}
-use Rattle.psy_history.specs.Actions.{Action, System}
+use Rattle.psy_history.specs.Actions.{Action, Opening, System}
 use Rattle.psy_history.specs.Schedule.{work}
 use Rattle.psy_kernel.specs.declared.eyes.Eyes.{Eyes}
 use Rattle.psy_kernel.specs.declared.kernel.advance.Gone.{Gone}
@@ -37,7 +37,7 @@ Begins charge s r had = (charge ≡ charge_after s r had) × (had < work r)
 -- The charge is that of so many cycles of it.
 abbrev pub ChargesOf : Plan → ℕ → ℕ → ℕ → AgentMachine → Eyes → Charged → ℕ → Charged → Type 0
 ChargesOf plan start date most first before charge0 n charge =
-    (inputs : List (List ℤ)) (stalls : ℕ → List Stall) (r : Action) (had : ℕ) → IsMeant (Begins charge0) plan start date most first before inputs stalls r had → charge ≡ charge_after (system_of plan inputs stalls) r (had + n)
+    (opening : Opening) (inputs : List (List ℤ)) (stalls : ℕ → List Stall) (r : Action) (had : ℕ) → IsMeant (Begins charge0) plan start date most first before opening inputs stalls r had → charge ≡ charge_after (opened_of plan opening inputs stalls) r (had + n)
 
 -- Where a charge isn't spent, its next cycle goes to a stall or is free
 pub moves : (charge : Charged) (left skipped free : ℕ) → (charge.consumed == charge.budget) ≡ false → 0 < left → IsStretch charge tick.Stalled left skipped → IsStretch (ticked charge skipped) tick.Paid (left - skipped) free
@@ -98,16 +98,16 @@ sum_of a b c = omega arith
 
 module _ (plan : Plan) (start date most : ℕ) (first : AgentMachine) (before : Eyes) (charge0 : Charged) where
   pub none_charged : ChargesOf plan start date most first before charge0 0 charge0
-  none_charged inputs stalls r had m = let so : had ≡ had + 0 = omega arith in m.1.0 ∙ ap (λ u. charge_after (system_of plan inputs stalls) r u) so
+  none_charged opening inputs stalls r had m = let so : had ≡ had + 0 = omega arith in m.1.0 ∙ ap (λ u. charge_after (opened_of plan opening inputs stalls) r u) so
 
-  module _ (inputs : List (List ℤ)) (stalls : ℕ → List Stall) (r : Action) (had : ℕ) (m : IsMeant (Begins charge0) plan start date most first before inputs stalls r had) where
+  module _ (opening : Opening) (inputs : List (List ℤ)) (stalls : ℕ → List Stall) (r : Action) (had : ℕ) (m : IsMeant (Begins charge0) plan start date most first before opening inputs stalls r had) where
     -- an action that begins isn't spent
     begins : (charge : Charged) → ChargesOf plan start date most first before charge0 0 charge → (charge.consumed == charge.budget) ≡ true → ⊥
     begins charge charged spent =
-        let s : System = system_of plan inputs stalls in
+        let s : System = opened_of plan opening inputs stalls in
         let less : had < work r = m.1.1 in
         let so : had + 0 ≡ had = omega arith in
-        let is : charge ≡ charge_after s r had = charged inputs stalls r had m ∙ ap (λ u. charge_after s r u) so in
+        let is : charge ≡ charge_after s r had = charged opening inputs stalls r had m ∙ ap (λ u. charge_after s r u) so in
         let test : (had == r.budget) ≡ true = sym (spent_is (s.stalls r.agent) r.number r.budget had (omega (arith, less))) ∙ sym (ap (λ (c : Charged). c.consumed == c.budget) is) ∙ spent in
         let same : had ≡ r.budget = eqb-true had r.budget test in
         omega (arith, less, same)
@@ -125,8 +125,8 @@ module _ (laws : AreLaws) {plan : Plan} {start date most : ℕ} {first : AgentMa
       within = omega (arith, few, count.within)
 
       pub charged_then : ChargesOf plan start date most first before charge0 (n + skipped) charge'
-      charged_then inputs stalls r had m =
-          charge_is ∙ on_by laws (system_of plan inputs stalls) r (had + n) skipped charge (charged inputs stalls r had m) ∙ ap (λ u. charge_after (system_of plan inputs stalls) r u) (sum_of had n skipped)
+      charged_then opening inputs stalls r had m =
+          charge_is ∙ on_by laws (opened_of plan opening inputs stalls) r (had + n) skipped charge (charged opening inputs stalls r had m) ∙ ap (λ u. charge_after (opened_of plan opening inputs stalls) r u) (sum_of had n skipped)
 
       pub kept_then : AreKept (Begins charge0) plan start date most first before reaches (n + skipped) machine now reaches'
       kept_then = record {
@@ -138,29 +138,29 @@ module _ (laws : AreLaws) {plan : Plan} {start date most : ℕ} {first : AgentMa
         size = kept.size;
         taking = kept.taking;
         others = kept.others;
-        on_way = λ inputs stalls r had m. (
-            let s : System = system_of plan inputs stalls in
+        on_way = λ opening inputs stalls r had m. (
+            let s : System = opened_of plan opening inputs stalls in
             subst (λ u. IsOnWay s plan.code r u machine now.outbox.now.sends now.taken.now.items) (sum_of had n skipped)
-            (on_stalled laws s r plan.code (had + n) machine now.outbox.now.sends now.taken.now.items (kept.on_way inputs stalls r had m) charge (charged inputs stalls r had m) skipped count.all));
-        reached = λ inputs stalls r had m reach are variable at. (
-            let s : System = system_of plan inputs stalls in
-            let same = same_reach laws s r plan.code (had + n) machine now.outbox.now.sends now.taken.now.items (kept.on_way inputs stalls r had m) charge (charged inputs stalls r had m)
+            (on_stalled laws s r plan.code (had + n) machine now.outbox.now.sends now.taken.now.items (kept.on_way opening inputs stalls r had m) charge (charged opening inputs stalls r had m) skipped count.all));
+        reached = λ opening inputs stalls r had m reach are variable at. (
+            let s : System = opened_of plan opening inputs stalls in
+            let same = same_reach laws s r plan.code (had + n) machine now.outbox.now.sends now.taken.now.items (kept.on_way opening inputs stalls r had m) charge (charged opening inputs stalls r had m)
             (MayGoOn.of_code m.0) had (had + most) date reach are (omega arith) skipped (let w = within in omega (arith, w)) count.all variable in
-            kept.reached inputs stalls r had m reach are variable at ∙ ap Some (sym same ∙ ap (λ u. reach u variable) (sum_of had n skipped)));
+            kept.reached opening inputs stalls r had m reach are variable at ∙ ap Some (sym same ∙ ap (λ u. reach u variable) (sum_of had n skipped)));
       }
 
   -- ---- the instructions behind it
 
   module _ {n : ℕ} {machine : AgentMachine} {now : Eyes} {reaches' : List (Option ℕ)} (kept : AreKept (Begins charge0) plan start date most first before reaches n machine now reaches') (charge : Charged) (charged : ChargesOf plan start date most first before charge0 n charge) (free : ℕ) (fits : n + free ≤ most) (all : AllGoTo charge tick.Paid free) where
     -- what is given of them
-    pub part : (inputs : List (List ℤ)) (stalls : ℕ → List Stall) (r : Action) (had : ℕ) → IsMeant (Begins charge0) plan start date most first before inputs stalls r had
-        → MayGoOn (system_of plan inputs stalls) plan.code r (had + n) (had + n + free) start date machine now.scene.now now.taken.now.items now.outbox.now
-    part inputs stalls r had m =
-        let s : System = system_of plan inputs stalls in
+    pub part : (opening : Opening) (inputs : List (List ℤ)) (stalls : ℕ → List Stall) (r : Action) (had : ℕ) → IsMeant (Begins charge0) plan start date most first before opening inputs stalls r had
+        → MayGoOn (opened_of plan opening inputs stalls) plan.code r (had + n) (had + n + free) start date machine now.scene.now now.taken.now.items now.outbox.now
+    part opening inputs stalls r had m =
+        let s : System = opened_of plan opening inputs stalls in
         let may : MayGoOn s plan.code r had (had + most) start date first before.scene.now before.taken.now.items before.outbox.now = m.0 in
         record {
           of_code = may.of_code;
-          on_way = kept.on_way inputs stalls r had m;
+          on_way = kept.on_way opening inputs stalls r had m;
           started = may.started;
           counted = kept.taking ∙ may.counted;
           acts = λ u low high less taken after counted size did.
@@ -168,29 +168,29 @@ module _ (laws : AreLaws) {plan : Plan} {start date most : ℕ} {first : AgentMa
           near = λ u low high less look is. may.near u (omega (arith, low)) (omega (arith, high, fits)) less look is;
         }
 
-    pub part_pays : (inputs : List (List ℤ)) (stalls : ℕ → List Stall) (r : Action) (had : ℕ) → IsMeant (Begins charge0) plan start date most first before inputs stalls r had → AllPay (system_of plan inputs stalls) r (had + n) (had + n + free)
-    part_pays inputs stalls r had m = all_pay laws (system_of plan inputs stalls) r (had + n) free charge (charged inputs stalls r had m) all
+    pub part_pays : (opening : Opening) (inputs : List (List ℤ)) (stalls : ℕ → List Stall) (r : Action) (had : ℕ) → IsMeant (Begins charge0) plan start date most first before opening inputs stalls r had → AllPay (opened_of plan opening inputs stalls) r (had + n) (had + n + free)
+    part_pays opening inputs stalls r had m = all_pay laws (opened_of plan opening inputs stalls) r (had + n) free charge (charged opening inputs stalls r had m) all
 
     -- behind them
     module _ (count : ℕ) (few : count ≤ free) (charge' : Charged) (charge_is : charge' ≡ ticked charge count) where
       pub charged_behind : ChargesOf plan start date most first before charge0 (n + count) charge'
-      charged_behind inputs stalls r had m =
-          charge_is ∙ on_by laws (system_of plan inputs stalls) r (had + n) count charge (charged inputs stalls r had m) ∙ ap (λ u. charge_after (system_of plan inputs stalls) r u) (sum_of had n count)
+      charged_behind opening inputs stalls r had m =
+          charge_is ∙ on_by laws (opened_of plan opening inputs stalls) r (had + n) count charge (charged opening inputs stalls r had m) ∙ ap (λ u. charge_after (opened_of plan opening inputs stalls) r u) (sum_of had n count)
 
       module _ (machine' : AgentMachine) (after : Eyes) (reaches'' : List (Option ℕ)) where
         -- the rings are reached for
         abbrev pub IsReached : Type 0
-        IsReached = (inputs : List (List ℤ)) (stalls : ℕ → List Stall) (r : Action) (had : ℕ)
-            → MayGoOn (system_of plan inputs stalls) plan.code r had (had + free) start date machine now.scene.now now.taken.now.items now.outbox.now → AllPay (system_of plan inputs stalls) r had (had + free)
-            → (reach : ℕ → ℕ → Option ℕ) → AreReaches (system_of plan inputs stalls) plan.code r had (had + free) date reach
+        IsReached = (opening : Opening) (inputs : List (List ℤ)) (stalls : ℕ → List Stall) (r : Action) (had : ℕ)
+            → MayGoOn (opened_of plan opening inputs stalls) plan.code r had (had + free) start date machine now.scene.now now.taken.now.items now.outbox.now → AllPay (opened_of plan opening inputs stalls) r had (had + free)
+            → (reach : ℕ → ℕ → Option ℕ) → AreReaches (opened_of plan opening inputs stalls) plan.code r had (had + free) date reach
             → (variable : ℕ) → slice_get reaches' variable ≡ Some (reach had variable) → slice_get reaches'' variable ≡ Some (reach (had + count) variable)
 
-        pub reached_behind : IsReached → (inputs : List (List ℤ)) (stalls : ℕ → List Stall) (r : Action) (had : ℕ) → IsMeant (Begins charge0) plan start date most first before inputs stalls r had
-            → (reach : ℕ → ℕ → Option ℕ) → AreReaches (system_of plan inputs stalls) plan.code r had (had + most) date reach
+        pub reached_behind : IsReached → (opening : Opening) (inputs : List (List ℤ)) (stalls : ℕ → List Stall) (r : Action) (had : ℕ) → IsMeant (Begins charge0) plan start date most first before opening inputs stalls r had
+            → (reach : ℕ → ℕ → Option ℕ) → AreReaches (opened_of plan opening inputs stalls) plan.code r had (had + most) date reach
             → (variable : ℕ) → slice_get reaches variable ≡ Some (reach had variable) → slice_get reaches'' variable ≡ Some (reach (had + (n + count)) variable)
-        reached_behind law inputs stalls r had m reach are variable at =
-            law inputs stalls r (had + n) (part inputs stalls r had m) (part_pays inputs stalls r had m) reach
-            (λ u variable look low high less is. are u variable look (omega (arith, low)) (omega (arith, high, fits)) less is) variable (kept.reached inputs stalls r had m reach are variable at)
+        reached_behind law opening inputs stalls r had m reach are variable at =
+            law opening inputs stalls r (had + n) (part opening inputs stalls r had m) (part_pays opening inputs stalls r had m) reach
+            (λ u variable look low high less is. are u variable look (omega (arith, low)) (omega (arith, high, fits)) less is) variable (kept.reached opening inputs stalls r had m reach are variable at)
             ∙ ap (λ u. Some (reach u variable)) (sum_of had n count)
 
         module _ (of : IsOf plan.code machine') (as_many : length reaches'' ≡ length reaches') (same_taken : after.taken.ghost_name ≡ now.taken.ghost_name) (same_outbox : after.outbox.ghost_name ≡ now.outbox.ghost_name)
@@ -200,9 +200,9 @@ module _ (laws : AreLaws) {plan : Plan} {start date most : ℕ} {first : AgentMa
           others_behind stream other = others stream (λ mine. other (sym (ap (λ x. is_mine x stream) kept.scene) ∙ mine)) ∙ kept.others stream other
 
           -- where the action goes on
-          pub kept_behind : (whole : count ≡ free) → ((inputs : List (List ℤ)) (stalls : ℕ → List Stall) (r : Action) (had : ℕ)
-              → MayGoOn (system_of plan inputs stalls) plan.code r had (had + free) start date machine now.scene.now now.taken.now.items now.outbox.now → AllPay (system_of plan inputs stalls) r had (had + free)
-              → IsOnWay (system_of plan inputs stalls) plan.code r (had + free) machine' after.outbox.now.sends after.taken.now.items)
+          pub kept_behind : (whole : count ≡ free) → ((opening : Opening) (inputs : List (List ℤ)) (stalls : ℕ → List Stall) (r : Action) (had : ℕ)
+              → MayGoOn (opened_of plan opening inputs stalls) plan.code r had (had + free) start date machine now.scene.now now.taken.now.items now.outbox.now → AllPay (opened_of plan opening inputs stalls) r had (had + free)
+              → IsOnWay (opened_of plan opening inputs stalls) plan.code r (had + free) machine' after.outbox.now.sends after.taken.now.items)
               → AreKept (Begins charge0) plan start date most first before reaches (n + count) machine' after reaches''
           kept_behind whole law = record {
             of = of;
@@ -213,22 +213,22 @@ module _ (laws : AreLaws) {plan : Plan} {start date most : ℕ} {first : AgentMa
             size = size ∙ kept.size;
             taking = taking ∙ kept.taking;
             others = others_behind;
-            on_way = λ inputs stalls r had m.
-                subst (λ u. IsOnWay (system_of plan inputs stalls) plan.code r u machine' after.outbox.now.sends after.taken.now.items) (omega (arith, whole))
-                (law inputs stalls r (had + n) (part inputs stalls r had m) (part_pays inputs stalls r had m));
+            on_way = λ opening inputs stalls r had m.
+                subst (λ u. IsOnWay (opened_of plan opening inputs stalls) plan.code r u machine' after.outbox.now.sends after.taken.now.items) (omega (arith, whole))
+                (law opening inputs stalls r (had + n) (part opening inputs stalls r had m) (part_pays opening inputs stalls r had m));
             reached = reached_behind reached;
           }
 
         -- where it is over
-        module _ (inputs : List (List ℤ)) (stalls : ℕ → List Stall) (r : Action) (had : ℕ) (m : IsMeant (Begins charge0) plan start date most first before inputs stalls r had) where
+        module _ (opening : Opening) (inputs : List (List ℤ)) (stalls : ℕ → List Stall) (r : Action) (had : ℕ) (m : IsMeant (Begins charge0) plan start date most first before opening inputs stalls r had) where
           abbrev s : System
-          s = system_of plan inputs stalls
+          s = opened_of plan opening inputs stalls
 
           same_last : had + n + count - 1 ≡ had + (n + count) - 1
           same_last = omega arith
 
           charge_was : charge_after s r (had + n + count) ≡ charge'
-          charge_was = ap (λ u. charge_after s r u) (sum_of had n count) ∙ sym (charged_behind inputs stalls r had m)
+          charge_was = ap (λ u. charge_after s r u) (sum_of had n count) ∙ sym (charged_behind opening inputs stalls r had m)
 
           abbrev IsPart : (Step → Type 0) → Step → Type 0
           IsPart Then answer = MayGoOn s plan.code r (had + n) (had + n + free) start date machine now.scene.now now.taken.now.items now.outbox.now → AllPay s r (had + n) (had + n + free) → (answer ≡ step.Went → ⊥) → Then answer
@@ -238,7 +238,7 @@ module _ (laws : AreLaws) {plan : Plan} {start date most : ℕ} {first : AgentMa
 
           pub over_behind : (answer known : Step) → answer ≡ known → (known ≡ step.Went → ⊥) → IsPart AfterBy answer → AfterCycles s plan.code r had (n + count) (gone_by (charge_after s r (had + n + count)) known) charge' machine'
           over_behind answer known is other law =
-              let a : AfterBy known = subst AfterBy is (law (part inputs stalls r had m) (part_pays inputs stalls r had m) (λ e. other (sym is ∙ e))) in
+              let a : AfterBy known = subst AfterBy is (law (part opening inputs stalls r had m) (part_pays opening inputs stalls r had m) (λ e. other (sym is ∙ e))) in
               subst (λ v. AfterCycle s plan.code r v (gone_by (charge_after s r (had + n + count)) known) charge' machine') same_last
               (subst (λ c. AfterCycle s plan.code r (had + n + count - 1) (gone_by (charge_after s r (had + n + count)) known) c machine') charge_was a)
 
@@ -248,23 +248,23 @@ module _ (laws : AreLaws) {plan : Plan} {start date most : ℕ} {first : AgentMa
           pub done_behind : (answer known : Step) → answer ≡ known → (known ≡ step.Went → ⊥) → IsPart DoneBy answer
               → HasDoneIn s plan.code r had (n + count) after.outbox.now.sends after.taken.now.items (gone_by (charge_after s r (had + n + count)) known)
           done_behind answer known is other law =
-              let d : DoneBy known = subst DoneBy is (law (part inputs stalls r had m) (part_pays inputs stalls r had m) (λ e. other (sym is ∙ e))) in
+              let d : DoneBy known = subst DoneBy is (law (part opening inputs stalls r had m) (part_pays opening inputs stalls r had m) (λ e. other (sym is ∙ e))) in
               subst (λ v. HasDoneBy s plan.code r v after.outbox.now.sends after.taken.now.items (gone_by (charge_after s r (had + n + count)) known)) same_last d
 
   -- ---- behind the loop
 
   module _ {n : ℕ} {machine : AgentMachine} {now : Eyes} {reaches' : List (Option ℕ)} (kept : AreKept (Begins charge0) plan start date most first before reaches n machine now reaches') (charge : Charged) (charged : ChargesOf plan start date most first before charge0 n charge) (some : 1 ≤ n)
-      (inputs : List (List ℤ)) (stalls : ℕ → List Stall) (r : Action) (had : ℕ) (m : IsMeant (Begins charge0) plan start date most first before inputs stalls r had) (result : Gone) (result_is : result ≡ gone_on charge) where
-    result_by : gone_on (charge_after (system_of plan inputs stalls) r (had + n)) ≡ result
-    result_by = ap gone_on (sym (charged inputs stalls r had m)) ∙ sym result_is
+      (opening : Opening) (inputs : List (List ℤ)) (stalls : ℕ → List Stall) (r : Action) (had : ℕ) (m : IsMeant (Begins charge0) plan start date most first before opening inputs stalls r had) (result : Gone) (result_is : result ≡ gone_on charge) where
+    result_by : gone_on (charge_after (opened_of plan opening inputs stalls) r (had + n)) ≡ result
+    result_by = ap gone_on (sym (charged opening inputs stalls r had m)) ∙ sym result_is
 
-    pub after_all : AfterCycles (system_of plan inputs stalls) plan.code r had n result charge machine
+    pub after_all : AfterCycles (opened_of plan opening inputs stalls) plan.code r had n result charge machine
     after_all =
-        let a = after_many (system_of plan inputs stalls) plan.code r (MayGoOn.of_code m.0) had n machine now.outbox.now.sends now.taken.now.items some (kept.on_way inputs stalls r had m) in
-        subst (λ g. AfterCycles (system_of plan inputs stalls) plan.code r had n g charge machine) result_by
-        (subst (λ c. AfterCycles (system_of plan inputs stalls) plan.code r had n (gone_on (charge_after (system_of plan inputs stalls) r (had + n))) c machine) (sym (charged inputs stalls r had m)) a)
+        let a = after_many (opened_of plan opening inputs stalls) plan.code r (MayGoOn.of_code m.0) had n machine now.outbox.now.sends now.taken.now.items some (kept.on_way opening inputs stalls r had m) in
+        subst (λ g. AfterCycles (opened_of plan opening inputs stalls) plan.code r had n g charge machine) result_by
+        (subst (λ c. AfterCycles (opened_of plan opening inputs stalls) plan.code r had n (gone_on (charge_after (opened_of plan opening inputs stalls) r (had + n))) c machine) (sym (charged opening inputs stalls r had m)) a)
 
-    pub done_all : HasDoneIn (system_of plan inputs stalls) plan.code r had n now.outbox.now.sends now.taken.now.items result
+    pub done_all : HasDoneIn (opened_of plan opening inputs stalls) plan.code r had n now.outbox.now.sends now.taken.now.items result
     done_all =
-        subst (λ g. HasDoneIn (system_of plan inputs stalls) plan.code r had n now.outbox.now.sends now.taken.now.items g) result_by
-        (done_many (system_of plan inputs stalls) plan.code r (MayGoOn.of_code m.0) had n machine now.outbox.now.sends now.taken.now.items some (kept.on_way inputs stalls r had m))
+        subst (λ g. HasDoneIn (opened_of plan opening inputs stalls) plan.code r had n now.outbox.now.sends now.taken.now.items g) result_by
+        (done_many (opened_of plan opening inputs stalls) plan.code r (MayGoOn.of_code m.0) had n machine now.outbox.now.sends now.taken.now.items some (kept.on_way opening inputs stalls r had m))

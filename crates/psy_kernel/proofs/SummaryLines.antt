@@ -10,7 +10,7 @@ use Rattle.psy_history.specs.Actions.{Action, System, stream_of, variable_of}
 use Rattle.psy_tree.specs.Parts.{agent_at}
 use Rattle.psy_history.specs.History.{history}
 use Rattle.psy_history.specs.Schedule.{Turn}
-use Rattle.psy_history.specs.Summary.{due_by, most_held, reach, slack}
+use Rattle.psy_history.specs.Summary.{due_by, due_count, least_slack, most_held, reach}
 use Rattle.psy_history.specs.Regular.{IsLawful}
 use Rattle.psy_history.specs.Scheduled.{IsFinished, IsSupplied, turns_of}
 use Rattle.psy_dates.specs.Standing.{dates_done}
@@ -100,15 +100,15 @@ module _ (k : Inside) (w : KernelStands k) (over : stage_of (progress_of k) ≡ 
         let charge = some_at k.charges.items agent (omega (arith, l, w.charges)) in
         let waits = some_at k.ready agent (omega (arith, l, w.waiting)) in
         let stands = w.agents agent machine.0 charge.0 waits.0 figure machine.1 charge.1 waits.1 at in
-        let count : figure.count ≡ length (settled turns until (actions agent)) =
-        stands.counted ∙ ap (λ c. length (settled (turns_of s (order (progress_of k)) c) until (history s (dates_done k.shared.date) agent))) all_cycles
-        ∙ ap (λ n. length (settled turns until (history s n agent))) done in
-        let least : figure.slack ≡ slack s.unit.quantum turns (settled turns until (actions agent)) =
-        stands.slacked ∙ ap (λ c. slack s.unit.quantum (turns_of s (order (progress_of k)) c) (settled (turns_of s (order (progress_of k)) c) until (history s (dates_done k.shared.date) agent))) all_cycles
-        ∙ ap (λ n. slack s.unit.quantum turns (settled turns until (history s n agent))) done in
+        let count : figure.count ≡ due_count s agent (settled turns until (actions agent)) =
+        stands.counted ∙ ap (λ c. due_count s agent (settled (turns_of s (order (progress_of k)) c) until (history s (dates_done k.shared.date) agent))) all_cycles
+        ∙ ap (λ n. due_count s agent (settled turns until (history s n agent))) done in
+        let least : figure.slack ≡ least_slack s turns agent (settled turns until (actions agent)) =
+        stands.slacked ∙ ap (λ c. least_slack s (turns_of s (order (progress_of k)) c) agent (settled (turns_of s (order (progress_of k)) c) until (history s (dates_done k.shared.date) agent))) all_cycles
+        ∙ ap (λ n. least_slack s turns agent (settled turns until (history s n agent))) done in
         let name = (agent_at s.unit agent).name in
-        ap (λ n. agent_line name n figure.slack) (count ∙ ap length (all_settled agent))
-        ∙ ap (agent_line name (length (due_by until (actions agent)))) (least ∙ ap (slack s.unit.quantum turns) (all_settled agent))
+        ap (λ n. agent_line name n figure.slack) (count ∙ ap (due_count s agent) (all_settled agent))
+        ∙ ap (agent_line name (due_count s agent (due_by until (actions agent)))) (least ∙ ap (least_slack s turns agent) (all_settled agent))
 
     agent_told : (agent : ℕ) → agent < length s.unit.agents → figure_line k.plan.unit k.figures.items agent ≡ agent_end s turns until agent
     agent_told agent l =

@@ -18,14 +18,14 @@ regrouped vs ws xs ys zs =
     ap (λ us. vs ++ (ws ++ us)) (sym (append_assoc xs ys zs)) ∙ ap (λ us. vs ++ us) (sym (append_assoc ws (xs ++ ys) zs)) ∙ sym (append_assoc vs (ws ++ (xs ++ ys)) zs)
 
 -- Lists of at most 65,536 items, one behind the other
-few_to : {X : Type 0} (f : ℕ → List X) (n i : ℕ) → i ≤ n → ((k : ℕ) → k < n → length (f k) ≤ 65536) → length (flat_map f (take i (range_with_len 0 n))) ≤ i * 65536
+few_to : {X : Type 0} (f : ℕ → List X) (n i : ℕ) → i ≤ n → ((k : ℕ) → k < n → length (f k) ≤ 131072) → length (flat_map f (take i (range_with_len 0 n))) ≤ i * 131072
 few_to f n zero l few = omega arith
 few_to f n (suc i) l few =
-    let before : length (flat_map f (take i (range_with_len 0 n))) ≤ i * 65536 = few_to f n i (omega (arith, l)) few in
-    let here : length (f i) ≤ 65536 = few i (omega (arith, l)) in
-    let all : length (flat_map f (take (i + 1) (range_with_len 0 n))) ≤ (i + 1) * 65536 =
+    let before : length (flat_map f (take i (range_with_len 0 n))) ≤ i * 131072 = few_to f n i (omega (arith, l)) few in
+    let here : length (f i) ≤ 131072 = few i (omega (arith, l)) in
+    let all : length (flat_map f (take (i + 1) (range_with_len 0 n))) ≤ (i + 1) * 131072 =
     omega (arith, before, here, ap length (flat_more f n i (omega (arith, l))), length-append (flat_map f (take i (range_with_len 0 n))) (f i)) in
-    subst (λ k. length (flat_map f (take k (range_with_len 0 n))) ≤ k * 65536) (add-one i) all
+    subst (λ k. length (flat_map f (take k (range_with_len 0 n))) ≤ k * 131072) (add-one i) all
 
 -- ---- the streams
 
@@ -128,23 +128,23 @@ module _ (s : System) (date : ℕ) where
       ∙ ap (λ xs. flat_map (stops s date) (range_with_len 0 (agents s date)) ++ (flat_map (values s date) xs ++ (shows_to s date (stream_of end_of) ++ shows_first s date (stream_of end_of) 0))) (sym (range_all (variables s date) (end_of - agents s date) values_end))
       ∙ ap (λ xs. flat_map (stops s date) xs ++ (values_to s date (end_of - agents s date) ++ (shows_to s date (stream_of end_of) ++ shows_first s date (stream_of end_of) 0))) (sym (range_all (agents s date) end_of (omega arith)))
 
-  few_first : ((stream : ℕ) → stream < streams s date → length (shown s date stream) ≤ 65536) → (stream n : ℕ) → length (shows_first s date stream n) ≤ 65536
+  few_first : ((stream : ℕ) → stream < streams s date → length (shown s date stream) ≤ 131072) → (stream n : ℕ) → length (shows_first s date stream n) ≤ 131072
   few_first few stream n = elim (cases_lt stream (streams s date)) [
     | inl l ↦ omega (arith, ap length (first_is stream n l), length-take n (shown s date stream), few stream l)
     | inr le ↦ omega (arith, ap length (first_none stream n le))
   ]
 
   -- Where no agent or variable tells more than one event, and no stream more than a queue has places, there are few.
-  pub told_few : ((agent : ℕ) → length (stops s date agent) ≤ 1) → ((variable : ℕ) → length (values s date variable) ≤ 1) → ((stream : ℕ) → stream < streams s date → length (shown s date stream) ≤ 65536)
-      → (place n : ℕ) → place ≤ end_of → length (told_from s date place n) ≤ place + place + place * 65536 + 65536
+  pub told_few : ((agent : ℕ) → length (stops s date agent) ≤ 1) → ((variable : ℕ) → length (values s date variable) ≤ 1) → ((stream : ℕ) → stream < streams s date → length (shown s date stream) ≤ 131072)
+      → (place n : ℕ) → place ≤ end_of → length (told_from s date place n) ≤ place + place + place * 131072 + 131072
   told_few one_stop one_value few place n l =
       let stream : ℕ = stream_of place in
       let first = take place (range_with_len 0 (agents s date)) in
       let second = take (place - agents s date) (range_with_len 0 (variables s date)) in
       let of_agents : length (stops_to s date place) ≤ length first = flat_few (stops s date) first one_stop in
       let of_variables : length (values_to s date (place - agents s date)) ≤ length second = flat_few (values s date) second one_value in
-      let of_streams : length (shows_to s date stream) ≤ stream * 65536 = few_to (shown s date) (streams s date) stream (omega (arith, l)) few in
-      let of_message : length (shows_first s date stream n) ≤ 65536 = few_first few stream n in
+      let of_streams : length (shows_to s date stream) ≤ stream * 131072 = few_to (shown s date) (streams s date) stream (omega (arith, l)) few in
+      let of_message : length (shows_first s date stream n) ≤ 131072 = few_first few stream n in
       let third = shows_to s date stream ++ shows_first s date stream n in
       omega (
         arith,

@@ -1,5 +1,5 @@
 -- What a cycle does to the agent whose action gets it.
-use Rattle.std.specs.Prelude.{◌≡◌, ℕ, ◌+◌, ◌-◌, ◌*◌, ◌^◌, ◌==◌, ◌<◌, ◌≤◌, Bool, true, false, nat_le, if◌then◌else◌, List, [], ◌∷◌, length, Option}
+use Rattle.std.specs.Prelude.{◌≡◌, ℕ, ◌+◌, ◌-◌, ◌*◌, ◌^◌, ◌==◌, ◌<◌, ◌≤◌, true, false, nat_le, if◌then◌else◌, List, [], ◌∷◌, length, Option}
 use Rattle.std.specs.Prelude.{Some, None, slice_get, get_or, ⊤, ℤ}
 use Rattle.std.specs.List.{All}
 use Rattle.psy_base.specs.declared.limits.TheConstants.{ADVANCE, QUANTUM}
@@ -12,13 +12,15 @@ use Rattle.psy_queue.specs.Order.{Queued}
 use Rattle.psy_dates.specs.declared.plan.Plan.{Plan}
 use Rattle.psy_dates.specs.declared.seat.Seat.{Seat}
 use Rattle.psy_dates.specs.Outboxes.{Outboxed}
-use Rattle.psy_dates.specs.Plans.{IsPlan, system_of}
+use Rattle.psy_dates.specs.Plans.{IsPlan, opened_of}
 use Rattle.psy_dates.specs.Standing.{KeepsCopy, KeepsSends, KeepsTakes, QueueStands, RingStands, SeatStands}
 use Rattle.psy_history.specs.Compiled.{AreInputs}
 use Rattle.psy_history.specs.Rings.{age_at}
 use Rattle.psy_history.specs.Scheduled.{turns_of}
 use Rattle.psy_machine.specs.Stepping.{AgentMachine}
-use Rattle.psy_history.specs.Actions.{Action, System, Done, stream_of, timing, variable_of}
+use Rattle.psy_history.specs.Actions.{Action, Opening, System, Done, stream_of, timing, variable_of}
+use Rattle.psy_history.specs.Openings.{IsSound}
+use Rattle.psy_history.specs.Ways.{OfText}
 use Rattle.psy_tree.specs.Parts.{agent_at}
 use Rattle.psy_base.specs.Extremes.{IsGreatest, greater, lesser}
 use Rattle.psy_history.specs.History.{history}
@@ -37,11 +39,6 @@ use Rattle.psy_kernel.specs.Standing.{AgentStands, DeedsStand, HasDone, charge_a
 -- The order of the last of so many orders that have come into force, and the first one where none has
 abbrev pub order_by : List ℕ → List Order → ℕ → List ℕ
 order_by declared orders passed = if passed == 0 then declared else (get_or orders (passed - 1) (record { cycle = 0; agents = declared })).agents
-
--- The variable has this owner.
-abbrev pub is_owned : ℕ → Option ℕ → Bool
-is_owned agent None = false
-is_owned agent (Some owner) = owner == agent
 
 -- The figure of an agent whose action with this deadline finished at a cycle or was stopped there
 abbrev pub figured : ℕ → ℕ → ℕ → ℕ → Figure → Figure
@@ -72,6 +69,7 @@ pub record GetsCycle (s : System) (code : Code) (turns : List (Option Turn)) (un
   pub pending : is_pending turns r ≡ true
   pub numbers : All (λ (q : Action). q.number < r.number) before
   pub few : length before ≤ until
+  pub counted : s.opening.count agent < 2 ^ 50
   pub started : r.start ≤ date
   pub later : date < r.deadline
   pub at : length turns ≡ cycle
@@ -94,14 +92,14 @@ pub record ActsIn (s : System) (code : Code) (r : Action) (had : ℕ) (sight : S
   pub sees : SeesAs s r sight taken
   pub did : HasDone s code r (charge_after s r had).paid outbox.sends taken
 
--- The same in the run of a plan with these inputs and stalls, what the agent has before the cycle, what its action sees then, and what it
--- has done
-pub record IsGiven (plan : Plan) (inputs : List (List ℤ)) (stalls : ℕ → List Stall) (turns : List (Option Turn)) (date cycle agent : ℕ) (r : Action)
-    (before : List Action) (charge : Charged) (machine : AgentMachine) (waits : Option ℕ) (figure : Figure) (seat : Seat) (ended : List ℤ)
-    (sight : Sight) (taken : List ℕ) (outbox : Outboxed) : Type 0 where
-  pub gets : GetsCycle (system_of plan inputs stalls) plan.code turns plan.until date cycle agent r before
-  pub has : OneStands (system_of plan inputs stalls) plan.code turns plan.until date agent (r ∷ before) charge machine waits figure seat ended
-  pub acts : ActsIn (system_of plan inputs stalls) plan.code r (units r.agent r.number turns) sight taken outbox
+-- The same in the run of a plan with these inputs and stalls that begins so, what the agent has before the cycle, what its action sees then,
+-- and what it has done
+pub record IsGiven (plan : Plan) (opening : Opening) (inputs : List (List ℤ)) (stalls : ℕ → List Stall) (turns : List (Option Turn))
+    (date cycle agent : ℕ) (r : Action) (before : List Action) (charge : Charged) (machine : AgentMachine) (waits : Option ℕ) (figure : Figure)
+    (seat : Seat) (ended : List ℤ) (sight : Sight) (taken : List ℕ) (outbox : Outboxed) : Type 0 where
+  pub gets : GetsCycle (opened_of plan opening inputs stalls) plan.code turns plan.until date cycle agent r before
+  pub has : OneStands (opened_of plan opening inputs stalls) plan.code turns plan.until date agent (r ∷ before) charge machine waits figure seat ended
+  pub acts : ActsIn (opened_of plan opening inputs stalls) plan.code r (units r.agent r.number turns) sight taken outbox
 
 -- How far back a variable's ring is reached for, with the look of a cycle at a date, of an action that started at another
 abbrev pub reach_by : System → ℕ → ℕ → ℕ → Option (ℕ × ℕ) → Option ℕ → Option ℕ
@@ -141,20 +139,21 @@ abbrev pub AreOver : List (Option Turn) → List Action → Type 0
 AreOver turns [] = ⊤
 AreOver turns (r ∷ before) = All (λ q. is_pending turns q ≡ false) before
 
--- In the run of a plan, a cycle between a date and the next one
-pub record IsCycleOf (plan : Plan) (inputs : List (List ℤ)) (script : Script) (date cycle : ℕ) : Type 0 where
+-- In a run of a plan that begins soundly, a cycle between a date and the next one
+pub record IsCycleOf (plan : Plan) (opening : Opening) (inputs : List (List ℤ)) (script : Script) (date cycle : ℕ) : Type 0 where
   pub of_plan : IsPlan plan
   pub of_inputs : AreInputs plan.unit inputs
   pub of_script : IsScript plan.unit script
+  pub sound : IsSound (opened_of plan opening inputs (stalls_of script)) (OfText plan.unit) plan.code
   pub before : date < plan.until
   pub most : plan.until ≤ 4294967295
   pub low : date * plan.unit.quantum ≤ cycle
   pub high : cycle < (date + 1) * plan.unit.quantum
 
--- The history of a run
-abbrev pub run_of : Plan → List (List ℤ) → Script → System
-run_of plan inputs script = system_of plan inputs (stalls_of script)
+-- The history of a run that begins so
+abbrev pub run_of : Plan → Opening → List (List ℤ) → Script → System
+run_of plan opening inputs script = opened_of plan opening inputs (stalls_of script)
 
 -- What its first so many cycles went to
-abbrev pub run_turns : Plan → List (List ℤ) → Script → ℕ → List (Option Turn)
-run_turns plan inputs script cycles = turns_of (run_of plan inputs script) (order_of plan.unit script) cycles
+abbrev pub run_turns : Plan → Opening → List (List ℤ) → Script → ℕ → List (Option Turn)
+run_turns plan opening inputs script cycles = turns_of (run_of plan opening inputs script) (order_of plan.unit script) cycles

@@ -1,29 +1,36 @@
 -- How far a run is, what is due next, and what was told.
-use Rattle.std.specs.Prelude.{ℕ, zero, suc, ◌+◌, ◌*◌, ◌==◌, if◌then◌else◌, List, [], ℤ}
-use Rattle.psy_history.specs.Actions.{System}
+use Rattle.std.specs.Prelude.{ℕ, zero, suc, ◌+◌, ◌*◌, ◌==◌, nat_lt, if◌then◌else◌, List, [], Option, None, ℤ}
+use Rattle.psy_history.specs.Actions.{Opening, System}
 use Rattle.psy_history.specs.Lines.{Event, events}
+use Rattle.psy_dates.specs.Beginnings.{beginning_of}
+use Rattle.psy_dates.specs.declared.opening.Opening.{Opening as State}
 use Rattle.psy_dates.specs.declared.plan.Plan.{Plan}
-use Rattle.psy_dates.specs.Plans.{system_of}
+use Rattle.psy_dates.specs.Plans.{opened_of}
 use Rattle.psy_history.specs.declared.told.Script.{Script}
 use Rattle.psy_kernel.specs.declared.stage.Stage.{Stage}
 use Rattle.psy_kernel.specs.declared.stage.Stage.TheVariants.{DateDue, CycleDue, Over}
 use Rattle.psy_history.specs.Scripts.{order_of, stalls_of}
 use Rattle.psy_kernel.specs.Texts.{lines_of, summary_of}
 
--- A run of a plan with these inputs and this script
+-- A run of a plan with these inputs and this script, from date 0 on or from a state
 pub record Progress : Type 0 where
   pub plan : Plan
   pub inputs : List (List ℤ)
   pub script : Script
+  pub opening : Option State
   -- how many dates and cycles were done
   pub dates : ℕ
   pub cycles : ℕ
   -- how many lines of the date done last were given
   pub given : ℕ
 
+-- Where the run begins
+abbrev pub beginning : Progress → Opening
+beginning p = beginning_of p.plan p.opening
+
 -- The history that the run stands for
 abbrev pub system : Progress → System
-system p = system_of p.plan p.inputs (stalls_of p.script)
+system p = opened_of p.plan (beginning p) p.inputs (stalls_of p.script)
 
 -- The order of ties, by cycle
 abbrev pub order : Progress → ℕ → List ℕ
@@ -31,7 +38,7 @@ order p = order_of p.plan.unit p.script
 
 -- Nothing was done.
 abbrev pub booted : Plan → List (List ℤ) → Script → Progress
-booted plan inputs script = record { plan = plan; inputs = inputs; script = script; dates = 0; cycles = 0; given = 0 }
+booted plan inputs script = record { plan = plan; inputs = inputs; script = script; opening = None; dates = 0; cycles = 0; given = 0 }
 
 -- What is due next: nothing where date `until` was done; a date where all cycles before it were; else a cycle.
 abbrev pub stage_of : Progress → Stage
@@ -49,19 +56,19 @@ after_cycle p = record p { cycles = p.cycles + 1 }
 abbrev pub after_line : Progress → Progress
 after_line p = record p { given = p.given + 1 }
 
--- What is told of the last of so many dates; nothing before the first
+-- What is told of the last of so many dates: nothing before the first, nor of a date that was done before
 abbrev pub told_at : System → ℕ → List Event
 told_at s zero = []
-told_at s (suc date) = events s date
+told_at s (suc date) = if nat_lt date s.opening.dates then [] else events s date
 
 -- What is told of the date done last
 abbrev pub told : Progress → List Event
 told p = told_at (system p) p.dates
 
--- The lines of the last of so many dates
+-- The lines of the last of so many dates: none before the first, nor of a date that was done before
 abbrev pub lines_at : System → ℕ → List (List ℕ)
 lines_at s zero = []
-lines_at s (suc date) = lines_of s date
+lines_at s (suc date) = if nat_lt date s.opening.dates then [] else lines_of s date
 
 -- The lines of the date done last
 abbrev pub lines_told : Progress → List (List ℕ)

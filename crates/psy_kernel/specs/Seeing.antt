@@ -1,5 +1,5 @@
 -- What an action sees of the variables and the streams while others publish and send on.
-use Rattle.std.specs.Prelude.{ℕ, ◌^◌, ◌==◌, ◌≤◌, Bool, true, nat_le, List, [], filter, map, take, drop, length, get_or, slice_get, ℤ, pos, Option, None, Some}
+use Rattle.std.specs.Prelude.{ℕ, ◌^◌, ◌==◌, ◌≤◌, Bool, true, nat_le, List, [], filter, map, take, drop, length, get_or, slice_get, ℤ, Option, None, Some}
 use Rattle.std.specs.List.{All, range_with_len}
 use Rattle.psy_base.specs.declared.limits.TheConstants.{RING}
 use Rattle.psy_base.specs.declared.message.Message.{Message}

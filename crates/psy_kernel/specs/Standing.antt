@@ -13,7 +13,9 @@ use Rattle.psy_history.specs.Executors.{agent_code_at, machine_at}
 use Rattle.psy_history.specs.History.{history}
 use Rattle.psy_history.specs.Lines.{Event, publications, shows, stops_of}
 use Rattle.psy_history.specs.Schedule.{Turn, is_pending, units}
-use Rattle.psy_history.specs.Summary.{due_by, most_held, reach, slack}
+use Rattle.psy_history.specs.Openings.{IsSound}
+use Rattle.psy_history.specs.Summary.{due_by, due_count, least_slack, most_held, reach}
+use Rattle.psy_history.specs.Ways.{OfText}
 use Rattle.psy_history.specs.Compiled.{AreInputs}
 use Rattle.psy_history.specs.Regular.{begun_by}
 use Rattle.psy_history.specs.Scheduled.{turns_of}
@@ -23,7 +25,7 @@ use Rattle.psy_dates.specs.Standing.{SharedStands, dates_done}
 use Rattle.psy_kernel.specs.declared.kernel.Figure.{Figure}
 use Rattle.psy_kernel.specs.declared.kernel.Kernel.TheInside.{Inside}
 use Rattle.psy_history.specs.declared.told.Order.{Order}
-use Rattle.psy_kernel.specs.Progress.{Progress, order, system}
+use Rattle.psy_kernel.specs.Progress.{Progress, beginning, order, system}
 use Rattle.psy_history.specs.Scripts.{IsScript}
 
 -- How far the run is
@@ -32,6 +34,7 @@ progress_of k = record {
   plan = k.plan;
   inputs = k.shared.inputs.lists;
   script = k.script;
+  opening = k.opening;
   dates = dates_done k.shared.date;
   cycles = k.cycles;
   given = k.given;
@@ -43,9 +46,10 @@ progress_of k = record {
 abbrev pub charge_after : System → Action → ℕ → Charged
 charge_after s r had = ticked (record { stalls = s.stalls r.agent; started = r.number + 1; budget = r.budget; consumed = 0; paid = 0 }) had
 
--- The charge of an agent with these actions
+-- The charge of an agent with these actions: whatever it is where the agent was silent from the beginning
 abbrev pub ChargeStands : System → List (Option Turn) → ℕ → List Action → Charged → Type 0
-ChargeStands s turns agent [] charge = charge ≡ record { stalls = s.stalls agent; started = 0; budget = 0; consumed = 0; paid = 0 }
+ChargeStands s turns agent [] charge =
+    s.opening.silent agent ≡ false → charge ≡ record { stalls = s.stalls agent; started = 0; budget = 0; consumed = 0; paid = 0 }
 ChargeStands s turns agent (r ∷ before) charge = charge ≡ charge_after s r (units r.agent r.number turns)
 
 -- The machine of an action that is pending is where its code is after the instructions that its cycles paid.
@@ -63,9 +67,9 @@ abbrev pub MachineIn : System → Code → List (Option Turn) → Action → Boo
 MachineIn s code turns r true machine = IsRunning code r (charge_after s r (units r.agent r.number turns)).paid machine
 MachineIn s code turns r false machine = IsAtEnd code r r.verdict machine
 
--- The machine of an agent with these actions
+-- The machine of an agent with these actions: whatever it is where the agent was silent from the beginning
 abbrev pub MachineStands : System → Code → List (Option Turn) → ℕ → List Action → AgentMachine → Type 0
-MachineStands s code turns agent [] machine = IsNew code agent machine
+MachineStands s code turns agent [] machine = s.opening.silent agent ≡ false → IsNew code agent machine
 MachineStands s code turns agent (r ∷ before) machine = MachineIn s code turns r (is_pending turns r) machine
 
 -- What an action that goes on sent and took so far: what the instructions did that its cycles paid.
@@ -91,7 +95,7 @@ deadline_of turns (r ∷ before) = if is_pending turns r then Some r.deadline el
 abbrev pub settled : List (Option Turn) → ℕ → List Action → List Action
 settled turns until actions = filter (λ r. not (is_pending turns r)) (due_by until actions)
 
--- What an agent has, where its actions are these
+-- What an agent has, where its actions are these; its figure goes on from that of the beginning.
 pub record AgentStands (s : System) (code : Code) (turns : List (Option Turn)) (until agent : ℕ) (actions : List Action) (charge : Charged)
     (machine : AgentMachine) (waits : Option ℕ) (figure : Figure) : Type 0 where
   pub charged : ChargeStands s turns agent actions charge
@@ -99,8 +103,8 @@ pub record AgentStands (s : System) (code : Code) (turns : List (Option Turn)) (
   pub of_code : IsOf code machine
   pub executes : MachineStands s code turns agent actions machine
   pub ready : waits ≡ deadline_of turns actions
-  pub counted : figure.count ≡ length (settled turns until actions)
-  pub slacked : figure.slack ≡ slack s.unit.quantum turns (settled turns until actions)
+  pub counted : figure.count ≡ due_count s agent (settled turns until actions)
+  pub slacked : figure.slack ≡ least_slack s turns agent (settled turns until actions)
 
 -- ---- the order and the choice
 
@@ -132,16 +136,16 @@ told_from s date place shown =
     ++ (flat_map (shows s h date) (take stream (range_with_len 0 (length s.unit.streams)))
     ++ shows_first s date stream shown))
 
--- How many lines were given of the last of so many dates
+-- How many lines were given of the last of so many dates: none of one that was done before
 abbrev pub given_at : System → ℕ → ℕ → ℕ → ℕ
 given_at s zero place shown = 0
-given_at s (suc date) place shown = length (told_from s date place shown)
+given_at s (suc date) place shown = if nat_lt date s.opening.dates then 0 else length (told_from s date place shown)
 
 -- ---- streams
 
--- The greatest number of messages that a stream held at the first so many dates
+-- The greatest number of messages that a stream held at the first so many dates, and before
 abbrev pub most_held_in : System → ℕ → ℕ → ℕ
-most_held_in s zero stream = 0
+most_held_in s zero stream = s.opening.most stream
 most_held_in s (suc date) stream = most_held s date stream
 
 -- ---- the kernel
@@ -151,12 +155,15 @@ abbrev pub InTick : ℕ → ℕ → ℕ → ℕ → Type 0
 InTick quantum until zero cycles = cycles ≡ 0
 InTick quantum until (suc date) cycles = (date ≤ until) × (date * quantum ≤ cycles) × (cycles ≤ (date + 1) * quantum) × (date ≡ until → cycles ≡ date * quantum)
 
--- The kernel stands for the history of its plan's code, with its inputs and script, up to the date done last, and for the schedule
--- before the next cycle.
+-- The kernel stands for the history of its plan's code, with its inputs and script, from where the run begins up to the date done last, and
+-- for the schedule before the next cycle.
 pub record KernelStands (k : Inside) : Type 0 where
   pub plan : IsPlan k.plan
   pub inputs : AreInputs k.plan.unit k.shared.inputs.lists
   pub script : IsScript k.plan.unit k.script
+  -- it begins soundly, with what was done before
+  pub sound : IsSound (system (progress_of k)) (OfText k.plan.unit) k.plan.code
+  pub behind : (beginning (progress_of k)).dates ≤ dates_done k.shared.date
   pub in_tick : InTick k.plan.unit.quantum k.plan.until (dates_done k.shared.date) k.cycles
   pub shared : SharedStands (system (progress_of k)) (turns_of (system (progress_of k)) (order (progress_of k)) k.cycles) (dates_done k.shared.date) k.shared
   pub machined : length k.machines.items ≡ length k.plan.unit.agents
@@ -181,5 +188,8 @@ pub record KernelStands (k : Inside) : Type 0 where
   pub orders : AreInForce k.script.orders k.passed k.cycles
   pub choice : k.stale ≡ false → IsChosen k.ready (order (progress_of k) k.cycles) k.chosen
   pub place : k.place ≤ length k.plan.unit.agents + length k.plan.unit.variables + length k.plan.unit.streams
+  -- nothing is left to tell of a date that was done before
+  pub before : (last : ℕ) → (beginning (progress_of k)).dates ≡ suc last → dates_done k.shared.date ≡ suc last
+      → k.place ≡ length k.plan.unit.agents + length k.plan.unit.variables + length k.plan.unit.streams
   pub unshown : k.place < length k.plan.unit.agents + length k.plan.unit.variables → k.shown ≡ 0
   pub given : k.given ≡ given_at (system (progress_of k)) (dates_done k.shared.date) k.place k.shown

@@ -9,8 +9,8 @@ use Rattle.psy_code.specs.declared.look.Sent.{Sent}
 use Rattle.psy_dates.specs.declared.plan.Plan.{Plan}
 use Rattle.psy_dates.specs.declared.seat.Seat.{Seat}
 use Rattle.psy_dates.specs.Outboxes.{Outboxed}
-use Rattle.psy_dates.specs.Plans.{system_of}
-use Rattle.psy_history.specs.Actions.{Action, System}
+use Rattle.psy_dates.specs.Plans.{opened_of}
+use Rattle.psy_history.specs.Actions.{Action, Opening, System}
 use Rattle.psy_history.specs.Schedule.{Turn, is_pending, turn_of, work}
 use Rattle.psy_machine.specs.declared.machine.Step.{Step}
 use Rattle.psy_machine.specs.declared.machine.Step.TheVariants as step
@@ -82,17 +82,17 @@ gone_by charge step.Went = gone_on charge
 gone_by charge (step.Ended point) = gone.Ended point
 gone_by charge (step.Trapped kind) = gone.Trapped kind
 
--- ---- in the run of a plan
+-- ---- in a run of a plan
 
 -- What the agent has whose action gets the next cycle, and what the action sees with it and with each of the next so many that it gets
-pub record MayLast (plan : Plan) (inputs : List (List ℤ)) (stalls : ℕ → List Stall) (turns : List (Option Turn)) (date cycle agent most : ℕ) (r : Action)
-    (before : List Action) (charge : Charged) (machine : AgentMachine) (waits : Option ℕ) (figure : Figure) (seat : Seat) (ended : List ℤ)
-    (rings : List (List ℤ)) (queues : List Queued) (taken : List ℕ) (outbox : Outboxed) : Type 0 where
-  pub given : IsGiven plan inputs stalls turns date cycle agent r before charge machine waits figure seat ended
+pub record MayLast (plan : Plan) (opening : Opening) (inputs : List (List ℤ)) (stalls : ℕ → List Stall) (turns : List (Option Turn))
+    (date cycle agent most : ℕ) (r : Action) (before : List Action) (charge : Charged) (machine : AgentMachine) (waits : Option ℕ) (figure : Figure)
+    (seat : Seat) (ended : List ℤ) (rings : List (List ℤ)) (queues : List Queued) (taken : List ℕ) (outbox : Outboxed) : Type 0 where
+  pub given : IsGiven plan opening inputs stalls turns date cycle agent r before charge machine waits figure seat ended
       (sight_in plan.unit rings queues agent seat.start date) taken outbox
-  pub ringed : AreRingsOf (system_of plan inputs stalls) (date + 1) rings
-  pub queued : AreQueuesOf (system_of plan inputs stalls) (date + 1) queues
+  pub ringed : AreRingsOf (opened_of plan opening inputs stalls) (date + 1) rings
+  pub queued : AreQueuesOf (opened_of plan opening inputs stalls) (date + 1) queues
   pub counted : length taken ≡ length plan.unit.streams
   pub sized : IsGreatest (HasSendsTo plan.unit (agent_at plan.unit r.agent)) outbox.size
   pub looks : (k : ℕ) → k < most → is_pending (given_to (turn_of (Some r)) k turns) r ≡ true
-      → LooksBack (system_of plan inputs stalls) plan.code (given_to (turn_of (Some r)) k turns) date r
+      → LooksBack (opened_of plan opening inputs stalls) plan.code (given_to (turn_of (Some r)) k turns) date r

@@ -8,11 +8,18 @@ use Rattle.psy_clock.specs.declared.clock.Clock.{Clock}
 use Rattle.psy_log.specs.Forms.{agent_line, end_line, stop_overrun_line, stop_trap_line, message_line, stream_line, value_line, variable_line}
 use Rattle.psy_tree.specs.declared.unit.Unit.{Unit as Whole}
 use Rattle.psy_tree.specs.declared.unit.VarDecl.{VarDecl}
-use Rattle.psy_history.specs.Actions.{System}
+use Rattle.psy_budget.specs.declared.charge.Stall.{Stall}
+use Rattle.psy_history.specs.Actions.{Opening, System}
+use Rattle.psy_history.specs.Openings.{IsSound}
+use Rattle.psy_history.specs.Schedule.{Turn}
+use Rattle.psy_history.specs.Ways.{OfText}
 use Rattle.psy_tree.specs.Parts.{agent_at, variable_at, stream_at}
 use Rattle.psy_history.specs.History.{history}
 use Rattle.psy_history.specs.Lines.{Event, is_date, publications, shows, stops_of}
 use Rattle.psy_dates.specs.declared.plan.Plan.{Plan}
+use Rattle.psy_dates.specs.declared.shared.Shared.{Shared}
+use Rattle.psy_dates.specs.Plans.{opened_of}
+use Rattle.psy_dates.specs.Standing.{SharedStands}
 use Rattle.psy_dates.specs.declared.seat.Phase.TheVariants as phase
 use Rattle.psy_dates.specs.declared.seat.Seat.{Seat}
 use Rattle.psy_kernel.specs.declared.kernel.Figure.{Figure}
@@ -21,6 +28,12 @@ use Rattle.psy_kernel.specs.Standing.{told_from}
 use Rattle.psy_kernel.specs.Texts.{event_line}
 
 -- ---- lines of a date
+
+-- What is shared stands for a history of a plan that begins soundly, behind a date that wasn't done before.
+pub record StandsBehind (plan : Plan) (opening : Opening) (stalls : ℕ → List Stall) (turns : List (Option Turn)) (date : ℕ) (shared : Shared) : Type 0 where
+  pub sound : IsSound (opened_of plan opening shared.inputs.lists stalls) (OfText plan.unit) plan.code
+  pub later : opening.dates ≤ date
+  pub stands : SharedStands (opened_of plan opening shared.inputs.lists stalls) turns (date + 1) shared
 
 -- The line of an agent's stop, by its trap; by an overrun where there is none
 abbrev pub stop_line : ℕ → List ℕ → Option Trap → List ℕ

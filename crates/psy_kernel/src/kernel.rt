@@ -10,7 +10,7 @@ mod stretch;
 mod summary;
 
 use psy_budget::Charge;
-use psy_dates::{Plan, Shared};
+use psy_dates::{Opening, Plan, Shared};
 use psy_history::Script;
 use psy_machine::Machine;
 use psy_ready::Ready;
@@ -24,11 +24,13 @@ struct Figure {
 }
 
 /// The run of a plan. Contracts see how many dates and cycles of it were done, and how many lines of the last date were given. What
-/// it holds stands for the dated history there: so its lines and its summary are the history's.
+/// it holds stands for the dated history there, from wherever it begins: so its lines and its summary are the history's.
 #[derive(Drop)]
 pub struct Kernel {
     plan: Plan,
     script: Script,
+    /// The state behind which the run begins; None where it begins at date 0.
+    opening: Option<Opening>,
     shared: Shared,
     /// By agent.
     machines: Vec<Machine>,

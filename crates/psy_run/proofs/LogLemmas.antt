@@ -1,6 +1,7 @@
 -- The text of a run grows line by line, and date by date.
-use Rattle.std.proofs.Common.{◌≡◌, ◌≢◌, ◌∙◌, sym, ap, subst, refl, ℕ, zero, suc, ◌+◌, ◌*◌, ◌≤◌, List, [], ◌∷◌, ◌++◌, append_assoc, append-nil, length, slice_get, take, Some, Option, arith, inl, inr, add-one}
+use Rattle.std.proofs.Common.{◌≡◌, ◌≢◌, ◌∙◌, sym, ap, subst, refl, ℕ, zero, suc, ◌+◌, ◌*◌, ◌≤◌, nat_lt, List, [], ◌∷◌, ◌++◌, append_assoc, append-nil, length, slice_get, take, Some, Option, arith, inl, inr, add-one}
 use Rattle.std.specs.List.{flat_map, range_with_len}
+use Rattle.std.proofs.lemmas.Bool.{cond-false, le-ltb}
 use Rattle.std.proofs.lemmas.Bool.Decides.{nat_tests}
 use Rattle.std.proofs.lemmas.Grind.{flat_map-append}
 use Rattle.std.proofs.lemmas.List.{take_all}
@@ -8,8 +9,9 @@ use Rattle.std.proofs.lemmas.Option.{slice_get_within, get_or_from_slice_get}
 use Rattle.std.proofs.Math.Nat.{eq-or-lt_of_le}
 use Rattle.psy_door.specs.Growth.{Grew, GrewByFront}
 use Rattle.psy_kernel.specs.declared.stage.Stage.TheVariants.{DateDue}
-use Rattle.psy_kernel.specs.Progress.{Progress, after_date, after_line, lines_at, lines_told, stage_of, system}
+use Rattle.psy_kernel.specs.Progress.{Progress, after_date, after_line, booted, lines_at, lines_told, stage_of, system}
 use Rattle.psy_kernel.specs.Texts.{lines_of, log_of, text_of}
+use Rattle.psy_dates.specs.Beginnings.{beginning_of}
 use Rattle.psy_history.specs.Actions.{System}
 use Rattle.psy_history.specs.Summary.{dates_from}
 use Rattle.psy_run.proofs.GrowthLemmas.{Grew-trans}
@@ -92,13 +94,19 @@ GrewByFront-date a b c s none date n h before lines =
 pub stage-date : (p : Progress) (date : ℕ) → stage_of p ≡ DateDue date → (date ≡ p.dates) × (p.cycles ≡ p.dates * p.plan.unit.quantum) × (p.dates ≢ p.plan.until + 1)
 stage-date p date e = (grind (arith, nat_tests), grind (arith, nat_tests), grind (arith, nat_tests))
 
+-- A kernel that was just booted begins at date 0.
+pub whole-booted : (p : Progress) → p ≡ booted p.plan p.inputs p.script → (system p).opening.dates ≡ 0
+whole-booted p is = ap (λ opening. (beginning_of p.plan opening).dates) (ap (λ (q : Progress). q.opening) is)
+
 -- The lines of the date that is done next
-pub lines_told-after : (p : Progress) → lines_told (after_date p) ≡ lines_of (system p) p.dates
-lines_told-after p = ap (lines_at (system p)) (add-one p.dates)
+pub lines_told-after : (p : Progress) → (system p).opening.dates ≡ 0 → lines_told (after_date p) ≡ lines_of (system p) p.dates
+lines_told-after p whole =
+    ap (lines_at (system p)) (add-one p.dates)
+    ∙ cond-false (nat_lt p.dates (system p).opening.dates) [] (lines_of (system p) p.dates) (le-ltb p.dates (system p).opening.dates (omega (arith, whole)))
 
 -- A run whose program, inputs and script are another's
-pub progress-parts : (p q : Progress) → p.plan ≡ q.plan → p.inputs ≡ q.inputs → p.script ≡ q.script → p ≡ record q { dates = p.dates; cycles = p.cycles; given = p.given }
-progress-parts p q plan inputs script = λ i. record { plan = plan i; inputs = inputs i; script = script i; dates = p.dates; cycles = p.cycles; given = p.given }
+pub progress-parts : (p q : Progress) → p.plan ≡ q.plan → p.inputs ≡ q.inputs → p.script ≡ q.script → p.opening ≡ q.opening → p ≡ record q { dates = p.dates; cycles = p.cycles; given = p.given }
+progress-parts p q plan inputs script opening = λ i. record { plan = plan i; inputs = inputs i; script = script i; opening = opening i; dates = p.dates; cycles = p.cycles; given = p.given }
 
 -- The cycles done so far are before the next date
 pub cycles-after : (quantum dates cycles : ℕ) → cycles ≡ dates * quantum → cycles ≤ (dates + 1) * quantum

@@ -7,7 +7,8 @@ use Rattle.psy_code.specs.declared.code.Code.{Code}
 use Rattle.psy_tree.specs.declared.unit.Unit.{Unit as Whole}
 use Rattle.psy_base.specs.declared.sizes.Sizes.{Sizes}
 use Rattle.psy_dates.specs.declared.plan.Plan.{Plan}
-use Rattle.psy_dates.specs.Plans.{IsPlan}
+use Rattle.psy_dates.specs.Beginnings.{beginning_of}
+use Rattle.psy_dates.specs.Plans.{IsPlan, opened_of}
 use Rattle.psy_history.specs.Compiled.{AreInputs, IsCompiled, coded, stated}
 use Rattle.psy_history.specs.Scheduled.{turns_of}
 use Rattle.psy_history.specs.declared.told.Script.{Script}
@@ -98,9 +99,9 @@ module _ (unit : Whole) (code : Code) (nexts : List (List (List ℕ))) (stalls :
 -- ---- what is left
 
 -- The kernel of a run at its end
-has_run : (kernel : Progress) (inputs : List (List ℤ)) (script : Script) → IsPlan kernel.plan → kernel.inputs ≡ inputs → kernel.script ≡ script
+has_run : (kernel : Progress) (inputs : List (List ℤ)) (script : Script) → IsPlan kernel.plan → kernel.inputs ≡ inputs → kernel.script ≡ script → kernel.opening ≡ None
     → HasRun kernel.plan.unit kernel.plan.nexts kernel.plan.sizes kernel.plan.until inputs script (ended kernel)
-has_run kernel inputs script plan are is = record {
+has_run kernel inputs script plan are is whole = record {
   plan = plan;
   its_unit = refl;
   its_nexts = refl;
@@ -108,6 +109,7 @@ has_run kernel inputs script plan are is = record {
   its_until = refl;
   its_inputs = are;
   its_script = is;
+  its_opening = whole;
   dates = refl;
   cycles = refl;
   given = refl;
@@ -116,13 +118,13 @@ has_run kernel inputs script plan are is = record {
 -- A run leaves its kernel, once it has ended
 pub ran_leaves : (kernel now : Progress) → CanServe (served.Ran kernel) → now ≡ ended kernel → Leaves (service_of (served.Ran kernel)) (Some now)
 ran_leaves kernel now (is, plan, are, script) over =
-    let ran = has_run kernel kernel.inputs kernel.script plan refl refl in
+    let ran = has_run kernel kernel.inputs kernel.script plan refl refl (ap (λ (p : Progress). p.opening) is) in
     (now, refl, subst (HasRun kernel.plan.unit kernel.plan.nexts kernel.plan.sizes kernel.plan.until kernel.inputs kernel.script) (sym over) ran)
 
 -- And so does the run of a program that was made
 pub tried_leaves : (kernel now : Progress) → CanServe (served.Tried kernel) → now ≡ ended kernel → Leaves (service_of (served.Tried kernel)) (Some now)
 tried_leaves kernel now (is, plan) over =
-    let ran = has_run kernel (no_inputs kernel.plan.unit) no_script plan (ap (λ (p : Progress). p.inputs) is) (ap (λ (p : Progress). p.script) is) in
+    let ran = has_run kernel (no_inputs kernel.plan.unit) no_script plan (ap (λ (p : Progress). p.inputs) is) (ap (λ (p : Progress). p.script) is) (ap (λ (p : Progress). p.opening) is) in
     (now, refl, subst (HasRun kernel.plan.unit kernel.plan.nexts kernel.plan.sizes kernel.plan.until (no_inputs kernel.plan.unit) no_script) (sym over) ran)
 
 -- What is served leaves something
@@ -138,7 +140,8 @@ some_left (served.Tried kernel) can = (Some (ended kernel), tried_leaves kernel 
 -- A kernel that was just booted writes the text of the statements
 pub served_text : Always AreAlike → (kernel : Progress) → CanServe (served.Ran kernel) → run_text (system kernel) (order kernel) kernel.plan.sizes kernel.plan.until ≡ service.text_of (service_of (served.Ran kernel))
 served_text law kernel (is, plan, are, script) =
-    same_text kernel.plan.unit kernel.plan.code kernel.plan.nexts (stalls_of kernel.script) kernel.inputs
+    ap (λ opening. run_text (opened_of kernel.plan (beginning_of kernel.plan opening) kernel.inputs (stalls_of kernel.script)) (order kernel) kernel.plan.sizes kernel.plan.until) (ap (λ (p : Progress). p.opening) is)
+    ∙ same_text kernel.plan.unit kernel.plan.code kernel.plan.nexts (stalls_of kernel.script) kernel.inputs
     (law kernel.plan.unit kernel.plan.code kernel.plan.nexts (stalls_of kernel.script) kernel.inputs plan.compiled are) (order kernel) kernel.plan.sizes kernel.plan.until
 
 -- And so does one that writes its summary alone
@@ -148,8 +151,9 @@ tried_text law kernel (is, plan) =
     let unit = kernel.plan.unit in
     let inputs = ap (λ (p : Progress). p.inputs) is in
     let script = ap (λ (p : Progress). p.script) is in
+    let opening = ap (λ (p : Progress). p.opening) is in
     let alike = law unit kernel.plan.code kernel.plan.nexts (stalls_of no_script) (no_inputs unit) plan.compiled (are_no_inputs unit) in
-    (λ i. text_of (summary_of (coded unit kernel.plan.code kernel.plan.nexts (stalls_of (script i)) (inputs i)) (order_of unit (script i)) kernel.plan.sizes kernel.plan.until))
+    (λ i. text_of (summary_of (opened_of kernel.plan (beginning_of kernel.plan (opening i)) (inputs i) (stalls_of (script i))) (order_of unit (script i)) kernel.plan.sizes kernel.plan.until))
     ∙ ap text_of (same_summary unit kernel.plan.code kernel.plan.nexts (stalls_of no_script) (no_inputs unit) alike (order_of unit no_script) kernel.plan.sizes kernel.plan.until)
 
 -- ---- its bounds

@@ -21,6 +21,7 @@ use Rattle.psy_tree.specs.Stands.{Stands, first_passed}
 use Rattle.psy_tree.specs.Tokens.{TokensOf}
 use Rattle.psy_parse.specs.Fault.{NoTree, AtFault}
 use Rattle.psy_flow.specs.Agents.{IsAgentOf}
+use Rattle.psy_flow.specs.Costs.{AreCosts}
 use Rattle.psy_meaning.specs.BufferSizes.{AreSizes}
 use Rattle.psy_meaning.specs.Flow.{AreAllNexts, IsCut, HasCost}
 use Rattle.psy_meaning.specs.Timing.{Timing, timing_of}
@@ -47,7 +48,7 @@ use Rattle.psy_run.specs.declared.extent.Extent.{Extent}
 use Rattle.psy_run.specs.declared.extent.Extent.TheVariants.{Horizon, LastDate}
 use Rattle.psy_run.specs.Extents.{IsExtent}
 use Rattle.psy_run.specs.Courses.{step}
-use Rattle.psy_run.specs.Steps.{reading, lexing, parsing, resolving, graphing, sizing, costing, AreCosts, rating, extending, windowing, HasCells, PassesCells, demanding, edges_of, stating, directing, pacing}
+use Rattle.psy_run.specs.Steps.{reading, lexing, parsing, resolving, graphing, sizing, costing, rating, extending, windowing, HasCells, PassesCells, demanding, edges_of, stating, directing, pacing}
 use Rattle.psy_run.proofs.Courses.{IsOne, one_unless}
 use Rattle.psy_run.proofs.RefusalLemmas.{lexical_is, unparsed_is, unlawful_is, undrawn_by, undrawn_is, unsized_by, unsized_is, overloaded_is}
 

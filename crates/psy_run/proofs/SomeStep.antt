@@ -22,6 +22,7 @@ use Rattle.psy_tree.specs.Stands.{Stands, first_passed}
 use Rattle.psy_tree.specs.Tokens.{TokensOf}
 use Rattle.psy_parse.specs.Fault.{NoTree, AtFault}
 use Rattle.psy_flow.specs.Agents.{IsAgentOf}
+use Rattle.psy_flow.specs.Costs.{AreCosts}
 use Rattle.psy_meaning.specs.BufferSizes.{AreSizes}
 use Rattle.psy_meaning.specs.Flow.{AreAllNexts, AreNexts, IsCut, HasCost}
 use Rattle.psy_meaning.specs.Units.{IsOfText}
@@ -50,7 +51,7 @@ use Rattle.psy_run.specs.declared.extent.Extent.TheVariants.{Horizon, LastDate}
 use Rattle.psy_rate.specs.declared.line.Rate.{Rate}
 use Rattle.psy_rate.specs.Horizons.{Covers, IsHorizonOf}
 use Rattle.psy_rate.specs.Lines.{IsRateOf, AreRates}
-use Rattle.psy_run.specs.Steps.{reading, lexing, parsing, resolving, graphing, IsUndrawn, IsUnsized, sizing, costing, AreCosts, rating, extending, windowing, HasCells, PassesCells, demanding, edges_of, stating, directing, pacing}
+use Rattle.psy_run.specs.Steps.{reading, lexing, parsing, resolving, graphing, IsUndrawn, IsUnsized, sizing, costing, rating, extending, windowing, HasCells, PassesCells, demanding, edges_of, stating, directing, pacing}
 use Rattle.psy_run.proofs.Courses.{IsSome, some_unless}
 use Rattle.psy_run.proofs.Decisions.{most_or_more, all_or_any, list_of}
 use Rattle.psy_run.proofs.OneStep.{IsUntold, TextsHold}

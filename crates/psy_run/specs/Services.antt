@@ -51,7 +51,7 @@ text_of (Tried unit nexts sizes until) = lines_text (summary_of (meaning_of unit
 
 -- ---- what is left
 
--- A kernel that ran the program to its last date: it is over, and gave all its lines.
+-- A kernel that ran the program from date 0 to its last one: it is over, and gave all its lines.
 pub record HasRun (unit : Whole) (nexts : List (List (List ℕ))) (sizes : Sizes) (until : ℕ) (inputs : List (List ℤ)) (script : Script)
     (p : Progress) : Type 0 where
   pub plan : IsPlan p.plan
@@ -61,6 +61,7 @@ pub record HasRun (unit : Whole) (nexts : List (List (List ℕ))) (sizes : Sizes
   pub its_until : p.plan.until ≡ until
   pub its_inputs : p.inputs ≡ inputs
   pub its_script : p.script ≡ script
+  pub its_opening : p.opening ≡ None
   pub dates : p.dates ≡ until + 1
   pub cycles : p.cycles ≡ until * unit.quantum
   pub given : p.given ≡ length (lines_told p)

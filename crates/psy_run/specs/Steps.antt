@@ -3,11 +3,10 @@ use Rattle.std.specs.Prelude.{◌≡◌, ℕ, ◌+◌, ◌*◌, ◌<◌, ◌≤�
 use Rattle.std.specs.List.{All, Any}
 use Rattle.psy_base.specs.declared.edge.Edge.{Edge}
 use Rattle.psy_base.specs.declared.sizes.Sizes.{Sizes}
-use Rattle.psy_base.specs.declared.limits.TheConstants.{COST, FILE_BYTES, RUN, WINDOW_CELLS}
+use Rattle.psy_base.specs.declared.limits.TheConstants.{FILE_BYTES, RUN, WINDOW_CELLS}
 use Rattle.psy_door.specs.Files.{Files, WhereTold, bytes_under}
 use Rattle.psy_tree.specs.declared.raw.Raw.{Raw}
 use Rattle.psy_tree.specs.declared.token.Token.{Token}
-use Rattle.psy_tree.specs.declared.unit.AgentDecl.{AgentDecl}
 use Rattle.psy_tree.specs.declared.unit.Unit.{Unit as Whole}
 use Rattle.psy_tree.specs.Deep as deep
 use Rattle.psy_tree.specs.Faults as faults
@@ -18,7 +17,7 @@ use Rattle.psy_tree.specs.Tokens.{TokensOf}
 use Rattle.psy_parse.specs.Fault.{AtFault}
 use Rattle.psy_meaning.specs.BufferSizes.{AreSizes}
 use Rattle.psy_meaning.specs.Demand.{IsFeasible, IsOverload}
-use Rattle.psy_meaning.specs.Flow.{IsCut, HasCost}
+use Rattle.psy_flow.specs.Costs.{AreAllCosts}
 use Rattle.psy_graph.specs.declared.fault.GraphFault.TheVariants as fault
 use Rattle.psy_graph.specs.declared.graph.Graph.{Graph}
 use Rattle.psy_graph.specs.Graphs.{AreGraphs, IsCause}
@@ -103,18 +102,7 @@ IsUnsized unit nexts _ = ⊥
 abbrev pub sizing : Whole → List (List (List ℕ)) → Course Sizes
 sizing unit nexts = step (λ sizes. AreSizes unit nexts sizes × CanCount unit nexts) (IsUnsized unit nexts)
 
--- The greatest cost of an action from each point of an agent, cut at 1,000,000,000
-pub record AreCosts (unit : Whole) (agent : AgentDecl) (costs : List ℕ) : Type 0 where
-  pub count : length costs ≡ length agent.points
-  pub each : (point cost : ℕ) → slice_get costs point ≡ Some cost → IsCut (HasCost unit.functions agent point) COST cost
-
--- The greatest costs, by agent and point
-pub record AreAllCosts (unit : Whole) (costs : List (List ℕ)) : Type 0 where
-  pub count : length costs ≡ length unit.agents
-  pub each : (number : ℕ) (agent : AgentDecl) (list : List ℕ) → slice_get unit.agents number ≡ Some agent → slice_get costs number ≡ Some list
-      → AreCosts unit agent list
-
--- They are there for each program.
+-- The greatest costs of the actions, by agent and point: they are there for each program.
 abbrev pub costing : Whole → Course (List (List ℕ))
 costing unit = step (AreAllCosts unit) (λ refusal. ⊥)
 

@@ -1,5 +1,5 @@
 -- What words ask for, as it is found word by word.
-use Rattle.std.proofs.Common.{◌≡◌, ◌∙◌, sym, ap, ℕ, ◌<◌, List, [], ◌∷◌, ◌++◌, length, map, true, bytes_eq, codes, arith}
+use Rattle.std.proofs.Common.{◌≡◌, ◌∙◌, refl, sym, ap, ℕ, ◌<◌, List, [], ◌∷◌, ◌++◌, length, map, true, bytes_eq, codes, arith}
 use Rattle.std.specs.List.{flat_map}
 use Rattle.std.proofs.lemmas.List.{append-nil, append_assoc}
 use Rattle.std.proofs.lemmas.Slice.Eq.{bytes_eq-Decides}
@@ -18,3 +18,8 @@ asks_line f command name (word ∷ more) some is = asks_where name (f word) (map
 pub line_from : {S : Type 0} (f : S → List ℕ) (word : List ℕ) (words : List S) → line_of_words (word ∷ map f words) ≡ word ++ flat_map (λ w. codes " " ++ f w) words
 line_from f word [] = sym (append-nil word)
 line_from f word (next ∷ words) = append_assoc word (codes " ") (line_of_words (f next ∷ map f words)) ∙ ap (λ l. word ++ (codes " " ++ l)) (line_from f (f next) words)
+
+-- Words of which there is none
+pub no_words : {S : Type 0} (f : S → List ℕ) (words : List S) → length words < 1 → map f words ≡ []
+no_words f [] none = refl
+no_words f (word ∷ words) none = absurd (omega (arith, none))

@@ -4,7 +4,7 @@ use Rattle.std.proofs.lemmas.List.{length-replicate}
 use Rattle.psy_door.specs.Faults.{Rose}
 use Rattle.psy_door.specs.Files.{Files, WhereTold, bytes_under}
 use Rattle.psy_door.specs.Growth.{Grew, GrewByFront}
-use Rattle.psy_view.specs.Answer.{Answers, no_words, viewed, too_long}
+use Rattle.psy_view.specs.Answer.{Answers, no_words, of_itself, viewed, too_long}
 use Rattle.psy_view.specs.Asked.{Request, Asks, AskNothing, file_of, most_of}
 use Rattle.psy_view.specs.Outcome.{MayAnswer, may_answer, may_miss, Says}
 use Rattle.psy_view.specs.Refusals.{unread_line, long_line}
@@ -29,6 +29,7 @@ of_view bytes _ _ _ (no_graph name line is) = inr refl
 -- A defined answer's: 2 for words of no form, and else a view's
 of_answer : (words : List (List ℕ)) (files : Option Files) (status : ℕ) (text : List ℕ) → Answers words files status text → ((status ≡ 2) × AskNothing words) ⊎ IsOfView status
 of_answer words files _ _ (no_words nothing) = inl (refl, nothing)
+of_answer words files _ _ (of_itself text asks) = inr (inl refl)
 of_answer words files _ _ (viewed request bytes status text asks told within is) = inr (of_view bytes request status text is)
 of_answer words files _ _ (too_long request bytes asks told longer) = inr (inr refl)
 

@@ -2,6 +2,7 @@
 use Rattle.std.specs.Prelude.{◌≡◌, ℕ, List, [], ◌∷◌, ◌++◌, codes}
 use Rattle.psy_base.specs.declared.limits.TheConstants.{FILE_BYTES}
 use Rattle.psy_view.specs.declared.asked.TheConstants.{TEXT_BYTES}
+use Rattle.psy_view.specs.declared.help.TheConstants.{HELP, VERSION}
 
 -- A request, with the name of its file; a line that is to be explained is told in the words behind that name
 pub data Request : Type 0 where
@@ -21,9 +22,19 @@ pub data Asks (words : List (List ℕ)) : Request → Type 0 where
   asks_timeline : (name : List ℕ) → words ≡ codes "timeline" ∷ name ∷ [] → Asks words (Timeline name)
   asks_dot : (name : List ℕ) → words ≡ codes "dot" ∷ name ∷ [] → Asks words (Dot name)
 
+-- The words ask for no view
+abbrev pub AskNoView : List (List ℕ) → Type 0
+AskNoView words = (request : Request) → Asks words request → ⊥
+
+-- The words ask for this text: for help, which no words ask for too, or for the version
+pub data AskForText (words : List (List ℕ)) : List ℕ → Type 0 where
+  for_help_by_none : words ≡ [] → AskForText words HELP.now
+  for_help : words ≡ codes "--help" ∷ [] → AskForText words HELP.now
+  for_version : words ≡ codes "--version" ∷ [] → AskForText words VERSION.now
+
 -- The words are of no listed form
 abbrev pub AskNothing : List (List ℕ) → Type 0
-AskNothing words = (request : Request) → Asks words request → ⊥
+AskNothing words = AskNoView words × ((text : List ℕ) → AskForText words text → ⊥)
 
 -- The name of the file that is asked about
 abbrev pub file_of : Request → List ℕ

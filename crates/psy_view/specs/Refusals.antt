@@ -15,7 +15,7 @@ long_line name most = name ++ codes ": this file has more than " ++ decimal most
 
 -- What stands behind the name is no refusal of a text
 abbrev pub no_refusal_line : List ℕ → List ℕ
-no_refusal_line name = name ++ codes ": what is told of this file is no refusal that names a place in it\n"
+no_refusal_line name = name ++ codes ": what is told of this file is no line with which psyc refuses\n"
 
 -- The text has no such byte, token or line
 abbrev pub beyond_line : List ℕ → List ℕ

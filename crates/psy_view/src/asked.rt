@@ -1,8 +1,9 @@
 //! The words of the command line.
-ghost use Rattle.std.specs.Prelude.{◌≡◌, ◌<◌, ◌∷◌, [], length, map, MatchOption, string_bytes};
-ghost use Rattle.psy_view.specs.Asked.{Asks, AskNothing, file_of, most_of};
+ghost use Rattle.std.specs.Prelude.{◌≡◌, ℕ, ◌<◌, List, ◌∷◌, [], length, map, MatchOption, string_bytes};
+ghost use Rattle.psy_view.specs.Asked.{Asks, AskForText, AskNoView, file_of, most_of};
 ghost use Rattle.psy_view.specs.Reading.{request_of};
 
+use crate::help::{HELP, VERSION};
 use psy_base::limits::FILE_BYTES;
 
 /// Bytes of a text that psyc wrote.
@@ -40,9 +41,34 @@ impl Asked<'_> {
     }
 }
 
-/// What the words ask for; None exactly where they are of no listed form.
+/// The text that the words ask for: help, which no words ask for too, or the version. None exactly where they ask for none.
+pub fn read_text(words: &[String]) -> Option<&'static [u8]>
+    ensures { MatchOption result ((text : List ℕ) → AskForText (map string_bytes words.now) text → ⊥)
+        (λ text. AskForText (map string_bytes words.now) text.now) }
+{
+    match words {
+        [] => Some(HELP),
+        [word] => of_one(word.as_str()),
+        _ => None,
+    }
+}
+
+// `--help` or `--version`
+fn of_one(word: &str) -> Option<&'static [u8]>
+    ensures { MatchOption result ((text : List ℕ) → AskForText (word.now ∷ []) text → ⊥) (λ text. AskForText (word.now ∷ []) text.now) }
+{
+    if word == "--help" {
+        return Some(HELP);
+    }
+    if word == "--version" {
+        return Some(VERSION);
+    }
+    None
+}
+
+/// The view that the words ask for; None exactly where they ask for none.
 pub fn read_words(words: &[String]) -> Option<Asked<'_>>
-    ensures { MatchOption result (AskNothing (map string_bytes words.now)) (λ asked. Asks (map string_bytes words.now) (request_of asked)) }
+    ensures { MatchOption result (AskNoView (map string_bytes words.now)) (λ asked. Asks (map string_bytes words.now) (request_of asked)) }
 {
     match words {
         [command, name] => of_two(command.as_str(), name.as_str()),
@@ -55,7 +81,7 @@ pub fn read_words(words: &[String]) -> Option<Asked<'_>>
 #[tactic(auto, using(crate::proofs::AskedLemmas::asks_line))]
 fn of_more<'a>(command: &str, name: &'a str, line: &'a [String]) -> Option<Asked<'a>>
     requires { 0 < length line.now }
-    ensures { MatchOption result (AskNothing (command.now ∷ name.now ∷ map string_bytes line.now))
+    ensures { MatchOption result (AskNoView (command.now ∷ name.now ∷ map string_bytes line.now))
         (λ asked. Asks (command.now ∷ name.now ∷ map string_bytes line.now) (request_of asked)) }
 {
     if command == "where" {
@@ -66,7 +92,7 @@ fn of_more<'a>(command: &str, name: &'a str, line: &'a [String]) -> Option<Asked
 
 // `timeline LOG` or `dot GRAPH`
 fn of_two<'a>(command: &str, name: &'a str) -> Option<Asked<'a>>
-    ensures { MatchOption result (AskNothing (command.now ∷ name.now ∷ [])) (λ asked. Asks (command.now ∷ name.now ∷ []) (request_of asked)) }
+    ensures { MatchOption result (AskNoView (command.now ∷ name.now ∷ [])) (λ asked. Asks (command.now ∷ name.now ∷ []) (request_of asked)) }
 {
     if command == "timeline" {
         return Some(Asked::Timeline { name });

@@ -4,6 +4,7 @@
 
 mod asked;
 mod file_texts;
+mod help;
 mod refusals;
 mod texts;
 mod texts_map;

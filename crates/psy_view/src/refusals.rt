@@ -44,7 +44,7 @@ pub fn no_refusal_line(alloc: Global, name: &[u8]) -> Result<Vec<u8>, AllocError
         alloc,
         &[
             name,
-            b": what is told of this file is no refusal that names a place in it\n",
+            b": what is told of this file is no line with which psyc refuses\n",
         ],
     )
 }

@@ -9,7 +9,7 @@ ghost use Rattle.psy_view.specs.Outcome.{MayAnswer, Says};
 ghost use Rattle.psy_view.specs.Reading.{request_of};
 ghost use Rattle.psy_view.specs.Refusals.{unread_line};
 
-use crate::asked::{Asked, read_words};
+use crate::asked::{Asked, read_text, read_words};
 use crate::refusals::{long_line, unread_line};
 use crate::texts::Texts;
 use crate::view::{View, view_of};
@@ -80,6 +80,9 @@ pub fn psyview<T: Texts, S: Sink>(alloc: Global, words: &[String], texts: &mut T
     ensures texts { (T.faults texts.old ≤ T.faults texts.new) × (T.files texts.new ≡ T.files texts.old) }
     ensures sink { S.faults out.old ≤ S.faults out.new }
 {
+    if let Some(text) = read_text(words) {
+        return say(text, 0, out);
+    }
     let Some(asked) = read_words(words) else {
         return say(b"words\n", 2, out);
     };

@@ -1,9 +1,14 @@
 -- Where tokens begin.
-use Rattle.std.proofs.Common.{◌≡◌, ℕ, zero, suc, ◌+◌, ◌<◌, ◌≤◌, List, [], ◌∷◌, length, Some, inl, inr, sym, ap, ◌∙◌, arith, length-append}
+use Rattle.std.proofs.Common.{◌≡◌, ℕ, zero, suc, ◌+◌, ◌<◌, ◌≤◌, List, [], ◌∷◌, length, Result, Err, Some, inl, inr, sym, ap, ◌∙◌, arith, length-append}
 use Rattle.std.specs.Prelude.{slice_get}
 use Rattle.std.proofs.lemmas.Option.{slice_get_within}
 use Rattle.psy_tree.specs.declared.token.Token.{Token}
 use Rattle.psy_tree.specs.Tokens.{Piece, Separator, Lexeme, text_of, tokens_from, TokensOf}
+use Rattle.psy_token.specs.declared.fault.LexFault.{LexFault}
+use Rattle.psy_token.specs.declared.fault.LexFault.TheVariants as lexing
+use Rattle.psy_where.specs.declared.fault.WhereFault.{WhereFault}
+use Rattle.psy_where.specs.declared.fault.WhereFault.TheVariants as faults
+use Rattle.psy_where.specs.Lexing.{fault_of}
 use Rattle.psy_where.specs.Places.{IsStart}
 
 -- A token begins within its text.
@@ -25,3 +30,9 @@ IsStart-within text tokens number place (pieces, splits, are) (inr (token, found
 pub IsStart-end : (tokens : List Token) (end number place : ℕ) → IsStart tokens end number place → length tokens < number → ⊥
 IsStart-end tokens end number place (inl (same, is)) less = omega arith
 IsStart-end tokens end number place (inr (token, found, is)) less = omega (arith, slice_get_within tokens number token found)
+
+-- Want of memory is no want of a place.
+pub not_beyond : {A : Type 0} (answer : Result A WhereFault) (made : WhereFault) (fault : LexFault) → answer ≡ Err made → made ≡ fault_of fault → fault ≡ lexing.Memory → answer ≡ Err faults.Beyond → ⊥
+not_beyond answer made fault is from memory beyond =
+    let same : made ≡ faults.Memory = from ∙ ap fault_of memory in
+    cc

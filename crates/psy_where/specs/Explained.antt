@@ -1,6 +1,6 @@
 -- What is written for a refusal: where it is, what it means, the line, and a mark below.
 use Rattle.std.specs.Prelude.{◌≡◌, ℕ, ◌-◌, ◌==◌, Bool, ◌&&◌, ◌||◌, not, nat_le, nat_lt, if◌then◌else◌, List, ◌++◌, map, length, take, slice_index}
-use Rattle.std.specs.Prelude.{codes, decimal, replicate, filter, count_by, max}
+use Rattle.std.specs.Prelude.{codes, decimal, replicate, filter, count_by, max, Option, None, Some}
 use Rattle.std.specs.List.{prefix_len}
 use Rattle.psy_tree.specs.Lexemes.{is_in_word}
 use Rattle.psy_where.specs.declared.recall.What.{What}
@@ -8,6 +8,11 @@ use Rattle.psy_where.specs.declared.recall.What.TheVariants.{Inputs, Script}
 use Rattle.psy_where.specs.declared.recall.Refusal.{Refusal}
 use Rattle.psy_where.specs.Places.{line_at, column_at, before_at, behind_at}
 use Rattle.psy_where.specs.Refusals.{Says, IsPlaceOf}
+use Rattle.psy_where.specs.declared.lack.Lack.{Lack}
+use Rattle.psy_where.specs.declared.plain.Plain.{Plain}
+use Rattle.psy_where.specs.Helps.{IsHelp}
+use Rattle.psy_where.specs.Lacks.{IsLack, lack_sentence}
+use Rattle.psy_where.specs.Plains.{plain_of, plain_sentence}
 
 -- The byte goes on a character of several bytes in UTF-8, and so has no column of its own on a screen
 abbrev pub goes_on : ℕ → Bool
@@ -55,15 +60,31 @@ explanation name text what sentence place =
     ++ shown (before_at text place ++ rest_at text place) ++ codes "\n"
     ++ padding (before_at text place) ++ carets (marked what (rest_at text place)) ++ codes "\n"
 
--- The line is a refusal of the text in a file of this name, and this explains it: its place is where it says.
-abbrev pub Explains : List ℕ → List ℕ → List ℕ → List ℕ → Type 0
-Explains name text line answer =
-    (refusal : Refusal) × (sentence : List ℕ) × (place : ℕ) × Says line refusal sentence × IsPlaceOf refusal.what text refusal.at place
-    × (answer ≡ explanation name text refusal.what sentence place)
+-- `NAME: SENTENCE`
+abbrev pub sentence_line : List ℕ → List ℕ → List ℕ
+sentence_line name sentence = name ++ codes ": " ++ sentence ++ codes "\n"
+
+-- What is written for a refusal of the text in a file of this name: its place is where it says, and help stands below.
+abbrev pub IsPlaced : List ℕ → List ℕ → Refusal → List ℕ → List ℕ → Type 0
+IsPlaced name text refusal sentence answer =
+    (place : ℕ) × (help : List ℕ) × IsPlaceOf refusal.what text refusal.at place × IsHelp text (rest_at text place) refusal help
+    × (answer ≡ explanation name text refusal.what sentence place ++ help)
+
+-- The line is one with which psyc refuses, and this explains it: of a refusal that tells a place in the text of a file of this name, or of another line.
+pub data Explains (name text line answer : List ℕ) : Type 0 where
+  of_place : (refusal : Refusal) (sentence : List ℕ) → Says line refusal sentence → IsPlaced name text refusal sentence answer → Explains name text line answer
+  of_plain : (plain : Plain) → plain_of line ≡ Some plain → answer ≡ sentence_line name (plain_sentence plain) → Explains name text line answer
+  of_lack : (lack : Lack) → IsLack line lack → answer ≡ sentence_line name (lack_sentence lack) → Explains name text line answer
 
 -- The line is no refusal that psyc writes of a text.
-abbrev pub IsNone : List ℕ → Type 0
-IsNone line = (refusal : Refusal) (sentence : List ℕ) → Says line refusal sentence → ⊥
+abbrev pub IsNoRefusal : List ℕ → Type 0
+IsNoRefusal line = (refusal : Refusal) (sentence : List ℕ) → Says line refusal sentence → ⊥
+
+-- The line is none with which psyc refuses.
+pub record IsNone (line : List ℕ) : Type 0 where
+  pub refusal : IsNoRefusal line
+  pub plain : plain_of line ≡ None
+  pub lack : (lack : Lack) → IsLack line lack → ⊥
 
 -- The line is a refusal, but the text has no such place.
 abbrev pub IsBeyond : List ℕ → List ℕ → Type 0

@@ -1,5 +1,8 @@
 -- The definitions of this crate, by subject.
 pub mod Explained
+pub mod Helps
+pub mod Lacks
 pub mod Lexing
 pub mod Places
+pub mod Plains
 pub mod Refusals

@@ -1,32 +1,104 @@
 //! What is written for a refusal.
-ghost use Rattle.std.specs.Prelude.{◌≡◌, ◌+◌, ◌++◌, ◌≤◌, IfOk, OnOk, codes, decimal, length};
+ghost use Rattle.std.specs.Prelude.{◌≡◌, ◌+◌, ◌++◌, ◌≤◌, ℕ, IfOk, OnOk, codes, decimal, length};
 ghost use Rattle.psy_base.specs.declared.limits.TheConstants.{FILE_BYTES};
 ghost use Rattle.psy_where.specs.declared.fault.WhereFault.{WhereFault};
 ghost use Rattle.psy_where.specs.declared.recall.What.{What};
-ghost use Rattle.psy_where.specs.Explained.{Explains, IsNone, IsBeyond, explanation};
+ghost use Rattle.psy_where.specs.Explained.{Explains, IsNone, IsBeyond, IsPlaced, explanation, sentence_line};
+ghost use Rattle.psy_where.specs.Lacks.{lack_sentence, supplier};
+ghost use Rattle.psy_where.specs.Refusals.{IsPlaceOf};
 
 use crate::fault::WhereFault;
+use crate::help::help;
+use crate::lack::{Lack, read_lack};
 use crate::mark::{add_carets, add_padding, add_shown, without_return};
 use crate::place::place;
-use crate::recall::{What, read_refusal};
+use crate::plain::{plain_sentence, read_plain};
+use crate::recall::{Told, What, read_refusal};
 use crate::spot::spot_at;
 use itoa::Buffer;
 use std::alloc::{AllocError, Global};
 
-/// Explains a refusal, `line`, of a text of at most 262,144 bytes that stands in a file of this name: `NAME:LINE:COLUMN: ` and
-/// what it means, the line, and a mark under the place.
+/// Explains a line with which psyc refused, `line`: of a refusal of a text of at most 262,144 bytes that stands in a file of this name, `NAME:LINE:COLUMN: `
+/// and what it means, the line, a mark under the place, and what may stand there or is missing; of a line that tells no place, `NAME: ` and what it means.
 pub fn explain(alloc: Global, name: &[u8], text: &[u8], line: &[u8]) -> Result<Vec<u8>, WhereFault>
     requires { length text.now ≤ FILE_BYTES }
     ensures explains { IfOk result (λ answer. Explains name.now text.now line.now answer.items) }
     ensures refusal { result ≡ Err WhereFault.NoRefusal → IsNone line.now }
     ensures beyond { result ≡ Err WhereFault.Beyond → IsBeyond text.now line.now }
 {
-    let Some(told) = read_refusal(line) else {
-        return Err(WhereFault::NoRefusal);
-    };
+    if let Some(told) = read_refusal(line) {
+        return placed(alloc, name, text, told);
+    }
+    if let Some(plain) = read_plain(line) {
+        return Ok(sentence_line(alloc, name, plain_sentence(plain))?);
+    }
+    if let Some(lack) = read_lack(line) {
+        return Ok(lack_line(alloc, name, lack)?);
+    }
+    Err(WhereFault::NoRefusal)
+}
+
+// `NAME: SENTENCE`
+fn sentence_line(alloc: Global, name: &[u8], sentence: &[u8]) -> Result<Vec<u8>, AllocError>
+    ensures { IfOk result (λ answer. answer.items ≡ sentence_line name.now sentence.now) }
+{
+    let mut out = Vec::from_slice(alloc, name)?;
+    out.extend_from_slice(b": ")?;
+    out.extend_from_slice(sentence)?;
+    out.push(b'\n')?;
+    Ok(out)
+}
+
+// The same for a demand that can't be supplied.
+fn lack_line(alloc: Global, name: &[u8], lack: Lack) -> Result<Vec<u8>, AllocError>
+    ensures { IfOk result (λ answer. answer.items ≡ sentence_line name.now (lack_sentence lack)) }
+{
+    let mut sentence = Vec::from_slice(alloc, b"over ")?;
+    add_decimal(&mut sentence, lack.length)?;
+    sentence.extend_from_slice(b" ticks, the least such length, the agents may ask for ")?;
+    add_decimal(&mut sentence, lack.demand)?;
+    sentence.extend_from_slice(b" cycles, and ")?;
+    add_supplier(&mut sentence, lack.processor)?;
+    sentence.extend_from_slice(b" has ")?;
+    add_decimal(&mut sentence, lack.supply)?;
+    sentence.extend_from_slice(
+        b": lower a budget, slow a clock down, or give the tick more cycles",
+    )?;
+    sentence_line(alloc, name, sentence.as_slice())
+}
+
+fn add_supplier(out: &mut Vec<u8>, processor: Option<u64>) -> Result<(), AllocError>
+    ensures { OnOk result (out.new.items ≡ out.old.items ++ supplier processor) }
+{
+    match processor {
+        None => out.extend_from_slice(b"the processor"),
+        Some(number) => {
+            out.extend_from_slice(b"processor ")?;
+            add_decimal(out, number)
+        }
+    }
+}
+
+fn add_decimal(out: &mut Vec<u8>, number: u64) -> Result<(), AllocError>
+    ensures { OnOk result (out.new.items ≡ out.old.items ++ decimal number) }
+{
+    out.extend_from_slice(Buffer::new().format(number).as_bytes())
+}
+
+// What is written for a refusal that tells a place in the text.
+fn placed(alloc: Global, name: &[u8], text: &[u8], told: Told) -> Result<Vec<u8>, WhereFault>
+    requires { length text.now ≤ FILE_BYTES }
+    ensures placed { IfOk result (λ answer. IsPlaced name.now text.now told.refusal told.sentence.now answer.items) }
+    ensures beyond { result ≡ Err WhereFault.Beyond → (place : ℕ) → IsPlaceOf told.refusal.what text.now told.refusal.at place → ⊥ }
+    ensures refusal { result ≡ Err WhereFault.NoRefusal → ⊥ }
+{
     let what = told.refusal.what;
     let place = place(alloc, what, text, told.refusal.at)?;
-    Ok(explanation(alloc, name, text, what, told.sentence, place)?)
+    let line = without_return(spot_at(text, place).behind);
+    let help = help(alloc, text, line, told.refusal)?;
+    let mut answer = explanation(alloc, name, text, what, told.sentence, place)?;
+    answer.extend_from_slice(help.as_slice())?;
+    Ok(answer)
 }
 
 // `NAME:LINE:COLUMN: SENTENCE`, the line, and carets

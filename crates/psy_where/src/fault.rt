@@ -1,4 +1,5 @@
 //! Why a refusal isn't explained.
+use psy_base::Memory;
 use psy_token::LexFault;
 use std::alloc::AllocError;
 use thiserror::Error;
@@ -24,6 +25,17 @@ impl From<AllocError> for WhereFault {
     ghost from_gives = { λ _ fault. fault ≡ WhereFault.Memory };
 
     fn from(_error: AllocError) -> WhereFault {
+        WhereFault::Memory
+    }
+}
+
+impl From<Memory> for WhereFault {
+    ghost use Rattle.std.specs.Prelude.{◌≡◌};
+    ghost use Rattle.psy_where.specs.declared.fault.WhereFault.{WhereFault};
+
+    ghost from_gives = { λ _ fault. fault ≡ WhereFault.Memory };
+
+    fn from(_memory: Memory) -> WhereFault {
         WhereFault::Memory
     }
 }

@@ -4,7 +4,7 @@ ghost use Rattle.std.specs.Char.{is_ascii_digit};
 ghost use Rattle.psy_front.specs.Fronts.{Cuts};
 ghost use Rattle.psy_log.specs.Forms.{at_place};
 ghost use Rattle.psy_where.specs.Refusals.{Says, word_of};
-ghost use Rattle.psy_where.specs.Explained.{IsNone};
+ghost use Rattle.psy_where.specs.Explained.{IsNoRefusal};
 
 use crate::sentence::sentence;
 use psy_front::laws::one_number;
@@ -38,7 +38,7 @@ pub struct Told {
 /// The refusal that a line is, `refused WHAT NUMBER at PLACE`. None exactly where it is none.
 pub fn read_refusal(line: &[u8]) -> Option<Told>
     ensures some { IfSome result (λ told. Says line.now told.refusal told.sentence.now) }
-    ensures none { result ≡ None → IsNone line.now }
+    ensures none { result ≡ None → IsNoRefusal line.now }
 {
     let (what, rest) = read_what(line.strip_prefix(b"refused ")?)?;
     let (number, rest) = read_number(rest)?;

@@ -2,15 +2,17 @@
 ghost use Rattle.std.specs.Prelude.{◌≡◌, ◌≢◌, ℕ, ◌+◌, ◌*◌, ◌-◌, ◌^◌, ◌<◌, ◌≤◌, List, [], ◌∷◌, Option, Some, None, IsSome, length, slice_get};
 ghost use Rattle.std.specs.Prelude.{true, false, ℤ};
 ghost use Rattle.std.specs.List.{AllPairs};
-ghost use Rattle.psy_base.specs.declared.limits.TheConstants.{VARIABLES};
 ghost use Rattle.psy_budget.specs.declared.charge.Stall.{Stall};
 ghost use Rattle.psy_code.specs.Execution.{copy_of};
+ghost use Rattle.psy_code.specs.declared.code.CopyInit.{CopyInit};
 ghost use Rattle.psy_dates.specs.declared.plan.Plan.{Plan};
-ghost use Rattle.psy_dates.specs.Plans.{IsPlan, system_of};
+ghost use Rattle.psy_dates.specs.Plans.{IsPlan, opened_of, system_of};
 ghost use Rattle.psy_dates.specs.Standing.{dates_done};
 ghost use Rattle.psy_history.specs.Compiled.{AreInputs};
+ghost use Rattle.psy_history.specs.Openings.{IsSound};
 ghost use Rattle.psy_history.specs.Regular.{IsLawful};
-ghost use Rattle.psy_history.specs.Actions.{Action, History, System};
+ghost use Rattle.psy_history.specs.Ways.{OfText};
+ghost use Rattle.psy_history.specs.Actions.{Action, History, Opening, System};
 ghost use Rattle.psy_tree.specs.Parts.{agent_at};
 ghost use Rattle.psy_history.specs.History.{history};
 ghost use Rattle.psy_history.specs.Schedule.{Turn, is_pending};
@@ -19,7 +21,7 @@ ghost use Rattle.psy_base.specs.Extremes.{greater};
 ghost use Rattle.psy_meaning.specs.Timing.{end_date, timing_of};
 ghost use Rattle.psy_ready.specs.Choice.{ListsEach};
 ghost use Rattle.psy_tree.specs.declared.unit.VarDecl.{VarDecl};
-ghost use Rattle.psy_kernel.specs.Cycles.{AreOver, GetsCycle, IsCycleOf, IsNear, LooksBack, MayEnd, figured, is_owned};
+ghost use Rattle.psy_kernel.specs.Cycles.{AreOver, GetsCycle, IsCycleOf, IsNear, LooksBack, MayEnd, figured};
 ghost use Rattle.psy_kernel.specs.Cycles.{order_by, reach_by, run_of, run_turns};
 ghost use Rattle.psy_history.specs.declared.told.Script.{Script};
 ghost use Rattle.psy_kernel.specs.Progress.{after_cycle, stage_of};
@@ -31,12 +33,15 @@ use super::{Figure, Kernel};
 use crate::eyes::{clock_in, dates_between};
 use crate::stage::Stage;
 use psy_arith::Trap;
+use psy_code::CopyInit;
 use psy_dates::{Phase, Plan, Seat};
 use psy_history::Order;
-use psy_history::laws::{compiled, deeds, on_time, queues, reaches, regular, ring_sizes, rings};
+use psy_history::laws::{
+    compiled, deeds, on_time, openings, queues, reaches, regular, ring_sizes, rings,
+};
 use psy_machine::Machine;
 use psy_ready::Ready;
-use psy_tree::{Unit, VarDecl};
+use psy_tree::Unit;
 
 /// The order of the last of so many orders that have come into force, and the first one where none has.
 fn order_by<'a>(declared: &'a [u32], orders: &'a [Order], passed: usize) -> &'a [u32]
@@ -73,38 +78,45 @@ fn choose(ready: &Ready, order: &[u32], stale: bool, chosen: Option<u32>) -> Opt
     if stale { ready.pick(order) } else { chosen }
 }
 
-/// Whether a variable has this owner.
-fn is_owned(agent: u32, owner: Option<u32>) -> bool
-    ensures { result ≡ is_owned agent owner }
+/// The variable of a working copy in a list of them.
+fn variable_in(own: &[CopyInit], place: usize) -> u32
+    requires { place < length own.now }
+    ensures { (copy : CopyInit) → slice_get own.now place ≡ Some copy → copy.variable ≡ result }
 {
-    match owner {
-        Some(owner) => owner == agent,
-        None => false,
+    own[place].variable
+}
+
+/// Keeps the working copies of these variables.
+fn keep_listed(ended: &mut Vec<i32>, own: &[CopyInit], machine: &Machine)
+    requires known { (place : ℕ) (copy : CopyInit) → slice_get own.now place ≡ Some copy → copy.variable < length ended.old.items }
+    requires copies { (place : ℕ) (copy : CopyInit) → slice_get own.now place ≡ Some copy → IsSome (copy_of copy.variable machine.now.machine.copies) }
+    ensures own { (place : ℕ) (copy : CopyInit) (value : ℤ) → slice_get own.now place ≡ Some copy
+        → slice_get ended.new.items copy.variable ≡ Some value → copy_of copy.variable machine.now.machine.copies ≡ Some value }
+    ensures others { (variable : ℕ) → ((place : ℕ) (copy : CopyInit) → slice_get own.now place ≡ Some copy → copy.variable ≢ variable)
+        → slice_get ended.new.items variable ≡ slice_get ended.old.items variable }
+    ensures all { length ended.new.items ≡ length ended.old.items }
+{
+    'copies: for place in 0..own.len() {
+        let variable = variable_in(own, place);
+        ended[variable as usize] = machine.copy(variable);
     }
 }
 
 /// Keeps the working copies of all variables that an agent owns.
-pub(super) fn keep_copies(
-    ended: &mut Vec<i32>,
-    variables: &[VarDecl],
-    agent: u32,
-    machine: &Machine,
-)
-    requires valued { length ended.old.items ≡ length variables.now }
-    requires few { length variables.now ≤ VARIABLES }
-    requires copies { (variable : ℕ) (v : VarDecl) → slice_get variables.now variable ≡ Some v → v.owner ≡ Some agent
+pub(super) fn keep_copies(ended: &mut Vec<i32>, plan: &Plan, agent: u32, machine: &Machine)
+    requires plan { IsPlan plan.now }
+    requires known { agent < length plan.now.unit.agents }
+    requires valued { length ended.old.items ≡ length plan.now.unit.variables }
+    requires copies { (variable : ℕ) (v : VarDecl) → slice_get plan.now.unit.variables variable ≡ Some v → v.owner ≡ Some agent
         → IsSome (copy_of variable machine.now.machine.copies) }
-    ensures own { (variable : ℕ) (v : VarDecl) (value : ℤ) → slice_get variables.now variable ≡ Some v → v.owner ≡ Some agent
+    ensures own { (variable : ℕ) (v : VarDecl) (value : ℤ) → slice_get plan.now.unit.variables variable ≡ Some v → v.owner ≡ Some agent
         → slice_get ended.new.items variable ≡ Some value → copy_of variable machine.now.machine.copies ≡ Some value }
-    ensures others { (variable : ℕ) (v : VarDecl) → slice_get variables.now variable ≡ Some v → v.owner ≢ Some agent
+    ensures others { (variable : ℕ) (v : VarDecl) → slice_get plan.now.unit.variables variable ≡ Some v → v.owner ≢ Some agent
         → slice_get ended.new.items variable ≡ slice_get ended.old.items variable }
     ensures all { length ended.new.items ≡ length ended.old.items }
 {
-    for variable in 0..variables.len() {
-        if is_owned(agent, variables[variable].owner) {
-            ended[variable] = machine.copy(variable as u32);
-        }
-    }
+    let of = &plan.code.agents.as_slice()[agent as usize];
+    keep_listed(ended, of.copies.as_slice(), machine);
 }
 
 /// The date at which an action of an agent that started at a date ends where it reaches this point.
@@ -120,7 +132,7 @@ pub(super) fn end_of(unit: &Unit, agent: u32, start: u64, point: u32) -> u64
 
 /// The figure of an agent whose action with this deadline is finished or stopped when so many cycles are done.
 pub(super) fn figured(figure: Figure, until: u32, quantum: u32, deadline: u64, done: u64) -> Figure
-    requires count { figure.count ≤ until }
+    requires count { figure.count ≤ 2 ^ 50 + until }
     requires early { done ≤ deadline * quantum }
     ensures { result ≡ figured until quantum deadline done figure }
 {
@@ -158,6 +170,7 @@ fn reached(reach: Option<u32>, age: u32) -> Option<u32>
 
 /// Notes how far back the look of a cycle reached for its variable's ring, where the cycle made one: it was made at a date, by an action
 /// that started at another.
+#[inline(always)]
 pub(super) fn note(
     plan: &Plan,
     look: Option<(u32, u32)>,
@@ -170,8 +183,9 @@ pub(super) fn note(
     requires early { (start ≤ date) × (date ≤ 2 ^ 40) }
     requires near { IsNear (system_of plan.now [] (λ agent. [])) start date look }
     ensures reaching { length reaches.new.items ≡ length reaches.old.items }
-    ensures reached { (inputs : List (List ℤ)) (stalls : ℕ → List Stall) (variable : ℕ) (n : Option ℕ) → slice_get reaches.old.items variable ≡ Some n
-        → slice_get reaches.new.items variable ≡ Some (reach_by (system_of plan.now inputs stalls) variable start date look n) }
+    ensures reached { (opening : Opening) (inputs : List (List ℤ)) (stalls : ℕ → List Stall) (variable : ℕ) (n : Option ℕ)
+        → slice_get reaches.old.items variable ≡ Some n
+        → slice_get reaches.new.items variable ≡ Some (reach_by (opened_of plan.now opening inputs stalls) variable start date look n) }
 {
     if let Some((variable, back)) = look {
         let number = variable as usize;
@@ -192,25 +206,29 @@ fn last_date(date: Option<u64>) -> u64
     }
 }
 
-/// In a run up to a date, of each agent's actions the last alone may be pending; and where it is, it can get the next cycle, sees by the
-/// rings and the queues what it saw at its start, and looks no further back than the rings hold. A cycle that nobody gets reaches for none.
+/// In a run up to a date, from wherever it begins, of each agent's actions the last alone may be pending; and where it is, it can get the next
+/// cycle, sees by the rings and the queues what it saw at its start, and looks no further back than the rings hold. A cycle that nobody gets
+/// reaches for none.
 fn gets(until: u32)
     ensures most { until ≤ 4294967295 }
-    ensures over { (plan : Plan) (inputs : List (List ℤ)) (script : Script) (date cycle agent : ℕ) → IsCycleOf plan inputs script date cycle
-        → AreOver (run_turns plan inputs script cycle) (history (run_of plan inputs script) (date + 1) agent) }
-    ensures gets { (plan : Plan) (inputs : List (List ℤ)) (script : Script) (date cycle agent : ℕ) (r : Action) (before : List Action)
-        → IsCycleOf plan inputs script date cycle
-        → history (run_of plan inputs script) (date + 1) agent ≡ r ∷ before → is_pending (run_turns plan inputs script cycle) r ≡ true
-        → GetsCycle (run_of plan inputs script) plan.code (run_turns plan inputs script cycle) plan.until date cycle agent r before }
-    ensures looks { (plan : Plan) (inputs : List (List ℤ)) (script : Script) (date cycle agent : ℕ) (r : Action) (before : List Action)
-        → IsCycleOf plan inputs script date cycle
-        → history (run_of plan inputs script) (date + 1) agent ≡ r ∷ before → is_pending (run_turns plan inputs script cycle) r ≡ true
-        → LooksBack (run_of plan inputs script) plan.code (run_turns plan inputs script cycle) date r }
+    ensures over { (plan : Plan) (opening : Opening) (inputs : List (List ℤ)) (script : Script) (date cycle agent : ℕ)
+        → IsCycleOf plan opening inputs script date cycle
+        → AreOver (run_turns plan opening inputs script cycle) (history (run_of plan opening inputs script) (date + 1) agent) }
+    ensures gets { (plan : Plan) (opening : Opening) (inputs : List (List ℤ)) (script : Script) (date cycle agent : ℕ) (r : Action) (before : List Action)
+        → IsCycleOf plan opening inputs script date cycle
+        → history (run_of plan opening inputs script) (date + 1) agent ≡ r ∷ before → is_pending (run_turns plan opening inputs script cycle) r ≡ true
+        → GetsCycle (run_of plan opening inputs script) plan.code (run_turns plan opening inputs script cycle) plan.until date cycle agent r before }
+    ensures looks { (plan : Plan) (opening : Opening) (inputs : List (List ℤ)) (script : Script) (date cycle agent : ℕ) (r : Action) (before : List Action)
+        → IsCycleOf plan opening inputs script date cycle
+        → history (run_of plan opening inputs script) (date + 1) agent ≡ r ∷ before → is_pending (run_turns plan opening inputs script cycle) r ≡ true
+        → LooksBack (run_of plan opening inputs script) plan.code (run_turns plan opening inputs script cycle) date r }
     ensures idle { (s : System) (turns : List (Option Turn)) (h : History) (variable : ℕ) → reach s (None ∷ turns) h variable ≡ reach s turns h variable }
-    ensures lawful { (plan : Plan) (inputs : List (List ℤ)) (script : Script) → IsPlan plan → AreInputs plan.unit inputs
-        → IsLawful (run_of plan inputs script) }
+    ensures lawful { (plan : Plan) (opening : Opening) (inputs : List (List ℤ)) (script : Script) → IsPlan plan
+        → AreInputs plan.unit inputs → IsSound (run_of plan opening inputs script) (OfText plan.unit) plan.code
+        → IsLawful (run_of plan opening inputs script) }
 {
     compiled();
+    openings();
     regular();
     on_time();
     rings();

@@ -9,7 +9,7 @@ use super::Kernel;
 use crate::stage::Stage;
 use psy_budget::Charge;
 use psy_dates::{Phase, Seat, at_date};
-use psy_history::laws::{compiled, given, on_time, reaches, regular};
+use psy_history::laws::{compiled, given, on_time, openings, reaches, regular};
 use psy_queue::Queue;
 use psy_ready::Ready;
 use psy_tree::{AgentDecl, Point};
@@ -80,6 +80,7 @@ impl Kernel {
     {
         given();
         compiled();
+        openings();
         regular();
         on_time();
         reaches();

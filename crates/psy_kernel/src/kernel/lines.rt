@@ -5,19 +5,19 @@ ghost use Rattle.psy_base.specs.declared.limits.TheConstants.{WORD_BYTES};
 ghost use Rattle.psy_base.specs.declared.message.Message.{Message};
 ghost use Rattle.psy_budget.specs.declared.charge.Stall.{Stall};
 ghost use Rattle.psy_clock.specs.Dates.{IsClock};
+ghost use Rattle.psy_history.specs.Actions.{Opening};
 ghost use Rattle.psy_history.specs.Schedule.{Turn};
 ghost use Rattle.psy_history.specs.Compiled.{AreInputs};
 ghost use Rattle.psy_dates.specs.Calendars.{CalendarStands};
-ghost use Rattle.psy_dates.specs.Plans.{IsPlan, system_of};
-ghost use Rattle.psy_dates.specs.Standing.{SharedStands};
+ghost use Rattle.psy_dates.specs.Plans.{IsPlan, opened_of};
 ghost use Rattle.psy_kernel.specs.Progress.{after_line, lines_told};
-ghost use Rattle.psy_kernel.specs.Telling.{IsNextTold, IsShownBy, IsToldBy, TellsMessage, TellsStop, TellsValue, told_by};
+ghost use Rattle.psy_kernel.specs.Telling.{IsNextTold, IsShownBy, IsToldBy, StandsBehind, TellsMessage, TellsStop, TellsValue, told_by};
 ghost use Rattle.psy_tree.specs.Parts.{no_clock};
 
 use super::Kernel;
 use psy_clock::Clock;
 use psy_dates::{Calendar, Phase, Plan, Seat, Shared};
-use psy_history::laws::{compiled, queue_sizes, queues, regular};
+use psy_history::laws::{compiled, openings, queue_sizes, queues, regular};
 use psy_log::{Line, Note};
 use psy_queue::Queue;
 use psy_tree::VarDecl;
@@ -116,13 +116,14 @@ fn tell_place(plan: &Plan, shared: &Shared, date: u64, place: usize, line: &mut 
     requires calendar { CalendarStands plan.now.unit.clocks (date + 1) shared.now.calendar }
     requires early { date ≤ 2 ^ 40 }
     requires within { place < length plan.now.unit.agents + length plan.now.unit.variables }
-    ensures told { (stalls : ℕ → List Stall) (turns : List (Option Turn))
-        → SharedStands (system_of plan.now shared.now.inputs.lists stalls) turns (date + 1) shared.now
-        → IsToldBy (system_of plan.now shared.now.inputs.lists stalls) date
-        (told_by (system_of plan.now shared.now.inputs.lists stalls) date place) result line.old line.new }
+    ensures told { (opening : Opening) (stalls : ℕ → List Stall) (turns : List (Option Turn))
+        → StandsBehind plan.now opening stalls turns date shared.now
+        → IsToldBy (opened_of plan.now opening shared.now.inputs.lists stalls) date
+        (told_by (opened_of plan.now opening shared.now.inputs.lists stalls) date place) result line.old line.new }
     ensures kept { IsFalse result → line.new ≡ line.old }
 {
     compiled();
+    openings();
     regular();
     let agents = plan.unit.agents.as_slice();
     if place < agents.len() {
@@ -149,15 +150,20 @@ fn tell_next(plan: &Plan, shared: &Shared, date: u64, place: usize, line: &mut L
     requires calendar { CalendarStands plan.now.unit.clocks (date + 1) shared.now.calendar }
     requires early { date ≤ 2 ^ 40 }
     requires within { place ≤ length plan.now.unit.agents + length plan.now.unit.variables }
-    ensures told { (stalls : ℕ → List Stall) (turns : List (Option Turn))
-        → SharedStands (system_of plan.now shared.now.inputs.lists stalls) turns (date + 1) shared.now
-        → IsNextTold (system_of plan.now shared.now.inputs.lists stalls) date
+    ensures told { (opening : Opening) (stalls : ℕ → List Stall) (turns : List (Option Turn))
+        → StandsBehind plan.now opening stalls turns date shared.now
+        → IsNextTold (opened_of plan.now opening shared.now.inputs.lists stalls) date
         (length plan.now.unit.agents + length plan.now.unit.variables) place 0 result line.old line.new }
     ensures kept { IsNone result → line.new ≡ line.old }
 {
-    let places = plan.unit.agents.len() + plan.unit.variables.len();
+    let agents = plan.unit.agents.len();
+    let places = agents + plan.unit.variables.len();
     let mut at = place;
     'walking: while at < places {
+        // Where no clock has the date, no variable publishes.
+        if at == agents && !shared.calendar.any_had(plan.unit.clocks.as_slice(), date) {
+            return None;
+        }
         let told = tell_place(plan, shared, date, at, line);
         at += 1;
         if told {
@@ -183,13 +189,14 @@ fn tell_stream(
     requires inputs { AreInputs plan.now.unit shared.now.inputs.lists }
     requires queued { length shared.now.queues.items ≡ length plan.now.unit.streams }
     requires within { stream < length plan.now.unit.streams }
-    ensures told { (stalls : ℕ → List Stall) (turns : List (Option Turn))
-        → SharedStands (system_of plan.now shared.now.inputs.lists stalls) turns (date + 1) shared.now
-        → IsShownBy (system_of plan.now shared.now.inputs.lists stalls) date stream shown result line.old line.new }
+    ensures told { (opening : Opening) (stalls : ℕ → List Stall) (turns : List (Option Turn))
+        → StandsBehind plan.now opening stalls turns date shared.now
+        → IsShownBy (opened_of plan.now opening shared.now.inputs.lists stalls) date stream shown result line.old line.new }
     ensures room { IsTrue result → shown + 1 < 2 ^ 32 }
     ensures kept { IsFalse result → line.new ≡ line.old }
 {
     compiled();
+    openings();
     queues();
     tell_message(
         &shared.queues[stream],
@@ -214,9 +221,9 @@ fn tell_shown(
     requires queued { length shared.now.queues.items ≡ length plan.now.unit.streams }
     requires behind { length plan.now.unit.agents + length plan.now.unit.variables ≤ place }
     requires within { place ≤ length plan.now.unit.agents + length plan.now.unit.variables + length plan.now.unit.streams }
-    ensures told { (stalls : ℕ → List Stall) (turns : List (Option Turn))
-        → SharedStands (system_of plan.now shared.now.inputs.lists stalls) turns (date + 1) shared.now
-        → IsNextTold (system_of plan.now shared.now.inputs.lists stalls) date
+    ensures told { (opening : Opening) (stalls : ℕ → List Stall) (turns : List (Option Turn))
+        → StandsBehind plan.now opening stalls turns date shared.now
+        → IsNextTold (opened_of plan.now opening shared.now.inputs.lists stalls) date
         (length plan.now.unit.agents + length plan.now.unit.variables + length plan.now.unit.streams) place shown result line.old line.new }
 {
     let places = plan.unit.agents.len() + plan.unit.variables.len();
@@ -254,9 +261,9 @@ fn tell_from(
     requires early { date ≤ 2 ^ 40 }
     requires within { place ≤ length plan.now.unit.agents + length plan.now.unit.variables + length plan.now.unit.streams }
     requires unshown { place < length plan.now.unit.agents + length plan.now.unit.variables → shown ≡ 0 }
-    ensures told { (stalls : ℕ → List Stall) (turns : List (Option Turn))
-        → SharedStands (system_of plan.now shared.now.inputs.lists stalls) turns (date + 1) shared.now
-        → IsNextTold (system_of plan.now shared.now.inputs.lists stalls) date
+    ensures told { (opening : Opening) (stalls : ℕ → List Stall) (turns : List (Option Turn))
+        → StandsBehind plan.now opening stalls turns date shared.now
+        → IsNextTold (opened_of plan.now opening shared.now.inputs.lists stalls) date
         (length plan.now.unit.agents + length plan.now.unit.variables + length plan.now.unit.streams) place shown result line.old line.new }
 {
     let places = plan.unit.agents.len() + plan.unit.variables.len();
@@ -284,12 +291,19 @@ impl Kernel {
         ensures none { IsFalse result → (self.old.given ≡ length (lines_told self.old)) × (self.new ≡ self.old) × (line.new ≡ line.old) }
     {
         compiled();
+        openings();
         regular();
         queues();
         queue_sizes();
         let Some(date) = self.shared.date else {
             return false;
         };
+        let end = self.plan.unit.agents.len()
+            + self.plan.unit.variables.len()
+            + self.plan.unit.streams.len();
+        if self.place == end {
+            return false;
+        }
         // It is a date of the plan, so it is early enough for the clocks.
         prove!(date <= u64::from(last_date(&self.plan)));
         match tell_from(&self.plan, &self.shared, date, self.place, self.shown, line) {
@@ -300,9 +314,7 @@ impl Kernel {
                 true
             }
             None => {
-                self.place = self.plan.unit.agents.len()
-                    + self.plan.unit.variables.len()
-                    + self.plan.unit.streams.len();
+                self.place = end;
                 self.shown = 0;
                 false
             }

@@ -3,8 +3,8 @@ ghost use Rattle.std.specs.Prelude.{◌≡◌, ◌≢◌, ℕ, ◌+◌, ◌*◌,
 ghost use Rattle.std.specs.List.{All};
 ghost use Rattle.psy_base.specs.declared.limits.TheConstants.{RING};
 ghost use Rattle.psy_budget.specs.declared.charge.Stall.{Stall};
-ghost use Rattle.psy_dates.specs.Plans.{IsPlan, system_of};
-ghost use Rattle.psy_history.specs.Actions.{Action};
+ghost use Rattle.psy_dates.specs.Plans.{IsPlan, opened_of};
+ghost use Rattle.psy_history.specs.Actions.{Action, Opening};
 ghost use Rattle.psy_history.specs.History.{history};
 ghost use Rattle.psy_history.specs.Schedule.{Turn, is_pending, turn_of, work};
 ghost use Rattle.psy_history.specs.Summary.{reach};
@@ -57,34 +57,34 @@ fn burst(
     requires of { IsOf plan.now.code machine.old }
     requires early { (start ≤ date) × (date ≤ 2 ^ 40) }
     requires reaching { length reaches.old.items ≡ length plan.now.unit.variables }
-    requires given { (inputs : List (List ℤ)) × (stalls : ℕ → List Stall) × (r : Action) × (had : ℕ)
-        × MayGoOn (system_of plan.now inputs stalls) plan.now.code r had (had + most) start date machine.old eyes.old.scene.now
-        eyes.old.taken.now.items eyes.old.outbox.now × AllPay (system_of plan.now inputs stalls) r had (had + most) }
+    requires given { (opening : Opening) × (inputs : List (List ℤ)) × (stalls : ℕ → List Stall) × (r : Action) × (had : ℕ)
+        × MayGoOn (opened_of plan.now opening inputs stalls) plan.now.code r had (had + most) start date machine.old eyes.old.scene.now
+        eyes.old.taken.now.items eyes.old.outbox.now × AllPay (opened_of plan.now opening inputs stalls) r had (had + most) }
     ensures of { IsOf plan.now.code machine.new }
     ensures count { result.count ≤ most }
     ensures whole { result.step ≡ step.Went → result.count ≡ most }
     ensures some { result.step ≢ step.Went → 1 ≤ result.count }
-    ensures on_way { (inputs : List (List ℤ)) (stalls : ℕ → List Stall) (r : Action) (had : ℕ)
-        → MayGoOn (system_of plan.now inputs stalls) plan.now.code r had (had + most) start date machine.old eyes.old.scene.now
-        eyes.old.taken.now.items eyes.old.outbox.now → AllPay (system_of plan.now inputs stalls) r had (had + most)
-        → result.step ≡ step.Went → IsOnWay (system_of plan.now inputs stalls) plan.now.code r (had + most) machine.new
+    ensures on_way { (opening : Opening) (inputs : List (List ℤ)) (stalls : ℕ → List Stall) (r : Action) (had : ℕ)
+        → MayGoOn (opened_of plan.now opening inputs stalls) plan.now.code r had (had + most) start date machine.old eyes.old.scene.now
+        eyes.old.taken.now.items eyes.old.outbox.now → AllPay (opened_of plan.now opening inputs stalls) r had (had + most)
+        → result.step ≡ step.Went → IsOnWay (opened_of plan.now opening inputs stalls) plan.now.code r (had + most) machine.new
         eyes.new.outbox.now.sends eyes.new.taken.now.items }
-    ensures after { (inputs : List (List ℤ)) (stalls : ℕ → List Stall) (r : Action) (had : ℕ)
-        → MayGoOn (system_of plan.now inputs stalls) plan.now.code r had (had + most) start date machine.old eyes.old.scene.now
-        eyes.old.taken.now.items eyes.old.outbox.now → AllPay (system_of plan.now inputs stalls) r had (had + most)
-        → result.step ≢ step.Went → AfterCycles (system_of plan.now inputs stalls) plan.now.code r had result.count
-        (gone_by (charge_after (system_of plan.now inputs stalls) r (had + result.count)) result.step)
-        (charge_after (system_of plan.now inputs stalls) r (had + result.count)) machine.new }
-    ensures did { (inputs : List (List ℤ)) (stalls : ℕ → List Stall) (r : Action) (had : ℕ)
-        → MayGoOn (system_of plan.now inputs stalls) plan.now.code r had (had + most) start date machine.old eyes.old.scene.now
-        eyes.old.taken.now.items eyes.old.outbox.now → AllPay (system_of plan.now inputs stalls) r had (had + most)
-        → result.step ≢ step.Went → HasDoneIn (system_of plan.now inputs stalls) plan.now.code r had result.count
+    ensures after { (opening : Opening) (inputs : List (List ℤ)) (stalls : ℕ → List Stall) (r : Action) (had : ℕ)
+        → MayGoOn (opened_of plan.now opening inputs stalls) plan.now.code r had (had + most) start date machine.old eyes.old.scene.now
+        eyes.old.taken.now.items eyes.old.outbox.now → AllPay (opened_of plan.now opening inputs stalls) r had (had + most)
+        → result.step ≢ step.Went → AfterCycles (opened_of plan.now opening inputs stalls) plan.now.code r had result.count
+        (gone_by (charge_after (opened_of plan.now opening inputs stalls) r (had + result.count)) result.step)
+        (charge_after (opened_of plan.now opening inputs stalls) r (had + result.count)) machine.new }
+    ensures did { (opening : Opening) (inputs : List (List ℤ)) (stalls : ℕ → List Stall) (r : Action) (had : ℕ)
+        → MayGoOn (opened_of plan.now opening inputs stalls) plan.now.code r had (had + most) start date machine.old eyes.old.scene.now
+        eyes.old.taken.now.items eyes.old.outbox.now → AllPay (opened_of plan.now opening inputs stalls) r had (had + most)
+        → result.step ≢ step.Went → HasDoneIn (opened_of plan.now opening inputs stalls) plan.now.code r had result.count
         eyes.new.outbox.now.sends eyes.new.taken.now.items
-        (gone_by (charge_after (system_of plan.now inputs stalls) r (had + result.count)) result.step) }
-    ensures reached { (inputs : List (List ℤ)) (stalls : ℕ → List Stall) (r : Action) (had : ℕ)
-        → MayGoOn (system_of plan.now inputs stalls) plan.now.code r had (had + most) start date machine.old eyes.old.scene.now
-        eyes.old.taken.now.items eyes.old.outbox.now → AllPay (system_of plan.now inputs stalls) r had (had + most)
-        → (reach : ℕ → ℕ → Option ℕ) → AreReaches (system_of plan.now inputs stalls) plan.now.code r had (had + most) date reach
+        (gone_by (charge_after (opened_of plan.now opening inputs stalls) r (had + result.count)) result.step) }
+    ensures reached { (opening : Opening) (inputs : List (List ℤ)) (stalls : ℕ → List Stall) (r : Action) (had : ℕ)
+        → MayGoOn (opened_of plan.now opening inputs stalls) plan.now.code r had (had + most) start date machine.old eyes.old.scene.now
+        eyes.old.taken.now.items eyes.old.outbox.now → AllPay (opened_of plan.now opening inputs stalls) r had (had + most)
+        → (reach : ℕ → ℕ → Option ℕ) → AreReaches (opened_of plan.now opening inputs stalls) plan.now.code r had (had + most) date reach
         → (variable : ℕ) → slice_get reaches.old.items variable ≡ Some (reach had variable)
         → slice_get reaches.new.items variable ≡ Some (reach (had + result.count) variable) }
     ensures reaching { length reaches.new.items ≡ length reaches.old.items }
@@ -140,24 +140,25 @@ fn stretch(
     requires early { (start ≤ date) × (date ≤ 2 ^ 40) }
     requires some { 1 ≤ most }
     requires reaching { length reaches.old.items ≡ length plan.now.unit.variables }
-    requires given { (inputs : List (List ℤ)) × (stalls : ℕ → List Stall) × (r : Action) × (had : ℕ)
-        × MayGoOn (system_of plan.now inputs stalls) plan.now.code r had (had + most) start date machine.old eyes.old.scene.now
-        eyes.old.taken.now.items eyes.old.outbox.now × (charge.old ≡ charge_after (system_of plan.now inputs stalls) r had) × (had < work r) }
+    requires given { (opening : Opening) × (inputs : List (List ℤ)) × (stalls : ℕ → List Stall) × (r : Action) × (had : ℕ)
+        × MayGoOn (opened_of plan.now opening inputs stalls) plan.now.code r had (had + most) start date machine.old eyes.old.scene.now
+        eyes.old.taken.now.items eyes.old.outbox.now × (charge.old ≡ charge_after (opened_of plan.now opening inputs stalls) r had) × (had < work r) }
     ensures of { IsOf plan.now.code machine.new }
     ensures count { (1 ≤ result.cycles) × (result.cycles ≤ most) }
     ensures whole { result.gone ≡ gone.Going → result.cycles ≡ most }
-    ensures after { (inputs : List (List ℤ)) (stalls : ℕ → List Stall) (r : Action) (had : ℕ)
-        → MayGoOn (system_of plan.now inputs stalls) plan.now.code r had (had + most) start date machine.old eyes.old.scene.now
-        eyes.old.taken.now.items eyes.old.outbox.now → charge.old ≡ charge_after (system_of plan.now inputs stalls) r had → had < work r
-        → AfterCycles (system_of plan.now inputs stalls) plan.now.code r had result.cycles result.gone charge.new machine.new }
-    ensures did { (inputs : List (List ℤ)) (stalls : ℕ → List Stall) (r : Action) (had : ℕ)
-        → MayGoOn (system_of plan.now inputs stalls) plan.now.code r had (had + most) start date machine.old eyes.old.scene.now
-        eyes.old.taken.now.items eyes.old.outbox.now → charge.old ≡ charge_after (system_of plan.now inputs stalls) r had → had < work r
-        → HasDoneIn (system_of plan.now inputs stalls) plan.now.code r had result.cycles eyes.new.outbox.now.sends eyes.new.taken.now.items result.gone }
-    ensures reached { (inputs : List (List ℤ)) (stalls : ℕ → List Stall) (r : Action) (had : ℕ)
-        → MayGoOn (system_of plan.now inputs stalls) plan.now.code r had (had + most) start date machine.old eyes.old.scene.now
-        eyes.old.taken.now.items eyes.old.outbox.now → charge.old ≡ charge_after (system_of plan.now inputs stalls) r had → had < work r
-        → (reach : ℕ → ℕ → Option ℕ) → AreReaches (system_of plan.now inputs stalls) plan.now.code r had (had + most) date reach
+    ensures after { (opening : Opening) (inputs : List (List ℤ)) (stalls : ℕ → List Stall) (r : Action) (had : ℕ)
+        → MayGoOn (opened_of plan.now opening inputs stalls) plan.now.code r had (had + most) start date machine.old eyes.old.scene.now
+        eyes.old.taken.now.items eyes.old.outbox.now → charge.old ≡ charge_after (opened_of plan.now opening inputs stalls) r had → had < work r
+        → AfterCycles (opened_of plan.now opening inputs stalls) plan.now.code r had result.cycles result.gone charge.new machine.new }
+    ensures did { (opening : Opening) (inputs : List (List ℤ)) (stalls : ℕ → List Stall) (r : Action) (had : ℕ)
+        → MayGoOn (opened_of plan.now opening inputs stalls) plan.now.code r had (had + most) start date machine.old eyes.old.scene.now
+        eyes.old.taken.now.items eyes.old.outbox.now → charge.old ≡ charge_after (opened_of plan.now opening inputs stalls) r had → had < work r
+        → HasDoneIn (opened_of plan.now opening inputs stalls) plan.now.code r had result.cycles eyes.new.outbox.now.sends eyes.new.taken.now.items
+        result.gone }
+    ensures reached { (opening : Opening) (inputs : List (List ℤ)) (stalls : ℕ → List Stall) (r : Action) (had : ℕ)
+        → MayGoOn (opened_of plan.now opening inputs stalls) plan.now.code r had (had + most) start date machine.old eyes.old.scene.now
+        eyes.old.taken.now.items eyes.old.outbox.now → charge.old ≡ charge_after (opened_of plan.now opening inputs stalls) r had → had < work r
+        → (reach : ℕ → ℕ → Option ℕ) → AreReaches (opened_of plan.now opening inputs stalls) plan.now.code r had (had + most) date reach
         → (variable : ℕ) → slice_get reaches.old.items variable ≡ Some (reach had variable)
         → slice_get reaches.new.items variable ≡ Some (reach (had + result.cycles) variable) }
     ensures reaching { length reaches.new.items ≡ length reaches.old.items }
@@ -232,42 +233,42 @@ pub(super) fn go_on(
     requires some { 1 ≤ most }
     requires inside { (date < plan.now.until) × (cycle + most ≤ (date + 1) * plan.now.unit.quantum) }
     requires reaching { length reaches.old.items ≡ length plan.now.unit.variables }
-    requires given { (inputs : List (List ℤ)) × (stalls : ℕ → List Stall) × (turns : List (Option Turn)) × (r : Action) × (before : List Action)
-        × (waits : Option ℕ)
-        × MayLast plan.now inputs stalls turns date cycle agent most r before charge.old machine.old waits figure.old seat.old ended.old.items
+    requires given { (opening : Opening) × (inputs : List (List ℤ)) × (stalls : ℕ → List Stall) × (turns : List (Option Turn)) × (r : Action)
+        × (before : List Action) × (waits : Option ℕ)
+        × MayLast plan.now opening inputs stalls turns date cycle agent most r before charge.old machine.old waits figure.old seat.old ended.old.items
         rings.now queues.now taken.old.items outbox.old }
     ensures count { (1 ≤ result.cycles) × (result.cycles ≤ most) }
     ensures whole { result.goes ≡ true → result.cycles ≡ most }
-    ensures pending { (inputs : List (List ℤ)) (stalls : ℕ → List Stall) (turns : List (Option Turn)) (r : Action) (before : List Action)
+    ensures pending { (opening : Opening) (inputs : List (List ℤ)) (stalls : ℕ → List Stall) (turns : List (Option Turn)) (r : Action) (before : List Action)
         (waits : Option ℕ)
-        → MayLast plan.now inputs stalls turns date cycle agent most r before charge.old machine.old waits figure.old seat.old ended.old.items
+        → MayLast plan.now opening inputs stalls turns date cycle agent most r before charge.old machine.old waits figure.old seat.old ended.old.items
         rings.now queues.now taken.old.items outbox.old
         → (k : ℕ) → k < result.cycles → is_pending (given_to (turn_of (Some r)) k turns) r ≡ true }
-    ensures goes { (inputs : List (List ℤ)) (stalls : ℕ → List Stall) (turns : List (Option Turn)) (r : Action) (before : List Action)
+    ensures goes { (opening : Opening) (inputs : List (List ℤ)) (stalls : ℕ → List Stall) (turns : List (Option Turn)) (r : Action) (before : List Action)
         (waits : Option ℕ)
-        → MayLast plan.now inputs stalls turns date cycle agent most r before charge.old machine.old waits figure.old seat.old ended.old.items
+        → MayLast plan.now opening inputs stalls turns date cycle agent most r before charge.old machine.old waits figure.old seat.old ended.old.items
         rings.now queues.now taken.old.items outbox.old
         → is_pending (given_to (turn_of (Some r)) result.cycles turns) r ≡ result.goes }
-    ensures has { (inputs : List (List ℤ)) (stalls : ℕ → List Stall) (turns : List (Option Turn)) (r : Action) (before : List Action)
+    ensures has { (opening : Opening) (inputs : List (List ℤ)) (stalls : ℕ → List Stall) (turns : List (Option Turn)) (r : Action) (before : List Action)
         (waits : Option ℕ)
-        → MayLast plan.now inputs stalls turns date cycle agent most r before charge.old machine.old waits figure.old seat.old ended.old.items
+        → MayLast plan.now opening inputs stalls turns date cycle agent most r before charge.old machine.old waits figure.old seat.old ended.old.items
         rings.now queues.now taken.old.items outbox.old
-        → OneStands (system_of plan.now inputs stalls) plan.now.code (given_to (turn_of (Some r)) result.cycles turns) plan.now.until date agent
+        → OneStands (opened_of plan.now opening inputs stalls) plan.now.code (given_to (turn_of (Some r)) result.cycles turns) plan.now.until date agent
         (r ∷ before) charge.new machine.new (if result.goes then waits else None) figure.new seat.new ended.new.items }
-    ensures boxed { (inputs : List (List ℤ)) (stalls : ℕ → List Stall) (turns : List (Option Turn)) (r : Action) (before : List Action)
+    ensures boxed { (opening : Opening) (inputs : List (List ℤ)) (stalls : ℕ → List Stall) (turns : List (Option Turn)) (r : Action) (before : List Action)
         (waits : Option ℕ)
-        → MayLast plan.now inputs stalls turns date cycle agent most r before charge.old machine.old waits figure.old seat.old ended.old.items
+        → MayLast plan.now opening inputs stalls turns date cycle agent most r before charge.old machine.old waits figure.old seat.old ended.old.items
         rings.now queues.now taken.old.items outbox.old
-        → BoxStands (system_of plan.now inputs stalls) plan.now.code (given_to (turn_of (Some r)) result.cycles turns) date agent (r ∷ before)
+        → BoxStands (opened_of plan.now opening inputs stalls) plan.now.code (given_to (turn_of (Some r)) result.cycles turns) date agent (r ∷ before)
         outbox.new.sends taken.new.items }
-    ensures reached { (inputs : List (List ℤ)) (stalls : ℕ → List Stall) (turns : List (Option Turn)) (r : Action) (before : List Action)
+    ensures reached { (opening : Opening) (inputs : List (List ℤ)) (stalls : ℕ → List Stall) (turns : List (Option Turn)) (r : Action) (before : List Action)
         (waits : Option ℕ)
-        → MayLast plan.now inputs stalls turns date cycle agent most r before charge.old machine.old waits figure.old seat.old ended.old.items
+        → MayLast plan.now opening inputs stalls turns date cycle agent most r before charge.old machine.old waits figure.old seat.old ended.old.items
         rings.now queues.now taken.old.items outbox.old
         → (variable : ℕ) → slice_get reaches.old.items variable
-        ≡ Some (reach (system_of plan.now inputs stalls) turns (history (system_of plan.now inputs stalls) (date + 1)) variable)
-        → slice_get reaches.new.items variable ≡ Some (reach (system_of plan.now inputs stalls) (given_to (turn_of (Some r)) result.cycles turns)
-        (history (system_of plan.now inputs stalls) (date + 1)) variable) }
+        ≡ Some (reach (opened_of plan.now opening inputs stalls) turns (history (opened_of plan.now opening inputs stalls) (date + 1)) variable)
+        → slice_get reaches.new.items variable ≡ Some (reach (opened_of plan.now opening inputs stalls) (given_to (turn_of (Some r)) result.cycles turns)
+        (history (opened_of plan.now opening inputs stalls) (date + 1)) variable) }
     ensures reaching { length reaches.new.items ≡ length reaches.old.items }
     ensures size { outbox.new.size ≡ outbox.old.size }
     ensures taking { length taken.new.items ≡ length taken.old.items }
@@ -306,7 +307,7 @@ pub(super) fn go_on(
             seat.phase = Phase::Ended;
             seat.end = end_of(&plan.unit, agent, seat.start, point);
             seat.reached = point;
-            keep_copies(ended, plan.unit.variables.as_slice(), agent, machine);
+            keep_copies(ended, plan, agent, machine);
         }
         Gone::Trapped(kind) => stop(seat, Some(kind)),
         Gone::Spent => stop(seat, None),

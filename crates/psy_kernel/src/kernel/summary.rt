@@ -7,7 +7,7 @@ ghost use Rattle.psy_kernel.specs.Telling.{figured_lines};
 use super::{Figure, Kernel};
 use crate::stage::Stage;
 use psy_dates::Plan;
-use psy_history::laws::{compiled, on_time, regular};
+use psy_history::laws::{compiled, on_time, openings, regular};
 use psy_log::{Line, Note};
 
 /// The line of the summary at a place, by the figures of the agents, by how far back rings were reached for, and by how many messages
@@ -76,6 +76,7 @@ impl Kernel {
         ensures few { length (summary_told self.now) < 2 ^ 32 }
     {
         compiled();
+        openings();
         regular();
         on_time();
         tell_figure(

@@ -20,7 +20,7 @@ use Rattle.psy_dates.specs.Moves.{IsNumbered, commits_at, ends_at, owner_of, tim
 use Rattle.psy_dates.specs.Outboxes.{Outboxed}
 use Rattle.psy_dates.specs.Plans.{opened_of, system_of}
 use Rattle.psy_dates.specs.Publications.{ring_then}
-use Rattle.psy_dates.proofs.Begun.{are_begun}
+use Rattle.psy_dates.proofs.lemmas.Begun.{are_begun}
 use Rattle.psy_dates.proofs.Dates.{Moved, seat_numbered, shared_moves}
 use Rattle.psy_dates.proofs.StreamLaws.{stream_laws}
 use Rattle.psy_dates.proofs.StreamsThen.{box_begun, box_goes, has_room, holds_taken, sends_of_unit, take_begun, take_goes}

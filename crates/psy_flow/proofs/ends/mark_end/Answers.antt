@@ -1,5 +1,5 @@
 -- What is left of the proof of `ends::mark_end`.
-use Rattle.std.proofs.Common.{◌≡◌, sym}
+use Rattle.std.proofs.Common.{sym}
 use Rattle.psy_flow.specs.Walks.{ends_at}
 use Rattle.psy_flow.proofs.CodeEnds.{no_end}
 use Rattle.psy_flow.proofs.Marks.{marked_none}

@@ -1,5 +1,5 @@
 -- What is left of the proof of `ends::mark_ends`.
-use Rattle.std.proofs.Common.{◌≡◌, ◌+◌, ◌||◌, [], get_or, take, refl, sym, ap, ◌∙◌}
+use Rattle.std.proofs.Common.{◌+◌, ◌||◌, [], get_or, take, refl, sym, ap, ◌∙◌}
 use Rattle.std.proofs.lemmas.List.{take_all}
 use Rattle.std.proofs.lemmas.List.Folds.{list_any_more}
 use Rattle.psy_flow.specs.Reach.{marked}

@@ -1,7 +1,10 @@
 -- What is left of the proof of `view::explained`.
 use Rattle.std.proofs.Common.{ap, Err}
-use Rattle.psy_view.specs.Views.{no_refusal}
+use Rattle.psy_view.specs.Views.{explained, no_refusal}
 use Rattle.psy_view.proofs.view.explained.Goals as goal
+
+pub returns-in-Ok : goal.returns-in-Ok
+returns-in-Ok c = explained _ _ _ (rw (c.as_bytes.ensures.value, c.as_slice.ensures.value, c.in_ok-line.ensures) at c.in-Ok.ensures.explains)
 
 pub returns-in-Err-NoRefusal : goal.returns-in-Err-NoRefusal
 returns-in-Err-NoRefusal c =

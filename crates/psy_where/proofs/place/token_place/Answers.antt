@@ -1,21 +1,10 @@
 -- What is left of the proof of `place::token_place`.
-use Rattle.std.proofs.Common.{◌≡◌, ℕ, List, length, Result, Err, refl, sym, ap, subst, ◌∙◌}
+use Rattle.std.proofs.Common.{List, length, refl, sym, subst, ◌∙◌}
 use Rattle.std.proofs.lemmas.Result.{err_from_is_err_and}
 use Rattle.psy_tree.specs.declared.token.Token.{Token}
-use Rattle.psy_token.specs.declared.fault.LexFault.{LexFault}
-use Rattle.psy_token.specs.declared.fault.LexFault.TheVariants as lexing
-use Rattle.psy_where.specs.declared.fault.WhereFault.{WhereFault}
-use Rattle.psy_where.specs.declared.fault.WhereFault.TheVariants as faults
-use Rattle.psy_where.specs.Lexing.{fault_of}
 use Rattle.psy_where.specs.Places.{IsStart}
-use Rattle.psy_where.proofs.TokenStarts.{IsStart-within, IsStart-end}
+use Rattle.psy_where.proofs.TokenStarts.{IsStart-within, IsStart-end, not_beyond}
 use Rattle.psy_where.proofs.place.token_place.Goals as goal
-
--- Want of memory is no want of a place.
-not_beyond : (answer : Result ℕ WhereFault) (made : WhereFault) (fault : LexFault) → answer ≡ Err made → made ≡ fault_of fault → fault ≡ lexing.Memory → answer ≡ Err faults.Beyond → ⊥
-not_beyond answer made fault is from memory beyond =
-    let same : made ≡ faults.Memory = from ∙ ap fault_of memory in
-    cc
 
 pub returns-in_err-tokens-clause-beyond : goal.returns-in_err-tokens-clause-beyond
 returns-in_err-tokens-clause-beyond c beyond place (tokens, are, start) =

@@ -5,6 +5,8 @@ use Rattle.std.proofs.lemmas.Bool.{true≢false}
 use Rattle.std.proofs.lemmas.List.{length-replicate}
 use Rattle.std.proofs.lemmas.List.FromFn.{length-map-range_with_len}
 use Rattle.psy_history.specs.Compiled.{AreInputs, coded}
+use Rattle.psy_history.specs.Openings.{IsSound}
+use Rattle.psy_history.specs.Ways.{OfText}
 use Rattle.psy_history.specs.Actions.{System}
 use Rattle.psy_history.specs.History.{history}
 use Rattle.psy_dates.specs.Standing.{SharedStands, dates_done}
@@ -43,6 +45,9 @@ invariant_of-result c =
       plan = c.requires.plan;
       inputs = subst (AreInputs unit) lists c.requires.inputs;
       script = c.requires.script;
+      sound = subst (λ i. IsSound (s i) (OfText unit) plan.code) lists (c.openings.ensures.plain unit plan.code plan.nexts (stalls_of script) c.args.inputs.lists c.requires.plan.compiled c.requires.inputs);
+      behind = omega arith;
+      before = λ last first. absurd (cc);
       in_tick = subst (λ d. InTick unit.quantum plan.until d 0) dates refl;
       shared = subst (λ i. SharedStands (s i) [] (dates_done shared.date) shared) lists
           (subst (λ d. SharedStands (s c.args.inputs.lists) [] d shared) dates first);
@@ -63,7 +68,7 @@ invariant_of-result c =
           subst (λ d. AgentStands (s shared.inputs.lists) plan.code [] plan.until agent (history (s shared.inputs.lists) d agent) charge machine waits figure) dates (first_stands (s shared.inputs.lists) plan.code plan.until agent charge machine waits figure
           (made_at (first_charge script) count agent charge (ap (λ xs. slice_get xs agent) (sym charges) ∙ ec)) new.0 new.1
           (replicated_at None count agent waits (ap (λ xs. slice_get xs agent) (sym ready) ∙ ew))
-          (replicated_at none count agent figure (ap (λ xs. slice_get xs agent) (sym figures) ∙ ef))));
+          (replicated_at none count agent figure (ap (λ xs. slice_get xs agent) (sym figures) ∙ ef)) refl refl));
       all = c.in_ok-declared.ensures ∙ ap (range_with_len 0) counted;
       orders = subst (λ orders. AreInForce orders c.passed_first-passed.result 0) c.as_slice.ensures c.passed_first-passed.ensures;
       choice = λ e. absurd (true≢false e);

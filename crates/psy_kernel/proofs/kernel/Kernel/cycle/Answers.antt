@@ -1,6 +1,6 @@
 -- What is left of the proof of `kernel::Kernel::cycle`.
-use Rattle.std.proofs.Common.{◌≡◌, ◌+◌, ◌*◌, ◌<◌, ◌≤◌, ap, ◌∙◌, arith}
-use Rattle.psy_kernel.specs.Progress.{Progress, stage_of}
+use Rattle.std.proofs.Common.{ap, ◌∙◌, arith}
+use Rattle.psy_kernel.specs.Progress.{stage_of}
 use Rattle.psy_kernel.proofs.SliceEnds.{fills, one_fits}
 use Rattle.psy_kernel.proofs.kernel.Kernel.cycle.Goals as goal
 

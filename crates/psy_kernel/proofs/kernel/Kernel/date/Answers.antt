@@ -5,9 +5,11 @@ use Rattle.psy_ready.specs.Choice.{pending_deadline}
 use Rattle.psy_history.specs.Actions.{System}
 use Rattle.psy_history.specs.History.{history}
 use Rattle.psy_history.specs.Summary.{reach}
-use Rattle.psy_history.specs.Compiled.{AreInputs, coded}
+use Rattle.psy_history.specs.Compiled.{AreInputs}
+use Rattle.psy_history.specs.Openings.{IsSound}
+use Rattle.psy_history.specs.Ways.{OfText}
 use Rattle.psy_history.specs.Scheduled.{turns_of}
-use Rattle.psy_dates.specs.Plans.{whole_of}
+use Rattle.psy_dates.specs.Plans.{opened_of}
 use Rattle.psy_dates.specs.Standing.{SharedStands, dates_done}
 use Rattle.psy_kernel.specs.declared.stage.Stage.TheVariants.{CycleDue}
 use Rattle.psy_kernel.specs.Progress.{Progress, after_date, stage_of}
@@ -15,44 +17,49 @@ use Rattle.psy_history.specs.Scripts.{stalls_of}
 use Rattle.psy_kernel.specs.Standing.{AgentStands, DeedsStand, InTick, given_at, most_held_in}
 use Rattle.psy_kernel.specs.Starting.{IsDoneBelow, charge_at, deadline_at, held_at, seat_at, starts_at}
 use Rattle.psy_kernel.proofs.Dated.{cycle_after, date_due, over_after}
-use Rattle.psy_kernel.proofs.DatesDue.{after, agents, before_filled, deeds, free, from_first, helds, is_due, its, none_due, none_given, same_reach, tick, ties, view_after, whole_sound}
+use Rattle.psy_kernel.proofs.DatesDue.{AreRunLaws, after, agents, before_filled, begins, deeds, free, helds, is_due, its, later, none_due, none_given, same_reach, sound, tick, ties, view_after}
 use Rattle.psy_kernel.proofs.kernel.Kernel.date.Goals as goal
 
 pub at_date-requires-clause-due : goal.at_date-requires-clause-due
 at_date-requires-clause-due c =
     let k = c.self.inside in
     let date = c.dates-date.result in
-    none_due k date (is_due k c.args.self.now date c.self.invariant c.self.view_is c.requires.due c.dates-date.ensures.dates c.dates-date.ensures.few c.compiled.ensures.run c.regular.ensures.lawful c.given.ensures.unstarted c.on_time.ensures.due)
+    let laws : AreRunLaws = record { well = c.compiled.ensures.run; opened = c.openings.ensures.run; lawful = c.regular.ensures.lawful; none = c.openings.ensures.none; silent = c.openings.ensures.silent; waits = c.openings.ensures.waits } in
+    none_due k date (is_due k c.args.self.now date c.self.invariant c.self.view_is c.requires.due c.dates-date.ensures.dates c.dates-date.ensures.few laws c.given.ensures.unstarted c.on_time.ensures.due)
 
 pub at_date-requires-clause-stands : goal.at_date-requires-clause-stands
 at_date-requires-clause-stands c =
     let k = c.self.inside in
     let date = c.dates-date.result in
-    let due = is_due k c.args.self.now date c.self.invariant c.self.view_is c.requires.due c.dates-date.ensures.dates c.dates-date.ensures.few c.compiled.ensures.run c.regular.ensures.lawful c.given.ensures.unstarted c.on_time.ensures.due in
-    (whole_of k.plan, stalls_of k.script, ties k date due, whole_sound k date due, from_first k date due, before_filled k date due)
+    let laws : AreRunLaws = record { well = c.compiled.ensures.run; opened = c.openings.ensures.run; lawful = c.regular.ensures.lawful; none = c.openings.ensures.none; silent = c.openings.ensures.silent; waits = c.openings.ensures.waits } in
+    let due = is_due k c.args.self.now date c.self.invariant c.self.view_is c.requires.due c.dates-date.ensures.dates c.dates-date.ensures.few laws c.given.ensures.unstarted c.on_time.ensures.due in
+    (begins k date due, stalls_of k.script, ties k date due, sound k date due, later k date due, before_filled k date due)
 
 pub hold_all-requires : goal.hold_all-requires
 hold_all-requires c =
     let k = c.self.inside in
     let date = c.dates-date.result in
-    let due = is_due k c.args.self.now date c.self.invariant c.self.view_is c.requires.due c.dates-date.ensures.dates c.dates-date.ensures.few c.compiled.ensures.run c.regular.ensures.lawful c.given.ensures.unstarted c.on_time.ensures.due in
-    let done = c.at_date.ensures.stands (whole_of k.plan) (stalls_of k.script) (ties k date due) (whole_sound k date due) (from_first k date due) (before_filled k date due) in
+    let laws : AreRunLaws = record { well = c.compiled.ensures.run; opened = c.openings.ensures.run; lawful = c.regular.ensures.lawful; none = c.openings.ensures.none; silent = c.openings.ensures.silent; waits = c.openings.ensures.waits } in
+    let due = is_due k c.args.self.now date c.self.invariant c.self.view_is c.requires.due c.dates-date.ensures.dates c.dates-date.ensures.few laws c.given.ensures.unstarted c.on_time.ensures.due in
+    let done = c.at_date.ensures.stands (begins k date due) (stalls_of k.script) (ties k date due) (sound k date due) (later k date due) (before_filled k date due) in
     c.self.invariant.holding ∙ sym done.queued ∙ sym (ap length c.as_slice.ensures.value)
 
 pub start_all-requires-clause-seated : goal.start_all-requires-clause-seated
 start_all-requires-clause-seated c =
     let k = c.self.inside in
     let date = c.dates-date.result in
-    let due = is_due k c.args.self.now date c.self.invariant c.self.view_is c.requires.due c.dates-date.ensures.dates c.dates-date.ensures.few c.compiled.ensures.run c.regular.ensures.lawful c.given.ensures.unstarted c.on_time.ensures.due in
-    let done = c.at_date.ensures.stands (whole_of k.plan) (stalls_of k.script) (ties k date due) (whole_sound k date due) (from_first k date due) (before_filled k date due) in
+    let laws : AreRunLaws = record { well = c.compiled.ensures.run; opened = c.openings.ensures.run; lawful = c.regular.ensures.lawful; none = c.openings.ensures.none; silent = c.openings.ensures.silent; waits = c.openings.ensures.waits } in
+    let due = is_due k c.args.self.now date c.self.invariant c.self.view_is c.requires.due c.dates-date.ensures.dates c.dates-date.ensures.few laws c.given.ensures.unstarted c.on_time.ensures.due in
+    let done = c.at_date.ensures.stands (begins k date due) (stalls_of k.script) (ties k date due) (sound k date due) (later k date due) (before_filled k date due) in
     ap length c.as_slice-2.ensures.value ∙ done.seated ∙ sym (ap length c.as_slice-3.ensures)
 
 pub start_all-requires-clause-free : goal.start_all-requires-clause-free
 start_all-requires-clause-free c =
     let k = c.self.inside in
     let date = c.dates-date.result in
-    let due = is_due k c.args.self.now date c.self.invariant c.self.view_is c.requires.due c.dates-date.ensures.dates c.dates-date.ensures.few c.compiled.ensures.run c.regular.ensures.lawful c.given.ensures.unstarted c.on_time.ensures.due in
-    let done = c.at_date.ensures.stands (whole_of k.plan) (stalls_of k.script) (ties k date due) (whole_sound k date due) (from_first k date due) (before_filled k date due) in
+    let laws : AreRunLaws = record { well = c.compiled.ensures.run; opened = c.openings.ensures.run; lawful = c.regular.ensures.lawful; none = c.openings.ensures.none; silent = c.openings.ensures.silent; waits = c.openings.ensures.waits } in
+    let due = is_due k c.args.self.now date c.self.invariant c.self.view_is c.requires.due c.dates-date.ensures.dates c.dates-date.ensures.few laws c.given.ensures.unstarted c.on_time.ensures.due in
+    let done = c.at_date.ensures.stands (begins k date due) (stalls_of k.script) (ties k date due) (sound k date due) (later k date due) (before_filled k date due) in
     subst (λ seats. (agent : ℕ) → starts_at date (seat_at seats agent) ≡ true → pending_deadline k.ready agent ≡ None) (sym c.as_slice-2.ensures.value) (free k date due c.at_date.new.shared done)
 
 pub invariant_of-self : goal.invariant_of-self
@@ -61,11 +68,12 @@ invariant_of-self c =
     let h = c.self.invariant in
     let unit = k.plan.unit in
     let date = c.dates-date.result in
-    let due = is_due k c.args.self.now date h c.self.view_is c.requires.due c.dates-date.ensures.dates c.dates-date.ensures.few c.compiled.ensures.run c.regular.ensures.lawful c.given.ensures.unstarted c.on_time.ensures.due in
+    let laws : AreRunLaws = record { well = c.compiled.ensures.run; opened = c.openings.ensures.run; lawful = c.regular.ensures.lawful; none = c.openings.ensures.none; silent = c.openings.ensures.silent; waits = c.openings.ensures.waits } in
+    let due = is_due k c.args.self.now date h c.self.view_is c.requires.due c.dates-date.ensures.dates c.dates-date.ensures.few laws c.given.ensures.unstarted c.on_time.ensures.due in
     let order = ties k date due in
-    let s : List (List ℤ) → System = coded unit k.plan.code k.plan.nexts (stalls_of k.script) in
+    let s : List (List ℤ) → System = λ i. opened_of k.plan (begins k date due) i (stalls_of k.script) in
     let shared = c.at_date.new.shared in
-    let done = c.at_date.ensures.stands (whole_of k.plan) (stalls_of k.script) order (whole_sound k date due) (from_first k date due) (before_filled k date due) in
+    let done = c.at_date.ensures.stands (begins k date due) (stalls_of k.script) order (sound k date due) (later k date due) (before_filled k date due) in
     let lists : k.shared.inputs.lists ≡ shared.inputs.lists = ap (λ i. i.lists) (sym c.at_date.ensures.inputs) in
     let dates : suc date ≡ dates_done shared.date = sym (done.date ∙ add-one date) in
     let same_seats : IsDoneBelow (charge_at date shared.seats.items unit.agents) (length unit.agents) k.charges.items c.start_all.new.charges.items =
@@ -80,6 +88,9 @@ invariant_of-self c =
       plan = h.plan;
       inputs = subst (AreInputs unit) lists h.inputs;
       script = h.script;
+      sound = subst (λ i. IsSound (s i) (OfText unit) k.plan.code) lists h.sound;
+      behind = omega (arith, later k date due, dates);
+      before = λ last first done. absurd (omega (arith, later k date due, dates, first, done));
       in_tick = subst (λ d. InTick unit.quantum k.plan.until d k.cycles) dates (tick k date due);
       shared = subst (λ i. SharedStands (s i) (turns_of (s i) order k.cycles) (dates_done shared.date) shared) lists
           (subst (λ d. SharedStands (its k date due) (turns_of (its k date due) order k.cycles) d shared) (sym done.date) (after k date due shared done));
@@ -116,9 +127,10 @@ pub returns-clause-state : goal.returns-clause-state
 returns-clause-state c =
     let k = c.self.inside in
     let date = c.dates-date.result in
-    let due = is_due k c.args.self.now date c.self.invariant c.self.view_is c.requires.due c.dates-date.ensures.dates c.dates-date.ensures.few c.compiled.ensures.run c.regular.ensures.lawful c.given.ensures.unstarted c.on_time.ensures.due in
+    let laws : AreRunLaws = record { well = c.compiled.ensures.run; opened = c.openings.ensures.run; lawful = c.regular.ensures.lawful; none = c.openings.ensures.none; silent = c.openings.ensures.silent; waits = c.openings.ensures.waits } in
+    let due = is_due k c.args.self.now date c.self.invariant c.self.view_is c.requires.due c.dates-date.ensures.dates c.dates-date.ensures.few laws c.given.ensures.unstarted c.on_time.ensures.due in
     let shared = c.at_date.new.shared in
-    let done = c.at_date.ensures.stands (whole_of k.plan) (stalls_of k.script) (ties k date due) (whole_sound k date due) (from_first k date due) (before_filled k date due) in
+    let done = c.at_date.ensures.stands (begins k date due) (stalls_of k.script) (ties k date due) (sound k date due) (later k date due) (before_filled k date due) in
     view_after k shared.inputs.lists (dates_done shared.date) (ap (λ i. i.lists) c.at_date.ensures.inputs) (done.date ∙ ap (λ d. d + 1) (c.dates-date.ensures.dates ∙ ap (λ (p : Progress). p.dates) (sym c.self.view_is))) ∙ ap after_date c.self.view_is
 
 pub returns-clause-last : goal.returns-clause-last

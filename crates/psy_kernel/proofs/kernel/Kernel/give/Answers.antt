@@ -11,7 +11,7 @@ use Rattle.psy_dates.specs.Outboxes.{Outboxed}
 use Rattle.psy_dates.specs.Standing.{dates_done}
 use Rattle.psy_machine.specs.Stepping.{AgentMachine}
 use Rattle.psy_history.specs.Actions.{Action}
-use Rattle.psy_history.specs.Schedule.{is_pending, turn_of}
+use Rattle.psy_history.specs.Schedule.{turn_of}
 use Rattle.psy_history.specs.declared.told.Order.{Order}
 use Rattle.psy_queue.specs.Order.{Queued}
 use Rattle.psy_ready.specs.Choice.{IsPick, pending_deadline}
@@ -21,10 +21,10 @@ use Rattle.psy_kernel.specs.declared.kernel.Kernel.TheInside.{Inside}
 use Rattle.psy_kernel.specs.Progress.{Progress}
 use Rattle.psy_history.specs.Scripts.{order_of, stalls_of}
 use Rattle.psy_kernel.specs.Slices.{IsOverBy}
-use Rattle.psy_kernel.specs.Standing.{AreInForce, IsChosen, KernelStands, progress_of}
+use Rattle.psy_kernel.specs.Standing.{AreInForce, IsChosen, KernelStands}
 use Rattle.psy_kernel.specs.Stretches.{MayLast, given_to}
 use Rattle.psy_kernel.proofs.CyclesGiven.{Takes, given_between, given_steady, idle_between, idle_steady, known, may_last, on_date, over_by, reached_given, row, takes}
-use Rattle.psy_kernel.proofs.Kernels.{IsDue, ahead_of, counted_fresh, counted_stale, due_by, high_of, lists_read, order_read, run_in, turns_in}
+use Rattle.psy_kernel.proofs.Kernels.{IsDue, ahead_of, counted_fresh, counted_stale, due_by, high_of, lists_read, opening_in, order_read, run_in, turns_in}
 use Rattle.psy_kernel.proofs.RingViews.{few_places}
 use Rattle.psy_kernel.proofs.Sets.{get_set_other, get_set_same}
 use Rattle.psy_kernel.proofs.kernel.Kernel.give.Goals as goal
@@ -61,14 +61,14 @@ module _ (k : Inside) (is : KernelStands k) (d : IsDue k) (agent : ℕ) (pick : 
   module _ (most : ℕ) (high : k.cycles + most ≤ (d.date + 1) * k.plan.unit.quantum) (ahead : (o : Order) → slice_get k.script.orders k.passed ≡ Some o → k.cycles + most ≤ o.cycle) where
     may_in : (charge : Charged) (machine : AgentMachine) (figure : Figure) (seat : Seat) → charge ≡ get_or k.charges.items agent charge → machine ≡ get_or k.machines.items agent machine → figure ≡ get_or k.figures.items agent figure → seat ≡ get_or k.shared.seats.items agent seat
         → (rings : List (List ℤ)) (queues : List Queued) (outbox : Outboxed) → rings ≡ k.shared.rings.items → queues ≡ k.shared.queues.items → outbox ≡ get_or k.shared.outboxes.items agent outbox
-        → MayLast k.plan k.shared.inputs.lists (stalls_of k.script) (turns_in k k.cycles) date k.cycles agent most r before charge machine (pending_deadline k.ready agent) figure seat k.shared.ended.items rings queues k.shared.taken.items outbox
+        → MayLast k.plan (opening_in k) k.shared.inputs.lists (stalls_of k.script) (turns_in k k.cycles) date k.cycles agent most r before charge machine (pending_deadline k.ready agent) figure seat k.shared.ended.items rings queues k.shared.taken.items outbox
     may_in charge machine figure seat charge_is machine_is figure_is seat_is rings queues outbox e f outbox_is =
         let charge_at = slice_get_read k.charges.items (length k.charges.items) agent charge refl (omega (arith, less, is.charges)) charge_is in
         let machine_at = slice_get_read k.machines.items (length k.machines.items) agent machine refl (omega (arith, less, is.machined)) machine_is in
         let figure_at = slice_get_read k.figures.items (length k.figures.items) agent figure refl (omega (arith, less, is.figured)) figure_is in
         let seat_at = slice_get_read k.shared.seats.items (length k.shared.seats.items) agent seat refl (omega (arith, less, is.shared.seated)) seat_is in
-        subst (λ rs. MayLast k.plan k.shared.inputs.lists (stalls_of k.script) (turns_in k k.cycles) date k.cycles agent most r before charge machine (pending_deadline k.ready agent) figure seat k.shared.ended.items rs queues k.shared.taken.items outbox) (sym e)
-        (subst (λ qs. MayLast k.plan k.shared.inputs.lists (stalls_of k.script) (turns_in k k.cycles) date k.cycles agent most r before charge machine (pending_deadline k.ready agent) figure seat k.shared.ended.items k.shared.rings.items qs k.shared.taken.items outbox) (sym f)
+        subst (λ rs. MayLast k.plan (opening_in k) k.shared.inputs.lists (stalls_of k.script) (turns_in k k.cycles) date k.cycles agent most r before charge machine (pending_deadline k.ready agent) figure seat k.shared.ended.items rs queues k.shared.taken.items outbox) (sym e)
+        (subst (λ qs. MayLast k.plan (opening_in k) k.shared.inputs.lists (stalls_of k.script) (turns_in k k.cycles) date k.cycles agent most r before charge machine (pending_deadline k.ready agent) figure seat k.shared.ended.items k.shared.rings.items qs k.shared.taken.items outbox) (sym f)
         (may_last k is d agent pick r before t most high ahead date date_is machine charge figure seat machine_at charge_at figure_at seat_at outbox (outbox_at outbox outbox_is)))
 
 pub choose-self-inside-requires-clause-lists : goal.choose-self-inside-requires-clause-lists
@@ -144,7 +144,7 @@ go_on-lasted-requires-clause-given c =
     let date_is : date ≡ dates_done k.shared.date - 1 = c.last_date-date.ensures in
     let t = takes k is d agent pick in
     let may = may_in k is d agent pick date date_is c.args.most high ahead c.index_mut.result.now c.index_mut-in-Some.result.now c.index_mut-in-Some-2.result.now c.index_mut-in-Some-3.result.now c.index_mut.ensures.value c.index_mut-in-Some.ensures.value c.index_mut-in-Some-2.ensures.value c.index_mut-in-Some-3.ensures.value c.deref.result.now c.deref-in-Some.result.now c.index_mut-in-Some-4.result.now c.deref.ensures.value c.deref-in-Some.ensures.value c.index_mut-in-Some-4.ensures.value in
-    (k.shared.inputs.lists, stalls_of k.script, turns_in k k.cycles, t.0, t.1, pending_deadline k.ready agent, may)
+    (opening_in k, k.shared.inputs.lists, stalls_of k.script, turns_in k k.cycles, t.0, t.1, pending_deadline k.ready agent, may)
 
 pub overflow_add-next-in-Some : goal.overflow_add-next-in-Some
 overflow_add-next-in-Some c =
@@ -191,13 +191,13 @@ invariant_of-self-then-not-lasted c =
     let r : Action = t.0 in
     let before : List Action = t.1 in
     let waits : Option ℕ = pending_deadline k.ready agent in
-    let pends = lasted.pending k.shared.inputs.lists (stalls_of k.script) (turns_in k k.cycles) r before waits may in
-    let goes = lasted.goes k.shared.inputs.lists (stalls_of k.script) (turns_in k k.cycles) r before waits may in
+    let pends = lasted.pending (opening_in k) k.shared.inputs.lists (stalls_of k.script) (turns_in k k.cycles) r before waits may in
+    let goes = lasted.goes (opening_in k) k.shared.inputs.lists (stalls_of k.script) (turns_in k k.cycles) r before waits may in
     let turns : (j : ℕ) → j ≤ n → turns_in k (k.cycles + j) ≡ given_to (turn_of (Some r)) j (turns_in k k.cycles) =
     λ j less. row k is d agent pick r before t.2 c.args.most high ahead j (omega (arith, less, lasted.count.1)) (λ i below. pends i (omega (arith, below, less))) in
     let passed : ℕ = c.passed_by-passed-in-Some.result in
     let come : AreInForce k.script.orders passed (k.cycles + n) = subst (λ orders. AreInForce orders passed (k.cycles + n)) c.as_slice-orders.ensures c.passed_by-passed-in-Some.ensures.in_force in
-    let has_then = lasted.has k.shared.inputs.lists (stalls_of k.script) (turns_in k k.cycles) r before waits may in
+    let has_then = lasted.has (opening_in k) k.shared.inputs.lists (stalls_of k.script) (turns_in k k.cycles) r before waits may in
     let machine : AgentMachine = c.go_on-lasted.new.machine in
     let charge : Charged = c.go_on-lasted.new.charge in
     let figure : Figure = c.go_on-lasted.new.figure in
@@ -213,9 +213,9 @@ invariant_of-self-then-not-lasted c =
     let reaches : Vec (Option ℕ) Global = c.go_on-lasted.new.reaches in
     let box : BoxStands (run_in k) k.plan.code (given_to (turn_of (Some r)) n (turns_in k k.cycles)) d.date agent (r ∷ before) outbox.sends counts.items =
     subst (λ m. BoxStands (run_in k) k.plan.code (given_to (turn_of (Some r)) n (turns_in k k.cycles)) m agent (r ∷ before) outbox.sends counts.items) (on_date k is d agent pick r before t.2 date date_is)
-    (lasted.boxed k.shared.inputs.lists (stalls_of k.script) (turns_in k k.cycles) r before waits may) in
+    (lasted.boxed (opening_in k) k.shared.inputs.lists (stalls_of k.script) (turns_in k k.cycles) r before waits may) in
     let size = same_size k is d agent pick date date_is c.index_mut-in-Some-4.result.now outbox c.index_mut-in-Some-4.ensures.value lasted.size in
-    let reached = reached_given k is d agent pick r before t.2 n (turns n (omega arith)) date date_is reaches.items lasted.reaching (lasted.reached k.shared.inputs.lists (stalls_of k.script) (turns_in k k.cycles) r before waits may) in
+    let reached = reached_given k is d agent pick r before t.2 n (turns n (omega arith)) date date_is reaches.items lasted.reaching (lasted.reached (opening_in k) k.shared.inputs.lists (stalls_of k.script) (turns_in k k.cycles) r before waits may) in
     let one : OneStands (run_in k) k.plan.code (given_to (turn_of (Some r)) n (turns_in k k.cycles)) k.plan.until d.date agent (r ∷ before) charge machine None figure seat copies.items =
     subst (λ m. OneStands (run_in k) k.plan.code (given_to (turn_of (Some r)) n (turns_in k k.cycles)) k.plan.until m agent (r ∷ before) charge machine None figure seat copies.items) (on_date k is d agent pick r before t.2 date date_is)
     (subst (λ on. OneStands (run_in k) k.plan.code (given_to (turn_of (Some r)) n (turns_in k k.cycles)) k.plan.until date agent (r ∷ before) charge machine (if on then waits else None) figure seat copies.items) (is_off c.go_on-lasted.result.goes c.if-not-lasted.true) has_then) in
@@ -249,13 +249,13 @@ invariant_of-self-else-not-lasted c =
     let r : Action = t.0 in
     let before : List Action = t.1 in
     let waits : Option ℕ = pending_deadline k.ready agent in
-    let pends = lasted.pending k.shared.inputs.lists (stalls_of k.script) (turns_in k k.cycles) r before waits may in
-    let goes = lasted.goes k.shared.inputs.lists (stalls_of k.script) (turns_in k k.cycles) r before waits may in
+    let pends = lasted.pending (opening_in k) k.shared.inputs.lists (stalls_of k.script) (turns_in k k.cycles) r before waits may in
+    let goes = lasted.goes (opening_in k) k.shared.inputs.lists (stalls_of k.script) (turns_in k k.cycles) r before waits may in
     let turns : (j : ℕ) → j ≤ n → turns_in k (k.cycles + j) ≡ given_to (turn_of (Some r)) j (turns_in k k.cycles) =
     λ j less. row k is d agent pick r before t.2 c.args.most high ahead j (omega (arith, less, lasted.count.1)) (λ i below. pends i (omega (arith, below, less))) in
     let passed : ℕ = c.passed_by-passed-in-Some.result in
     let come : AreInForce k.script.orders passed (k.cycles + n) = subst (λ orders. AreInForce orders passed (k.cycles + n)) c.as_slice-orders.ensures c.passed_by-passed-in-Some.ensures.in_force in
-    let has_then = lasted.has k.shared.inputs.lists (stalls_of k.script) (turns_in k k.cycles) r before waits may in
+    let has_then = lasted.has (opening_in k) k.shared.inputs.lists (stalls_of k.script) (turns_in k k.cycles) r before waits may in
     let machine : AgentMachine = c.go_on-lasted.new.machine in
     let charge : Charged = c.go_on-lasted.new.charge in
     let figure : Figure = c.go_on-lasted.new.figure in
@@ -271,9 +271,9 @@ invariant_of-self-else-not-lasted c =
     let reaches : Vec (Option ℕ) Global = c.go_on-lasted.new.reaches in
     let box : BoxStands (run_in k) k.plan.code (given_to (turn_of (Some r)) n (turns_in k k.cycles)) d.date agent (r ∷ before) outbox.sends counts.items =
     subst (λ m. BoxStands (run_in k) k.plan.code (given_to (turn_of (Some r)) n (turns_in k k.cycles)) m agent (r ∷ before) outbox.sends counts.items) (on_date k is d agent pick r before t.2 date date_is)
-    (lasted.boxed k.shared.inputs.lists (stalls_of k.script) (turns_in k k.cycles) r before waits may) in
+    (lasted.boxed (opening_in k) k.shared.inputs.lists (stalls_of k.script) (turns_in k k.cycles) r before waits may) in
     let size = same_size k is d agent pick date date_is c.index_mut-in-Some-4.result.now outbox c.index_mut-in-Some-4.ensures.value lasted.size in
-    let reached = reached_given k is d agent pick r before t.2 n (turns n (omega arith)) date date_is reaches.items lasted.reaching (lasted.reached k.shared.inputs.lists (stalls_of k.script) (turns_in k k.cycles) r before waits may) in
+    let reached = reached_given k is d agent pick r before t.2 n (turns n (omega arith)) date date_is reaches.items lasted.reaching (lasted.reached (opening_in k) k.shared.inputs.lists (stalls_of k.script) (turns_in k k.cycles) r before waits may) in
     let one : OneStands (run_in k) k.plan.code (given_to (turn_of (Some r)) n (turns_in k k.cycles)) k.plan.until d.date agent (r ∷ before) charge machine waits figure seat copies.items =
     subst (λ m. OneStands (run_in k) k.plan.code (given_to (turn_of (Some r)) n (turns_in k k.cycles)) k.plan.until m agent (r ∷ before) charge machine waits figure seat copies.items) (on_date k is d agent pick r before t.2 date date_is)
     (subst (λ on. OneStands (run_in k) k.plan.code (given_to (turn_of (Some r)) n (turns_in k k.cycles)) k.plan.until date agent (r ∷ before) charge machine (if on then waits else None) figure seat copies.items) (is_on c.go_on-lasted.result.goes c.if-not-lasted.false) has_then) in
@@ -319,8 +319,8 @@ returns-then-not-lasted-clause-steady c =
     let r : Action = t.0 in
     let before : List Action = t.1 in
     let waits : Option ℕ = pending_deadline k.ready agent in
-    let pends = lasted.pending k.shared.inputs.lists (stalls_of k.script) (turns_in k k.cycles) r before waits may in
-    let goes = lasted.goes k.shared.inputs.lists (stalls_of k.script) (turns_in k k.cycles) r before waits may in
+    let pends = lasted.pending (opening_in k) k.shared.inputs.lists (stalls_of k.script) (turns_in k k.cycles) r before waits may in
+    let goes = lasted.goes (opening_in k) k.shared.inputs.lists (stalls_of k.script) (turns_in k k.cycles) r before waits may in
     let turns : (j : ℕ) → j ≤ n → turns_in k (k.cycles + j) ≡ given_to (turn_of (Some r)) j (turns_in k k.cycles) =
     λ j less. row k is d agent pick r before t.2 c.args.most high ahead j (omega (arith, less, lasted.count.1)) (λ i below. pends i (omega (arith, below, less))) in
     subst (λ (q : Progress). (between : ℕ) → q.cycles < between → between < k.cycles + n → IsOverBy q between → ⊥) c.self.view_is (given_steady k is d agent pick r before t.2 n lasted.count.0 turns pends)
@@ -347,8 +347,8 @@ returns-then-not-lasted-clause-over c =
     let r : Action = t.0 in
     let before : List Action = t.1 in
     let waits : Option ℕ = pending_deadline k.ready agent in
-    let pends = lasted.pending k.shared.inputs.lists (stalls_of k.script) (turns_in k k.cycles) r before waits may in
-    let goes = lasted.goes k.shared.inputs.lists (stalls_of k.script) (turns_in k k.cycles) r before waits may in
+    let pends = lasted.pending (opening_in k) k.shared.inputs.lists (stalls_of k.script) (turns_in k k.cycles) r before waits may in
+    let goes = lasted.goes (opening_in k) k.shared.inputs.lists (stalls_of k.script) (turns_in k k.cycles) r before waits may in
     let turns : (j : ℕ) → j ≤ n → turns_in k (k.cycles + j) ≡ given_to (turn_of (Some r)) j (turns_in k k.cycles) =
     λ j less. row k is d agent pick r before t.2 c.args.most high ahead j (omega (arith, less, lasted.count.1)) (λ i below. pends i (omega (arith, below, less))) in
     λ less. subst (λ (q : Progress). IsOverBy q (k.cycles + n)) c.self.view_is (over_by k is d agent pick r before t.2 n lasted.count.0 turns pends c.go_on-lasted.result.goes goes (is_off c.go_on-lasted.result.goes c.if-not-lasted.true))
@@ -375,8 +375,8 @@ returns-else-not-lasted-clause-steady c =
     let r : Action = t.0 in
     let before : List Action = t.1 in
     let waits : Option ℕ = pending_deadline k.ready agent in
-    let pends = lasted.pending k.shared.inputs.lists (stalls_of k.script) (turns_in k k.cycles) r before waits may in
-    let goes = lasted.goes k.shared.inputs.lists (stalls_of k.script) (turns_in k k.cycles) r before waits may in
+    let pends = lasted.pending (opening_in k) k.shared.inputs.lists (stalls_of k.script) (turns_in k k.cycles) r before waits may in
+    let goes = lasted.goes (opening_in k) k.shared.inputs.lists (stalls_of k.script) (turns_in k k.cycles) r before waits may in
     let turns : (j : ℕ) → j ≤ n → turns_in k (k.cycles + j) ≡ given_to (turn_of (Some r)) j (turns_in k k.cycles) =
     λ j less. row k is d agent pick r before t.2 c.args.most high ahead j (omega (arith, less, lasted.count.1)) (λ i below. pends i (omega (arith, below, less))) in
     subst (λ (q : Progress). (between : ℕ) → q.cycles < between → between < k.cycles + n → IsOverBy q between → ⊥) c.self.view_is (given_steady k is d agent pick r before t.2 n lasted.count.0 turns pends)

@@ -1,5 +1,5 @@
 -- What is left of the proof of `kernel::Kernel::slice`.
-use Rattle.std.proofs.Common.{◌≡◌, ◌+◌, ◌-◌, ◌*◌, ◌<◌, ◌≤◌, ap, ◌∙◌, arith}
+use Rattle.std.proofs.Common.{ap, ◌∙◌, arith}
 use Rattle.psy_kernel.specs.Progress.{Progress, stage_of}
 use Rattle.psy_kernel.proofs.SliceEnds.{end_above, end_ahead, end_within, ends_slice, fills}
 use Rattle.psy_kernel.proofs.kernel.Kernel.slice.Goals as goal

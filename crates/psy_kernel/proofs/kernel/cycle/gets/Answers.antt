@@ -2,14 +2,15 @@
 use Rattle.std.proofs.Common.{◌+◌}
 use Rattle.std.specs.Prelude.{ℕ, List, ◌∷◌, ◌≡◌, ℤ, true}
 use Rattle.psy_dates.specs.declared.plan.Plan.{Plan}
-use Rattle.psy_dates.specs.Plans.{IsPlan}
+use Rattle.psy_dates.specs.Plans.{IsPlan, system_of}
 use Rattle.psy_history.specs.declared.told.Script.{Script}
 use Rattle.psy_history.specs.Compiled.{AreInputs}
+use Rattle.psy_history.specs.Openings.{IsSound}
 use Rattle.psy_history.specs.Runs.{IsRun}
 use Rattle.psy_history.specs.Scheduled.{IsSupplied}
 use Rattle.psy_history.specs.Scripts.{order_of, stalls_of}
 use Rattle.psy_history.specs.Ways.{OfText}
-use Rattle.psy_history.specs.Actions.{Action}
+use Rattle.psy_history.specs.Actions.{Action, Opening}
 use Rattle.psy_history.specs.History.{history}
 use Rattle.psy_history.specs.Schedule.{is_pending}
 use Rattle.psy_kernel.specs.Cycles.{GetsCycle, IsCycleOf, run_of, run_turns}
@@ -18,31 +19,32 @@ use Rattle.psy_kernel.proofs.LooksBack.{AreLooksLaws, looks}
 use Rattle.psy_kernel.proofs.kernel.cycle.gets.Goals as goal
 
 -- The run of a plan's code, with these inputs and this script
-run_is : (c : goal.After-deeds) (plan : Plan) (inputs : List (List ℤ)) (script : Script) → IsPlan plan → AreInputs plan.unit inputs → IsRun (run_of plan inputs script) (OfText plan.unit) plan.code
-run_is c plan inputs script of_plan of_inputs = c.compiled.ensures.run plan.unit plan.code plan.nexts (stalls_of script) inputs of_plan.compiled of_inputs
+run_is : (c : goal.After-deeds) (plan : Plan) (opening : Opening) (inputs : List (List ℤ)) (script : Script) → IsPlan plan → AreInputs plan.unit inputs → IsSound (run_of plan opening inputs script) (OfText plan.unit) plan.code → IsRun (run_of plan opening inputs script) (OfText plan.unit) plan.code
+run_is c plan opening inputs script of_plan of_inputs sound =
+    c.openings.ensures.run (system_of plan inputs (stalls_of script)) opening (OfText plan.unit) plan.code (c.compiled.ensures.run plan.unit plan.code plan.nexts (stalls_of script) inputs of_plan.compiled of_inputs) sound
 
-supply_of : (c : goal.After-deeds) (plan : Plan) (inputs : List (List ℤ)) (script : Script) (date cycle : ℕ) → IsCycleOf plan inputs script date cycle → IsSupplied (run_of plan inputs script) (order_of plan.unit script) plan.until
-supply_of c plan inputs script date cycle h =
-    known.supplied plan inputs (stalls_of script) h.of_plan script h.of_script (c.regular.ensures.lawful (run_of plan inputs script) (OfText plan.unit) plan.code (run_is c plan inputs script h.of_plan h.of_inputs))
+supply_of : (c : goal.After-deeds) (plan : Plan) (opening : Opening) (inputs : List (List ℤ)) (script : Script) (date cycle : ℕ) → IsCycleOf plan opening inputs script date cycle → IsSupplied (run_of plan opening inputs script) (order_of plan.unit script) plan.until
+supply_of c plan opening inputs script date cycle h =
+    known.supplied plan opening inputs (stalls_of script) h.of_plan script h.of_script (c.regular.ensures.lawful (run_of plan opening inputs script) (OfText plan.unit) plan.code (run_is c plan opening inputs script h.of_plan h.of_inputs h.sound))
 
-gets_by : (c : goal.After-deeds) (plan : Plan) (inputs : List (List ℤ)) (script : Script) (date cycle agent : ℕ) (r : Action) (before : List Action) → IsCycleOf plan inputs script date cycle
-    → history (run_of plan inputs script) (date + 1) agent ≡ r ∷ before → is_pending (run_turns plan inputs script cycle) r ≡ true
-    → GetsCycle (run_of plan inputs script) plan.code (run_turns plan inputs script cycle) plan.until date cycle agent r before
-gets_by c plan inputs script date cycle agent r before h is pending =
-    let run = run_is c plan inputs script h.of_plan h.of_inputs in
-    known.gets plan inputs (stalls_of script) h.of_plan script h.of_script (supply_of c plan inputs script date cycle h) date cycle h.before h.low h.high c.on_time.ensures.due run.points h.most agent r before is
-    (c.regular.ensures.runs (run_of plan inputs script) (OfText plan.unit) plan.code run (date + 1) agent) pending
+gets_by : (c : goal.After-deeds) (plan : Plan) (opening : Opening) (inputs : List (List ℤ)) (script : Script) (date cycle agent : ℕ) (r : Action) (before : List Action) → IsCycleOf plan opening inputs script date cycle
+    → history (run_of plan opening inputs script) (date + 1) agent ≡ r ∷ before → is_pending (run_turns plan opening inputs script cycle) r ≡ true
+    → GetsCycle (run_of plan opening inputs script) plan.code (run_turns plan opening inputs script cycle) plan.until date cycle agent r before
+gets_by c plan opening inputs script date cycle agent r before h is pending =
+    let run = run_is c plan opening inputs script h.of_plan h.of_inputs h.sound in
+    known.gets plan opening inputs (stalls_of script) h.of_plan script h.of_script (supply_of c plan opening inputs script date cycle h) date cycle h.before h.low h.high c.on_time.ensures.due run.points h.sound.counts h.most agent r before is
+    (c.regular.ensures.runs (run_of plan opening inputs script) (OfText plan.unit) plan.code run (date + 1) agent) pending
 
 pub returns-clause-over : goal.returns-clause-over
-returns-clause-over c = λ plan inputs script date cycle agent h.
-    known.all_over plan inputs (stalls_of script) h.of_plan script h.of_script (supply_of c plan inputs script date cycle h) date cycle h.before h.low h.high c.on_time.ensures.earlier agent
+returns-clause-over c = λ plan opening inputs script date cycle agent h.
+    known.all_over plan opening inputs (stalls_of script) h.of_plan script h.of_script (supply_of c plan opening inputs script date cycle h) date cycle h.before h.low h.high c.on_time.ensures.earlier agent
 
 pub returns-clause-gets : goal.returns-clause-gets
-returns-clause-gets c = λ plan inputs script date cycle agent r before h is pending. gets_by c plan inputs script date cycle agent r before h is pending
+returns-clause-gets c = λ plan opening inputs script date cycle agent r before h is pending. gets_by c plan opening inputs script date cycle agent r before h is pending
 
 pub returns-clause-looks : goal.returns-clause-looks
-returns-clause-looks c = λ plan inputs script date cycle agent r before h is pending.
-    let run = run_is c plan inputs script h.of_plan h.of_inputs in
+returns-clause-looks c = λ plan opening inputs script date cycle agent r before h is pending.
+    let run = run_is c plan opening inputs script h.of_plan h.of_inputs h.sound in
     let laws : AreLooksLaws = record {
       ages = c.ring_sizes.ensures.look;
       values = c.rings.ensures.look;
@@ -55,10 +57,10 @@ returns-clause-looks c = λ plan inputs script date cycle agent r before h is pe
       queues = c.compiled.ensures.queue;
       outboxes = c.compiled.ensures.outbox;
     } in
-    looks plan inputs (stalls_of script) h.of_plan run script date cycle h.low h.high laws (supply_of c plan inputs script date cycle h) agent r before is (gets_by c plan inputs script date cycle agent r before h is pending)
+    looks plan opening inputs (stalls_of script) h.of_plan run script date cycle h.low h.high laws (supply_of c plan opening inputs script date cycle h) agent r before is (gets_by c plan opening inputs script date cycle agent r before h is pending)
 
 pub returns-clause-idle : goal.returns-clause-idle
 returns-clause-idle c = c.reaches.ensures.idle
 
 pub returns-clause-lawful : goal.returns-clause-lawful
-returns-clause-lawful c = λ plan inputs script of_plan of_inputs. c.regular.ensures.lawful (run_of plan inputs script) (OfText plan.unit) plan.code (run_is c plan inputs script of_plan of_inputs)
+returns-clause-lawful c = λ plan opening inputs script of_plan of_inputs sound. c.regular.ensures.lawful (run_of plan opening inputs script) (OfText plan.unit) plan.code (run_is c plan opening inputs script of_plan of_inputs sound)

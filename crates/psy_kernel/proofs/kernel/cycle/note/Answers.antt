@@ -1,11 +1,10 @@
 -- What is left of the proof of `kernel::cycle::note`.
-use Rattle.std.proofs.Common.{◌≡◌, ℕ, ◌+◌, ◌==◌, ◌<◌, List, Option, Some, None, length, get_or, slice_get, slice_set, sym, ap, ◌∙◌, subst, refl, inl, inr, arith, pos}
-use Rattle.std.specs.Prelude.{[]}
+use Rattle.std.proofs.Common.{◌≡◌, ℕ, ◌+◌, ◌==◌, ◌<◌, List, Option, Some, length, get_or, slice_get, slice_set, sym, ap, ◌∙◌, subst, refl, inl, inr, arith}
 use Rattle.std.proofs.lemmas.Bool.{cases_eq, cond-false, cond-true, eq-eqb, ne_eqb}
 use Rattle.std.proofs.lemmas.List.{length-set}
 use Rattle.std.proofs.lemmas.Option.{get_or_from_slice_get, slice_get-get_or, slice_get_read, slice_get_within}
 use Rattle.psy_clock.specs.declared.clock.Clock.{Clock}
-use Rattle.psy_dates.specs.Plans.{system_of}
+use Rattle.psy_dates.specs.Plans.{opened_of}
 use Rattle.psy_history.specs.Rings.{age_at}
 use Rattle.psy_history.specs.Actions.{System, publishing, variable_of}
 use Rattle.psy_meaning.specs.RingSizes.{dates_between}
@@ -35,8 +34,8 @@ set_at s start date looked back reaches new variable n at is_new = elim (cases_e
 ]
 
 pub returns-in-Some-clause-reached : goal.returns-in-Some-clause-reached
-returns-in-Some-clause-reached c = λ inputs stalls variable n at.
-    let s : System = system_of c.args.plan.now inputs stalls in
+returns-in-Some-clause-reached c = λ opening inputs stalls variable n at.
+    let s : System = opened_of c.args.plan.now opening inputs stalls in
     let looked : ℕ = c.in-Some.variable in
     let back : ℕ = c.in-Some.back in
     let reaches : List (Option ℕ) = c.args.reaches.now.items in

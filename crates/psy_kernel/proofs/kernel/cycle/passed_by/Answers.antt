@@ -1,5 +1,5 @@
 -- What is left of the proof of `kernel::cycle::passed_by`.
-use Rattle.std.proofs.Common.{◌≡◌, ◌<◌, ◌≤◌, ℕ, List, Some, length, refl, ap, ◌∙◌, slice_get, arith}
+use Rattle.std.proofs.Common.{◌≡◌, ◌<◌, ◌≤◌, ℕ, List, length, refl, ap, ◌∙◌, arith}
 use Rattle.std.proofs.lemmas.Option.{get_or_from_slice_get, slice_get_read, slice_get_within}
 use Rattle.psy_history.specs.declared.told.Order.{Order}
 use Rattle.psy_kernel.proofs.OrdersInForce.{no_more, one_more}

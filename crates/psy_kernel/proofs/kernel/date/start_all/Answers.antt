@@ -1,5 +1,5 @@
 -- What is left of the proof of `kernel::date::start_all`.
-use Rattle.std.proofs.Common.{◌≡◌, ◌<◌, true, false, [], length, None, Some, refl, sym, ap, ◌∙◌, arith, slice_set, slice_index_or}
+use Rattle.std.proofs.Common.{◌≡◌, ◌<◌, true, false, length, None, Some, refl, sym, ap, ◌∙◌, arith, slice_set, slice_index_or}
 use Rattle.std.specs.List.{slice_get}
 use Rattle.std.proofs.lemmas.Option.{slice_get_read, slice_get-get_or}
 use Rattle.std.proofs.lemmas.List.{get_or_default}

@@ -1,12 +1,12 @@
 -- What is left of the proof of `kernel::lines::tell_place`.
-use Rattle.std.proofs.Common.{◌≡◌, refl, ◌+◌, ◌-◌, ◌<◌, ◌≤◌, ℕ, length, get_or, slice_get, Some, ℤ, w32, to_z, of_z, sym, ap, subst, ◌∙◌, arith}
+use Rattle.std.proofs.Common.{◌≡◌, ◌+◌, ◌-◌, ◌<◌, ◌≤◌, ℕ, length, get_or, slice_get, Some, ℤ, w32, to_z, of_z, sym, ap, subst, ◌∙◌, arith}
 use Rattle.std.proofs.lemmas.Int.{to_z-of_z}
 use Rattle.std.proofs.lemmas.Option.{slice_get_read}
 use Rattle.psy_clock.specs.declared.clock.Clock.{Clock}
 use Rattle.psy_tree.specs.declared.unit.AgentDecl.{AgentDecl}
 use Rattle.psy_tree.specs.declared.unit.VarDecl.{VarDecl}
 use Rattle.psy_tree.specs.Parts.{agent_at, variable_at}
-use Rattle.psy_dates.specs.Plans.{system_of}
+use Rattle.psy_dates.specs.Plans.{opened_of, system_of}
 use Rattle.psy_history.specs.Ways.{OfText}
 use Rattle.psy_kernel.specs.Telling.{TellsValue}
 use Rattle.psy_kernel.proofs.Named.{agent_found, variable_found}
@@ -26,9 +26,11 @@ returns-then-place-agents-clause-told c =
     slice_get_read shared.seats.items (length plan.unit.agents) c.args.place c.index.result.now (sym c.requires.seated) among c.index.ensures in
     let named : c.bytes.result.now ≡ (agent_at plan.unit c.args.place).name =
     c.bytes.ensures ∙ ap (λ (a : AgentDecl). a.name) (agent_found plan.unit c.args.place c.as_slice-agents.result.now c.index-agents-place.result c.as_slice-agents.ensures within) in
-    λ stalls turns stands.
-    agent_told (system_of plan shared.inputs.lists stalls) turns c.args.date shared stands c.args.place c.tell_stop.result c.args.line.now c.tell_stop.new.line refl c.index.result.now c.bytes.result.now
-    ((c.regular.ensures.lawful (system_of plan shared.inputs.lists stalls) (OfText plan.unit) plan.code (c.compiled.ensures.run plan.unit plan.code plan.nexts stalls shared.inputs.lists c.requires.plan.compiled c.requires.inputs)).actions (c.args.date + 1) c.args.place)
+    λ opening stalls turns stands.
+    let s = opened_of plan opening shared.inputs.lists stalls in
+    let run = c.openings.ensures.run (system_of plan shared.inputs.lists stalls) opening (OfText plan.unit) plan.code (c.compiled.ensures.run plan.unit plan.code plan.nexts stalls shared.inputs.lists c.requires.plan.compiled c.requires.inputs) stands.sound in
+    agent_told s turns c.args.date shared stands.stands c.args.place c.tell_stop.result c.args.line.now c.tell_stop.new.line stands.later (c.openings.ensures.silent s (OfText plan.unit) plan.code run (c.args.date + 1) c.args.place) c.index.result.now c.bytes.result.now
+    ((c.regular.ensures.lawful s (OfText plan.unit) plan.code run).actions (c.args.date + 1) c.args.place)
     among at named c.tell_stop.ensures.told
 
 pub returns-clause-told : goal.returns-clause-told
@@ -50,7 +52,6 @@ returns-clause-told c =
     slice_get_read shared.committed.items (length plan.unit.variables) variable value (sym c.requires.valued) within (c.index-2.ensures ∙ ap (λ n. get_or shared.committed.items n value) same) in
     let bits : to_z w32 (of_z w32 value) ≡ value = grind (arith, to_z-of_z) in
     let told = subst (λ (z : ℤ). TellsValue v (get_or c.as_slice-2.result.now v.clock every_tick) z c.args.date c.tell_value.result c.args.line.now c.tell_value.new.line) bits c.tell_value.ensures.told in
-    let begun : 0 ≤ c.args.date = omega arith in
-    λ stalls turns stands.
-    variable_told (system_of plan shared.inputs.lists stalls) turns c.args.date shared stands c.args.place c.tell_value.result c.args.line.now c.tell_value.new.line
-    begun v (get_or c.as_slice-2.result.now v.clock every_tick) value behind named timed at told
+    λ opening stalls turns stands.
+    variable_told (opened_of plan opening shared.inputs.lists stalls) turns c.args.date shared stands.stands c.args.place c.tell_value.result c.args.line.now c.tell_value.new.line
+    stands.later v (get_or c.as_slice-2.result.now v.clock every_tick) value behind named timed at told

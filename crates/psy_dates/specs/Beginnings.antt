@@ -1,0 +1,87 @@
+-- Where a run of a plan begins: at date 0, or behind the date of a state.
+use Rattle.std.specs.Prelude.{ℕ, ◌+◌, Bool, true, false, List, [], ◌∷◌, Option, Some, None, slice_get, get_or, ℤ}
+use Rattle.psy_code.specs.Execution.{Copy}
+use Rattle.psy_code.specs.Views.{found_in}
+use Rattle.psy_history.specs.Actions.{Next, Opening, first_action}
+use Rattle.psy_history.specs.Executors.{Carried, by_code, copy_in}
+use Rattle.psy_meaning.specs.Alike.{first_copies}
+use Rattle.psy_tree.specs.Parts.{variable_at}
+use Rattle.psy_dates.specs.declared.opening.AgentOpening.{AgentOpening}
+use Rattle.psy_dates.specs.declared.opening.Opening.{Opening as State}
+use Rattle.psy_dates.specs.declared.opening.Standing.{Standing}
+use Rattle.psy_dates.specs.declared.opening.Standing.TheVariants as standing
+use Rattle.psy_dates.specs.declared.opening.StreamOpening.{StreamOpening}
+use Rattle.psy_dates.specs.declared.opening.VarOpening.{VarOpening}
+use Rattle.psy_dates.specs.declared.plan.Plan.{Plan}
+use Rattle.psy_dates.specs.Plans.{whole_of}
+
+-- ---- an agent
+
+-- Working copies with these values, one each
+abbrev pub with_values : List Copy → List ℤ → List Copy
+with_values [] values = []
+with_values (c ∷ copies) [] = []
+with_values (c ∷ copies) (value ∷ values) = record c { value = value } ∷ with_values copies values
+
+-- What an agent carries with these cells and these values of the variables that it owns
+abbrev pub carried_with : Plan → ℕ → List ℤ → List ℤ → Carried
+carried_with plan agent cells values = record { cells = cells; copies = with_values (first_copies plan.unit agent) values }
+
+-- Where its next action starts behind a date: at that date, or, where it hasn't begun, at its first one; a silent agent starts none.
+abbrev pub starts_by : Plan → ℕ → ℕ → Standing → Option Next
+starts_by plan date agent standing.Waiting = Some (first_action plan.unit plan.nexts (by_code plan.code) agent)
+starts_by plan date agent (standing.Starts number point cells copies) =
+    Some (record { number = number; point = point; start = date; carried = carried_with plan agent cells copies })
+starts_by plan date agent (standing.Silent copies) = None
+
+-- It is silent.
+abbrev pub is_silent_by : Standing → Bool
+is_silent_by (standing.Silent copies) = true
+is_silent_by standing = false
+
+-- The value that it committed last of a variable: the variable's first one where it hasn't begun
+abbrev pub committed_by : Plan → ℕ → ℕ → Standing → ℤ
+committed_by plan agent variable standing.Waiting = (variable_at plan.unit variable).init
+committed_by plan agent variable (standing.Starts number point cells copies) = copy_in (carried_with plan agent cells copies) variable
+committed_by plan agent variable (standing.Silent copies) = copy_in (carried_with plan agent [] copies) variable
+
+-- ---- a state, by number
+
+-- The agent of a number: one that hasn't begun where there is none
+abbrev pub agent_in : State → ℕ → AgentOpening
+agent_in state agent = get_or state.agents agent (record { standing = standing.Waiting; count = 0; slack = None })
+
+-- The variable of a number: one that published nothing where there is none
+abbrev pub variable_in : State → ℕ → VarOpening
+variable_in state variable = get_or state.variables variable (record { values = []; reach = None })
+
+-- The stream of a number: one that held nothing where there is none
+abbrev pub stream_in : State → ℕ → StreamOpening
+stream_in state stream = get_or state.streams stream (record { held = 0; messages = [] })
+
+-- The value of a variable that was committed last, by its owner: an input keeps its first value.
+abbrev pub committed_of : Plan → State → ℕ → Option ℕ → ℤ
+committed_of plan state variable None = (variable_at plan.unit variable).init
+committed_of plan state variable (Some owner) = committed_by plan owner variable (agent_in state owner).standing
+
+-- ---- where a run begins
+
+-- Behind a state
+abbrev pub behind : Plan → State → Opening
+behind plan state = record {
+  dates = state.date + 1;
+  starts = λ agent. found_in (slice_get state.agents agent) (λ a. starts_by plan state.date agent a.standing);
+  silent = λ agent. is_silent_by (agent_in state agent).standing;
+  committed = λ variable. committed_of plan state variable (variable_at plan.unit variable).owner;
+  published = λ variable. (variable_in state variable).values;
+  messages = λ stream. (stream_in state stream).messages;
+  count = λ agent. (agent_in state agent).count;
+  slack = λ agent. (agent_in state agent).slack;
+  reach = λ variable. (variable_in state variable).reach;
+  most = λ stream. (stream_in state stream).held;
+}
+
+-- Behind a state, or at date 0 where there is none
+abbrev pub beginning_of : Plan → Option State → Opening
+beginning_of plan None = whole_of plan
+beginning_of plan (Some state) = behind plan state

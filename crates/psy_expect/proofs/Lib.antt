@@ -1,0 +1,6 @@
+-- The lemmas of this crate, by subject.
+mod Alike
+mod Followed
+mod Fronts
+mod Picked
+mod Renamed

@@ -1,0 +1,22 @@
+//! What may stand behind the tokens of a program that isn't finished, and what is told of common slips.
+//! It may know tokens and how they are read; no bytes of a text.
+#![tactic(auto)]
+
+mod around;
+mod follow;
+mod group;
+mod hint;
+pub mod laws;
+mod phrase;
+mod slip;
+mod spelling;
+mod terminal;
+mod viable;
+
+pub use around::Around;
+pub use follow::what_may_follow;
+pub use group::Group;
+pub use hint::Hint;
+pub use phrase::{Phrase, phrases};
+pub use slip::advice;
+pub use terminal::{EVERY, Terminal};

@@ -1,0 +1,66 @@
+-- What is left of the proof of `code_lists::code_ways_of`.
+use Rattle.std.proofs.Common.{◌≡◌, ℕ, false, List, [], ◌∷◌, length, replicate, length-append, get_or, sym, ap, subst, ◌∙◌, arith}
+use Rattle.std.proofs.lemmas.List.{get_or_default}
+use Rattle.psy_code.specs.declared.instr.Instr.{Instr}
+use Rattle.psy_tree.specs.declared.unit.AgentDecl.{AgentDecl}
+use Rattle.psy_tree.specs.Parts.{agent_at, no_agent}
+use Rattle.psy_meaning.specs.CodeWays.{AreCodeLooks, AreCodeNexts, AreCodeSends, budget_of, place_of}
+use Rattle.psy_flow.specs.CodeLists.{AreCodeWaysFrom, HasAgentDelay, HasWayDelay, IsRaisedTo}
+use Rattle.psy_flow.proofs.RaisedTo.{raised_points}
+use Rattle.psy_flow.proofs.WayRows.{each_after}
+use Rattle.psy_flow.proofs.code_lists.code_ways_of.Goals as goal
+
+pub points-preserved : goal.points-preserved
+points-preserved c =
+    let unit = c.args.unit.now in
+    let code = c.args.code.now in
+    let number = c.args.number in
+    let point = c.points.point in
+    let kept = c.points.invariant in
+    let ways = c.in_ok-ways.ways in
+    let instrs = c.as_slice-in-points.ensures in
+    let place : ℕ = place_of code number point in
+    let budget : ℕ = budget_of unit number point in
+    let are : AreCodeWaysFrom code.instrs place budget ways =
+    subst (λ b. AreCodeWaysFrom code.instrs place b ways) c.budget_at.ensures
+    (subst (λ p. AreCodeWaysFrom code.instrs p c.budget_at.result ways) c.place_at.ensures
+    (subst (λ is. AreCodeWaysFrom is c.place_at.result c.budget_at.result ways) instrs c.in_ok-ways.ensures.ways)) in
+    let raised : IsRaisedTo (HasWayDelay unit code.instrs place) c.points.delays c.ways_from.new.delays =
+    subst (λ p. IsRaisedTo (HasWayDelay unit code.instrs p) c.points.delays c.ways_from.new.delays) c.place_at.ensures
+    (subst (λ is. IsRaisedTo (HasWayDelay unit is c.place_at.result) c.points.delays c.ways_from.new.delays) instrs c.in_ok-ways.ensures.delays) in
+    record {
+      marks = c.in_ok-ways.ensures.clear ∙ ap (λ (is : List Instr). replicate (length is) false) instrs;
+      row = c.ways_from.ensures.count ∙ ap length instrs;
+      nexts = omega (arith, ap length c.in_ok-push.ensures, length-append c.points.nexts (ways.nexts ∷ []), kept.nexts);
+      looks = omega (arith, ap length c.in_ok-push-2.ensures, length-append c.points.looks (ways.looks ∷ []), kept.looks);
+      sends = omega (arith, ap length c.in_ok-push-3.ensures, length-append c.points.sends (ways.sends ∷ []), kept.sends);
+      each_next = each_after (λ p. AreCodeNexts code.instrs (place_of code number p)) c.points.nexts _ ways.nexts point c.in_ok-push.ensures kept.nexts kept.each_next are.nexts;
+      each_look = each_after (λ p. AreCodeLooks code.instrs (place_of code number p)) c.points.looks _ ways.looks point c.in_ok-push-2.ensures kept.looks kept.each_look are.looks;
+      each_send = each_after (λ p. AreCodeSends code.instrs (place_of code number p) (budget_of unit number p)) c.points.sends _ ways.sends point c.in_ok-push-3.ensures kept.sends kept.each_send are.sends;
+      delays = raised_points unit code number point c.args.delays.now c.points.delays c.ways_from.new.delays kept.delays raised;
+    }
+
+pub returns-clause-ways : goal.returns-clause-ways
+returns-clause-ways c =
+    let unit = c.args.unit.now in
+    let number = c.args.number in
+    let kept = c.points.invariant in
+    let read = c.index-as_slice-number.result in
+    let is : read ≡ get_or unit.agents number read = c.index-as_slice-number.is ∙ ap (λ (xs : List AgentDecl). get_or xs number read) c.as_slice.ensures in
+    let own : agent_at unit number ≡ read = get_or_default unit.agents number no_agent read c.requires.number ∙ sym is in
+    let all : c.points.point ≡ length (agent_at unit number).points = omega (arith, c.points-test.false, c.points.auto.point-end, c.len-point-end.ensures, ap (λ (a : AgentDecl). length a.points) own) in
+    record {
+      nexts = record { count = kept.nexts ∙ all; each = kept.each_next };
+      looks = record { count = kept.looks ∙ all; each = kept.each_look };
+      sends = record { count = kept.sends ∙ all; each = kept.each_send };
+    }
+
+pub returns-clause-delays : goal.returns-clause-delays
+returns-clause-delays c =
+    let unit = c.args.unit.now in
+    let number = c.args.number in
+    let read = c.index-as_slice-number.result in
+    let is : read ≡ get_or unit.agents number read = c.index-as_slice-number.is ∙ ap (λ (xs : List AgentDecl). get_or xs number read) c.as_slice.ensures in
+    let own : agent_at unit number ≡ read = get_or_default unit.agents number no_agent read c.requires.number ∙ sym is in
+    let all : c.points.point ≡ length (agent_at unit number).points = omega (arith, c.points-test.false, c.points.auto.point-end, c.len-point-end.ensures, ap (λ (a : AgentDecl). length a.points) own) in
+    subst (λ n. IsRaisedTo (HasAgentDelay unit c.args.code.now number n) c.args.delays.now c.points.delays) all c.points.invariant.delays

@@ -1,0 +1,11 @@
+-- What each loop of `slip::first_other_value` keeps.
+use Rattle.std.proofs.Common.{◌≡◌, not, length, map}
+use Rattle.std.specs.Prelude.{find}
+use Rattle.psy_slip.specs.Words.{is_value}
+use Rattle.psy_slip.proofs.slip.first_other_value.Given as goal
+
+abbrev pub invariant-each : goal.invariant-each
+invariant-each l = find (λ w. not (is_value w)) (map (λ w. w.now) l.rest) ≡ find (λ w. not (is_value w)) (map (λ w. w.now) l.words)
+
+abbrev pub decreases-each : goal.decreases-each
+decreases-each l = length l.rest

@@ -1,0 +1,225 @@
+//! What is wrong with a line of inputs or of a script.
+ghost use Rattle.std.specs.Prelude.{◌≡◌, ◌++◌, IfOk, OnOk, find, map, not};
+ghost use Rattle.std.specs.Option.{option_copied};
+ghost use Rattle.psy_slip.specs.Slips.{agent_slip, cycle_slip, listing_slip, no_agent, no_value, order_slip, slip, slip_line};
+ghost use Rattle.psy_slip.specs.Slips.{stall_slip, statement_slip, values_slip};
+ghost use Rattle.psy_slip.specs.Words.{is_number, is_value, words_of};
+
+use crate::told::{add_count, add_of, add_of_first, add_of_word, add_quoted};
+use crate::words::{is_number, is_value, words_of};
+use psy_base::Memory;
+use std::alloc::{AllocError, Global};
+
+/// The file in which a line stands.
+#[derive(Clone, Copy, Debug, PartialEq, Eq)]
+pub enum File {
+    Inputs,
+    Script,
+}
+
+/// A line that tells the word at fault in a line, or what is missing there, by the number of the fault; nothing where nothing is told of it. The only error is
+/// want of memory.
+pub fn slip_line(alloc: Global, file: File, number: u32, line: &[u8]) -> Result<Vec<u8>, Memory>
+    ensures { IfOk result (λ text. text.items ≡ slip_line (slip file number (words_of line.now))) }
+{
+    let words = words_of(alloc, line)?;
+    let mut told = Vec::new(alloc);
+    add_slip(&mut told, file, number, words.as_slice())?;
+    Ok(whole_line(alloc, told.as_slice())?)
+}
+
+// The line, where something is told.
+fn whole_line(alloc: Global, told: &[u8]) -> Result<Vec<u8>, AllocError>
+    ensures { IfOk result (λ text. text.items ≡ slip_line told.now) }
+{
+    let mut out = Vec::new(alloc);
+    if told.is_empty() {
+        return Ok(out);
+    }
+    out.extend_from_slice(b"hint: ")?;
+    out.extend_from_slice(told)?;
+    out.push(b'\n')?;
+    Ok(out)
+}
+
+fn add_slip(out: &mut Vec<u8>, file: File, number: u32, words: &[&[u8]]) -> Result<(), AllocError>
+    ensures { OnOk result (out.new.items ≡ out.old.items ++ slip file number (map (λ w. w.now) words.now)) }
+{
+    match file {
+        File::Inputs => add_inputs(out, number, words),
+        File::Script => add_script(out, number, words),
+    }
+}
+
+fn add_inputs(out: &mut Vec<u8>, number: u32, words: &[&[u8]]) -> Result<(), AllocError>
+    ensures { OnOk result (out.new.items ≡ out.old.items ++ slip File.Inputs number (map (λ w. w.now) words.now)) }
+{
+    if number == 1 {
+        add_listing(out, words)
+    } else if number == 2 {
+        add_of_first(out, words, b" is no input of the program")
+    } else if number == 3 {
+        add_of_first(out, words, b" has its values from an earlier line")
+    } else {
+        Ok(())
+    }
+}
+
+fn add_listing(out: &mut Vec<u8>, words: &[&[u8]]) -> Result<(), AllocError>
+    ensures { OnOk result (out.new.items ≡ out.old.items ++ listing_slip (map (λ w. w.now) words.now)) }
+{
+    match words {
+        [] => Ok(()),
+        [name, values @ ..] => add_values(out, name, values),
+    }
+}
+
+#[tactic(auto, unfolding(crate::specs::Slips::values_slip))]
+fn add_values(out: &mut Vec<u8>, name: &[u8], values: &[&[u8]]) -> Result<(), AllocError>
+    ensures { OnOk result (out.new.items ≡ out.old.items ++ values_slip name.now (map (λ w. w.now) values.now)) }
+{
+    match values {
+        [] => add_no_value(out, name),
+        [_, ..] => add_of_word(
+            out,
+            first_other_value(values),
+            b" is no value: a value is 1 to 12 digits, behind a `-` where it is negative",
+        ),
+    }
+}
+
+#[tactic(auto, unfolding(crate::specs::Slips::no_value))]
+fn add_no_value(out: &mut Vec<u8>, name: &[u8]) -> Result<(), AllocError>
+    ensures { OnOk result (out.new.items ≡ out.old.items ++ no_value name.now) }
+{
+    out.extend_from_slice(b"behind ")?;
+    add_quoted(out, name)?;
+    out.extend_from_slice(b" a value is missing")?;
+    Ok(())
+}
+
+fn first_other_value<'a>(words: &[&'a [u8]]) -> Option<&'a [u8]>
+    ensures { option_copied result ≡ find (λ w. not (is_value w)) (map (λ w. w.now) words.now) }
+{
+    let mut rest = words;
+    'each: while let [word, more @ ..] = rest {
+        if !is_value(word) {
+            return Some(word);
+        }
+        rest = more;
+    }
+    None
+}
+
+fn add_script(out: &mut Vec<u8>, number: u32, words: &[&[u8]]) -> Result<(), AllocError>
+    ensures { OnOk result (out.new.items ≡ out.old.items ++ slip File.Script number (map (λ w. w.now) words.now)) }
+{
+    if number == 1 {
+        add_statement(out, words)
+    } else if number == 2 {
+        add_agent(out, words)
+    } else {
+        Ok(())
+    }
+}
+
+fn add_statement(out: &mut Vec<u8>, words: &[&[u8]]) -> Result<(), AllocError>
+    ensures { OnOk result (out.new.items ≡ out.old.items ++ statement_slip (map (λ w. w.now) words.now)) }
+{
+    match words {
+        [] => Ok(()),
+        [word, behind @ ..] => {
+            if *word == b"stall".as_slice() {
+                add_stall(out, behind)
+            } else if *word == b"order".as_slice() {
+                add_order(out, behind)
+            } else {
+                add_of(
+                    out,
+                    word,
+                    b" begins no line of a script: `stall` and `order` do",
+                )
+            }
+        }
+    }
+}
+
+#[tactic(auto, using(crate::proofs::Mapped::length_of_map, crate::proofs::Mapped::rest_of_map), unfolding(crate::specs::Slips::stall_slip))]
+fn add_stall(out: &mut Vec<u8>, words: &[&[u8]]) -> Result<(), AllocError>
+    ensures { OnOk result (out.new.items ≡ out.old.items ++ stall_slip (map (λ w. w.now) words.now)) }
+{
+    if words.len() == 4 {
+        let (_, numbers) = words.split_at(1);
+        add_of_word(
+            out,
+            first_other_number(numbers),
+            b" is no number: a number is 1 to 12 digits",
+        )
+    } else {
+        add_count(
+            out,
+            b"behind `stall` stand AGENT ACTION INSTRUCTION CYCLES; words here: ",
+            words.len(),
+        )
+    }
+}
+
+fn first_other_number<'a>(words: &[&'a [u8]]) -> Option<&'a [u8]>
+    ensures { option_copied result ≡ find (λ w. not (is_number w)) (map (λ w. w.now) words.now) }
+{
+    let mut rest = words;
+    'each: while let [word, more @ ..] = rest {
+        if !is_number(word) {
+            return Some(word);
+        }
+        rest = more;
+    }
+    None
+}
+
+#[tactic(auto, unfolding(crate::specs::Slips::order_slip))]
+fn add_order(out: &mut Vec<u8>, words: &[&[u8]]) -> Result<(), AllocError>
+    ensures { OnOk result (out.new.items ≡ out.old.items ++ order_slip (map (λ w. w.now) words.now)) }
+{
+    match words {
+        [] => out.extend_from_slice(b"behind `order` stand a cycle, and each agent of the program"),
+        [cycle, names @ ..] => add_cycle(out, cycle, names),
+    }
+}
+
+#[tactic(auto, using(crate::proofs::Mapped::length_of_map), unfolding(crate::specs::Slips::cycle_slip))]
+fn add_cycle(out: &mut Vec<u8>, cycle: &[u8], names: &[&[u8]]) -> Result<(), AllocError>
+    ensures { OnOk result (out.new.items ≡ out.old.items ++ cycle_slip cycle.now (map (λ w. w.now) names.now)) }
+{
+    if is_number(cycle) {
+        add_count(
+            out,
+            b"behind the cycle each agent of the program stands once; names here: ",
+            names.len(),
+        )
+    } else {
+        add_of(out, cycle, b" is no number: a number is 1 to 12 digits")
+    }
+}
+
+fn add_agent(out: &mut Vec<u8>, words: &[&[u8]]) -> Result<(), AllocError>
+    ensures { OnOk result (out.new.items ≡ out.old.items ++ agent_slip (map (λ w. w.now) words.now)) }
+{
+    match words {
+        [word, agent, ..] => {
+            if *word == b"stall".as_slice() {
+                add_of(out, agent, b" is no agent of the program")
+            } else {
+                add_no_agent(out)
+            }
+        }
+        _ => Ok(()),
+    }
+}
+
+#[tactic(auto, unfolding(crate::specs::Slips::no_agent))]
+fn add_no_agent(out: &mut Vec<u8>) -> Result<(), AllocError>
+    ensures { OnOk result (out.new.items ≡ out.old.items ++ no_agent) }
+{
+    out.extend_from_slice(b"a name of this order is no agent of the program")
+}

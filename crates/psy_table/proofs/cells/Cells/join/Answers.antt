@@ -1,0 +1,25 @@
+-- What is left of the proof of `cells::Cells::join`.
+use Rattle.std.proofs.Common.{◌++◌, [], get_or, drop, is_some, length, map, refl, set, sym, take, ap, ◌∙◌, arith}
+use Rattle.psy_table.specs.Cells.{joined}
+use Rattle.psy_table.specs.CellsState.{CellsState}
+use Rattle.psy_table.proofs.CellLemmas.{cells_changed, cells_unchanged, written_back}
+use Rattle.psy_table.proofs.cells.Cells.join.Goals as goal
+
+pub returns-in_ok-join_at-in-Some : goal.returns-in_ok-join_at-in-Some
+returns-in_ok-join_at-in-Some c = λ f names e.
+    let texts = c.self.inside.texts in
+    let back = written_back texts.items c.join_at.new.texts texts.len (omega (arith, texts.ok)) (c.in_ok-join_at-in-Some.ensures.as_many ∙ ap length c.as_mut_slice.ensures.value) in
+    let old : CellsState = record { names = c.self.inside.names; texts = map (λ text. text.items) texts.items } in
+    let new : CellsState = record {
+      names = c.self.inside.names;
+      texts = map (λ text. text.items) (take texts.len (c.join_at.new.texts ++ drop (length c.join_at.new.texts) texts.items));
+    } in
+    cells_changed f c.args.name.now (λ before. joined before c.args.text.now) names old new c.in-Some.place c.place.ensures.distinct (sym c.place.ensures.place ∙ c.in-Some.is)
+    (c.self.view_is ∙ e) refl
+    (ap (map (λ text. text.items)) back ∙ c.in_ok-join_at-in-Some.ensures.joined
+    ∙ ap (λ ts. set (map (λ text. text.items) ts) c.in-Some.place (joined (get_or (map (λ text. text.items) ts) c.in-Some.place []) c.args.text.now)) c.as_mut_slice.ensures.value)
+
+pub returns-in-None : goal.returns-in-None
+returns-in-None c = λ f names e.
+    let old : CellsState = record { names = c.self.inside.names; texts = map (λ text. text.items) c.self.inside.texts.items } in
+    sym c.self.view_is ∙ cells_unchanged f c.args.name.now (λ before. joined before c.args.text.now) names old (sym c.place.ensures.found ∙ ap is_some c.in-None.is) (c.self.view_is ∙ e)

@@ -1,0 +1,6 @@
+-- The definitions of this crate, by subject.
+pub mod Cells
+pub mod CellsState
+pub mod Fields
+pub mod Rows
+pub mod Stands

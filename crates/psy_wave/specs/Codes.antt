@@ -1,0 +1,20 @@
+-- Identifier codes, and values in binary.
+use Rattle.std.specs.Prelude.{ℕ, ℤ, ◌+◌, ◌/◌, ◌%◌, List, [], ◌∷◌, ◌++◌, decimal, zero, suc}
+use Rattle.std.specs.Int.{cast_unsigned, w32}
+
+-- The identifier code of the thing of a kind at a place: the kind's letter, and the place by its digits
+abbrev pub code : ℕ → ℕ → List ℕ
+code kind place = kind ∷ decimal place
+
+-- The lowest binary digits of a number, so many, the highest first
+unfoldable pub binary : ℕ → ℕ → List ℕ
+binary zero number = []
+binary (suc digits) number = binary digits (number / 2) ++ (48 + number % 2) ∷ []
+
+-- A word of 32 bits in binary
+unfoldable pub word : ℕ → List ℕ
+word number = binary 32 number
+
+-- A value of 32 bits in binary, in two's complement
+abbrev pub word_digits : ℤ → List ℕ
+word_digits value = word (cast_unsigned w32 value)

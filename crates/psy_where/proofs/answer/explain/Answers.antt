@@ -1,0 +1,24 @@
+-- What is left of the proof of `answer::explain`.
+use Rattle.std.proofs.Common.{ℕ, Vec, Global, refl, sym, ap, ◌∙◌}
+use Rattle.psy_where.specs.Explained.{of_plain, of_lack, sentence_line}
+use Rattle.psy_where.proofs.Explaining.{explains_placed}
+use Rattle.psy_where.proofs.answer.explain.Goals as goal
+
+pub returns-in-Some-clause-explains : goal.returns-in-Some-clause-explains
+returns-in-Some-clause-explains c =
+    explains_placed (λ (v : Vec ℕ Global). v.items) c.args.name.now c.args.text.now c.args.line.now c.in-Some.told.refusal c.in-Some.told.sentence.now c.placed.result c.in-Some.ensures.some
+    c.placed.ensures.placed
+
+pub returns-in-Some-read_plain-clause-explains : goal.returns-in-Some-read_plain-clause-explains
+returns-in-Some-read_plain-clause-explains c =
+    of_plain c.in-Some-read_plain.plain (sym c.in-Some-read_plain.ensures) (c.in_ok-sentence_line.ensures ∙ ap (sentence_line c.args.name.now) c.plain_sentence.ensures)
+
+pub returns-in-Some-read_lack-clause-explains : goal.returns-in-Some-read_lack-clause-explains
+returns-in-Some-read_lack-clause-explains c = of_lack c.in-Some-read_lack.lack c.in-Some-read_lack.ensures.some c.in_ok-lack_line.ensures
+
+pub returns-clause-refusal : goal.returns-clause-refusal
+returns-clause-refusal c none = record {
+  refusal = c.in_default.ensures.none refl;
+  plain = sym c.in_default-read_plain.ensures;
+  lack = c.in_default-read_lack.ensures.none refl;
+}
