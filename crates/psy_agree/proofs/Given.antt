@@ -20,6 +20,7 @@ use Rattle.psy_kernel.specs.Texts.{summary_of, text_of as lines_text}
 use Rattle.psy_make.specs.Text.{made_text}
 use Rattle.psy_history.specs.Actions.{System}
 use Rattle.psy_meaning.specs.Alike.{AllFit}
+use Rattle.psy_meaning.specs.KnownWays.{OfText}
 use Rattle.psy_meaning.specs.BufferSizes.{AreSizes}
 use Rattle.psy_history.specs.History.{history}
 use Rattle.psy_history.specs.Schedule.{Turn}
@@ -96,13 +97,13 @@ module _ (laws : AreLaws) where
   unfolding in_row
   compiled_of files name unit (bytes, few, translated) = translated_of bytes unit few.0 translated
 
-  sized_of : (unit : Whole) (until : ℕ) (supply : Supply) → (supplying unit until).gives supply → AreSizes unit supply.nexts supply.sizes
+  sized_of : (unit : Whole) (until : ℕ) (supply : Supply) → (supplying unit until).gives supply → AreSizes unit (OfText unit) supply.nexts supply.sizes
   unfolding in_row
-  sized_of unit until supply (graphs, drawn, (nexts, followed, (sizes, sized, (lines, rated, (extent, looked, (few, held, (done, feasible, same))))))) = subst (λ (s : Supply). AreSizes unit s.nexts s.sizes) (sym same) sized.0
+  sized_of unit until supply (graphs, drawn, (nexts, followed, (sizes, sized, (lines, rated, (extent, looked, (few, held, (done, feasible, same))))))) = subst (λ (s : Supply). AreSizes unit (OfText unit) s.nexts s.sizes) (sym same) sized.0
 
   -- ---- what is written
 
-  module _ (unit : Whole) (text : IsOfText unit) (until : ℕ) (nexts : List (List (List ℕ))) (sizes : Sizes) (sized : AreSizes unit nexts sizes) (inputs : List (List ℤ)) (script : Script) (are : AreInputs unit inputs) (most : until ≤ UNTIL)
+  module _ (unit : Whole) (text : IsOfText unit) (until : ℕ) (nexts : List (List (List ℕ))) (sizes : Sizes) (sized : AreSizes unit (OfText unit) nexts sizes) (inputs : List (List ℤ)) (script : Script) (are : AreInputs unit inputs) (most : until ≤ UNTIL)
       (paced : until * unit.quantum ≤ RUN) (bounds : KeepsBounds (meaning_of unit nexts inputs script) (order_of unit script) sizes until) where
     abbrev s : System
     s = meaning_of unit nexts inputs script

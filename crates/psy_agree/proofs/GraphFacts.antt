@@ -5,7 +5,7 @@ use Rattle.std.proofs.lemmas.List.Elements.{All-weaker, recursion_from_All}
 use Rattle.std.proofs.lemmas.Option.{get_or_from_slice_get, slice_get_within}
 use Rattle.psy_base.specs.declared.edge.Edge.{Edge}
 use Rattle.psy_base.specs.declared.limits.TheConstants.{COST, EDGES, NODES}
-use Rattle.psy_front.specs.Fronts.{IsName}
+use Rattle.psy_text.specs.Fronts.{IsName}
 use Rattle.psy_graph.specs.declared.graph.Graph.{Graph}
 use Rattle.psy_graph.specs.declared.graph.Node.{Node}
 use Rattle.psy_graph.specs.Graphs.{AreGraphs}

@@ -7,7 +7,7 @@ use Rattle.std.proofs.lemmas.Grind.{flat_map-append}
 use Rattle.std.proofs.lemmas.List.{length-map}
 use Rattle.psy_base.specs.declared.edge.Edge.{Edge}
 use Rattle.psy_base.specs.declared.limits.TheConstants.{AGENTS, EDGES, NODES}
-use Rattle.psy_front.specs.Fronts.{IsName}
+use Rattle.psy_text.specs.Fronts.{IsName}
 use Rattle.psy_graph.specs.declared.graph.Graph.{Graph}
 use Rattle.psy_graph.specs.declared.graph.Node.{Node}
 use Rattle.psy_log.specs.Forms.{line_of}

@@ -8,9 +8,10 @@ use Rattle.std.proofs.lemmas.List.Elements.{All-filter, All-map, recursion_from_
 use Rattle.psy_base.specs.declared.limits.TheConstants.{QUEUE, RING, RUN, UNTIL}
 use Rattle.psy_base.specs.declared.message.Message.{Message}
 use Rattle.psy_base.specs.declared.sizes.Sizes.{Sizes}
-use Rattle.psy_front.specs.Fronts.{IsName}
+use Rattle.psy_text.specs.Fronts.{IsName}
 use Rattle.psy_history.specs.Actions.{Action, Done, History, Next, Overran, System, Trapped, Verdict, next_of, publishing, stream_of, variable_of}
 use Rattle.psy_meaning.specs.BufferSizes.{AreSizes}
+use Rattle.psy_meaning.specs.KnownWays.{OfText}
 use Rattle.psy_tree.specs.Parts.{agent_at}
 use Rattle.psy_history.specs.History.{action_of, history, with_start}
 use Rattle.psy_history.specs.Lines.{Publish, Show, events, is_date, publications, publications_by, shows, stops_by, stops_of}
@@ -150,7 +151,7 @@ short_below : (size : ℕ) (o : Option ℕ) → size < 2 ^ 32 → ((n : ℕ) →
 short_below size None small below = tt
 short_below size (Some n) small below = omega (arith, small, below n refl)
 
-module _ (s : System) (turns : List (Option Turn)) (sizes : Sizes) (until : ℕ) (bare : IsBare s.unit) (buffers : AreSizes s.unit s.nexts sizes) (values : HasValues s) (plain : IsPlain s) (most : until ≤ UNTIL) (paced : until * s.unit.quantum ≤ RUN)
+module _ (s : System) (turns : List (Option Turn)) (sizes : Sizes) (until : ℕ) (bare : IsBare s.unit) (buffers : AreSizes s.unit (OfText s.unit) s.nexts sizes) (values : HasValues s) (plain : IsPlain s) (most : until ≤ UNTIL) (paced : until * s.unit.quantum ≤ RUN)
     (rings : (variable n : ℕ) → variable < length s.unit.variables → reach s turns (history s (until + 1)) variable ≡ Some n → n < get_or sizes.rings variable 0)
     (queues : (stream : ℕ) → stream < length s.unit.streams → most_held s until stream ≤ get_or sizes.queues stream 0) where
   ring_short : (variable : ℕ) → variable < length s.unit.variables → IsShort (get_or sizes.rings variable 0)

@@ -7,7 +7,7 @@ use Rattle.std.proofs.lemmas.Grind.{flat_map-append}
 use Rattle.std.proofs.lemmas.List.FromFn.{length-map-range_with_len}
 use Rattle.psy_base.specs.declared.limits.TheConstants.{UNTIL, AGENTS, VARIABLES, STREAMS}
 use Rattle.psy_base.specs.declared.sizes.Sizes.{Sizes}
-use Rattle.psy_front.specs.Fronts.{IsName}
+use Rattle.psy_text.specs.Fronts.{IsName}
 use Rattle.psy_log.specs.Forms.{line_of}
 use Rattle.psy_log.specs.declared.note.Note.{Note}
 use Rattle.psy_log.specs.declared.note.Note.TheVariants as note

@@ -1,6 +1,6 @@
 //! Bytes as they are written in a text of cases: each for itself, and some behind a `\`.
 use crate::fault::Fault;
-use itoa::Buffer;
+use psy_text::write::add_number;
 
 // What the next byte belongs to.
 #[derive(Clone, Copy)]
@@ -40,7 +40,7 @@ fn escape(byte: u8, turn: u32, into: &mut Vec<u8>) -> Result<State, Fault> {
         b's' => into.push(b' ')?,
         b'\\' => into.push(b'\\')?,
         b'e' => {}
-        b'#' => into.extend_from_slice(Buffer::new().format(turn).as_bytes())?,
+        b'#' => add_number(into, u64::from(turn))?,
         b'x' => return Ok(State::Hex),
         _ => return Err(Fault::BadEscape),
     }

@@ -1,6 +1,6 @@
 //! Numbers in a text of cases.
 use crate::fault::Fault;
-use psy_front::short;
+use psy_text::front::short;
 use std::alloc::Global;
 
 /// The number that these bytes are.

@@ -1,5 +1,5 @@
 -- What the agents share stands for the history up to a date, where it stood for the dates before.
-use Rattle.std.proofs.Common.{◌≡◌, ℕ, suc, ◌+◌, ◌-◌, ◌^◌, ◌<◌, ◌≤◌, List, [], ◌∷◌, length, get_or, Option, Some, None, refl, sym, ap, subst, ◌∙◌, add-one, arith}
+use Rattle.std.proofs.Common.{◌≡◌, ℕ, suc, ◌+◌, ◌-◌, ◌^◌, ◌<◌, ◌≤◌, false, List, [], ◌∷◌, length, get_or, Option, Some, None, refl, sym, ap, subst, ◌∙◌, add-one, arith}
 use Rattle.std.specs.Prelude.{slice_get, if◌then◌else◌, ℤ, pos}
 use Rattle.std.proofs.lemmas.Option.{get_or_from_slice_get, same_Some, slice_get-get_or, slice_get_within}
 use Rattle.std.proofs.lemmas.List.Elements.{All-get_or}
@@ -20,6 +20,7 @@ use Rattle.psy_dates.specs.declared.seat.Phase.TheVariants as phase
 use Rattle.psy_dates.specs.declared.seat.Seat.{Seat}
 use Rattle.psy_dates.specs.declared.shared.Shared.{Shared}
 use Rattle.psy_dates.specs.Messages.{nowhere, sent_from, settled_then, with_entered}
+use Rattle.psy_dates.specs.Movers.{IsBefore, NamesAll, first_in, moves_in, starts_in}
 use Rattle.psy_dates.specs.Moves.{IsNumbered, commits_at, ends_at, owner_of, seat_then, timing_in}
 use Rattle.psy_dates.specs.Outboxes.{Outboxed}
 use Rattle.psy_dates.specs.Plans.{opened_of, system_of}
@@ -28,6 +29,7 @@ use Rattle.psy_dates.specs.Standing.{IsSeated, KeepsCopy, KeepsTakes, NoneActs, 
 use Rattle.psy_dates.proofs.lemmas.Begun.{AreBegun, none_numbered, seat_of_last}
 use Rattle.psy_dates.proofs.Committed.{committed_moves, kept_moves}
 use Rattle.psy_dates.proofs.Histories.{few, numbered, was_started}
+use Rattle.psy_dates.proofs.MoversThen.{IsEarlier, before_then, falls_then, loud_then, seat_earlier, starts_then}
 use Rattle.psy_dates.proofs.Publications.{Goes, ring_moves}
 use Rattle.psy_dates.proofs.Seats.{seated_moves}
 use Rattle.psy_dates.proofs.StreamLaws.{AreStreamLaws}
@@ -64,6 +66,10 @@ pub record Moved (plan : Plan) (inputs : List (List ℤ)) (date : ℕ) (old new 
   pub taking : length new.taken.items ≡ length old.taken.items
   pub taken : (stream n : ℕ) → slice_get old.taken.items stream ≡ Some n → slice_get new.taken.items stream ≡ Some (if ends_at date (slice_get old.seats.items (stream_at plan.unit stream).receiver) then 0 else n)
   pub calendar : CalendarStands plan.unit.clocks (date + 1) new.calendar
+  pub room : new.movers.moved.size ≡ old.movers.moved.size
+  pub stopped : new.movers.stopped ≡ old.movers.stopped
+  pub names : NamesAll (moves_in plan date old.seats.items) (length old.seats.items) 0 new.movers.moved.agents
+  pub others : (agent : ℕ) (seat : Seat) → slice_get old.seats.items agent ≡ Some seat → moves_in plan date old.seats.items agent ≡ false → IsBefore new.movers.least (first_in plan agent) seat seat.phase
 
 module _ (plan : Plan) (opening : Opening) (inputs : List (List ℤ)) (stalls : ℕ → List Stall) (bare : IsBare plan.unit) (lawful : IsLawful (opened_of plan opening inputs stalls)) (laws : AreStreamLaws (opened_of plan opening inputs stalls)) (date : ℕ)
     (begun : AreBegun (opened_of plan opening inputs stalls) date) (turns : List (Option Turn))
@@ -133,6 +139,14 @@ module _ (plan : Plan) (opening : Opening) (inputs : List (List ℤ)) (stalls : 
       (ring_moves s date variable begun.behind (goes variable (clock_is variable within)) new.committed.items before
       (subst (λ n. value ≡ committed_by s (history s n) variable date (variable_of s variable).owner) (sym (add-one date)) committed) (stands.rings variable before was))
 
+  -- The seats of agents before the date
+  earlier : (agent : ℕ) (seat : Seat) → slice_get old.seats.items agent ≡ Some seat → IsEarlier s lawful date begun turns agent seat
+  earlier agent seat at = seat_earlier s lawful date begun turns agent seat (stands.seats agent seat at)
+
+  -- Of the agents that moved it is known whose action started.
+  pub starts_known : NamesAll (starts_in (date + 1) new.seats.items) (length new.seats.items) 0 new.movers.moved.agents
+  starts_known = starts_then plan date old.seats.items new.seats.items moved.seated moved.seats earlier new.movers.moved.agents moved.names
+
   pub shared_moves : SharedStands s turns (date + 1) new
   shared_moves = record {
     date = ap dates_done moved.date_is;
@@ -151,4 +165,10 @@ module _ (plan : Plan) (opening : Opening) (inputs : List (List ℤ)) (stalls : 
     taking = moved.taking ∙ stands.taking;
     taken = λ stream n is. subst (λ d. KeepsTakes d turns stream (history s (date + 1) (stream_of s stream).receiver) n) (sym (one_back date)) (subst (λ k. KeepsTakes date turns stream (history s k (stream_of s stream).receiver) n) (sym (add-one date)) (takes_stand plan opening inputs stalls bare lawful laws date begun turns old due stands unstarted new.taken.items moved.taking moved.taken stream n is));
     calendar = moved.calendar;
+    movers = record {
+      room = omega (arith, moved.room, stands.movers.room);
+      before = before_then plan date old.seats.items new.seats.items moved.seated moved.seats new.movers.least moved.others;
+      stopped = λ none. loud_then plan date old.seats.items new.seats.items moved.seated moved.seats (stands.movers.stopped (sym moved.stopped ∙ none));
+      fallen = falls_then plan date old.seats.items new.seats.items moved.seated moved.seats earlier new.movers.moved.agents moved.names;
+    };
   }

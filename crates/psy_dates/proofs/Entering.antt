@@ -1,5 +1,5 @@
 -- Messages that enter the queues of their streams, one after the other.
-use Rattle.std.proofs.Common.{◌≡◌, ℕ, suc, ◌+◌, ◌-◌, ◌<◌, ◌≤◌, Bool, true, false, List, [], ◌∷◌, ◌++◌, drop, length, get_or, Some, refl, sym, ap, subst, ◌∙◌, inl, inr, arith}
+use Rattle.std.proofs.Common.{◌≡◌, ℕ, zero, suc, ◌+◌, ◌-◌, ◌<◌, ◌≤◌, Bool, true, false, List, [], ◌∷◌, ◌++◌, drop, length, get_or, Some, refl, sym, ap, subst, ◌∙◌, inl, inr, arith}
 use Rattle.std.specs.Prelude.{if◌then◌else◌, slice_get, ◌==◌}
 use Rattle.std.proofs.lemmas.Bool.{cases_eq, cond-true, cond-false, eq-eqb, ne_eqb}
 use Rattle.std.proofs.lemmas.List.{drop_more, length-append}
@@ -12,8 +12,10 @@ use Rattle.psy_history.specs.Visible.{message_of, messages_from}
 use Rattle.psy_history.specs.Queues.{entered}
 use Rattle.psy_dates.specs.declared.seat.Seat.{Seat}
 use Rattle.psy_dates.specs.Messages.{HaveEntered, HaveRoom, sends_of, sent_by, sent_from, with_entered}
+use Rattle.psy_dates.specs.Movers.{NamesAll, ends_in}
 use Rattle.psy_dates.specs.Moves.{ends_at}
 use Rattle.psy_dates.specs.Outboxes.{Outboxed}
+use Rattle.psy_dates.proofs.lemmas.Names.{named_last, named_next}
 
 -- ---- one queue
 
@@ -123,3 +125,76 @@ module _ (some rest all : ℕ → List Message) (both : (stream : ℕ) → all s
         on stream (with_entered (some stream) queue) (entered_some stream queue is)
         ∙ ap (λ messages. Some (record queue { messages = messages })) (sym (entered_both (some stream) (rest stream) queue.messages))
         ∙ ap (λ xs. Some (with_entered xs queue)) (sym (both stream))
+
+-- ---- the agents that a list names
+
+-- The same messages
+pub same_room : (some other : ℕ → List Message) (queues : List Queued) → ((stream : ℕ) → some stream ≡ other stream) → HaveRoom some queues → HaveRoom other queues
+same_room some other queues same room stream queue at = subst (λ xs. length xs + length queue.messages ≤ queue.size) (same stream) (room stream queue at)
+
+pub same_entered : (some other : ℕ → List Message) (before after : List Queued) → ((stream : ℕ) → some stream ≡ other stream) → HaveEntered some before after → HaveEntered other before after
+same_entered some other before after same entered stream queue at = entered stream queue at ∙ ap (λ xs. Some (with_entered xs queue)) (same stream)
+
+module _ (s : System) (date : ℕ) (seats : List Seat) (outboxes : List Outboxed) (end : ℕ) where
+  -- What is left to enter, from an agent on
+  abbrev pub left_from : ℕ → ℕ → List Message
+  left_from agent = sent_from s date seats outboxes agent (end - agent)
+
+  -- What enters in all
+  abbrev pub in_all : ℕ → List Message
+  in_all = sent_from s date seats outboxes 0 end
+
+  pub all_left : (stream : ℕ) → in_all stream ≡ left_from 0 stream
+  all_left stream = (let same : end ≡ end - 0 = omega arith in ap (λ n. sent_from s date seats outboxes 0 n stream) same)
+
+  -- Agents that end no action add nothing.
+  passed_over : (n at stream : ℕ) → at + n ≤ end → ((agent : ℕ) → at ≤ agent → agent < at + n → ends_in date seats agent ≡ false) → left_from at stream ≡ left_from (at + n) stream
+  passed_over zero at stream within none = (let same : at ≡ at + 0 = omega arith in ap (λ k. left_from k stream) same)
+  passed_over (suc n) at stream within none =
+      let next : at + 1 + n ≡ at + suc n = omega arith in
+      let rest = left_from (at + 1) stream in
+      both_are s date seats outboxes at end stream (omega (arith, within))
+      ∙ ap (λ xs. xs ++ rest) (cond-false (ends_in date seats at) (messages_from s stream at date 0 (sends_of outboxes at)) [] (none at (omega arith) (omega arith)))
+      ∙ passed_over n (at + 1) stream (omega (arith, within)) (λ agent low high. none agent (omega (arith, low)) (omega (arith, high)))
+      ∙ ap (λ k. left_from k stream) next
+
+  pub passed_to : (at to : ℕ) → at ≤ to → to ≤ end → ((agent : ℕ) → at ≤ agent → agent < to → ends_in date seats agent ≡ false) → (stream : ℕ) → left_from at stream ≡ left_from to stream
+  passed_to at to low high none stream =
+      let is : at + (to - at) ≡ to = omega (arith, low) in
+      passed_over (to - at) at stream (omega (arith, low, high)) (λ agent l h. none agent l (omega (arith, h, low))) ∙ ap (λ k. left_from k stream) is
+
+  -- Up to the one that is named next all have entered, and the rest of the list names the others.
+  pub record Entered (names : List ℕ) (place : ℕ) (first now : List Queued) : Type 0 where
+    pub next : ℕ
+    pub within : next ≤ end
+    pub room : HaveRoom (left_from next) now
+    pub enters : (after : List Queued) → HaveEntered (left_from next) now after → HaveEntered in_all first after
+    pub left : NamesAll (ends_in date seats) end next (drop place names)
+
+  pub none_entered : (names : List ℕ) (first : List Queued) → NamesAll (ends_in date seats) end 0 names → HaveRoom in_all first → Entered names 0 first first
+  none_entered names first all room = record {
+    next = 0;
+    within = omega arith;
+    room = same_room in_all (left_from 0) first all_left room;
+    enters = λ after on. same_entered (left_from 0) in_all first after (λ stream. sym (all_left stream)) on;
+    left = all;
+  }
+
+  module _ (names : List ℕ) (place : ℕ) (first now : List Queued) (e : Entered names place first now) where
+    -- There is room for those of the one that is named next, and of those behind it.
+    pub room_next : place < length names → HaveRoom (left_from (get_or names place 0)) now
+    room_next l =
+        let (up, inside, gap, rest) = named_next (ends_in date seats) end e.next names place l e.left in
+        same_room (left_from e.next) (left_from (get_or names place 0)) now (passed_to e.next (get_or names place 0) up (omega (arith, inside)) gap) e.room
+
+    pub enters_next : place < length names → (after : List Queued) → HaveEntered (left_from (get_or names place 0)) now after → HaveEntered in_all first after
+    enters_next l after on =
+        let (up, inside, gap, rest) = named_next (ends_in date seats) end e.next names place l e.left in
+        e.enters after (same_entered (left_from (get_or names place 0)) (left_from e.next) now after (λ stream. sym (passed_to e.next (get_or names place 0) up (omega (arith, inside)) gap stream)) on)
+
+    -- Once all were gone through all have entered.
+    pub all_entered : length names ≤ place → HaveEntered in_all first now
+    all_entered l =
+        let none = named_last (ends_in date seats) end e.next names place l e.left in
+        let over : end - end ≡ 0 = omega arith in
+        e.enters now (λ stream queue at. at ∙ ap (λ xs. Some (with_entered xs queue)) (sym (passed_to e.next end e.within (omega arith) none stream ∙ ap (λ n. sent_from s date seats outboxes end n stream) over)))

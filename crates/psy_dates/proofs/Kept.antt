@@ -15,8 +15,9 @@ use Rattle.psy_dates.specs.declared.seat.Phase.{Phase}
 use Rattle.psy_dates.specs.declared.seat.Phase.TheVariants as phase
 use Rattle.psy_dates.specs.declared.seat.Seat.{Seat}
 use Rattle.psy_dates.specs.Moves.{ends_at, ends_by, seat_by, seat_then}
-use Rattle.psy_dates.specs.Standing.{IsSeated, KeepsSends, KeepsTakes, phase_by, phase_of}
+use Rattle.psy_dates.specs.Standing.{IsSeated, KeepsSends, KeepsTakes, phase_of}
 use Rattle.psy_dates.proofs.lemmas.Begun.{ends_none, seat_of_last}
+use Rattle.psy_dates.proofs.lemmas.Moving.{never_waits}
 use Rattle.psy_dates.proofs.Endings.{tells}
 use Rattle.psy_dates.proofs.Histories.{goes_on, numbered, starts, stays, was_started}
 use Rattle.psy_dates.proofs.Phases.{ended_before}
@@ -81,12 +82,6 @@ goes_still timing date seat l = elim (cases_Bool (ends_at date (Some seat))) [
   | inl ends ↦ absurd (omega (arith, l, starts_there timing date seat ends))
   | inr still ↦ still
 ]
-
-never_waits : (silent pending done : Bool) → phase_by silent pending done ≡ phase.Waiting → ⊥
-never_waits true pending done e = cc
-never_waits false true done e = cc
-never_waits false false true e = cc
-never_waits false false false e = cc
 
 module _ (s : System) (lawful : IsLawful s) (date : ℕ) (turns : List (Option Turn)) (agent : ℕ) (seat : Seat) (late : seat.deadline ≤ date → seat.phase ≢ phase.Acting) (stands : IsSeated (s.opening.silent agent) s.opening.dates (date - 1) turns (history s date agent) seat) (X : Type 0) (nothing : X) (of : Action → X) (x : X) (kept : Kept nothing of (date - 1) turns (history s date agent) x) where
   -- It is gone where the action ends.

@@ -2,12 +2,14 @@
 pub mod lemmas
 mod Calendars
 mod Committed
+mod Committing
 mod Dates
 mod Endings
 mod Entering
 mod Histories
 mod Kept
 mod Lists
+mod MoversThen
 mod Opened
 mod Phases
 mod Publications

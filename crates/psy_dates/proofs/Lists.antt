@@ -1,6 +1,6 @@
 -- Items of lists by number.
-use Rattle.std.proofs.Common.{◌≡◌, ℕ, zero, suc, ◌+◌, ◌<◌, ◌≤◌, List, [], ◌∷◌, ◌++◌, None, Some, length, get_or, refl, ap, subst, ◌∙◌, arith}
-use Rattle.std.specs.List.{flat_map, range_with_len, slice_get, slice_set}
+use Rattle.std.proofs.Common.{◌≡◌, ℕ, zero, suc, ◌+◌, ◌<◌, ◌≤◌, List, ◌++◌, None, length, get_or, refl, ap, subst, ◌∙◌, arith}
+use Rattle.std.specs.List.{flat_map, range_with_len, slice_get}
 use Rattle.std.specs.Option.{unwrap_or}
 use Rattle.std.proofs.lemmas.List.{get_or_default}
 use Rattle.std.proofs.lemmas.Option.{unwrap_or-slice_get}
@@ -13,19 +13,6 @@ pub part_none : {X Y : Type 0} (parts : X → List Y) (xs ys : List X) (i k : �
 part_none parts xs ys i k x d e same l none =
     let is : get_or ys i x ≡ get_or xs i d = ap (λ zs. get_or zs i x) same ∙ get_or_default xs i x d l in
     subst (λ z. e ≡ get_or (parts z) k e) is (get_or_none (parts (get_or ys i x)) k e none)
-
--- A list that was written to
-pub slice_get_same : {X : Type 0} (xs : List X) (i : ℕ) (x : X) → i < length xs → slice_get (slice_set xs i x) i ≡ Some x
-slice_get_same [] i x l = absurd (omega (arith, l))
-slice_get_same (y ∷ xs) zero x l = refl
-slice_get_same (y ∷ xs) (suc i) x l = slice_get_same xs i x (omega (arith, l))
-
-pub slice_get_other : {X : Type 0} (xs : List X) (i k : ℕ) (x : X) → (k ≡ i → ⊥) → slice_get (slice_set xs i x) k ≡ slice_get xs k
-slice_get_other [] i k x other = refl
-slice_get_other (y ∷ xs) zero zero x other = absurd (other refl)
-slice_get_other (y ∷ xs) zero (suc k) x other = refl
-slice_get_other (y ∷ xs) (suc i) zero x other = refl
-slice_get_other (y ∷ xs) (suc i) (suc k) x other = slice_get_other xs i k x (λ e. other (ap suc e))
 
 -- Lists by number, one behind the other, that are the same for each number below a limit
 pub same_joined : {X : Type 0} (f g : ℕ → List X) (limit : ℕ) → ((k : ℕ) → k < limit → f k ≡ g k) → (from n : ℕ) → from + n ≤ limit → flat_map f (range_with_len from n) ≡ flat_map g (range_with_len from n)

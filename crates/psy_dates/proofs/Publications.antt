@@ -9,6 +9,7 @@ use Rattle.psy_dates.specs.Calendars.{CalendarStands}
 use Rattle.psy_history.specs.Actions.{History, System, publishing, variable_of}
 use Rattle.psy_history.specs.History.{history}
 use Rattle.psy_history.specs.Lines.{is_date}
+use Rattle.psy_meaning.specs.KnownWays.{OfText}
 use Rattle.psy_meaning.specs.RingSizes.{IsRingSize}
 use Rattle.psy_history.specs.Visible.{published, published_before, published_behind, published_by}
 use Rattle.psy_history.specs.Rings.{ring_of}
@@ -53,7 +54,7 @@ ring_moves s date variable later goes values ring committed stands =
     let size = length ring in
     let long : length (ring_then s values date variable ring) ≡ size = same_size at (value_by s values date variable owner) ring in
     record {
-      size = subst (IsRingSize s.unit s.nexts variable) (sym long) stands.size;
+      size = subst (IsRingSize s.unit (OfText s.unit) s.nexts variable) (sym long) stands.size;
       values = ap (λ value. if at then take size (value ∷ ring) else ring) (value_is s (history s (date + 1)) values date variable owner committed ∙ published_now s (history s (date + 1)) variable date s.opening.dates later)
           ∙ ap (λ held. if at then take size (published s (history s (date + 1)) variable date ∷ held) else held) stands.values
           ∙ sym (goes size)

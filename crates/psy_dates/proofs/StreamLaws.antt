@@ -7,15 +7,14 @@ use Rattle.psy_base.specs.declared.message.Message.{Message}
 use Rattle.psy_budget.specs.declared.charge.Stall.{Stall}
 use Rattle.psy_code.specs.declared.code.Code.{Code}
 use Rattle.psy_tree.specs.declared.unit.StreamDecl.{StreamDecl}
-use Rattle.psy_tree.specs.declared.unit.Unit.{Unit as Whole}
 use Rattle.psy_history.specs.Actions.{Action, Opening, System}
 use Rattle.psy_history.specs.History.{history}
 use Rattle.psy_meaning.specs.Kept.{IsSentOf}
 use Rattle.psy_meaning.specs.QueueSizes.{IsQueueSize}
 use Rattle.psy_history.specs.Queues.{entered, entering, queue_of, settled}
 use Rattle.psy_history.specs.Runs.{IsRun}
-use Rattle.psy_history.specs.Ways.{IsSentBy, OfText, Ways}
-use Rattle.psy_history.specs.WaySizes as by_ways
+use Rattle.psy_history.specs.Ways.{IsSentBy}
+use Rattle.psy_meaning.specs.KnownWays.{OfText, Ways}
 use Rattle.psy_dates.specs.declared.plan.Plan.{Plan}
 use Rattle.psy_dates.specs.Plans.{opened_of}
 
@@ -23,7 +22,7 @@ use Rattle.psy_dates.specs.Plans.{opened_of}
 pub record AreStreamLaws (s : System) : Type 0 where
   pub next : (date stream : ℕ) → s.opening.dates ≤ date → stream < length s.unit.streams → queue_of s (date + 1) stream ≡ entered (entering s date stream) (settled s date stream (queue_of s date stream))
   pub look : (date stream agent : ℕ) (decl : StreamDecl) (r : Action) (before : List Action) → slice_get s.unit.streams stream ≡ Some decl → decl.receiver ≡ agent → history s (date + 1) agent ≡ r ∷ before → date < r.deadline → length (r.seen stream) ≤ length (queue_of s (date + 1) stream)
-  pub held : (date stream size : ℕ) → stream < length s.unit.streams → IsQueueSize s.unit s.nexts stream size → size ≤ QUEUE → length (queue_of s date stream) ≤ size + length (s.opening.messages stream)
+  pub held : (date stream size : ℕ) → stream < length s.unit.streams → IsQueueSize s.unit (OfText s.unit) s.nexts stream size → size ≤ QUEUE → length (queue_of s date stream) ≤ size + length (s.opening.messages stream)
   pub fit : (date agent : ℕ) (r : Action) (before : List Action) → history s date agent ≡ r ∷ before → All (IsSentOf s.unit) r.deeds.sends
 
 -- What holds of each run
@@ -36,20 +35,19 @@ Looks s = (date stream agent : ℕ) (decl : StreamDecl) (r : Action) (before : L
     → (filter (λ (m : Message). nat_le m.visible r.start) (queue_of s (date + 1) stream) ≡ r.seen stream) × (take (length (r.seen stream)) (queue_of s (date + 1) stream) ≡ r.seen stream)
 
 pub stream_laws : (plan : Plan) (opening : Opening) (inputs : List (List ℤ)) (stalls : ℕ → List Stall) → IsRun (opened_of plan opening inputs stalls) (OfText plan.unit) plan.code
-    → ((unit : Whole) (nexts : List (List (List ℕ))) (stream size : ℕ) → IsQueueSize unit nexts stream size → by_ways.IsQueueSize unit (OfText unit) nexts stream size)
     → OfEach (λ s ways. (dates agent : ℕ) → All (λ r. All (IsSentBy ways s.unit) r.deeds.sends) (history s dates agent))
     → OfEach (λ s ways. (date stream : ℕ) → s.opening.dates ≤ date → stream < length s.unit.streams → queue_of s (date + 1) stream ≡ entered (entering s date stream) (settled s date stream (queue_of s date stream)))
     → OfEach (λ s ways. Looks s)
-    → OfEach (λ s ways. (date stream size : ℕ) → stream < length s.unit.streams → by_ways.IsQueueSize s.unit ways s.nexts stream size → size ≤ QUEUE → length (queue_of s date stream) ≤ size + length (s.opening.messages stream))
+    → OfEach (λ s ways. (date stream size : ℕ) → stream < length s.unit.streams → IsQueueSize s.unit ways s.nexts stream size → size ≤ QUEUE → length (queue_of s date stream) ≤ size + length (s.opening.messages stream))
     → AreStreamLaws (opened_of plan opening inputs stalls)
-stream_laws plan opening inputs stalls run of_text sends next look held =
+stream_laws plan opening inputs stalls run sends next look held =
     let s = opened_of plan opening inputs stalls in
     let ways = OfText plan.unit in
     record {
       next = next s ways plan.code run;
       look = λ date stream agent decl r before at is there early.
           (let first = (look s ways plan.code run date stream agent decl r before at is there early).1 in omega (arith, ap length first, length-take (length (r.seen stream)) (queue_of s (date + 1) stream)));
-      held = λ date stream size less is small. held s ways plan.code run date stream size less (of_text plan.unit plan.nexts stream size is) small;
+      held = λ date stream size less is small. held s ways plan.code run date stream size less is small;
       fit = λ date agent r before is.
           All-weaker (IsSentBy ways plan.unit) (IsSentOf plan.unit) (λ sent by. by.fits) r.deeds.sends
           (All-head (λ (x : Action). All (IsSentBy ways plan.unit) x.deeds.sends) r before (subst (All (λ (x : Action). All (IsSentBy ways plan.unit) x.deeds.sends)) is (sends s ways plan.code run date agent)));

@@ -1,2 +1,7 @@
 -- Lemmas that crates above may cite, by subject.
 pub mod Begun
+pub mod Moving
+pub mod Names
+pub mod OwnCopies
+pub mod Placed
+pub mod Sets

@@ -8,6 +8,7 @@ use Rattle.psy_meaning.specs.BufferSizes.{AreSizes}
 use Rattle.psy_meaning.specs.Demand.{IsFeasible}
 use Rattle.psy_history.specs.Compiled.{AreEdgesOf, IsCompiled, coded}
 use Rattle.psy_dates.specs.declared.plan.Plan.{Plan}
+use Rattle.psy_meaning.specs.KnownWays.{OfText}
 
 -- The history of a plan's code, with these inputs and stalls
 abbrev pub system_of : Plan → List (List ℤ) → (ℕ → List Stall) → System
@@ -30,5 +31,5 @@ pub record IsFeasibleFor (plan : Plan) : Type 0 where
 -- Code, points and buffers are those of the plan's program, and its demand is supplied.
 pub record IsPlan (plan : Plan) : Type 0 where
   pub compiled : IsCompiled plan.unit plan.code plan.nexts
-  pub buffers : AreSizes plan.unit plan.nexts plan.sizes
+  pub buffers : AreSizes plan.unit (OfText plan.unit) plan.nexts plan.sizes
   pub supplied : IsFeasibleFor plan

@@ -4,22 +4,25 @@ use Rattle.psy_arith.specs.declared.operators.Trap.{Trap}
 use Rattle.psy_base.specs.declared.limits.TheConstants.{QUEUE}
 use Rattle.psy_code.specs.declared.look.Sent.{Sent}
 use Rattle.psy_queue.specs.Order.{Queued}
-use Rattle.psy_history.specs.Actions.{Action, History, System, Verdict, Done, Trapped, is_done, is_silent, stream_of, variable_of}
+use Rattle.psy_history.specs.Actions.{Action, History, System, Verdict, Done, Trapped, is_done, is_silent, stream_of, timing, variable_of}
 use Rattle.psy_history.specs.Executors.{copy_in}
-use Rattle.psy_tree.specs.Parts.{agent_at}
 use Rattle.psy_base.specs.Extremes.{IsGreatest}
 use Rattle.psy_history.specs.History.{history}
+use Rattle.psy_meaning.specs.KnownWays.{OfText}
 use Rattle.psy_meaning.specs.QueueSizes.{HasSendsTo, IsQueueSize}
 use Rattle.psy_meaning.specs.RingSizes.{IsRingSize}
+use Rattle.psy_meaning.specs.Timing.{first_date}
 use Rattle.psy_history.specs.Schedule.{Turn, is_pending}
 use Rattle.psy_history.specs.Visible.{committed_in, taken}
 use Rattle.psy_history.specs.Queues.{queue_of}
 use Rattle.psy_history.specs.Rings.{ring_of}
 use Rattle.psy_dates.specs.Calendars.{CalendarStands}
+use Rattle.psy_dates.specs.declared.movers.Movers.{Movers}
 use Rattle.psy_dates.specs.declared.seat.Phase.{Phase}
 use Rattle.psy_dates.specs.declared.seat.Phase.TheVariants as phase
 use Rattle.psy_dates.specs.declared.seat.Seat.{Seat}
 use Rattle.psy_dates.specs.declared.shared.Shared.{Shared}
+use Rattle.psy_dates.specs.Movers.{AreBefore, NamesAll, NoneStopped, falls_in}
 use Rattle.psy_dates.specs.Outboxes.{Outboxed}
 
 -- How many dates are done, by the last one
@@ -93,14 +96,14 @@ KeepsCopy date turns variable (r ∷ before) value = phase_of date turns r ≡ p
 
 -- The ring of a variable has the size that it needs, and holds the values published last in the first dates.
 pub record RingStands (s : System) (dates variable : ℕ) (ring : List ℤ) : Type 0 where
-  pub size : IsRingSize s.unit s.nexts variable (length ring)
+  pub size : IsRingSize s.unit (OfText s.unit) s.nexts variable (length ring)
   pub values : ring ≡ ring_of s dates variable (length ring)
 
 -- The queue of a stream has the places that it needs, and as many more as the stream held messages when the history began; and it holds what
 -- the stream holds when the first so many dates are done.
 pub record QueueStands (s : System) (dates stream : ℕ) (queue : Queued) : Type 0 where
   pub places : ℕ
-  pub size : IsQueueSize s.unit s.nexts stream places
+  pub size : IsQueueSize s.unit (OfText s.unit) s.nexts stream places
   pub small : places ≤ QUEUE
   pub room : queue.size ≡ places + length (s.opening.messages stream)
   pub messages : queue.messages ≡ queue_of s dates stream
@@ -112,13 +115,21 @@ KeepsSends date turns (r ∷ before) sends = phase_of date turns r ≡ phase.End
 
 -- The outbox of an agent has the size that it needs, and keeps what was sent.
 pub record OutboxStands (s : System) (date : ℕ) (turns : List (Option Turn)) (agent : ℕ) (actions : List Action) (outbox : Outboxed) : Type 0 where
-  pub size : IsGreatest (HasSendsTo s.unit (agent_at s.unit agent)) outbox.size
+  pub size : IsGreatest (HasSendsTo s.unit (OfText s.unit) s.nexts agent) outbox.size
   pub sends : KeepsSends date turns actions outbox.sends
 
 -- How many messages of a stream its receiver took in an action that it has ended is kept; before its first action there are none.
 abbrev pub KeepsTakes : ℕ → List (Option Turn) → ℕ → List Action → ℕ → Type 0
 KeepsTakes date turns stream [] n = n ≡ 0
 KeepsTakes date turns stream (r ∷ before) n = phase_of date turns r ≡ phase.Ended → n ≡ length (taken r stream)
+
+-- It is known before which date no seat changes, whether an agent was stopped, and who fell silent at the last of so many dates; and there is
+-- room for the name of each agent.
+pub record MoversStand (s : System) (dates : ℕ) (seats : List Seat) (movers : Movers) : Type 0 where
+  pub room : length s.unit.agents ≤ movers.moved.size
+  pub before : AreBefore (λ agent. first_date (timing s agent)) movers.least seats
+  pub stopped : movers.stopped ≡ false → NoneStopped seats
+  pub fallen : NamesAll (falls_in dates seats) (length seats) 0 movers.moved.agents
 
 -- The shared state stands for the history of the first so many dates, where the cycles done went to these turns.
 pub record SharedStands (s : System) (turns : List (Option Turn)) (dates : ℕ) (shared : Shared) : Type 0 where
@@ -143,6 +154,7 @@ pub record SharedStands (s : System) (turns : List (Option Turn)) (dates : ℕ) 
   pub taken : (stream n : ℕ) → slice_get shared.taken.items stream ≡ Some n
       → KeepsTakes (dates - 1) turns stream (history s dates (stream_of s stream).receiver) n
   pub calendar : CalendarStands s.unit.clocks dates shared.calendar
+  pub movers : MoversStand s dates shared.seats.items shared.movers
 
 -- No seat whose deadline is this date or was before is acting.
 abbrev pub NoneActs : ℕ → List Seat → Type 0

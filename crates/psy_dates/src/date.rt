@@ -1,11 +1,12 @@
 //! What a date does: actions that end commit, messages go and enter, variables publish, actions start.
-ghost use Rattle.std.specs.Prelude.{◌≡◌, ℕ, ◌+◌, ◌*◌, ◌≤◌, List, [], Some, slice_get};
+ghost use Rattle.std.specs.Prelude.{◌≡◌, ℕ, ◌+◌, ◌*◌, ◌≤◌, List, [], Some, length, slice_get};
 ghost use Rattle.psy_budget.specs.declared.charge.Stall.{Stall};
 ghost use Rattle.psy_history.specs.Compiled.{AreInputs};
 ghost use Rattle.psy_history.specs.Scheduled.{turns_of};
 ghost use Rattle.psy_history.specs.Actions.{Opening};
 ghost use Rattle.psy_history.specs.Openings.{IsSound};
-ghost use Rattle.psy_history.specs.Ways.{OfText};
+ghost use Rattle.psy_meaning.specs.KnownWays.{OfText};
+ghost use Rattle.psy_dates.specs.Movers.{NamesAll, starts_in};
 ghost use Rattle.psy_dates.specs.Plans.{IsPlan, opened_of};
 ghost use Rattle.psy_dates.specs.Outboxes.{Outboxed};
 ghost use Rattle.psy_dates.specs.Standing.{Begins, GoesOn, NoneActs, SharedStands, dates_done};
@@ -53,6 +54,8 @@ pub fn at_date(shared: &mut Shared, plan: &Plan, date: u64)
         → (slice_get shared.new.outboxes.items agent ≡ slice_get shared.old.outboxes.items agent)
         × ((stream : ℕ) (decl : StreamDecl) → slice_get plan.now.unit.streams stream ≡ Some decl → decl.receiver ≡ agent
         → slice_get shared.new.taken.items stream ≡ slice_get shared.old.taken.items stream) }
+    // an action that starts there is that of an agent that moved
+    ensures moved { NamesAll (starts_in (date + 1) shared.new.seats.items) (length shared.new.seats.items) 0 shared.new.movers.moved.agents }
     ensures inputs { shared.new.inputs ≡ shared.old.inputs }
 {
     compiled();
@@ -64,18 +67,30 @@ pub fn at_date(shared: &mut Shared, plan: &Plan, date: u64)
     queue_sizes();
     // the proof needs its range
     let _until = plan.until;
+    shared.movers.find(plan, date, &shared.seats);
+    let movers = shared.movers.moved.agents();
     commit_all(
-        plan.unit.variables.as_slice(),
+        plan,
         date,
         &shared.seats,
+        movers,
         &shared.ended,
         &mut shared.committed,
     );
-    settle_all(plan, date, &shared.seats, &shared.taken, &mut shared.queues);
+    settle_all(
+        plan,
+        date,
+        &shared.seats,
+        movers,
+        shared.movers.stopped,
+        &shared.taken,
+        &mut shared.queues,
+    );
     enter_all(
         plan,
         date,
         &shared.seats,
+        movers,
         &shared.outboxes,
         &mut shared.queues,
     );
@@ -88,8 +103,8 @@ pub fn at_date(shared: &mut Shared, plan: &Plan, date: u64)
         &mut shared.rings,
     );
     shared.calendar.pass(plan.unit.clocks.as_slice(), date);
-    clear_outboxes(date, &shared.seats, &mut shared.outboxes);
-    clear_takes(plan, date, &shared.seats, &mut shared.taken);
-    move_all(plan, &shared.calendar, date, &mut shared.seats);
+    clear_outboxes(date, &shared.seats, movers, &mut shared.outboxes);
+    clear_takes(plan, date, &shared.seats, movers, &mut shared.taken);
+    move_all(plan, &shared.calendar, date, movers, &mut shared.seats);
     shared.date = Some(date);
 }

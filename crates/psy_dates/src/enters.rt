@@ -6,6 +6,7 @@ ghost use Rattle.psy_meaning.specs.Kept.{IsSentOf};
 ghost use Rattle.psy_meaning.specs.Units.{IsBare};
 ghost use Rattle.psy_history.specs.Visible.{message_of as the_message, messages_from};
 ghost use Rattle.psy_dates.specs.Messages.{HaveEntered, HaveRoom, sends_of, sent_from};
+ghost use Rattle.psy_dates.specs.Movers.{NamesAll, ends_in};
 ghost use Rattle.psy_dates.specs.Moves.{ends_at};
 ghost use Rattle.psy_dates.specs.Plans.{system_of};
 
@@ -71,17 +72,27 @@ fn enter_where(plan: &Plan, ends: bool, agent: u32, end: u64, sends: &[Sent], qu
     }
 }
 
-/// The messages of the actions that end at a date enter the queues of their streams, agent by agent.
-pub fn enter_all(plan: &Plan, date: u64, seats: &[Seat], outboxes: &[Outbox], queues: &mut [Queue])
+/// The messages of the actions that end at a date enter the queues of their streams, agent by agent of those that move there.
+pub fn enter_all(
+    plan: &Plan,
+    date: u64,
+    seats: &[Seat],
+    movers: &[u32],
+    outboxes: &[Outbox],
+    queues: &mut [Queue],
+)
     requires bare { IsBare plan.now.unit }
     requires early { date ≤ 2 ^ 39 }
     requires boxed { length outboxes.now ≡ length plan.now.unit.agents }
+    requires known { All (λ agent. agent < length outboxes.now) movers.now }
+    requires movers { NamesAll (ends_in date seats.now) (length plan.now.unit.agents) 0 movers.now }
     requires sent { (agent : ℕ) → ends_at date (slice_get seats.now agent) ≡ true → All (IsSentOf plan.now.unit) (sends_of outboxes.now agent) }
     requires queued { length queues.old ≡ length plan.now.unit.streams }
     requires room { HaveRoom (sent_from (system_of plan.now [] (λ agent. [])) date seats.now outboxes.now 0 (length plan.now.unit.agents)) queues.old }
     ensures { HaveEntered (sent_from (system_of plan.now [] (λ agent. [])) date seats.now outboxes.now 0 (length plan.now.unit.agents)) queues.old queues.new }
 {
-    'agents: for agent in 0..outboxes.len() {
+    'movers: for place in 0..movers.len() {
+        let agent = movers[place] as usize;
         let ends = ends_there(date, seats, agent);
         enter_where(
             plan,

@@ -5,6 +5,7 @@ ghost use Rattle.std.specs.List.{All};
 ghost use Rattle.psy_meaning.specs.Units.{IsBare};
 ghost use Rattle.psy_dates.specs.declared.seat.Seat.{Seat as Place};
 ghost use Rattle.psy_dates.specs.Calendars.{CalendarStands};
+ghost use Rattle.psy_dates.specs.Movers.{NamesAll, moves_in};
 ghost use Rattle.psy_dates.specs.Moves.{IsNumbered, begun_at, seat_then, timing_in};
 
 use crate::calendar::Calendar;
@@ -73,18 +74,21 @@ fn moved(plan: &Plan, calendar: &Calendar, agent: usize, date: u64, seat: Seat) 
     }
 }
 
-/// What becomes of all seats at a date.
-pub fn move_all(plan: &Plan, calendar: &Calendar, date: u64, seats: &mut [Seat])
+/// What becomes of all seats at a date, by the agents that move there.
+pub fn move_all(plan: &Plan, calendar: &Calendar, date: u64, movers: &[u32], seats: &mut [Seat])
     requires bare { IsBare plan.now.unit }
     requires seated { length seats.old ≡ length plan.now.unit.agents }
     requires nexts { length plan.now.nexts ≡ length plan.now.unit.agents }
     requires calendar { CalendarStands plan.now.unit.clocks (date + 1) calendar.now }
     requires early { date ≤ 2 ^ 40 }
     requires numbered { All IsNumbered seats.old }
+    requires known { All (λ agent. agent < length seats.old) movers.now }
+    requires movers { NamesAll (moves_in plan.now date seats.old) (length seats.old) 0 movers.now }
     ensures { (agent : ℕ) (seat : Place) → slice_get seats.old agent ≡ Some seat
         → slice_get seats.new agent ≡ Some (seat_then (timing_in plan.now agent) date seat) }
 {
-    'agents: for agent in 0..seats.len() {
+    'movers: for place in 0..movers.len() {
+        let agent = movers[place] as usize;
         seats[agent] = moved(plan, calendar, agent, date, seats[agent]);
     }
 }

@@ -1,12 +1,13 @@
 //! What a date takes away from the queues of streams.
 
-ghost use Rattle.std.specs.Prelude.{◌≡◌, ℕ, ◌<◌, ◌≤◌, length, get_or, true, Some, slice_get};
+ghost use Rattle.std.specs.Prelude.{◌≡◌, ℕ, ◌<◌, ◌≤◌, false, length, get_or, true, Some, slice_get};
 ghost use Rattle.psy_queue.specs.Order.{Queued};
 ghost use Rattle.psy_tree.specs.declared.unit.Unit.{Unit as Whole};
 ghost use Rattle.psy_tree.specs.Parts.{stream_at};
 ghost use Rattle.psy_meaning.specs.Timing.{first_date};
 ghost use Rattle.psy_meaning.specs.Units.{IsBare};
 ghost use Rattle.psy_dates.specs.Messages.{gone_by, nowhere, settled_then, sweeps_by};
+ghost use Rattle.psy_dates.specs.Movers.{NamesAll, NoneStopped, moves_in};
 ghost use Rattle.psy_dates.specs.Moves.{ends_at, timing_in};
 
 use crate::due::first_of;
@@ -54,7 +55,7 @@ fn settle(plan: &Plan, agent: usize, date: u64, seat: Seat, taken: u32, queue: &
 
 /// Rids the queue of each stream of what its receiver took, where that action ends at a date, and then of what has expired, where the
 /// receiver starts there or is silent.
-pub fn settle_all(plan: &Plan, date: u64, seats: &[Seat], taken: &[u32], queues: &mut [Queue])
+fn settle_each(plan: &Plan, date: u64, seats: &[Seat], taken: &[u32], queues: &mut [Queue])
     requires bare { IsBare plan.now.unit }
     requires seated { length seats.now ≡ length plan.now.unit.agents }
     requires taking { length taken.now ≡ length plan.now.unit.streams }
@@ -75,5 +76,32 @@ pub fn settle_all(plan: &Plan, date: u64, seats: &[Seat], taken: &[u32], queues:
             taken[stream],
             &mut queues[stream],
         );
+    }
+}
+
+/// The same, by the agents that move at the date and by whether an agent was stopped: where nobody moves and none was there is nothing to do.
+pub fn settle_all(
+    plan: &Plan,
+    date: u64,
+    seats: &[Seat],
+    movers: &[u32],
+    stopped: bool,
+    taken: &[u32],
+    queues: &mut [Queue],
+)
+    requires bare { IsBare plan.now.unit }
+    requires seated { length seats.now ≡ length plan.now.unit.agents }
+    requires taking { length taken.now ≡ length plan.now.unit.streams }
+    requires queued { length queues.old ≡ length plan.now.unit.streams }
+    requires held { (stream : ℕ) (queue : Queued) → slice_get queues.old stream ≡ Some queue
+        → ends_at date (slice_get seats.now (stream_at plan.now.unit stream).receiver) ≡ true → get_or taken.now stream 0 ≤ length queue.messages }
+    requires movers { NamesAll (moves_in plan.now date seats.now) (length seats.now) 0 movers.now }
+    requires stopped { stopped ≡ false → NoneStopped seats.now }
+    ensures { (stream : ℕ) (queue : Queued) → slice_get queues.old stream ≡ Some queue
+        → slice_get queues.new stream ≡ Some (settled_then date (first_date (timing_in plan.now (stream_at plan.now.unit stream).receiver))
+        (get_or seats.now (stream_at plan.now.unit stream).receiver nowhere) (get_or taken.now stream 0) queue) }
+{
+    if stopped || !movers.is_empty() {
+        settle_each(plan, date, seats, taken, queues);
     }
 }

@@ -9,6 +9,7 @@ ghost use Rattle.psy_dates.specs.Plans.{IsPlan, system_of};
 ghost use Rattle.psy_dates.specs.Standing.{SharedStands};
 
 use crate::calendar::Calendar;
+use crate::movers::Movers;
 use crate::outbox::Outbox;
 use crate::plan::Plan;
 use crate::seat::{Phase, Seat};
@@ -39,6 +40,8 @@ pub struct Shared {
     pub inputs: Inputs,
     /// By clock its first date that isn't done.
     pub calendar: Calendar,
+    /// Who moved at the date done last, and when the next one does.
+    pub movers: Movers,
     /// The date done last; None before date 0.
     pub date: Option<u64>,
 }
@@ -138,6 +141,7 @@ impl Shared {
             seats: first_seats(alloc, plan.unit.agents.len())?,
             inputs,
             calendar: Calendar::new(alloc, plan.unit.clocks.as_slice())?,
+            movers: Movers::new(alloc, plan.unit.agents.len() as u32)?,
             date: None,
         })
     }

@@ -9,9 +9,9 @@ ghost use Rattle.psy_differ.specs.Differences.{Differs, Fits, difference_text, s
 
 use crate::compare::first_difference;
 use crate::fault::DiffFault;
-use itoa::Buffer;
 use psy_log::{Line, Note};
 use psy_notes::{TextFault, read_run};
+use psy_text::write::add_number;
 use std::alloc::{AllocError, Global};
 
 /// The first line in which two logs of runs differ, and what stands there in each; none exactly where they are the same byte for byte.
@@ -21,7 +21,7 @@ pub fn diff(alloc: Global, first: &[u8], second: &[u8]) -> Result<Option<Vec<u8>
     ensures differs { IfOk result (λ r. IfSome r (λ text. Differs first.now second.now text.items)) }
     ensures logs { OnOk result (((notes : List Note) × IsText run_begins first.now notes) × ((notes : List Note) × IsText run_begins second.now notes)) }
     ensures first { (line : ℕ) → result ≡ Err (First line) → BreaksAt run_begins first.now line }
-    ensures second { (line : ℕ) → result ≡ Err (Second line) → BreaksAt run_begins second.now line }
+    ensures second { (line : ℕ) → result ≡ Err (Second line) → ((notes : List Note) × IsText run_begins first.now notes) × BreaksAt run_begins second.now line }
 {
     let notes = match read_run(alloc, first) {
         Ok(notes) => notes,
@@ -60,7 +60,7 @@ fn difference_text(
     ensures { IfOk result (λ text. text.items ≡ difference_text place (slice_get (map line_of notes.now) place) (slice_get (map line_of others.now) place)) }
 {
     let mut out = Vec::from_slice(alloc, b"line ")?;
-    out.extend_from_slice(Buffer::new().format(place as u64 + 1).as_bytes())?;
+    add_number(&mut out, place as u64 + 1)?;
     out.push(b'\n')?;
     add_side(&mut out, b'-', notes, place)?;
     add_side(&mut out, b'+', others, place)?;

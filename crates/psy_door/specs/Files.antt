@@ -3,7 +3,6 @@ use Rattle.std.specs.Prelude.{ℕ, ◌+◌, List, [], min, Option, None, Some, u
 use Rattle.std.specs.Ordering.{nat_cmp}
 use Rattle.std.specs.Cmp.Lexicographic.{slice_cmp}
 use Rattle.std.specs.FinMap.{FinMap, get, from_entries}
-use Rattle.psy_base.specs.declared.limits.TheConstants.{FILE_BYTES}
 
 -- Files by name: a finite map from the bytes of a name to the bytes of the file
 abbrev pub Files : Type 0
@@ -30,6 +29,6 @@ files_of pairs = from_entries pairs
 abbrev pub named : List ℕ → Pairs → Option (List ℕ)
 named name pairs = option_map (λ p. p.1) (find (λ p. bytes_eq name p.0) pairs)
 
--- The bytes that a call takes from a file of this length: all, but at most one more than a shelf gives
-abbrev pub taken_of : ℕ → ℕ
-taken_of bytes = min bytes (FILE_BYTES + 1)
+-- The bytes that a call takes from a file of so many, where it may have so many: all, but at most one more than it may have
+abbrev pub taken_of : ℕ → ℕ → ℕ
+taken_of most bytes = min bytes (most + 1)

@@ -1,11 +1,10 @@
 //! Files in memory whose calls never fail.
 ghost use Rattle.std.specs.Prelude.{◌≡◌, ◌≢◌, ◌<◌, ◌≤◌, Some, [], map, length, vec_len, IfOk};
-ghost use Rattle.psy_base.specs.declared.limits.TheConstants.{FILE_BYTES};
 ghost use Rattle.psy_door.specs.Files.{files_of, bytes_under, taken_of};
 
 use crate::files;
 use crate::shelf::{FetchFault, Shelf};
-use psy_base::{Text, limits};
+use psy_base::Text;
 use std::alloc::Global;
 use std::marker::Model;
 
@@ -44,19 +43,19 @@ impl Shelf for CleanShelf {
     ghost taken = { λ s. s.taken };
 
     #[tactic(auto, using(crate::proofs::lemmas::FilesLemmas::get_files_of))]
-    fn fetch(&mut self, alloc: Global, name: &str) -> Result<Vec<u8>, FetchFault>
+    fn fetch_most(&mut self, alloc: Global, name: &str, most: usize) -> Result<Vec<u8>, FetchFault>
         ensures state { self.new ≡ record self.old {
-          taken = taken_of (length (bytes_under (files_of self.old.files) name.now));
+          taken = taken_of most (length (bytes_under (files_of self.old.files) name.now));
         } }
-        ensures within { IfOk result (λ bytes. vec_len bytes ≤ FILE_BYTES) }
+        ensures within { IfOk result (λ bytes. vec_len bytes ≤ most) }
         ensures whole { IfOk result (λ bytes. bytes.items ≡ bytes_under (files_of self.old.files) name.now) }
         ensures never { result ≢ Err FetchFault.Failed }
         ensures longer { result ≡ Err FetchFault.TooLong →
-            FILE_BYTES < length (bytes_under (files_of self.old.files) name.now) }
+            most < length (bytes_under (files_of self.old.files) name.now) }
     {
         let found = files::bytes_of(self.files.as_slice(), name.as_bytes());
         let bytes = found.unwrap_or(&[]);
-        self.taken = bytes.len().min(limits::FILE_BYTES + 1);
-        files::copied(alloc, bytes)
+        self.taken = files::taken_of(most, bytes.len());
+        files::copied(alloc, bytes, most)
     }
 }

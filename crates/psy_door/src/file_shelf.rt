@@ -1,11 +1,10 @@
 //! The files of the system.
 ghost use Rattle.std.specs.Prelude.{◌≡◌, ◌≢◌, ◌+◌, ◌<◌, ◌≤◌, None, [], ⊤, vec_len, IfOk, OnOk};
-ghost use Rattle.psy_base.specs.declared.limits.TheConstants.{FILE_BYTES};
 ghost use Rattle.psy_door.specs.Faults.{Rose};
 ghost use Rattle.psy_door.specs.States.{counted_up};
 
 use crate::shelf::{FetchFault, Shelf};
-use psy_base::{Text, limits};
+use psy_base::Text;
 use std::alloc::{AllocError, Global};
 use std::fs;
 use std::io::{self, Read};
@@ -54,16 +53,21 @@ enum ReadFault {
     Memory(AllocError),
 }
 
-// Adds the bytes of the file, at most one more than a shelf gives, and counts those that it takes.
-fn read_some<F: Read>(file: &mut F, bytes: &mut Vec<u8>, taken: &mut usize) -> Result<(), ReadFault>
+// Adds the bytes of the file, at most one more than it may have, and counts those that it takes.
+fn read_some<F: Read>(
+    file: &mut F,
+    bytes: &mut Vec<u8>,
+    taken: &mut usize,
+    most: usize,
+) -> Result<(), ReadFault>
     requires empty { vec_len bytes.old ≡ 0 }
     requires none { taken.old ≡ 0 }
-    ensures most { taken.new ≤ FILE_BYTES + 1 }
+    ensures most { taken.new ≤ most + 1 }
     ensures all { OnOk result (vec_len bytes.new ≡ taken.new) }
 {
     let mut block = [0u8; BLOCK];
-    'filling: while bytes.len() <= limits::FILE_BYTES {
-        let asked = BLOCK.min(limits::FILE_BYTES + 1 - bytes.len());
+    'filling: while bytes.len() <= most {
+        let asked = (BLOCK - 1).min(most - bytes.len()) + 1;
         let n = file.read(&mut block[..asked]).map_err(ReadFault::System)?;
         if n == 0 {
             return Ok(());
@@ -85,9 +89,9 @@ impl<'a, R: Files> Shelf for FileShelf<'a, R> {
 
     ghost taken = { λ s. s.taken };
 
-    fn fetch(&mut self, alloc: Global, name: &str) -> Result<Vec<u8>, FetchFault>
+    fn fetch_most(&mut self, alloc: Global, name: &str, most: usize) -> Result<Vec<u8>, FetchFault>
         ensures counted { self.old.faults ≤ self.new.faults }
-        ensures within { IfOk result (λ bytes. vec_len bytes ≤ FILE_BYTES) }
+        ensures within { IfOk result (λ bytes. vec_len bytes ≤ most) }
         ensures took { IfOk result (λ bytes. self.new.taken ≡ vec_len bytes) }
         // Nothing is told of the bytes.
         ensures untold { IfOk result (λ _. ⊤) }
@@ -96,15 +100,15 @@ impl<'a, R: Files> Shelf for FileShelf<'a, R> {
         ensures same_faults { result ≢ Err FetchFault.Failed → self.new.faults ≡ self.old.faults }
         ensures named { result ≡ Err FetchFault.Failed → self.new.failed_name ≡ name.now }
         ensures same_name { result ≢ Err FetchFault.Failed → self.new.failed_name ≡ self.old.failed_name }
-        ensures too_long { result ≡ Err FetchFault.TooLong → self.new.taken ≡ FILE_BYTES + 1 }
-        ensures most { self.new.taken ≤ FILE_BYTES + 1 }
+        ensures too_long { result ≡ Err FetchFault.TooLong → self.new.taken ≡ most + 1 }
+        ensures most { self.new.taken ≤ most + 1 }
     {
         self.taken = 0;
         let asked = Text::from_bytes(alloc, name.as_bytes())?;
         let mut bytes = Vec::new(alloc);
         let mut taken = 0;
         let outcome = match fs::open(self.files, name) {
-            Ok(mut file) => read_some(&mut file, &mut bytes, &mut taken),
+            Ok(mut file) => read_some(&mut file, &mut bytes, &mut taken, most),
             Err(error) => Err(ReadFault::System(error)),
         };
         self.taken = taken;
@@ -115,7 +119,7 @@ impl<'a, R: Files> Shelf for FileShelf<'a, R> {
                 Err(FetchFault::Failed)
             }
             Err(ReadFault::Memory(_)) => Err(FetchFault::Memory),
-            Ok(()) if bytes.len() > limits::FILE_BYTES => Err(FetchFault::TooLong),
+            Ok(()) if bytes.len() > most => Err(FetchFault::TooLong),
             Ok(()) => Ok(bytes),
         }
     }
@@ -124,27 +128,26 @@ impl<'a, R: Files> Shelf for FileShelf<'a, R> {
 #[cfg(test)]
 mod tests {
     use super::*;
+    use psy_base::limits;
     use std::test::Fail;
 
     #[test]
     fn each_error_of_the_system_is_a_fault(rt: HostRuntime) -> Result<(), Fail> {
         fs::write(&rt, "fetched.txt", "text")?;
         let mut shelf = FileShelf::new(&rt);
+        let most = limits::FILE_BYTES;
         let cases = [
-            ("fetched.txt", Ok(4), 0, 4),
-            ("absent.txt", Err(FetchFault::Failed), 1, 0),
-            ("/dev/null", Ok(0), 1, 0),
-            (
-                "/dev/zero",
-                Err(FetchFault::TooLong),
-                1,
-                limits::FILE_BYTES + 1,
-            ),
-            (".", Err(FetchFault::Failed), 2, 0),
+            ("fetched.txt", most, Ok(4), 0, 4),
+            ("fetched.txt", 4, Ok(4), 0, 4),
+            ("fetched.txt", 3, Err(FetchFault::TooLong), 0, 4),
+            ("absent.txt", most, Err(FetchFault::Failed), 1, 0),
+            ("/dev/null", 0, Ok(0), 1, 0),
+            ("/dev/zero", most, Err(FetchFault::TooLong), 1, most + 1),
+            (".", most, Err(FetchFault::Failed), 2, 0),
         ];
-        for (name, want, faults, taken) in cases {
-            let length = shelf.fetch(rt.alloc(), name).map(|bytes| bytes.len());
-            assert_eq!(rt; length, want, "of {name}");
+        for (name, most, want, faults, taken) in cases {
+            let fetched = shelf.fetch_most(rt.alloc(), name, most);
+            assert_eq!(rt; fetched.map(|bytes| bytes.len()), want, "{most} of {name}");
             assert_eq!(rt; shelf.faults, faults, "after {name}");
             assert_eq!(rt; shelf.taken, taken, "taken of {name}");
         }

@@ -1,11 +1,10 @@
 //! Files in memory, by their names.
 ghost use Rattle.std.specs.Prelude.{◌≡◌, ◌≢◌, ◌<◌, ◌≤◌, map, find, bytes_eq, length, vec_len, IfOk};
 ghost use Rattle.std.specs.Option.{option_copied};
-ghost use Rattle.psy_base.specs.declared.limits.TheConstants.{FILE_BYTES};
-ghost use Rattle.psy_door.specs.Files.{named};
+ghost use Rattle.psy_door.specs.Files.{named, taken_of};
 
 use crate::shelf::FetchFault;
-use psy_base::{Text, limits};
+use psy_base::Text;
 use std::alloc::Global;
 
 /// The first file with this name.
@@ -26,14 +25,21 @@ pub fn bytes_of<'a>(files: &'a [(Text, Vec<u8>)], name: &[u8]) -> Option<&'a [u8
     }
 }
 
-/// A copy of a file that isn't too long.
-pub fn copied(alloc: Global, bytes: &[u8]) -> Result<Vec<u8>, FetchFault>
-    ensures ok { IfOk result (λ copy. copy.items ≡ bytes.now) }
-    ensures within { IfOk result (λ copy. vec_len copy ≤ FILE_BYTES) }
-    ensures never { result ≢ Err FetchFault.Failed }
-    ensures too_long { result ≡ Err FetchFault.TooLong → FILE_BYTES < length bytes.now }
+/// How many bytes a call takes from a file of so many, where it may have so many.
+pub fn taken_of(most: usize, bytes: usize) -> usize
+    ensures { result ≡ taken_of most bytes }
 {
-    if bytes.len() > limits::FILE_BYTES {
+    if bytes > most { most + 1 } else { bytes }
+}
+
+/// A copy of a file that isn't too long.
+pub fn copied(alloc: Global, bytes: &[u8], most: usize) -> Result<Vec<u8>, FetchFault>
+    ensures ok { IfOk result (λ copy. copy.items ≡ bytes.now) }
+    ensures within { IfOk result (λ copy. vec_len copy ≤ most) }
+    ensures never { result ≢ Err FetchFault.Failed }
+    ensures too_long { result ≡ Err FetchFault.TooLong → most < length bytes.now }
+{
+    if bytes.len() > most {
         return Err(FetchFault::TooLong);
     }
     Ok(Vec::from_slice(alloc, bytes)?)

@@ -1,12 +1,11 @@
 //! Files in memory, some of whose calls fail.
 ghost use Rattle.std.specs.Prelude.{◌≡◌, ◌≢◌, ◌+◌, ◌<◌, ◌≤◌, Some, [], map, length, vec_len, IfOk, IsErr};
-ghost use Rattle.psy_base.specs.declared.limits.TheConstants.{FILE_BYTES};
 ghost use Rattle.psy_door.specs.Files.{files_of, bytes_under};
 ghost use Rattle.psy_door.specs.States.{FetchFails, counted_up};
 
 use crate::shelf::{FetchFault, Shelf};
 use crate::{counts, files};
-use psy_base::{Text, limits};
+use psy_base::Text;
 use std::alloc::Global;
 use std::marker::Model;
 
@@ -65,6 +64,7 @@ impl ShelfMap {
     // Counts a call for this name that fails.
     fn fail(&mut self, name: Text) -> FetchFault
         ensures state { self.new ≡ record self.old { faults = counted_up self.old.faults; failed_name = name } }
+        ensures counted { self.old.faults ≤ self.new.faults }
         ensures fault { result ≡ FetchFault.Failed }
     {
         self.faults = self.faults.saturating_add(1);
@@ -83,12 +83,12 @@ impl Shelf for ShelfMap {
     ghost taken = { λ s. s.taken };
 
     #[tactic(auto, using(crate::proofs::lemmas::FilesLemmas::get_files_of))]
-    fn fetch(&mut self, alloc: Global, name: &str) -> Result<Vec<u8>, FetchFault>
+    fn fetch_most(&mut self, alloc: Global, name: &str, most: usize) -> Result<Vec<u8>, FetchFault>
         ensures same_files { self.new.files ≡ self.old.files }
         ensures same_fails { self.new.fails ≡ self.old.fails }
         ensures calls { self.new.calls ≡ counted_up self.old.calls }
         ensures counted { self.old.faults ≤ self.new.faults }
-        ensures within { IfOk result (λ bytes. vec_len bytes ≤ FILE_BYTES) }
+        ensures within { IfOk result (λ bytes. vec_len bytes ≤ most) }
         ensures took { IfOk result (λ bytes. self.new.taken ≡ vec_len bytes) }
         ensures whole { IfOk result (λ bytes. bytes.items ≡ bytes_under (files_of self.old.files) name.now) }
         ensures failed { result ≡ Err FetchFault.Failed → self.new.faults ≡ counted_up self.old.faults }
@@ -96,10 +96,10 @@ impl Shelf for ShelfMap {
         ensures named { result ≡ Err FetchFault.Failed → self.new.failed_name ≡ name.now }
         ensures same_name { result ≢ Err FetchFault.Failed → self.new.failed_name ≡ self.old.failed_name }
         ensures took_none { result ≡ Err FetchFault.Failed → self.new.taken ≡ 0 }
-        ensures too_long { result ≡ Err FetchFault.TooLong → self.new.taken ≡ FILE_BYTES + 1 }
+        ensures too_long { result ≡ Err FetchFault.TooLong → self.new.taken ≡ most + 1 }
         ensures longer { result ≡ Err FetchFault.TooLong →
-            FILE_BYTES < length (bytes_under (files_of self.old.files) name.now) }
-        ensures most { self.new.taken ≤ FILE_BYTES + 1 }
+            most < length (bytes_under (files_of self.old.files) name.now) }
+        ensures most { self.new.taken ≤ most + 1 }
         ensures of_file { self.new.taken ≤ length (bytes_under (files_of self.old.files) name.now) }
 
         // It fails exactly where it is to fail.
@@ -116,7 +116,7 @@ impl Shelf for ShelfMap {
         let Some(bytes) = files::bytes_of(self.files.as_slice(), name.as_bytes()) else {
             return Err(self.fail(asked));
         };
-        self.taken = bytes.len().min(limits::FILE_BYTES + 1);
-        files::copied(alloc, bytes)
+        self.taken = files::taken_of(most, bytes.len());
+        files::copied(alloc, bytes, most)
     }
 }

@@ -2,7 +2,6 @@
 //! It may know notes of a graph.
 #![tactic(auto)]
 
-mod piece;
 #[cfg(test)]
 mod tests;
 mod text;

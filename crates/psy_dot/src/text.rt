@@ -3,8 +3,8 @@ ghost use Rattle.std.specs.Prelude.{◌≡◌, [], ◌∷◌, ◌++◌, List, No
 ghost use Rattle.psy_log.specs.declared.note.Note.{Note};
 ghost use Rattle.psy_dot.specs.Drawing.{closing, clusters, dot_of, edge_text, node_name, node_text, opening};
 
-use crate::piece::{add_labelled, add_number};
 use psy_log::Note;
+use psy_text::write::{add_labelled, add_number};
 use std::alloc::{AllocError, Global};
 
 /// The graphs that the notes tell, in the language DOT: a cluster for each agent, a box for each node, an arrow for each edge.

@@ -1,14 +1,20 @@
--- Refusals and their numbers.
-use Rattle.std.proofs.Common.{◌≡◌, ℕ, Result, Err, ap}
+-- Refusals.
+use Rattle.std.proofs.Common.{◌≡◌, Result, Ok, Err, ap}
+use Rattle.std.specs.Prelude.{OnOk}
 use Rattle.psy_draw.specs.declared.fault.DrawFault.{DrawFault}
 use Rattle.psy_draw.specs.declared.fault.DrawFault.TheVariants as fault
 
--- The number of a refusal
-number_of : {T : Type 0} → Result T DrawFault → ℕ
-number_of (Err (fault.Unlisted n)) = n
-number_of _ = 0
+-- The fault of a refusal
+fault_of : {T : Type 0} → Result T DrawFault → DrawFault
+fault_of (Err f) = f
+fault_of (Ok x) = fault.Memory
 
--- Refusals that are one have one number.
-pub number_is : {T : Type 0} (m n : ℕ) → ◌≡◌ {A = Result T DrawFault} (Err (fault.Unlisted m)) (Err (fault.Unlisted n)) → m ≡ n
-unfolding number_of
-number_is m n e = ap number_of e
+-- Refusals that are one have one fault.
+pub fault_is : {T : Type 0} (a b : DrawFault) → ◌≡◌ {A = Result T DrawFault} (Err a) (Err b) → a ≡ b
+unfolding fault_of
+fault_is a b e = ap fault_of e
+
+-- What holds, holds where there is a value.
+pub on_ok : {T E : Type 0} (P : Type 0) (r : Result T E) → P → OnOk r P
+on_ok P (Ok x) p = p
+on_ok P (Err e) p = tt

@@ -46,16 +46,24 @@ row_kept old new row g h = let P : List ℕ → Type 0 = λ t. ShowsRow t row in
 pub rows_kept : (old new : List ℕ) (rows : List Row) → Grows old new → All (ShowsRow old) rows → All (ShowsRow new) rows
 rows_kept old new rows g all k d within = row_kept old new (get_or rows k d) g (all k d within)
 
+-- A text shows the summary whose rows it shows.
+pub summary_shown : (text : List ℕ) (notes : List Note) (agents variables streams : List Row) → agents ≡ flat_map agent_rows notes → variables ≡ flat_map variable_rows notes → streams ≡ flat_map stream_rows notes → All (ShowsRow text) agents → All (ShowsRow text) variables → All (ShowsRow text) streams → ShowsSummary text notes
+summary_shown text notes agents variables streams are_agents are_variables are_streams show_agents show_variables show_streams =
+    let P : List Row → Type 0 = λ rows. All (ShowsRow text) rows in
+    record {
+      agents = subst P are_agents show_agents;
+      variables = subst P are_variables show_variables;
+      streams = subst P are_streams show_streams;
+    }
+
 -- A file shows the rows of its inside.
-pub rows_in_file : (inside : List ℕ) (rows : List Row) → All (ShowsRow inside) rows → All (ShowsRow (svg_of inside)) rows
+rows_in_file : (inside : List ℕ) (rows : List Row) → All (ShowsRow inside) rows → All (ShowsRow (svg_of inside)) rows
 rows_in_file inside rows all k d within = row_behind (codes "<svg") (inside ++ codes "</svg>\n") (get_or rows k d) (row_more inside (codes "</svg>\n") (get_or rows k d) (all k d within))
 
--- A file shows the summary whose rows its inside shows.
-pub summary_in_file : (inside : List ℕ) (notes : List Note) (agents variables streams : List Row) → agents ≡ flat_map agent_rows notes → variables ≡ flat_map variable_rows notes → streams ≡ flat_map stream_rows notes → All (ShowsRow inside) agents → All (ShowsRow inside) variables → All (ShowsRow inside) streams → ShowsSummary (svg_of inside) notes
-summary_in_file inside notes agents variables streams are_agents are_variables are_streams show_agents show_variables show_streams =
-    let P : List Row → Type 0 = λ rows. All (ShowsRow (svg_of inside)) rows in
-    record {
-      agents = subst P are_agents (rows_in_file inside agents show_agents);
-      variables = subst P are_variables (rows_in_file inside variables show_variables);
-      streams = subst P are_streams (rows_in_file inside streams show_streams);
-    }
+-- A file shows the summary that its inside shows.
+pub summary_in_file : (inside : List ℕ) (notes : List Note) → ShowsSummary inside notes → ShowsSummary (svg_of inside) notes
+summary_in_file inside notes shows = record {
+  agents = rows_in_file inside (flat_map agent_rows notes) shows.agents;
+  variables = rows_in_file inside (flat_map variable_rows notes) shows.variables;
+  streams = rows_in_file inside (flat_map stream_rows notes) shows.streams;
+}

@@ -16,10 +16,23 @@ pub record StandsFor (values : List ℤ) (c : Column) : Type 0 where
   -- and it counts those behind the first, as far as 32 bits reach.
   pub more : c.more ≡ min (length values - 1) (2 ^ 32 - 1)
 
+-- The column has one value alone.
+abbrev pub is_even : Column → Bool
+is_even c = int_le c.greatest c.least
+
+-- Where the first of these columns begins, or the plot ends
+abbrev pub end_of : List Column → ℕ
+end_of [] = 960
+end_of (c ∷ columns) = c.x
+
 -- Columns stand for these values, each for those of one piece of the list, the pieces in their order.
 abbrev pub Keeps : List ℤ → List Column → Type 0
 Keeps values [] = values ≡ []
 Keeps values (c ∷ columns) = (group rest : List ℤ) × (values ≡ group ++ rest) × StandsFor group c × Keeps rest columns
+
+-- To columns these values are added.
+abbrev pub AddsValues : List ℤ → List Column → List Column → Type 0
+AddsValues more old new = (values : List ℤ) → Keeps values old → Keeps (values ++ more) new
 
 -- The columns of a lane up to a place
 abbrev pub up_to : ℕ → List Column → List Column

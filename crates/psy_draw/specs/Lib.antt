@@ -1,8 +1,20 @@
 -- The definitions of this crate, by subject.
+pub mod Axes
 pub mod Columns
+pub mod Dates
+pub mod Drawing
+pub mod Groups
+pub mod Heads
 pub mod Labels
+pub mod Lanes
 pub mod Listing
 pub mod Places
+pub mod Planning
+pub mod Shapes
 pub mod Showing
+pub mod Sources
 pub mod Spelling
+pub mod Stops
+pub mod Strokes
 pub mod Tables
+pub mod Told

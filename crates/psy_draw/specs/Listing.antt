@@ -35,6 +35,18 @@ first_failing passes notes = option_map (λ k. k + 1) (position (λ note. not (p
 abbrev pub first_unlisted : List Note → Option ℕ
 first_unlisted notes = first_failing (is_listed notes) notes
 
+-- The place, counted from 0, of the first name that doesn't pass
+abbrev pub first_outside : (List ℕ → Bool) → List (List ℕ) → Option ℕ
+first_outside passes names = position (λ name. not (passes name)) names
+
+-- The summary lists the name, as an agent, a variable or a stream.
+abbrev pub is_named : List Note → List ℕ → Bool
+is_named notes name = list_any (ends_agent name) notes || list_any (ends_variable name) notes || list_any (ends_stream name) notes
+
+-- The place of the first of these names that the summary doesn't list
+abbrev pub first_unasked : List Note → List (List ℕ) → Option ℕ
+first_unasked notes names = first_outside (is_named notes) names
+
 -- These names are those that notes have, as `ends` tells them.
 abbrev pub Lists : (List ℕ → Note → Bool) → List Note → List (List ℕ) → Type 0
 Lists ends notes names = (name : List ℕ) → list_any (bytes_eq name) names ≡ list_any (ends name) notes

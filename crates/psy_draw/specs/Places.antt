@@ -1,11 +1,25 @@
 -- Where dates and values stand in the plot, in pixels.
-use Rattle.std.specs.Prelude.{◌*◌, ◌/◌, ◌==◌, ◌-ℤ◌, ℕ, ℤ, cond, max, min, unsigned_abs}
+use Rattle.std.specs.Prelude.{◌+◌, ◌-◌, ◌*◌, ◌/◌, ◌==◌, ◌-ℤ◌, ℕ, ℤ, cond, max, min, unsigned_abs}
+use Rattle.psy_draw.specs.declared.layout.TheConstants.{MOST_LETTERS}
+use Rattle.psy_draw.specs.declared.window.Window.{Window}
 
--- The place of a date: the last date stands at 960, and places are multiples of the grain
-abbrev pub x_of : ℕ → ℕ → ℕ → ℕ
-x_of until grain date = min date until * 960 / max until 1 / grain * grain
+-- The last date that is shown: that of the window, or of the run where that is before it
+abbrev pub window_end : Window → ℕ → ℕ
+window_end window last = min window.to last
+
+-- The place of a date: the first date stands at 0 and the last one at 960, and places are multiples of the grain
+abbrev pub x_of : ℕ → ℕ → ℕ → ℕ → ℕ
+x_of from to grain date = (max (min date to) from - from) * 960 / max (to - from) 1 / grain * grain
+
+-- The width of so many letters, each of so many hundredths of a pixel; no more than a hundred letters are measured
+abbrev pub width_of : ℕ → ℕ → ℕ
+width_of letters letter = (min letters MOST_LETTERS * letter + 99) / 100
 
 -- How far below the greatest value's place a value stands, of so many pixels: in the middle where they are one
 abbrev pub depth_of : ℤ → ℤ → ℤ → ℕ → ℕ
 depth_of least greatest value height =
     cond (unsigned_abs (greatest -ℤ least) == 0) (height / 2) (min (unsigned_abs (greatest -ℤ value) * height / unsigned_abs (greatest -ℤ least)) height)
+
+-- Where the line of a variable is at a value: the greatest stands at 16, the least at 48
+abbrev pub y_of : ℤ → ℤ → ℤ → ℕ
+y_of least greatest value = 16 + depth_of least greatest value 32

@@ -1,13 +1,15 @@
 -- The bytes of a picture's text.
-use Rattle.std.specs.Prelude.{◌==◌, ℕ, List, [], ◌∷◌, ◌++◌, codes, cond, decimal}
+use Rattle.std.specs.Prelude.{◌==◌, ℕ, List, [], ◌∷◌, ◌++◌, codes, cond, decimal, nat_le}
 use Rattle.std.specs.Fmt.{signed_decimal}
 use Rattle.std.specs.List.{flat_map}
 use Rattle.psy_draw.specs.declared.piece.Piece.{Piece}
 use Rattle.psy_draw.specs.declared.piece.Piece.TheVariants as piece
 
--- A letter, escaped where it is `&`, `<`, `>` or `"`
+-- A letter, escaped where it is `&`, `<`, `>` or `"`, and `?` where it is a control code
 abbrev pub escaped : ℕ → List ℕ
-escaped b = cond (b == 38) (codes "&amp;") (cond (b == 60) (codes "&lt;") (cond (b == 62) (codes "&gt;") (cond (b == 34) (codes "&quot;") (b ∷ []))))
+escaped b =
+    cond (b == 38) (codes "&amp;") (cond (b == 60) (codes "&lt;") (cond (b == 62) (codes "&gt;")
+    (cond (b == 34) (codes "&quot;") (cond (nat_le b 31) (codes "?") (b ∷ [])))))
 
 -- The bytes of a piece
 abbrev pub spelled : Piece → List ℕ

@@ -11,6 +11,12 @@ pub enum DrawFault {
     /// The name in the note of this number, counted from 1, is in no line of the summary.
     #[error("the name in line {number} isn't in the summary")]
     Unlisted { number: usize },
+    /// The name of this place, counted from 0, among those that were asked for is in no line of the summary.
+    #[error("the name {place} that was asked for isn't in the summary")]
+    Unknown { place: usize },
+    /// No date of the run lies in the window.
+    #[error("no date of the run lies in the window")]
+    Empty,
     /// Want of memory.
     #[error("out of memory")]
     Memory,

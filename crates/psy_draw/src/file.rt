@@ -26,8 +26,16 @@ pub fn file_of(alloc: Global, inside: &Page) -> Result<Vec<u8>, Memory>
     if inside.bytes().len() <= INSIDE_BYTES {
         whole(alloc, inside.bytes())
     } else {
-        whole(alloc, TOO_LARGE)
+        too_large(alloc)
     }
+}
+
+/// The file that says that a picture would be too large.
+pub fn too_large(alloc: Global) -> Result<Vec<u8>, Memory>
+    ensures says { IfOk result (λ svg. svg.items ≡ svg_of TOO_LARGE.now) }
+    ensures small { IfOk result (λ svg. vec_len svg ≤ 2000000) }
+{
+    whole(alloc, TOO_LARGE)
 }
 
 fn whole(alloc: Global, inside: &[u8]) -> Result<Vec<u8>, Memory>

@@ -1,16 +1,25 @@
 //! How large the parts of a picture are.
 
+ghost use Rattle.std.specs.Prelude.{◌≡◌, ◌≤◌, ◌+◌, length, nat_le};
+ghost use Rattle.psy_draw.specs.Drawing.{heights};
+ghost use Rattle.psy_draw.specs.Heads.{longest_name};
+ghost use Rattle.psy_draw.specs.Places.{width_of};
+ghost use Rattle.psy_draw.specs.declared.room.TheConstants.{MOST_LANES};
+
 use crate::axis::AXIS_HEIGHT;
-use crate::collect::Run;
-use crate::layout::{GAP, LABEL_SIZE, MARGIN, NAME_SIZE, RIGHT_MARGIN, width_of};
-use crate::listed::Listed;
-use crate::messages::MESSAGES_HEIGHT;
+use crate::curve;
+use crate::head::TITLE_HEIGHT;
+use crate::inputs::Inputs;
+use crate::lane::{Lane, Shape};
+use crate::layout::{GAP, LABEL_LETTER, MARGIN, NAME_LETTER, RIGHT_MARGIN, width_of};
+use crate::legend::LEGEND_HEIGHT;
 use crate::scale::PLOT_WIDTH;
-use crate::steps;
-use crate::stops::STOP_HEIGHT;
 use crate::tables::Tables;
 
-// From this lower end of the lanes on there is a second axis below them.
+/// Where the lanes begin.
+pub const LANES_TOP: u32 = TITLE_HEIGHT + AXIS_HEIGHT;
+
+// From this height of the lanes on there is a second axis below them.
 const HIGH: u32 = 480;
 
 // The letters for which there is room at least, so that the word `date` has it.
@@ -30,75 +39,92 @@ pub struct Frame {
     pub left: u32,
     /// The lanes' lower end.
     pub bottom: u32,
-    /// There is a second axis below the lanes.
-    pub high: bool,
+    /// The upper end of the names without a value.
+    pub inputs: u32,
+    /// The upper end of the line that tells how the picture is read.
+    pub legend: u32,
     /// The tables' upper end.
     pub tables: u32,
+    ghost beside: { 12 ≤ left },
+    ghost near: { left ≤ 1500 },
 }
 
 impl Frame {
-    /// The frame in which a run has room.
-    pub fn of(listed: &Listed, run: &Run, tables: &Tables) -> Frame {
-        let left = names_width(listed)
-            .saturating_add(width_of(bound_letters(listed, run), LABEL_SIZE))
-            .saturating_add(MARGIN + 2 * GAP);
-        let bottom = bottom_of(listed, run);
-        let high = HIGH <= bottom;
-        let axis = if high { AXIS_HEIGHT } else { 0 };
-        let top = bottom.saturating_add(axis).saturating_add(2 * MARGIN);
+    /// The frame in which these lanes have room.
+    pub fn of(lanes: &[Lane], inputs: &Inputs, tables: &Tables) -> Frame
+        requires { length lanes.now ≤ MOST_LANES }
+        ensures bottom { result.bottom ≡ 56 + heights lanes.now }
+        ensures inputs { result.bottom + 12 ≤ result.inputs }
+        ensures legend { result.inputs + 12 ≤ result.legend }
+        ensures tables { result.legend + 40 ≤ result.tables }
+        ensures high { result.tables + 12 ≤ result.height }
+        ensures wide { result.left + 1000 ≤ result.width }
+        ensures left { 28 + width_of (longest_name lanes.now) NAME_LETTER ≤ result.left }
+        ensures room { result.height ≤ 900000 }
+    {
+        let left = names_width(lanes) + bounds_width(lanes) + MARGIN + 2 * GAP;
+        let bottom = bottom_of(lanes);
+        let axis = if is_high(bottom) { AXIS_HEIGHT } else { 0 };
+        let inputs_top = bottom + axis + MARGIN;
+        let legend = inputs_top + inputs.height() + MARGIN;
+        let top = legend + LEGEND_HEIGHT + 2 * MARGIN;
         Frame {
-            width: left
-                .saturating_add(PLOT_WIDTH + RIGHT_MARGIN)
-                .max(tables_width(tables)),
-            height: top.saturating_add(tables.height()).saturating_add(MARGIN),
+            width: (left + PLOT_WIDTH + RIGHT_MARGIN).max(tables.width()),
+            height: top + tables.height() + MARGIN,
             left,
             bottom,
-            high,
+            inputs: inputs_top,
+            legend,
             tables: top,
         }
     }
 }
 
+/// Is there a second axis below the lanes, where they end here?
+pub fn is_high(bottom: u32) -> bool
+    ensures { result ≡ nat_le 536 bottom }
+{
+    LANES_TOP + HIGH <= bottom
+}
+
 // The width of the longest name.
-fn names_width(listed: &Listed) -> u32 {
-    let longest = listed
-        .agents
-        .longest()
-        .max(listed.variables.longest())
-        .max(listed.streams.longest());
-    width_of(longest.max(LEAST_LETTERS), NAME_SIZE)
-}
-
-// The most letters of a variable's least or greatest value.
-fn bound_letters(listed: &Listed, run: &Run) -> usize {
-    let mut most = 0;
-    for place in 0..listed.variables.len() {
-        most = steps::bound_letters(run.variables.columns(place)).max(most);
+fn names_width(lanes: &[Lane]) -> u32
+    ensures wide { result ≡ width_of (longest_name lanes.now) NAME_LETTER }
+    ensures narrow { result ≤ 732 }
+{
+    let mut longest = LEAST_LETTERS;
+    for lane in lanes {
+        longest = lane.name.len().max(longest);
     }
-    most
+    width_of(longest, NAME_LETTER)
 }
 
-fn bottom_of(listed: &Listed, run: &Run) -> u32 {
-    let mut bottom = AXIS_HEIGHT
-        .saturating_add(lanes_height(run.stops.len(), STOP_HEIGHT))
-        .saturating_add(lanes_height(listed.streams.len(), MESSAGES_HEIGHT));
-    for place in 0..listed.variables.len() {
-        bottom = bottom.saturating_add(steps::height_of(run.variables.columns(place)));
+// The width of the longest value at the left of a line.
+fn bounds_width(lanes: &[Lane]) -> u32
+    ensures { result ≤ 732 }
+{
+    let mut longest = 0;
+    for lane in lanes {
+        longest = bound_letters(lane).max(longest);
+    }
+    width_of(longest, LABEL_LETTER)
+}
+
+fn bound_letters(lane: &Lane) -> usize {
+    match &lane.shape {
+        Shape::Curve(columns) => curve::bound_letters(columns.as_slice()),
+        _ => 0,
+    }
+}
+
+fn bottom_of(lanes: &[Lane]) -> u32
+    requires { length lanes.now ≤ MOST_LANES }
+    ensures high { result ≡ 56 + heights lanes.now }
+    ensures low { result ≤ 300000 }
+{
+    let mut bottom = LANES_TOP;
+    for lane in lanes {
+        bottom += lane.height();
     }
     bottom
-}
-
-// The height of so many lanes.
-fn lanes_height(count: usize, height: u32) -> u32 {
-    let count = count.min(1_000_000) as u32;
-    count.saturating_mul(height)
-}
-
-fn tables_width(tables: &Tables) -> u32 {
-    tables
-        .agents
-        .width()
-        .saturating_add(tables.variables.width())
-        .saturating_add(tables.streams.width())
-        .saturating_add(2 * MARGIN + 2 * TABLE_GAP)
 }

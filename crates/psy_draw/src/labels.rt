@@ -1,12 +1,13 @@
 //! The values beside a line.
 
-ghost use Rattle.std.specs.Prelude.{◌≡◌, ◌≤◌, ◌+◌, ◌++◌, ◌&&◌, ◌↔◌, decimal, length, min, IsTrue, OnOk};
+ghost use Rattle.std.specs.Prelude.{◌≡◌, ◌≤◌, ◌+◌, ◌-◌, ◌/◌, ◌++◌, ◌&&◌, ◌↔◌, decimal, length, IsTrue, OnOk};
 ghost use Rattle.std.specs.Fmt.{signed_decimal};
 ghost use Rattle.psy_draw.specs.Columns.{none_greater, none_less, up_to};
 ghost use Rattle.psy_draw.specs.Labels.{label_text};
+ghost use Rattle.psy_draw.specs.Places.{width_of};
 
 use crate::column::Column;
-use crate::layout::{LABEL_SIZE, RIGHT_MARGIN, width_of};
+use crate::layout::{LABEL_LETTER, RIGHT_MARGIN, width_of};
 use crate::page::Page;
 use crate::piece::Piece;
 use crate::scale::PLOT_WIDTH;
@@ -21,20 +22,30 @@ pub const LABEL_GAP: u32 = 4;
 pub struct Extent {
     pub from: u32,
     pub to: u32,
+    ghost placed: { from ≤ 1000 },
+    ghost wide: { to ≤ 3200 },
 }
 
 impl Extent {
-    /// The place of a label of so many letters.
-    pub fn new(from: u32, letters: usize) -> Extent {
+    /// The place of a label of this width.
+    pub fn new(from: u32, width: u32) -> Extent
+        requires from { from ≤ 1000 }
+        requires width { width ≤ 2196 }
+        ensures { (result.from ≡ from) × (result.to ≡ from + width) }
+    {
         Extent {
             from,
-            to: from.saturating_add(width_of(letters, LABEL_SIZE)),
+            to: from + width,
         }
     }
 
-    /// The place of a label of so many letters in whose middle x stands, where that isn't before the plot.
-    pub fn around(x: u32, letters: usize) -> Extent {
-        Extent::new(x.saturating_sub(width_of(letters, LABEL_SIZE) / 2), letters)
+    /// The place of a label of this width in whose middle x stands, where that isn't before the plot.
+    pub fn around(x: u32, width: u32) -> Extent
+        requires x { x ≤ 960 }
+        requires width { width ≤ 2196 }
+        ensures { (result.from ≡ x - width / 2) × (result.to ≡ result.from + width) }
+    {
+        Extent::new(x.saturating_sub(width / 2), width)
     }
 
     /// There is room: the labels before it end before it, and it ends within the picture.
@@ -46,9 +57,9 @@ impl Extent {
 
     /// From here on the next label has room.
     pub fn free(&self) -> u32
-        ensures { result ≡ min (self.now.to + LABEL_GAP) u32.MAX }
+        ensures { result ≡ self.now.to + LABEL_GAP }
     {
-        self.to.saturating_add(LABEL_GAP)
+        self.to + LABEL_GAP
     }
 }
 
@@ -64,6 +75,30 @@ pub fn digits_of(number: u64) -> usize
     ensures { result ≡ length (decimal number) }
 {
     Buffer::new().format(number).len()
+}
+
+/// How wide a value is as a label.
+pub fn width(value: i32) -> u32
+    ensures wide { result ≡ width_of (length (signed_decimal value)) LABEL_LETTER }
+    ensures narrow { result ≤ 732 }
+{
+    width_of(letters_of(value), LABEL_LETTER)
+}
+
+/// How wide a number is as a label.
+pub fn digits_width(number: u64) -> u32
+    ensures wide { result ≡ width_of (length (decimal number)) LABEL_LETTER }
+    ensures narrow { result ≤ 732 }
+{
+    width_of(digits_of(number), LABEL_LETTER)
+}
+
+/// How wide so many letters are as a label.
+pub fn letters_width(letters: usize) -> u32
+    ensures wide { result ≡ width_of letters LABEL_LETTER }
+    ensures narrow { result ≤ 732 }
+{
+    width_of(letters, LABEL_LETTER)
 }
 
 /// On which side of the line a label stands.

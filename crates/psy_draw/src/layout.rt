@@ -1,5 +1,9 @@
 //! Where the parts of a picture stand, in pixels.
 
+ghost use Rattle.std.specs.Prelude.{◌≡◌, ◌≤◌, ◌++◌, OnOk};
+ghost use Rattle.psy_draw.specs.Groups.{lane_end, lane_head};
+ghost use Rattle.psy_draw.specs.Places.{width_of};
+
 use crate::page::Page;
 use crate::piece::Piece;
 use crate::scale::PLOT_WIDTH;
@@ -14,32 +18,34 @@ pub const RIGHT_MARGIN: u32 = 40;
 /// What stays free between the names or the least and greatest values and the plot.
 pub const GAP: u32 = 8;
 
-/// The size of the type of names.
-pub const NAME_SIZE: u32 = 12;
+/// The width of a letter of a name, in hundredths of a pixel.
+pub const NAME_LETTER: u32 = 732;
 
-/// The size of the type of tables.
-pub const TABLE_SIZE: u32 = 11;
+/// The width of a letter of a table.
+pub const TABLE_LETTER: u32 = 671;
 
-/// The size of the type of labels.
-pub const LABEL_SIZE: u32 = 10;
+/// The width of a letter of a label.
+pub const LABEL_LETTER: u32 = 610;
 
 /// The most letters that are measured.
 pub const MOST_LETTERS: usize = 100;
 
-/// Where a lane stands: its plot's left upper corner.
+/// Where a part of a picture stands: its left upper corner.
 #[derive(Clone, Copy, Debug)]
 pub struct Corner {
     pub left: u32,
     pub top: u32,
+    ghost beside: { 12 ≤ left },
 }
 
-/// The width of so many letters of monospace type of a size.
-pub fn width_of(letters: usize, size: u32) -> u32 {
+/// The width of so many letters, each of so many hundredths of a pixel.
+pub fn width_of(letters: usize, letter: u32) -> u32
+    requires { letter ≤ NAME_LETTER }
+    ensures wide { result ≡ width_of letters letter }
+    ensures bounded { result ≤ 732 }
+{
     let letters = letters.min(MOST_LETTERS) as u32;
-    letters
-        .saturating_mul(size)
-        .saturating_mul(61)
-        .div_ceil(100)
+    (letters * letter).div_ceil(100)
 }
 
 /// Begins a lane of a class: its line at the bottom, and its name.
@@ -49,8 +55,11 @@ pub fn open_lane<'x>(
     corner: Corner,
     height: u32,
     name: &'x [u8],
-) -> Result<(), Memory> {
-    let edge = corner.left.saturating_sub(MARGIN);
+) -> Result<(), Memory>
+    requires { height ≤ 64 }
+    ensures { OnOk result (page.new ≡ page.old ++ lane_head class.now corner.left corner.top height name.now) }
+{
+    let edge = corner.left - MARGIN;
     page.put(&[
         Piece::Raw(b"<g class=\""),
         Piece::Raw(class),
@@ -75,6 +84,8 @@ pub fn open_lane<'x>(
 }
 
 /// Ends a lane.
-pub fn close_lane(page: &mut Page) -> Result<(), Memory> {
+pub fn close_lane(page: &mut Page) -> Result<(), Memory>
+    ensures { OnOk result (page.new ≡ page.old ++ lane_end) }
+{
     page.put(&[Piece::Raw(b"</g>\n")])
 }

@@ -34,11 +34,6 @@ impl<'a> Listed<'a> {
         Ok(listed)
     }
 
-    /// How many lanes they have, at most.
-    pub fn lanes(&self) -> usize {
-        self.variables.len().saturating_add(self.streams.len())
-    }
-
     fn add(&mut self, note: Note<'a>) -> Result<(), Memory>
         ensures agents { OnOk result (Adds ends_agent note.entry self.old.agents self.new.agents) }
         ensures variables { OnOk result (Adds ends_variable note.entry self.old.variables self.new.variables) }

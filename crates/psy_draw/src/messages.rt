@@ -1,62 +1,47 @@
 //! The lane of a stream: a mark for each message.
 
+ghost use Rattle.std.specs.Prelude.{◌≡◌, ◌≤◌, ◌++◌, OnOk};
+ghost use Rattle.std.specs.List.{flat_map};
+ghost use Rattle.psy_draw.specs.Drawing.{mark_text};
+
 use crate::column::Column;
 use crate::labels::{self, Extent};
-use crate::layout::{Corner, close_lane, open_lane};
 use crate::page::Page;
 use crate::piece::Piece;
-use crate::scale::PLOT_WIDTH;
 use psy_base::Memory;
 
 /// The height of a lane.
 pub const MESSAGES_HEIGHT: u32 = 36;
 
-// Where the marks stand, and the labels.
-const MARKS: u32 = 24;
-
+// Where the labels stand.
 const LABELS: u32 = 15;
 
 /// Draws a stream.
-pub fn draw_messages(
-    page: &mut Page,
-    corner: Corner,
-    name: &[u8],
-    columns: &[Column],
-) -> Result<(), Memory> {
-    open_lane(page, b"stream", corner, MESSAGES_HEIGHT, name)?;
-    page.put(&[
-        Piece::Raw(b"<path class=\"base\" d=\"M0 "),
-        Piece::Number(MARKS),
-        Piece::Raw(b"H"),
-        Piece::Number(PLOT_WIDTH),
-        Piece::Raw(b"\"/>\n"),
-    ])?;
-    if !columns.is_empty() {
-        put_marks(page, columns)?;
-        put_labels(page, columns)?;
-    }
-    close_lane(page)
+pub fn draw_messages(page: &mut Page, columns: &[Column]) -> Result<(), Memory> {
+    page.put(&[Piece::Raw(b"<path class=\"base\" d=\"M0 24H960\"/>\n<path class=\"mark\" d=\"")])?;
+    put_marks(page, columns)?;
+    page.put(&[Piece::Raw(b"\"/>\n")])?;
+    put_labels(page, columns)
 }
 
-fn put_marks(page: &mut Page, columns: &[Column]) -> Result<(), Memory> {
-    page.put(&[Piece::Raw(b"<path d=\"")])?;
+fn put_marks(page: &mut Page, columns: &[Column]) -> Result<(), Memory>
+    ensures { OnOk result (page.new ≡ page.old ++ flat_map mark_text columns.now) }
+{
     for column in columns {
         page.put(&[
             Piece::Raw(b"M"),
             Piece::Number(column.x),
-            Piece::Raw(b" "),
-            Piece::Number(MARKS),
-            Piece::Raw(b"h0"),
+            Piece::Raw(b" 24h0"),
         ])?;
     }
-    page.put(&[Piece::Raw(b"\"/>\n")])
+    Ok(())
 }
 
 // Writes each first value of a column over its mark, where there is room.
 fn put_labels(page: &mut Page, columns: &[Column]) -> Result<(), Memory> {
     let mut free = 0;
     for column in columns {
-        let extent = Extent::around(column.x, letters_of(column));
+        let extent = Extent::around(column.x, width_of(column));
         if extent.fits(free) {
             put_label(page, extent.from, column)?;
             free = extent.free();
@@ -65,15 +50,15 @@ fn put_labels(page: &mut Page, columns: &[Column]) -> Result<(), Memory> {
     Ok(())
 }
 
-// How many letters the label of a column has.
-fn letters_of(column: &Column) -> usize {
-    let value = labels::letters_of(column.first);
+// How wide the label of a column is.
+fn width_of(column: &Column) -> u32
+    ensures { result ≤ 2196 }
+{
+    let value = labels::width(column.first);
     if column.more == 0 {
         value
     } else {
-        value
-            .saturating_add(labels::digits_of(u64::from(column.more)))
-            .saturating_add(2)
+        value + labels::digits_width(u64::from(column.more)) + labels::letters_width(2)
     }
 }
 

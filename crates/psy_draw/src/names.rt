@@ -1,6 +1,6 @@
 //! Tables of names.
 
-ghost use Rattle.std.specs.Prelude.{◌≡◌, ◌<◌, ◌||◌, ℕ, List, [], IfSome, OnOk, bytes_eq, is_some, length, slice_index_or};
+ghost use Rattle.std.specs.Prelude.{◌≡◌, ◌||◌, ℕ, List, [], OnOk, bytes_eq};
 ghost use Rattle.std.specs.List.{list_any};
 
 use indexmap::IndexSet;
@@ -8,7 +8,7 @@ use psy_base::Memory;
 use std::alloc::Global;
 use std::marker::Model;
 
-/// Different names, each of which stands for its place among them. Contracts see them as a list.
+/// Different names. Contracts see them as a list.
 #[derive(Drop)]
 pub struct Names<'a> {
     table: IndexSet<&'a [u8]>,
@@ -32,13 +32,6 @@ impl<'a> Names<'a> {
         }
     }
 
-    /// How many there are.
-    pub fn len(&self) -> usize
-        ensures { result ≡ length self.now }
-    {
-        self.table.len()
-    }
-
     /// Adds a name, where it isn't there.
     pub fn add(&mut self, name: &'a [u8]) -> Result<(), Memory>
         ensures { OnOk result ((other : List ℕ) → list_any (bytes_eq other) self.new ≡ (list_any (bytes_eq other) self.old || bytes_eq other name.now)) }
@@ -47,30 +40,10 @@ impl<'a> Names<'a> {
         Ok(())
     }
 
-    /// The place of a name; none exactly where it isn't there.
-    pub fn place(&self, name: &[u8]) -> Option<usize>
-        ensures found { is_some result ≡ list_any (bytes_eq name.now) self.now }
-        ensures within { IfSome result (λ place. place < length self.now) }
+    /// Is the name there?
+    pub fn has(&self, name: &[u8]) -> bool
+        ensures { result ≡ list_any (bytes_eq name.now) self.now }
     {
-        self.table.get_index_of(name)
-    }
-
-    /// The name at a place, and no bytes where there is none.
-    pub fn name(&self, place: usize) -> &'a [u8]
-        ensures { result.now ≡ slice_index_or self.now place [] }
-    {
-        match self.table.get_index(place) {
-            Some(name) => *name,
-            None => b"",
-        }
-    }
-
-    /// The bytes of the longest name.
-    pub fn longest(&self) -> usize {
-        let mut longest = 0;
-        for place in 0..self.table.len() {
-            longest = longest.max(self.name(place).len());
-        }
-        longest
+        self.table.get_index_of(name).is_some()
     }
 }

@@ -5,8 +5,8 @@ ghost use Rattle.std.specs.List.{flat_map};
 ghost use Rattle.psy_draw.specs.Spelling.{escaped, spelled};
 
 use crate::piece::Piece;
-use itoa::Buffer;
 use psy_base::Memory;
+use psy_text::write::{add_number, add_value};
 use std::alloc::Global;
 use std::marker::Model;
 
@@ -57,9 +57,9 @@ impl Page {
         match piece {
             Piece::Raw(bytes) => self.raw(bytes),
             Piece::Text(text) => self.text(text),
-            Piece::Number(number) => self.raw(Buffer::new().format(number).as_bytes()),
-            Piece::Long(number) => self.raw(Buffer::new().format(number).as_bytes()),
-            Piece::Value(value) => self.raw(Buffer::new().format(value).as_bytes()),
+            Piece::Number(number) => Ok(add_number(&mut self.bytes, u64::from(number))?),
+            Piece::Long(number) => Ok(add_number(&mut self.bytes, number)?),
+            Piece::Value(value) => Ok(add_value(&mut self.bytes, value)?),
         }
     }
 
@@ -80,6 +80,7 @@ impl Page {
             b'<' => self.raw(b"&lt;"),
             b'>' => self.raw(b"&gt;"),
             b'"' => self.raw(b"&quot;"),
+            0..=31 => self.raw(b"?"),
             _ => self.raw(&[byte]),
         }
     }

@@ -1,176 +1,230 @@
 //! The picture of a run.
 
-ghost use Rattle.std.specs.Prelude.{◌≡◌, ◌≤◌, ◌⊎◌, ℕ, List, All, IfOk, OnOk, vec_len};
-ghost use Rattle.psy_draw.specs.Showing.{ShowsRow, ShowsSummary};
-ghost use Rattle.psy_draw.specs.Listing.{first_unlisted};
+ghost use Rattle.std.specs.Prelude.{◌≡◌, ◌+◌, ◌++◌, ◌≤◌, ◌<◌, ◌⊎◌, ℕ, List, All, IfOk, MatchOption, OnOk, vec_len, map, string_bytes, length};
+ghost use Rattle.psy_draw.specs.Drawing.{Stacks};
+ghost use Rattle.psy_draw.specs.Planning.{ShowsWindow};
+ghost use Rattle.psy_draw.specs.Sources.{ShowsSource};
+ghost use Rattle.psy_draw.specs.Showing.{Grows, ShowsRow, ShowsSummary};
+ghost use Rattle.psy_draw.specs.Listing.{first_unlisted, first_unasked};
+ghost use Rattle.psy_draw.specs.Dates.{last_date};
+ghost use Rattle.psy_draw.specs.Places.{window_end};
 ghost use Rattle.psy_draw.specs.Spelling.{svg_of};
+ghost use Rattle.psy_draw.specs.Tables.{NamesFault, AllListed};
 
 use crate::DrawFault;
 use crate::axis::{AXIS_HEIGHT, draw_axis, draw_grid};
-use crate::collect::{self, Run};
-use crate::file::{TOO_LARGE, file_of};
-use crate::frame::{Frame, TABLE_GAP};
+use crate::dates::last_date;
+use crate::drawing::draw_lane;
+use crate::file::{TOO_LARGE, file_of, too_large};
+use crate::frame::{Frame, LANES_TOP, TABLE_GAP, is_high};
+use crate::head::put_head;
+use crate::hover::TELLING_COLUMNS;
+use crate::inputs::Inputs;
+use crate::lane::Lane;
 use crate::layout::{Corner, MARGIN};
+use crate::legend::put_legend;
 use crate::listed::Listed;
-use crate::messages::{MESSAGES_HEIGHT, draw_messages};
 use crate::page::Page;
 use crate::piece::Piece;
+use crate::plan::{Plan, lane_count};
+use crate::room::{MOST_LANES, RoomFault};
 use crate::scale::Scale;
-use crate::steps::{self, draw_steps};
-use crate::stops::{STOP_HEIGHT, draw_stop};
-use crate::style::STYLE;
+use crate::source::Source;
 use crate::table::Table;
 use crate::tables::Tables;
+use crate::unlisted::{first_unknown, first_unlisted};
+use crate::window::Window;
 use psy_base::Memory;
 use psy_log::Note;
 use std::alloc::Global;
 
-/// The picture of a run, as an SVG file of at most 2,000,000 bytes. Its lanes are those of the stopped agents, the variables
-/// and the streams. All of them together have at most 48,000 columns, none of less than a pixel: of several values in one
-/// column a line goes over the first, the least, the greatest and the last, and several messages are one mark. Where a
-/// file would be longer, which that of a run within the limits never is, it is one that says so. Notes that are no part of a
-/// run are skipped, and dates past 1,000,000 are drawn there.
-pub fn timeline(alloc: Global, notes: &[Note]) -> Result<Vec<u8>, DrawFault>
+/// The picture of the dates of a run in a window, as an SVG file of at most 2,000,000 bytes with this title. Its lanes are those
+/// of the agents that were stopped up to the window's end, of the variables that have a value there and of the streams; of these
+/// those whose names were asked for, or all where none were. All of them together have at most 40,000 columns, none of less than a
+/// pixel: of several values in one column a line goes over the first, the least, the greatest and the last, a box is filled, and
+/// several messages are one mark. Where a file would be longer, or would have more than 4,096 lanes or rows of a table, it is
+/// one that says so. Notes that are no part of a run are skipped.
+pub fn timeline(
+    alloc: Global,
+    title: &str,
+    notes: &[Note],
+    window: Window,
+    names: &[String],
+) -> Result<Vec<u8>, DrawFault>
     ensures unlisted { (n : ℕ) → result ≡ Err (DrawFault.Unlisted n) → first_unlisted notes.now ≡ Some n }
     ensures listed { OnOk result (first_unlisted notes.now ≡ None) }
+    ensures unknown { (k : ℕ) → result ≡ Err (DrawFault.Unknown k) → first_unasked notes.now (map string_bytes names.now) ≡ Some k }
+    ensures known { OnOk result (first_unasked notes.now (map string_bytes names.now) ≡ None) }
+    ensures empty { result ≡ Err DrawFault.Empty → window_end window (last_date notes.now) < window.from }
+    ensures dated { OnOk result (window.from ≤ window_end window (last_date notes.now)) }
+    // The lanes of the window are there, those alone, and each once, unless the picture would be too large.
+    ensures lanes { IfOk result (λ svg. (svg.items ≡ svg_of TOO_LARGE.now) ⊎ ShowsWindow svg.items window (map string_bytes names.now) notes.now) }
     ensures whole { IfOk result (λ svg. (inside : List ℕ) × (svg.items ≡ svg_of inside)) }
     // Each row of the summary is shown, unless the picture would be too large.
     ensures shown { IfOk result (λ svg. (svg.items ≡ svg_of TOO_LARGE.now) ⊎ ShowsSummary svg.items notes.now) }
     ensures small { IfOk result (λ svg. vec_len svg ≤ 2000000) }
 {
     let listed = Listed::of(alloc, notes)?;
-    let lanes = listed.lanes().saturating_add(collect::stop_count(notes));
-    let scale = Scale::new(collect::last_date(notes), lanes);
-    let run = Run::of(alloc, notes, &listed, &scale)?;
-    let tables = Tables::of(alloc, notes)?;
-    let frame = Frame::of(&listed, &run, &tables);
-    let picture = Picture {
-        alloc,
-        listed,
-        run,
-        tables,
-        scale,
-        frame,
-    };
-    let inside = picture.inside()?;
-    Ok(file_of(alloc, &inside)?)
+    match names_fault(notes, names, &listed) {
+        Some(fault) => Err(fault),
+        None => drawn(alloc, title, notes, window, names),
+    }
 }
 
-// What is drawn, and where.
-#[derive(Drop)]
-struct Picture<'a> {
+// The first name that isn't listed, of those in the notes, or else of those that were asked for.
+fn names_fault(notes: &[Note], names: &[String], listed: &Listed) -> Option<DrawFault>
+    ensures { MatchOption result (AllListed listed.now notes.now (map string_bytes names.now)) (NamesFault listed.now notes.now (map string_bytes names.now)) }
+{
+    match first_unlisted(notes, listed) {
+        Some(number) => Some(DrawFault::Unlisted { number }),
+        None => match first_unknown(names, listed) {
+            Some(place) => Some(DrawFault::Unknown { place }),
+            None => None,
+        },
+    }
+}
+
+// The picture, where all names are listed.
+fn drawn(
     alloc: Global,
-    listed: Listed<'a>,
-    run: Run<'a>,
-    tables: Tables<'a>,
-    scale: Scale,
-    frame: Frame,
+    title: &str,
+    notes: &[Note],
+    window: Window,
+    names: &[String],
+) -> Result<Vec<u8>, DrawFault>
+    ensures unlisted { (n : ℕ) → result ≡ Err (DrawFault.Unlisted n) → ⊥ }
+    ensures unknown { (k : ℕ) → result ≡ Err (DrawFault.Unknown k) → ⊥ }
+    ensures empty { result ≡ Err DrawFault.Empty → window_end window (last_date notes.now) < window.from }
+    ensures dated { OnOk result (window.from ≤ window_end window (last_date notes.now)) }
+    ensures lanes { IfOk result (λ svg. (svg.items ≡ svg_of TOO_LARGE.now) ⊎ ShowsWindow svg.items window (map string_bytes names.now) notes.now) }
+    ensures whole { IfOk result (λ svg. (inside : List ℕ) × (svg.items ≡ svg_of inside)) }
+    ensures shown { IfOk result (λ svg. (svg.items ≡ svg_of TOO_LARGE.now) ⊎ ShowsSummary svg.items notes.now) }
+    ensures small { IfOk result (λ svg. vec_len svg ≤ 2000000) }
+{
+    let lanes = lane_count(notes, names);
+    match Scale::new(window, last_date(notes), lanes) {
+        Some(scale) => Ok(file_by(
+            alloc,
+            title,
+            Source {
+                notes,
+                names,
+                scale: &scale,
+            },
+        )?),
+        None => Err(DrawFault::Empty),
+    }
 }
 
-impl<'a> Picture<'a> {
-    // The inside of the file.
-    fn inside(&self) -> Result<Page, Memory>
-        ensures agents { IfOk result (λ page. All (ShowsRow page) self.now.tables.agents.rows.items) }
-        ensures variables { IfOk result (λ page. All (ShowsRow page) self.now.tables.variables.rows.items) }
-        ensures streams { IfOk result (λ page. All (ShowsRow page) self.now.tables.streams.rows.items) }
-    {
-        let mut page = Page::new(self.alloc);
-        self.put_head(&mut page)?;
-        self.put_dates(&mut page)?;
-        let top = self.put_stops(&mut page)?;
-        let top = self.put_variables(&mut page, top)?;
-        self.put_streams(&mut page, top)?;
-        self.put_tables(&mut page)?;
-        Ok(page)
+// The file of a picture by a scale.
+fn file_by(alloc: Global, title: &str, source: Source) -> Result<Vec<u8>, Memory>
+    ensures lanes { IfOk result (λ svg. (svg.items ≡ svg_of TOO_LARGE.now) ⊎ ShowsSource svg.items source.entry) }
+    ensures whole { IfOk result (λ svg. (inside : List ℕ) × (svg.items ≡ svg_of inside)) }
+    ensures shown { IfOk result (λ svg. (svg.items ≡ svg_of TOO_LARGE.now) ⊎ ShowsSummary svg.items source.entry.notes.now) }
+    ensures small { IfOk result (λ svg. vec_len svg ≤ 2000000) }
+{
+    match inside_of(alloc, title, source) {
+        Ok(inside) => Ok(file_of(alloc, &inside)?),
+        Err(RoomFault::Full) => Ok(too_large(alloc)?),
+        Err(RoomFault::Memory) => Err(Memory),
     }
+}
 
-    fn put_head(&self, page: &mut Page) -> Result<(), Memory> {
-        page.put(&[
-            Piece::Raw(b" xmlns=\"http://www.w3.org/2000/svg\" width=\""),
-            Piece::Number(self.frame.width),
-            Piece::Raw(b"\" height=\""),
-            Piece::Number(self.frame.height),
-            Piece::Raw(b"\" viewBox=\"0 0 "),
-            Piece::Number(self.frame.width),
-            Piece::Raw(b" "),
-            Piece::Number(self.frame.height),
-            Piece::Raw(b"\" role=\"img\">\n<title>A run up to date "),
-            Piece::Number(self.scale.until),
-            Piece::Raw(b"</title>\n"),
-            Piece::Raw(STYLE),
-            Piece::Raw(b"<rect class=\"page\" width=\"100%\" height=\"100%\"/>\n"),
-        ])
-    }
+// The inside of the file.
+fn inside_of(alloc: Global, title: &str, source: Source) -> Result<Page, RoomFault>
+    ensures summary { IfOk result (λ page. ShowsSummary page source.entry.notes.now) }
+    ensures lanes { IfOk result (λ page. ShowsSource page source.entry) }
+{
+    let plan = Plan::of(alloc, source)?;
+    let inputs = Inputs::of(alloc, plan.inputs.as_slice())?;
+    let tables = Tables::of(alloc, source.notes)?;
+    let frame = Frame::of(plan.lanes.as_slice(), &inputs, &tables);
+    let mut page = Page::new(alloc);
+    put_head(&mut page, &frame, source.scale, title)?;
+    put_dates(&mut page, &frame, source.scale)?;
+    put_lanes(alloc, &mut page, frame.left, plan.lanes.as_slice())?;
+    put_inputs(&mut page, frame.inputs, &inputs)?;
+    put_legend(&mut page, frame.legend)?;
+    put_tables(&mut page, frame.tables, &tables)?;
+    Ok(page)
+}
 
-    fn put_dates(&self, page: &mut Page) -> Result<(), Memory> {
-        let Frame { left, bottom, .. } = self.frame;
-        draw_grid(page, &self.scale, left, AXIS_HEIGHT, bottom)?;
-        draw_axis(page, &self.scale, Corner { left, top: 0 })?;
-        if self.frame.high {
-            draw_axis(page, &self.scale, Corner { left, top: bottom })?;
-        }
-        Ok(())
+fn put_dates(page: &mut Page, frame: &Frame, scale: &Scale) -> Result<(), Memory> {
+    let Frame { left, bottom, .. } = *frame;
+    draw_grid(page, scale, left, LANES_TOP, bottom)?;
+    let top = LANES_TOP - AXIS_HEIGHT;
+    draw_axis(page, scale, Corner { left, top })?;
+    if is_high(bottom) {
+        draw_axis(page, scale, Corner { left, top: bottom })?;
     }
+    Ok(())
+}
 
-    fn put_stops(&self, page: &mut Page) -> Result<u32, Memory> {
-        let left = self.frame.left;
-        let mut top = AXIS_HEIGHT;
-        for stop in self.run.stops.as_slice() {
-            draw_stop(page, Corner { left, top }, stop)?;
-            top = top.saturating_add(STOP_HEIGHT);
-        }
-        Ok(top)
+// Draws the lanes, one below the other.
+fn put_lanes(alloc: Global, page: &mut Page, left: u32, lanes: &[Lane]) -> Result<(), Memory>
+    requires room { length lanes.now ≤ MOST_LANES }
+    requires beside { 12 ≤ left }
+    ensures { OnOk result ((drawn : List ℕ) × (page.new ≡ page.old ++ drawn) × Stacks left 56 lanes.now drawn) }
+{
+    let tells = column_count(lanes) <= TELLING_COLUMNS;
+    let mut top = LANES_TOP;
+    for lane in lanes {
+        draw_lane(alloc, page, Corner { left, top }, lane, tells)?;
+        top += lane.height();
     }
+    Ok(())
+}
 
-    fn put_variables(&self, page: &mut Page, top: u32) -> Result<u32, Memory> {
-        let left = self.frame.left;
-        let mut top = top;
-        for place in 0..self.listed.variables.len() {
-            let columns = self.run.variables.columns(place);
-            let name = self.listed.variables.name(place);
-            draw_steps(page, Corner { left, top }, name, columns)?;
-            top = top.saturating_add(steps::height_of(columns));
-        }
-        Ok(top)
+// How many columns the lanes have together, as far as they are counted.
+fn column_count(lanes: &[Lane]) -> usize {
+    let mut count = 0usize;
+    for lane in lanes {
+        count = count.saturating_add(lane.columns());
     }
+    count
+}
 
-    fn put_streams(&self, page: &mut Page, top: u32) -> Result<(), Memory> {
-        let left = self.frame.left;
-        let mut top = top;
-        for place in 0..self.listed.streams.len() {
-            let columns = self.run.streams.columns(place);
-            let name = self.listed.streams.name(place);
-            draw_messages(page, Corner { left, top }, name, columns)?;
-            top = top.saturating_add(MESSAGES_HEIGHT);
-        }
-        Ok(())
-    }
+fn put_inputs(page: &mut Page, top: u32, inputs: &Inputs) -> Result<(), Memory>
+    ensures { OnOk result (Grows page.old page.new) }
+{
+    page.put(&[
+        Piece::Raw(b"<g class=\"notes\" transform=\"translate(0 "),
+        Piece::Number(top),
+        Piece::Raw(b")\">\n"),
+        Piece::Raw(inputs.text.bytes()),
+        Piece::Raw(b"</g>\n"),
+    ])?;
+    Ok(())
+}
 
-    // Draws the tables side by side.
-    fn put_tables(&self, page: &mut Page) -> Result<(), Memory>
-        ensures agents { OnOk result (All (ShowsRow page.new) self.now.tables.agents.rows.items) }
-        ensures variables { OnOk result (All (ShowsRow page.new) self.now.tables.variables.rows.items) }
-        ensures streams { OnOk result (All (ShowsRow page.new) self.now.tables.streams.rows.items) }
-    {
-        let Tables {
-            agents,
-            variables,
-            streams,
-        } = &self.tables;
-        let top = self.frame.tables;
-        agents.draw(page, Corner { left: MARGIN, top })?;
-        let left = behind(MARGIN, agents);
-        variables.draw(page, Corner { left, top })?;
-        let left = behind(left, variables);
-        streams.draw(page, Corner { left, top })?;
-        Ok(())
-    }
+// Draws the tables side by side.
+fn put_tables(page: &mut Page, top: u32, tables: &Tables) -> Result<(), Memory>
+    ensures grows { OnOk result (Grows page.old page.new) }
+    ensures agents { OnOk result (All (ShowsRow page.new) tables.now.agents.rows.items) }
+    ensures variables { OnOk result (All (ShowsRow page.new) tables.now.variables.rows.items) }
+    ensures streams { OnOk result (All (ShowsRow page.new) tables.now.streams.rows.items) }
+{
+    let Tables {
+        agents,
+        variables,
+        streams,
+    } = tables;
+    agents.draw(page, Corner { left: MARGIN, top })?;
+    let left = behind(MARGIN, agents);
+    variables.draw(page, Corner { left, top })?;
+    let left = behind(left, variables);
+    streams.draw(page, Corner { left, top })?;
+    Ok(())
 }
 
 // Where the next table begins behind one that begins here.
-fn behind(left: u32, table: &Table) -> u32 {
+fn behind(left: u32, table: &Table) -> u32
+    requires { left ≤ 900000 }
+    ensures above { left ≤ result }
+    ensures near { result ≤ left + 3000 }
+{
     match table.width() {
         0 => left,
-        width => left.saturating_add(width).saturating_add(TABLE_GAP),
+        width => left + width + TABLE_GAP,
     }
 }

@@ -5,7 +5,7 @@
 pub enum Piece<'a> {
     /// These bytes as they are.
     Raw(&'a [u8]),
-    /// A text, with `&`, `<`, `>` and `"` escaped.
+    /// A text, with `&`, `<`, `>` and `"` escaped, and each control code as a `?`.
     Text(&'a [u8]),
     /// The digits of a number.
     Number(u32),

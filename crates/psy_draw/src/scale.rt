@@ -1,47 +1,66 @@
-//! From dates and values to pixels.
+//! From dates to pixels.
 
-ghost use Rattle.std.specs.Prelude.{◌≡◌, ◌<◌, ◌≤◌, ℕ, min};
+ghost use Rattle.std.specs.Prelude.{◌≡◌, ◌<◌, ◌≤◌, ℕ, IfSome, min, max};
 ghost use Rattle.psy_base.specs.declared.limits.TheConstants.{UNTIL};
 
+use crate::window::Window;
 use psy_base::limits;
 
 /// The width of the plot, in pixels.
 pub const PLOT_WIDTH: u32 = 960;
 
 /// The columns that all lanes have together, at most.
-pub const COLUMNS: u32 = 48_000;
+pub const COLUMNS: u32 = 40_000;
 
-/// How dates become pixels: the last date stands at the plot's right end, and places are multiples of the grain.
+/// How dates become pixels: the first date stands at the plot's left end, the last one at its right end, and places are
+/// multiples of the grain.
 #[derive(Clone, Copy, Debug)]
 pub struct Scale {
-    pub until: u32,
+    pub from: u32,
+    pub to: u32,
     pub grain: u32,
-    ghost dated: { until ≤ UNTIL },
+    ghost ordered: { from ≤ to },
+    ghost dated: { to ≤ UNTIL },
     ghost grained: { 0 < grain },
 }
 
 impl Scale {
-    ghost use Rattle.psy_draw.specs.Places.{x_of};
+    ghost use Rattle.psy_draw.specs.Places.{x_of, window_end};
 
-    /// The scale of a run up to a date, with so many lanes.
-    pub fn new(until: u64, lanes: usize) -> Scale
-        ensures { result.until ≡ min until UNTIL }
+    /// The scale of a window of a run up to a date, with so many lanes; none exactly where no date of the run lies in it.
+    pub fn new(window: Window, last: u64, lanes: usize) -> Option<Scale>
+        ensures from { IfSome result (λ scale. scale.from ≡ min window.from UNTIL) }
+        ensures to { IfSome result (λ scale. scale.to ≡ min (window_end window last) UNTIL) }
+        ensures some { IfSome result (λ scale. window.from ≤ window_end window last) }
+        ensures none { result ≡ None → window_end window last < window.from }
     {
-        Scale {
-            until: bounded_date(until),
-            grain: grain_of(lanes),
+        let to = window.to.min(last);
+        if to < window.from {
+            return None;
         }
+        Some(Scale {
+            from: bounded_date(window.from),
+            to: bounded_date(to),
+            grain: grain_of(lanes),
+        })
     }
 
     /// The place of a date.
     pub fn x(&self, date: u64) -> u32
-        ensures place { result ≡ x_of self.now.until self.now.grain (min date UNTIL) }
+        ensures place { result ≡ x_of self.now.from self.now.to self.now.grain date }
         ensures within { result ≤ PLOT_WIDTH }
         // A later date doesn't stand before it.
-        ensures rises { (later : ℕ) → date ≤ later → result ≤ x_of self.now.until self.now.grain (min later UNTIL) }
+        ensures rises { (later : ℕ) → date ≤ later → result ≤ x_of self.now.from self.now.to self.now.grain later }
     {
-        let date = bounded_date(date).min(self.until);
-        let x = date * PLOT_WIDTH / self.until.max(1);
+        self.place(date)
+    }
+
+    fn place(&self, date: u64) -> u32
+        ensures place { result ≡ x_of self.now.from self.now.to self.now.grain date }
+        ensures within { result ≤ PLOT_WIDTH }
+    {
+        let date = date.min(u64::from(self.to)) as u32;
+        let x = (date.max(self.from) - self.from) * PLOT_WIDTH / (self.to - self.from).max(1);
         x / self.grain * self.grain
     }
 }
@@ -50,7 +69,7 @@ impl Scale {
 fn grain_of(lanes: usize) -> u32
     ensures { 0 < result }
 {
-    let lanes = lanes.clamp(1, 48_000) as u32;
+    let lanes = lanes.clamp(1, COLUMNS as usize) as u32;
     let columns = (COLUMNS / lanes).min(PLOT_WIDTH);
     PLOT_WIDTH.div_ceil(columns)
 }

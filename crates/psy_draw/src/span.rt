@@ -3,6 +3,7 @@
 ghost use Rattle.std.specs.Prelude.{◌≡◌};
 ghost use Rattle.psy_draw.specs.Places.{depth_of};
 
+use crate::column::Column;
 use crate::labels::letters_of;
 
 /// The least and the greatest value of a lane.
@@ -13,6 +14,21 @@ pub struct Span {
 }
 
 impl Span {
+    /// The least and the greatest value of some columns.
+    pub fn of(first: &Column, rest: &[Column]) -> Span {
+        let mut span = Span {
+            least: first.least,
+            greatest: first.greatest,
+        };
+        for column in rest {
+            span = Span {
+                least: span.least.min(column.least),
+                greatest: span.greatest.max(column.greatest),
+            };
+        }
+        span
+    }
+
     /// The letters of the least or the greatest value, whichever has more; 0 where they are one.
     pub fn letters(&self) -> usize {
         if self.least == self.greatest {

@@ -6,30 +6,40 @@ text{font-family:ui-monospace,SFMono-Regular,Menlo,Consolas,'DejaVu Sans Mono',m
 path{fill:none;stroke-width:1}
 .page{fill:#ffffff}
 .name{font-size:12px}
-.bound,.none,.word,.axis text,.head{fill:#6a737d}
+.title text{font-size:12px;font-weight:bold}
+.bound,.word,.axis text,.head,.notes text{fill:#6a737d}
 .bound,.number{text-anchor:end}
-.bound,.none{font-size:9px}
+.bound{font-size:9px}
 .axis text{text-anchor:middle}
 .axis .word{text-anchor:start;font-size:12px}
 .grid,.rule,.base{shape-rendering:crispEdges}
 .grid{stroke:#eaeef2}
 .rule,.base{stroke:#d0d7de}
-.variable path{stroke:#0969da;stroke-width:1.5}
-.stream path{stroke:#8250df;stroke-width:6;stroke-linecap:round}
+.tell{fill:#ffffff;fill-opacity:0}
+.tell:hover{fill:#6a737d;fill-opacity:.15}
+.zero{stroke:#d0d7de;stroke-dasharray:2 4}
+.tick{stroke:#6a737d}
+.line{stroke:#0969da;stroke-width:1.5}
+.box{stroke:#0969da;fill:#ddf4ff}
+.dense{fill:#0969da}
+.stream .mark{stroke:#8250df;stroke-width:6;stroke-linecap:round}
 .stop path{stroke:#cf222e;stroke-width:1.5}
 .stop text{fill:#cf222e}
 .stop .mark{stroke-width:9;stroke-linecap:round}
 .stop .silence{stroke-dasharray:4 4}
 .table text{font-size:11px}
-.variable .rule,.stream .rule,.stream .base,.stop .rule{stroke:#d0d7de;stroke-width:1}
+.stop .rule{stroke:#d0d7de;stroke-width:1}
 @media (prefers-color-scheme:dark){
 text{fill:#e6edf3}
 .page{fill:#0d1117}
-.bound,.none,.word,.axis text,.table .head{fill:#8d96a0}
+.bound,.word,.axis text,.table .head,.notes text{fill:#8d96a0}
 .grid{stroke:#1f252c}
-.rule,.base,.variable .rule,.stream .rule,.stream .base,.stop .rule{stroke:#30363d}
-.variable path{stroke:#4493f8}
-.stream path{stroke:#ab7df8}
+.rule,.base,.zero,.stop .rule{stroke:#30363d}
+.tick{stroke:#8d96a0}
+.line{stroke:#4493f8}
+.box{stroke:#4493f8;fill:#121d2f}
+.dense{fill:#4493f8}
+.stream .mark{stroke:#ab7df8}
 .stop path{stroke:#f85149}
 .stop text{fill:#f85149}
 }

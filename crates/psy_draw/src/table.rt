@@ -1,12 +1,14 @@
 //! A table of the summary.
 
-ghost use Rattle.std.specs.Prelude.{◌≡◌, ◌++◌, [], ◌∷◌, All, OnOk};
+ghost use Rattle.std.specs.Prelude.{◌≡◌, ◌≤◌, ◌++◌, [], ◌∷◌, All, OnOk, length};
+ghost use Rattle.psy_draw.specs.declared.room.TheConstants.{MOST_ROWS};
 ghost use Rattle.psy_draw.specs.Showing.{Grows, ShowsRow};
 
 use crate::labels::digits_of;
-use crate::layout::{Corner, TABLE_SIZE, width_of};
+use crate::layout::{Corner, TABLE_LETTER, width_of};
 use crate::page::Page;
 use crate::piece::Piece;
+use crate::room::{MOST_ROWS, RoomFault};
 use crate::row::{Ends, Row, put_row};
 use psy_base::Memory;
 use std::alloc::Global;
@@ -14,43 +16,71 @@ use std::alloc::Global;
 /// The height of a row.
 pub const ROW_HEIGHT: u32 = 17;
 
+// What stays free between two columns.
+const COLUMN_GAP: u32 = 22;
+
+/// The heads of the three columns of a table.
+#[derive(Clone, Copy, Debug)]
+pub struct Heads {
+    pub name: &'static [u8],
+    pub first: &'static [u8],
+    pub second: &'static [u8],
+}
+
+// How many letters the three columns have.
+#[derive(Clone, Copy, Debug)]
+struct Letters {
+    name: usize,
+    first: usize,
+    second: usize,
+}
+
 /// A table: its heads, its rows, and how many letters its three columns have.
 #[derive(Drop)]
 pub struct Table<'a> {
-    heads: [&'static [u8]; 3],
+    heads: Heads,
     pub rows: Vec<Row<'a>>,
-    letters: [usize; 3],
+    letters: Letters,
+    ghost room: { length rows.items ≤ MOST_ROWS },
 }
 
 impl<'a> Table<'a> {
     /// A table without rows.
-    pub fn new(alloc: Global, heads: [&'static [u8]; 3]) -> Table<'a>
+    pub fn new(alloc: Global, heads: Heads) -> Table<'a>
         ensures { result.rows.items ≡ [] }
     {
-        let [name, first, second] = heads;
         Table {
             heads,
             rows: Vec::new(alloc),
-            letters: [name.len(), first.len(), second.len()],
+            letters: Letters {
+                name: heads.name.len(),
+                first: heads.first.len(),
+                second: heads.second.len(),
+            },
         }
     }
 
-    /// Adds a row.
-    pub fn add(&mut self, row: Row<'a>) -> Result<(), Memory>
+    /// Adds a row, where it has room.
+    pub fn add(&mut self, row: Row<'a>) -> Result<(), RoomFault>
         ensures { OnOk result (self.new.rows.items ≡ self.old.rows.items ++ row.entry ∷ []) }
     {
-        let [name, first, second] = self.letters;
-        self.letters = [
-            name.max(row.name.len()),
-            first.max(digits_of(row.first)),
-            second.max(second_letters(row.second)),
-        ];
+        if MOST_ROWS <= self.rows.len() {
+            return Err(RoomFault::Full);
+        }
+        let letters = self.letters;
+        self.letters = Letters {
+            name: letters.name.max(row.name.len()),
+            first: letters.first.max(digits_of(row.first)),
+            second: letters.second.max(second_letters(row.second)),
+        };
         self.rows.push(row)?;
         Ok(())
     }
 
     /// Its width, and 0 where it has no rows.
-    pub fn width(&self) -> u32 {
+    pub fn width(&self) -> u32
+        ensures { result ≤ 2500 }
+    {
         if self.rows.is_empty() {
             return 0;
         }
@@ -58,23 +88,24 @@ impl<'a> Table<'a> {
     }
 
     /// Its height, and 0 where it has no rows.
-    pub fn height(&self) -> u32 {
+    pub fn height(&self) -> u32
+        ensures { result ≤ 100000 }
+    {
         if self.rows.is_empty() {
             return 0;
         }
-        let rows = self.rows.len().min(100_000) as u32;
-        (rows + 1) * ROW_HEIGHT
+        (self.rows.len() as u32 + 1) * ROW_HEIGHT
     }
 
     // Where the numbers end.
-    fn ends(&self) -> Ends {
-        let [name, first, second] = self.letters;
-        let first = width_of(name, TABLE_SIZE)
-            .saturating_add(width_of(first, TABLE_SIZE))
-            .saturating_add(2 * TABLE_SIZE);
-        let second = first
-            .saturating_add(width_of(second, TABLE_SIZE))
-            .saturating_add(2 * TABLE_SIZE);
+    fn ends(&self) -> Ends
+        ensures { result.second ≤ 2500 }
+    {
+        let letters = self.letters;
+        let first = width_of(letters.name, TABLE_LETTER)
+            + width_of(letters.first, TABLE_LETTER)
+            + COLUMN_GAP;
+        let second = first + width_of(letters.second, TABLE_LETTER) + COLUMN_GAP;
         Ends { first, second }
     }
 
@@ -97,7 +128,7 @@ impl<'a> Table<'a> {
         put_heads(page, ends, self.heads)?;
         let mut y = 12u32;
         for row in self.rows.as_slice() {
-            y = y.saturating_add(ROW_HEIGHT);
+            y += ROW_HEIGHT;
             put_row(page, y, ends, row)?;
         }
         page.put(&[Piece::Raw(b"</g>\n")])?;
@@ -105,23 +136,22 @@ impl<'a> Table<'a> {
     }
 }
 
-fn put_heads(page: &mut Page, ends: Ends, heads: [&'static [u8]; 3]) -> Result<(), Memory>
+fn put_heads(page: &mut Page, ends: Ends, heads: Heads) -> Result<(), Memory>
     ensures { OnOk result (Grows page.old page.new) }
 {
-    let [name, first, second] = heads;
     page.put(&[
         Piece::Raw(b"<path class=\"rule\" d=\"M0 17H"),
         Piece::Number(ends.second),
         Piece::Raw(b"\"/>\n<text class=\"head\" y=\"12\">"),
-        Piece::Text(name),
+        Piece::Text(heads.name),
         Piece::Raw(b"<tspan class=\"number\" x=\""),
         Piece::Number(ends.first),
         Piece::Raw(b"\">"),
-        Piece::Text(first),
+        Piece::Text(heads.first),
         Piece::Raw(b"</tspan><tspan class=\"number\" x=\""),
         Piece::Number(ends.second),
         Piece::Raw(b"\">"),
-        Piece::Text(second),
+        Piece::Text(heads.second),
         Piece::Raw(b"</tspan></text>\n"),
     ])
 }

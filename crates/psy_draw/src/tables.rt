@@ -1,12 +1,14 @@
 //! The tables of the summary.
 
-ghost use Rattle.std.specs.Prelude.{◌≡◌, ◌++◌, IfOk, OnOk};
+ghost use Rattle.std.specs.Prelude.{◌≡◌, ◌≤◌, ◌++◌, IfOk, OnOk};
 ghost use Rattle.std.specs.List.{flat_map};
 ghost use Rattle.psy_draw.specs.Showing.{agent_rows, stream_rows, variable_rows};
 
+use crate::frame::TABLE_GAP;
+use crate::layout::MARGIN;
+use crate::room::RoomFault;
 use crate::row::Row;
-use crate::table::Table;
-use psy_base::Memory;
+use crate::table::{Heads, Table};
 use psy_log::Note;
 use std::alloc::Global;
 
@@ -20,15 +22,36 @@ pub struct Tables<'a> {
 
 impl<'a> Tables<'a> {
     /// The tables of the summary among these notes.
-    pub fn of(alloc: Global, notes: &[Note<'a>]) -> Result<Tables<'a>, Memory>
+    pub fn of(alloc: Global, notes: &[Note<'a>]) -> Result<Tables<'a>, RoomFault>
         ensures agents { IfOk result (λ tables. tables.agents.rows.items ≡ flat_map agent_rows notes.now) }
         ensures variables { IfOk result (λ tables. tables.variables.rows.items ≡ flat_map variable_rows notes.now) }
         ensures streams { IfOk result (λ tables. tables.streams.rows.items ≡ flat_map stream_rows notes.now) }
     {
         let mut tables = Tables {
-            agents: Table::new(alloc, [b"agent", b"actions", b"least slack"]),
-            variables: Table::new(alloc, [b"variable", b"size", b"reach"]),
-            streams: Table::new(alloc, [b"stream", b"size", b"most held"]),
+            agents: Table::new(
+                alloc,
+                Heads {
+                    name: b"agent",
+                    first: b"actions",
+                    second: b"least slack",
+                },
+            ),
+            variables: Table::new(
+                alloc,
+                Heads {
+                    name: b"variable",
+                    first: b"size",
+                    second: b"reach",
+                },
+            ),
+            streams: Table::new(
+                alloc,
+                Heads {
+                    name: b"stream",
+                    first: b"size",
+                    second: b"most held",
+                },
+            ),
         };
         for note in notes {
             tables.add(*note)?;
@@ -36,7 +59,7 @@ impl<'a> Tables<'a> {
         Ok(tables)
     }
 
-    fn add(&mut self, note: Note<'a>) -> Result<(), Memory>
+    fn add(&mut self, note: Note<'a>) -> Result<(), RoomFault>
         ensures agents { OnOk result (self.new.agents.rows.items ≡ self.old.agents.rows.items ++ agent_rows note.entry) }
         ensures variables { OnOk result (self.new.variables.rows.items ≡ self.old.variables.rows.items ++ variable_rows note.entry) }
         ensures streams { OnOk result (self.new.streams.rows.items ≡ self.old.streams.rows.items ++ stream_rows note.entry) }
@@ -69,8 +92,21 @@ impl<'a> Tables<'a> {
         }
     }
 
+    /// The width of all of them, side by side.
+    pub fn width(&self) -> u32
+        ensures { result ≤ 9000 }
+    {
+        self.agents.width()
+            + self.variables.width()
+            + self.streams.width()
+            + 2 * MARGIN
+            + 2 * TABLE_GAP
+    }
+
     /// The height of the highest.
-    pub fn height(&self) -> u32 {
+    pub fn height(&self) -> u32
+        ensures { result ≤ 100000 }
+    {
         self.agents
             .height()
             .max(self.variables.height())

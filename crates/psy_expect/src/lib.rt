@@ -9,7 +9,6 @@ mod hint;
 pub mod laws;
 mod phrase;
 mod slip;
-mod spelling;
 mod terminal;
 mod viable;
 

@@ -3,9 +3,9 @@ ghost use Rattle.std.specs.Prelude.{◌≡◌, ◌++◌, IfOk, OnOk, codes, map,
 ghost use Rattle.psy_expect.specs.Phrases.{behind_first, group_of, listed, own_words, phrase_in, phrase_words, phrases, separator};
 
 use crate::group::{Group, group_of, group_words, lead, same};
-use crate::spelling::{sign_spelling, word_spelling};
 use crate::terminal::Terminal;
 use psy_base::Memory;
+use psy_token::{sign_spelling, word_spelling};
 use std::alloc::{AllocError, Global};
 
 /// What is told in words: a whole group of terminals, or one terminal by its own words.

@@ -11,7 +11,7 @@ use Rattle.psy_tree.specs.declared.unit.Stmt.{Stmt, fold-roll-Stmt}
 use Rattle.psy_tree.specs.declared.unit.Stmt.TheVariants as stmt
 use Rattle.psy_tree.specs.declared.unit.Stmt.TheOpen.{Stmt-F}
 use Rattle.psy_tree.specs.declared.unit.Unit.{Unit as Whole}
-use Rattle.psy_meaning.specs.QueueSizes.{delay_of, joined, sendings_in, sendings_of, sendings_step, sendings_to}
+use Rattle.psy_meaning.specs.Sendings.{delay_of, joined, sendings_in, sendings_of, sendings_step, sendings_to}
 use Rattle.psy_meaning.specs.Ways.{Sending}
 use Rattle.psy_flow.specs.Listed.{delay_among}
 

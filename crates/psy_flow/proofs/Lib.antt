@@ -35,10 +35,12 @@ mod ReachPieces
 mod ReachRests
 mod ReachTops
 mod ReachVariants
+mod ReadLists
 mod Related
 mod Rests
 mod Rounds
 mod Rows
+mod SameSizes
 mod SendsUpTo
 mod Silent
 mod Sizes

@@ -75,7 +75,7 @@ nexts_one functions agent xs ys a b =
     same_lists xs ys (a.length ∙ sym b.length)
     (λ point x y at also. numbers_same x y (a.rise point x at) (b.rise point y also) (λ n. ((λ c. (b.each point y also n).1 ((a.each point x at n).0 c)), (λ c. (a.each point x at n).1 ((b.each point y also n).0 c)))))
 
-all_nexts_one : (unit : Whole) (lists others : List (List (List ℕ))) → AreAllNexts unit lists → AreAllNexts unit others → lists ≡ others
+pub all_nexts_one : (unit : Whole) (lists others : List (List (List ℕ))) → AreAllNexts unit lists → AreAllNexts unit others → lists ≡ others
 all_nexts_one unit lists others a b =
     same_lists lists others (a.count ∙ sym b.count) (λ number xs ys at also.
     let less = slice_get_within lists number xs at in

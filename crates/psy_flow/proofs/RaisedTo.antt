@@ -11,7 +11,7 @@ use Rattle.psy_code.specs.declared.instr.Instr.TheVariants as instr
 use Rattle.psy_tree.specs.declared.unit.Unit.{Unit as Whole}
 use Rattle.psy_tree.specs.Parts.{agent_at}
 use Rattle.psy_meaning.specs.CodeWays.{AreCodeDelays, HasCodeDelay, place_of}
-use Rattle.psy_meaning.specs.QueueSizes.{delay_of, period_of}
+use Rattle.psy_meaning.specs.Sendings.{delay_of, period_of}
 use Rattle.psy_flow.specs.declared.parts.Part.{Part}
 use Rattle.psy_flow.specs.declared.parts.Part.TheVariants as part
 use Rattle.psy_flow.specs.CodeLists.{HasAgentDelay, HasDelayAmong, HasDelayThere, HasDelayUpTo, HasPartDelay, HasWayDelay, IsRaisedTo}

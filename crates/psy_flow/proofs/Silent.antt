@@ -51,7 +51,7 @@ pub counted : {X : Type 0} (p : X → Bool) (xs : List X) → 0 < count_by p xs 
 counted p [] h = absurd (omega (arith, h))
 counted p (x ∷ xs) h = counted_at p x xs (p x) refl h (counted p xs)
 
-counts : {X : Type 0} (p : X → Bool) (xs : List X) (x : X) (i : ℕ) → i < length xs → get_or xs i x ≡ x → p x ≡ true → 0 < count_by p xs
+pub counts : {X : Type 0} (p : X → Bool) (xs : List X) (x : X) (i : ℕ) → i < length xs → get_or xs i x ≡ x → p x ≡ true → 0 < count_by p xs
 counts p [] x i l e h = absurd (omega (arith, l))
 counts p (y ∷ xs) x zero l e h = omega (arith, sum_by-cons (λ y. cond (p y) 1 0) y xs, ap {B = ℕ} (λ b. cond b 1 0) (ap p e ∙ h))
 counts p (y ∷ xs) x (suc i) l e h = omega (arith, sum_by-cons (λ y. cond (p y) 1 0) y xs, counts p xs x i (omega (arith, l)) e h)

@@ -7,7 +7,7 @@ use Rattle.psy_code.specs.declared.instr.Instr.TheVariants as instr
 use Rattle.psy_tree.specs.declared.unit.Unit.{Unit as Whole}
 use Rattle.psy_tree.specs.Parts.{agent_at}
 use Rattle.psy_meaning.specs.CodeWays.{AreCodeLooks, AreCodeNexts, AreCodeSends, IsOnWay, budget_of, place_of}
-use Rattle.psy_meaning.specs.QueueSizes.{delay_of}
+use Rattle.psy_meaning.specs.Sendings.{delay_of}
 use Rattle.psy_flow.specs.declared.code_lists.WaysFrom.{WaysFrom}
 use Rattle.psy_flow.specs.declared.listed.AgentWays.{AgentWays}
 use Rattle.psy_flow.specs.declared.parts.Part.{Part}

@@ -7,6 +7,7 @@ pub mod Counted
 pub mod Listed
 pub mod Quests
 pub mod Reach
+pub mod Readings
 pub mod Tops
 pub mod Walks
 pub mod Worths

@@ -8,7 +8,7 @@ use Rattle.psy_tree.specs.declared.unit.FunctionDecl.{FunctionDecl}
 use Rattle.psy_tree.specs.declared.unit.Unit.{Unit as Whole}
 use Rattle.psy_meaning.specs.Flow.{AreNexts, MayLook}
 use Rattle.psy_meaning.specs.ListedWays.{AreLooks, AreSends, IsWayBefore}
-use Rattle.psy_meaning.specs.QueueSizes.{delay_of}
+use Rattle.psy_meaning.specs.Sendings.{delay_of}
 use Rattle.psy_meaning.specs.Ways.{Sending}
 use Rattle.psy_flow.specs.declared.listed.AgentWays.{AgentWays}
 

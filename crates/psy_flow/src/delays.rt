@@ -2,7 +2,7 @@
 
 ghost use Rattle.std.specs.Prelude.{◌≡◌, ◌+◌, ◌-◌, ◌*◌, IfOk};
 ghost use Rattle.psy_meaning.specs.ListedWays.{AreDelays};
-ghost use Rattle.psy_meaning.specs.QueueSizes.{longest_delay, period_of, sendings_in, sendings_of};
+ghost use Rattle.psy_meaning.specs.Sendings.{longest_delay, period_of, sendings_in, sendings_of};
 ghost use Rattle.psy_meaning.specs.Units.{IsOfText};
 ghost use Rattle.psy_flow.specs.Listed.{delay_among};
 

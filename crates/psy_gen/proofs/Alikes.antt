@@ -68,11 +68,11 @@ module _ (whole : Code) (its : AgentCode) where
       )
 
 -- The code of one agent
-record AgentAt (unit : Whole) (whole : Code) (number : ℕ) (agent : AgentDecl) (its : AgentCode) : Type 0 where
-  place : ℕ
-  entry : its ≡ agent_entry unit number agent place
-  has : HasAt whole.instrs place (agent_code agent place)
-  small : place + agent_size agent ≤ length whole.instrs
+pub record AgentAt (unit : Whole) (whole : Code) (number : ℕ) (agent : AgentDecl) (its : AgentCode) : Type 0 where
+  pub place : ℕ
+  pub entry : its ≡ agent_entry unit number agent place
+  pub has : HasAt whole.instrs place (agent_code agent place)
+  pub small : place + agent_size agent ≤ length whole.instrs
 
 agent_at : (unit : Whole) (whole : Code) (agents : List AgentDecl) (first p number : ℕ) (agent : AgentDecl) (its : AgentCode) → HasAt whole.instrs p (codes_from agent_code agent_size agents p) → p + total (map agent_size agents) ≤ length whole.instrs
     → slice_get agents number ≡ Some agent → slice_get (agent_entries unit first agents p) number ≡ Some its → AgentAt unit whole (first + number) agent its
@@ -168,7 +168,7 @@ module _ (unit : Whole) (whole : Code) (number : ℕ) (agent : AgentDecl) (its :
 
 -- ---- the whole
 
-agents_length : (unit : Whole) (agents : List AgentDecl) (n p : ℕ) → length (agent_entries unit n agents p) ≡ length agents
+pub agents_length : (unit : Whole) (agents : List AgentDecl) (n p : ℕ) → length (agent_entries unit n agents p) ≡ length agents
 agents_length unit [] n p = refl
 agents_length unit (a ∷ rest) n p = ap suc (agents_length unit rest (n + 1) (p + agent_size a))
 
@@ -176,19 +176,31 @@ agents_size : (agents : List AgentDecl) (p : ℕ) → length (codes_from agent_c
 agents_size [] p = refl
 agents_size (a ∷ rest) p = length-append (agent_code a p) (codes_from agent_code agent_size rest (p + agent_size a)) ∙ omega (arith, agent_length a p, agents_size rest (p + agent_size a))
 
+code_length : (unit : Whole) → length (code_of unit).instrs ≡ functions_size unit.functions + total (map agent_size unit.agents)
+code_length unit =
+    let start = functions_size unit.functions in
+    omega (arith, length-append (codes_from function_code function_size unit.functions 0) (codes_from agent_code agent_size unit.agents start), functions_length unit.functions 0, agents_size unit.agents start)
+
+-- The code of an agent, by its number
+pub agent_found : (unit : Whole) (number : ℕ) (agent : AgentDecl) (its : AgentCode) → slice_get unit.agents number ≡ Some agent → slice_get (code_of unit).agents number ≡ Some its → AgentAt unit (code_of unit) number agent its
+agent_found unit number agent its e f =
+    let start = functions_size unit.functions in
+    let first = codes_from function_code function_size unit.functions 0 in
+    let second = codes_from agent_code agent_size unit.agents start in
+    let all_second = subst (λ n. HasAt (first ++ second) n second) (functions_length unit.functions 0) (whole_has first second) in
+    let z : 0 + number ≡ number = omega arith in
+    subst (λ n. AgentAt unit (code_of unit) n agent its) z (agent_at unit (code_of unit) unit.agents 0 start number agent its all_second (omega (arith, code_length unit)) e f)
+
 pub code_alike : Lasts → Ends → (unit : Whole) → IsSoundUnit unit → ActsAlike unit (code_of unit)
 code_alike lasts ends unit sound =
     let start = functions_size unit.functions in
     let first = codes_from function_code function_size unit.functions 0 in
     let second = codes_from agent_code agent_size unit.agents start in
-    let len : length (first ++ second) ≡ start + total (map agent_size unit.agents) = omega (arith, length-append first second, functions_length unit.functions 0, agents_size unit.agents start) in
     let all_first = has-first (first ++ second) 0 first second (whole_has [] (first ++ second)) in
-    let all_second = subst (λ n. HasAt (first ++ second) n second) (functions_length unit.functions 0) (whole_has first second) in
     record {
       agents = agents_length unit unit.agents 0 start;
       each = λ number agent its e f.
-          agent_alike unit (code_of unit) number agent its sound
-          (let z : 0 + number ≡ number = omega arith in subst (λ n. AgentAt unit (code_of unit) n agent its) z (agent_at unit (code_of unit) unit.agents 0 start number agent its all_second (omega (arith, len)) e f))
-          (stand_from (code_of unit) its unit.functions 0 0 all_first (omega (arith, len)) (λ i. let y : 0 + i ≡ i = omega arith in ap (slice_get (function_entries unit.functions 0)) y))
+          agent_alike unit (code_of unit) number agent its sound (agent_found unit number agent its e f)
+          (stand_from (code_of unit) its unit.functions 0 0 all_first (omega (arith, code_length unit)) (λ i. let y : 0 + i ≡ i = omega arith in ap (slice_get (function_entries unit.functions 0)) y))
           lasts ends e;
     }

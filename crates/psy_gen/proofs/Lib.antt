@@ -20,3 +20,4 @@ mod Steps
 mod StmtRuns
 mod Small
 mod Wholes
+mod ways

@@ -39,7 +39,7 @@ all_of-append : (xs bs : List Act) (s : State) → all_of (xs ++ bs) s ≡ then_
 all_of-append [] bs s = refl
 all_of-append (a ∷ xs) bs s = after_first xs bs (a s) (all_of-append xs bs)
 
-stmts_are : (stmts : List Stmt) → stmts_in (map with_rests stmts) ≡ stmts
+pub stmts_are : (stmts : List Stmt) → stmts_in (map with_rests stmts) ≡ stmts
 stmts_are [] = refl
 stmts_are (x ∷ xs) = ap (λ l. x ∷ l) (stmts_are xs)
 

@@ -559,7 +559,7 @@ module _ (whole : Code) (its : AgentCode) (sc : Scope) (k : Context) (callees : 
           let body = block_code (parts ks) (c + 1) first in
           let inner = instr.Guard c most ∷ (instr.JumpZero (first + block_size (parts ks) + 1) ∷ (body ++ instr.Jump again ∷ [])) in
           omega (arith, length-append (expr_code sc.layout test again) inner, (exprs test).0 again, len-one body (instr.Jump again) (block_size (parts ks)) (block_sized ks (c + 1) first), sizes_same ks),
-      λ sound. recounted (bounded_code sc.layout test most (parts ks)) _ _ _ _ _ _ (omega (arith, sizes_same ks)) (omega (arith, loops_same ks)) (bounded_runs test most ks (exprs test) sound.0 sound.1 sound.2),
+      λ sound. recounted (bounded_code sc.layout test most (parts ks)) _ _ _ _ _ _ (omega (arith, sizes_same ks)) (omega (arith, loops_same ks)) (bounded_runs test most ks (exprs test) sound.0 sound.1.1 sound.2),
     )
 
     timed_layer : (test : Expr) (ks : List Known) → Layer (Stmt-F.Timed test (map tree ks))

@@ -1,4 +1,5 @@
 -- The lemmas of this crate, by subject.
+mod ByNexts
 mod Causes
 mod Cycles
 mod EdgesKept

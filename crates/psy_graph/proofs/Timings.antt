@@ -1,5 +1,6 @@
 -- What is known of the timing of an agent of a text.
-use Rattle.std.proofs.Common.{◌≡◌, ℕ, zero, suc, ◌+◌, ◌<◌, ◌≤◌, List, [], ◌∷◌, ◌++◌, All, length, get_or, sym, ap, subst, ◌∙◌, inl, inr, arith}
+use Rattle.std.proofs.Common.{◌≡◌, ℕ, zero, suc, ◌+◌, ◌<◌, ◌≤◌, List, [], ◌∷◌, ◌++◌, All, length, get_or, Some, sym, ap, subst, ◌∙◌, inl, inr, arith}
+use Rattle.std.specs.Prelude.{slice_get}
 use Rattle.std.proofs.lemmas.Bool.{cases_lt}
 use Rattle.std.proofs.lemmas.Option.{slice_get_within, get_or_from_slice_get, slice_get-get_or}
 use Rattle.std.proofs.lemmas.List.{get_or_append_left, get_or_push, get_or_past}
@@ -9,7 +10,7 @@ use Rattle.psy_tree.specs.declared.unit.AgentDecl.{AgentDecl}
 use Rattle.psy_tree.specs.declared.unit.Point.{Point}
 use Rattle.psy_tree.specs.declared.unit.Unit.{Unit}
 use Rattle.psy_flow.specs.Agents.{IsAgentOf}
-use Rattle.psy_meaning.specs.Flow.{AreNexts, Rises}
+use Rattle.psy_meaning.specs.Flow.{Rises}
 use Rattle.psy_meaning.specs.Timing.{timing_of}
 use Rattle.psy_meaning.specs.Units.{HasHead, IsBareAgent, IsBarePoint}
 use Rattle.psy_graph.specs.Graphs.{IsTimed}
@@ -43,8 +44,10 @@ points_count unit agent (p ∷ points) d h (suc point) some l = (h.1 point d (om
 nothing_rises : (xs : List ℕ) → length xs ≡ 0 → Rises xs
 nothing_rises xs none i j m n ij ei ej = absurd (omega (arith, none, slice_get_within xs i m ei))
 
-pub timed_by : (unit : Unit) (number : ℕ) (agent : AgentDecl) (nexts : List (List ℕ)) → IsAgentOf unit number agent → AreNexts unit.functions agent nexts → All (IsList (length agent.points)) nexts → IsTimed (timing_of unit agent nexts)
-timed_by unit number agent nexts of are lists =
+-- How the actions of an agent begin and end that is one of a text, where these points follow each of its points
+pub timed_by : (unit : Unit) (number : ℕ) (agent : AgentDecl) (nexts : List (List ℕ)) → IsAgentOf unit number agent → length nexts ≡ length agent.points
+    → ((point : ℕ) (list : List ℕ) → slice_get nexts point ≡ Some list → Rises list) → All (IsList (length agent.points)) nexts → IsTimed (timing_of unit agent nexts)
+timed_by unit number agent nexts of count rise lists =
     let bare = of.0.bare in
     let l : number < length unit.agents = slice_get_within unit.agents number agent of.1 in
     let here : IsBareAgent unit agent = subst (IsBareAgent unit) (get_or_from_slice_get unit.agents number agent agent of.1) (All-get_or (IsBareAgent unit) unit.agents number agent l bare.agents) in
@@ -55,14 +58,14 @@ timed_by unit number agent nexts of are lists =
       budgets = points_budget unit agent agent.points here.points here.budget.1;
       head = points_head unit agent agent.points here.points;
       few = here.limit;
-      lists = are.length;
-      some = λ point h. (lists point [] (omega (arith, h, are.length))).0;
+      lists = count;
+      some = λ point h. (lists point [] (omega (arith, h, count))).0;
       within = λ point to c. elim (cases_lt point (length nexts)) [
         | inl h ↦ All-contains (λ q. (1 ≤ q) × (q < length agent.points)) (get_or nexts point []) to (lists point [] h).1 c
         | inr h ↦ (let none : length (get_or nexts point []) ≡ 0 = ap length (get_or_past nexts point [] h) in absurd (omega (arith, none, c.1)))
       ];
       rise = λ point. elim (cases_lt point (length nexts)) [
-        | inl h ↦ are.rise point (get_or nexts point []) (slice_get-get_or nexts point [] h)
+        | inl h ↦ rise point (get_or nexts point []) (slice_get-get_or nexts point [] h)
         | inr h ↦ nothing_rises (get_or nexts point []) (ap length (get_or_past nexts point [] h))
       ];
     }

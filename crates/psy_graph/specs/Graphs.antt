@@ -7,6 +7,7 @@ use Rattle.psy_tree.specs.declared.unit.AgentDecl.{AgentDecl}
 use Rattle.psy_tree.specs.declared.unit.Unit.{Unit as Whole}
 use Rattle.psy_meaning.specs.Flow.{AreNexts, Rises}
 use Rattle.psy_meaning.specs.Timing.{Timing, timing_of, point_at, following, budget_at, deadline, MayStart}
+use Rattle.psy_meaning.specs.RingSizes.{agent_timing}
 use Rattle.psy_meaning.specs.Graph.{Spot, IsCycle, IsGraph, PassesNodes, PassesEdges}
 use Rattle.psy_graph.specs.declared.fault.GraphFault.{GraphFault}
 use Rattle.psy_graph.specs.declared.fault.GraphFault.TheVariants.{Nodes, Edges, Memory}
@@ -65,3 +66,24 @@ abbrev pub IsCause : Whole → GraphFault → Type 0
 IsCause unit (Nodes agent) = HaveGraphsBefore unit agent × (timing : Timing) × IsTimingOf unit agent timing × PassesNodes timing
 IsCause unit (Edges agent) = HaveGraphsBefore unit agent × (timing : Timing) × IsTimingOf unit agent timing × PassesEdges timing
 IsCause unit Memory = ⊥
+
+-- ---- by the points that follow each point
+
+-- Where these points follow each point of each agent, the agent of this number has this graph, which keeps the limits.
+abbrev pub HasGraphBy : Whole → List (List (List ℕ)) → ℕ → Graph → Type 0
+HasGraphBy unit nexts number graph = IsGraphOf (agent_timing unit nexts number) graph × IsSmall graph
+
+-- The graphs of all agents of a unit, in their order
+pub record AreGraphsBy (unit : Whole) (nexts : List (List (List ℕ))) (graphs : List Graph) : Type 0 where
+  pub count : length graphs ≡ length unit.agents
+  pub each : (number : ℕ) (graph : Graph) → slice_get graphs number ≡ Some graph → HasGraphBy unit nexts number graph
+
+-- The agents before this one have graphs that keep the limits.
+abbrev pub HaveGraphsBeforeBy : Whole → List (List (List ℕ)) → ℕ → Type 0
+HaveGraphsBeforeBy unit nexts number = (before : ℕ) → before < number → (graph : Graph) × HasGraphBy unit nexts before graph
+
+-- What is at fault: the first agent whose graph would pass a limit, and that limit
+abbrev pub IsCauseBy : Whole → List (List (List ℕ)) → GraphFault → Type 0
+IsCauseBy unit nexts (Nodes agent) = HaveGraphsBeforeBy unit nexts agent × (agent < length unit.agents) × PassesNodes (agent_timing unit nexts agent)
+IsCauseBy unit nexts (Edges agent) = HaveGraphsBeforeBy unit nexts agent × (agent < length unit.agents) × PassesEdges (agent_timing unit nexts agent)
+IsCauseBy unit nexts Memory = ⊥

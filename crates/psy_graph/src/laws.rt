@@ -1,16 +1,20 @@
 //! Laws of the definitions, each the contract of a function that does nothing.
 
-ghost use Rattle.std.specs.Prelude.{◌≡◌, ◌⊎◌, ℕ, List, length};
+ghost use Rattle.std.specs.Prelude.{◌≡◌, ◌↔◌, ◌⊎◌, ◌<◌, ℕ, List, length};
 ghost use Rattle.std.specs.List.{All};
 ghost use Rattle.psy_base.specs.declared.edge.Edge.{Edge};
+ghost use Rattle.psy_base.specs.declared.ways.Ways.{Ways};
 ghost use Rattle.psy_tree.specs.declared.unit.Unit.{Unit as Whole};
+ghost use Rattle.psy_meaning.specs.Flow.{AreAllNexts};
 ghost use Rattle.psy_meaning.specs.Graph.{Spot, IsGraph};
+ghost use Rattle.psy_meaning.specs.ListedWays.{AreWaysFor};
+ghost use Rattle.psy_meaning.specs.RingSizes.{agent_timing};
 ghost use Rattle.psy_meaning.specs.Units.{IsOfText};
 ghost use Rattle.psy_window.specs.Windows.{IsEdge};
 ghost use Rattle.psy_graph.specs.declared.fault.GraphFault.{GraphFault};
 ghost use Rattle.psy_graph.specs.declared.graph.Graph.{Graph};
 ghost use Rattle.psy_meaning.specs.Timing.{Timing};
-ghost use Rattle.psy_graph.specs.Graphs.{AreGraphs, IsCause, IsTimingOf};
+ghost use Rattle.psy_graph.specs.Graphs.{AreGraphs, AreGraphsBy, IsCause, IsGraphOf, IsTimed, IsTimingOf};
 ghost use Rattle.psy_graph.specs.Near.{IsNear};
 
 use psy_clock::laws::distances;
@@ -31,6 +35,14 @@ pub fn one_graph()
         → All (λ graph. All (IsEdge (length graph.nodes)) graph.edges) graphs }
     // Its numbers lie near.
     ensures near { (unit : Whole) (graphs : List Graph) → IsOfText unit → AreGraphs unit graphs → All IsNear graphs }
+    // By ways of the program or by its statements, its agents' actions begin and end as they may, and so have such edges; and where these
+    // points follow each point, the graphs are the same.
+    ensures timed { (unit : Whole) (ways : Ways) (number : ℕ) → IsOfText unit → AreWaysFor unit ways → number < length unit.agents
+        → IsTimed (agent_timing unit ways.nexts number) }
+    ensures of_text { (unit : Whole) (number : ℕ) (timing : Timing) → IsOfText unit → IsTimingOf unit number timing → IsTimed timing }
+    ensures fit { (timing : Timing) (graph : Graph) → IsTimed timing → IsGraphOf timing graph → All (IsEdge (length graph.nodes)) graph.edges }
+    ensures by_nexts { (unit : Whole) (nexts : List (List (List ℕ))) (graphs : List Graph) → AreAllNexts unit nexts
+        → AreGraphs unit graphs ↔ AreGraphsBy unit nexts graphs }
     ensures some { (unit : Whole) → IsOfText unit → ((graphs : List Graph) × AreGraphs unit graphs) ⊎ ((fault : GraphFault) × IsCause unit fault) }
 {
     known();

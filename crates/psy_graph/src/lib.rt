@@ -12,6 +12,6 @@ pub mod laws;
 mod place;
 mod times;
 
-pub use agents::build;
+pub use agents::{build, build_by};
 pub use fault::GraphFault;
 pub use graph::{Graph, Node};

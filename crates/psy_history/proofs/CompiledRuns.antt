@@ -27,7 +27,7 @@ use Rattle.psy_tree.specs.Parts.{agent_at}
 use Rattle.psy_meaning.specs.Flow.{AreNexts, IsWayFrom}
 use Rattle.psy_meaning.specs.Graph.{periods}
 use Rattle.psy_meaning.specs.Kept.{AreDeedsOf, IsKept, IsLookOf, IsSentOf, Receives}
-use Rattle.psy_meaning.specs.QueueSizes.{all_sendings, delay_of, sendings_in, sendings_to}
+use Rattle.psy_meaning.specs.Sendings.{all_sendings, delay_of, sendings_in, sendings_to}
 use Rattle.psy_meaning.specs.Rest.{rest}
 use Rattle.psy_meaning.specs.States.{Final, Halts, State}
 use Rattle.psy_meaning.specs.States as by
@@ -39,7 +39,8 @@ use Rattle.psy_history.specs.Regular.{MayAsk, MayStartAlike}
 use Rattle.psy_history.specs.Openings.{IsHeldBefore, IsSound, MayCarry}
 use Rattle.psy_queue.specs.Order.{comes_before}
 use Rattle.psy_history.specs.Runs.{GoesWell, IsRun, StandsWell}
-use Rattle.psy_history.specs.Ways.{HasMost, IsSentBy, OfText, SendsAtMost, is_sent, is_some_sending}
+use Rattle.psy_meaning.specs.KnownWays.{HasMost, OfText, is_sent, is_some_sending}
+use Rattle.psy_history.specs.Ways.{IsSentBy, SendsAtMost}
 use Rattle.psy_history.proofs.CarriedStores.{carries_of, may_carry}
 use Rattle.psy_history.proofs.GoingOn.{looked_at, sent_there}
 use Rattle.psy_history.proofs.Growth.{opens_with}

@@ -10,11 +10,12 @@ use Rattle.psy_base.specs.declared.message.Message.{Message}
 use Rattle.psy_history.specs.Actions.{Action, System, stream_of, timing}
 use Rattle.psy_base.specs.Extremes.{IsGreatest}
 use Rattle.psy_history.specs.History.{history}
-use Rattle.psy_meaning.specs.QueueSizes.{MayLast, delay_of, lasting_of}
+use Rattle.psy_meaning.specs.QueueSizes.{IsQueueSize, IsSizeFor, IsSpread, IsSpreadBelow, MayLast, lasting_of}
+use Rattle.psy_meaning.specs.Sendings.{delay_of}
 use Rattle.psy_history.specs.Visible.{held, is_fresh, is_held, is_untaken, message_of, messages_by, sent_to, swept}
 use Rattle.psy_meaning.specs.Ways.{sending_of}
-use Rattle.psy_history.specs.Ways.{IsSentBy, Ways, delay_by, is_sent}
-use Rattle.psy_history.specs.WaySizes.{IsQueueSize, IsSizeFor, IsSpread, IsSpreadBelow}
+use Rattle.psy_history.specs.Ways.{IsSentBy}
+use Rattle.psy_meaning.specs.KnownWays.{Ways, delay_by, is_sent}
 use Rattle.psy_history.proofs.HeldWindow.{AreNear, Opens, expires_near, fresh_near, swept_near}
 use Rattle.psy_history.proofs.MessagesOfSends.{of_send}
 use Rattle.psy_history.proofs.PassingMessages.{filter_fewer, filter_less, filter_none, passing_ordered}

@@ -11,7 +11,8 @@ use Rattle.psy_code.specs.declared.look.Sent.{Sent}
 use Rattle.psy_history.specs.Actions.{Action, Next, System, Verdict, Done, Overran, Trapped, clock_of, is_done, next_by, next_of, stream_of, timing}
 use Rattle.psy_base.specs.Extremes.{IsGreatest, most_of}
 use Rattle.psy_history.specs.History.{history}
-use Rattle.psy_meaning.specs.QueueSizes.{MayLast, delay_of, lasting_of}
+use Rattle.psy_meaning.specs.QueueSizes.{MayLast, lasting_of}
+use Rattle.psy_meaning.specs.Sendings.{delay_of}
 use Rattle.psy_meaning.specs.Timing.{end_date, first_date, following}
 use Rattle.psy_history.specs.Visible.{is_fresh, message_of, swept}
 use Rattle.psy_meaning.specs.Ways.{sending_of}

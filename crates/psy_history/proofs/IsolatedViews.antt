@@ -20,7 +20,7 @@ use Rattle.psy_tree.specs.declared.unit.Unit.{Unit as Whole}
 use Rattle.psy_history.specs.Actions.{Action, History, System, Verdict, Done, Trapped, Overran, publishing, stream_of, variable_of}
 use Rattle.psy_tree.specs.Parts.{agent_at}
 use Rattle.psy_meaning.specs.Kept.{Receives}
-use Rattle.psy_meaning.specs.QueueSizes.{sendings_in}
+use Rattle.psy_meaning.specs.Sendings.{sendings_in}
 use Rattle.psy_history.specs.Visible.{in_order, is_in_view, messages, messages_by, messages_from, past, published_by, seen_at, sent_to, values_for, view_of}
 use Rattle.psy_meaning.specs.Ways.{Sending, sending_of}
 use Rattle.psy_history.specs.Compiled.{stated}

@@ -70,7 +70,6 @@ mod SentInTime
 mod SentMessages
 mod SettledMessages
 mod Sights
-mod SizesOfText
 mod Soonest
 mod StartedActions
 mod Starts

@@ -17,7 +17,7 @@ use Rattle.psy_history.specs.Visible.{seen_at, view_of}
 use Rattle.psy_history.specs.Compiled.{IsCompiled, coded, stated}
 use Rattle.psy_history.specs.Likeness.{AreLike, IsLike}
 use Rattle.psy_history.specs.Runs.{IsRun}
-use Rattle.psy_history.specs.Ways.{OfText}
+use Rattle.psy_meaning.specs.KnownWays.{OfText}
 use Rattle.psy_history.proofs.CarriedStores.{carries_of}
 use Rattle.psy_history.proofs.LikeActions.{by_pairs, like_same, same_by}
 use Rattle.psy_history.proofs.LikeViews.{seen_same, view_same}

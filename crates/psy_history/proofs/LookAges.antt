@@ -6,13 +6,12 @@ use Rattle.psy_base.specs.declared.edge.Edge.{Edge}
 use Rattle.psy_clock.specs.declared.clock.Clock.{Clock}
 use Rattle.psy_tree.specs.declared.unit.VarDecl.{VarDecl}
 use Rattle.psy_history.specs.Actions.{Action, System, clock_of, publishing, timing}
-use Rattle.psy_meaning.specs.RingSizes.{IsDueIn, agent_timing, dates_between}
+use Rattle.psy_meaning.specs.RingSizes.{IsDueIn, IsRingSize, MayPass, agent_timing, dates_between}
 use Rattle.psy_meaning.specs.Timing.{clock_at}
 use Rattle.psy_history.specs.Compiled.{AreEdgesOf}
 use Rattle.psy_history.specs.Regular.{IsRegular}
 use Rattle.psy_history.specs.Rings.{age_at}
-use Rattle.psy_history.specs.Ways.{Looks, Ways}
-use Rattle.psy_history.specs.WaySizes.{IsRingSize, MayPass}
+use Rattle.psy_meaning.specs.KnownWays.{Looks, Ways}
 use Rattle.psy_history.proofs.ClockDates.{count_rises}
 use Rattle.psy_history.proofs.Edges.{drawn_of}
 use Rattle.psy_history.proofs.SamePhases.{due_alike, same_phase}

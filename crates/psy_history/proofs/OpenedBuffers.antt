@@ -19,8 +19,8 @@ use Rattle.psy_history.specs.Regular.{IsRegular}
 use Rattle.psy_history.specs.Rings.{ring_of}
 use Rattle.psy_history.specs.Runs.{IsRun}
 use Rattle.psy_history.specs.Visible.{is_fresh, is_untaken, past, published_behind, swept}
-use Rattle.psy_history.specs.Ways.{Ways}
-use Rattle.psy_history.specs.WaySizes.{IsRingSize}
+use Rattle.psy_meaning.specs.KnownWays.{Ways}
+use Rattle.psy_meaning.specs.RingSizes.{IsRingSize}
 use Rattle.psy_meaning.specs.Units.{IsBareStream}
 use Rattle.psy_history.proofs.ClockDates.{AreCounted, count_of_date}
 use Rattle.psy_history.proofs.Growth.{grown}

@@ -5,7 +5,7 @@ use Rattle.psy_code.specs.Execution.{NoRun, RanTo, Run, Running, TrappedBy}
 use Rattle.psy_history.specs.Actions.{Opening, System}
 use Rattle.psy_history.specs.Openings.{IsSound}
 use Rattle.psy_history.specs.Runs.{IsRun, StandsWell, run_from}
-use Rattle.psy_history.specs.Ways.{Ways}
+use Rattle.psy_meaning.specs.KnownWays.{Ways}
 
 module _ (s : System) (opening : Opening) (ways : Ways) (code : Code) (run : IsRun s ways code) where
   abbrev opened : System

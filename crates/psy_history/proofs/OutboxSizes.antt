@@ -19,8 +19,9 @@ use Rattle.psy_base.specs.Extremes.{IsGreatest}
 use Rattle.psy_meaning.specs.Timing.{following}
 use Rattle.psy_history.specs.Regular.{MayAsk, begun_by}
 use Rattle.psy_history.specs.Runs.{IsRun, StandsWell}
-use Rattle.psy_history.specs.Ways.{HasMost, IsSentBy, SendsAtMost, Ways, is_sent, sends_in}
-use Rattle.psy_history.specs.WaySizes.{AreQueues, AreSendsBelow, HasSendsTo, IsSizeFor, IsSpread, IsSpreadBelow}
+use Rattle.psy_meaning.specs.KnownWays.{HasMost, Ways, is_sent}
+use Rattle.psy_history.specs.Ways.{IsSentBy, SendsAtMost, sends_in}
+use Rattle.psy_meaning.specs.QueueSizes.{AreQueues, AreSendsBelow, HasSendsTo, IsSizeFor, IsSpread, IsSpreadBelow}
 use Rattle.psy_history.proofs.AskedCalls.{deeds_of, sent_asked_for}
 use Rattle.psy_history.proofs.GoingOn.{goes_on}
 use Rattle.psy_history.proofs.Members.{contains_behind, contains_front}

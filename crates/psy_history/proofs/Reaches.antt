@@ -19,7 +19,7 @@ use Rattle.psy_base.specs.Extremes.{greater}
 use Rattle.psy_history.specs.Regular.{IsLawful, IsRegular, Runs, begun_by}
 use Rattle.psy_history.specs.Rings.{age_at, reach_with}
 use Rattle.psy_history.specs.Runs.{IsRun}
-use Rattle.psy_history.specs.Ways.{Ways}
+use Rattle.psy_meaning.specs.KnownWays.{Ways}
 use Rattle.psy_history.proofs.LateLooks.{over_stays, parts}
 use Rattle.psy_history.proofs.LooksOfCode.{asked_look, look_asked, looks_of, none_ahead}
 use Rattle.psy_history.proofs.Numbers.{agent_of, one_of_number}

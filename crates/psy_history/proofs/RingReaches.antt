@@ -10,8 +10,8 @@ use Rattle.psy_history.specs.Summary.{numbers_in, reach}
 use Rattle.psy_history.specs.Regular.{IsRegular, Runs}
 use Rattle.psy_history.specs.Runs.{IsRun}
 use Rattle.psy_history.specs.Scheduled.{IsSupplied, turns_of}
-use Rattle.psy_history.specs.Ways.{Ways}
-use Rattle.psy_history.specs.WaySizes.{IsRingSize}
+use Rattle.psy_meaning.specs.KnownWays.{Ways}
+use Rattle.psy_meaning.specs.RingSizes.{IsRingSize}
 use Rattle.psy_history.proofs.CyclesInTime.{unit_within}
 use Rattle.psy_history.proofs.Greatest.{greatest_in}
 use Rattle.psy_history.proofs.LookAges.{age_below}

@@ -22,7 +22,8 @@ use Rattle.psy_meaning.specs.Timing.{MayStart, Timing, budget_at, deadline, end_
 use Rattle.psy_history.specs.Regular.{IsRegular, MayAsk, MayStartAlike}
 use Rattle.psy_history.specs.Openings.{MayCarry}
 use Rattle.psy_history.specs.Runs.{GoesWell, IsRun, StandsWell}
-use Rattle.psy_history.specs.Ways.{IsSentBy, SendsAtMost, Ways}
+use Rattle.psy_history.specs.Ways.{IsSentBy, SendsAtMost}
+use Rattle.psy_meaning.specs.KnownWays.{Ways}
 use Rattle.psy_history.proofs.AskedCalls.{deeds_of, sends_as, sent_asked_for}
 use Rattle.psy_history.proofs.Deadlines.{deadline_least, due_late}
 use Rattle.psy_history.proofs.Growth.{next_done}

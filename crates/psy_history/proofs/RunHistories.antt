@@ -20,7 +20,8 @@ use Rattle.psy_history.specs.Visible.{seen_at, view_of}
 use Rattle.psy_history.specs.Regular.{IsLawful, IsRegular}
 use Rattle.psy_history.specs.Openings.{IsHeldBefore, MayCarry}
 use Rattle.psy_history.specs.Runs.{IsRun}
-use Rattle.psy_history.specs.Ways.{IsSentBy, Ways}
+use Rattle.psy_history.specs.Ways.{IsSentBy}
+use Rattle.psy_meaning.specs.KnownWays.{Ways}
 use Rattle.psy_history.proofs.Growth.{at_each_date}
 use Rattle.psy_history.proofs.Numbers.{few, were_started}
 use Rattle.psy_history.proofs.RunActions.{AreRunLaws, IsReady, by_way, goes_on, leaves, of_unit, regular, sends, some_next}

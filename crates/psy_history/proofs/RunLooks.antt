@@ -13,7 +13,7 @@ use Rattle.psy_history.specs.Executors.{acted_as, agent_code_at}
 use Rattle.psy_history.specs.History.{action_of, history}
 use Rattle.psy_history.specs.Regular.{IsLawful, MayAsk, Runs, begun_by}
 use Rattle.psy_history.specs.Runs.{IsRun}
-use Rattle.psy_history.specs.Ways.{Ways}
+use Rattle.psy_meaning.specs.KnownWays.{Ways}
 use Rattle.psy_history.proofs.AskedCalls.{deeds_of, look_asked_for, look_call, looks_as}
 use Rattle.psy_history.proofs.LateLooks.{over_stays}
 use Rattle.psy_history.proofs.LooksOfCode.{looks_of}

@@ -11,8 +11,8 @@ use Rattle.psy_meaning.specs.Units.{IsBareStream}
 use Rattle.psy_history.specs.Visible.{held}
 use Rattle.psy_history.specs.Queues.{queue_of}
 use Rattle.psy_history.specs.Runs.{IsRun}
-use Rattle.psy_history.specs.Ways.{Ways}
-use Rattle.psy_history.specs.WaySizes.{IsQueueSize}
+use Rattle.psy_meaning.specs.KnownWays.{Ways}
+use Rattle.psy_meaning.specs.QueueSizes.{IsQueueSize}
 use Rattle.psy_history.proofs.HeldInSize.{held_in_size}
 use Rattle.psy_history.proofs.HeldWindow.{AreNear, most_below}
 use Rattle.psy_history.proofs.Members.{all_members}

@@ -8,7 +8,7 @@ use Rattle.psy_meaning.specs.Units.{IsBareStream}
 use Rattle.psy_history.specs.Openings.{IsHeldBefore}
 use Rattle.psy_history.specs.Regular.{IsLawful}
 use Rattle.psy_history.specs.Runs.{IsRun}
-use Rattle.psy_history.specs.Ways.{Ways}
+use Rattle.psy_meaning.specs.KnownWays.{Ways}
 use Rattle.psy_history.proofs.Members.{get_or_holds}
 use Rattle.psy_history.proofs.SentMessages.{HasStreams, IsBefore}
 

@@ -13,7 +13,7 @@ use Rattle.psy_history.specs.History.{history}
 use Rattle.psy_history.specs.Regular.{Goes, MayAsk, Runs, begun_by}
 use Rattle.psy_history.specs.Openings.{MayCarry}
 use Rattle.psy_history.specs.Runs.{GoesWell, IsRun, StandsWell}
-use Rattle.psy_history.specs.Ways.{Ways}
+use Rattle.psy_meaning.specs.KnownWays.{Ways}
 use Rattle.psy_history.proofs.GoingOn.{same_next}
 use Rattle.psy_history.proofs.LateLooks.{parts, steps_then}
 use Rattle.psy_history.proofs.OneAction.{some_steps}

@@ -8,8 +8,8 @@ use Rattle.psy_base.specs.declared.edge.Edge.{Edge}
 use Rattle.psy_base.specs.declared.limits.TheConstants.{QUEUE, SENDS}
 use Rattle.psy_base.specs.Paths.{FitsFirstFree, IsGreatestWeight}
 use Rattle.psy_meaning.specs.Graph.{Spot}
-use Rattle.psy_history.specs.Ways.{Ways}
-use Rattle.psy_history.specs.WaySizes.{AreSendEdges, IsSendEdge}
+use Rattle.psy_meaning.specs.KnownWays.{Ways}
+use Rattle.psy_meaning.specs.QueueSizes.{AreSendEdges, IsSendEdge}
 
 -- The edge with the same ends that is weighted by the sends to a stream
 pub sent_edge : (ways : Ways) (agent stream : ℕ) (spots : List Spot) (edges sent : List Edge) → AreSendEdges ways agent stream spots edges sent → (e : Edge) → Contains edges e → (f : Edge) × Contains sent f × IsSendEdge ways agent stream spots e f

@@ -12,8 +12,9 @@ use Rattle.psy_meaning.specs.Graph.{Spot, IsGraph, spot_at}
 use Rattle.psy_meaning.specs.Timing.{end_date, following}
 use Rattle.psy_history.specs.Asked.{Drawn}
 use Rattle.psy_history.specs.Regular.{IsRegular, MayStartAlike}
-use Rattle.psy_history.specs.Ways.{HasMost, SendsAtMost, Ways, sends_in}
-use Rattle.psy_history.specs.WaySizes.{AreSendEdges}
+use Rattle.psy_meaning.specs.KnownWays.{HasMost, Ways}
+use Rattle.psy_history.specs.Ways.{SendsAtMost, sends_in}
+use Rattle.psy_meaning.specs.QueueSizes.{AreSendEdges}
 use Rattle.psy_history.proofs.Edges.{node_of, step_done, step_to}
 use Rattle.psy_history.proofs.SamePhases.{goes_alike}
 use Rattle.psy_history.proofs.SendEdges.{sent_edge, single_weight, uncut}

@@ -14,8 +14,8 @@ use Rattle.psy_meaning.specs.Graph.{Spot, IsGraph, spot_at}
 use Rattle.psy_meaning.specs.Timing.{end_date}
 use Rattle.psy_history.specs.Visible.{messages_by}
 use Rattle.psy_history.specs.Regular.{IsRegular, WereStarted}
-use Rattle.psy_history.specs.Ways.{Ways}
-use Rattle.psy_history.specs.WaySizes.{AreSendEdges}
+use Rattle.psy_meaning.specs.KnownWays.{Ways}
+use Rattle.psy_meaning.specs.QueueSizes.{AreSendEdges}
 use Rattle.psy_history.proofs.Growth.{next_done}
 use Rattle.psy_history.proofs.MessagesOfSends.{many_from, of_send}
 use Rattle.psy_history.proofs.PassingMessages.{filter_none}

@@ -18,7 +18,7 @@ use Rattle.psy_history.specs.Executors.{Acted, Reached, acted_by, by_statements,
 use Rattle.psy_tree.specs.Parts.{agent_at}
 use Rattle.psy_history.specs.History.{action_of, executed, history}
 use Rattle.psy_meaning.specs.Kept.{IsKept, IsSentOf, Receives}
-use Rattle.psy_meaning.specs.QueueSizes.{sendings_in}
+use Rattle.psy_meaning.specs.Sendings.{sendings_in}
 use Rattle.psy_meaning.specs.Rest.{rest}
 use Rattle.psy_meaning.specs.Sound.{IsSoundUnit}
 use Rattle.psy_meaning.specs.States.{Final, Halts, State, Store}

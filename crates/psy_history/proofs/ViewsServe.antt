@@ -8,7 +8,7 @@ use Rattle.psy_tree.specs.declared.unit.VarDecl.{VarDecl}
 use Rattle.psy_meaning.specs.Alike.{IsViewOf, is_there}
 use Rattle.psy_meaning.specs.Kept.{Receives}
 use Rattle.psy_history.specs.Regular.{MayAsk}
-use Rattle.psy_history.specs.Ways.{Ways}
+use Rattle.psy_meaning.specs.KnownWays.{Ways}
 use Rattle.psy_history.proofs.Sights.{SeesAs}
 
 -- What stands in a list for what was made of it

@@ -10,7 +10,7 @@ use Rattle.psy_tree.specs.declared.unit.Unit.{Unit as Whole}
 use Rattle.psy_tree.specs.declared.unit.VarDecl.{VarDecl}
 use Rattle.psy_history.specs.Actions.{Action, Overran}
 use Rattle.psy_tree.specs.Parts.{agent_at}
-use Rattle.psy_meaning.specs.QueueSizes.{sendings_in}
+use Rattle.psy_meaning.specs.Sendings.{sendings_in}
 use Rattle.psy_history.specs.Visible.{taken}
 use Rattle.psy_meaning.specs.Ways.{Sending}
 

@@ -17,5 +17,4 @@ pub mod Scheduled
 pub mod Scripts
 pub mod Summary
 pub mod Visible
-pub mod WaySizes
 pub mod Ways

@@ -13,8 +13,9 @@ use Rattle.psy_history.specs.Executors.{Carried, agent_code_at, copy_in}
 use Rattle.psy_meaning.specs.Alike.{AllFit, first_copies}
 use Rattle.psy_meaning.specs.Timing.{first_date}
 use Rattle.psy_history.specs.Regular.{MayStartAlike}
-use Rattle.psy_history.specs.Ways.{Ways}
-use Rattle.psy_history.specs.WaySizes.{IsQueueSize, IsRingSize}
+use Rattle.psy_meaning.specs.KnownWays.{Ways}
+use Rattle.psy_meaning.specs.QueueSizes.{IsQueueSize}
+use Rattle.psy_meaning.specs.RingSizes.{IsRingSize}
 
 -- What an agent may carry: as many cells as its code has, and copies of the variables that it owns, with values of 32 bits
 pub record MayCarry (unit : Whole) (code : Code) (agent : ℕ) (carried : Carried) : Type 0 where

@@ -17,7 +17,8 @@ use Rattle.psy_meaning.specs.Graph.{periods}
 use Rattle.psy_history.specs.History.{action_of, history}
 use Rattle.psy_meaning.specs.Kept.{Receives}
 use Rattle.psy_meaning.specs.Timing.{MayStart, Timing, budget_at, deadline, end_date, following}
-use Rattle.psy_history.specs.Ways.{IsSentBy, Looks, Ways}
+use Rattle.psy_history.specs.Ways.{IsSentBy}
+use Rattle.psy_meaning.specs.KnownWays.{Looks, Ways}
 
 -- An action of the agent may start at this point and in the phase of this date: the date of one that may start lies whole periods before
 -- or behind, of all clocks that the agent's `advance`s name.

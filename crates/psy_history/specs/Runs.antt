@@ -14,7 +14,8 @@ use Rattle.psy_meaning.specs.Units.{IsBare}
 use Rattle.psy_history.specs.Compiled.{AreInputs}
 use Rattle.psy_history.specs.Openings.{IsSound, MayCarry}
 use Rattle.psy_history.specs.Regular.{MayAsk}
-use Rattle.psy_history.specs.Ways.{HasMost, SendsAtMost, Ways, is_sent}
+use Rattle.psy_meaning.specs.KnownWays.{HasMost, Ways, is_sent}
+use Rattle.psy_history.specs.Ways.{SendsAtMost}
 
 -- The run of an agent's code from a point, with what the agent carries and sees, after so many instructions
 abbrev pub run_from : Code → ℕ → ℕ → Carried → View → ℕ → Run

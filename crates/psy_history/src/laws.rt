@@ -18,12 +18,9 @@ ghost use Rattle.psy_tree.specs.declared.unit.Unit.{Unit as Whole};
 ghost use Rattle.psy_tree.specs.declared.unit.VarDecl.{VarDecl};
 ghost use Rattle.psy_history.specs.Actions.{Action, Done, History, Opening, System, first_action, publishing};
 ghost use Rattle.psy_history.specs.Executors.{agent_code_at};
-ghost use Rattle.psy_tree.specs.Parts.{agent_at};
 ghost use Rattle.psy_base.specs.Extremes.{IsGreatest};
 ghost use Rattle.psy_history.specs.History.{history};
 ghost use Rattle.psy_history.specs.Lines.{events, is_date, publications, stops_of};
-ghost use Rattle.psy_meaning.specs.QueueSizes as queues_by_text;
-ghost use Rattle.psy_meaning.specs.RingSizes as by_text;
 ghost use Rattle.psy_history.specs.Schedule.{Turn, finish, turn_of, units, work};
 ghost use Rattle.psy_meaning.specs.Units.{IsOfText};
 ghost use Rattle.psy_history.specs.Summary.{due_by, most_held, reach, slack};
@@ -38,27 +35,22 @@ ghost use Rattle.psy_history.specs.Regular.{IsLawful, Runs, begun_by, first_numb
 ghost use Rattle.psy_history.specs.Rings.{age_at, reach_with, ring_of};
 ghost use Rattle.psy_history.specs.Runs.{IsRun};
 ghost use Rattle.psy_history.specs.Scheduled.{IsFinished, IsSupplied, turns_of};
-ghost use Rattle.psy_history.specs.Ways.{IsSentBy, Looks, OfText, Ways};
-ghost use Rattle.psy_history.specs.WaySizes.{AreQueues, HasSendsTo, IsQueueSize, IsRingSize};
+ghost use Rattle.psy_history.specs.Ways.{IsSentBy};
+ghost use Rattle.psy_meaning.specs.KnownWays.{Looks, OfText, Ways};
+ghost use Rattle.psy_meaning.specs.QueueSizes.{AreQueues, HasSendsTo, IsQueueSize};
+ghost use Rattle.psy_meaning.specs.RingSizes.{IsRingSize};
 
 use psy_clock::laws::{dates, distances};
 use psy_code::laws::lasting;
 use psy_meaning::laws::{follows, keeps, sendings, sound, traps, ways};
 
-/// The code of a program of a text goes well by the ways of its statements, wherever its agents may start; and the sizes of its rings, queues
-/// and outboxes by these ways are those by its statements.
+/// The code of a program of a text goes well by the ways of its statements, wherever its agents may start; and from date 0 on each agent
+/// begins with number 0.
 pub fn compiled()
     ensures run { (unit : Whole) (code : Code) (nexts : List (List (List ℕ))) (stalls : ℕ → List Stall) (inputs : List (List ℤ))
         → IsCompiled unit code nexts → AreInputs unit inputs → IsRun (coded unit code nexts stalls inputs) (OfText unit) code }
     ensures numbers { (unit : Whole) (code : Code) (nexts : List (List (List ℕ))) (stalls : ℕ → List Stall) (inputs : List (List ℤ)) (agent : ℕ)
         → first_number (coded unit code nexts stalls inputs) agent ≡ 0 }
-    ensures ring { (unit : Whole) (nexts : List (List (List ℕ))) (variable size : ℕ) → by_text.IsRingSize unit nexts variable size
-        → IsRingSize unit (OfText unit) nexts variable size }
-    ensures queue { (unit : Whole) (nexts : List (List (List ℕ))) (stream size : ℕ) → queues_by_text.IsQueueSize unit nexts stream size
-        → IsQueueSize unit (OfText unit) nexts stream size }
-    ensures outbox { (unit : Whole) (code : Code) (nexts : List (List (List ℕ))) (agent size : ℕ) → IsCompiled unit code nexts
-        → agent < length unit.agents → IsGreatest (queues_by_text.HasSendsTo unit (agent_at unit agent)) size
-        → IsGreatest (HasSendsTo unit (OfText unit) nexts agent) size }
 {
     sound();
     keeps();

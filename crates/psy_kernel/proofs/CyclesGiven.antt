@@ -7,15 +7,16 @@ use Rattle.std.proofs.lemmas.List.Elements.{All-contains, All-weaker}
 use Rattle.std.proofs.lemmas.Option.{same_Some, slice_get-get_or, slice_get_within}
 use Rattle.psy_budget.specs.Charges.{Charged}
 use Rattle.psy_dates.specs.declared.seat.Seat.{Seat}
+use Rattle.psy_dates.specs.declared.movers.Movers.{Movers}
 use Rattle.psy_dates.specs.declared.shared.Shared.{Shared}
 use Rattle.psy_dates.specs.Outboxes.{Outboxed}
 use Rattle.psy_dates.specs.Standing.{dates_done}
 use Rattle.psy_history.specs.Regular.{IsLawful}
 use Rattle.psy_machine.specs.Stepping.{AgentMachine}
 use Rattle.psy_history.specs.Actions.{Action}
-use Rattle.psy_tree.specs.Parts.{agent_at}
 use Rattle.psy_base.specs.Extremes.{IsGreatest}
 use Rattle.psy_history.specs.History.{history}
+use Rattle.psy_meaning.specs.KnownWays.{OfText}
 use Rattle.psy_meaning.specs.QueueSizes.{HasSendsTo}
 use Rattle.psy_history.specs.Schedule.{Turn, is_pending, pending, soonest, turn_of, units}
 use Rattle.psy_history.specs.Summary.{reach}
@@ -34,6 +35,7 @@ use Rattle.psy_kernel.specs.Stretches.{MayLast, given_to}
 use Rattle.psy_kernel.proofs.GivenCycles.{StaysSo, idle_reach, in_a_row, missed_all, own_stay, same_stays, was_pending}
 use Rattle.psy_kernel.proofs.Kernels.{IsBetween, IsDue, opening_in, order_until, parts_in, run_in, turns_in}
 use Rattle.psy_kernel.proofs.OtherAgents.{AreSameFor}
+use Rattle.psy_kernel.proofs.MoversGiven.{IsTold}
 use Rattle.psy_kernel.proofs.Parts.{PartsStand, given, idle, nobody_soonest, one_of, others_same, pick_known, pick_soonest, shared_given}
 use Rattle.psy_kernel.proofs.Stages.{IsInside}
 
@@ -173,7 +175,7 @@ module _ (k : Inside) (is : KernelStands k) (d : IsDue k) where
           acts : ActsIn (run_in k) k.plan.code r (units r.agent r.number before_cycle) (sight_in k.plan.unit k.shared.rings.items k.shared.queues.items agent r.start date) k.shared.taken.items outbox
           acts =
               let own : r.agent ≡ agent = GetsCycle.agent_is (d.gets agent r before last t.pending) in
-              let size = subst (λ n. IsGreatest (HasSendsTo k.plan.unit (agent_at k.plan.unit n)) outbox.size) (sym own) (is.shared.outboxes agent outbox o).size in
+              let size = subst (λ n. IsGreatest (HasSendsTo k.plan.unit (OfText k.plan.unit) k.plan.nexts n) outbox.size) (sym own) (is.shared.outboxes agent outbox o).size in
               let did : HasDone (run_in k) k.plan.code r (charge_after (run_in k) r (units r.agent r.number before_cycle)).paid outbox.sends k.shared.taken.items =
               subst (λ actions. DeedsStand (run_in k) k.plan.code before_cycle actions outbox.sends k.shared.taken.items) t.is_last (is.doing agent outbox o) t.pending in
               subst (λ n. ActsIn (run_in k) k.plan.code r (units r.agent r.number before_cycle) (sight_in k.plan.unit k.shared.rings.items k.shared.queues.items n r.start date) k.shared.taken.items outbox) own
@@ -243,7 +245,7 @@ module _ (k : Inside) (is : KernelStands k) (d : IsDue k) where
               ringed = subst (λ n. AreRingsOf (run_in k) n k.shared.rings.items) (inside.0 ∙ ap (λ n. n + 1) (sym here)) rings_stand;
               queued = subst (λ n. AreQueuesOf (run_in k) n k.shared.queues.items) (inside.0 ∙ ap (λ n. n + 1) (sym here)) queues_stand;
               counted = is.shared.taking;
-              sized = subst (λ n. IsGreatest (HasSendsTo k.plan.unit (agent_at k.plan.unit n)) outbox.size) (sym own) (is.shared.outboxes agent outbox o).size;
+              sized = subst (λ n. IsGreatest (HasSendsTo k.plan.unit (OfText k.plan.unit) k.plan.nexts n) outbox.size) (sym own) (is.shared.outboxes agent outbox o).size;
               looks = λ j less later. subst (λ n. LooksBack (run_in k) k.plan.code (given_turns j) n r) (sym here) (looks_on j less later);
             }
 
@@ -285,28 +287,28 @@ module _ (k : Inside) (is : KernelStands k) (d : IsDue k) where
         (untaken : (stream : ℕ) (decl : StreamDecl) → slice_get k.plan.unit.streams stream ≡ Some decl → decl.receiver ≢ agent → slice_get taken stream ≡ slice_get k.shared.taken.items stream)
         (ready : List (Option ℕ)) (as_many : length ready ≡ length k.ready) (own : (w : Option ℕ) → slice_get ready agent ≡ Some w → w ≡ waiting) (rest : (other : ℕ) → (other ≡ agent → ⊥) → slice_get ready other ≡ slice_get k.ready other) where
       pub parts_given : (after : Shared) → after.date ≡ k.shared.date → after.seats.items ≡ slice_set k.shared.seats.items agent seat → after.ended.items ≡ ended → after.committed ≡ k.shared.committed
-          → after.rings ≡ k.shared.rings → after.queues ≡ k.shared.queues → after.outboxes.items ≡ slice_set k.shared.outboxes.items agent outbox → after.taken.items ≡ taken → after.calendar ≡ k.shared.calendar
+          → after.rings ≡ k.shared.rings → after.queues ≡ k.shared.queues → after.outboxes.items ≡ slice_set k.shared.outboxes.items agent outbox → after.taken.items ≡ taken → after.calendar ≡ k.shared.calendar → IsTold seat k.shared.movers after.movers
           → PartsStand (run_in k) k.plan.code k.plan.until (turns_in k (k.cycles + n)) dates after (slice_set k.machines.items agent machine) (slice_set k.charges.items agent charge) ready (slice_set k.figures.items agent figure)
-      parts_given after a b c d e f g h i =
+      parts_given after a b c d e f g h i told =
           subst (λ ts. PartsStand (run_in k) k.plan.code k.plan.until ts dates after (slice_set k.machines.items agent machine) (slice_set k.charges.items agent charge) ready (slice_set k.figures.items agent figure)) (sym turns)
           (given (run_in k) k.plan.code k.plan.until before_cycle dates k.shared k.machines.items k.charges.items k.ready k.figures.items (parts_in k is) lawful date agent r before (last_date dates date inside.0) t.is_last n machine charge waiting figure seat ended one all others outbox taken box size count untaken ready as_many own rest after g h
-          (shared_given (run_in k) k.plan.code k.plan.until before_cycle dates k.shared k.machines.items k.charges.items k.ready k.figures.items (parts_in k is) lawful date agent r before (last_date dates date inside.0) t.is_last n machine charge waiting figure seat ended one all others outbox taken box size count untaken after a b c d e f g h i))
+          (shared_given (run_in k) k.plan.code k.plan.until before_cycle dates k.shared k.machines.items k.charges.items k.ready k.figures.items (parts_in k is) lawful date agent r before (last_date dates date inside.0) t.is_last n machine charge waiting figure seat ended one all others outbox taken box size count untaken after a b c d e f g h i told))
 
-      pub given_between : (seats : Vec Seat Global) (copies : Vec ℤ Global) (outboxes : Vec Outboxed Global) (counts : Vec ℕ Global) (machines : Vec AgentMachine Global) (charges : Vec Charged Global) (figures : Vec Figure Global) (reaches : Vec (Option ℕ) Global) (chosen : Option ℕ) (stale : Bool)
+      pub given_between : (movers : Movers) (told : IsTold seat k.shared.movers movers) (seats : Vec Seat Global) (copies : Vec ℤ Global) (outboxes : Vec Outboxed Global) (counts : Vec ℕ Global) (machines : Vec AgentMachine Global) (charges : Vec Charged Global) (figures : Vec Figure Global) (reaches : Vec (Option ℕ) Global) (chosen : Option ℕ) (stale : Bool)
           → seats.items ≡ slice_set k.shared.seats.items agent seat → copies.items ≡ ended → outboxes.items ≡ slice_set k.shared.outboxes.items agent outbox → counts.items ≡ taken → machines.items ≡ slice_set k.machines.items agent machine → charges.items ≡ slice_set k.charges.items agent charge → figures.items ≡ slice_set k.figures.items agent figure
           → length reaches.items ≡ length k.reaches.items → ((variable : ℕ) (m : Option ℕ) → slice_get reaches.items variable ≡ Some m → m ≡ reach (run_in k) (turns_in k (k.cycles + n)) (history (run_in k) dates) variable)
           → (stale ≡ false → IsChosen ready order chosen)
-          → IsBetween (record k { shared = record k.shared { seats = seats; ended = copies; outboxes = outboxes; taken = counts }; machines = machines; charges = charges; figures = figures; ready = ready; reaches = reaches; chosen = chosen; stale = stale }) n
-      given_between seats copies outboxes counts machines charges figures reaches chosen stale a b g h c e f as_many reached choice = record {
+          → IsBetween (record k { shared = record k.shared { seats = seats; ended = copies; outboxes = outboxes; taken = counts; movers = movers }; machines = machines; charges = charges; figures = figures; ready = ready; reaches = reaches; chosen = chosen; stale = stale }) n
+      given_between movers told seats copies outboxes counts machines charges figures reaches chosen stale a b g h c e f as_many reached choice = record {
         date = date;
         dates = inside.0;
         cycle = d.cycle;
         inside = high;
         parts =
-            subst (λ ms. PartsStand (run_in k) k.plan.code k.plan.until (turns_in k (k.cycles + n)) dates (record k.shared { seats = seats; ended = copies; outboxes = outboxes; taken = counts }) ms charges.items ready figures.items) (sym c)
-            (subst (λ cs. PartsStand (run_in k) k.plan.code k.plan.until (turns_in k (k.cycles + n)) dates (record k.shared { seats = seats; ended = copies; outboxes = outboxes; taken = counts }) (slice_set k.machines.items agent machine) cs ready figures.items) (sym e)
-            (subst (λ fs. PartsStand (run_in k) k.plan.code k.plan.until (turns_in k (k.cycles + n)) dates (record k.shared { seats = seats; ended = copies; outboxes = outboxes; taken = counts }) (slice_set k.machines.items agent machine) (slice_set k.charges.items agent charge) ready fs) (sym f)
-            (parts_given (record k.shared { seats = seats; ended = copies; outboxes = outboxes; taken = counts }) refl a b refl refl refl g h refl)));
+            subst (λ ms. PartsStand (run_in k) k.plan.code k.plan.until (turns_in k (k.cycles + n)) dates (record k.shared { seats = seats; ended = copies; outboxes = outboxes; taken = counts; movers = movers }) ms charges.items ready figures.items) (sym c)
+            (subst (λ cs. PartsStand (run_in k) k.plan.code k.plan.until (turns_in k (k.cycles + n)) dates (record k.shared { seats = seats; ended = copies; outboxes = outboxes; taken = counts; movers = movers }) (slice_set k.machines.items agent machine) cs ready figures.items) (sym e)
+            (subst (λ fs. PartsStand (run_in k) k.plan.code k.plan.until (turns_in k (k.cycles + n)) dates (record k.shared { seats = seats; ended = copies; outboxes = outboxes; taken = counts; movers = movers }) (slice_set k.machines.items agent machine) (slice_set k.charges.items agent charge) ready fs) (sym f)
+            (parts_given (record k.shared { seats = seats; ended = copies; outboxes = outboxes; taken = counts; movers = movers }) refl a b refl refl refl g h refl told)));
         reaching = as_many ∙ is.reaching;
         reached = reached;
         holding = is.holding;

@@ -21,7 +21,8 @@ use Rattle.psy_kernel.specs.declared.kernel.Figure.{Figure}
 use Rattle.psy_kernel.specs.declared.stage.Stage.TheVariants.{DateDue, CycleDue, Over}
 use Rattle.psy_kernel.specs.Progress.{Progress, stage_of}
 use Rattle.psy_kernel.specs.Standing.{AgentStands, InTick}
-use Rattle.psy_kernel.specs.Starting.{IsDoneBelow, charge_at, deadline_at, seat_at, starts_at}
+use Rattle.psy_dates.specs.Movers.{IsDoneBelow}
+use Rattle.psy_kernel.specs.Starting.{charge_at, deadline_at, seat_at, starts_at}
 use Rattle.psy_kernel.proofs.Started.{Sits, agent_after, free_where}
 
 -- ---- what is due

@@ -16,7 +16,7 @@ use Rattle.psy_history.specs.Compiled.{AreInputs, IsCompiled, coded}
 use Rattle.psy_history.specs.Openings.{IsSound}
 use Rattle.psy_history.specs.Regular.{IsLawful, first_number}
 use Rattle.psy_history.specs.Runs.{IsRun}
-use Rattle.psy_history.specs.Ways.{OfText, Ways}
+use Rattle.psy_meaning.specs.KnownWays.{OfText, Ways}
 use Rattle.psy_history.specs.Scheduled.{IsFinished, IsSupplied, turns_of}
 use Rattle.psy_dates.specs.declared.seat.Seat.{Seat}
 use Rattle.psy_dates.specs.declared.shared.Shared.{Shared}
@@ -30,7 +30,8 @@ use Rattle.psy_kernel.specs.declared.stage.Stage.TheVariants.{DateDue}
 use Rattle.psy_kernel.specs.Progress.{Progress, after_date, beginning, order, stage_of, system}
 use Rattle.psy_history.specs.Scripts.{stalls_of}
 use Rattle.psy_kernel.specs.Standing.{AgentStands, DeedsStand, InTick, KernelStands, given_at, most_held_in, progress_of, told_from}
-use Rattle.psy_kernel.specs.Starting.{IsDoneBelow, charge_at, deadline_at, held_at, seat_at, starts_at}
+use Rattle.psy_dates.specs.Movers.{IsDoneBelow}
+use Rattle.psy_kernel.specs.Starting.{charge_at, deadline_at, held_at, seat_at, starts_at}
 use Rattle.psy_kernel.proofs.Dated.{agents_after, date_due, free_before, tick_after, within_until}
 use Rattle.psy_kernel.proofs.DeedsDated.{HaveBegun, HaveStayed, deeds_after}
 use Rattle.psy_kernel.proofs.HeldMessages.{held_more}

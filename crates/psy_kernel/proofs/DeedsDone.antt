@@ -16,7 +16,7 @@ use Rattle.psy_queue.specs.Order.{Queued}
 use Rattle.psy_tree.specs.declared.unit.StreamDecl.{StreamDecl}
 use Rattle.psy_kernel.specs.Acting.{AreDone, SeesAs}
 use Rattle.psy_kernel.specs.Seeing.{Sight, is_mine, seen_by, window_in}
-use Rattle.psy_kernel.proofs.Sets.{get_set_other}
+use Rattle.psy_dates.proofs.lemmas.Sets.{get_set_other}
 use Rattle.psy_kernel.proofs.StreamsLeft.{drop_one, get_set_here, left_count, left_is, lists_many, messages_are}
 use Rattle.psy_tree.specs.Parts.{no_stream}
 

@@ -10,7 +10,7 @@ use Rattle.psy_dates.specs.declared.plan.Plan.{Plan}
 use Rattle.psy_dates.specs.Plans.{IsPlan, opened_of}
 use Rattle.psy_history.specs.Regular.{AreRegular, IsLawful, IsRegular, Runs, WasStarted, WereStarted, first_number}
 use Rattle.psy_history.specs.Scheduled.{IsFinished, IsSupplied, turns_of}
-use Rattle.psy_history.specs.Ways.{OfText}
+use Rattle.psy_meaning.specs.KnownWays.{OfText}
 use Rattle.psy_history.specs.Actions.{Action, History, Next, Opening, System, charge_of, next_of, timing, verdict_of}
 use Rattle.psy_tree.specs.Parts.{agent_at, no_agent, no_clock}
 use Rattle.psy_history.specs.History.{action_of, history, with_start}

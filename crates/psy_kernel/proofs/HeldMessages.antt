@@ -16,7 +16,8 @@ use Rattle.psy_history.specs.Queues.{queue_of}
 use Rattle.psy_dates.specs.declared.shared.Shared.{Shared}
 use Rattle.psy_dates.specs.Standing.{SharedStands}
 use Rattle.psy_kernel.specs.Standing.{most_held_in}
-use Rattle.psy_kernel.specs.Starting.{IsDoneBelow, held_at}
+use Rattle.psy_dates.specs.Movers.{IsDoneBelow}
+use Rattle.psy_kernel.specs.Starting.{held_at}
 
 most_more : (ns : List ℕ) (n : ℕ) → most_of (ns ++ n ∷ []) ≡ max (most_of ns) n
 most_more [] n = omega arith

@@ -11,7 +11,7 @@ use Rattle.psy_dates.specs.Standing.{dates_done}
 use Rattle.psy_history.specs.Regular.{IsLawful}
 use Rattle.psy_history.specs.Actions.{Action, History, Opening, System}
 use Rattle.psy_history.specs.Openings.{IsSound}
-use Rattle.psy_history.specs.Ways.{OfText}
+use Rattle.psy_meaning.specs.KnownWays.{OfText}
 use Rattle.psy_history.specs.History.{history}
 use Rattle.psy_history.specs.Schedule.{Turn, is_pending}
 use Rattle.psy_history.specs.Summary.{reach}

@@ -2,7 +2,6 @@
 use Rattle.std.proofs.Common.{◌≡◌, refl, sym, ap, ◌∙◌, subst, arith}
 use Rattle.std.specs.Prelude.{ℕ, ◌+◌, ◌*◌, ◌/◌, ◌==◌, ◌<◌, ◌≤◌, List, ◌∷◌, drop, filter, length, map, nat_le, take, Option, Some, slice_get, ℤ}
 use Rattle.std.specs.List.{All, Contains, count_by}
-use Rattle.std.proofs.lemmas.List.Elements.{All-contains}
 use Rattle.std.proofs.lemmas.Option.{slice_get_within}
 use Rattle.psy_base.specs.declared.limits.TheConstants.{QUEUE}
 use Rattle.psy_base.specs.declared.message.Message.{Message}
@@ -15,26 +14,23 @@ use Rattle.psy_code.specs.Execution.{RunState, Running, call_of, run_code}
 use Rattle.psy_code.specs.Views.{Send, messages_of, past_of}
 use Rattle.psy_dates.specs.declared.plan.Plan.{Plan}
 use Rattle.psy_dates.specs.Plans.{IsPlan, opened_of}
-use Rattle.psy_history.specs.Compiled.{IsCompiled}
 use Rattle.psy_history.specs.Queues.{queue_of}
-use Rattle.psy_history.specs.Regular.{IsLawful, IsRegular, begun_by}
+use Rattle.psy_history.specs.Regular.{IsLawful, begun_by}
 use Rattle.psy_history.specs.Rings.{age_at, reach_with, ring_of}
 use Rattle.psy_history.specs.Runs.{IsRun}
 use Rattle.psy_history.specs.Scheduled.{IsSupplied, turns_of}
-use Rattle.psy_history.specs.Ways.{Looks, OfText, Ways}
-use Rattle.psy_history.specs.WaySizes as by_ways
+use Rattle.psy_meaning.specs.KnownWays.{Looks, OfText, Ways}
 use Rattle.psy_history.specs.Actions.{Action, Opening, System, publishing, variable_of}
 use Rattle.psy_history.specs.Executors.{agent_code_at}
-use Rattle.psy_tree.specs.Parts.{agent_at, no_clock, no_variable}
+use Rattle.psy_tree.specs.Parts.{no_clock, no_variable}
 use Rattle.psy_base.specs.Extremes.{IsGreatest}
 use Rattle.psy_history.specs.History.{history}
-use Rattle.psy_meaning.specs.QueueSizes.{HasSendsTo, IsQueueSize}
+use Rattle.psy_meaning.specs.QueueSizes.{AreQueues, HasSendsTo}
 use Rattle.psy_meaning.specs.RingSizes.{IsRingSize}
 use Rattle.psy_history.specs.Schedule.{Turn, turn_of, units}
 use Rattle.psy_history.specs.Summary.{reach}
 use Rattle.psy_meaning.specs.Units.{IsBare, IsBareVariable}
 use Rattle.psy_tree.specs.declared.unit.StreamDecl.{StreamDecl}
-use Rattle.psy_tree.specs.declared.unit.Unit.{Unit as Whole}
 use Rattle.psy_tree.specs.declared.unit.VarDecl.{VarDecl}
 use Rattle.psy_kernel.specs.Cycles.{GetsCycle, LooksBack}
 use Rattle.psy_history.specs.declared.told.Script.{Script}
@@ -51,7 +47,7 @@ use Rattle.psy_kernel.proofs.RingViews.{shows, size_of}
 
 pub record AreLooksLaws : Type 0 where
   pub ages : (s : System) (ways : Ways) (order : ℕ → List ℕ) (until dates agent variable back size date : ℕ) (decl : VarDecl) (r : Action) → IsSupplied s order until → Contains (history s dates agent) r
-      → slice_get s.unit.variables variable ≡ Some decl → Looks ways agent r.point variable → back < decl.depth → by_ways.IsRingSize s.unit ways s.nexts variable size
+      → slice_get s.unit.variables variable ≡ Some decl → Looks ways agent r.point variable → back < decl.depth → IsRingSize s.unit ways s.nexts variable size
       → r.start ≤ date → date < r.deadline → age_at s variable back r.start date < size
   pub values : (s : System) (date agent variable back size : ℕ) (decl : VarDecl) (r : Action) → IsLawful s → IsClock (publishing s variable) → Contains (history s (date + 1) agent) r
       → slice_get s.unit.variables variable ≡ Some decl → back < decl.depth → age_at s variable back r.start date < size
@@ -69,19 +65,14 @@ pub record AreLooksLaws : Type 0 where
       → history s (date + 1) agent ≡ r ∷ before → date < r.deadline
       → (filter (λ (m : Message). nat_le m.visible r.start) (queue_of s (date + 1) stream) ≡ r.seen stream) × (take (length (r.seen stream)) (queue_of s (date + 1) stream) ≡ r.seen stream)
   pub sends : (s : System) (ways : Ways) (code : Code) → IsRun s ways code
-      → (queues : List ℕ) → by_ways.AreQueues s.unit ways s.nexts queues → All (λ size. size ≤ QUEUE) queues
-      → (dates agent size instr : ℕ) (r : Action) (state : RunState) (sent : Sent) → IsGreatest (by_ways.HasSendsTo s.unit ways s.nexts agent) size → Contains (history s dates agent) r
+      → (queues : List ℕ) → AreQueues s.unit ways s.nexts queues → All (λ size. size ≤ QUEUE) queues
+      → (dates agent size instr : ℕ) (r : Action) (state : RunState) (sent : Sent) → IsGreatest (HasSendsTo s.unit ways s.nexts agent) size → Contains (history s dates agent) r
       → run_code code (agent_code_at code agent) (begun_by (agent_code_at code agent) r) instr ≡ Running state
       → call_of code state.machine ≡ Some (Send sent) → instr < r.budget → length state.deeds.sends < size
   pub takes : (s : System) (ways : Ways) (code : Code) → IsRun s ways code
       → (dates agent stream instr : ℕ) (decl : StreamDecl) (r : Action) (state : RunState) → slice_get s.unit.streams stream ≡ Some decl → decl.receiver ≡ agent → Contains (history s dates agent) r
       → run_code code (agent_code_at code agent) (begun_by (agent_code_at code agent) r) instr ≡ Running state
       → messages_of state.view stream ≡ Some (map (λ (m : Message). m.value) (drop (count_by (λ t. t == stream) state.deeds.takes) (r.seen stream)))
-  -- sizes by the statements are those by their ways
-  pub rings : (unit : Whole) (nexts : List (List (List ℕ))) (variable size : ℕ) → IsRingSize unit nexts variable size → by_ways.IsRingSize unit (OfText unit) nexts variable size
-  pub queues : (unit : Whole) (nexts : List (List (List ℕ))) (stream size : ℕ) → IsQueueSize unit nexts stream size → by_ways.IsQueueSize unit (OfText unit) nexts stream size
-  pub outboxes : (unit : Whole) (code : Code) (nexts : List (List (List ℕ))) (agent size : ℕ) → IsCompiled unit code nexts → agent < length unit.agents
-      → IsGreatest (HasSendsTo unit (agent_at unit agent)) size → IsGreatest (by_ways.HasSendsTo unit (OfText unit) nexts agent) size
 
 -- ---- the action that gets the cycle
 
@@ -110,24 +101,22 @@ module _ (plan : Plan) (opening : Opening) (inputs : List (List ℤ)) (stalls : 
       let had : ℕ = units r.agent r.number turns in
       let in_agent : Contains (history s (date + 1) agent) r = subst (λ actions. Contains actions r) (sym e) (0, omega arith, refl) in
       let in_own : Contains (history s (date + 1) r.agent) r = subst (λ n. Contains (history s (date + 1) n) r) (sym g.agent_is) in_agent in
-      let known : r.agent < length plan.unit.agents = IsRegular.known (All-contains (IsRegular s r.agent) (history s (date + 1) r.agent) r (supply.lawful.actions (date + 1) r.agent).each in_own) in
       let soon = early s plan.code turns plan.until date cycle agent r before g in
       let paid = (charge_after s r had).paid in
       let left : paid < r.budget = (let few = paid_few (s.stalls r.agent) r.number r.budget had (omega (arith, soon)) in omega (arith, few, soon)) in
-      let queued : by_ways.AreQueues plan.unit ways plan.nexts plan.sizes.queues = record { count = is.buffers.queues.count; each = λ stream size at. laws.queues plan.unit plan.nexts stream size (is.buffers.queues.each stream size at) } in
       let at_date : length turns / plan.unit.quantum ≡ date = ap (λ n. n / plan.unit.quantum) (as_many s order cycle) ∙ tick_of_cycle s order date cycle low high in
       record {
         acts = λ rings queues taken outbox ringed filled as_many size did. acts s plan.code r had date rings queues filled taken as_many outbox did
             (λ stream decl at own. laws.fronts s ways plan.code run date stream r.agent decl r before at own (ap (history s (date + 1)) g.agent_is ∙ e) g.later)
             (λ stream decl state at own running. laws.takes s ways plan.code run (date + 1) r.agent stream paid decl r state at own in_own running)
-            (λ state sent running call. laws.sends s ways plan.code run plan.sizes.queues queued is.buffers.small_queues (date + 1) r.agent outbox.size paid r state sent (laws.outboxes plan.unit plan.code plan.nexts r.agent outbox.size is.compiled known size) in_own running call left)
+            (λ state sent running call. laws.sends s ways plan.code run plan.sizes.queues is.buffers.queues is.buffers.small_queues (date + 1) r.agent outbox.size paid r state sent size in_own running call left)
             (λ messages. shows s date r rings ringed messages
-            (λ variable back size decl at may inner sized. laws.ages s ways order plan.until (date + 1) r.agent variable back size date decl r supply in_own at may inner (laws.rings plan.unit plan.nexts variable size sized) g.started g.later)
+            (λ variable back size decl at may inner sized. laws.ages s ways order plan.until (date + 1) r.agent variable back size date decl r supply in_own at may inner sized g.started g.later)
             (λ variable back size decl at inner near. laws.values s date r.agent variable back size decl r supply.lawful (clock_lawful plan is s refl variable (slice_get_within s.unit.variables variable decl at)) in_own at inner near));
         near = near s plan.code r g.of_code had soon date (λ variable back may. (
           slice_get_within s.unit.variables variable may.0 may.1,
           (let size = size_of plan is variable (slice_get_within s.unit.variables variable may.0 may.1) in
-              let less = laws.ages s ways order plan.until (date + 1) r.agent variable back size.0 date may.0 r supply in_own may.1 may.3 may.2 (laws.rings plan.unit plan.nexts variable size.0 size.1) g.started g.later in
+              let less = laws.ages s ways order plan.until (date + 1) r.agent variable back size.0 date may.0 r supply in_own may.1 may.3 may.2 size.1 g.started g.later in
               omega (arith, less, size.2)),
         ));
         reached = λ variable. reached s plan.code r g.of_code had soon date variable (reach s turns (history s (date + 1)) variable) (reach s (turn_of (Some r) ∷ turns) (history s (date + 1)) variable)

@@ -8,7 +8,7 @@ use Rattle.psy_code.specs.declared.code.Code.{Code}
 use Rattle.psy_code.specs.Execution.{RunState, Running, call_of, run_code}
 use Rattle.psy_code.specs.Views.{Call, Past, Ready, Take, Send}
 use Rattle.psy_history.specs.Regular.{MayAsk, begun_by}
-use Rattle.psy_history.specs.Ways.{OfText}
+use Rattle.psy_meaning.specs.KnownWays.{OfText}
 use Rattle.psy_history.specs.Rings.{reach_with}
 use Rattle.psy_history.specs.Actions.{Action, System}
 use Rattle.psy_history.specs.Executors.{agent_code_at}

@@ -22,6 +22,7 @@ use Rattle.psy_history.specs.History.{history}
 use Rattle.psy_history.specs.Regular.{begun_by}
 use Rattle.psy_history.specs.Schedule.{Turn, is_of, is_pending, turn_of, units, work}
 use Rattle.psy_history.specs.Summary.{reach}
+use Rattle.psy_meaning.specs.KnownWays.{OfText}
 use Rattle.psy_meaning.specs.QueueSizes.{HasSendsTo}
 use Rattle.psy_meaning.specs.Timing.{end_date, timing_of}
 use Rattle.psy_queue.specs.Order.{Queued}
@@ -244,7 +245,7 @@ module _ {plan : Plan} {opening : Opening} {inputs : List (List ℤ)} {stalls : 
   acts_at u low high less taken' after counted size did =
       let at = sym (units_since u low) in
       let acts : ActsIn s plan.code r (units r.agent r.number (many r turns (u - begun))) (sight_in plan.unit rings queues r.agent r.start date) taken' after =
-      LooksBack.acts (looks_at u low high less) rings queues taken' after given.ringed given.queued counted (subst (IsGreatest (HasSendsTo plan.unit (agent_at plan.unit r.agent))) (sym size) given.sized)
+      LooksBack.acts (looks_at u low high less) rings queues taken' after given.ringed given.queued counted (subst (IsGreatest (HasSendsTo plan.unit (OfText plan.unit) plan.nexts r.agent)) (sym size) given.sized)
       (subst (λ n. HasDone s plan.code r (charge_after s r n).paid after.sends taken') at did) in
       subst (λ n. ActsIn s plan.code r n (sight_in plan.unit rings queues agent seat.start date) taken' after) (sym at)
       (subst (λ n. ActsIn s plan.code r (units r.agent r.number (many r turns (u - begun))) (sight_in plan.unit rings queues n seat.start date) taken' after) given.given.gets.agent_is

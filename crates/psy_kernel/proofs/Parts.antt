@@ -9,18 +9,21 @@ use Rattle.std.proofs.lemmas.Option.{get_or_from_slice_get, slice_get-get_or, sl
 use Rattle.psy_budget.specs.Charges.{Charged}
 use Rattle.psy_code.specs.declared.code.Code.{Code}
 use Rattle.psy_dates.specs.declared.seat.Seat.{Seat}
+use Rattle.psy_dates.specs.declared.movers.Movers.{Movers}
 use Rattle.psy_dates.specs.declared.shared.Shared.{Shared}
 use Rattle.psy_dates.specs.Calendars.{CalendarStands}
 use Rattle.psy_dates.specs.Outboxes.{Outboxed}
-use Rattle.psy_dates.specs.Standing.{IsSeated, KeepsCopy, KeepsSends, KeepsTakes, OutboxStands, SeatStands, SharedStands, dates_done}
+use Rattle.psy_dates.specs.Standing.{IsSeated, KeepsCopy, KeepsSends, KeepsTakes, MoversStand, OutboxStands, SeatStands, SharedStands, dates_done}
+use Rattle.psy_dates.proofs.lemmas.Moving.{never_waits, silent_by, silent_from}
 use Rattle.psy_history.specs.Regular.{AreRegular, IsLawful, IsRegular}
 use Rattle.psy_machine.specs.Stepping.{AgentMachine}
-use Rattle.psy_history.specs.Actions.{Action, System, stream_of, variable_of}
-use Rattle.psy_tree.specs.Parts.{agent_at, no_stream}
+use Rattle.psy_history.specs.Actions.{Action, System, is_done, is_silent, stream_of, variable_of}
+use Rattle.psy_tree.specs.Parts.{no_stream}
 use Rattle.psy_base.specs.Extremes.{IsGreatest}
 use Rattle.psy_history.specs.History.{history}
+use Rattle.psy_meaning.specs.KnownWays.{OfText}
 use Rattle.psy_meaning.specs.QueueSizes.{HasSendsTo}
-use Rattle.psy_history.specs.Schedule.{Turn, pending, soonest}
+use Rattle.psy_history.specs.Schedule.{Turn, is_pending, pending, soonest}
 use Rattle.psy_ready.specs.Choice.{IsPick, pending_deadline}
 use Rattle.psy_tree.specs.declared.unit.StreamDecl.{StreamDecl}
 use Rattle.psy_tree.specs.declared.unit.VarDecl.{VarDecl}
@@ -29,10 +32,11 @@ use Rattle.psy_kernel.specs.declared.kernel.Figure.{Figure}
 use Rattle.psy_kernel.specs.Standing.{AgentStands, DeedsStand, IsChosen, deadline_of}
 use Rattle.psy_kernel.specs.Stretches.{given_to}
 use Rattle.psy_kernel.proofs.GivenCycles.{missed_all}
+use Rattle.psy_kernel.proofs.MoversGiven.{IsTold, movers_given}
 use Rattle.psy_kernel.proofs.OneAgent.{variable_known}
 use Rattle.psy_kernel.proofs.OtherAgents.{AreSameFor, agent_kept, copy_kept, deeds_kept, deeds_untaken, other_agent, seat_kept, sends_kept, takes_kept}
 use Rattle.psy_kernel.proofs.PickIsSoonest.{Front, IsSoonest, front_of, soonest_by_pick, soonest_of_nobody}
-use Rattle.psy_kernel.proofs.Sets.{get_set_other, get_set_same}
+use Rattle.psy_dates.proofs.lemmas.Sets.{get_set_other, get_set_same}
 
 -- It stands for the history of so many dates, where the cycles done went to these turns
 pub record PartsStand (s : System) (code : Code) (until : ℕ) (turns : List (Option Turn)) (dates : ℕ) (shared : Shared) (machines : List AgentMachine) (charges : List Charged) (ready : List (Option ℕ)) (figures : List Figure) : Type 0 where
@@ -83,6 +87,7 @@ shared_same s turns now dates shared same h = record {
   taking = h.taking;
   taken = λ stream n at. takes_kept turns now (dates - 1) stream (history s dates (stream_of s stream).receiver) n (same (stream_of s stream).receiver) (h.taken stream n at);
   calendar = h.calendar;
+  movers = h.movers;
 }
 
 module _ (s : System) (code : Code) (until : ℕ) (turns : List (Option Turn)) (dates : ℕ) (shared : Shared) (machines : List AgentMachine) (charges : List Charged) (ready : List (Option ℕ)) (figures : List Figure) (p : PartsStand s code until turns dates shared machines charges ready figures) where
@@ -186,7 +191,7 @@ module _ (s : System) (code : Code) (until : ℕ) (turns : List (Option Turn)) (
             let x_is : x ≡ outbox = get_set_same shared.outboxes.items agent outbox x here in
             let old = found shared.outboxes.items agent (omega (arith, slice_get_within (slice_set shared.outboxes.items agent outbox) agent x here, length-set shared.outboxes.items agent outbox)) in
             subst (λ a. OutboxStands s (dates - 1) now a (history s dates a) x) (sym same) (subst (OutboxStands s (dates - 1) now agent (history s dates agent)) (sym x_is) (record {
-              size = subst (IsGreatest (HasSendsTo s.unit (agent_at s.unit agent))) (sym (size old.0 old.1)) (p.shares.outboxes agent old.0 old.1).size;
+              size = subst (IsGreatest (HasSendsTo s.unit (OfText s.unit) s.nexts agent)) (sym (size old.0 old.1)) (p.shares.outboxes agent old.0 old.1).size;
               sends = subst (λ actions. KeepsSends (dates - 1) now actions outbox.sends) (sym is) (subst (λ d. KeepsSends d now (r ∷ before) outbox.sends) (sym last) box.sent);
             })))
         | inr differs ↦
@@ -216,6 +221,17 @@ module _ (s : System) (code : Code) (until : ℕ) (turns : List (Option Turn)) (
         | inr differs ↦ seated_kept (s.opening.silent other) s.opening.dates turns now (dates - 1) (history s dates other) x (others_same other differs) (p.shares.seats other x (sym (get_set_other shared.seats.items agent other seat differs) ∙ at))
       ]
 
+      -- who moves, where the seat was told
+      movers_told : (after : Movers) → IsTold seat shared.movers after → MoversStand s dates (slice_set shared.seats.items agent seat) after
+      movers_told after told =
+          let known : agent < length s.unit.agents = IsRegular.known (All-head (IsRegular s agent) r before (subst (All (IsRegular s agent)) is (AreRegular.each (lawful.actions dates agent)))) in
+          let old = found shared.seats.items agent (omega (arith, known, p.shares.seated)) in
+          let was : SeatStands date turns (r ∷ before) old.0 = seated_last (s.opening.silent agent) s.opening.dates date turns r before old.0
+          (subst (λ actions. IsSeated (s.opening.silent agent) s.opening.dates date turns actions old.0) is (subst (λ d. IsSeated (s.opening.silent agent) s.opening.dates d turns (history s dates agent) old.0) last (p.shares.seats agent old.0 old.1))) in
+          movers_given s dates shared.seats.items agent old.0 seat shared.movers after old.1 (λ waits. never_waits (is_silent date (r ∷ [])) (is_pending now r) (is_done r.verdict) (sym one.seated.phase ∙ waits))
+          (λ rests. was.phase ∙ silent_by (is_silent date (r ∷ [])) (is_pending turns r) (is_done r.verdict) (silent_from (is_silent date (r ∷ [])) (is_pending now r) (is_done r.verdict) (sym one.seated.phase ∙ rests)))
+          (one.seated.deadline ∙ sym was.deadline) told p.shares.movers
+
       ended_given : (variable owner : ℕ) (value : ℤ) → slice_get ended variable ≡ Some value → (variable_of s variable).owner ≡ Some owner → KeepsCopy (dates - 1) now variable (history s dates owner) value
       ended_given variable owner value at owned = elim (cases_eq owner agent) [
         | inl same ↦
@@ -227,8 +243,8 @@ module _ (s : System) (code : Code) (until : ℕ) (turns : List (Option Turn)) (
       ]
 
       pub shared_given : (after : Shared) → after.date ≡ shared.date → after.seats.items ≡ slice_set shared.seats.items agent seat → after.ended.items ≡ ended → after.committed ≡ shared.committed
-          → after.rings ≡ shared.rings → after.queues ≡ shared.queues → after.outboxes.items ≡ slice_set shared.outboxes.items agent outbox → after.taken.items ≡ taken → after.calendar ≡ shared.calendar → SharedStands s now dates after
-      shared_given after date_is seats_are ended_are committed_is rings_are queues_are outboxes_are taken_is calendar_is = record {
+          → after.rings ≡ shared.rings → after.queues ≡ shared.queues → after.outboxes.items ≡ slice_set shared.outboxes.items agent outbox → after.taken.items ≡ taken → after.calendar ≡ shared.calendar → IsTold seat shared.movers after.movers → SharedStands s now dates after
+      shared_given after date_is seats_are ended_are committed_is rings_are queues_are outboxes_are taken_is calendar_is told = record {
         date = ap dates_done date_is ∙ p.shares.date;
         seated = ap length seats_are ∙ length-set shared.seats.items agent seat ∙ p.shares.seated;
         seats = λ other x at. seats_given other x (sym (ap (λ xs. slice_get xs other) seats_are) ∙ at);
@@ -245,6 +261,7 @@ module _ (s : System) (code : Code) (until : ℕ) (turns : List (Option Turn)) (
         taking = ap length taken_is ∙ count ∙ p.shares.taking;
         taken = λ stream n at. taken_given stream n (sym (ap (λ ns. slice_get ns stream) taken_is) ∙ at);
         calendar = subst (CalendarStands s.unit.clocks dates) (sym calendar_is) p.shares.calendar;
+        movers = subst (λ xs. MoversStand s dates xs after.movers) (sym seats_are) (movers_told after.movers told);
       }
 
       -- the agent's own, and those of another agent

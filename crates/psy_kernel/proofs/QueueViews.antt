@@ -13,7 +13,7 @@ use Rattle.psy_code.specs.Views.{Past, Send, messages_of, past_of}
 use Rattle.psy_dates.specs.Outboxes.{Outboxed}
 use Rattle.psy_history.specs.Queues.{queue_of}
 use Rattle.psy_history.specs.Regular.{MayAsk, begun_by}
-use Rattle.psy_history.specs.Ways.{OfText}
+use Rattle.psy_meaning.specs.KnownWays.{OfText}
 use Rattle.psy_history.specs.Actions.{Action, System, stream_of}
 use Rattle.psy_history.specs.Executors.{agent_code_at}
 use Rattle.psy_meaning.specs.Kept.{Receives}

@@ -11,7 +11,7 @@ use Rattle.psy_machine.specs.Stepping.{window_after}
 use Rattle.psy_history.specs.Actions.{Action, System}
 use Rattle.psy_history.specs.Executors.{agent_code_at}
 use Rattle.psy_history.specs.Regular.{AnswerAlike, Goes, MayAsk, begun_by}
-use Rattle.psy_history.specs.Ways.{OfText}
+use Rattle.psy_meaning.specs.KnownWays.{OfText}
 use Rattle.psy_kernel.specs.Acting.{ShowsAs, look_of}
 
 pub same_state : (s t : RunState) → Running s ≡ Running t → s ≡ t

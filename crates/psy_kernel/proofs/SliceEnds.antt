@@ -11,7 +11,7 @@ use Rattle.psy_kernel.specs.Slices.{Changes, IsOverBy, IsSliceEnd, after_cycles}
 use Rattle.psy_kernel.specs.Standing.{KernelStands, progress_of}
 use Rattle.psy_kernel.proofs.Kernels.{inside_of}
 use Rattle.psy_kernel.proofs.OrdersInForce as in_force
-use Rattle.psy_kernel.proofs.Stages.{cycle_due, filled}
+use Rattle.psy_kernel.proofs.Stages.{cycle_due, filled, not_filled}
 
 pub one_end : (p : Progress) (a b : ℕ) → IsSliceEnd p a → IsSliceEnd p b → a ≡ b
 one_end p a b x y = elim (cases_lt a b) [
@@ -69,6 +69,15 @@ module _ (k : Inside) (is : KernelStands k) (p : Progress) (e : progress_of k �
       by cycles above high t filled_is =
           let w = inside_of k is due_in in
           filled (progress_of k) w.0 w.1 is.plan.compiled.text.bare.quantum.0 cycles above (subst (λ dates. cycles ≤ dates * k.plan.unit.quantum) w.1.0 high) t filled_is
+
+  -- and else the next cycle is.
+  pub goes_on : (cycles : ℕ) → p.cycles < cycles → cycles ≤ p.dates * p.plan.unit.quantum → ((t : ℕ) → cycles ≡ t * p.plan.unit.quantum → ⊥) → stage_of (record p { cycles = cycles }) ≡ CycleDue cycles
+  goes_on = subst (λ (q : Progress). (cycles : ℕ) → q.cycles < cycles → cycles ≤ q.dates * q.plan.unit.quantum → ((t : ℕ) → cycles ≡ t * q.plan.unit.quantum → ⊥) → stage_of (record q { cycles = cycles }) ≡ CycleDue cycles) e by
+    where
+      by : (cycles : ℕ) → k.cycles < cycles → cycles ≤ dates_done k.shared.date * k.plan.unit.quantum → ((t : ℕ) → cycles ≡ t * k.plan.unit.quantum → ⊥) → stage_of (record (progress_of k) { cycles = cycles }) ≡ CycleDue cycles
+      by cycles above high none =
+          let w = inside_of k is due_in in
+          not_filled (progress_of k) w.0 w.1 is.plan.compiled.text.bare.quantum.0 cycles above (subst (λ dates. cycles ≤ dates * k.plan.unit.quantum) w.1.0 high) (none (dates_done k.shared.date))
 
   -- the cycle before which nothing comes from outside: the next date's first one, or the next order's
   module _ (orders : List Order) (orders_are : orders ≡ k.script.orders) (date : ℕ) (date_is : date ≡ dates_done k.shared.date * k.plan.unit.quantum) (end : ℕ) (no_later : end ≤ date)

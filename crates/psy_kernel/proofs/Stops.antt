@@ -12,7 +12,8 @@ use Rattle.psy_history.specs.Schedule.{Turn, is_pending}
 use Rattle.psy_history.specs.Regular.{AreRegular, IsRegular, WereStarted}
 use Rattle.psy_dates.specs.declared.seat.Phase.TheVariants as phase
 use Rattle.psy_dates.specs.declared.seat.Seat.{Seat}
-use Rattle.psy_dates.specs.Standing.{SeatStands, TellsEnd, phase_by, trap_of}
+use Rattle.psy_dates.specs.Standing.{SeatStands, TellsEnd, trap_of}
+use Rattle.psy_dates.proofs.lemmas.Moving.{silent_by, silent_from}
 use Rattle.psy_kernel.specs.Telling.{IsToldBy, TellsStop, stop_line}
 use Rattle.psy_kernel.specs.Texts.{event_line}
 
@@ -77,15 +78,6 @@ stops_few s date dates agent (r ∷ before) w =
     subst (λ xs. length xs ≤ 1) (sym (last_stops s date dates agent r before w)) last
 
 -- ---- the seat
-
-silent_from : (b pending done : Bool) → phase_by b pending done ≡ phase.Silent → b ≡ true
-silent_from true pending done e = refl
-silent_from false true done e = cc
-silent_from false false true e = cc
-silent_from false false false e = cc
-
-silent_by : (b pending done : Bool) → b ≡ true → phase_by b pending done ≡ phase.Silent
-silent_by b pending done e = ap (λ c. phase_by c pending done) e
 
 not_done : (done due : Bool) → (not done && due) ≡ true → done ≡ false
 not_done true due e = cc

@@ -12,7 +12,7 @@ use Rattle.psy_queue.specs.Order.{Queued, message_values}
 use Rattle.psy_tree.specs.declared.unit.StreamDecl.{StreamDecl}
 use Rattle.psy_kernel.specs.Seeing.{Sight, is_mine, left_by, left_in, left_of, seen_by}
 use Rattle.psy_kernel.proofs.SeenValues.{none_some, slice_get-drop, slice_get-take}
-use Rattle.psy_kernel.proofs.Sets.{get_set_other}
+use Rattle.psy_dates.proofs.lemmas.Sets.{get_set_other}
 
 -- ---- lists
 

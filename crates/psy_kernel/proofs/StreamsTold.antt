@@ -9,6 +9,7 @@ use Rattle.psy_queue.specs.Order.{Queued}
 use Rattle.psy_history.specs.Actions.{System, stream_of}
 use Rattle.psy_history.specs.History.{history}
 use Rattle.psy_history.specs.Lines.{Event, Show}
+use Rattle.psy_meaning.specs.KnownWays.{OfText}
 use Rattle.psy_meaning.specs.QueueSizes.{IsQueueSize}
 use Rattle.psy_history.specs.Schedule.{Turn}
 use Rattle.psy_history.specs.Visible.{messages}
@@ -36,7 +37,7 @@ module _ (s : System) (turns : List (Option Turn)) (date : ℕ) (shared : Shared
   fewer p ms = omega (arith, length-filter_both p (λ m. not (p m)) (λ m. refl) ms)
 
   -- A stream shows no more messages than a queue may have, and as many more as it held when the history began.
-  pub shown_few : (bound : (size : ℕ) → IsQueueSize s.unit s.nexts stream size → size ≤ QUEUE → length (queue_of s (date + 1) stream) ≤ size + length (s.opening.messages stream)) → length (s.opening.messages stream) ≤ QUEUE → stream < length s.unit.streams
+  pub shown_few : (bound : (size : ℕ) → IsQueueSize s.unit (OfText s.unit) s.nexts stream size → size ≤ QUEUE → length (queue_of s (date + 1) stream) ≤ size + length (s.opening.messages stream)) → length (s.opening.messages stream) ≤ QUEUE → stream < length s.unit.streams
       → length (map event_of (of_date date (messages s (history s (date + 1)) stream))) ≤ 131072
   shown_few bound few within =
       let queue = some_at shared.queues.items stream (omega (arith, within, stands.queued)) in

@@ -16,7 +16,7 @@ use Rattle.psy_history.specs.Executors.{Acted, acted_as, agent_code_at, machine_
 use Rattle.psy_meaning.specs.Kept.{Receives}
 use Rattle.psy_history.specs.Schedule.{work}
 use Rattle.psy_history.specs.Regular.{MayAsk, Runs, begun_by}
-use Rattle.psy_history.specs.Ways.{OfText}
+use Rattle.psy_meaning.specs.KnownWays.{OfText}
 use Rattle.psy_kernel.specs.declared.kernel.advance.Gone.{Gone}
 use Rattle.psy_kernel.specs.declared.kernel.advance.Gone.TheVariants as gone
 use Rattle.psy_kernel.specs.Seeing.{Sight, seen_by}

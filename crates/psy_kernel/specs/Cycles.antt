@@ -20,8 +20,7 @@ use Rattle.psy_history.specs.Scheduled.{turns_of}
 use Rattle.psy_machine.specs.Stepping.{AgentMachine}
 use Rattle.psy_history.specs.Actions.{Action, Opening, System, Done, stream_of, timing, variable_of}
 use Rattle.psy_history.specs.Openings.{IsSound}
-use Rattle.psy_history.specs.Ways.{OfText}
-use Rattle.psy_tree.specs.Parts.{agent_at}
+use Rattle.psy_meaning.specs.KnownWays.{OfText}
 use Rattle.psy_base.specs.Extremes.{IsGreatest, greater, lesser}
 use Rattle.psy_history.specs.History.{history}
 use Rattle.psy_meaning.specs.QueueSizes.{HasSendsTo}
@@ -126,7 +125,7 @@ AreQueuesOf s dates queues = (length queues ≡ length s.unit.streams)
 pub record LooksBack (s : System) (code : Code) (turns : List (Option Turn)) (date : ℕ) (r : Action) : Type 0 where
   pub acts : (rings : List (List ℤ)) (queues : List Queued) (taken : List ℕ) (outbox : Outboxed) → AreRingsOf s (date + 1) rings
       → AreQueuesOf s (date + 1) queues
-      → length taken ≡ length s.unit.streams → IsGreatest (HasSendsTo s.unit (agent_at s.unit r.agent)) outbox.size
+      → length taken ≡ length s.unit.streams → IsGreatest (HasSendsTo s.unit (OfText s.unit) s.nexts r.agent) outbox.size
       → HasDone s code r (charge_after s r (units r.agent r.number turns)).paid outbox.sends taken
       → ActsIn s code r (units r.agent r.number turns) (sight_in s.unit rings queues r.agent r.start date) taken outbox
   pub near : (look : Option (ℕ × ℕ)) → IsLookIn s code r (units r.agent r.number turns) look → IsNear s r.start date look

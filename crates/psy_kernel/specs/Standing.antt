@@ -15,7 +15,7 @@ use Rattle.psy_history.specs.Lines.{Event, publications, shows, stops_of}
 use Rattle.psy_history.specs.Schedule.{Turn, is_pending, units}
 use Rattle.psy_history.specs.Openings.{IsSound}
 use Rattle.psy_history.specs.Summary.{due_by, due_count, least_slack, most_held, reach}
-use Rattle.psy_history.specs.Ways.{OfText}
+use Rattle.psy_meaning.specs.KnownWays.{OfText}
 use Rattle.psy_history.specs.Compiled.{AreInputs}
 use Rattle.psy_history.specs.Regular.{begun_by}
 use Rattle.psy_history.specs.Scheduled.{turns_of}

@@ -1,5 +1,5 @@
 -- What starts at a date, and what a kernel begins with.
-use Rattle.std.specs.Prelude.{◌≡◌, ℕ, ◌<◌, ◌≤◌, ◌==◌, ◌&&◌, Bool, true, false, if◌then◌else◌, List, [], length, Option, Some, None, slice_get}
+use Rattle.std.specs.Prelude.{◌≡◌, ℕ, ◌==◌, ◌&&◌, Bool, true, false, if◌then◌else◌, List, [], length, Option, Some, None, slice_get}
 use Rattle.std.specs.Prelude.{slice_index_or, max}
 use Rattle.psy_budget.specs.Charges.{Charged, after_start}
 use Rattle.psy_code.specs.declared.code.Code.{Code}
@@ -60,9 +60,3 @@ deadline_at date seats agent waits = if starts_at date (seat_at seats agent) the
 -- The greatest number of messages that a stream held, with those of its queue
 abbrev pub held_at : List Queued → ℕ → ℕ → ℕ
 held_at queues stream most = max most (length (slice_index_or queues stream (record { size = 0; messages = [] })).messages)
-
--- The first n items of a list became what this makes of them, by their places, and the others are as they were.
-pub record IsDoneBelow {X : Type 0} (made : ℕ → X → X) (n : ℕ) (before after : List X) : Type 0 where
-  pub count : length after ≡ length before
-  pub done : (place : ℕ) (x : X) → place < n → slice_get before place ≡ Some x → slice_get after place ≡ Some (made place x)
-  pub ahead : (place : ℕ) → n ≤ place → slice_get after place ≡ slice_get before place

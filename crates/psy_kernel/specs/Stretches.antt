@@ -15,9 +15,9 @@ use Rattle.psy_history.specs.Schedule.{Turn, is_pending, turn_of, work}
 use Rattle.psy_machine.specs.declared.machine.Step.{Step}
 use Rattle.psy_machine.specs.declared.machine.Step.TheVariants as step
 use Rattle.psy_machine.specs.Stepping.{AgentMachine}
+use Rattle.psy_meaning.specs.KnownWays.{OfText}
 use Rattle.psy_meaning.specs.QueueSizes.{HasSendsTo}
 use Rattle.psy_queue.specs.Order.{Queued}
-use Rattle.psy_tree.specs.Parts.{agent_at}
 use Rattle.psy_kernel.specs.declared.kernel.Figure.{Figure}
 use Rattle.psy_kernel.specs.declared.kernel.advance.Gone.{Gone}
 use Rattle.psy_kernel.specs.declared.kernel.advance.Gone.TheVariants as gone
@@ -93,6 +93,6 @@ pub record MayLast (plan : Plan) (opening : Opening) (inputs : List (List ℤ)) 
   pub ringed : AreRingsOf (opened_of plan opening inputs stalls) (date + 1) rings
   pub queued : AreQueuesOf (opened_of plan opening inputs stalls) (date + 1) queues
   pub counted : length taken ≡ length plan.unit.streams
-  pub sized : IsGreatest (HasSendsTo plan.unit (agent_at plan.unit r.agent)) outbox.size
+  pub sized : IsGreatest (HasSendsTo plan.unit (OfText plan.unit) plan.nexts r.agent) outbox.size
   pub looks : (k : ℕ) → k < most → is_pending (given_to (turn_of (Some r)) k turns) r ≡ true
       → LooksBack (opened_of plan opening inputs stalls) plan.code (given_to (turn_of (Some r)) k turns) date r

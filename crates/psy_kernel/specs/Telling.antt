@@ -12,7 +12,7 @@ use Rattle.psy_budget.specs.declared.charge.Stall.{Stall}
 use Rattle.psy_history.specs.Actions.{Opening, System}
 use Rattle.psy_history.specs.Openings.{IsSound}
 use Rattle.psy_history.specs.Schedule.{Turn}
-use Rattle.psy_history.specs.Ways.{OfText}
+use Rattle.psy_meaning.specs.KnownWays.{OfText}
 use Rattle.psy_tree.specs.Parts.{agent_at, variable_at, stream_at}
 use Rattle.psy_history.specs.History.{history}
 use Rattle.psy_history.specs.Lines.{Event, is_date, publications, shows, stops_of}

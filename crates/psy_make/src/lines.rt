@@ -1,30 +1,19 @@
 //! The lines of a made program's text.
-ghost use Rattle.std.specs.Prelude.{◌≡◌, ◌++◌, codes, decimal, OnOk};
+ghost use Rattle.std.specs.Prelude.{◌≡◌, ◌++◌, codes, OnOk};
 ghost use Rattle.psy_make.specs.Text.{ended, temporal_line, agent_line, opening, taking, sending, closing};
 
 use crate::agent::Agent;
-use itoa::Buffer;
 use psy_base::Memory;
-
-fn add_number(text: &mut Vec<u8>, number: u32) -> Result<(), Memory>
-    ensures { OnOk result (text.new.items ≡ text.old.items ++ decimal number) }
-{
-    text.extend_from_slice(Buffer::new().format(number).as_bytes())?;
-    Ok(())
-}
+use psy_text::write::add_labelled;
 
 /// Adds the line of the variable that the agent owns. The only error is want of memory.
 pub fn add_temporal(text: &mut Vec<u8>, agent: &Agent) -> Result<(), Memory>
     ensures { OnOk result (text.new.items ≡ text.old.items ++ ended (temporal_line agent.now)) }
 {
-    text.extend_from_slice(b"temporal v")?;
-    add_number(text, agent.number)?;
-    text.extend_from_slice(b" of A")?;
-    add_number(text, agent.number)?;
-    text.extend_from_slice(b" on c")?;
-    add_number(text, agent.clock)?;
-    text.extend_from_slice(b" = ")?;
-    add_number(text, agent.number)?;
+    add_labelled(text, b"temporal v", agent.number as u64)?;
+    add_labelled(text, b" of A", agent.number as u64)?;
+    add_labelled(text, b" on c", agent.clock as u64)?;
+    add_labelled(text, b" = ", agent.number as u64)?;
     text.extend_from_slice(b" depth 1;\n")?;
     Ok(())
 }
@@ -34,14 +23,14 @@ pub fn add_temporal(text: &mut Vec<u8>, agent: &Agent) -> Result<(), Memory>
 fn add_opening(text: &mut Vec<u8>, agent: &Agent) -> Result<(), Memory>
     ensures { OnOk result (text.new.items ≡ text.old.items ++ opening agent.now) }
 {
-    text.extend_from_slice(b"agent A")?;
-    add_number(text, agent.number)?;
-    text.extend_from_slice(b" on c")?;
-    add_number(text, agent.clock)?;
-    text.extend_from_slice(b" budget 50 { int n = 0; body { n = n * ")?;
-    add_number(text, agent.factor)?;
-    text.extend_from_slice(b" + past(v")?;
-    add_number(text, agent.looks_at)?;
+    add_labelled(text, b"agent A", agent.number as u64)?;
+    add_labelled(text, b" on c", agent.clock as u64)?;
+    add_labelled(
+        text,
+        b" budget 50 { int n = 0; body { n = n * ",
+        agent.factor as u64,
+    )?;
+    add_labelled(text, b" + past(v", agent.looks_at as u64)?;
     text.extend_from_slice(b", 0);")?;
     Ok(())
 }
@@ -71,12 +60,13 @@ fn add_sending(text: &mut Vec<u8>, number: u32) -> Result<(), Memory>
 fn add_closing(text: &mut Vec<u8>, agent: &Agent) -> Result<(), Memory>
     ensures { OnOk result (text.new.items ≡ text.old.items ++ closing agent.now) }
 {
-    text.extend_from_slice(b" v")?;
-    add_number(text, agent.number)?;
-    text.extend_from_slice(b" = n; if (n & 1) { advance 1 on c")?;
-    add_number(text, agent.clock)?;
-    text.extend_from_slice(b"; } else { advance 2 on c")?;
-    add_number(text, agent.clock)?;
+    add_labelled(text, b" v", agent.number as u64)?;
+    add_labelled(
+        text,
+        b" = n; if (n & 1) { advance 1 on c",
+        agent.clock as u64,
+    )?;
+    add_labelled(text, b"; } else { advance 2 on c", agent.clock as u64)?;
     text.extend_from_slice(b"; } } }")?;
     Ok(())
 }

@@ -21,6 +21,7 @@ mod Rests
 mod Runs
 mod Sizes
 mod SendWays
+mod SendsMet
 mod SoundExprs
 mod SoundPaths
 mod SoundStmts

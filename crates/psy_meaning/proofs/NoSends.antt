@@ -3,7 +3,7 @@ use Rattle.std.proofs.Common.{◌≡◌, ℕ, ◌+◌, true, false, List, [], �
 use Rattle.psy_tree.specs.declared.unit.FunctionDecl.{FunctionDecl}
 use Rattle.psy_tree.specs.declared.unit.Stmt.{Stmt, roll-Stmt, rec-roll-Stmt, fold-roll-Stmt, map-Stmt, ind-Stmt}
 use Rattle.psy_tree.specs.declared.unit.Stmt.TheOpen.{Stmt-F}
-use Rattle.psy_meaning.specs.QueueSizes.{sendings_step, sendings_of, sendings_in}
+use Rattle.psy_meaning.specs.Sendings.{sendings_in, sendings_of, sendings_step}
 use Rattle.psy_meaning.specs.Sound.{Scope, Each, sound_stmt_step, IsSoundStmt, AreSound, function_scope, AreSoundFunctions}
 use Rattle.psy_meaning.specs.Ways.{Sending, Way, Fell, Back, here, one, courses_through, course_by, callee_way, with_way, callee_ways_from, callee_ways}
 use Rattle.psy_meaning.proofs.lemmas.Eaches.{each-append}

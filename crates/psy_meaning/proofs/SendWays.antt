@@ -6,7 +6,7 @@ use Rattle.psy_tree.specs.declared.unit.Expr.{Expr, roll-Expr, rec-roll-Expr, ma
 use Rattle.psy_tree.specs.declared.unit.Expr.TheOpen.{Expr-F}
 use Rattle.psy_tree.specs.declared.unit.Stmt.{Stmt, roll-Stmt, fold-roll-Stmt, rec-roll-Stmt, map-Stmt, ind-Stmt}
 use Rattle.psy_tree.specs.declared.unit.Stmt.TheOpen.{Stmt-F}
-use Rattle.psy_meaning.specs.QueueSizes.{sendings_step, sendings_of, sendings_in}
+use Rattle.psy_meaning.specs.Sendings.{sendings_in, sendings_of, sendings_step}
 use Rattle.psy_meaning.specs.Rest.{rest}
 use Rattle.psy_meaning.specs.Sound.{Each}
 use Rattle.psy_meaning.specs.Statements.{Piece, Do, Hop}

@@ -80,7 +80,7 @@ module _ (site : Site) (scope : Scope) (suits : Suits site scope) where
       let raws = map tree body in
       let ss = (stmts_of site raws points).0 in
       let none = ap holds_advance (map-id ss) ∙ holds_of site raws points ∙ with_max (nat_lt 0 (advances_list raws)) (raw_quiet_list raws) (l kind.MixedLoop) in
-      stmt_sound scope (Stmt-F.Bounded (expr_of site test) most.value ss) (exprs test t, (in_range site most 1 65536 m.0).1, all_in body b points room, none)
+      stmt_sound scope (Stmt-F.Bounded (expr_of site test) most.value ss) (exprs test t, in_range site most 1 65536 m.0, all_in body b points room, none)
 
   layer_sound : (y : RawStmt-F Known) → let x = map-RawStmt Known RawStmt tree y in
       Each (Fine site) (stmt_places_step (map-RawStmt RawStmt (RawStmt × List Place) with_places x)) → (points : List Point) → length points + advances_step (map-RawStmt RawStmt ℕ advances x) ≤ scope.points

@@ -1,4 +1,5 @@
 -- Lemmas that crates above may cite, by subject.
+pub mod ByPoint
 pub mod Demands
 pub mod Eaches
 pub mod Layers

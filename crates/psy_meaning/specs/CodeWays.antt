@@ -14,7 +14,7 @@ use Rattle.psy_tree.specs.declared.unit.Unit.{Unit as Whole}
 use Rattle.psy_tree.specs.Parts.{agent_at}
 use Rattle.psy_meaning.specs.Flow.{IsCut, Rises}
 use Rattle.psy_meaning.specs.ListedWays.{AreByPoint, IsWayBefore, points_of}
-use Rattle.psy_meaning.specs.QueueSizes.{delay_of}
+use Rattle.psy_meaning.specs.Sendings.{delay_of}
 
 -- ---- ways through code
 

@@ -8,11 +8,13 @@ pub mod Expressions
 pub mod Flow
 pub mod Graph
 pub mod Kept
+pub mod KnownWays
 pub mod ListedWays
 pub mod Paths
 pub mod QueueSizes
 pub mod Rest
 pub mod RingSizes
+pub mod Sendings
 pub mod Sizes
 pub mod Sound
 pub mod Statements

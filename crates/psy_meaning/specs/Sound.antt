@@ -98,7 +98,7 @@ sound_stmt_step scope X tree sound (Stmt-F.Set slot value) = HasSlot scope slot 
 sound_stmt_step scope X tree sound (Stmt-F.SetCopy variable value) = HasCopy scope variable × IsSoundExpr scope value
 sound_stmt_step scope X tree sound (Stmt-F.SetCell slot index value) = HasSlot scope slot × IsSoundExpr scope index × IsSoundExpr scope value
 sound_stmt_step scope X tree sound (Stmt-F.If test branch other) = IsSoundExpr scope test × Each sound branch × EachOr sound other
-sound_stmt_step scope X tree sound (Stmt-F.Bounded test most body) = IsSoundExpr scope test × (most ≤ TURNS) × Each sound body
+sound_stmt_step scope X tree sound (Stmt-F.Bounded test most body) = IsSoundExpr scope test × ((1 ≤ most) × (most ≤ TURNS)) × Each sound body
     × (holds_advance (map tree body) ≡ false)
 sound_stmt_step scope X tree sound (Stmt-F.Timed test body) = IsSoundExpr scope test × (quiet_list (map tree body) ≡ false) × Each sound body
 sound_stmt_step scope X tree sound (Stmt-F.Send value stream after clock) = CanSend scope stream after clock × IsSoundExpr scope value

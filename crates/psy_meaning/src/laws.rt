@@ -16,7 +16,7 @@ ghost use Rattle.psy_code.specs.Views.{Looked, View, nothing_done};
 ghost use Rattle.psy_meaning.specs.Alike.{IsStoreOf, IsViewOf, begun, first_store};
 ghost use Rattle.psy_meaning.specs.Flow.{IsNext};
 ghost use Rattle.psy_meaning.specs.Kept.{IsAdvanceOf, IsKept, IsLookOf};
-ghost use Rattle.psy_meaning.specs.QueueSizes.{sendings_in};
+ghost use Rattle.psy_meaning.specs.Sendings.{sendings_in};
 ghost use Rattle.psy_meaning.specs.States.{State, Store, Final, Ended, Trapped, Halts};
 ghost use Rattle.psy_meaning.specs.Rest.{rest};
 ghost use Rattle.psy_meaning.specs.Sizes.{unit_size};
@@ -44,6 +44,13 @@ pub fn sendings()
     ensures { (unit : Whole) (number : ℕ) (agent : AgentDecl) (from to : ℕ) (met : Meter) (sending : Sending) → IsSoundUnit unit
         → slice_get unit.agents number ≡ Some agent → IsWay unit.functions (rest agent.stmts from) to met → Contains met.sends sending
         → Contains (sendings_in agent.stmts) sending }
+{}
+
+/// Each send of the text of a sound unit's agent is met on a way from one of the agent's points.
+pub fn met()
+    ensures { (unit : Whole) (number : ℕ) (agent : AgentDecl) (sending : Sending) → IsSoundUnit unit → slice_get unit.agents number ≡ Some agent
+        → Contains (sendings_in agent.stmts) sending → (from to : ℕ) × (met : Meter) × (from < length agent.points)
+        × IsWay unit.functions (rest agent.stmts from) to met × Contains met.sends sending }
 {}
 
 /// What a way of a sound unit's agent looks at and sends to can be named: a look is at a variable that there is, back by less than its depth; a

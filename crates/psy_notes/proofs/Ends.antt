@@ -1,27 +1,14 @@
--- What begins with a letter is no number, and what begins with `end` is the end's line.
-use Rattle.std.proofs.Common.{◌≡◌, ◌≢◌, ℕ, ℤ, pos, negsuc, ◌^◌, ◌<◌, false, List, [], ◌∷◌, ◌++◌, length, refl, sym, ap, ◌∙◌, arith}
+-- What begins with a letter is no value, and what begins with `end` is the end's line.
+use Rattle.std.proofs.Common.{◌≡◌, ◌≢◌, ℕ, ℤ, pos, negsuc, ◌<◌, false, List, [], ◌∷◌, ◌++◌, refl, sym, ◌∙◌, arith}
 use Rattle.std.specs.Prelude.{FitsSigned, decimal, codes}
 use Rattle.std.specs.Char.{is_ascii_digit}
 use Rattle.std.specs.Fmt.{signed_decimal}
 use Rattle.std.specs.Int.{w32}
-use Rattle.std.proofs.lemmas.Fmt.{decimal_nonempty}
-use Rattle.psy_tree.specs.Lexemes.{Each}
+use Rattle.psy_text.proofs.lemmas.Numerals.{decimal_first}
 use Rattle.psy_log.specs.declared.note.Note.{Note}
 use Rattle.psy_log.specs.declared.note.Note.TheVariants as note
 use Rattle.psy_notes.specs.Notes.{IsLong, IsTold}
 use Rattle.psy_notes.specs.Reading.{spell, fields_of, IsDated}
-use Rattle.psy_notes.proofs.Fields.{Each-decimal}
-
-digits_first : (digits rest more : List ℕ) (b : ℕ) → Each is_ascii_digit digits → 0 < length digits → is_ascii_digit b ≡ false → digits ++ rest ≡ b ∷ more → ⊥
-digits_first [] rest more b each some other is = omega arith
-digits_first (d ∷ digits) rest more b each some other is =
-    let first : d ≡ b = cc in
-    let same : is_ascii_digit d ≡ is_ascii_digit b = ap is_ascii_digit first in
-    cc (same, other, each.0)
-
--- No number begins with another byte than a digit
-pub decimal_first : (n : ℕ) (rest more : List ℕ) (b : ℕ) → n < 2 ^ 64 → is_ascii_digit b ≡ false → decimal n ++ rest ≡ b ∷ more → ⊥
-decimal_first n rest more b long other is = digits_first (decimal n) rest more b (Each-decimal n long) (decimal_nonempty n long) other is
 
 -- No value begins with a letter
 pub value_first : (value : ℤ) (rest more : List ℕ) (b : ℕ) → FitsSigned w32 value → is_ascii_digit b ≡ false → 45 < b → signed_decimal value ++ rest ≡ b ∷ more → ⊥

@@ -1,30 +1,21 @@
 -- The fields of notes that can be told.
-use Rattle.std.proofs.Common.{◌≡◌, ℕ, ◌^◌, ◌<◌, ℤ, pos, negsuc, suc, true, false, Bool, ◌||◌, List, [], ◌∷◌, ◌++◌, Option, None, Some, refl, append_assoc, arith, rules}
+use Rattle.std.proofs.Common.{◌≡◌, ℕ, ◌^◌, ◌<◌, ℤ, pos, negsuc, suc, List, ◌++◌, Option, None, Some, refl, append_assoc, arith, rules}
 use Rattle.std.specs.Prelude.{FitsSigned, decimal, codes}
 use Rattle.std.specs.Char.{is_ascii_digit}
 use Rattle.std.specs.Fmt.{signed_decimal}
 use Rattle.std.specs.Int.{w32}
-use Rattle.std.specs.Str.Parse.{digits_value}
-use Rattle.std.proofs.lemmas.Fmt.{digits_decimal}
-use Rattle.std.proofs.lemmas.Str.Parse.{IsNumeralModel, numerals_by_value}
 use Rattle.psy_arith.specs.declared.operators.Trap.{Trap}
 use Rattle.psy_arith.specs.declared.operators.Trap.TheVariants as trap
-use Rattle.psy_tree.specs.Lexemes.{Each, IsWord, begins_word, is_in_word}
-use Rattle.psy_front.specs.Fronts.{IsName}
+use Rattle.psy_tree.specs.Lexemes.{is_in_word}
+use Rattle.psy_text.specs.Fronts.{IsName}
+use Rattle.psy_text.proofs.lemmas.Names.{Each-word}
+use Rattle.psy_text.proofs.lemmas.Numerals.{Each-decimal}
 use Rattle.psy_log.specs.declared.note.Note.{Note}
 use Rattle.psy_log.specs.declared.note.Note.TheVariants as note
 use Rattle.psy_log.specs.Forms.{line_of, trap_name, number_or_dash}
 use Rattle.psy_notes.specs.Notes.{IsLong, IsShort, IsTold, OrNone}
 use Rattle.psy_notes.specs.Reading.{spell, fields_of}
 use Rattle.psy_notes.proofs.Lines.{Plain, AllPlain, Plain-each}
-
--- Bytes that are digits are those that std reads
-own : IsNumeralModel (Each is_ascii_digit) (digits_value 10)
-own = numerals_by_value _ (search rules)
-
--- A number is written by digits
-pub Each-decimal : (n : ℕ) → n < 2 ^ 64 → Each is_ascii_digit (decimal n)
-Each-decimal n long = digits_decimal own n long
 
 Plain-decimal : (n : ℕ) → n < 2 ^ 64 → Plain (decimal n)
 Plain-decimal n long = Plain-each is_ascii_digit refl refl (decimal n) (Each-decimal n long)
@@ -36,16 +27,8 @@ Plain-value : (value : ℤ) → FitsSigned w32 value → Plain (signed_decimal v
 Plain-value (pos n) fits = Plain-decimal n (omega (arith, fits.sfits))
 Plain-value (negsuc n) fits = (refl, refl, Plain-decimal (suc n) (omega (arith, fits.sfits)))
 
-or_left : (a b : Bool) → a ≡ true → a || b ≡ true
-or_left true b is = refl
-or_left false b is = cc
-
-Plain-word : (name : List ℕ) → IsWord name → Plain name
-Plain-word [] word = absurd word
-Plain-word (b ∷ name) word = Plain-each is_in_word refl refl (b ∷ name) (or_left (begins_word b) (is_ascii_digit b) word.0, word.1)
-
 Plain-name : (name : List ℕ) → IsName name → Plain name
-Plain-name name is = Plain-word name is.0
+Plain-name name is = Plain-each is_in_word refl refl name (Each-word name is.0)
 
 Plain-trap : (kind : Trap) → Plain (trap_name kind)
 Plain-trap trap.Divide = search rules

@@ -17,7 +17,8 @@ use Rattle.psy_notes.specs.Notes.{IsTold}
 use Rattle.psy_notes.specs.Stands.{where_so, may_be_dated, behind_dated, next_stream, next_variable, behind_agents, behind_variables, behind_streams, behind_graph, next_stand}
 use Rattle.psy_notes.specs.Reading.{spell, fields_of, IsDated, IsSummary, IsGraph, IsReadAt}
 use Rattle.psy_notes.proofs.Lines.{one_line}
-use Rattle.psy_notes.proofs.Fields.{Each-decimal, AllPlain-fields_of}
+use Rattle.psy_text.proofs.lemmas.Numerals.{Each-decimal}
+use Rattle.psy_notes.proofs.Fields.{AllPlain-fields_of}
 
 -- The first byte
 abbrev initial : List (List ℕ) → ℕ

@@ -1,7 +1,7 @@
 -- The notes that a text can tell: those whose names are words and whose numbers have the bits of their place.
 use Rattle.std.specs.Prelude.{ℕ, ◌^◌, ◌<◌, FitsSigned, Option, None, Some}
 use Rattle.std.specs.Int.{w32}
-use Rattle.psy_front.specs.Fronts.{IsName}
+use Rattle.psy_text.specs.Fronts.{IsName}
 use Rattle.psy_log.specs.declared.note.Note.{Note}
 use Rattle.psy_log.specs.declared.note.Note.TheVariants as note
 

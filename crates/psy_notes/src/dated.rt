@@ -3,7 +3,7 @@ ghost use Rattle.std.specs.Prelude.{◌≡◌, ◌≢◌, ℕ, ℤ, List, [], �
 ghost use Rattle.std.specs.Fmt.{signed_decimal};
 ghost use Rattle.std.specs.Int.{w32};
 ghost use Rattle.psy_arith.specs.declared.operators.Trap.{Trap};
-ghost use Rattle.psy_front.specs.Fronts.{IsName};
+ghost use Rattle.psy_text.specs.Fronts.{IsName};
 ghost use Rattle.psy_log.specs.declared.note.Note.{Note};
 ghost use Rattle.psy_log.specs.Forms.{trap_name};
 ghost use Rattle.psy_notes.specs.Notes.{IsLong, IsTold};

@@ -3,11 +3,12 @@ ghost use Rattle.std.specs.Prelude.{◌≡◌, ◌≢◌, ℕ, ℤ, List, ◌∷
 ghost use Rattle.std.specs.Char.{is_ascii_digit};
 ghost use Rattle.std.specs.Fmt.{signed_decimal};
 ghost use Rattle.std.specs.Int.{w32};
-ghost use Rattle.psy_front.specs.Fronts.{IsName};
+ghost use Rattle.psy_text.specs.Fronts.{IsName};
 ghost use Rattle.psy_log.specs.Forms.{number_or_dash};
 ghost use Rattle.psy_notes.specs.Notes.{IsShort, IsLong, OrNone};
 
-use psy_front::laws::{one_name, one_number, one_value};
+use psy_text::front;
+use psy_text::laws::{one_name, one_number, one_value};
 
 /// What stands behind these bytes at the front of a text.
 pub fn behind<'a>(text: &'a [u8], bytes: &[u8]) -> Option<&'a [u8]>
@@ -22,7 +23,7 @@ pub fn name(text: &[u8]) -> Option<(&[u8], &[u8])>
     ensures only { (name more : List ℕ) → IsName name → text.now ≡ name ++ 32 ∷ more → MatchOption result ⊥ (λ r. r.1.now ≡ more) }
 {
     one_name();
-    let (name, rest) = psy_front::name(text)?;
+    let (name, rest) = front::name(text)?;
     Some((name, behind(rest, b" ")?))
 }
 
@@ -33,7 +34,7 @@ pub fn long(text: &[u8], end: u8) -> Option<(u64, &[u8])>
     ensures only { (number : ℕ) (more : List ℕ) → IsLong number → text.now ≡ decimal number ++ end ∷ more → MatchOption result ⊥ (λ r. r.1.now ≡ more) }
 {
     one_number();
-    let (number, rest) = psy_front::number(text)?;
+    let (number, rest) = front::number(text)?;
     Some((number, behind(rest, &[end])?))
 }
 
@@ -44,7 +45,7 @@ pub fn short(text: &[u8], end: u8) -> Option<(u32, &[u8])>
     ensures only { (number : ℕ) (more : List ℕ) → IsShort number → text.now ≡ decimal number ++ end ∷ more → MatchOption result ⊥ (λ r. r.1.now ≡ more) }
 {
     one_number();
-    let (number, rest) = psy_front::short(text)?;
+    let (number, rest) = front::short(text)?;
     Some((number, behind(rest, &[end])?))
 }
 
@@ -54,7 +55,7 @@ pub fn value(text: &[u8]) -> Option<(i32, &[u8])>
     ensures none { result ≡ None → (value : ℤ) (more : List ℕ) → FitsSigned w32 value → text.now ≢ signed_decimal value ++ 10 ∷ more }
 {
     one_value();
-    let (value, rest) = psy_front::value(text)?;
+    let (value, rest) = front::value(text)?;
     Some((value, behind(rest, b"\n")?))
 }
 

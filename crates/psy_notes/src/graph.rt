@@ -1,6 +1,6 @@
 //! The lines of action graphs.
 ghost use Rattle.std.specs.Prelude.{◌≡◌, ◌≢◌, ℕ, List, [], ◌∷◌, ◌++◌, None, IfSome, codes, decimal};
-ghost use Rattle.psy_front.specs.Fronts.{IsName};
+ghost use Rattle.psy_text.specs.Fronts.{IsName};
 ghost use Rattle.psy_log.specs.declared.note.Note.{Note};
 ghost use Rattle.psy_notes.specs.Notes.{IsLong, IsShort, IsTold};
 ghost use Rattle.psy_notes.specs.Reading.{spell, fields_of, IsGraph};

@@ -1,6 +1,6 @@
 //! The lines of a summary.
 ghost use Rattle.std.specs.Prelude.{◌≡◌, ◌≢◌, ℕ, List, [], ◌∷◌, ◌++◌, Option, None, IfSome, codes, decimal};
-ghost use Rattle.psy_front.specs.Fronts.{IsName};
+ghost use Rattle.psy_text.specs.Fronts.{IsName};
 ghost use Rattle.psy_log.specs.declared.note.Note.{Note};
 ghost use Rattle.psy_log.specs.Forms.{number_or_dash};
 ghost use Rattle.psy_notes.specs.Notes.{IsLong, IsShort, IsTold, OrNone};

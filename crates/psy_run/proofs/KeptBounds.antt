@@ -7,6 +7,7 @@ use Rattle.std.proofs.lemmas.Option.{slice_get-get_or}
 use Rattle.psy_base.specs.declared.limits.TheConstants.{QUEUE}
 use Rattle.psy_history.specs.Actions.{Action, Next, System, next_of}
 use Rattle.psy_history.specs.History.{action_of, history, with_start}
+use Rattle.psy_meaning.specs.KnownWays.{OfText}
 use Rattle.psy_meaning.specs.QueueSizes.{IsQueueSize}
 use Rattle.psy_meaning.specs.RingSizes.{IsRingSize}
 use Rattle.psy_history.specs.Schedule.{Turn, finish, units}
@@ -95,8 +96,8 @@ module _ (plan : Plan) (inputs : List (List ℤ)) (script : Script) (is : IsPlan
     pub held : (stream : ℕ) → most_held by_code plan.until stream ≡ most_held by_meaning plan.until stream
     pub finishes : (agent : ℕ) (r : Action) → IsSupplied by_code ties plan.until → Contains (history by_code plan.until agent) r → r.deadline ≤ plan.until → finish r.agent r.number (cycles_of by_code) ≤ r.deadline * plan.unit.quantum
     pub worked : (agent : ℕ) (r : Action) → IsSupplied by_code ties plan.until → Contains (history by_code (plan.until + 1) agent) r → r.deadline ≤ plan.until → IsFinished by_code ties (r.deadline * plan.unit.quantum) r
-    pub reached : (variable size n : ℕ) → IsSupplied by_code ties plan.until → IsRingSize plan.unit plan.nexts variable size → reach by_code (cycles_of by_code) (history by_code (plan.until + 1)) variable ≡ Some n → n < size
-    pub most : (stream size : ℕ) → stream < length plan.unit.streams → IsQueueSize plan.unit plan.nexts stream size → size ≤ QUEUE → most_held by_code plan.until stream ≤ size
+    pub reached : (variable size n : ℕ) → IsSupplied by_code ties plan.until → IsRingSize plan.unit (OfText plan.unit) plan.nexts variable size → reach by_code (cycles_of by_code) (history by_code (plan.until + 1)) variable ≡ Some n → n < size
+    pub most : (stream size : ℕ) → stream < length plan.unit.streams → IsQueueSize plan.unit (OfText plan.unit) plan.nexts stream size → size ≤ QUEUE → most_held by_code plan.until stream ≤ size
 
   module _ (law : RunLaws) where
     -- each action that is due by the last date has had its work by its deadline

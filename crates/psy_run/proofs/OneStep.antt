@@ -23,6 +23,7 @@ use Rattle.psy_parse.specs.Fault.{NoTree, AtFault}
 use Rattle.psy_flow.specs.Agents.{IsAgentOf}
 use Rattle.psy_flow.specs.Costs.{AreCosts}
 use Rattle.psy_meaning.specs.BufferSizes.{AreSizes}
+use Rattle.psy_meaning.specs.KnownWays.{OfText}
 use Rattle.psy_meaning.specs.Flow.{AreAllNexts, IsCut, HasCost}
 use Rattle.psy_meaning.specs.Timing.{Timing, timing_of}
 use Rattle.psy_meaning.specs.Units.{IsOfText}
@@ -78,9 +79,9 @@ pub record StepsAgree : Type 0 where
   pub graphs_or_cause : (unit : Whole) (graphs : List Graph) (fault : GraphFault) → IsOfText unit → AreGraphs unit graphs → IsCause unit fault → ⊥
   pub cause : (unit : Whole) (fault other : GraphFault) → IsOfText unit → IsCause unit fault → IsCause unit other → fault ≡ other
   pub timing : (unit : Whole) (number : ℕ) (timing other : Timing) → IsTimingOf unit number timing → IsTimingOf unit number other → timing ≡ other
-  pub sizes : (unit : Whole) (graphs : List Graph) (nexts : List (List (List ℕ))) (sizes others : Sizes) → IsOfText unit → AreGraphs unit graphs → AreAllNexts unit nexts → AreSizes unit nexts sizes → AreSizes unit nexts others → sizes ≡ others
-  pub sizes_or_fault : (unit : Whole) (graphs : List Graph) (nexts : List (List (List ℕ))) (sizes : Sizes) (fault : SizeFault) → IsOfText unit → AreGraphs unit graphs → AreAllNexts unit nexts → AreSizes unit nexts sizes → CanCount unit nexts → IsFaultBy unit nexts fault → ⊥
-  pub size_fault : (unit : Whole) (graphs : List Graph) (nexts : List (List (List ℕ))) (fault other : SizeFault) → IsOfText unit → AreGraphs unit graphs → AreAllNexts unit nexts → IsFaultBy unit nexts fault → IsFaultBy unit nexts other → fault ≡ other
+  pub sizes : (unit : Whole) (graphs : List Graph) (nexts : List (List (List ℕ))) (sizes others : Sizes) → IsOfText unit → AreGraphs unit graphs → AreAllNexts unit nexts → AreSizes unit (OfText unit) nexts sizes → AreSizes unit (OfText unit) nexts others → sizes ≡ others
+  pub sizes_or_fault : (unit : Whole) (graphs : List Graph) (nexts : List (List (List ℕ))) (sizes : Sizes) (fault : SizeFault) → IsOfText unit → AreGraphs unit graphs → AreAllNexts unit nexts → AreSizes unit (OfText unit) nexts sizes → CanCount unit (OfText unit) nexts → IsFaultBy unit (OfText unit) nexts fault → ⊥
+  pub size_fault : (unit : Whole) (graphs : List Graph) (nexts : List (List (List ℕ))) (fault other : SizeFault) → IsOfText unit → AreGraphs unit graphs → AreAllNexts unit nexts → IsFaultBy unit (OfText unit) nexts fault → IsFaultBy unit (OfText unit) nexts other → fault ≡ other
   pub cost : (unit : Whole) (number : ℕ) (agent : AgentDecl) (point cost other : ℕ) → IsAgentOf unit number agent → IsCut (HasCost unit.functions agent point) COST cost → IsCut (HasCost unit.functions agent point) COST other → cost ≡ other
   pub line : (graph : List Edge) (line other : Rate) → IsRateOf graph line → IsRateOf graph other → line ≡ other
 

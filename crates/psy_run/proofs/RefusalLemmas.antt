@@ -12,6 +12,7 @@ use Rattle.psy_tree.specs.Rules.{LeastFault, NoFault}
 use Rattle.psy_tree.specs.Stands.{first_passed}
 use Rattle.psy_parse.specs.Fault.{AtFault}
 use Rattle.psy_meaning.specs.Demand.{IsOverload}
+use Rattle.psy_meaning.specs.KnownWays.{OfText}
 use Rattle.psy_graph.specs.declared.fault.GraphFault.{GraphFault}
 use Rattle.psy_graph.specs.declared.fault.GraphFault.TheVariants as fault
 use Rattle.psy_graph.specs.declared.graph.Graph.{Graph}
@@ -65,7 +66,7 @@ unsized_by (size.LargeQueue stream) = Queue
 unsized_by size.Memory = Words
 
 -- A program that has no sizes has a fault of them
-pub unsized_is : (unit : Whole) (nexts : List (List (List ℕ))) (refusal : Refusal) → IsUnsized unit nexts refusal → (cause : SizeFault) × (refusal ≡ unsized_by cause) × IsFaultBy unit nexts cause
+pub unsized_is : (unit : Whole) (nexts : List (List (List ℕ))) (refusal : Refusal) → IsUnsized unit nexts refusal → (cause : SizeFault) × (refusal ≡ unsized_by cause) × IsFaultBy unit (OfText unit) nexts cause
 unfolding unsized_by
 unsized_is unit nexts Ring it = (size.LargeRing it.0, refl, it.1)
 unsized_is unit nexts Queue it = (size.LargeQueue it.0, refl, it.1)

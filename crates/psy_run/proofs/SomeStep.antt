@@ -24,6 +24,7 @@ use Rattle.psy_parse.specs.Fault.{NoTree, AtFault}
 use Rattle.psy_flow.specs.Agents.{IsAgentOf}
 use Rattle.psy_flow.specs.Costs.{AreCosts}
 use Rattle.psy_meaning.specs.BufferSizes.{AreSizes}
+use Rattle.psy_meaning.specs.KnownWays.{OfText}
 use Rattle.psy_meaning.specs.Flow.{AreAllNexts, AreNexts, IsCut, HasCost}
 use Rattle.psy_meaning.specs.Units.{IsOfText}
 use Rattle.psy_meaning.proofs.lemmas.Demands.{feasible-or-overload}
@@ -39,7 +40,7 @@ use Rattle.psy_sizes.specs.Faults.{CanCount, IsFaultBy}
 use Rattle.psy_make.specs.Text.{made_text}
 use Rattle.psy_script.specs.Faults.{Judge, Fault, IsLawful, first_fault}
 use Rattle.psy_script.specs.Inputs.{AreListsOf, inputs_judge, lists_in}
-use Rattle.psy_script.specs.Lines.{lines_of}
+use Rattle.psy_text.specs.Lines.{lines_of}
 use Rattle.psy_script.specs.Script.{IsScriptOf, script_judge, script_in}
 use Rattle.psy_run.specs.declared.refusal.File.{File}
 use Rattle.psy_run.specs.declared.refusal.File.TheVariants.{Inputs, Script}
@@ -71,7 +72,7 @@ pub record StepsEnd : Type 0 where
   pub cost : (unit : Whole) (number : ℕ) (agent : AgentDecl) (point : ℕ) → IsAgentOf unit number agent → point < length agent.points → (cost : ℕ) × IsCut (HasCost unit.functions agent point) COST cost
   pub next : (unit : Whole) (number : ℕ) (agent : AgentDecl) → IsAgentOf unit number agent → (nexts : List (List ℕ)) × AreNexts unit.functions agent nexts
   pub sizes_or_fault : (unit : Whole) (graphs : List Graph) (nexts : List (List (List ℕ))) → IsOfText unit → AreGraphs unit graphs → AreAllNexts unit nexts
-      → ((sizes : Sizes) × AreSizes unit nexts sizes × CanCount unit nexts) ⊎ ((fault : SizeFault) × IsFaultBy unit nexts fault)
+      → ((sizes : Sizes) × AreSizes unit (OfText unit) nexts sizes × CanCount unit (OfText unit) nexts) ⊎ ((fault : SizeFault) × IsFaultBy unit (OfText unit) nexts fault)
   pub greatest : (graph : List Edge) (nodes : ℕ) (span : Span) (within : ℕ) → All (IsEdge nodes) graph → (n : ℕ) × IsGreatestWeight graph (Fits span within) n
   pub line : (graph : List Edge) (nodes : ℕ) → All (IsEdge nodes) graph → length graph ≤ EDGES → (line : Rate) × IsRateOf graph line
   pub horizon : (quantum : ℕ) (lines : List Rate) → ((length : ℕ) × IsHorizonOf quantum lines length) ⊎ ((length : ℕ) → Covers quantum lines length → ⊥)
@@ -97,7 +98,7 @@ undrawn unit (fault.Nodes agent) is = (Nodes, (agent, is))
 undrawn unit (fault.Edges agent) is = (Edges, (agent, is))
 undrawn unit fault.Memory never = absurd never
 
-unsized : (unit : Whole) (nexts : List (List (List ℕ))) (cause : SizeFault) → IsFaultBy unit nexts cause → (refusal : Refusal) × IsUnsized unit nexts refusal
+unsized : (unit : Whole) (nexts : List (List (List ℕ))) (cause : SizeFault) → IsFaultBy unit (OfText unit) nexts cause → (refusal : Refusal) × IsUnsized unit nexts refusal
 unsized unit nexts (size.LargeRing variable) is = (Ring, (variable, is))
 unsized unit nexts (size.Cells stream) is = (Cells, (stream, is))
 unsized unit nexts (size.LargeQueue stream) is = (Queue, (stream, is))

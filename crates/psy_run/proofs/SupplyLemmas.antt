@@ -15,6 +15,7 @@ use Rattle.psy_graph.specs.declared.fault.GraphFault.TheVariants as fault
 use Rattle.psy_graph.specs.declared.graph.Graph.{Graph}
 use Rattle.psy_graph.specs.Graphs.{AreGraphs, IsCause, IsSmall}
 use Rattle.psy_meaning.specs.BufferSizes.{AreSizes}
+use Rattle.psy_meaning.specs.KnownWays.{OfText}
 use Rattle.psy_meaning.specs.Demand.{IsDemand, IsFeasible, IsOverload, Suffices}
 use Rattle.psy_meaning.specs.Units.{IsOfText}
 use Rattle.psy_meaning.specs.Flow.{AreAllNexts}
@@ -251,7 +252,7 @@ AllMet = (unit : Whole) (graphs : List Graph) (lines : List Rate) (until : ℕ) 
 pub record IsSupply (unit : Whole) (until : ℕ) (supply : Supply) : Type 0 where
   pub drawn : AreGraphs unit supply.graphs
   pub followed : AreAllNexts unit supply.nexts
-  pub sized : AreSizes unit supply.nexts supply.sizes
+  pub sized : AreSizes unit (OfText unit) supply.nexts supply.sizes
   pub rated : AreRates (edges_of supply.graphs) supply.lines
   pub feasible : IsFeasible (edges_of supply.graphs) unit.quantum until
   pub met : IsMet unit supply.graphs supply.extent

@@ -1,7 +1,7 @@
 -- What the words of the command line ask for.
 use Rattle.std.specs.Prelude.{◌≡◌, ℕ, ◌^◌, ◌<◌, ◌≤◌, List, [], ◌∷◌, Option, None, Some, codes, option_copied}
 use Rattle.psy_base.specs.declared.limits.TheConstants.{UNTIL}
-use Rattle.psy_script.specs.Numbers.{number_of}
+use Rattle.psy_text.specs.Words.{number_of}
 use Rattle.psy_run.specs.declared.asked.Command.{Command as Read}
 use Rattle.psy_run.specs.declared.asked.Command.TheVariants as read
 

@@ -16,6 +16,7 @@ use Rattle.psy_tree.specs.Stands.{Stands, first_passed}
 use Rattle.psy_tree.specs.Tokens.{TokensOf}
 use Rattle.psy_parse.specs.Fault.{AtFault}
 use Rattle.psy_meaning.specs.BufferSizes.{AreSizes}
+use Rattle.psy_meaning.specs.KnownWays.{OfText}
 use Rattle.psy_meaning.specs.Demand.{IsFeasible, IsOverload}
 use Rattle.psy_flow.specs.Costs.{AreAllCosts}
 use Rattle.psy_graph.specs.declared.fault.GraphFault.TheVariants as fault
@@ -93,14 +94,14 @@ graphing unit = step (AreGraphs unit) (IsUndrawn unit)
 -- The first variable whose ring would have more than 65,536 places, or else the first stream whose queue would, or for which a table would
 -- have more than 4,000,000 cells
 abbrev pub IsUnsized : Whole → List (List (List ℕ)) → Refusal → Type 0
-IsUnsized unit nexts Ring = (variable : ℕ) × IsFaultBy unit nexts (size.LargeRing variable)
-IsUnsized unit nexts Cells = (stream : ℕ) × IsFaultBy unit nexts (size.Cells stream)
-IsUnsized unit nexts Queue = (stream : ℕ) × IsFaultBy unit nexts (size.LargeQueue stream)
+IsUnsized unit nexts Ring = (variable : ℕ) × IsFaultBy unit (OfText unit) nexts (size.LargeRing variable)
+IsUnsized unit nexts Cells = (stream : ℕ) × IsFaultBy unit (OfText unit) nexts (size.Cells stream)
+IsUnsized unit nexts Queue = (stream : ℕ) × IsFaultBy unit (OfText unit) nexts (size.LargeQueue stream)
 IsUnsized unit nexts _ = ⊥
 
 -- The sizes of a program's buffers: no ring or queue has more than 65,536 places, and no table for a queue more than 4,000,000 cells.
 abbrev pub sizing : Whole → List (List (List ℕ)) → Course Sizes
-sizing unit nexts = step (λ sizes. AreSizes unit nexts sizes × CanCount unit nexts) (IsUnsized unit nexts)
+sizing unit nexts = step (λ sizes. AreSizes unit (OfText unit) nexts sizes × CanCount unit (OfText unit) nexts) (IsUnsized unit nexts)
 
 -- The greatest costs of the actions, by agent and point: they are there for each program.
 abbrev pub costing : Whole → Course (List (List ℕ))

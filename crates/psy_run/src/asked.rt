@@ -3,7 +3,7 @@ ghost use Rattle.std.specs.Prelude.{ℕ, [], ◌∷◌, map, MatchOption, string
 ghost use Rattle.psy_run.specs.Asked.{Asks, IsDate, IsSeed, AskNothing, asked_by};
 
 use psy_base::limits;
-use psy_script::number;
+use psy_text::word::number;
 
 /// What the words ask for, with the names of the files, the last date, and the number that a program is made from.
 #[derive(Clone, Copy)]

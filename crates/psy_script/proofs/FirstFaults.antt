@@ -5,7 +5,7 @@ use Rattle.psy_script.specs.declared.fault.LineKind.{LineKind}
 use Rattle.psy_script.specs.declared.fault.TextFault.{TextFault}
 use Rattle.psy_script.specs.declared.fault.TextFault.TheVariants.{Line}
 use Rattle.psy_script.specs.Faults.{Judge, Fault, fault_or, first_behind, first_fault, IsLawful, IsFirst}
-use Rattle.psy_script.specs.Lines.{lines_of}
+use Rattle.psy_text.specs.Lines.{lines_of}
 
 -- Lines that were read, none of them at fault, and those that are left are the lines of the text.
 pub record AreRead (judge : Judge) (text : List ℕ) (before after : List (List ℕ)) : Type 0 where

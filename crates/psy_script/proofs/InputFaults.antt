@@ -17,7 +17,9 @@ use Rattle.psy_tree.specs.declared.unit.Unit.{Unit as Whole}
 use Rattle.psy_script.specs.declared.fault.LineKind.{LineKind}
 use Rattle.psy_script.specs.declared.fault.LineKind.TheVariants.{NoSuchName, Again, Range}
 use Rattle.psy_script.specs.Inputs.{AreListsOf, Listing, inputs_judge, is_input, is_listed, list_of, listing_fault, listing_in, listing_of, listings, values_under}
-use Rattle.psy_script.specs.Lines.{is_skipped, lines_of, words_of}
+use Rattle.psy_text.specs.Lines.{is_skipped}
+use Rattle.psy_text.specs.Lines.{lines_of}
+use Rattle.psy_text.specs.Words.{words_of}
 use Rattle.psy_script.specs.Numbers.{fits_32}
 use Rattle.psy_script.proofs.FirstFaults.{kept_lines}
 use Rattle.psy_script.proofs.InputNumbers.{is_named}

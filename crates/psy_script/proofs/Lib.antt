@@ -1,10 +1,8 @@
 -- The lemmas of this crate, by subject.
 mod AgentOrders
-mod DigitValues
 mod FirstFaults
 mod InputFaults
 mod InputNumbers
-mod LinesCut
 mod Listed
 mod ListsKept
 mod NamePlaces
@@ -15,4 +13,3 @@ mod RisingScripts
 mod ScriptFaults
 mod SoundScripts
 mod Stated
-mod WordsCut

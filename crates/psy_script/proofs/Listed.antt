@@ -8,8 +8,9 @@ use Rattle.std.proofs.lemmas.List.Concat.{flat_map-append}
 use Rattle.std.proofs.lemmas.List.Elements.{All-nil, All-cons, All-head, All-tail, All-append}
 use Rattle.std.proofs.lemmas.Option.{none-some}
 use Rattle.psy_script.specs.Inputs.{Listing, is_listed, listing_in, listing_of, listings, values_under}
-use Rattle.psy_script.specs.Lines.{is_skipped, words_of}
-use Rattle.psy_script.specs.Numbers.{all_some, value_of}
+use Rattle.psy_text.specs.Lines.{is_skipped}
+use Rattle.psy_text.specs.Words.{words_of, value_of}
+use Rattle.psy_script.specs.Numbers.{all_some}
 
 -- What one more line says is said last.
 pub listings_more : (before : List (List ℕ)) (line : List ℕ) → listings (before ++ line ∷ []) ≡ listings before ++ option_to_list (listing_of line)

@@ -15,7 +15,9 @@ use Rattle.psy_script.specs.declared.entry.Entry.{Entry}
 use Rattle.psy_script.specs.declared.entry.Entry.TheVariants as entry
 use Rattle.psy_script.specs.declared.fault.LineKind.TheVariants.{BadLine}
 use Rattle.psy_script.specs.Entries.{clashes, is_beside, repeats, with_entry}
-use Rattle.psy_script.specs.Lines.{is_skipped, lines_of, words_of}
+use Rattle.psy_text.specs.Lines.{is_skipped}
+use Rattle.psy_text.specs.Lines.{lines_of}
+use Rattle.psy_text.specs.Words.{words_of}
 use Rattle.psy_script.specs.Rising.{put}
 use Rattle.psy_script.specs.Script.{IsScriptOf, Statement, is_in_range, less_or, names_agents, order_before, script_judge, stall_before, stands_again, statement_fault, statement_in, statements}
 use Rattle.psy_script.proofs.FirstFaults.{kept_lines}

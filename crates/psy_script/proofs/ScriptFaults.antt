@@ -7,7 +7,8 @@ use Rattle.psy_history.specs.declared.told.Script.{Script}
 use Rattle.psy_script.specs.declared.entry.Entry.{Entry}
 use Rattle.psy_script.specs.declared.fault.LineKind.TheVariants.{NoSuchName, Again, Range}
 use Rattle.psy_script.specs.Entries.{clashes, entry_in, with_entry}
-use Rattle.psy_script.specs.Lines.{is_skipped, words_of}
+use Rattle.psy_text.specs.Lines.{is_skipped}
+use Rattle.psy_text.specs.Words.{words_of}
 use Rattle.psy_script.specs.Script.{Statement, is_in_range, names_agents, script_in, script_judge, stands_again, statement_fault, statement_in, statement_of, statements}
 use Rattle.psy_script.proofs.Stated.{agent_names, clashes_are, entry_is, numbered, said_more, script_said}
 

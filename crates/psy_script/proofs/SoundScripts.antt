@@ -14,8 +14,8 @@ use Rattle.psy_history.specs.Scripts.{IsOrder, IsScript, IsStall, StallBefore}
 use Rattle.psy_script.specs.declared.fault.LineKind.{LineKind}
 use Rattle.psy_script.specs.declared.fault.LineKind.TheVariants.{BadLine, NoSuchName, Again, Range}
 use Rattle.psy_script.specs.Faults.{Fault, Judge, fault_or, first_behind, first_fault}
-use Rattle.psy_script.specs.Lines.{is_skipped, words_of}
-use Rattle.psy_script.specs.Numbers.{number_of}
+use Rattle.psy_text.specs.Lines.{is_skipped}
+use Rattle.psy_text.specs.Words.{words_of, number_of}
 use Rattle.psy_script.specs.Script.{Statement, Stalls, Orders, agent_number, has_twice, is_agent, is_in_range, is_order_at, order_before, order_in, order_said, script_in, script_judge, stall_before, stall_in, stall_said, stall_with, stands_again, statement_fault, statement_in, statement_of, statements}
 use Rattle.psy_script.proofs.AgentOrders.{lists_each}
 use Rattle.psy_script.proofs.Placing.{All_rising}

@@ -9,7 +9,7 @@ use Rattle.psy_script.specs.declared.entry.Entry.TheVariants as entry
 use Rattle.psy_script.specs.declared.placed.Place.{Place}
 use Rattle.psy_script.specs.declared.statement.Statement.{Statement as Line}
 use Rattle.psy_script.specs.declared.statement.Statement.TheVariants as line
-use Rattle.psy_script.specs.Lines.{words_of}
+use Rattle.psy_text.specs.Words.{words_of}
 use Rattle.psy_script.specs.Numbers.{all_some}
 use Rattle.psy_script.specs.Rising.{put}
 use Rattle.psy_script.specs.Script.{Statement, Stalls, Orders, stall_before, order_before}

@@ -3,7 +3,7 @@ use Rattle.std.specs.Prelude.{◌≡◌, ℕ, suc, ◌<◌, ◌≤◌, List, [],
 use Rattle.psy_base.specs.declared.limits.TheConstants.{LINES}
 use Rattle.psy_script.specs.declared.fault.LineKind.{LineKind}
 use Rattle.psy_script.specs.declared.fault.LineKind.TheVariants.{BadLine, NoSuchName, Again, Range}
-use Rattle.psy_script.specs.Lines.{lines_of}
+use Rattle.psy_text.specs.Lines.{lines_of}
 
 -- The number by which a refusal names the kind
 abbrev pub line_number : LineKind → ℕ

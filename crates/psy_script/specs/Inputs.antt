@@ -6,8 +6,10 @@ use Rattle.psy_tree.specs.declared.unit.VarDecl.{VarDecl}
 use Rattle.psy_script.specs.declared.fault.LineKind.{LineKind}
 use Rattle.psy_script.specs.declared.fault.LineKind.TheVariants.{BadLine, NoSuchName, Again, Range}
 use Rattle.psy_script.specs.Faults.{Judge, IsLawful}
-use Rattle.psy_script.specs.Lines.{is_skipped, lines_of, words_of}
-use Rattle.psy_script.specs.Numbers.{all_some, fits_32, value_of}
+use Rattle.psy_text.specs.Lines.{is_skipped}
+use Rattle.psy_text.specs.Lines.{lines_of}
+use Rattle.psy_text.specs.Words.{words_of, value_of}
+use Rattle.psy_script.specs.Numbers.{all_some, fits_32}
 
 -- What a line of inputs says: an input has this list of values.
 pub record Listing : Type 0 where

@@ -3,7 +3,6 @@ pub mod Answer
 pub mod Entries
 pub mod Faults
 pub mod Inputs
-pub mod Lines
 pub mod Numbers
 pub mod Rising
 pub mod Script

@@ -11,8 +11,9 @@ use Rattle.psy_history.specs.declared.told.Script.{Script}
 use Rattle.psy_script.specs.declared.fault.LineKind.{LineKind}
 use Rattle.psy_script.specs.declared.fault.LineKind.TheVariants.{BadLine, NoSuchName, Again, Range}
 use Rattle.psy_script.specs.Faults.{Judge, IsLawful}
-use Rattle.psy_script.specs.Lines.{is_skipped, lines_of, words_of}
-use Rattle.psy_script.specs.Numbers.{number_of}
+use Rattle.psy_text.specs.Lines.{is_skipped}
+use Rattle.psy_text.specs.Lines.{lines_of}
+use Rattle.psy_text.specs.Words.{words_of, number_of}
 use Rattle.psy_script.specs.Rising.{rising}
 
 -- What a line of a script says: so many cycles are spent before an instruction of an action; or ties go by an order from a cycle on.

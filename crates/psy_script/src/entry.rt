@@ -1,15 +1,15 @@
 //! A stall or an order, with agents by their numbers.
 ghost use Rattle.std.specs.Prelude.{◌≡◌, map, IfOk};
 ghost use Rattle.psy_script.specs.Entries.{entry_in, place_in, repeats, said};
-ghost use Rattle.psy_script.specs.Lines.{words_of};
+ghost use Rattle.psy_text.specs.Words.{words_of};
 ghost use Rattle.psy_script.specs.Numbers.{all_some};
 
 use crate::names::Names;
 use crate::statement::Statement;
-use crate::words::cut_word;
 use psy_base::{Items, Memory};
 use psy_budget::Stall;
 use psy_history::Order;
+use psy_text::word::cut_word;
 use std::alloc::Global;
 
 /// A stall or an order of agents of the program.

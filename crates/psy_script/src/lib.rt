@@ -2,18 +2,16 @@
 //! It may know words, names of inputs and agents; no dates, no kernel.
 #![tactic(auto)]
 
-mod digits;
 mod entry;
 mod fault;
 mod inputs;
 pub mod laws;
+mod lines;
 mod names;
 mod placed;
 mod script;
 mod statement;
-mod words;
 
-pub use digits::number;
 pub use fault::{LineKind, TextFault};
 pub use inputs::read_inputs;
 pub use script::read_script;

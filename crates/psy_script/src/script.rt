@@ -10,12 +10,13 @@ ghost use Rattle.psy_script.specs.declared.fault.LineKind.{LineKind as Kind};
 
 use crate::entry::entry_of;
 use crate::fault::{LineKind, TextFault};
+use crate::lines::has_many_lines;
 use crate::names::Names;
 use crate::placed::Placed;
 use crate::statement::read_statement;
-use crate::words::{cut_line, has_many_lines, is_skipped};
 use psy_base::Memory;
 use psy_history::Script;
+use psy_text::line::{cut_line, is_skipped};
 use psy_tree::Unit;
 use std::alloc::Global;
 

@@ -2,12 +2,11 @@
 ghost use Rattle.std.specs.Prelude.{◌≡◌, length};
 ghost use Rattle.std.specs.Option.{option_map};
 ghost use Rattle.psy_script.specs.Entries.{said};
-ghost use Rattle.psy_script.specs.Lines.{words_of};
+ghost use Rattle.psy_text.specs.Words.{words_of};
 ghost use Rattle.psy_script.specs.Script.{is_in_range, order_in, stall_in, statement_in};
 
-use crate::digits::number;
-use crate::words::cut_word;
 use psy_base::limits;
+use psy_text::word::{cut_word, number};
 
 /// A stall or an order as its line states it. Nothing says yet that its names are agents' and its numbers in their ranges.
 #[derive(Clone, Copy)]

@@ -1,11 +1,11 @@
 -- How long an agent's actions last, by the edges of its graph.
-use Rattle.std.proofs.Common.{◌≡◌, ℕ, zero, suc, ◌+◌, ◌-◌, ◌*◌, ◌<◌, ◌≤◌, ◌%◌, List, [], ◌∷◌, ◌++◌, take, max, map, length, get_or, refl, sym, ap, subst, ◌∙◌, inl, inr, arith}
+use Rattle.std.proofs.Common.{◌≡◌, ℕ, ◌+◌, ◌-◌, ◌*◌, ◌<◌, ◌≤◌, ◌%◌, List, [], ◌∷◌, ◌++◌, take, max, map, length, get_or, refl, sym, ap, subst, ◌∙◌, inl, inr, arith}
 use Rattle.std.specs.List.{Contains}
 use Rattle.std.proofs.lemmas.Bool.{cases_lt}
 use Rattle.std.proofs.lemmas.List.{take_more}
-use Rattle.std.proofs.lemmas.List.Elements.{All-get_or, Contains-append_left, Contains-push, Contains-push_cases}
+use Rattle.std.proofs.lemmas.List.Elements.{All-get_or, Contains-append_left, Contains-get_or, Contains-push, Contains-push_cases}
 use Rattle.std.proofs.lemmas.Nat.{mul-le}
-use Rattle.std.proofs.lemmas.Option.{slice_get-get_or, slice_get_read}
+use Rattle.std.proofs.lemmas.Option.{slice_get_read}
 use Rattle.psy_base.specs.declared.edge.Edge.{Edge}
 use Rattle.psy_base.specs.declared.limits.TheConstants.{ADVANCE, PERIOD}
 use Rattle.psy_clock.specs.declared.clock.Clock.{Clock}
@@ -13,18 +13,16 @@ use Rattle.psy_clock.specs.Dates.{IsClock, after_date}
 use Rattle.psy_tree.specs.declared.unit.AgentDecl.{AgentDecl}
 use Rattle.psy_tree.specs.declared.unit.Point.{Point}
 use Rattle.psy_tree.specs.declared.unit.Unit.{Unit as Whole}
-use Rattle.psy_flow.specs.Agents.{IsAgentOf}
-use Rattle.psy_meaning.specs.Flow.{AreNexts, IsNext}
 use Rattle.psy_base.specs.Extremes.{IsGreatest}
 use Rattle.psy_meaning.specs.Graph.{Spot, spot_at}
 use Rattle.psy_meaning.specs.QueueSizes.{MayLast}
 use Rattle.psy_meaning.specs.Timing.{Timing, MayStart, budget_at, clock_at, deadline, end_date, first, first_date, following, later, point_at, timing_of}
-use Rattle.psy_meaning.specs.Units.{HasHead, IsBarePoint, Within}
+use Rattle.psy_meaning.specs.Units.{HasHead, IsBareAgent, IsBarePoint}
 use Rattle.psy_graph.specs.declared.graph.Graph.{Graph}
-use Rattle.psy_graph.specs.Graphs.{IsGraphOf, IsTimingOf, spot_of}
+use Rattle.psy_graph.specs.Graphs.{IsGraphOf, IsTimed, spot_of}
 use Rattle.psy_sizes.specs.Queues.{HasLength}
 use Rattle.psy_sizes.proofs.Sharing.{no_clock}
-use Rattle.psy_sizes.proofs.Actions.{bare, head, listed, map_contains, named, nexts_of}
+use Rattle.psy_sizes.proofs.Actions.{map_contains}
 
 -- ---- the greatest length of one edge more
 
@@ -108,59 +106,39 @@ head_clock : (unit : Whole) (agent : AgentDecl) (points : List Point) (d : Point
 head_clock unit agent [] d h = absurd h
 head_clock unit agent (point ∷ points) d h = ap (λ (p : Point). p.clock) h.0
 
-count_at : (unit : Whole) (agent : AgentDecl) (points : List Point) (to : ℕ) (d : Point) → HasHead agent points (IsBarePoint unit) → 1 ≤ to → to < length points → Within 1 ADVANCE (get_or points to d).count
-count_at unit agent [] to d h some less = absurd h
-count_at unit agent (point ∷ points) zero d h some less = absurd (omega (arith, some))
-count_at unit agent (point ∷ points) (suc k) d h some less = (h.1 k d (omega (arith, less))).count
+-- An agent begins by the clock of its head.
+pub begins : (unit : Whole) (agent : AgentDecl) (nexts : List (List ℕ)) → IsBareAgent unit agent → first_date (timing_of unit agent nexts) ≡ (get_or unit.clocks agent.clock no_clock).first
+begins unit agent nexts bare = ap (λ c. (get_or unit.clocks c no_clock).first) (head_clock unit agent agent.points _ bare.points)
 
 -- The dates of a clock lie behind a time, the k-th no farther than so many periods.
 abbrev pub AreDistant : Type 0
 AreDistant = ((c : Clock) (t k : ℕ) → IsClock c → 1 ≤ k → t < after_date c t k) × ((c : Clock) (t k : ℕ) → IsClock c → 1 ≤ k → after_date c t k ≤ t + k * c.period)
 
-module _ (unit : Whole) (number : ℕ) (agent : AgentDecl) (its : IsAgentOf unit number agent) (nexts : List (List ℕ)) (are : AreNexts unit.functions agent nexts) where
-  abbrev timing : Timing
-  timing = timing_of unit agent nexts
+module _ (timing : Timing) (timed : IsTimed timing) (distant : AreDistant) where
+  ends_behind : (point start to : ℕ) → Contains (following timing point) to → (start < end_date timing start to) × (end_date timing start to ≤ start + ADVANCE * PERIOD)
+  ends_behind point start to follows =
+      let (some, less) = timed.within point to follows in
+      let p = point_at timing to in
+      let (one, few) = timed.counts to some less in
+      let clock = clock_at timing p.clock in
+      let lawful : IsClock clock = All-get_or IsClock timing.clocks p.clock _ (timed.named to _ less) timed.clocks in
+      let most = mul-le p.count clock.period ADVANCE PERIOD few lawful.period in
+      let near = distant.1 clock start p.count lawful one in
+      (distant.0 clock start p.count lawful one, omega (arith, most, near))
 
-  pub begins : (clock_at timing (point_at timing 0).clock).first ≡ (clock_at timing agent.clock).first
-  begins = ap (λ c. (clock_at timing c).first) (head_clock unit agent agent.points _ (bare unit number agent its).points)
+  pub last_small : (n : ℕ) → IsGreatest (MayLast timing) n → n ≤ ADVANCE * PERIOD
+  last_small n h = elim h.one [
+    | inl is ↦ (let lawful : IsClock (clock_at timing (point_at timing 0).clock) = All-get_or IsClock timing.clocks (point_at timing 0).clock _ (timed.named 0 _ timed.head) timed.clocks in
+        omega (arith, is, lawful.first, lawful.period))
+    | inr (point, start, to, may, follows, sum) ↦ (let (behind, near) = ends_behind point start to follows in omega (arith, sum, near))
+  ]
 
-  clock_lawful : (clock : ℕ) → clock < length unit.clocks → IsClock (clock_at timing clock)
-  clock_lawful clock less = All-get_or IsClock unit.clocks clock _ less its.0.bare.clocks
-
-  module _ (inner : (point to : ℕ) → IsNext unit.functions agent point to → (1 ≤ to) × (to < length agent.points)) (distant : AreDistant) where
-    to_within : (point to : ℕ) → Contains (following timing point) to → (1 ≤ to) × (to < length agent.points)
-    to_within point to follows = inner point to ((are.each point (get_or nexts point []) (listed nexts point to follows) to).0 follows)
-
-    ends_behind : (point start to : ℕ) → Contains (following timing point) to → (start < end_date timing start to) × (end_date timing start to ≤ start + ADVANCE * PERIOD)
-    ends_behind point start to follows =
-        let (some, less) = to_within point to follows in
-        let p = point_at timing to in
-        let (one, few) = count_at unit agent agent.points to _ (bare unit number agent its).points some less in
-        let clock = clock_at timing p.clock in
-        let lawful : IsClock clock = clock_lawful p.clock (named unit number agent its to _ less) in
-        let most = mul-le p.count clock.period ADVANCE PERIOD few lawful.period in
-        let near = distant.1 clock start p.count lawful one in
-        (distant.0 clock start p.count lawful one, omega (arith, most, near))
-
-    pub last_small : (n : ℕ) → IsGreatest (MayLast timing) n → n ≤ ADVANCE * PERIOD
-    last_small n h = elim h.one [
-      | inl is ↦ (let lawful = clock_lawful agent.clock (bare unit number agent its).clock in omega (arith, is, begins, lawful.first, lawful.period))
-      | inr (point, start, to, may, follows, sum) ↦ (let (behind, near) = ends_behind point start to follows in omega (arith, sum, near))
-    ]
-
-    pub last_some : (n to : ℕ) → IsNext unit.functions agent 0 to → IsGreatest (MayLast timing) n → 1 ≤ n
-    last_some n to next h =
-        let at = slice_get-get_or nexts 0 [] (omega (arith, are.length, head unit number agent its)) in
-        let follows : Contains (following timing 0) to = (are.each 0 (get_or nexts 0 []) at to).1 next in
-        let start = first_date timing in
-        let (behind, near) = ends_behind 0 start to follows in
-        let ends = end_date timing start to in
-        let least = h.most (ends - start) (inr (0, start, to, first, follows, omega (arith, behind))) in
-        omega (arith, behind, least)
-
--- The greatest length of the edges, by which an agent's actions last
-pub by_graph : (unit : Whole) (number : ℕ) (agent : AgentDecl) (its : IsAgentOf unit number agent) (timing : Timing) (graph : Graph) → IsTimingOf unit number timing → IsGraphOf timing graph →
-    (ticks n : ℕ) → ticks ≡ (get_or unit.clocks agent.clock no_clock).first → IsGreatest (HasLength ticks graph.edges) n → IsGreatest (MayLast timing) n
-by_graph unit number agent its timing graph told drawn ticks n is h =
-    let (nexts, are, same) = nexts_of unit number agent its timing told in
-    last_is timing graph drawn ticks n (is ∙ sym (begins unit number agent its nexts are) ∙ sym (ap first_date same)) h
+  pub last_some : (n : ℕ) → IsGreatest (MayLast timing) n → 1 ≤ n
+  last_some n h =
+      let to = get_or (following timing 0) 0 0 in
+      let follows = Contains-get_or (following timing 0) 0 0 (omega (arith, timed.some 0 (omega (arith, timed.head)))) in
+      let start = first_date timing in
+      let (behind, near) = ends_behind 0 start to follows in
+      let ends = end_date timing start to in
+      let least = h.most (ends - start) (inr (0, start, to, first, follows, omega (arith, behind))) in
+      omega (arith, behind, least)

@@ -4,9 +4,8 @@ mod AllRings
 mod AllSizes
 mod Distances
 mod Existence
-mod KnownStreams
+mod FromLists
 mod Lasting
-mod Latest
 mod Listed
 mod Multiples
 mod NoSends
@@ -15,10 +14,10 @@ mod Passed
 mod PassedTables
 mod QueueOf
 mod QueuesOf
+mod ReadLists
 mod RingsOf
 mod Sharing
 mod SomeOutboxes
-mod SoundSends
 mod SpreadOf
 mod SpreadSums
 mod Tables

@@ -1,58 +1,64 @@
 -- An agent without a send to a stream sends nothing to it on any way, so its spread is nothing.
-use Rattle.std.proofs.Common.{◌≡◌, ◌⊎◌, ℕ, zero, suc, ◌-◌, ◌==◌, Bool, true, false, List, [], ◌∷◌, filter, map, length, Some, refl, sym, ap, subst, ◌∙◌, inl, inr, cond, arith}
-use Rattle.std.proofs.lemmas.List.Sums.{length-filter}
-use Rattle.std.specs.Prelude.{slice_get}
-use Rattle.std.specs.List.{Contains, count_by}
-use Rattle.std.proofs.lemmas.List.{get_or-map, length-map}
+use Rattle.std.proofs.Common.{◌≡◌, ℕ, suc, ◌-◌, ◌==◌, ◌&&◌, Bool, true, false, List, [], ◌∷◌, map, length, get_or, Some, refl, sym, ap, subst, ◌∙◌, inl, inr, arith}
+use Rattle.std.specs.Prelude.{if◌then◌else◌, slice_get}
+use Rattle.std.specs.List.{Contains, list_any}
+use Rattle.std.proofs.lemmas.Bool.{cases_Bool, cases_lt, false≢true}
+use Rattle.std.proofs.lemmas.List.{get_or-map, get_or_past, length-map}
+use Rattle.std.proofs.lemmas.List.Folds.{list_any_at}
 use Rattle.std.proofs.lemmas.Option.{get_or_from_slice_get, slice_get_within}
 use Rattle.psy_base.specs.declared.edge.Edge.{Edge}
+use Rattle.psy_base.specs.declared.ways.SendWay.{SendWay}
+use Rattle.psy_base.specs.declared.ways.Ways.{Ways as WayLists}
 use Rattle.psy_base.specs.Paths.{IsPathFrom, IsGreatestWeight, FitsFirstFree, weight_of}
-use Rattle.psy_tree.specs.declared.unit.AgentDecl.{AgentDecl}
 use Rattle.psy_tree.specs.declared.unit.Unit.{Unit as Whole}
-use Rattle.psy_meaning.specs.Flow.{IsMostSends, IsWayFrom}
 use Rattle.psy_meaning.specs.Graph.{Spot}
-use Rattle.psy_meaning.specs.QueueSizes.{AreSendEdges, IsSendEdge, IsSpread, sendings_in, sendings_to}
-use Rattle.psy_meaning.specs.Rest.{rest}
+use Rattle.psy_meaning.specs.KnownWays.{HasMost, Listed, Ways, is_sent, most_in, sends_to}
+use Rattle.psy_meaning.specs.QueueSizes.{AreSendEdges, IsSendEdge, IsSpread}
 use Rattle.psy_meaning.specs.RingSizes.{agent_timing}
-use Rattle.psy_meaning.specs.Ways.{Meter, Sending, IsWay}
-use Rattle.psy_flow.specs.Agents.{IsAgentOf}
 use Rattle.psy_graph.specs.declared.graph.Graph.{Graph}
 use Rattle.psy_graph.specs.Graphs.{IsGraphOf, spot_of}
-use Rattle.psy_sizes.proofs.Actions.{agent_is, map_contains}
+use Rattle.psy_sizes.proofs.Actions.{map_contains}
 
--- ---- lists
+-- ---- lists without a send to the stream
 
-told : (b : Bool) → (b ≡ true) ⊎ (b ≡ false)
-told true = inl refl
-told false = inr refl
-
-behind : {X : Type 0} (x y : X) (xs : List X) (b : Bool) → Contains xs x → Contains (cond b (y ∷ xs) xs) x
-behind x y xs true (k, less, is) = (suc k, omega (arith, less), is)
-behind x y xs false c = c
-
--- An item that passes a test is kept.
-kept : {X : Type 0} (p : X → Bool) (xs : List X) (x : X) → p x ≡ true → Contains xs x → Contains (filter p xs) x
-kept p [] x passes (k, less, is) = absurd (omega (arith, less))
-kept p (y ∷ xs) x passes (zero, less, is) =
-    let here : p y ≡ true = ap p is ∙ passes in
-    subst (λ b. Contains (cond b (y ∷ filter p xs) (filter p xs)) x) (sym here) (0, omega arith, is)
-kept p (y ∷ xs) x passes (suc k, less, is) = behind x y (filter p xs) (p y) (kept p xs x passes (k, omega (arith, less), is))
-
--- Where none is kept, each fails it.
-fails : {X : Type 0} (p : X → Bool) (xs : List X) (x : X) → filter p xs ≡ [] → Contains xs x → p x ≡ false
-fails p xs x none c = elim (told (p x)) [
-  | inl passes ↦ (let (k, less, is) = subst (λ ys. Contains ys x) none (kept p xs x passes c) in absurd (omega (arith, less)))
-  | inr failed ↦ failed
+-- Where none passes, each fails.
+each_fails : {X : Type 0} (p : X → Bool) (xs : List X) (x : X) → list_any p xs ≡ false → Contains xs x → p x ≡ false
+each_fails p xs x none (k, less, is) = elim (cases_Bool (p x)) [
+  | inl passes ↦ absurd (false≢true (sym none ∙ list_any_at p xs k x less (ap p is ∙ passes)))
+  | inr fails ↦ fails
 ]
 
-none_kept : {X : Type 0} (p : X → Bool) (xs : List X) → ((x : X) → Contains xs x → p x ≡ false) → filter p xs ≡ []
-none_kept p [] failed = refl
-none_kept p (x ∷ xs) failed =
-    ap (λ b. cond b (x ∷ filter p xs) (filter p xs)) (failed x (0, omega arith, refl)) ∙ none_kept p xs (λ y (k, less, is). failed y (suc k, omega (arith, less), is))
+and_false : (a : Bool) → (a && false) ≡ false
+and_false true = refl
+and_false false = refl
 
--- Where no item of a list passes a test, none of a list without others does.
-none_pass : {X : Type 0} (p : X → Bool) (xs ys : List X) → filter p xs ≡ [] → ((x : X) → Contains ys x → Contains xs x) → count_by p ys ≡ 0
-none_pass p xs ys none inside = sym (length-filter p ys) ∙ ap length (none_kept p ys (λ x c. fails p xs x none (inside x c)))
+nothing_in : (list : List SendWay) (to stream : ℕ) → ((way : SendWay) → Contains list way → (way.stream == stream) ≡ false) → most_in list to stream ≡ 0
+nothing_in [] to stream fails = refl
+nothing_in (w ∷ ws) to stream fails =
+    let test : (w.to == to && w.stream == stream) ≡ false = ap (λ b. w.to == to && b) (fails w (0, omega arith, refl)) ∙ and_false (w.to == to) in
+    ap (λ (b : Bool). if b then w.most else most_in ws to stream) test ∙ nothing_in ws to stream (λ way (k, less, is). fails way (suc k, omega (arith, less), is))
+
+-- One of some lists, or the list of no number
+one_fails : {X : Type 0} (p : X → Bool) (lists : List (List X)) (k : ℕ) → list_any (list_any p) lists ≡ false → list_any p (get_or lists k []) ≡ false
+one_fails p lists k none = elim (cases_lt k (length lists)) [
+  | inl inside ↦ elim (cases_Bool (list_any p (get_or lists k []))) [
+    | inl passes ↦ absurd (false≢true (sym none ∙ list_any_at (list_any p) lists k [] inside passes))
+    | inr fails ↦ fails
+  ]
+  | inr past ↦ ap (list_any p) (get_or_past lists k [] past)
+]
+
+-- An agent that doesn't send to a stream has no way with a send to it.
+pub unsent : (lists : WayLists) (agent stream from to : ℕ) → sends_to (Listed lists) agent stream ≡ false → HasMost (Listed lists) agent from to stream 0
+unsent lists agent stream from to none =
+    let own = get_or (get_or lists.sends agent []) from [] in
+    let test : SendWay → Bool = λ way. way.stream == stream in
+    let fails : list_any test own ≡ false = one_fails test (get_or lists.sends agent []) from none in
+    nothing_in own to stream (λ way c. each_fails test own way fails c)
+
+-- Where nobody sends to a stream, no agent does.
+pub nobody : (lists : WayLists) (agent stream : ℕ) → is_sent (Listed lists) stream ≡ false → sends_to (Listed lists) agent stream ≡ false
+nobody lists agent stream none = one_fails (list_any (λ (way : SendWay). way.stream == stream)) lists.sends agent none
 
 -- ---- weights
 
@@ -79,36 +85,21 @@ silent_at edges place e f at also =
     ∙ sym (get_or-map silent edges place e f (slice_get_within edges place e at))
     ∙ get_or_from_slice_get (map silent edges) place f f also
 
--- ---- ways
+-- ---- spreads
 
-module _ (unit : Whole) (number : ℕ) (agent : AgentDecl) (stream : ℕ) (its : IsAgentOf unit number agent)
-    (inside : (from to : ℕ) (met : Meter) (sending : Sending) → IsWay unit.functions (rest agent.stmts from) to met → Contains met.sends sending → Contains (sendings_in agent.stmts) sending)
-    (some : (from to : ℕ) → (n : ℕ) × IsMostSends unit.functions agent from to stream n) (none : sendings_to stream agent ≡ []) where
-  sends_nothing : (from to : ℕ) (met : Meter) → IsWayFrom unit.functions agent from to met → count_by (λ (s : Sending). s.stream == stream) met.sends ≡ 0
-  sends_nothing from to met way = none_pass (λ (s : Sending). s.stream == stream) (sendings_in agent.stmts) met.sends none (λ s c. inside from to met s way c)
-
-  no_most : (from to n : ℕ) → IsMostSends unit.functions agent from to stream n → n ≡ 0
-  no_most from to n (inl (nowhere, is)) = is
-  no_most from to n (inr (m, greatest, cut)) =
-      let (met, way, count) = greatest.one in
-      let nothing = sends_nothing from to met way in
-      omega (arith, cut, count, nothing)
-
-  most_zero : (from to : ℕ) → IsMostSends unit.functions agent from to stream 0
-  most_zero from to = let (n, is) = some from to in subst (λ m. IsMostSends unit.functions agent from to stream m) (no_most from to n is) is
-
-  silent_edges : (spots : List Spot) (edges : List Edge) → AreSendEdges unit.functions agent stream spots edges (map silent edges)
+module _ (unit : Whole) (ways : Ways) (nexts : List (List (List ℕ))) (agent stream : ℕ) (none : (from to : ℕ) → HasMost ways agent from to stream 0) where
+  silent_edges : (spots : List Spot) (edges : List Edge) → AreSendEdges ways agent stream spots edges (map silent edges)
   silent_edges spots edges = record {
     count = length-map edges silent;
-    each = λ place e f at also. subst (IsSendEdge unit.functions agent stream spots e) (silent_at edges place e f at also) (record { same = refl; most = λ from to a b. most_zero from.point to.point });
+    each = λ place e f at also. subst (IsSendEdge ways agent stream spots e) (silent_at edges place e f at also) (record { same = refl; most = λ from to a b. none from.point to.point });
   }
 
-  pub no_spread : (nexts : List (List (List ℕ))) (window : ℕ) (graph : Graph) → IsGraphOf (agent_timing unit nexts number) graph → IsSpread unit nexts stream window number 0
-  no_spread nexts window graph drawn = (
+  pub no_spread : (window : ℕ) (graph : Graph) → IsGraphOf (agent_timing unit nexts agent) graph → IsSpread unit ways nexts stream window agent 0
+  no_spread window graph drawn = (
     map spot_of graph.nodes,
     graph.edges,
     map silent graph.edges,
     drawn.drawn,
-    subst (λ a. AreSendEdges unit.functions a stream (map spot_of graph.nodes) graph.edges (map silent graph.edges)) (sym (agent_is unit number agent its)) (silent_edges (map spot_of graph.nodes) graph.edges),
+    silent_edges (map spot_of graph.nodes) graph.edges,
     no_weight (map silent graph.edges) (window - 1) (silent_weight graph.edges),
   )

@@ -4,9 +4,7 @@ use Rattle.std.specs.List.{Contains}
 use Rattle.std.proofs.lemmas.Bool.{cases_lt}
 use Rattle.std.proofs.lemmas.List.{take_more}
 use Rattle.std.proofs.lemmas.List.Elements.{Contains-append_left, Contains-push, Contains-push_cases}
-use Rattle.psy_tree.specs.declared.unit.AgentDecl.{AgentDecl}
-use Rattle.psy_tree.specs.declared.unit.FunctionDecl.{FunctionDecl}
-use Rattle.psy_meaning.specs.Flow.{IsMostSends, IsNext}
+use Rattle.psy_meaning.specs.KnownWays.{HasMost, Ways}
 use Rattle.psy_base.specs.Extremes.{IsGreatest, IsMost}
 use Rattle.psy_meaning.specs.QueueSizes.{AreSendsBelow}
 use Rattle.psy_sizes.specs.Sending.{HasSendsAmong, HasSendsBefore}
@@ -22,23 +20,23 @@ most_is Has n m has is = record {
   most = is.all;
 }
 
-module _ (functions : List FunctionDecl) (agent : AgentDecl) where
+module _ (ways : Ways) (agent : ℕ) where
   -- Between two points each stream has at most one greatest number of sends.
   abbrev pub HaveOneMost : Type 0
-  HaveOneMost = (from to stream n m : ℕ) → IsMostSends functions agent from to stream n → IsMostSends functions agent from to stream m → n ≡ m
+  HaveOneMost = (from to stream n m : ℕ) → HasMost ways agent from to stream n → HasMost ways agent from to stream m → n ≡ m
 
   -- One stream more
-  pub sends_more : (from to stream others one n : ℕ) → AreSendsBelow functions agent from to stream others → IsMostSends functions agent from to stream one → n ≡ others + one → AreSendsBelow functions agent from to (stream + 1) n
-  sends_more from to stream others one n below is sum = subst (λ k. AreSendsBelow functions agent from to k n) (sym (add-one stream)) (others, one, below, is, sum)
+  pub sends_more : (from to stream others one n : ℕ) → AreSendsBelow ways agent from to stream others → HasMost ways agent from to stream one → n ≡ others + one → AreSendsBelow ways agent from to (stream + 1) n
+  sends_more from to stream others one n below is sum = subst (λ k. AreSendsBelow ways agent from to k n) (sym (add-one stream)) (others, one, below, is, sum)
 
   -- Between two points the sends to the first so many streams have one sum.
-  pub same_sends : HaveOneMost → (from to streams n m : ℕ) → AreSendsBelow functions agent from to streams n → AreSendsBelow functions agent from to streams m → n ≡ m
+  pub same_sends : HaveOneMost → (from to streams n m : ℕ) → AreSendsBelow ways agent from to streams n → AreSendsBelow ways agent from to streams m → n ≡ m
   same_sends one_most from to zero n m a b = a ∙ sym b
   same_sends one_most from to (suc stream) n m (others, one, below, is, sum) (others_also, one_also, below_also, is_also, sum_also) =
       omega (arith, sum, sum_also, same_sends one_most from to stream others others_also below below_also, one_most from to stream one one_also is is_also)
 
   -- And some sum, where each stream has a greatest number.
-  pub sends_some : (from to : ℕ) → ((stream : ℕ) → (n : ℕ) × IsMostSends functions agent from to stream n) → (streams : ℕ) → (n : ℕ) × AreSendsBelow functions agent from to streams n
+  pub sends_some : (from to : ℕ) → ((stream : ℕ) → (n : ℕ) × HasMost ways agent from to stream n) → (streams : ℕ) → (n : ℕ) × AreSendsBelow ways agent from to streams n
   sends_some from to each zero = (0, refl)
   sends_some from to each (suc stream) =
       let (others, below) = sends_some from to each stream in
@@ -46,24 +44,24 @@ module _ (functions : List FunctionDecl) (agent : AgentDecl) where
       (others + one, (others, one, below, is, refl))
 
   -- A sum is the most of the sums between its two points.
-  pub sends_most : HaveOneMost → (from to streams n : ℕ) → AreSendsBelow functions agent from to streams n → IsMost (AreSendsBelow functions agent from to streams) n
+  pub sends_most : HaveOneMost → (from to streams n : ℕ) → AreSendsBelow ways agent from to streams n → IsMost (AreSendsBelow ways agent from to streams) n
   sends_most one_most from to streams n are = record { one = inr are; all = λ m also. (let same = same_sends one_most from to streams m n also are in omega (arith, same)) }
 
   -- ---- the next points of a point
 
   -- Nothing is sent on no way.
-  pub no_next : (streams from : ℕ) → IsMost (HasSendsAmong functions agent streams from []) 0
-  no_next streams from = most_none (HasSendsAmong functions agent streams from []) (λ n (to, (k, less, is), are). omega (arith, less))
+  pub no_next : (streams from : ℕ) → IsMost (HasSendsAmong ways agent streams from []) 0
+  no_next streams from = most_none (HasSendsAmong ways agent streams from []) (λ n (to, (k, less, is), are). omega (arith, less))
 
   -- One next point more
   pub next_more : (streams from : ℕ) (nexts : List ℕ) (i d : ℕ) → i < length nexts → (n : ℕ) →
-      HasSendsAmong functions agent streams from (take (i + 1) nexts) n ↔ (HasSendsAmong functions agent streams from (take i nexts) n ⊎ AreSendsBelow functions agent from (get_or nexts i d) streams n)
+      HasSendsAmong ways agent streams from (take (i + 1) nexts) n ↔ (HasSendsAmong ways agent streams from (take i nexts) n ⊎ AreSendsBelow ways agent from (get_or nexts i d) streams n)
   next_more streams from nexts i d l n =
       let next = get_or nexts i d in
       let more : take (i + 1) nexts ≡ take i nexts ++ next ∷ [] = take_more nexts i d l in (
         λ (to, c, are). elim (Contains-push_cases (take i nexts) next to (subst (λ xs. Contains xs to) more c)) [
           | inl before ↦ inl (to, before, are)
-          | inr is ↦ inr (subst (λ p. AreSendsBelow functions agent from p streams n) (sym is) are)
+          | inr is ↦ inr (subst (λ p. AreSendsBelow ways agent from p streams n) (sym is) are)
         ],
         λ h. elim h [
           | inl (to, c, are) ↦ (to, subst (λ xs. Contains xs to) (sym more) (Contains-append_left (take i nexts) (next ∷ []) to c), are)
@@ -73,21 +71,21 @@ module _ (functions : List FunctionDecl) (agent : AgentDecl) where
 
   -- ---- the points
 
-  -- Nothing is sent from no point.
-  pub no_point : (streams : ℕ) → IsMost (HasSendsBefore functions agent streams 0) 0
-  no_point streams = most_none (HasSendsBefore functions agent streams 0) (λ n (from, to, less, next, are). omega (arith, less))
+  module _ (streams : ℕ) (nexts : List (List ℕ)) where
+    -- Nothing is sent from no point.
+    pub no_point : IsMost (HasSendsBefore ways agent streams nexts 0) 0
+    no_point = most_none (HasSendsBefore ways agent streams nexts 0) (λ n (from, to, less, c, are). omega (arith, less))
 
-  -- One point more, with the points that follow it
-  pub point_more : (streams point : ℕ) (nexts : List ℕ) → ((to : ℕ) → Contains nexts to ↔ IsNext functions agent point to) → (n : ℕ) →
-      HasSendsBefore functions agent streams (point + 1) n ↔ (HasSendsBefore functions agent streams point n ⊎ HasSendsAmong functions agent streams point nexts n)
-  point_more streams point nexts tell n = (
-    λ (from, to, less, next, are). elim (cases_lt from point) [
-      | inl l ↦ inl (from, to, l, next, are)
-      | inr l ↦ (let is : from ≡ point = omega (arith, less, l) in
-          inr (to, (tell to).1 (subst (λ p. IsNext functions agent p to) is next), subst (λ p. AreSendsBelow functions agent p to streams n) is are))
-    ],
-    λ h. elim h [
-      | inl (from, to, less, next, are) ↦ (from, to, omega (arith, less), next, are)
-      | inr (to, c, are) ↦ (point, to, omega arith, (tell to).0 c, are)
-    ],
-  )
+    -- One point more
+    pub point_more : (point n : ℕ) → HasSendsBefore ways agent streams nexts (point + 1) n ↔ (HasSendsBefore ways agent streams nexts point n ⊎ HasSendsAmong ways agent streams point (get_or nexts point []) n)
+    point_more point n = (
+      λ (from, to, less, c, are). elim (cases_lt from point) [
+        | inl l ↦ inl (from, to, l, c, are)
+        | inr l ↦ (let is : from ≡ point = omega (arith, less, l) in
+            inr (to, subst (λ p. Contains (get_or nexts p []) to) is c, subst (λ p. AreSendsBelow ways agent p to streams n) is are))
+      ],
+      λ h. elim h [
+        | inl (from, to, less, c, are) ↦ (from, to, omega (arith, less), c, are)
+        | inr (to, c, are) ↦ (point, to, omega arith, c, are)
+      ],
+    )

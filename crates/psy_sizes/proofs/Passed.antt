@@ -5,10 +5,8 @@ use Rattle.std.proofs.lemmas.Bool.{cases_lt}
 use Rattle.std.proofs.lemmas.List.{take_more}
 use Rattle.std.proofs.lemmas.List.Elements.{Contains-append_left, Contains-push, Contains-push_cases}
 use Rattle.psy_clock.specs.declared.clock.Clock.{Clock}
-use Rattle.psy_tree.specs.declared.unit.AgentDecl.{AgentDecl}
-use Rattle.psy_tree.specs.declared.unit.FunctionDecl.{FunctionDecl}
 use Rattle.psy_tree.specs.declared.unit.Unit.{Unit as Whole}
-use Rattle.psy_meaning.specs.Flow.{MayLook}
+use Rattle.psy_meaning.specs.KnownWays.{Looks, Ways}
 use Rattle.psy_base.specs.Extremes.{IsGreatest, IsMost}
 use Rattle.psy_graph.specs.declared.graph.Node.{Node}
 use Rattle.psy_sizes.specs.Passing.{HasDatesAt, HasDatesOf, HasDatesBefore}
@@ -35,22 +33,22 @@ most_max Has Other All n m k is h o both = record {
 
 -- ---- nodes
 
-module _ (functions : List FunctionDecl) (agent : AgentDecl) (variable : ℕ) (clock : Clock) (cycle : ℕ) where
+module _ (ways : Ways) (agent variable : ℕ) (clock : Clock) (cycle : ℕ) where
   -- So many dates stand between the start and the deadline of an action of this node that may look.
   abbrev pub HasDatesBy : Node → ℕ → Type 0
-  HasDatesBy node dates = MayLook functions agent node.point variable × HasDates clock cycle node.phase node.due dates
+  HasDatesBy node dates = Looks ways agent node.point variable × HasDates clock cycle node.phase node.due dates
 
-  pub looking_by : (node : Node) (n : ℕ) → MayLook functions agent node.point variable → IsGreatest (HasDates clock cycle node.phase node.due) n → IsMost (HasDatesBy node) n
+  pub looking_by : (node : Node) (n : ℕ) → Looks ways agent node.point variable → IsGreatest (HasDates clock cycle node.phase node.due) n → IsMost (HasDatesBy node) n
   looking_by node n looks h = record { one = inr (looks, h.one); all = λ m (also, has). h.most m has }
 
-  pub blind_by : (node : Node) → (MayLook functions agent node.point variable → ⊥) → IsMost (HasDatesBy node) 0
+  pub blind_by : (node : Node) → (Looks ways agent node.point variable → ⊥) → IsMost (HasDatesBy node) 0
   blind_by node blind = most_none (HasDatesBy node) (λ n (looks, has). blind looks)
 
-  pub no_node : IsMost (HasDatesAt functions agent variable clock cycle []) 0
-  no_node = most_none (HasDatesAt functions agent variable clock cycle []) (λ n (node, (k, less, is), looks, has). omega (arith, less))
+  pub no_node : IsMost (HasDatesAt ways agent variable clock cycle []) 0
+  no_node = most_none (HasDatesAt ways agent variable clock cycle []) (λ n (node, (k, less, is), looks, has). omega (arith, less))
 
   pub node_more : (nodes : List Node) (i : ℕ) (d : Node) → i < length nodes → (n : ℕ) →
-      HasDatesAt functions agent variable clock cycle (take (i + 1) nodes) n ↔ (HasDatesAt functions agent variable clock cycle (take i nodes) n ⊎ HasDatesBy (get_or nodes i d) n)
+      HasDatesAt ways agent variable clock cycle (take (i + 1) nodes) n ↔ (HasDatesAt ways agent variable clock cycle (take i nodes) n ⊎ HasDatesBy (get_or nodes i d) n)
   node_more nodes i d l n =
       let node = get_or nodes i d in
       let more : take (i + 1) nodes ≡ take i nodes ++ node ∷ [] = take_more nodes i d l in (
@@ -66,14 +64,14 @@ module _ (functions : List FunctionDecl) (agent : AgentDecl) (variable : ℕ) (c
 
 -- ---- agents
 
-pub no_agent : (unit : Whole) (variable : ℕ) (clock : Clock) → IsMost (HasDatesBefore unit variable clock 0) 0
-no_agent unit variable clock = most_none (HasDatesBefore unit variable clock 0) (λ n (number, less, rest). omega (arith, less))
+pub no_agent : (unit : Whole) (ways : Ways) (nexts : List (List (List ℕ))) (variable : ℕ) (clock : Clock) → IsMost (HasDatesBefore unit ways nexts variable clock 0) 0
+no_agent unit ways nexts variable clock = most_none (HasDatesBefore unit ways nexts variable clock 0) (λ n (number, less, rest). omega (arith, less))
 
-pub agent_more : (unit : Whole) (variable : ℕ) (clock : Clock) (k n : ℕ) → HasDatesBefore unit variable clock (k + 1) n ↔ (HasDatesBefore unit variable clock k n ⊎ HasDatesOf unit variable clock k n)
-agent_more unit variable clock k n = (
+pub agent_more : (unit : Whole) (ways : Ways) (nexts : List (List (List ℕ))) (variable : ℕ) (clock : Clock) (k n : ℕ) → HasDatesBefore unit ways nexts variable clock (k + 1) n ↔ (HasDatesBefore unit ways nexts variable clock k n ⊎ HasDatesOf unit ways nexts variable clock k n)
+agent_more unit ways nexts variable clock k n = (
   λ (number, less, has). elim (cases_lt number k) [
     | inl l ↦ inl (number, l, has)
-    | inr l ↦ (let is : number ≡ k = omega (arith, less, l) in inr (subst (λ m. HasDatesOf unit variable clock m n) is has))
+    | inr l ↦ (let is : number ≡ k = omega (arith, less, l) in inr (subst (λ m. HasDatesOf unit ways nexts variable clock m n) is has))
   ],
   λ h. elim h [
     | inl (number, less, has) ↦ (number, omega (arith, less), has)

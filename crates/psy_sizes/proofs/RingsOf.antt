@@ -3,55 +3,42 @@ use Rattle.std.proofs.Common.{◌≡◌, ℕ, ◌+◌, ◌-◌, ◌<◌, ◌≤�
 use Rattle.std.specs.Prelude.{slice_get}
 use Rattle.std.proofs.lemmas.Bool.{cases_lt}
 use Rattle.std.proofs.lemmas.List.{get_or_append_left, get_or_push}
-use Rattle.std.proofs.lemmas.Option.{same_Some, slice_get-get_or}
+use Rattle.std.proofs.lemmas.Option.{same_Some}
 use Rattle.psy_clock.specs.declared.clock.Clock.{Clock}
 use Rattle.psy_tree.specs.declared.unit.Unit.{Unit as Whole}
 use Rattle.psy_tree.specs.declared.unit.VarDecl.{VarDecl}
-use Rattle.psy_tree.specs.Parts.{agent_at}
-use Rattle.psy_meaning.specs.Flow.{AreAllNexts}
-use Rattle.psy_meaning.specs.RingSizes.{IsDueIn, IsRingSize, MayPass, agent_timing, dates_between}
-use Rattle.psy_meaning.specs.Timing.{Timing}
-use Rattle.psy_graph.specs.Graphs.{IsTimingOf}
+use Rattle.psy_meaning.specs.KnownWays.{Ways}
+use Rattle.psy_meaning.specs.RingSizes.{IsRingSize, MayPass, dates_between}
 use Rattle.psy_sizes.specs.Passing.{HasDatesBefore}
 use Rattle.psy_base.specs.Extremes.{IsMost}
 use Rattle.psy_sizes.proofs.Passed.{most_alike}
 use Rattle.psy_sizes.proofs.Sharing.{no_clock}
 
-module _ (unit : Whole) (nexts : List (List (List ℕ))) (are : AreAllNexts unit nexts) where
-  -- The timing of an agent of the unit
-  pub timing_told : (number : ℕ) → number < length unit.agents → IsTimingOf unit number (agent_timing unit nexts number)
-  timing_told number less =
-      let got : slice_get unit.agents number ≡ Some (agent_at unit number) = slice_get-get_or unit.agents number _ less in
-      let list : slice_get nexts number ≡ Some (get_or nexts number []) = slice_get-get_or nexts number [] (omega (arith, less, are.count)) in
-      (agent_at unit number, get_or nexts number [], got, are.each number (agent_at unit number) (get_or nexts number []) got list, refl)
+module _ (unit : Whole) (ways : Ways) (nexts : List (List (List ℕ))) (variable : ℕ) (decl : VarDecl) (declared : slice_get unit.variables variable ≡ Some decl) (clock : Clock) (clock_is : clock ≡ get_or unit.clocks decl.clock no_clock) where
+  may_pass : (n : ℕ) → HasDatesBefore unit ways nexts variable clock (length unit.agents) n ↔ MayPass unit ways nexts variable n
+  may_pass n = (
+    λ (number, less, (point, date, due, looks, is_due, is)). (number, point, date, due, decl, less, looks, is_due, declared, is ∙ ap (λ c. dates_between c date (date + due - 1)) clock_is),
+    λ (number, point, date, due, other, less, looks, is_due, got, is). (
+        let same : other ≡ decl = same_Some other decl (sym got ∙ declared) in
+        let clocks : get_or unit.clocks other.clock no_clock ≡ clock = ap (λ v. get_or unit.clocks v.clock no_clock) same ∙ sym clock_is in
+        (number, less, (point, date, due, looks, is_due, is ∙ ap (λ c. dates_between c date (date + due - 1)) clocks))
+        ),
+  )
 
-  module _ (one_timing : (number : ℕ) (timing other : Timing) → IsTimingOf unit number timing → IsTimingOf unit number other → timing ≡ other) (variable : ℕ) (decl : VarDecl) (declared : slice_get unit.variables variable ≡ Some decl)
-      (clock : Clock) (clock_is : clock ≡ get_or unit.clocks decl.clock no_clock) where
-    may_pass : (n : ℕ) → HasDatesBefore unit variable clock (length unit.agents) n ↔ MayPass unit nexts variable n
-    may_pass n = (
-      λ (number, less, (timing, point, date, due, told, looks, is_due, is)).
-          (number, point, date, due, decl, less, looks, subst (λ t. IsDueIn t point date due) (one_timing number timing (agent_timing unit nexts number) told (timing_told number less)) is_due, declared, is ∙ ap (λ c. dates_between c date (date + due - 1)) clock_is),
-      λ (number, point, date, due, other, less, looks, is_due, got, is). (
-          let same : other ≡ decl = same_Some other decl (sym got ∙ declared) in
-          let clocks : get_or unit.clocks other.clock no_clock ≡ clock = ap (λ v. get_or unit.clocks v.clock no_clock) same ∙ sym clock_is in
-          (number, less, (agent_timing unit nexts number, point, date, due, timing_told number less, looks, is_due, is ∙ ap (λ c. dates_between c date (date + due - 1)) clocks))
-          ),
-    )
+  pub ring_size : (most : ℕ) → IsMost (HasDatesBefore unit ways nexts variable clock (length unit.agents)) most → IsRingSize unit ways nexts variable (decl.depth + most)
+  ring_size most h =
+      let its = most_alike (HasDatesBefore unit ways nexts variable clock (length unit.agents)) (MayPass unit ways nexts variable) most may_pass h in
+      record { most = most; one = its.one; all = its.all; decl = decl; declared = declared; sum = refl }
 
-    pub ring_size : (most : ℕ) → IsMost (HasDatesBefore unit variable clock (length unit.agents)) most → IsRingSize unit nexts variable (decl.depth + most)
-    ring_size most h =
-        let its = most_alike (HasDatesBefore unit variable clock (length unit.agents)) (MayPass unit nexts variable) most may_pass h in
-        record { most = most; one = its.one; all = its.all; decl = decl; declared = declared; sum = refl }
-
-not_less : (unit : Whole) (nexts : List (List (List ℕ))) (variable size other : ℕ) → (a : IsRingSize unit nexts variable size) → (b : IsRingSize unit nexts variable other) → a.most ≤ b.most
-not_less unit nexts variable size other a b = elim a.one [ inl none ↦ omega (arith, none) | inr has ↦ b.all a.most has ]
+not_less : (unit : Whole) (ways : Ways) (nexts : List (List (List ℕ))) (variable size other : ℕ) → (a : IsRingSize unit ways nexts variable size) → (b : IsRingSize unit ways nexts variable other) → a.most ≤ b.most
+not_less unit ways nexts variable size other a b = elim a.one [ inl none ↦ omega (arith, none) | inr has ↦ b.all a.most has ]
 
 -- A variable's ring has one size.
-pub one_size : (unit : Whole) (nexts : List (List (List ℕ))) (variable size other : ℕ) → IsRingSize unit nexts variable size → IsRingSize unit nexts variable other → size ≡ other
-one_size unit nexts variable size other a b =
+pub one_size : (unit : Whole) (ways : Ways) (nexts : List (List (List ℕ))) (variable size other : ℕ) → IsRingSize unit ways nexts variable size → IsRingSize unit ways nexts variable other → size ≡ other
+one_size unit ways nexts variable size other a b =
     let same : a.decl ≡ b.decl = same_Some a.decl b.decl (sym a.declared ∙ b.declared) in
     let depths : a.decl.depth ≡ b.decl.depth = ap (λ v. v.depth) same in
-    omega (arith, depths, a.sum, b.sum, not_less unit nexts variable size other a b, not_less unit nexts variable other size b a)
+    omega (arith, depths, a.sum, b.sum, not_less unit ways nexts variable size other a b, not_less unit ways nexts variable other size b a)
 
 -- What holds by number of each item holds of one more.
 pub each_more : {X : Type 0} (P : ℕ → X → Type 0) (xs ys : List X) (x : X) (n : ℕ) → length xs ≡ n → ((i : ℕ) (d : X) → i < n → P i (get_or xs i d)) → P n x → ys ≡ xs ++ x ∷ [] → (i : ℕ) (d : X) → i < n + 1 → P i (get_or ys i d)

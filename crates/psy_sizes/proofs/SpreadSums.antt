@@ -1,5 +1,5 @@
 -- The most messages of an agent's actions within so many dates in a row: there is one such number, and so one sum over agents.
-use Rattle.std.proofs.Common.{◌≡◌, ℕ, zero, suc, ◌+◌, ◌-◌, ◌<◌, ◌≤◌, List, map, length, get_or, refl, sym, ap, subst, ◌∙◌, inl, inr, arith}
+use Rattle.std.proofs.Common.{◌≡◌, ℕ, zero, suc, ◌+◌, ◌-◌, ◌<◌, ◌≤◌, List, map, length, get_or, refl, sym, ap, subst, ◌∙◌, arith}
 use Rattle.std.specs.List.{All, Contains}
 use Rattle.std.proofs.lemmas.List.{ext_get_or}
 use Rattle.std.proofs.lemmas.List.Elements.{Contains-get_or}
@@ -7,13 +7,10 @@ use Rattle.std.proofs.lemmas.Option.{same_Some, slice_get-get_or, get_or_from_sl
 use Rattle.psy_base.specs.declared.edge.Edge.{Edge}
 use Rattle.psy_base.specs.declared.limits.TheConstants.{SENDS}
 use Rattle.psy_base.specs.Paths.{FitsFirstFree, IsGreatestWeight}
-use Rattle.psy_tree.specs.declared.unit.AgentDecl.{AgentDecl}
-use Rattle.psy_tree.specs.declared.unit.FunctionDecl.{FunctionDecl}
 use Rattle.psy_tree.specs.declared.unit.Unit.{Unit as Whole}
-use Rattle.psy_tree.specs.Parts.{agent_at}
-use Rattle.psy_meaning.specs.Flow.{IsMostSends}
 use Rattle.psy_meaning.specs.Graph.{Spot, IsGraph, spot_at}
-use Rattle.psy_meaning.specs.QueueSizes.{IsSendEdge, AreSendEdges, IsSpread, IsSpreadBelow}
+use Rattle.psy_meaning.specs.KnownWays.{HasMost, Ways}
+use Rattle.psy_meaning.specs.QueueSizes.{AreSendEdges, IsSendEdge, IsSpread, IsSpreadBelow}
 use Rattle.psy_meaning.specs.RingSizes.{agent_timing}
 use Rattle.psy_meaning.specs.Timing.{Timing, end_date}
 use Rattle.psy_window.specs.declared.span.Span.{Span}
@@ -29,15 +26,10 @@ no_edge = record { from = 0; to = 0; len = 0; due = 0; weight = 0 }
 
 -- ---- sends on the edges of one agent
 
--- Sends are counted no further than one more than a queue can hold.
-few_sends : (functions : List FunctionDecl) (agent : AgentDecl) (from to stream n : ℕ) → IsMostSends functions agent from to stream n → n ≤ SENDS
-few_sends functions agent from to stream n (inl (none, is)) = omega (arith, is)
-few_sends functions agent from to stream n (inr (m, greatest, is)) = omega (arith, is)
-
-module _ (functions : List FunctionDecl) (agent : AgentDecl) (stream : ℕ) (timing : Timing) (spots : List Spot) (edges : List Edge) (g : IsGraph timing spots edges) where
+module _ (ways : Ways) (agent stream : ℕ) (timing : Timing) (spots : List Spot) (edges : List Edge) (g : IsGraph timing spots edges) where
   -- A graph's edges are weighted by their sends in one way,
-  pub same_sent : ((from to n m : ℕ) → IsMostSends functions agent from to stream n → IsMostSends functions agent from to stream m → n ≡ m) →
-      (sent others : List Edge) → AreSendEdges functions agent stream spots edges sent → AreSendEdges functions agent stream spots edges others → sent ≡ others
+  pub same_sent : ((from to n m : ℕ) → HasMost ways agent from to stream n → HasMost ways agent from to stream m → n ≡ m) →
+      (sent others : List Edge) → AreSendEdges ways agent stream spots edges sent → AreSendEdges ways agent stream spots edges others → sent ≡ others
   same_sent one_most sent others a b = ext_get_or no_edge sent others (a.count ∙ sym b.count) (λ place less.
       let inside : place < length edges = omega (arith, less, a.count) in
       let e = get_or edges place no_edge in
@@ -53,27 +45,27 @@ module _ (functions : List FunctionDecl) (agent : AgentDecl) (stream : ℕ) (tim
       one.same ∙ ap (λ w. record e { weight = w }) weights ∙ sym two.same)
 
   -- The edge of an action, weighted by its sends
-  sent_one : ((from to : ℕ) → (n : ℕ) × IsMostSends functions agent from to stream n) → (e : Edge) → Contains edges e → (f : Edge) × (IsSendEdge functions agent stream spots e f × (f.weight ≤ SENDS))
-  sent_one most_some e c =
+  sent_one : ((from to n : ℕ) → HasMost ways agent from to stream n → n ≤ SENDS) → ((from to : ℕ) → (n : ℕ) × HasMost ways agent from to stream n) → (e : Edge) → Contains edges e → (f : Edge) × (IsSendEdge ways agent stream spots e f × (f.weight ≤ SENDS))
+  sent_one few most_some e c =
       let (point, start, to, its) = (g.links.all e).0 c in
       let (n, is) = most_some point to in
       let f : Edge = record e { weight = n } in
-      let Most : Spot → Spot → Type 0 = λ a b. IsMostSends functions agent a.point b.point stream n in
-      let edge : IsSendEdge functions agent stream spots e f = record {
+      let Most : Spot → Spot → Type 0 = λ a b. HasMost ways agent a.point b.point stream n in
+      let edge : IsSendEdge ways agent stream spots e f = record {
         same = refl;
         most = λ a b at_a at_b. subst (λ s. Most s b) (same_Some (spot_at g.cycle point start) a (sym its.from ∙ at_a))
             (subst (λ s. Most (spot_at g.cycle point start) s) (same_Some (spot_at g.cycle to (end_date timing start to)) b (sym its.into ∙ at_b)) is);
       } in
-      (f, (edge, few_sends functions agent point to stream n is))
+      (f, (edge, few point to n is))
 
   -- and there is one, which keeps the limit of weights.
-  pub sent_some : ((from to : ℕ) → (n : ℕ) × IsMostSends functions agent from to stream n) → (nodes : ℕ) → All (IsEdge nodes) edges →
-      (sent : List Edge) × AreSendEdges functions agent stream spots edges sent × All (IsEdge nodes) sent
-  sent_some most_some nodes fit =
-      let Has : ℕ → Edge → Type 0 = λ k f. IsSendEdge functions agent stream spots (get_or edges k no_edge) f × (f.weight ≤ SENDS) in
-      let (sent, many, each) = listed Has (length edges) (λ k less. sent_one most_some (get_or edges k no_edge) (Contains-get_or edges k no_edge less)) in (
+  pub sent_some : ((from to n : ℕ) → HasMost ways agent from to stream n → n ≤ SENDS) → ((from to : ℕ) → (n : ℕ) × HasMost ways agent from to stream n) → (nodes : ℕ) → All (IsEdge nodes) edges →
+      (sent : List Edge) × AreSendEdges ways agent stream spots edges sent × All (IsEdge nodes) sent
+  sent_some few most_some nodes fit =
+      let Has : ℕ → Edge → Type 0 = λ k f. IsSendEdge ways agent stream spots (get_or edges k no_edge) f × (f.weight ≤ SENDS) in
+      let (sent, many, each) = listed Has (length edges) (λ k less. sent_one few most_some (get_or edges k no_edge) (Contains-get_or edges k no_edge less)) in (
         sent,
-        record { count = many; each = λ place e f at also. subst (λ x. IsSendEdge functions agent stream spots x f) (get_or_from_slice_get edges place e no_edge at) (each place f also).0 },
+        record { count = many; each = λ place e f at also. subst (λ x. IsSendEdge ways agent stream spots x f) (get_or_from_slice_get edges place e no_edge at) (each place f also).0 },
         λ k d less. (
             let inside : k < length edges = omega (arith, less, many) in
             let e = get_or edges k no_edge in
@@ -108,39 +100,38 @@ IsOneWeight = (graph : List Edge) (span : Span) (within n m : ℕ) → IsGreates
 abbrev pub IsSomeWeight : Type 0
 IsSomeWeight = (graph : List Edge) (nodes : ℕ) (span : Span) (within : ℕ) → All (IsEdge nodes) graph → (n : ℕ) × IsGreatestWeight graph (Fits span within) n
 
-module _ (unit : Whole) (nexts : List (List (List ℕ))) (stream window : ℕ) where
-  module _ (one_graph : IsOneGraph) (one_weight : IsOneWeight) (one_most : (agent : ℕ) → agent < length unit.agents → (from to n m : ℕ) → IsMostSends unit.functions (agent_at unit agent) from to stream n → IsMostSends unit.functions (agent_at unit agent) from to stream m → n ≡ m) where
+module _ (unit : Whole) (ways : Ways) (nexts : List (List (List ℕ))) (stream window : ℕ) where
+  module _ (one_graph : IsOneGraph) (one_weight : IsOneWeight) (one_most : (agent : ℕ) → agent < length unit.agents → (from to n m : ℕ) → HasMost ways agent from to stream n → HasMost ways agent from to stream m → n ≡ m) where
     -- An agent sends at most one greatest number of messages in so many dates.
-    same_spread : (agent n m : ℕ) → agent < length unit.agents → IsSpread unit nexts stream window agent n → IsSpread unit nexts stream window agent m → n ≡ m
+    same_spread : (agent n m : ℕ) → agent < length unit.agents → IsSpread unit ways nexts stream window agent n → IsSpread unit ways nexts stream window agent m → n ≡ m
     same_spread agent n m less (spots, edges, sent, g, are, is) (others, more, sent_also, h, are_also, is_also) =
         let timing = agent_timing unit nexts agent in
-        let decl = agent_at unit agent in
         let (spots_same, edges_same) = one_graph timing spots others edges more g h in
-        let are_here : AreSendEdges unit.functions decl stream spots edges sent_also =
-        subst (λ es. AreSendEdges unit.functions decl stream spots es sent_also) (sym edges_same) (subst (λ ss. AreSendEdges unit.functions decl stream ss more sent_also) (sym spots_same) are_also) in
-        let same = same_sent unit.functions decl stream timing spots edges g (one_most agent less) sent sent_also are are_here in
+        let are_here : AreSendEdges ways agent stream spots edges sent_also =
+        subst (λ es. AreSendEdges ways agent stream spots es sent_also) (sym edges_same) (subst (λ ss. AreSendEdges ways agent stream ss more sent_also) (sym spots_same) are_also) in
+        let same = same_sent ways agent stream timing spots edges g (one_most agent less) sent sent_also are are_here in
         one_weight sent FirstFree (window - 1) n m is (subst (λ es. IsGreatestWeight es (FitsFirstFree (window - 1)) m) (sym same) is_also)
 
     -- And the first so many agents one sum of them
-    pub same_below : (agents n m : ℕ) → agents ≤ length unit.agents → IsSpreadBelow unit nexts stream window agents n → IsSpreadBelow unit nexts stream window agents m → n ≡ m
+    pub same_below : (agents n m : ℕ) → agents ≤ length unit.agents → IsSpreadBelow unit ways nexts stream window agents n → IsSpreadBelow unit ways nexts stream window agents m → n ≡ m
     same_below zero n m few a b = a ∙ sym b
     same_below (suc agent) n m few (others, one, below, is, sum) (others_also, one_also, below_also, is_also, sum_also) =
         let less : agent < length unit.agents = omega (arith, few) in
         omega (arith, sum, sum_also, same_below agent others others_also (omega (arith, few)) below below_also, same_spread agent one one_also less is is_also)
 
-  module _ (some_weight : IsSomeWeight) (some_most : (agent : ℕ) → agent < length unit.agents → (from to : ℕ) → (n : ℕ) × IsMostSends unit.functions (agent_at unit agent) from to stream n)
+  module _ (some_weight : IsSomeWeight) (few : (agent : ℕ) → agent < length unit.agents → (from to n : ℕ) → HasMost ways agent from to stream n → n ≤ SENDS) (some_most : (agent : ℕ) → agent < length unit.agents → (from to : ℕ) → (n : ℕ) × HasMost ways agent from to stream n)
       (graph_of : (agent : ℕ) → agent < length unit.agents → (graph : Graph) × IsGraphOf (agent_timing unit nexts agent) graph × All (IsEdge (length graph.nodes)) graph.edges) where
     -- An agent sends some greatest number.
-    spread_some : (agent : ℕ) → agent < length unit.agents → (n : ℕ) × IsSpread unit nexts stream window agent n
+    spread_some : (agent : ℕ) → agent < length unit.agents → (n : ℕ) × IsSpread unit ways nexts stream window agent n
     spread_some agent less =
         let (graph, drawn, fit) = graph_of agent less in
         let spots = map spot_of graph.nodes in
-        let (sent, are, edges_fit) = sent_some unit.functions (agent_at unit agent) stream (agent_timing unit nexts agent) spots graph.edges drawn.drawn (some_most agent less) (length graph.nodes) fit in
+        let (sent, are, edges_fit) = sent_some ways agent stream (agent_timing unit nexts agent) spots graph.edges drawn.drawn (few agent less) (some_most agent less) (length graph.nodes) fit in
         let (n, is) = some_weight sent (length graph.nodes) FirstFree (window - 1) edges_fit in
         (n, (spots, graph.edges, sent, drawn.drawn, are, is))
 
     -- And the first so many agents some sum of them
-    pub below_some : (agents : ℕ) → agents ≤ length unit.agents → (n : ℕ) × IsSpreadBelow unit nexts stream window agents n
+    pub below_some : (agents : ℕ) → agents ≤ length unit.agents → (n : ℕ) × IsSpreadBelow unit ways nexts stream window agents n
     below_some zero few = (0, refl)
     below_some (suc agent) few =
         let (others, below) = below_some agent (omega (arith, few)) in

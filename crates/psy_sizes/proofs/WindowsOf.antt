@@ -8,7 +8,8 @@ use Rattle.psy_base.specs.declared.edge.Edge.{Edge}
 use Rattle.psy_tree.specs.declared.unit.Unit.{Unit as Whole}
 use Rattle.psy_base.specs.Extremes.{IsGreatest}
 use Rattle.psy_meaning.specs.Graph.{Spot, IsEdgeOf, spot_at}
-use Rattle.psy_meaning.specs.QueueSizes.{IsWindow, MayLast, lasting_of, longest_delay}
+use Rattle.psy_meaning.specs.KnownWays.{Ways, delay_by}
+use Rattle.psy_meaning.specs.QueueSizes.{IsWindow, MayLast, lasting_of}
 use Rattle.psy_tree.specs.Parts.{stream_at}
 use Rattle.psy_meaning.specs.RingSizes.{agent_timing}
 use Rattle.psy_meaning.specs.Timing.{Timing, MayStart, later, budget_at, deadline, end_date, first_date, following}
@@ -23,10 +24,10 @@ pub same_greatest : (Has : ℕ → Type 0) (n m : ℕ) → IsGreatest Has n → 
 same_greatest Has n m a b = let up = b.most n a.one in let down = a.most m b.one in omega (arith, up, down)
 
 -- And one number of dates
-pub same_window : (unit : Whole) (nexts : List (List (List ℕ))) (stream n m : ℕ) → IsWindow unit nexts stream n → IsWindow unit nexts stream m → n ≡ m
-same_window unit nexts stream n m (longest, is, sum) (other, also, sum_also) =
+pub same_window : (unit : Whole) (ways : Ways) (nexts : List (List (List ℕ))) (stream n m : ℕ) → IsWindow unit ways nexts stream n → IsWindow unit ways nexts stream m → n ≡ m
+same_window unit ways nexts stream n m (longest, is, sum) (other, also, sum_also) =
     let same = same_greatest (MayLast (agent_timing unit nexts (stream_at unit stream).receiver)) longest other is also in
-    sum ∙ ap (λ l. longest_delay unit stream + lasting_of unit stream + l - 1) same ∙ sym sum_also
+    sum ∙ ap (λ l. delay_by ways stream + lasting_of unit stream + l - 1) same ∙ sym sum_also
 
 -- ---- the longest of some edges
 
@@ -122,7 +123,7 @@ module _ (timing : Timing) (graph : Graph) (drawn : IsGraphOf timing graph) wher
       (n, record { one = may_last n is.one; most = λ m may. is.most m (has_length m may) })
 
 -- Where its receiver has a graph, a message of a stream may be held for some number of dates.
-pub window_some : (unit : Whole) (nexts : List (List (List ℕ))) (stream : ℕ) (graph : Graph) → IsGraphOf (agent_timing unit nexts (stream_at unit stream).receiver) graph → (window : ℕ) × IsWindow unit nexts stream window
-window_some unit nexts stream graph drawn =
+pub window_some : (unit : Whole) (ways : Ways) (nexts : List (List (List ℕ))) (stream : ℕ) (graph : Graph) → IsGraphOf (agent_timing unit nexts (stream_at unit stream).receiver) graph → (window : ℕ) × IsWindow unit ways nexts stream window
+window_some unit ways nexts stream graph drawn =
     let (longest, is) = lasting_some (agent_timing unit nexts (stream_at unit stream).receiver) graph drawn in
-    (longest_delay unit stream + lasting_of unit stream + longest - 1, (longest, is, refl))
+    (delay_by ways stream + lasting_of unit stream + longest - 1, (longest, is, refl))

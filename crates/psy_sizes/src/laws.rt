@@ -5,6 +5,7 @@ ghost use Rattle.psy_base.specs.declared.sizes.Sizes.{Sizes};
 ghost use Rattle.psy_tree.specs.declared.unit.Unit.{Unit as Whole};
 ghost use Rattle.psy_meaning.specs.BufferSizes.{AreSizes};
 ghost use Rattle.psy_meaning.specs.Flow.{AreAllNexts};
+ghost use Rattle.psy_meaning.specs.KnownWays.{OfText};
 ghost use Rattle.psy_meaning.specs.Units.{IsOfText};
 ghost use Rattle.psy_graph.specs.declared.graph.Graph.{Graph};
 ghost use Rattle.psy_graph.specs.Graphs.{AreGraphs};
@@ -12,7 +13,7 @@ ghost use Rattle.psy_sizes.specs.declared.fault.SizeFault.{SizeFault};
 ghost use Rattle.psy_sizes.specs.Faults.{CanCount, IsFaultBy};
 
 use psy_clock::laws::dates;
-use psy_flow::laws::{known, looking, nexts, sends};
+use psy_flow::laws::{known, listed, looking, sends};
 use psy_graph::laws::one_graph;
 use psy_window::laws::greatest;
 
@@ -20,19 +21,21 @@ use psy_window::laws::greatest;
 /// both, and there is only one such list of sizes and one such fault.
 pub fn one_size()
     ensures same { (unit : Whole) (graphs : List Graph) (nexts : List (List (List ℕ))) (sizes others : Sizes) → IsOfText unit → AreGraphs unit graphs
-        → AreAllNexts unit nexts → AreSizes unit nexts sizes → AreSizes unit nexts others → sizes ≡ others }
+        → AreAllNexts unit nexts → AreSizes unit (OfText unit) nexts sizes → AreSizes unit (OfText unit) nexts others → sizes ≡ others }
     ensures apart { (unit : Whole) (graphs : List Graph) (nexts : List (List (List ℕ))) (sizes : Sizes) (fault : SizeFault) → IsOfText unit
-        → AreGraphs unit graphs → AreAllNexts unit nexts → AreSizes unit nexts sizes → CanCount unit nexts → IsFaultBy unit nexts fault → ⊥ }
+        → AreGraphs unit graphs → AreAllNexts unit nexts → AreSizes unit (OfText unit) nexts sizes → CanCount unit (OfText unit) nexts
+        → IsFaultBy unit (OfText unit) nexts fault → ⊥ }
     ensures cause { (unit : Whole) (graphs : List Graph) (nexts : List (List (List ℕ))) (fault other : SizeFault) → IsOfText unit
-        → AreGraphs unit graphs → AreAllNexts unit nexts → IsFaultBy unit nexts fault → IsFaultBy unit nexts other → fault ≡ other }
+        → AreGraphs unit graphs → AreAllNexts unit nexts → IsFaultBy unit (OfText unit) nexts fault → IsFaultBy unit (OfText unit) nexts other → fault ≡ other }
     ensures some { (unit : Whole) (graphs : List Graph) (nexts : List (List (List ℕ))) → IsOfText unit → AreGraphs unit graphs → AreAllNexts unit nexts
-        → ((sizes : Sizes) × AreSizes unit nexts sizes × CanCount unit nexts) ⊎ ((fault : SizeFault) × IsFaultBy unit nexts fault) }
+        → ((sizes : Sizes) × AreSizes unit (OfText unit) nexts sizes × CanCount unit (OfText unit) nexts)
+        ⊎ ((fault : SizeFault) × IsFaultBy unit (OfText unit) nexts fault) }
 {
     dates();
     known();
     looking();
-    nexts();
     sends();
     one_graph();
     greatest();
+    listed();
 }

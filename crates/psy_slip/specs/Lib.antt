@@ -1,3 +1,7 @@
 -- The definitions of this crate, by subject.
+pub mod Earlier
+pub mod Looks
+pub mod Numbers
+pub mod Ranges
 pub mod Slips
-pub mod Words
+pub mod Told

@@ -1,35 +1,12 @@
 -- What is wrong with a line of inputs or of a script: the word at fault, and what is missing.
-use Rattle.std.specs.Prelude.{ℕ, ◌==◌, not, ◌||◌, nat_lt, if◌then◌else◌, List, [], ◌∷◌, ◌++◌, map, find, drop, length, codes, decimal, bytes_eq}
+use Rattle.std.specs.Prelude.{ℕ, ◌==◌, not, if◌then◌else◌, List, [], ◌∷◌, ◌++◌, find, drop, length, codes, bytes_eq}
 use Rattle.std.specs.Prelude.{Option, None, Some}
 use Rattle.psy_slip.specs.declared.slip.File.{File}
-use Rattle.psy_slip.specs.declared.slip.File.TheVariants.{Inputs, Script}
-use Rattle.psy_slip.specs.Words.{words_of, is_number, is_value}
-
--- A byte as it is shown: one that a screen obeys is a `?`
-abbrev pub shown_byte : ℕ → ℕ
-shown_byte b = if nat_lt b 32 || b == 127 then 63 else b
-
--- A word as it is shown, in quotes
-unfoldable pub quoted : List ℕ → List ℕ
-quoted word = codes "`" ++ map shown_byte word ++ codes "`"
-
--- A word with what is told of it, where there is one
-abbrev pub of_word : Option (List ℕ) → List ℕ → List ℕ
-of_word None told = []
-of_word (Some word) told = quoted word ++ told
-
--- The first word, with what is told of it
-abbrev pub of_first : List (List ℕ) → List ℕ → List ℕ
-of_first [] told = []
-of_first (word ∷ words) told = quoted word ++ told
-
--- A number behind a text
-unfoldable pub counted : List ℕ → ℕ → List ℕ
-counted before number = before ++ decimal number
-
--- What is told of a word in the place of a number
-abbrev pub no_number : List ℕ
-no_number = codes " is no number: a number is 1 to 12 digits"
+use Rattle.psy_slip.specs.declared.slip.File.TheVariants.{Program, Inputs, Script}
+use Rattle.psy_slip.specs.Earlier.{first_like, first_repeated}
+use Rattle.psy_slip.specs.Ranges.{listing_range, statement_range}
+use Rattle.psy_slip.specs.Told.{counted, no_number, of_first, of_word, quoted}
+use Rattle.psy_text.specs.Words.{is_number, is_value}
 
 -- A name with no value behind it
 unfoldable pub no_value : List ℕ → List ℕ
@@ -80,17 +57,44 @@ agent_slip (word ∷ agent ∷ words) =
     if bytes_eq word (codes "stall") then quoted agent ++ codes " is no agent of the program" else no_agent
 agent_slip words = []
 
--- What is wrong with a line, by the number of its fault: its form, a name, or that it is said again. Of other faults nothing is told.
-abbrev pub slip : File → ℕ → List (List ℕ) → List ℕ
-slip Inputs number words =
+-- The input of a line has its values from another: from the line of this number, where it is known
+abbrev pub listed_slip : List (List ℕ) → Option ℕ → List ℕ
+listed_slip words None = of_first words (codes " has its values from an earlier line")
+listed_slip words (Some line) = of_first words (counted (codes " has its values from line ") line)
+
+-- A name of an order stands again behind itself
+abbrev pub names_slip : List (List ℕ) → List ℕ
+names_slip (word ∷ cycle ∷ names) = if bytes_eq word (codes "order") then of_word (first_repeated names) (codes " is named twice") else []
+names_slip words = []
+
+-- What a line of a script says is said by the line of this number, where it is known; else a name stands there twice.
+abbrev pub said_slip : List (List ℕ) → Option ℕ → List ℕ
+said_slip words None = names_slip words
+said_slip words (Some line) = counted (codes "this is said already by line ") line
+
+-- What is wrong with a line of inputs, by the number of its fault: its form, its name, that it is said again, or a value
+abbrev pub inputs_slip : ℕ → List ℕ → List (List ℕ) → List ℕ
+inputs_slip number earlier words =
     if number == 1 then listing_slip words
     else if number == 2 then of_first words (codes " is no input of the program")
-    else if number == 3 then of_first words (codes " has its values from an earlier line")
+    else if number == 3 then listed_slip words (first_like Inputs words earlier)
+    else if number == 4 then listing_range words
     else []
-slip Script number words =
+
+-- The same of a line of a script
+abbrev pub script_slip : ℕ → List ℕ → List (List ℕ) → List ℕ
+script_slip number earlier words =
     if number == 1 then statement_slip words
     else if number == 2 then agent_slip words
+    else if number == 3 then said_slip words (first_like Script words earlier)
+    else if number == 4 then statement_range words
     else []
+
+-- What is wrong with a line, by its words, behind the bytes of earlier lines. Of a program's line nothing is told.
+abbrev pub slip : File → ℕ → List ℕ → List (List ℕ) → List ℕ
+slip Program number earlier words = []
+slip Inputs number earlier words = inputs_slip number earlier words
+slip Script number earlier words = script_slip number earlier words
 
 -- The line in which it is told, where something is
 abbrev pub slip_line : List ℕ → List ℕ

@@ -1,9 +1,13 @@
-//! What is wrong with a line of inputs or of a script: the word at fault, and what is missing.
-//! It may know the words of a line and their forms; no program.
+//! What is wrong with a line of inputs or of a script: the word at fault, and what is missing; and whether a file looks like one of another sort.
+//! It may know the words of a line and their forms, and those of earlier lines; no program.
 #![tactic(auto)]
 
+mod earlier;
+mod look;
+mod numbers;
+mod range;
 mod slip;
 mod told;
-mod words;
 
+pub use look::file_hint;
 pub use slip::{File, slip_line};

@@ -1,30 +1,40 @@
 //! What is wrong with a line of inputs or of a script.
 ghost use Rattle.std.specs.Prelude.{◌≡◌, ◌++◌, IfOk, OnOk, find, map, not};
 ghost use Rattle.std.specs.Option.{option_copied};
-ghost use Rattle.psy_slip.specs.Slips.{agent_slip, cycle_slip, listing_slip, no_agent, no_value, order_slip, slip, slip_line};
-ghost use Rattle.psy_slip.specs.Slips.{stall_slip, statement_slip, values_slip};
-ghost use Rattle.psy_slip.specs.Words.{is_number, is_value, words_of};
+ghost use Rattle.psy_slip.specs.Earlier.{first_like};
+ghost use Rattle.psy_slip.specs.Slips.{agent_slip, cycle_slip, inputs_slip, listed_slip, listing_slip, names_slip, no_agent, no_value, order_slip, said_slip};
+ghost use Rattle.psy_slip.specs.Slips.{script_slip, slip, slip_line, stall_slip, statement_slip, values_slip};
+ghost use Rattle.psy_text.specs.Words.{is_number, is_value, words_of};
 
-use crate::told::{add_count, add_of, add_of_first, add_of_word, add_quoted};
-use crate::words::{is_number, is_value, words_of};
+use crate::earlier::{first_like, first_repeated};
+use crate::range::{add_listing_range, add_statement_range};
+use crate::told::{add_count, add_of, add_of_first, add_of_first_at, add_of_word, add_quoted};
 use psy_base::Memory;
+use psy_text::word::{is_number, is_value, words_of};
 use std::alloc::{AllocError, Global};
 
 /// The file in which a line stands.
 #[derive(Clone, Copy, Debug, PartialEq, Eq)]
 pub enum File {
+    Program,
     Inputs,
     Script,
 }
 
-/// A line that tells the word at fault in a line, or what is missing there, by the number of the fault; nothing where nothing is told of it. The only error is
-/// want of memory.
-pub fn slip_line(alloc: Global, file: File, number: u32, line: &[u8]) -> Result<Vec<u8>, Memory>
-    ensures { IfOk result (λ text. text.items ≡ slip_line (slip file number (words_of line.now))) }
+/// A line that tells the word at fault in a line, or what is missing there, by the number of the fault and the bytes before the line; nothing where nothing
+/// is told of it. The only error is want of memory.
+pub fn slip_line(
+    alloc: Global,
+    file: File,
+    number: u32,
+    earlier: &[u8],
+    line: &[u8],
+) -> Result<Vec<u8>, Memory>
+    ensures { IfOk result (λ text. text.items ≡ slip_line (slip file number earlier.now (words_of line.now))) }
 {
     let words = words_of(alloc, line)?;
     let mut told = Vec::new(alloc);
-    add_slip(&mut told, file, number, words.as_slice())?;
+    add_slip(alloc, &mut told, file, number, earlier, words.as_slice())?;
     Ok(whole_line(alloc, told.as_slice())?)
 }
 
@@ -42,26 +52,57 @@ fn whole_line(alloc: Global, told: &[u8]) -> Result<Vec<u8>, AllocError>
     Ok(out)
 }
 
-fn add_slip(out: &mut Vec<u8>, file: File, number: u32, words: &[&[u8]]) -> Result<(), AllocError>
-    ensures { OnOk result (out.new.items ≡ out.old.items ++ slip file number (map (λ w. w.now) words.now)) }
+fn add_slip(
+    alloc: Global,
+    out: &mut Vec<u8>,
+    file: File,
+    number: u32,
+    earlier: &[u8],
+    words: &[&[u8]],
+) -> Result<(), Memory>
+    ensures { OnOk result (out.new.items ≡ out.old.items ++ slip file number earlier.now (map (λ w. w.now) words.now)) }
 {
     match file {
-        File::Inputs => add_inputs(out, number, words),
-        File::Script => add_script(out, number, words),
+        File::Program => Ok(()),
+        File::Inputs => add_inputs(alloc, out, number, earlier, words),
+        File::Script => add_script(alloc, out, number, earlier, words),
     }
 }
 
-fn add_inputs(out: &mut Vec<u8>, number: u32, words: &[&[u8]]) -> Result<(), AllocError>
-    ensures { OnOk result (out.new.items ≡ out.old.items ++ slip File.Inputs number (map (λ w. w.now) words.now)) }
+fn add_inputs(
+    alloc: Global,
+    out: &mut Vec<u8>,
+    number: u32,
+    earlier: &[u8],
+    words: &[&[u8]],
+) -> Result<(), Memory>
+    ensures { OnOk result (out.new.items ≡ out.old.items ++ inputs_slip number earlier.now (map (λ w. w.now) words.now)) }
 {
     if number == 1 {
-        add_listing(out, words)
+        Ok(add_listing(out, words)?)
     } else if number == 2 {
-        add_of_first(out, words, b" is no input of the program")
+        Ok(add_of_first(out, words, b" is no input of the program")?)
     } else if number == 3 {
-        add_of_first(out, words, b" has its values from an earlier line")
+        add_listed(alloc, out, earlier, words)
+    } else if number == 4 {
+        Ok(add_listing_range(out, words)?)
     } else {
         Ok(())
+    }
+}
+
+fn add_listed(
+    alloc: Global,
+    out: &mut Vec<u8>,
+    earlier: &[u8],
+    words: &[&[u8]],
+) -> Result<(), Memory>
+    ensures { OnOk result (out.new.items ≡ out.old.items
+        ++ listed_slip (map (λ w. w.now) words.now) (first_like File.Inputs (map (λ w. w.now) words.now) earlier.now)) }
+{
+    match first_like(alloc, File::Inputs, words, earlier)? {
+        None => Ok(add_of_first(out, words, b" has its values from an earlier line")?),
+        Some(line) => Ok(add_of_first_at(out, words, b" has its values from line ", line)?),
     }
 }
 
@@ -111,15 +152,51 @@ fn first_other_value<'a>(words: &[&'a [u8]]) -> Option<&'a [u8]>
     None
 }
 
-fn add_script(out: &mut Vec<u8>, number: u32, words: &[&[u8]]) -> Result<(), AllocError>
-    ensures { OnOk result (out.new.items ≡ out.old.items ++ slip File.Script number (map (λ w. w.now) words.now)) }
+fn add_script(
+    alloc: Global,
+    out: &mut Vec<u8>,
+    number: u32,
+    earlier: &[u8],
+    words: &[&[u8]],
+) -> Result<(), Memory>
+    ensures { OnOk result (out.new.items ≡ out.old.items ++ script_slip number earlier.now (map (λ w. w.now) words.now)) }
 {
     if number == 1 {
-        add_statement(out, words)
+        Ok(add_statement(out, words)?)
     } else if number == 2 {
-        add_agent(out, words)
+        Ok(add_agent(out, words)?)
+    } else if number == 3 {
+        add_said(alloc, out, earlier, words)
+    } else if number == 4 {
+        Ok(add_statement_range(out, words)?)
     } else {
         Ok(())
+    }
+}
+
+fn add_said(alloc: Global, out: &mut Vec<u8>, earlier: &[u8], words: &[&[u8]]) -> Result<(), Memory>
+    ensures { OnOk result (out.new.items ≡ out.old.items
+        ++ said_slip (map (λ w. w.now) words.now) (first_like File.Script (map (λ w. w.now) words.now) earlier.now)) }
+{
+    match first_like(alloc, File::Script, words, earlier)? {
+        None => Ok(add_names(out, words)?),
+        Some(line) => Ok(add_count(out, b"this is said already by line ", line)?),
+    }
+}
+
+// A name of an order that stands again behind itself.
+fn add_names(out: &mut Vec<u8>, words: &[&[u8]]) -> Result<(), AllocError>
+    ensures { OnOk result (out.new.items ≡ out.old.items ++ names_slip (map (λ w. w.now) words.now)) }
+{
+    match words {
+        [word, _, names @ ..] => {
+            if *word == b"order".as_slice() {
+                add_of_word(out, first_repeated(names), b" is named twice")
+            } else {
+                Ok(())
+            }
+        }
+        _ => Ok(()),
     }
 }
 

@@ -1,13 +1,14 @@
 //! Pieces of what is told.
 ghost use Rattle.std.specs.Prelude.{◌≡◌, ◌++◌, OnOk, map};
 ghost use Rattle.std.specs.Option.{option_copied};
-ghost use Rattle.psy_slip.specs.Slips.{counted, of_first, of_word, quoted, shown_byte};
+ghost use Rattle.psy_slip.specs.Told.{counted, of_first, of_word, quoted};
 
-use itoa::Buffer;
+use psy_show::add_shown;
+use psy_text::write::add_labelled;
 use std::alloc::AllocError;
 
 /// Adds a word as it is shown, in quotes.
-#[tactic(auto, unfolding(crate::specs::Slips::quoted))]
+#[tactic(auto, unfolding(crate::specs::Told::quoted))]
 pub fn add_quoted(out: &mut Vec<u8>, word: &[u8]) -> Result<(), AllocError>
     ensures { OnOk result (out.new.items ≡ out.old.items ++ quoted word.now) }
 {
@@ -15,21 +16,6 @@ pub fn add_quoted(out: &mut Vec<u8>, word: &[u8]) -> Result<(), AllocError>
     add_shown(out, word)?;
     out.push(b'`')?;
     Ok(())
-}
-
-fn add_shown(out: &mut Vec<u8>, word: &[u8]) -> Result<(), AllocError>
-    ensures { OnOk result (out.new.items ≡ out.old.items ++ map shown_byte word.now) }
-{
-    'each: for byte in word {
-        out.push(shown_byte(*byte))?;
-    }
-    Ok(())
-}
-
-fn shown_byte(byte: u8) -> u8
-    ensures { result ≡ shown_byte byte }
-{
-    if byte < 32 || byte == 127 { b'?' } else { byte }
 }
 
 /// Adds a word with what is told of it.
@@ -60,11 +46,28 @@ pub fn add_of_first(out: &mut Vec<u8>, words: &[&[u8]], told: &[u8]) -> Result<(
     }
 }
 
+/// Adds the first of some words with what is told of it, and a number behind that.
+pub fn add_of_first_at(
+    out: &mut Vec<u8>,
+    words: &[&[u8]],
+    told: &[u8],
+    number: usize,
+) -> Result<(), AllocError>
+    ensures { OnOk result (out.new.items ≡ out.old.items ++ of_first (map (λ w. w.now) words.now) (counted told.now number)) }
+{
+    match words {
+        [] => Ok(()),
+        [word, ..] => {
+            add_quoted(out, word)?;
+            add_count(out, told, number)
+        }
+    }
+}
+
 /// Adds a count behind a text.
-#[tactic(auto, unfolding(crate::specs::Slips::counted))]
+#[tactic(auto, unfolding(crate::specs::Told::counted))]
 pub fn add_count(out: &mut Vec<u8>, before: &[u8], count: usize) -> Result<(), AllocError>
     ensures { OnOk result (out.new.items ≡ out.old.items ++ counted before.now count) }
 {
-    out.extend_from_slice(before)?;
-    out.extend_from_slice(Buffer::new().format(count as u64).as_bytes())
+    add_labelled(out, before, count as u64)
 }

@@ -11,6 +11,7 @@ use itoa::Buffer;
 use psy_arith::Trap;
 use psy_listed::Listed;
 use psy_log::Note;
+use psy_text::write::add_number;
 use std::alloc::{AllocError, Global};
 
 /// What has been told so far of each column.
@@ -63,7 +64,7 @@ impl<'a> Table<'a> {
         ensures { OnOk result ((columns : Columns) (told today : List Note) → TableStands columns told today self.now
             → out.new.items ≡ out.old.items ++ row_text columns date told today) }
     {
-        out.extend_from_slice(Buffer::new().format(date).as_bytes())?;
+        add_number(out, date)?;
         self.variables.add_to(out)?;
         self.streams.add_to(out)?;
         self.agents.add_to(out)?;

@@ -16,7 +16,7 @@ use Rattle.psy_tree.specs.declared.faults.LexKind.{LexKind}
 use Rattle.psy_tree.specs.declared.faults.LexKind.TheVariants.{BadByte, LongName, BigLiteral, OpenComment}
 use Rattle.psy_tree.specs.Faults.{IsAtFault, BeginsNothing, MayNotFollow}
 use Rattle.psy_token.specs.Reading.{Whole, Faulty, front_of, word_front, number_front, block_front, line_front, sign_front, mark_front, kind_by, word_kind, number_len, number_of_len, goes_on, block_by, sign_by, sign_at}
-use Rattle.psy_token.proofs.Runs.{prefix_len-run}
+use Rattle.psy_text.proofs.lemmas.Runs.{prefix_len-run}
 use Rattle.psy_token.proofs.Bytes.{in_word-begins, in_word-digit, in_word-neither, begins-not_blank, digit-not_blank, digit-not_begins, goes_on-ends, EndsBefore-digits}
 use Rattle.psy_token.proofs.Comments.{close_len-closes, close_len-open}
 use Rattle.psy_token.proofs.Spellings.{reserved-spelling, reserved-other, sign_at-some, sign_at-spelling, starts_with-true, IsWord-spelling, length-spelling}

@@ -15,7 +15,7 @@ use Rattle.psy_tree.specs.Tokens.{Separator, Lexeme, bytes_of, IsPiece}
 use Rattle.psy_tree.specs.declared.faults.LexKind.TheVariants.{BadByte, LongName, BigLiteral}
 use Rattle.psy_tree.specs.Faults.{IsAtFault}
 use Rattle.psy_token.specs.Reading.{Front, End, Whole, Faulty, front_of, word_front, number_front, block_front, line_front, sign_front, mark_front, kind_by, reserved, number_len, number_of_len, goes_on, close_len, block_by, sign_by, sign_at}
-use Rattle.psy_token.proofs.Runs.{longest}
+use Rattle.psy_text.proofs.lemmas.Runs.{longest}
 use Rattle.psy_token.proofs.Bytes.{in_word-begins, in_word-none, goes_on-none}
 use Rattle.psy_token.proofs.Booleans.{or_second}
 use Rattle.psy_token.proofs.Comments.{Closes, close_len-some, close_len-none}

@@ -4,8 +4,9 @@ ghost use Rattle.std.specs.Char.{is_ascii_digit};
 ghost use Rattle.psy_tree.specs.Lexemes.{decimal_value};
 ghost use Rattle.psy_token.specs.Reading.{number_len};
 
-use crate::scan::digits_len;
 use psy_base::limits::LITERAL;
+use psy_text::decimal;
+use psy_text::run::digits_len;
 
 /// How many bytes the number at the front has.
 pub fn number_len(rest: &[u8]) -> usize
@@ -21,12 +22,9 @@ pub fn decimal_value(digits: &[u8]) -> Option<u32>
     requires { All (λ b. IsTrue (is_ascii_digit b)) digits.now }
     ensures { MatchOption result (LITERAL < decimal_value digits.now) (λ value. (value ≡ decimal_value digits.now) × (value ≤ LITERAL)) }
 {
-    let mut value: u64 = 0;
-    for digit in digits {
-        value = value * 10 + u64::from(*digit - b'0');
-        if value > u64::from(LITERAL) {
-            return None;
-        }
+    let value = decimal::decimal_value(digits)?;
+    if value > u64::from(LITERAL) {
+        return None;
     }
     Some(value as u32)
 }

@@ -13,10 +13,11 @@ ghost use Rattle.psy_token.specs.Reading.{Cuts, Gives, with_token, front_of, wor
 use crate::comment::close_len;
 use crate::fault::LexFault;
 use crate::number::{decimal_value, number_len};
-use crate::scan::{begins_word, is_blank, is_in_word, line_len, word_len};
+use crate::scan::is_blank;
 use crate::spelling::{reserved, sign_at, sign_spelling};
 use psy_base::limits::{FILE_BYTES, WORD_BYTES};
 use psy_base::{Items, Memory, Text};
+use psy_text::run::{begins_word, is_in_word, line_len, word_len};
 use psy_tree::{Kind, LexKind, Token};
 use std::alloc::Global;
 

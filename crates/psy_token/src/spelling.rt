@@ -71,7 +71,8 @@ const SIGNS: [Sign; 29] = [
     Sign::Bang,
 ];
 
-fn word_spelling(word: Word) -> &'static [u8]
+/// The spelling of a reserved word.
+pub fn word_spelling(word: Word) -> &'static [u8]
     ensures { result.now ≡ word_spelling word }
 {
     match word {
@@ -108,6 +109,7 @@ fn word_spelling(word: Word) -> &'static [u8]
     }
 }
 
+/// The spelling of a sign.
 pub fn sign_spelling(sign: Sign) -> &'static [u8]
     ensures { result.now ≡ sign_spelling sign }
 {

@@ -1,3 +1,5 @@
 -- The lemmas of this crate, by subject.
 mod AskedLemmas
+mod PlanLemmas
+mod ReplyLemmas
 mod TopLemmas

@@ -1,14 +1,16 @@
 -- How the top call ends, clause by clause.
-use Rattle.std.proofs.Common.{◌≡◌, ◌≢◌, ◌∙◌, sym, subst, refl, ℕ, suc, ◌<◌, List, [], length, replicate, Option, None, Some, ◌⊎◌, inl, inr, arith}
-use Rattle.std.proofs.lemmas.List.{length-replicate}
+use Rattle.std.proofs.Common.{◌≡◌, ◌≢◌, ◌∙◌, sym, subst, refl, ℕ, List, [], Option, ◌⊎◌, inl, inr, arith}
 use Rattle.psy_door.specs.Faults.{Rose}
-use Rattle.psy_door.specs.Files.{Files, WhereTold, bytes_under}
+use Rattle.psy_door.specs.Files.{Files}
 use Rattle.psy_door.specs.Growth.{Grew, GrewByFront}
 use Rattle.psy_view.specs.Answer.{Answers, no_words, of_itself, viewed, too_long}
-use Rattle.psy_view.specs.Asked.{Request, Asks, AskNothing, file_of, most_of}
-use Rattle.psy_view.specs.Outcome.{MayAnswer, may_answer, may_miss, Says}
-use Rattle.psy_view.specs.Refusals.{unread_line, long_line}
-use Rattle.psy_view.specs.Views.{ViewOf, explained, no_refusal, beyond, drawn, no_run, unlisted, dotted, no_graph}
+use Rattle.psy_view.specs.Asked.{File, Request, Asks, AskNothing, files_of}
+use Rattle.psy_view.specs.Fetching.{ComeTo, IsUnread, failed, long}
+use Rattle.psy_view.specs.Outcome.{MayAnswer, may_answer, may_miss, Replies, viewed_all, stopped_at, Says}
+use Rattle.psy_view.specs.Refusals.{unread_line}
+use Rattle.psy_view.specs.Views.{ViewOf, explained, no_refusal, beyond, drawn, no_run, unlisted, dotted, no_graph, tabled, no_table, dumped, no_dump, compared, expected}
+use Rattle.psy_view.specs.Views.{flows, no_flow, lists, no_listing, reports, no_report, unmeasured}
+use Rattle.psy_view.specs.Views.{IsCompared, same, differs, first_breaks, second_breaks, IsExpected, kept, unkept, wrong, no_log}
 
 -- ---- the statuses
 
@@ -16,31 +18,61 @@ use Rattle.psy_view.specs.Views.{ViewOf, explained, no_refusal, beyond, drawn, n
 abbrev IsOfView : ℕ → Type 0
 IsOfView status = (status ≡ 0) ⊎ (status ≡ 1)
 
-of_view : (bytes : List ℕ) (request : Request) (status : ℕ) (text : List ℕ) → ViewOf bytes request status text → IsOfView status
-of_view bytes _ _ _ (explained name line text is) = inl refl
-of_view bytes _ _ _ (no_refusal name line is) = inr refl
-of_view bytes _ _ _ (beyond name line is) = inr refl
-of_view bytes _ _ _ (drawn name notes svg is picture) = inl refl
-of_view bytes _ _ _ (no_run name line is) = inr refl
-of_view bytes _ _ _ (unlisted name notes line is first) = inr refl
-of_view bytes _ _ _ (dotted name notes is) = inl refl
-of_view bytes _ _ _ (no_graph name line is) = inr refl
+of_compared : (name other first second : List ℕ) (status : ℕ) (text : List ℕ) → IsCompared name other first second status text → IsOfView status
+of_compared name other first second _ _ (same notes is equal) = inl refl
+of_compared name other first second _ _ (differs text is) = inr refl
+of_compared name other first second _ _ (first_breaks line is) = inr refl
+of_compared name other first second _ _ (second_breaks notes line is breaks) = inr refl
+
+of_expected : (name claims log text : List ℕ) (status : ℕ) (told : List ℕ) → IsExpected name claims log text status told → IsOfView status
+of_expected name claims log text _ _ (kept notes is tried) = inl refl
+of_expected name claims log text _ _ (unkept notes told is tried) = inr refl
+of_expected name claims log text _ _ (wrong notes line slip is at) = inr refl
+of_expected name claims log text _ _ (no_log told is) = inr refl
+
+of_view : (request : Request) (texts : List (List ℕ)) (status : ℕ) (text : List ℕ) → ViewOf request texts status text → IsOfView status
+of_view _ _ _ _ (explained name line bytes text is) = inl refl
+of_view _ _ _ _ (no_refusal name line bytes is) = inr refl
+of_view _ _ _ _ (beyond name line bytes is) = inr refl
+of_view _ _ _ _ (drawn name bytes notes svg is picture) = inl refl
+of_view _ _ _ _ (no_run name bytes line is) = inr refl
+of_view _ _ _ _ (unlisted name bytes notes line is first) = inr refl
+of_view _ _ _ _ (dotted name bytes notes is) = inl refl
+of_view _ _ _ _ (no_graph name bytes line is) = inr refl
+of_view _ _ _ _ (tabled name bytes notes is) = inl refl
+of_view _ _ _ _ (no_table name bytes told is) = inr refl
+of_view _ _ _ _ (dumped name bytes notes is) = inl refl
+of_view _ _ _ _ (no_dump name bytes told is) = inr refl
+of_view _ _ _ _ (flows name bytes unit is) = inl refl
+of_view _ _ _ _ (no_flow name bytes refusal status text is tells) = inr refl
+of_view _ _ _ _ (lists name bytes unit is) = inl refl
+of_view _ _ _ _ (no_listing name bytes refusal status text is tells) = inr refl
+of_view _ _ _ _ (reports name bytes until unit text is report) = inl refl
+of_view _ _ _ _ (no_report name bytes until refusal status text is tells) = inr refl
+of_view _ _ _ _ (unmeasured name bytes until unit refusal status text is cause tells) = inr refl
+of_view _ _ _ _ (compared name other first second status text is) = of_compared name other first second status text is
+of_view _ _ _ _ (expected name claims log text status told is) = of_expected name claims log text status told is
 
 -- A defined answer's: 2 for words of no form, and else a view's
 of_answer : (words : List (List ℕ)) (files : Option Files) (status : ℕ) (text : List ℕ) → Answers words files status text → ((status ≡ 2) × AskNothing words) ⊎ IsOfView status
 of_answer words files _ _ (no_words nothing) = inl (refl, nothing)
 of_answer words files _ _ (of_itself text asks) = inr (inl refl)
-of_answer words files _ _ (viewed request bytes status text asks told within is) = inr (of_view bytes request status text is)
-of_answer words files _ _ (too_long request bytes asks told longer) = inr (inr refl)
+of_answer words files _ _ (viewed request texts status text asks are is) = inr (of_view request texts status text is)
+of_answer words files _ _ (too_long request file asks comes longer) = inr (inr refl)
+
+-- The miss of a file
+abbrev Misses : List (List ℕ) → Option Files → ℕ → ℕ → List ℕ → Type 0
+Misses words files before after text =
+    (request : Request) × (file : File) × Asks words request × ComeTo files (files_of request) file × Rose before after × (text ≡ unread_line file.name)
 
 -- An answer's: that, or 3 where a file couldn't be read
 of_any : (words : List (List ℕ)) (files : Option Files) (before after status : ℕ) (text : List ℕ) → MayAnswer words files before after status text
-    → ((status ≡ 2) × AskNothing words) ⊎ (IsOfView status ⊎ ((status ≡ 3) × ((request : Request) × Asks words request × Rose before after × (text ≡ unread_line (file_of request)))))
+    → ((status ≡ 2) × AskNothing words) ⊎ (IsOfView status ⊎ ((status ≡ 3) × Misses words files before after text))
 of_any words files before after _ _ (may_answer status text is) = elim (of_answer words files status text is) [
   | inl two ↦ inl two
   | inr view ↦ inr (inl view)
 ]
-of_any words files before after _ _ (may_miss request asks rose) = inr (inr (refl, (request, asks, rose, refl)))
+of_any words files before after _ _ (may_miss request file asks comes rose) = inr (inr (refl, (request, file, asks, comes, rose, refl)))
 
 -- No answer's status is that one
 never : (k : ℕ) → k ≢ 0 → k ≢ 1 → k ≢ 2 → k ≢ 3 → (words : List (List ℕ)) (files : Option Files) (before after status : ℕ) (text : List ℕ) → MayAnswer words files before after status text → status ≢ k
@@ -51,14 +83,18 @@ never k a b c d words files before after status text may e = elim (of_any words 
   | inr (inr three) ↦ d (sym e ∙ three.0)
 ]
 
--- ---- a file that is too long
+-- ---- replies
 
-pub answers_long : (words : List (List ℕ)) (files : Option Files) (request : Request) → Asks words request
-    → WhereTold files (λ told. most_of request < length (bytes_under told (file_of request))) → Answers words files 1 (long_line (file_of request) (most_of request))
-answers_long words None request asks longer =
-    let bytes = replicate (suc (most_of request)) 0 in
-    too_long request bytes asks tt (subst (λ n. most_of request < n) (sym (length-replicate (suc (most_of request)) 0)) (omega arith))
-answers_long words (Some told) request asks longer = too_long request (bytes_under told (file_of request)) asks refl longer
+of_unread : (words : List (List ℕ)) (files : Option Files) (b a : ℕ) (request : Request) (file : File) (status : ℕ) (text : List ℕ) → Asks words request
+    → ComeTo files (files_of request) file → IsUnread files b a file status text → MayAnswer words files b a status text
+of_unread words files b a request file _ _ asks comes (failed rose) = may_miss request file asks comes rose
+of_unread words files b a request file _ _ asks comes (long is) = may_answer _ _ (too_long request file asks comes is)
+
+-- What replies to a request may answer words that ask for it
+pub of_reply : (words : List (List ℕ)) (files : Option Files) (b a : ℕ) (request : Request) (status : ℕ) (text : List ℕ) → Asks words request
+    → Replies files b a request status text → MayAnswer words files b a status text
+of_reply words files b a request _ _ asks (viewed_all texts status text are is) = may_answer status text (viewed request texts status text asks are is)
+of_reply words files b a request _ _ asks (stopped_at file status text comes unread) = of_unread words files b a request file status text asks comes unread
 
 -- ---- the clauses
 
@@ -74,7 +110,7 @@ by_says old now before after answer status text says whole cut = elim says [
 by_may : {P : Type 0} (words : List (List ℕ)) (files : Option Files) (before after status : ℕ) (text : List ℕ) → MayAnswer words files before after status text
     → (Answers words files status text → P) → (status ≡ 3 → Rose before after → P) → P
 by_may words files before after _ _ (may_answer status text is) defined missed = defined is
-by_may words files before after _ _ (may_miss request asks rose) defined missed = missed refl rose
+by_may words files before after _ _ (may_miss request file asks comes rose) defined missed = missed refl rose
 
 pub ends_answered : (words : List (List ℕ)) (files : Option Files) (b a : ℕ) (old now : Option (List ℕ)) (before after answer status : ℕ) (text : List ℕ)
     → MayAnswer words files b a status text → Says old now before after answer status text
@@ -106,14 +142,22 @@ ends_listed words files b a old now before after answer status text may says two
 
 pub ends_read : (words : List (List ℕ)) (files : Option Files) (b a : ℕ) (old now : Option (List ℕ)) (before after answer status : ℕ) (text : List ℕ)
     → MayAnswer words files b a status text → Says old now before after answer status text
-    → answer ≡ 3 → (request : Request) × Asks words request × Rose b a × Grew old now (unread_line (file_of request))
+    → answer ≡ 3 → (request : Request) × (file : File) × Asks words request × ComeTo files (files_of request) file × Rose b a × Grew old now (unread_line file.name)
 ends_read words files b a old now before after answer status text may says three =
     by_says old now before after answer status text says
     (λ same grew. elim (of_any words files b a status text may) [
       | inl is ↦ let two = is.0 in absurd (omega (arith, three, same, two))
       | inr (inl (inl zero)) ↦ absurd (omega (arith, three, same, zero))
       | inr (inl (inr one)) ↦ absurd (omega (arith, three, same, one))
-      | inr (inr miss) ↦ (miss.1.0, miss.1.1, miss.1.2, subst (Grew old now) miss.1.3 grew)
+      | inr (inr miss) ↦
+          let is = miss.1 in (
+            is.0,
+            is.1,
+            is.2,
+            is.3,
+            is.4,
+            subst (Grew old now) is.5 grew,
+          )
     ])
     (λ cut rose grew. absurd (omega (arith, three, cut)))
 

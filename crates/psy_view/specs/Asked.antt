@@ -1,14 +1,22 @@
 -- What the words of the command line ask for.
-use Rattle.std.specs.Prelude.{◌≡◌, ℕ, List, [], ◌∷◌, ◌++◌, codes}
-use Rattle.psy_base.specs.declared.limits.TheConstants.{FILE_BYTES}
+use Rattle.std.specs.Prelude.{◌≡◌, ℕ, ◌≤◌, List, [], ◌∷◌, ◌++◌, Some, codes}
+use Rattle.psy_base.specs.declared.limits.TheConstants.{FILE_BYTES, UNTIL}
+use Rattle.psy_text.specs.Words.{number_of}
 use Rattle.psy_view.specs.declared.asked.TheConstants.{TEXT_BYTES}
 use Rattle.psy_view.specs.declared.help.TheConstants.{HELP, VERSION}
 
--- A request, with the name of its file; a line that is to be explained is told in the words behind that name
+-- A request, with the names of its files; a line that is to be explained is told in the words behind the name
 pub data Request : Type 0 where
   Where : (name line : List ℕ) → Request
   Timeline : (name : List ℕ) → Request
   Dot : (name : List ℕ) → Request
+  Table : (name : List ℕ) → Request
+  Dump : (name : List ℕ) → Request
+  Flow : (name : List ℕ) → Request
+  Listing : (name : List ℕ) → Request
+  Report : (name : List ℕ) (until : ℕ) → Request
+  Difference : (name other : List ℕ) → Request
+  Expectation : (name claims : List ℕ) → Request
 
 -- Words as they stood in one line, a space between two
 abbrev pub line_of_words : List (List ℕ) → List ℕ
@@ -16,11 +24,24 @@ line_of_words [] = []
 line_of_words (word ∷ []) = word
 line_of_words (word ∷ words) = word ++ codes " " ++ line_of_words words
 
--- The words ask for this: `where PROG LINE..`, `timeline LOG` or `dot GRAPH`
+-- The word is a date up to which a program may run: a number of 1 to 12 digits, at most 1,000,000
+pub record IsDate (word : List ℕ) (date : ℕ) : Type 0 where
+  pub value : number_of word ≡ Some date
+  pub most : date ≤ UNTIL
+
+-- The words ask for this: `where PROG LINE..`, `timeline LOG`, `dot GRAPH`, `csv LOG`, `vcd LOG`, `flow PROG`, `list PROG`, `report PROG UNTIL`,
+-- `diff LOG LOG` or `expect LOG FILE`
 pub data Asks (words : List (List ℕ)) : Request → Type 0 where
   asks_where : (name word : List ℕ) (more : List (List ℕ)) → words ≡ codes "where" ∷ name ∷ word ∷ more → Asks words (Where name (line_of_words (word ∷ more)))
   asks_timeline : (name : List ℕ) → words ≡ codes "timeline" ∷ name ∷ [] → Asks words (Timeline name)
   asks_dot : (name : List ℕ) → words ≡ codes "dot" ∷ name ∷ [] → Asks words (Dot name)
+  asks_table : (name : List ℕ) → words ≡ codes "csv" ∷ name ∷ [] → Asks words (Table name)
+  asks_dump : (name : List ℕ) → words ≡ codes "vcd" ∷ name ∷ [] → Asks words (Dump name)
+  asks_flow : (name : List ℕ) → words ≡ codes "flow" ∷ name ∷ [] → Asks words (Flow name)
+  asks_listing : (name : List ℕ) → words ≡ codes "list" ∷ name ∷ [] → Asks words (Listing name)
+  asks_report : (name date : List ℕ) (until : ℕ) → words ≡ codes "report" ∷ name ∷ date ∷ [] → IsDate date until → Asks words (Report name until)
+  asks_difference : (name other : List ℕ) → words ≡ codes "diff" ∷ name ∷ other ∷ [] → Asks words (Difference name other)
+  asks_expectation : (name claims : List ℕ) → words ≡ codes "expect" ∷ name ∷ claims ∷ [] → Asks words (Expectation name claims)
 
 -- The words ask for no view
 abbrev pub AskNoView : List (List ℕ) → Type 0
@@ -36,14 +57,32 @@ pub data AskForText (words : List (List ℕ)) : List ℕ → Type 0 where
 abbrev pub AskNothing : List (List ℕ) → Type 0
 AskNothing words = AskNoView words × ((text : List ℕ) → AskForText words text → ⊥)
 
--- The name of the file that is asked about
-abbrev pub file_of : Request → List ℕ
-file_of (Where name line) = name
-file_of (Timeline name) = name
-file_of (Dot name) = name
+-- A file that is asked about: its name, and how many bytes it may have
+pub record File : Type 0 where
+  pub name : List ℕ
+  pub most : ℕ
 
--- How many bytes it may have: as many as psyc reads, or 16,777,216 of what psyc writes
-abbrev pub most_of : Request → ℕ
-most_of (Where name line) = FILE_BYTES
-most_of (Timeline name) = TEXT_BYTES
-most_of (Dot name) = TEXT_BYTES
+-- The file of this name, which may have so many bytes
+abbrev pub file_of : List ℕ → ℕ → File
+file_of name most = record { name = name; most = most }
+
+-- A file that someone wrote: it may have as many bytes as psyc reads
+abbrev pub by_hand : List ℕ → File
+by_hand name = file_of name FILE_BYTES
+
+-- A file that psyc wrote: it may have 16,777,216 bytes
+abbrev pub by_psyc : List ℕ → File
+by_psyc name = file_of name TEXT_BYTES
+
+-- The files that are asked about, in the order in which they are read
+abbrev pub files_of : Request → List File
+files_of (Where name line) = by_hand name ∷ []
+files_of (Timeline name) = by_psyc name ∷ []
+files_of (Dot name) = by_psyc name ∷ []
+files_of (Table name) = by_psyc name ∷ []
+files_of (Dump name) = by_psyc name ∷ []
+files_of (Flow name) = by_hand name ∷ []
+files_of (Listing name) = by_hand name ∷ []
+files_of (Report name until) = by_hand name ∷ []
+files_of (Difference name other) = by_psyc name ∷ by_psyc other ∷ []
+files_of (Expectation name claims) = by_psyc name ∷ by_hand claims ∷ []

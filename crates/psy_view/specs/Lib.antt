@@ -1,7 +1,7 @@
 -- The definitions of this crate, by subject.
 pub mod Answer
 pub mod Asked
-pub mod Maps
+pub mod Fetching
 pub mod Outcome
 pub mod Reading
 pub mod Refusals

@@ -1,5 +1,7 @@
 -- The lines that are written where a text can't be viewed.
 use Rattle.std.specs.Prelude.{ℕ, List, ◌++◌, codes, decimal}
+use Rattle.psy_claims.specs.declared.fault.Slip.{Slip}
+use Rattle.psy_claims.specs.declared.fault.Slip.TheVariants.{Form, Dates, Name}
 
 -- The words are of no listed form
 abbrev pub words_line : List ℕ
@@ -28,3 +30,13 @@ broken_line name line command = name ++ codes ":" ++ decimal line ++ codes ": fr
 -- This line of a log has a name that the summary doesn't list
 abbrev pub unlisted_line : List ℕ → ℕ → List ℕ
 unlisted_line name line = name ++ codes ":" ++ decimal line ++ codes ": the summary doesn't list this name\n"
+
+-- What is wrong with a line of assertions
+abbrev pub slip_text : Slip → List ℕ
+slip_text Form = codes "this line is no assertion"
+slip_text Dates = codes "the last date lies below the first"
+slip_text Name = codes "the summary of the log doesn't list this name"
+
+-- This line of a file of assertions is wrong
+abbrev pub wrong_line : List ℕ → ℕ → Slip → List ℕ
+wrong_line name line slip = name ++ codes ":" ++ decimal line ++ codes ": " ++ slip_text slip ++ codes "\n"

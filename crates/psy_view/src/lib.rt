@@ -1,18 +1,17 @@
-//! `psyview`: explains what psyc refused, and draws runs and graphs that psyc wrote.
-//! It may know psy_notes, psy_where, psy_dot, psy_draw, and the door.
+//! `psyview`: explains what psyc refused, draws runs and graphs that psyc wrote, hands runs on, tries assertions on them, and tells what a
+//! program is before it runs. It may know psy_notes, psy_where, psy_dot, psy_draw, psy_table, psy_wave, psy_differ, psy_claims, psy_source,
+//! psy_feed, psy_listing, psy_report, and the door.
 #![tactic(auto)]
 
 mod asked;
-mod file_texts;
+mod fetching;
 mod help;
+mod log;
+mod plan;
 mod refusals;
-mod texts;
-mod texts_map;
 mod top;
 mod view;
+mod words;
 
-pub use asked::{Asked, TEXT_BYTES};
-pub use file_texts::FileTexts;
-pub use texts::Texts;
-pub use texts_map::TextsMap;
+pub use asked::{Asked, One, TEXT_BYTES, Two};
 pub use top::psyview;

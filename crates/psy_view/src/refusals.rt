@@ -1,21 +1,11 @@
 //! The lines that are written where a text can't be viewed.
-ghost use Rattle.std.specs.Prelude.{◌≡◌, IfOk};
-ghost use Rattle.std.specs.List.{flat_map};
-ghost use Rattle.psy_view.specs.Refusals.{beyond_line, broken_line, long_line, no_refusal_line, unlisted_line, unread_line};
+ghost use Rattle.std.specs.Prelude.{◌≡◌, ◌++◌, IfOk, codes, decimal};
+ghost use Rattle.psy_view.specs.Refusals.{beyond_line, broken_line, long_line, no_refusal_line, slip_text, unlisted_line, unread_line, wrong_line};
 
 use itoa::Buffer;
+use psy_claims::Slip;
+use psy_text::write::joined;
 use std::alloc::{AllocError, Global};
-
-// These pieces, one behind the other.
-fn joined(alloc: Global, pieces: &[&[u8]]) -> Result<Vec<u8>, AllocError>
-    ensures { IfOk result (λ line. line.items ≡ flat_map (λ piece. piece.now) pieces.now) }
-{
-    let mut line = Vec::new(alloc);
-    for piece in pieces {
-        line.extend_from_slice(piece)?;
-    }
-    Ok(line)
-}
 
 /// `read NAME`
 pub fn unread_line(alloc: Global, name: &[u8]) -> Result<Vec<u8>, AllocError>
@@ -90,4 +80,36 @@ pub fn unlisted_line(alloc: Global, name: &[u8], line: usize) -> Result<Vec<u8>,
         alloc,
         &[name, b":", line, b": the summary doesn't list this name\n"],
     )
+}
+
+/// This line of a file of assertions is wrong.
+pub fn wrong_line(
+    alloc: Global,
+    name: &[u8],
+    line: usize,
+    slip: Slip,
+) -> Result<Vec<u8>, AllocError>
+    ensures { IfOk result (λ text. text.items ≡ wrong_line name.now line slip) }
+{
+    told_at(alloc, name, line, slip_text(slip))
+}
+
+// This is told of a line.
+fn told_at(alloc: Global, name: &[u8], line: usize, told: &[u8]) -> Result<Vec<u8>, AllocError>
+    ensures { IfOk result (λ text. text.items ≡ name.now ++ codes ":" ++ decimal line ++ codes ": " ++ told.now ++ codes "\n") }
+{
+    let mut digits = Buffer::new();
+    let line = digits.format(line as u64).as_bytes();
+    joined(alloc, &[name, b":", line, b": ", told, b"\n"])
+}
+
+// What is wrong with it.
+fn slip_text(slip: Slip) -> &'static [u8]
+    ensures { result.now ≡ slip_text slip }
+{
+    match slip {
+        Slip::Form => b"this line is no assertion",
+        Slip::Dates => b"the last date lies below the first",
+        Slip::Name => b"the summary of the log doesn't list this name",
+    }
 }

@@ -1,16 +1,18 @@
-//! The view of a text that the words ask for.
-ghost use Rattle.std.specs.Prelude.{◌≡◌, ◌≤◌, ◌∷◌, ◌++◌, IfOk, OnOk, codes, length, map, string_bytes};
+//! The view of texts that the words ask for.
+ghost use Rattle.std.specs.Prelude.{◌≡◌, ◌≤◌, [], ◌∷◌, ◌++◌, IfOk, OnOk, codes, length, map, string_bytes};
 ghost use Rattle.std.specs.List.{flat_map};
 ghost use Rattle.psy_base.specs.declared.limits.TheConstants.{FILE_BYTES};
-ghost use Rattle.psy_view.specs.Asked.{Dot, Timeline, Where, line_of_words, most_of};
-ghost use Rattle.psy_view.specs.Reading.{request_of};
+ghost use Rattle.psy_view.specs.Asked.{Dot, Timeline, Where, line_of_words};
+ghost use Rattle.psy_view.specs.Reading.{most_of_one, request_of_one, request_of_two};
 ghost use Rattle.psy_view.specs.Views.{ViewOf};
 
-use crate::asked::Asked;
+use crate::asked::{One, Two};
+use crate::log::{compared, dumped, expected, tabled};
+use crate::plan::{fed, listed, reported};
 use crate::refusals::{beyond_line, broken_line, no_refusal_line, unlisted_line};
 use psy_base::Memory;
 use psy_dot::dot;
-use psy_draw::{DrawFault, timeline};
+use psy_draw::{DrawFault, Window, timeline};
 use psy_notes::{TextFault, read_graph, read_run};
 use psy_where::{WhereFault, explain};
 use std::alloc::{AllocError, Global};
@@ -22,15 +24,38 @@ pub struct View {
     pub text: Vec<u8>,
 }
 
-/// The view of a text of these bytes. The only error is want of memory.
-pub fn view_of(alloc: Global, asked: &Asked, bytes: &[u8]) -> Result<View, Memory>
-    requires { length bytes.now ≤ most_of (request_of asked.now) }
-    ensures { IfOk result (λ v. ViewOf bytes.now (request_of asked.now) v.status v.text.items) }
+/// The view of a file's text. The only error is want of memory.
+pub fn view_of(alloc: Global, name: &str, view: &One, bytes: &[u8]) -> Result<View, Memory>
+    requires { length bytes.now ≤ most_of_one view.now }
+    ensures { IfOk result (λ v. ViewOf (request_of_one name.now view.now) (bytes.now ∷ []) v.status v.text.items) }
 {
-    match *asked {
-        Asked::Where { name, words } => explained(alloc, name, words, bytes),
-        Asked::Timeline { name } => drawn(alloc, name, bytes),
-        Asked::Dot { name } => dotted(alloc, name, bytes),
+    match *view {
+        One::Where { words } => explained(alloc, name, words, bytes),
+        One::Timeline => drawn(alloc, name, bytes),
+        One::Dot => dotted(alloc, name, bytes),
+        One::Csv => tabled(alloc, name, bytes),
+        One::Vcd => dumped(alloc, name, bytes),
+        One::Flow => fed(alloc, name, bytes),
+        One::List => listed(alloc, name, bytes),
+        One::Report { until } => reported(alloc, name, bytes, until),
+    }
+}
+
+/// The view of two files' texts. The only error is want of memory.
+#[tactic(auto, using(crate::specs::Views::compared, crate::specs::Views::expected))]
+pub fn view_of_both(
+    alloc: Global,
+    name: &str,
+    other: &str,
+    view: &Two,
+    first: &[u8],
+    second: &[u8],
+) -> Result<View, Memory>
+    ensures { IfOk result (λ v. ViewOf (request_of_two name.now other.now view.now) (first.now ∷ second.now ∷ []) v.status v.text.items) }
+{
+    match *view {
+        Two::Diff => compared(alloc, name, other, first, second),
+        Two::Expect => expected(alloc, name, other, first, second),
     }
 }
 
@@ -65,13 +90,21 @@ fn add_words(line: &mut Vec<u8>, words: &[String]) -> Result<(), AllocError>
     Ok(())
 }
 
-#[tactic(auto, using(crate::specs::Views::explained, crate::specs::Views::no_refusal, crate::specs::Views::beyond))]
 fn explained(alloc: Global, name: &str, words: &[String], bytes: &[u8]) -> Result<View, Memory>
     requires { length bytes.now ≤ FILE_BYTES }
-    ensures { IfOk result (λ v. ViewOf bytes.now (Where name.now (line_of_words (map string_bytes words.now))) v.status v.text.items) }
+    ensures { IfOk result (λ v. ViewOf (Where name.now (line_of_words (map string_bytes words.now))) (bytes.now ∷ []) v.status v.text.items) }
 {
     let line = line_of_words(alloc, words)?;
-    match explain(alloc, name.as_bytes(), bytes, line.as_slice()) {
+    told_of(alloc, name, bytes, line.as_slice())
+}
+
+/// What is told of a line with which psyc refuses the text in a file of this name. The only error is want of memory.
+#[tactic(auto, using(crate::specs::Views::explained, crate::specs::Views::no_refusal, crate::specs::Views::beyond))]
+pub fn told_of(alloc: Global, name: &str, bytes: &[u8], line: &[u8]) -> Result<View, Memory>
+    requires { length bytes.now ≤ FILE_BYTES }
+    ensures { IfOk result (λ v. ViewOf (Where name.now line.now) (bytes.now ∷ []) v.status v.text.items) }
+{
+    match explain(alloc, name.as_bytes(), bytes, line) {
         Ok(text) => Ok(View { status: 0, text }),
         Err(WhereFault::NoRefusal) => Ok(View {
             status: 1,
@@ -87,7 +120,7 @@ fn explained(alloc: Global, name: &str, words: &[String], bytes: &[u8]) -> Resul
 
 #[tactic(auto, using(crate::specs::Views::drawn, crate::specs::Views::no_run, crate::specs::Views::unlisted))]
 fn drawn(alloc: Global, name: &str, bytes: &[u8]) -> Result<View, Memory>
-    ensures { IfOk result (λ v. ViewOf bytes.now (Timeline name.now) v.status v.text.items) }
+    ensures { IfOk result (λ v. ViewOf (Timeline name.now) (bytes.now ∷ []) v.status v.text.items) }
 {
     let notes = match read_run(alloc, bytes) {
         Ok(notes) => notes,
@@ -99,7 +132,7 @@ fn drawn(alloc: Global, name: &str, bytes: &[u8]) -> Result<View, Memory>
         }
         Err(TextFault::Memory) => return Err(Memory),
     };
-    match timeline(alloc, notes.as_slice()) {
+    match timeline(alloc, name, notes.as_slice(), Window::WHOLE, &[]) {
         Ok(svg) => Ok(View {
             status: 0,
             text: svg,
@@ -110,13 +143,16 @@ fn drawn(alloc: Global, name: &str, bytes: &[u8]) -> Result<View, Memory>
                 text: unlisted_line(alloc, name.as_bytes(), number)?,
             })
         }
+        // The whole run is drawn: no name was asked for, and its dates are some.
+        Err(DrawFault::Unknown { .. }) => unreachable!(),
+        Err(DrawFault::Empty) => unreachable!(),
         Err(DrawFault::Memory) => Err(Memory),
     }
 }
 
 #[tactic(auto, using(crate::specs::Views::dotted, crate::specs::Views::no_graph))]
 fn dotted(alloc: Global, name: &str, bytes: &[u8]) -> Result<View, Memory>
-    ensures { IfOk result (λ v. ViewOf bytes.now (Dot name.now) v.status v.text.items) }
+    ensures { IfOk result (λ v. ViewOf (Dot name.now) (bytes.now ∷ []) v.status v.text.items) }
 {
     match read_graph(alloc, bytes) {
         Ok(notes) => Ok(View {

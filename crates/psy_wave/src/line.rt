@@ -2,7 +2,7 @@
 ghost use Rattle.std.specs.Prelude.{◌≡◌, [], ◌∷◌, ◌++◌, OnOk};
 ghost use Rattle.psy_wave.specs.Codes.{code, word, word_digits};
 
-use itoa::Buffer;
+use psy_text::write::add_number;
 use std::alloc::AllocError;
 
 /// Adds the identifier code of the thing of this kind at this place.
@@ -10,7 +10,7 @@ pub fn add_code(out: &mut Vec<u8>, kind: u8, place: usize) -> Result<(), AllocEr
     ensures { OnOk result (out.new.items ≡ out.old.items ++ code kind place) }
 {
     out.push(kind)?;
-    out.extend_from_slice(Buffer::new().format(place as u64).as_bytes())
+    add_number(out, place as u64)
 }
 
 /// Adds a change of a vector: its new value in binary, and its code.

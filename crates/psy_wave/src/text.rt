@@ -10,9 +10,9 @@ ghost use Rattle.psy_wave.specs.Changes.{changes, later, stamp, vcd_of};
 
 use crate::change::{add_change, time_of};
 use crate::header::add_head;
-use itoa::Buffer;
 use psy_listed::{Listed, LogFault, read_log};
 use psy_log::Note;
+use psy_text::write::add_number;
 use std::alloc::{AllocError, Global};
 
 /// The value change dump of the run whose log `psyc run` wrote: at each date what was told of it, in the order of the log.
@@ -61,7 +61,7 @@ fn add_time(out: &mut Vec<u8>, last: u64, time: u64) -> Result<(), AllocError>
         return Ok(());
     }
     out.push(b'#')?;
-    out.extend_from_slice(Buffer::new().format(time).as_bytes())?;
+    add_number(out, time)?;
     out.push(b'\n')?;
     Ok(())
 }

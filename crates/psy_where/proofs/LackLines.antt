@@ -7,9 +7,9 @@ use Rattle.std.proofs.lemmas.Slice.Eq.{bytes_eq-Decides}
 use Rattle.std.proofs.lemmas.List.{append_cancel_right, take-append-drop}
 use Rattle.psy_tree.specs.Lexemes.{EndsBefore}
 use Rattle.psy_log.specs.Forms.{infeasible_line, on_processor}
-use Rattle.psy_front.specs.Fronts.{Cuts}
+use Rattle.psy_text.specs.Fronts.{Cuts}
 use Rattle.psy_where.specs.declared.lack.Lack.{Lack}
-use Rattle.psy_where.specs.Lacks.{IsLack, IsSmall}
+use Rattle.psy_where.specs.Lacks.{IsLack}
 
 -- ---- the processor
 

@@ -6,7 +6,7 @@ use Rattle.std.proofs.lemmas.Bool.Decides.{nat_tests}
 use Rattle.std.proofs.lemmas.Slice.Eq.{bytes_eq-Decides}
 use Rattle.std.proofs.lemmas.List.{append_cancel_left, append_cancel_right, take-append-drop}
 use Rattle.psy_log.specs.Forms.{at_place}
-use Rattle.psy_front.specs.Fronts.{Cuts}
+use Rattle.psy_text.specs.Fronts.{Cuts}
 use Rattle.psy_where.specs.declared.recall.What.{What}
 use Rattle.psy_where.specs.declared.recall.What.TheVariants.{Lex, Parse, Rule, Inputs, Script}
 use Rattle.psy_where.specs.declared.recall.Refusal.{Refusal}

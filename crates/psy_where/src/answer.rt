@@ -1,5 +1,5 @@
 //! What is written for a refusal.
-ghost use Rattle.std.specs.Prelude.{◌≡◌, ◌+◌, ◌++◌, ◌≤◌, ℕ, IfOk, OnOk, codes, decimal, length};
+ghost use Rattle.std.specs.Prelude.{◌≡◌, ◌+◌, ◌++◌, ◌≤◌, ℕ, IfOk, OnOk, length};
 ghost use Rattle.psy_base.specs.declared.limits.TheConstants.{FILE_BYTES};
 ghost use Rattle.psy_where.specs.declared.fault.WhereFault.{WhereFault};
 ghost use Rattle.psy_where.specs.declared.recall.What.{What};
@@ -10,12 +10,14 @@ ghost use Rattle.psy_where.specs.Refusals.{IsPlaceOf};
 use crate::fault::WhereFault;
 use crate::help::help;
 use crate::lack::{Lack, read_lack};
-use crate::mark::{add_carets, add_padding, add_shown, without_return};
+use crate::mark::marked;
 use crate::place::place;
 use crate::plain::{plain_sentence, read_plain};
 use crate::recall::{Told, What, read_refusal};
 use crate::spot::spot_at;
-use itoa::Buffer;
+use psy_show::{add_line, add_shown, chars_len};
+use psy_text::line::without_return;
+use psy_text::write::{add_labelled, add_number};
 use std::alloc::{AllocError, Global};
 
 /// Explains a line with which psyc refused, `line`: of a refusal of a text of at most 262,144 bytes that stands in a file of this name, `NAME:LINE:COLUMN: `
@@ -42,7 +44,8 @@ pub fn explain(alloc: Global, name: &[u8], text: &[u8], line: &[u8]) -> Result<V
 fn sentence_line(alloc: Global, name: &[u8], sentence: &[u8]) -> Result<Vec<u8>, AllocError>
     ensures { IfOk result (λ answer. answer.items ≡ sentence_line name.now sentence.now) }
 {
-    let mut out = Vec::from_slice(alloc, name)?;
+    let mut out = Vec::new(alloc);
+    add_shown(&mut out, name)?;
     out.extend_from_slice(b": ")?;
     out.extend_from_slice(sentence)?;
     out.push(b'\n')?;
@@ -54,13 +57,13 @@ fn lack_line(alloc: Global, name: &[u8], lack: Lack) -> Result<Vec<u8>, AllocErr
     ensures { IfOk result (λ answer. answer.items ≡ sentence_line name.now (lack_sentence lack)) }
 {
     let mut sentence = Vec::from_slice(alloc, b"over ")?;
-    add_decimal(&mut sentence, lack.length)?;
+    add_number(&mut sentence, lack.length)?;
     sentence.extend_from_slice(b" ticks, the least such length, the agents may ask for ")?;
-    add_decimal(&mut sentence, lack.demand)?;
+    add_number(&mut sentence, lack.demand)?;
     sentence.extend_from_slice(b" cycles, and ")?;
     add_supplier(&mut sentence, lack.processor)?;
     sentence.extend_from_slice(b" has ")?;
-    add_decimal(&mut sentence, lack.supply)?;
+    add_number(&mut sentence, lack.supply)?;
     sentence.extend_from_slice(
         b": lower a budget, slow a clock down, or give the tick more cycles",
     )?;
@@ -74,15 +77,9 @@ fn add_supplier(out: &mut Vec<u8>, processor: Option<u64>) -> Result<(), AllocEr
         None => out.extend_from_slice(b"the processor"),
         Some(number) => {
             out.extend_from_slice(b"processor ")?;
-            add_decimal(out, number)
+            add_number(out, number)
         }
     }
-}
-
-fn add_decimal(out: &mut Vec<u8>, number: u64) -> Result<(), AllocError>
-    ensures { OnOk result (out.new.items ≡ out.old.items ++ decimal number) }
-{
-    out.extend_from_slice(Buffer::new().format(number).as_bytes())
 }
 
 // What is written for a refusal that tells a place in the text.
@@ -95,13 +92,13 @@ fn placed(alloc: Global, name: &[u8], text: &[u8], told: Told) -> Result<Vec<u8>
     let what = told.refusal.what;
     let place = place(alloc, what, text, told.refusal.at)?;
     let line = without_return(spot_at(text, place).behind);
-    let help = help(alloc, text, line, told.refusal)?;
+    let help = help(alloc, text, &text[..place], line, told.refusal)?;
     let mut answer = explanation(alloc, name, text, what, told.sentence, place)?;
     answer.extend_from_slice(help.as_slice())?;
     Ok(answer)
 }
 
-// `NAME:LINE:COLUMN: SENTENCE`, the line, and carets
+// `NAME:LINE:COLUMN: SENTENCE`, the line around the place, and carets
 fn explanation(
     alloc: Global,
     name: &[u8],
@@ -110,30 +107,19 @@ fn explanation(
     sentence: &[u8],
     at: usize,
 ) -> Result<Vec<u8>, AllocError>
-    requires { at ≤ length text.now }
+    requires at { at ≤ length text.now }
+    requires small { length text.now ≤ FILE_BYTES }
     ensures { IfOk result (λ answer. answer.items ≡ explanation name.now text.now what sentence.now at) }
 {
     let spot = spot_at(text, at);
     let rest = without_return(spot.behind);
-    let mut out = Vec::from_slice(alloc, name)?;
-    add_number(&mut out, spot.line)?;
-    add_number(&mut out, spot.before.len() + 1)?;
+    let mut out = Vec::new(alloc);
+    add_shown(&mut out, name)?;
+    add_labelled(&mut out, b":", spot.line as u64)?;
+    add_labelled(&mut out, b":", chars_len(spot.before) as u64 + 1)?;
     out.extend_from_slice(b": ")?;
     out.extend_from_slice(sentence)?;
     out.push(b'\n')?;
-    add_shown(&mut out, spot.before)?;
-    add_shown(&mut out, rest)?;
-    out.push(b'\n')?;
-    add_padding(&mut out, spot.before)?;
-    add_carets(&mut out, what, rest)?;
-    out.push(b'\n')?;
+    add_line(alloc, &mut out, spot.before, rest, marked(what, rest))?;
     Ok(out)
-}
-
-// `:NUMBER`
-fn add_number(out: &mut Vec<u8>, number: usize) -> Result<(), AllocError>
-    ensures { OnOk result (out.new.items ≡ out.old.items ++ codes ":" ++ decimal number) }
-{
-    out.push(b':')?;
-    out.extend_from_slice(Buffer::new().format(number as u64).as_bytes())
 }

@@ -1,13 +1,13 @@
 //! A demand that can't be supplied, as psyc writes it.
 ghost use Rattle.std.specs.Prelude.{◌≡◌, ◌++◌, ◌<◌, ◌^◌, List, ℕ, IfSome, Option, codes, decimal};
 ghost use Rattle.std.specs.Char.{is_ascii_digit};
-ghost use Rattle.psy_front.specs.Fronts.{Cuts};
+ghost use Rattle.psy_text.specs.Fronts.{Cuts};
 ghost use Rattle.psy_log.specs.Forms.{on_processor};
 ghost use Rattle.psy_where.specs.Lacks.{IsLack, IsSmall};
 ghost use Rattle.psy_where.specs.declared.lack.Lack.{Lack as lack_of};
 
-use psy_front::laws::one_number;
-use psy_front::number;
+use psy_text::front::number;
+use psy_text::laws::one_number;
 
 /// A demand that can't be supplied: over so many ticks so many cycles may be asked for, and so many are there; of one processor, where several are named.
 #[derive(Clone, Copy, Debug, PartialEq, Eq)]

@@ -1,6 +1,6 @@
 //! Explains a refusal of psyc: where it is in the text, by line and column, what it means, and what may stand there; and each other line with which
 //! psyc refuses.
-//! It may know texts, tokens, the numbers of refusals, and advice; no grammar, no rules.
+//! It may know texts, tokens, the numbers of refusals, advice, and how a line is shown; no grammar, no rules.
 #![tactic(auto)]
 
 mod answer;

@@ -8,7 +8,7 @@ ghost use Rattle.psy_where.specs.Refusals.{IsPlaceOf};
 
 use crate::fault::WhereFault;
 use crate::recall::What;
-use crate::scan::line_len;
+use psy_text::run::line_len;
 use psy_token::lex;
 use psy_tree::Token;
 use std::alloc::Global;

@@ -1,14 +1,14 @@
 //! Refusals, as psyc writes them.
 ghost use Rattle.std.specs.Prelude.{◌≡◌, ◌++◌, ◌<◌, ◌^◌, List, ℕ, IfSome, Some, codes, decimal};
 ghost use Rattle.std.specs.Char.{is_ascii_digit};
-ghost use Rattle.psy_front.specs.Fronts.{Cuts};
+ghost use Rattle.psy_text.specs.Fronts.{Cuts};
 ghost use Rattle.psy_log.specs.Forms.{at_place};
 ghost use Rattle.psy_where.specs.Refusals.{Says, word_of};
 ghost use Rattle.psy_where.specs.Explained.{IsNoRefusal};
 
 use crate::sentence::sentence;
-use psy_front::laws::one_number;
-use psy_front::short;
+use psy_text::front::short;
+use psy_text::laws::one_number;
 
 /// What psyc refused: the tokens, the grammar or the rules of a program, or a line of inputs or of a script.
 #[derive(Clone, Copy, Debug, PartialEq, Eq)]

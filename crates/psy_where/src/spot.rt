@@ -2,7 +2,8 @@
 ghost use Rattle.std.specs.Prelude.{◌≡◌, ◌≤◌, length};
 ghost use Rattle.psy_where.specs.Places.{before_at, behind_at, line_at};
 
-use crate::scan::{back_len, feeds, line_len};
+use crate::scan::{back_len, feeds};
+use psy_text::run::line_len;
 
 /// The number of a line, from 1, and its bytes before a place and from it on.
 #[derive(Clone, Copy)]
@@ -18,6 +19,7 @@ pub fn spot_at(text: &[u8], place: usize) -> Spot<'_>
     ensures line { result.line ≡ line_at text.now place }
     ensures before { result.before.now ≡ before_at text.now place }
     ensures behind { result.behind.now ≡ behind_at text.now place }
+    ensures within { (length result.before.now ≤ length text.now) × (length result.behind.now ≤ length text.now) }
 {
     let (front, back) = text.split_at(place);
     let start = front.len() - back_len(front);

@@ -1,10 +1,12 @@
-//! `psyview`: the top call over the files of the system and standard output.
-//! It may know psy_view, and which files and sink are the real ones.
+//! `psyview`: the top calls over the files of the system and standard output.
+//! It may know psy_view and psy_serve, and which files and sink are the real ones.
 #![tactic(auto)]
 
 use psy_base::Memory;
-use psy_door::StdSink;
-use psy_view::{FileTexts, psyview};
+use psy_door::{FileShelf, StdSink};
+use psy_last::LastLine;
+use psy_serve::serve;
+use psy_view::psyview;
 use std::alloc::Global;
 use std::process::ExitCode;
 use std::rt::Env;
@@ -28,6 +30,28 @@ fn unread(alloc: Global) -> Result<Vec<String>, Memory> {
     Ok(words)
 }
 
+// The words ask for what psyc does, explained.
+fn is_served(words: &[String]) -> bool {
+    match words {
+        [command, ..] => matches!(command.as_str(), "run" | "check"),
+        [] => false,
+    }
+}
+
+// What psyc does, and behind a line with which it refuses the explanation.
+fn served(rt: &HostRuntime, words: &[String]) -> u8 {
+    let mut shelf = FileShelf::new(rt);
+    let mut out = LastLine::new(StdSink::new(rt.stdout()));
+    serve(rt.alloc(), words, &mut shelf, &mut out)
+}
+
+// A view of a text.
+fn viewed(rt: &HostRuntime, words: &[String]) -> u8 {
+    let mut shelf = FileShelf::new(rt);
+    let mut out = StdSink::new(rt.stdout());
+    psyview(rt.alloc(), words, &mut shelf, &mut out)
+}
+
 fn main(rt: HostRuntime) -> ExitCode {
     let words = match words(&rt) {
         Ok(words) => words,
@@ -37,8 +61,9 @@ fn main(rt: HostRuntime) -> ExitCode {
             Err(Memory) => return ExitCode::from(8),
         },
     };
-    let mut texts = FileTexts::new(&rt);
-    let mut out = StdSink::new(rt.stdout());
-    let status = psyview(rt.alloc(), words.as_slice(), &mut texts, &mut out);
-    ExitCode::from(status)
+    ExitCode::from(if is_served(words.as_slice()) {
+        served(&rt, words.as_slice())
+    } else {
+        viewed(&rt, words.as_slice())
+    })
 }

@@ -3,8 +3,8 @@
 
 use psy_base::Memory;
 use psy_cases::{Answer, Asked, Command, run_list};
-use psy_door::{FileShelf, SinkVec, StdSink};
-use psy_view::{TextsMap, psyview};
+use psy_door::{FileShelf, ShelfMap, SinkVec, StdSink};
+use psy_view::psyview;
 use std::alloc::Global;
 use std::env;
 use std::process::ExitCode;
@@ -16,9 +16,9 @@ struct Psyview;
 
 impl Command for Psyview {
     fn answer(&mut self, alloc: Global, asked: Asked<'_>) -> Result<Answer, Memory> {
-        let mut texts = TextsMap::new(asked.files);
+        let mut shelf = ShelfMap::new(asked.files, asked.unread);
         let mut out = SinkVec::new(alloc, asked.room, asked.most.max(1), asked.fails)?;
-        let status = psyview(alloc, asked.words, &mut texts, &mut out);
+        let status = psyview(alloc, asked.words, &mut shelf, &mut out);
         Ok(Answer {
             status,
             text: Vec::from_slice(alloc, out.bytes())?,

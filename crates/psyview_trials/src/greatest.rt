@@ -1,5 +1,6 @@
 //! The greatest run that a picture is drawn of.
-use psy_draw::timeline;
+use psy_base::limits;
+use psy_draw::{Window, timeline};
 use psy_log::Note;
 use std::alloc::{AllocError, Global};
 use std::process::Abort;
@@ -8,7 +9,7 @@ use std::test::Fail;
 
 // Draws these notes, and looks for these pieces in the picture.
 fn look<R: AllocGlobal + Abort>(rt: &R, notes: &[Note], pieces: &[&str]) -> Result<(), Fail> {
-    let svg = timeline(rt.alloc(), notes)?;
+    let svg = timeline(rt.alloc(), "greatest", notes, Window::WHOLE, &[])?;
     let text = str::from_utf8(svg.as_slice()).unwrap_or("");
     for piece in pieces {
         assert!(rt; text.contains(*piece), "{piece}");
@@ -38,9 +39,13 @@ fn the_greatest_run_is_drawn(rt: HostRuntime) -> Result<(), Fail> {
     for agent in agents.as_slice() {
         notes.push(Note::StopOverrun { date: 0, agent })?;
     }
-    for turn in 0..250u32 {
-        let date = u64::from(turn) * 4_000;
-        let value = if turn % 2 == 0 { i32::MIN } else { i32::MAX };
+    for turn in 0..100u8 {
+        let date = u64::from(limits::UNTIL) / 100 * u64::from(turn);
+        let value = if turn % 2 == 0 {
+            i32::MIN + i32::from(turn)
+        } else {
+            i32::MAX - i32::from(turn)
+        };
         for variable in variables.as_slice() {
             notes.push(Note::Value {
                 date,
@@ -56,7 +61,9 @@ fn the_greatest_run_is_drawn(rt: HostRuntime) -> Result<(), Fail> {
             })?;
         }
     }
-    notes.push(Note::End { until: 1_000_000 })?;
+    notes.push(Note::End {
+        until: u64::from(limits::UNTIL),
+    })?;
     for agent in agents.as_slice() {
         notes.push(Note::AgentEnd {
             agent,

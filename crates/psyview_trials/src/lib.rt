@@ -2,6 +2,6 @@
 #![tactic(auto)]
 
 #[cfg(test)]
-mod files;
-#[cfg(test)]
 mod greatest;
+#[cfg(test)]
+mod windows;

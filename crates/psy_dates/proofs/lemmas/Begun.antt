@@ -8,7 +8,7 @@ use Rattle.psy_history.specs.History.{history}
 use Rattle.psy_history.specs.Openings.{IsSound}
 use Rattle.psy_history.specs.Regular.{first_number, number_of}
 use Rattle.psy_history.specs.Schedule.{Turn}
-use Rattle.psy_history.specs.Ways.{Ways}
+use Rattle.psy_meaning.specs.KnownWays.{Ways}
 use Rattle.psy_dates.specs.declared.seat.Phase.TheVariants as phase
 use Rattle.psy_dates.specs.declared.seat.Seat.{Seat}
 use Rattle.psy_dates.specs.Moves.{IsNumbered, ends_by}

@@ -11,7 +11,7 @@ ghost use Rattle.psy_dates.specs.Standing.{dates_done};
 ghost use Rattle.psy_history.specs.Compiled.{AreInputs};
 ghost use Rattle.psy_history.specs.Openings.{IsSound};
 ghost use Rattle.psy_history.specs.Regular.{IsLawful};
-ghost use Rattle.psy_history.specs.Ways.{OfText};
+ghost use Rattle.psy_meaning.specs.KnownWays.{OfText};
 ghost use Rattle.psy_history.specs.Actions.{Action, History, Opening, System};
 ghost use Rattle.psy_tree.specs.Parts.{agent_at};
 ghost use Rattle.psy_history.specs.History.{history};
@@ -285,6 +285,7 @@ impl Kernel {
                     &mut self.shared.outboxes[number],
                     &mut self.reaches,
                 );
+                self.shared.movers.tell(self.shared.seats[number]);
                 let next = cycle + lasted.cycles;
                 let passed = passed_by(orders, self.passed, next);
                 self.stale = passed > self.passed;

@@ -1,9 +1,11 @@
 //! A date of the kernel: what is shared moves on, and actions start.
-ghost use Rattle.std.specs.Prelude.{◌≡◌, ◌≢◌, ℕ, ◌*◌, ◌≤◌, true, length, None};
+ghost use Rattle.std.specs.Prelude.{◌≡◌, ◌≢◌, ℕ, ◌*◌, ◌<◌, ◌≤◌, true, length, None};
+ghost use Rattle.std.specs.List.{All};
 ghost use Rattle.psy_base.specs.declared.limits.TheConstants.{AGENTS};
 ghost use Rattle.psy_ready.specs.Choice.{pending_deadline};
 ghost use Rattle.psy_kernel.specs.Progress.{after_date, stage_of, told};
-ghost use Rattle.psy_kernel.specs.Starting.{IsDoneBelow, budget_in, charge_at, deadline_at, held_at, seat_at, starts_at};
+ghost use Rattle.psy_dates.specs.Movers.{IsDoneBelow, NamesAll};
+ghost use Rattle.psy_kernel.specs.Starting.{budget_in, charge_at, deadline_at, held_at, seat_at, starts_at};
 
 use super::Kernel;
 use crate::stage::Stage;
@@ -31,8 +33,9 @@ fn budget_in(points: &[Point], point: u32) -> u32
     }
 }
 
-/// The actions of these seats that start at the date start.
+/// The actions of these seats that start at the date start: they are of agents that moved there.
 fn start_all(
+    movers: &[u32],
     seats: &[Seat],
     agents: &[AgentDecl],
     date: u64,
@@ -43,11 +46,14 @@ fn start_all(
     requires seated { length seats.now ≡ length agents.now }
     requires charged { length charges.old.items ≡ length agents.now }
     requires waiting { length ready.old ≡ length agents.now }
+    requires known { All (λ agent. agent < length seats.now) movers.now }
+    requires movers { NamesAll (λ agent. starts_at date (seat_at seats.now agent)) (length seats.now) 0 movers.now }
     requires free { (agent : ℕ) → starts_at date (seat_at seats.now agent) ≡ true → pending_deadline ready.old agent ≡ None }
     ensures charges { IsDoneBelow (charge_at date seats.now agents.now) (length agents.now) charges.old.items charges.new.items }
     ensures ready { IsDoneBelow (deadline_at date seats.now) (length agents.now) ready.old ready.new }
 {
-    'each: for agent in 0..seats.len() {
+    'movers: for place in 0..movers.len() {
+        let agent = movers[place] as usize;
         let seat = seats[agent];
         if starts_at(&seat, date) {
             charges[agent].start(budget_in(agents[agent].points.as_slice(), seat.point));
@@ -88,6 +94,7 @@ impl Kernel {
         at_date(&mut self.shared, &self.plan, date);
         hold_all(self.shared.queues.as_slice(), &mut self.helds);
         start_all(
+            self.shared.movers.moved.agents(),
             self.shared.seats.as_slice(),
             self.plan.unit.agents.as_slice(),
             date,

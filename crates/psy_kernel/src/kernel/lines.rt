@@ -1,5 +1,6 @@
 //! The lines of the date that was done last.
-ghost use Rattle.std.specs.Prelude.{◌≡◌, ◌+◌, ◌^◌, ◌<◌, ◌≤◌, ℕ, List, Option, filter, length, nat_lt, get_or, slice_get, Some, IsNone, IsTrue, IsFalse};
+ghost use Rattle.std.specs.Prelude.{◌≡◌, ◌+◌, ◌^◌, ◌<◌, ◌≤◌, ℕ, Bool, List, Option, Some, IsNone, IsTrue, IsFalse, false, nat_lt};
+ghost use Rattle.std.specs.Prelude.{filter, length, get_or, slice_get};
 ghost use Rattle.std.specs.List.{All};
 ghost use Rattle.psy_base.specs.declared.limits.TheConstants.{WORD_BYTES};
 ghost use Rattle.psy_base.specs.declared.message.Message.{Message};
@@ -9,8 +10,10 @@ ghost use Rattle.psy_history.specs.Actions.{Opening};
 ghost use Rattle.psy_history.specs.Schedule.{Turn};
 ghost use Rattle.psy_history.specs.Compiled.{AreInputs};
 ghost use Rattle.psy_dates.specs.Calendars.{CalendarStands};
+ghost use Rattle.psy_dates.specs.Movers.{NamesAll, falls_in};
 ghost use Rattle.psy_dates.specs.Plans.{IsPlan, opened_of};
 ghost use Rattle.psy_kernel.specs.Progress.{after_line, lines_told};
+ghost use Rattle.psy_kernel.specs.Standing.{told_from};
 ghost use Rattle.psy_kernel.specs.Telling.{IsNextTold, IsShownBy, IsToldBy, StandsBehind, TellsMessage, TellsStop, TellsValue, told_by};
 ghost use Rattle.psy_tree.specs.Parts.{no_clock};
 
@@ -141,11 +144,51 @@ fn tell_place(plan: &Plan, shared: &Shared, date: u64, place: usize, line: &mut 
     )
 }
 
+/// The first agent from a place on that these name, which rise; the place behind all agents where there is none.
+fn next_mover(movers: &[u32], place: usize, agents: usize) -> usize
+    requires within { place ≤ agents }
+    requires known { All (λ agent. agent < agents) movers.now }
+    ensures within { (place ≤ result) × (result ≤ agents) }
+    ensures between { (test : ℕ → Bool) → NamesAll test agents 0 movers.now → (agent : ℕ) → place ≤ agent → agent < result → test agent ≡ false }
+{
+    'movers: for at in 0..movers.len() {
+        let agent = movers[at] as usize;
+        if agent >= place {
+            return agent;
+        }
+    }
+    agents
+}
+
+/// The first place from one on at which a line may be told: an agent that didn't move at the date tells none.
+fn may_tell(plan: &Plan, shared: &Shared, date: u64, place: usize) -> usize
+    requires plan { IsPlan plan.now }
+    requires inputs { AreInputs plan.now.unit shared.now.inputs.lists }
+    requires seated { length shared.now.seats.items ≡ length plan.now.unit.agents }
+    requires movers { NamesAll (falls_in (date + 1) shared.now.seats.items) (length plan.now.unit.agents) 0 shared.now.movers.moved.agents }
+    requires within { place ≤ length plan.now.unit.agents + length plan.now.unit.variables }
+    ensures within { (place ≤ result) × (result ≤ length plan.now.unit.agents + length plan.now.unit.variables) }
+    ensures told { (opening : Opening) (stalls : ℕ → List Stall) (turns : List (Option Turn))
+        → StandsBehind plan.now opening stalls turns date shared.now
+        → told_from (opened_of plan.now opening shared.now.inputs.lists stalls) date result 0
+        ≡ told_from (opened_of plan.now opening shared.now.inputs.lists stalls) date place 0 }
+{
+    compiled();
+    openings();
+    regular();
+    let agents = plan.unit.agents.len();
+    if place >= agents {
+        return place;
+    }
+    next_mover(shared.movers.moved.agents(), place, agents)
+}
+
 /// The first line of an agent or a variable that is told of a date from a place on, and the place behind it.
 fn tell_next(plan: &Plan, shared: &Shared, date: u64, place: usize, line: &mut Line) -> Option<Mark>
     requires plan { IsPlan plan.now }
     requires inputs { AreInputs plan.now.unit shared.now.inputs.lists }
     requires seated { length shared.now.seats.items ≡ length plan.now.unit.agents }
+    requires movers { NamesAll (falls_in (date + 1) shared.now.seats.items) (length plan.now.unit.agents) 0 shared.now.movers.moved.agents }
     requires valued { length shared.now.committed.items ≡ length plan.now.unit.variables }
     requires calendar { CalendarStands plan.now.unit.clocks (date + 1) shared.now.calendar }
     requires early { date ≤ 2 ^ 40 }
@@ -158,7 +201,7 @@ fn tell_next(plan: &Plan, shared: &Shared, date: u64, place: usize, line: &mut L
 {
     let agents = plan.unit.agents.len();
     let places = agents + plan.unit.variables.len();
-    let mut at = place;
+    let mut at = may_tell(plan, shared, date, place);
     'walking: while at < places {
         // Where no clock has the date, no variable publishes.
         if at == agents && !shared.calendar.any_had(plan.unit.clocks.as_slice(), date) {
@@ -172,6 +215,7 @@ fn tell_next(plan: &Plan, shared: &Shared, date: u64, place: usize, line: &mut L
                 shown: 0,
             });
         }
+        at = may_tell(plan, shared, date, at);
     }
     None
 }
@@ -255,6 +299,7 @@ fn tell_from(
     requires plan { IsPlan plan.now }
     requires inputs { AreInputs plan.now.unit shared.now.inputs.lists }
     requires seated { length shared.now.seats.items ≡ length plan.now.unit.agents }
+    requires movers { NamesAll (falls_in (date + 1) shared.now.seats.items) (length plan.now.unit.agents) 0 shared.now.movers.moved.agents }
     requires valued { length shared.now.committed.items ≡ length plan.now.unit.variables }
     requires calendar { CalendarStands plan.now.unit.clocks (date + 1) shared.now.calendar }
     requires queued { length shared.now.queues.items ≡ length plan.now.unit.streams }

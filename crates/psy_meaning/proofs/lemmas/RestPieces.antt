@@ -24,6 +24,10 @@ PieceHas P Hop = ⊤
 abbrev pub PiecesHave : (Stmt → Type 0) → List Piece → Type 0
 PiecesHave P pieces = Each (PieceHas P) pieces
 
+pub stmts_are : (stmts : List Stmt) → stmts_in (map with_rests stmts) ≡ stmts
+stmts_are [] = refl
+stmts_are (x ∷ xs) = ap (λ ys. x ∷ ys) (stmts_are xs)
+
 module _ (P : Stmt → Type 0) (down : (x : Stmt-F Stmt) → P (roll-Stmt x) → PartsHave P x) where
   abbrev RestsHave : Rests → Type 0
   RestsHave rests = Each (PiecesHave P) rests
@@ -48,10 +52,6 @@ module _ (P : Stmt → Type 0) (down : (x : Stmt-F Stmt) → P (roll-Stmt x) →
   -- the parts of a layer
   abbrev parts : List Known → List Part
   parts ks = map with_rests (map tree ks)
-
-  stmts_are : (stmts : List Stmt) → stmts_in (map with_rests stmts) ≡ stmts
-  stmts_are [] = refl
-  stmts_are (x ∷ xs) = ap (λ ys. x ∷ ys) (stmts_are xs)
 
   one_has : (stmt : Stmt) (rest : List Stmt) → RestsHave (rests_of stmt) → Each P rest → RestsHave (each_then (rests_of stmt) (pieces_of (stmts_in (map with_rests rest))))
   one_has stmt rest h k = each_has (rests_of stmt) (pieces_of (stmts_in (map with_rests rest))) h (subst (λ ss. PiecesHave P (pieces_of ss)) (sym (stmts_are rest)) (pieces_have rest k))

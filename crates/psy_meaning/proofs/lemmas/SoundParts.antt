@@ -31,8 +31,8 @@ stmts_natural sc X v f (Stmt-F.If test branch None) = ap (λ t. IsSoundExpr sc t
 stmts_natural sc X v f (Stmt-F.If test branch (Some other)) =
     ap (λ t. IsSoundExpr sc test × t × Each (λ x. f (v x)) other) (each-map v f branch) ∙ ap (λ t. IsSoundExpr sc test × Each f (map v branch) × t) (each-map v f other)
 stmts_natural sc X v f (Stmt-F.Bounded test most body) =
-    ap (λ l. IsSoundExpr sc test × (most ≤ 65536) × Each (λ x. f (v x)) body × (holds_advance l ≡ false)) (sym (map-id (map v body)))
-    ∙ ap (λ t. IsSoundExpr sc test × (most ≤ 65536) × t × (holds_advance (map (λ y. y) (map v body)) ≡ false)) (each-map v f body)
+    ap (λ l. IsSoundExpr sc test × ((1 ≤ most) × (most ≤ 65536)) × Each (λ x. f (v x)) body × (holds_advance l ≡ false)) (sym (map-id (map v body)))
+    ∙ ap (λ t. IsSoundExpr sc test × ((1 ≤ most) × (most ≤ 65536)) × t × (holds_advance (map (λ y. y) (map v body)) ≡ false)) (each-map v f body)
 stmts_natural sc X v f (Stmt-F.Timed test body) =
     ap (λ l. IsSoundExpr sc test × (quiet_list l ≡ false) × Each (λ x. f (v x)) body) (sym (map-id (map v body)))
     ∙ ap (λ t. IsSoundExpr sc test × (quiet_list (map (λ y. y) (map v body)) ≡ false) × t) (each-map v f body)

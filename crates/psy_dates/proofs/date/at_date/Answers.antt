@@ -1,27 +1,30 @@
 -- What is left of the proof of `date::at_date`.
-use Rattle.std.proofs.Common.{◌≡◌, ℕ, ◌<◌, ◌≤◌, ◌+◌, ◌*◌, ◌^◌, List, [], All, Some, length, get_or, refl, sym, ap, subst, ◌∙◌, arith}
+use Rattle.std.proofs.Common.{◌≡◌, ℕ, ◌≤◌, ◌+◌, ◌*◌, ◌^◌, false, List, [], All, Some, length, get_or, refl, sym, ap, subst, ◌∙◌, arith}
 use Rattle.std.specs.Prelude.{slice_get, if◌then◌else◌, ℤ, pos}
 use Rattle.std.specs.Vec.{with_items}
 use Rattle.std.proofs.lemmas.List.{with_items_is}
 use Rattle.std.proofs.lemmas.Option.{slice_get-get_or}
 use Rattle.psy_queue.specs.Order.{Queued}
-use Rattle.psy_tree.specs.declared.unit.VarDecl.{VarDecl}
 use Rattle.psy_meaning.specs.Kept.{IsSentOf}
 use Rattle.psy_tree.specs.Parts.{stream_at}
 use Rattle.psy_meaning.specs.Timing.{first_date}
 use Rattle.psy_history.specs.Scheduled.{turns_of}
-use Rattle.psy_history.specs.Ways.{OfText}
+use Rattle.psy_meaning.specs.KnownWays.{OfText}
 use Rattle.psy_clock.specs.Dates.{IsClock}
 use Rattle.psy_dates.specs.Calendars.{AreNext, CalendarStands}
+use Rattle.psy_dates.specs.declared.plan.Plan.{Plan}
 use Rattle.psy_dates.specs.declared.seat.Seat.{Seat}
 use Rattle.psy_dates.specs.declared.shared.Shared.{Shared}
 use Rattle.psy_dates.specs.Messages.{HaveRoom, nowhere, sends_of, sent_from, settled_then, with_entered}
+use Rattle.psy_dates.specs.Movers.{IsBefore, NamesAll, ends_in, first_in, moves_in}
 use Rattle.psy_dates.specs.Moves.{IsNumbered, commits_at, ends_at, owner_of, timing_in}
 use Rattle.psy_dates.specs.Outboxes.{Outboxed}
 use Rattle.psy_dates.specs.Plans.{opened_of, system_of}
 use Rattle.psy_dates.specs.Publications.{ring_then}
 use Rattle.psy_dates.proofs.lemmas.Begun.{are_begun}
-use Rattle.psy_dates.proofs.Dates.{Moved, seat_numbered, shared_moves}
+use Rattle.psy_dates.proofs.lemmas.Moving.{names_ends}
+use Rattle.psy_dates.proofs.lemmas.Names.{names_as, names_within}
+use Rattle.psy_dates.proofs.Dates.{Moved, seat_numbered, shared_moves, starts_known}
 use Rattle.psy_dates.proofs.StreamLaws.{stream_laws}
 use Rattle.psy_dates.proofs.StreamsThen.{box_begun, box_goes, has_room, holds_taken, sends_of_unit, take_begun, take_goes}
 use Rattle.psy_dates.proofs.date.at_date.Goals as goal
@@ -52,10 +55,10 @@ settle_all-requires-clause-held c stream queue at ends =
     let run = c.openings.ensures.run (system_of plan inputs stalls) opening (OfText plan.unit) plan.code whole sound in
     let lawful = c.regular.ensures.lawful s (OfText plan.unit) plan.code run in
     let begun = are_begun s (OfText plan.unit) plan.code c.args.date sound behind (c.openings.ensures.none s (OfText plan.unit) plan.code run) (c.openings.ensures.silent s (OfText plan.unit) plan.code run) (c.openings.ensures.waits s (OfText plan.unit) plan.code run) in
-    let laws = stream_laws plan opening inputs stalls run c.compiled.ensures.queue c.regular.ensures.sends c.queues.ensures.next c.queues.ensures.look c.queue_sizes.ensures.held in
-    subst (λ xs. get_or xs stream 0 ≤ length queue.messages) (sym c.deref-4.ensures.value)
+    let laws = stream_laws plan opening inputs stalls run c.regular.ensures.sends c.queues.ensures.next c.queues.ensures.look c.queue_sizes.ensures.held in
+    subst (λ xs. get_or xs stream 0 ≤ length queue.messages) (sym c.deref-5.ensures.value)
     (holds_taken plan opening inputs stalls c.requires.plan.compiled.text.bare lawful laws c.args.date begun (turns_of s order (c.args.date * plan.unit.quantum)) old c.requires.due stands stream queue
-    (ap (λ xs. slice_get xs stream) (sym c.deref_mut-2.ensures.value) ∙ at) (ap (λ xs. ends_at c.args.date (slice_get xs (stream_at plan.unit stream).receiver)) (sym c.deref-3.ensures.value) ∙ ends))
+    (ap (λ xs. slice_get xs stream) (sym c.deref_mut-2.ensures.value) ∙ at) (ap (λ xs. ends_at c.args.date (slice_get xs (stream_at plan.unit stream).receiver)) (sym c.deref-4.ensures.value) ∙ ends))
 
 pub enter_all-requires-clause-sent : goal.enter_all-requires-clause-sent
 enter_all-requires-clause-sent c agent ends =
@@ -68,10 +71,10 @@ enter_all-requires-clause-sent c agent ends =
     let run = c.openings.ensures.run (system_of plan inputs stalls) opening (OfText plan.unit) plan.code whole sound in
     let lawful = c.regular.ensures.lawful s (OfText plan.unit) plan.code run in
     let begun = are_begun s (OfText plan.unit) plan.code c.args.date sound behind (c.openings.ensures.none s (OfText plan.unit) plan.code run) (c.openings.ensures.silent s (OfText plan.unit) plan.code run) (c.openings.ensures.waits s (OfText plan.unit) plan.code run) in
-    let laws = stream_laws plan opening inputs stalls run c.compiled.ensures.queue c.regular.ensures.sends c.queues.ensures.next c.queues.ensures.look c.queue_sizes.ensures.held in
-    subst (λ xs. All (IsSentOf plan.unit) (sends_of xs agent)) (sym c.deref-6.ensures.value)
+    let laws = stream_laws plan opening inputs stalls run c.regular.ensures.sends c.queues.ensures.next c.queues.ensures.look c.queue_sizes.ensures.held in
+    subst (λ xs. All (IsSentOf plan.unit) (sends_of xs agent)) (sym c.deref-7.ensures.value)
     (sends_of_unit plan opening inputs stalls c.requires.plan.compiled.text.bare lawful laws c.args.date begun (turns_of s order (c.args.date * plan.unit.quantum)) old c.requires.due stands agent
-    (ap (λ xs. ends_at c.args.date (slice_get xs agent)) (sym c.deref-5.ensures.value) ∙ ends))
+    (ap (λ xs. ends_at c.args.date (slice_get xs agent)) (sym c.deref-6.ensures.value) ∙ ends))
 
 pub enter_all-requires-clause-room : goal.enter_all-requires-clause-room
 enter_all-requires-clause-room c =
@@ -85,34 +88,75 @@ enter_all-requires-clause-room c =
     let run = c.openings.ensures.run (system_of plan inputs stalls) opening (OfText plan.unit) plan.code whole sound in
     let lawful = c.regular.ensures.lawful s (OfText plan.unit) plan.code run in
     let begun = are_begun s (OfText plan.unit) plan.code c.args.date sound behind (c.openings.ensures.none s (OfText plan.unit) plan.code run) (c.openings.ensures.silent s (OfText plan.unit) plan.code run) (c.openings.ensures.waits s (OfText plan.unit) plan.code run) in
-    let laws = stream_laws plan opening inputs stalls run c.compiled.ensures.queue c.regular.ensures.sends c.queues.ensures.next c.queues.ensures.look c.queue_sizes.ensures.held in
+    let laws = stream_laws plan opening inputs stalls run c.regular.ensures.sends c.queues.ensures.next c.queues.ensures.look c.queue_sizes.ensures.held in
     let now : (with_items old.queues c.settle_all.new.queues).items ≡ c.settle_all.new.queues = with_items_is old.queues c.settle_all.new.queues (c.settle_all.auto.queues ∙ c.deref_mut-2.ensures.len) in
     let sent : List Seat → List Outboxed → ℕ → _ = λ seats outboxes. sent_from (system_of plan [] (λ agent. [])) date seats outboxes 0 (length plan.unit.agents) in
-    subst (HaveRoom (sent c.deref-5.result.now c.deref-6.result.now)) (sym (c.deref_mut-3.ensures.value ∙ now))
-    (subst (λ seats. HaveRoom (sent seats c.deref-6.result.now) c.settle_all.new.queues) (sym c.deref-5.ensures.value)
-    (subst (λ outboxes. HaveRoom (sent old.seats.items outboxes) c.settle_all.new.queues) (sym c.deref-6.ensures.value)
+    subst (HaveRoom (sent c.deref-6.result.now c.deref-7.result.now)) (sym (c.deref_mut-3.ensures.value ∙ now))
+    (subst (λ seats. HaveRoom (sent seats c.deref-7.result.now) c.settle_all.new.queues) (sym c.deref-6.ensures.value)
+    (subst (λ outboxes. HaveRoom (sent old.seats.items outboxes) c.settle_all.new.queues) (sym c.deref-7.ensures.value)
     (has_room plan opening inputs stalls c.requires.plan.compiled.text.bare lawful laws date begun (turns_of s order (date * plan.unit.quantum)) old c.requires.due stands c.settle_all.new.queues (c.settle_all.auto.queues ∙ ap length c.deref_mut-2.ensures.value)
     (λ stream queue at. c.settle_all.ensures stream queue (ap (λ xs. slice_get xs stream) c.deref_mut-2.ensures.value ∙ at)
-    ∙ ap (λ xs. Some (settled_then date (first_date (timing_in plan (stream_at plan.unit stream).receiver)) (get_or xs (stream_at plan.unit stream).receiver nowhere) (get_or c.deref-4.result.now stream 0) queue)) c.deref-3.ensures.value
-    ∙ ap (λ xs. Some (settled_then date (first_date (timing_in plan (stream_at plan.unit stream).receiver)) (get_or old.seats.items (stream_at plan.unit stream).receiver nowhere) (get_or xs stream 0) queue)) c.deref-4.ensures.value))))
+    ∙ ap (λ xs. Some (settled_then date (first_date (timing_in plan (stream_at plan.unit stream).receiver)) (get_or xs (stream_at plan.unit stream).receiver nowhere) (get_or c.deref-5.result.now stream 0) queue)) c.deref-4.ensures.value
+    ∙ ap (λ xs. Some (settled_then date (first_date (timing_in plan (stream_at plan.unit stream).receiver)) (get_or old.seats.items (stream_at plan.unit stream).receiver nowhere) (get_or xs stream 0) queue)) c.deref-5.ensures.value))))
 
 pub publish_all-requires-clause-calendar : goal.publish_all-requires-clause-calendar
 publish_all-requires-clause-calendar c = (c.requires.stands.5).calendar
 
 pub pass-requires-clause-clocks : goal.pass-requires-clause-clocks
-pass-requires-clause-clocks c = subst (All IsClock) (sym c.as_slice-2.ensures) c.requires.plan.compiled.text.bare.clocks
+pass-requires-clause-clocks c = subst (All IsClock) (sym c.as_slice.ensures) c.requires.plan.compiled.text.bare.clocks
 
 pub pass-requires-clause-count : goal.pass-requires-clause-count
-pass-requires-clause-count c = (c.requires.stands.5).calendar.count ∙ ap length (sym c.as_slice-2.ensures)
+pass-requires-clause-count c = (c.requires.stands.5).calendar.count ∙ ap length (sym c.as_slice.ensures)
 
 pub pass-requires-clause-nexts : goal.pass-requires-clause-nexts
-pass-requires-clause-nexts c = subst (λ clocks. AreNext clocks c.args.date c.args.shared.now.calendar) (sym c.as_slice-2.ensures) (c.requires.stands.5).calendar.nexts
+pass-requires-clause-nexts c = subst (λ clocks. AreNext clocks c.args.date c.args.shared.now.calendar) (sym c.as_slice.ensures) (c.requires.stands.5).calendar.nexts
 
 pub move_all-requires-clause-calendar : goal.move_all-requires-clause-calendar
 move_all-requires-clause-calendar c = record {
   count = c.pass.ensures.count ∙ (c.requires.stands.5).calendar.count;
-  nexts = subst (λ clocks. AreNext clocks (c.args.date + 1) c.pass.new.self) c.as_slice-2.ensures c.pass.ensures.nexts;
+  nexts = subst (λ clocks. AreNext clocks (c.args.date + 1) c.pass.new.self) c.as_slice.ensures c.pass.ensures.nexts;
 }
+
+-- Those that move end an action, as far as one does.
+ends_known : (plan : Plan) (date : ℕ) (seats found : List Seat) (names told : List ℕ) (end : ℕ) → found ≡ seats → told ≡ names → end ≡ length seats → NamesAll (moves_in plan date seats) (length seats) 0 names → NamesAll (ends_in date found) end 0 told
+ends_known plan date seats found names told end same are ends all = names_as (ends_in date) seats found (length seats) end names told same ends are (names_ends plan date seats (length seats) 0 names all)
+
+pub commit_all-requires-clause-movers : goal.commit_all-requires-clause-movers
+commit_all-requires-clause-movers c =
+    ends_known c.args.plan.now c.args.date c.deref.result.now c.deref-2.result.now c.find.new.self.moved.agents c.agents-movers.result.now (length c.args.plan.now.unit.agents) (c.deref-2.ensures.value ∙ sym c.deref.ensures.value) c.agents-movers.ensures (sym (ap length c.deref.ensures.value ∙ (c.requires.stands.5).seated)) c.find.ensures.names
+
+pub commit_all-requires-clause-known : goal.commit_all-requires-clause-known
+commit_all-requires-clause-known c =
+    let end = length c.args.plan.now.unit.agents in
+    let all = ends_known c.args.plan.now c.args.date c.deref.result.now c.deref-2.result.now c.find.new.self.moved.agents c.agents-movers.result.now end (c.deref-2.ensures.value ∙ sym c.deref.ensures.value) c.agents-movers.ensures (sym (ap length c.deref.ensures.value ∙ (c.requires.stands.5).seated)) c.find.ensures.names in
+    names_within (ends_in c.args.date c.deref-2.result.now) end 0 c.agents-movers.result.now all
+
+pub enter_all-requires-clause-movers : goal.enter_all-requires-clause-movers
+enter_all-requires-clause-movers c =
+    ends_known c.args.plan.now c.args.date c.deref.result.now c.deref-6.result.now c.find.new.self.moved.agents c.agents-movers.result.now (length c.args.plan.now.unit.agents) (c.deref-6.ensures.value ∙ sym c.deref.ensures.value) c.agents-movers.ensures (sym (ap length c.deref.ensures.value ∙ (c.requires.stands.5).seated)) c.find.ensures.names
+
+pub enter_all-requires-clause-known : goal.enter_all-requires-clause-known
+enter_all-requires-clause-known c =
+    let all = ends_known c.args.plan.now c.args.date c.deref.result.now c.deref-6.result.now c.find.new.self.moved.agents c.agents-movers.result.now (length c.deref-7.result.now) (c.deref-6.ensures.value ∙ sym c.deref.ensures.value) c.agents-movers.ensures (ap length c.deref-7.ensures.value ∙ (c.requires.stands.5).boxed ∙ sym (ap length c.deref.ensures.value ∙ (c.requires.stands.5).seated)) c.find.ensures.names in
+    names_within (ends_in c.args.date c.deref-6.result.now) (length c.deref-7.result.now) 0 c.agents-movers.result.now all
+
+pub clear_outboxes-requires-clause-movers : goal.clear_outboxes-requires-clause-movers
+clear_outboxes-requires-clause-movers c =
+    ends_known c.args.plan.now c.args.date c.deref.result.now c.deref-9.result.now c.find.new.self.moved.agents c.agents-movers.result.now (length c.deref_mut-5.result.now) (c.deref-9.ensures.value ∙ sym c.deref.ensures.value) c.agents-movers.ensures (ap length c.deref_mut-5.ensures.value ∙ (c.requires.stands.5).boxed ∙ sym (ap length c.deref.ensures.value ∙ (c.requires.stands.5).seated)) c.find.ensures.names
+
+pub clear_outboxes-requires-clause-known : goal.clear_outboxes-requires-clause-known
+clear_outboxes-requires-clause-known c =
+    let all = ends_known c.args.plan.now c.args.date c.deref.result.now c.deref-9.result.now c.find.new.self.moved.agents c.agents-movers.result.now (length c.deref_mut-5.result.now) (c.deref-9.ensures.value ∙ sym c.deref.ensures.value) c.agents-movers.ensures (ap length c.deref_mut-5.ensures.value ∙ (c.requires.stands.5).boxed ∙ sym (ap length c.deref.ensures.value ∙ (c.requires.stands.5).seated)) c.find.ensures.names in
+    names_within (ends_in c.args.date c.deref-9.result.now) (length c.deref_mut-5.result.now) 0 c.agents-movers.result.now all
+
+pub clear_takes-requires-clause-movers : goal.clear_takes-requires-clause-movers
+clear_takes-requires-clause-movers c =
+    ends_known c.args.plan.now c.args.date c.deref.result.now c.deref-10.result.now c.find.new.self.moved.agents c.agents-movers.result.now (length c.deref-10.result.now) (c.deref-10.ensures.value ∙ sym c.deref.ensures.value) c.agents-movers.ensures (ap length (c.deref-10.ensures.value ∙ sym c.deref.ensures.value)) c.find.ensures.names
+
+pub move_all-requires-clause-known : goal.move_all-requires-clause-known
+move_all-requires-clause-known c =
+    let all = names_as (moves_in c.args.plan.now c.args.date) c.deref.result.now c.deref_mut-7.result.now (length c.deref.result.now) (length c.deref_mut-7.result.now) c.find.new.self.moved.agents c.agents-movers.result.now (c.deref_mut-7.ensures.value ∙ sym c.deref.ensures.value) (ap length (c.deref_mut-7.ensures.value ∙ sym c.deref.ensures.value)) c.agents-movers.ensures c.find.ensures.names in
+    names_within (moves_in c.args.plan.now c.args.date c.deref_mut-7.result.now) (length c.deref_mut-7.result.now) 0 c.agents-movers.result.now all
 
 -- What is shared behind the date
 abbrev new_of : goal.After-shared-8-1 → Shared
@@ -124,6 +168,7 @@ new_of c = record c.args.shared.now {
   committed = with_items c.args.shared.now.committed c.commit_all.new.committed;
   seats = with_items c.args.shared.now.seats c.move_all.new.seats;
   calendar = c.pass.new.self;
+  movers = c.find.new.self;
   date = Some c.args.date;
 }
 
@@ -156,41 +201,44 @@ moved_by c =
       valued = ap length committed ∙ c.commit_all.auto.committed ∙ ap length c.deref_mut.ensures.value;
       committed = λ variable l.
           ap (λ xs. get_or xs variable (pos 0)) committed
-          ∙ c.commit_all.ensures variable (subst (λ xs. variable < length xs) (sym c.as_slice.ensures) l)
-          ∙ ap (λ xs. told xs c.as_slice.result.now c.deref-2.result.now c.deref_mut.result.now variable) c.deref.ensures.value
-          ∙ ap (λ xs. told old.seats.items xs c.deref-2.result.now c.deref_mut.result.now variable) c.as_slice.ensures
-          ∙ ap (λ xs. told old.seats.items plan.unit.variables xs c.deref_mut.result.now variable) c.deref-2.ensures.value
-          ∙ ap (λ xs. told old.seats.items plan.unit.variables old.ended.items xs variable) c.deref_mut.ensures.value;
+          ∙ c.commit_all.ensures variable l
+          ∙ ap (λ xs. told xs c.deref-3.result.now c.deref_mut.result.now variable) c.deref-2.ensures.value
+          ∙ ap (λ xs. told old.seats.items xs c.deref_mut.result.now variable) c.deref-3.ensures.value
+          ∙ ap (λ xs. told old.seats.items old.ended.items xs variable) c.deref_mut.ensures.value;
       ended = refl;
       ringed = ap length rings ∙ c.publish_all.auto.rings ∙ ap length c.deref_mut-4.ensures.value;
-      rings = λ variable ring is. ap (λ xs. slice_get xs variable) rings ∙ c.publish_all.ensures variable ring (ap (λ xs. slice_get xs variable) c.deref_mut-4.ensures.value ∙ is) ∙ ap (λ xs. Some (ring_then (system_of plan inputs (λ agent. [])) xs date variable ring)) c.deref-7.ensures.value;
+      rings = λ variable ring is. ap (λ xs. slice_get xs variable) rings ∙ c.publish_all.ensures variable ring (ap (λ xs. slice_get xs variable) c.deref_mut-4.ensures.value ∙ is) ∙ ap (λ xs. Some (ring_then (system_of plan inputs (λ agent. [])) xs date variable ring)) c.deref-8.ensures.value;
       queued = ap length queues ∙ c.enter_all.auto.queues ∙ ap length (c.deref_mut-3.ensures.value ∙ settled) ∙ c.settle_all.auto.queues ∙ ap length c.deref_mut-2.ensures.value;
       queues = λ stream queue is.
           ap (λ xs. slice_get xs stream) queues
           ∙ c.enter_all.ensures stream (settles old.seats.items old.taken.items stream queue) (ap (λ xs. slice_get xs stream) (c.deref_mut-3.ensures.value ∙ settled)
           ∙ c.settle_all.ensures stream queue (ap (λ xs. slice_get xs stream) c.deref_mut-2.ensures.value ∙ is)
-          ∙ ap (λ xs. Some (settles xs c.deref-4.result.now stream queue)) c.deref-3.ensures.value
-          ∙ ap (λ xs. Some (settles old.seats.items xs stream queue)) c.deref-4.ensures.value)
-          ∙ ap (λ xs. Some (with_entered (sent_from (system_of plan [] (λ agent. [])) date xs c.deref-6.result.now 0 (length plan.unit.agents) stream) (settles old.seats.items old.taken.items stream queue))) c.deref-5.ensures.value
-          ∙ ap (λ xs. Some (with_entered (sent_from (system_of plan [] (λ agent. [])) date old.seats.items xs 0 (length plan.unit.agents) stream) (settles old.seats.items old.taken.items stream queue))) c.deref-6.ensures.value;
+          ∙ ap (λ xs. Some (settles xs c.deref-5.result.now stream queue)) c.deref-4.ensures.value
+          ∙ ap (λ xs. Some (settles old.seats.items xs stream queue)) c.deref-5.ensures.value)
+          ∙ ap (λ xs. Some (with_entered (sent_from (system_of plan [] (λ agent. [])) date xs c.deref-7.result.now 0 (length plan.unit.agents) stream) (settles old.seats.items old.taken.items stream queue))) c.deref-6.ensures.value
+          ∙ ap (λ xs. Some (with_entered (sent_from (system_of plan [] (λ agent. [])) date old.seats.items xs 0 (length plan.unit.agents) stream) (settles old.seats.items old.taken.items stream queue))) c.deref-7.ensures.value;
       boxed = ap length boxes ∙ c.clear_outboxes.auto.outboxes ∙ ap length c.deref_mut-5.ensures.value;
       outboxes = λ agent outbox is.
           ap (λ xs. slice_get xs agent) boxes
           ∙ c.clear_outboxes.ensures agent outbox (ap (λ xs. slice_get xs agent) c.deref_mut-5.ensures.value ∙ is)
-          ∙ ap (λ xs. Some (if ends_at date (slice_get xs agent) then record outbox { sends = [] } else outbox)) c.deref-8.ensures.value;
+          ∙ ap (λ xs. Some (if ends_at date (slice_get xs agent) then record outbox { sends = [] } else outbox)) c.deref-9.ensures.value;
       calendar = record {
         count = c.pass.ensures.count ∙ calendar.count;
-        nexts = subst (λ clocks. AreNext clocks (date + 1) c.pass.new.self) c.as_slice-2.ensures c.pass.ensures.nexts;
+        nexts = subst (λ clocks. AreNext clocks (date + 1) c.pass.new.self) c.as_slice.ensures c.pass.ensures.nexts;
       };
+      room = c.find.ensures.size;
+      stopped = c.find.ensures.stopped;
+      names = names_as (moves_in plan date) c.deref.result.now old.seats.items (length c.deref.result.now) (length old.seats.items) c.find.new.self.moved.agents c.find.new.self.moved.agents (sym c.deref.ensures.value) (ap length (sym c.deref.ensures.value)) refl c.find.ensures.names;
+      others = subst (λ seats. (agent : ℕ) (seat : Seat) → slice_get seats agent ≡ Some seat → moves_in plan date seats agent ≡ false → IsBefore c.find.new.self.least (first_in plan agent) seat seat.phase) c.deref.ensures.value c.find.ensures.others;
       taking = ap length takes ∙ c.clear_takes.auto.taken ∙ ap length c.deref_mut-6.ensures.value;
       taken = λ stream n is.
           ap (λ xs. slice_get xs stream) takes
           ∙ c.clear_takes.ensures stream n (ap (λ xs. slice_get xs stream) c.deref_mut-6.ensures.value ∙ is)
-          ∙ ap (λ xs. Some (if ends_at date (slice_get xs (stream_at plan.unit stream).receiver) then 0 else n)) c.deref-9.ensures.value;
+          ∙ ap (λ xs. Some (if ends_at date (slice_get xs (stream_at plan.unit stream).receiver) then 0 else n)) c.deref-10.ensures.value;
     }
   where
-    told : List Seat → List VarDecl → List ℤ → List ℤ → ℕ → ℤ
-    told seats variables ended committed variable = if commits_at c.args.date seats (owner_of variables variable) then get_or ended variable (pos 0) else get_or committed variable (pos 0)
+    told : List Seat → List ℤ → List ℤ → ℕ → ℤ
+    told seats ended committed variable = if commits_at c.args.date seats (owner_of c.args.plan.now.unit.variables variable) then get_or ended variable (pos 0) else get_or committed variable (pos 0)
 
     settles : List Seat → List ℕ → ℕ → Queued → Queued
     settles seats taken stream queue =
@@ -208,7 +256,7 @@ returns-clause-stands c opening stalls order sound behind stands =
     let run = c.openings.ensures.run (system_of plan inputs stalls) opening (OfText plan.unit) plan.code whole sound in
     let lawful = c.regular.ensures.lawful s (OfText plan.unit) plan.code run in
     let begun = are_begun s (OfText plan.unit) plan.code c.args.date sound behind (c.openings.ensures.none s (OfText plan.unit) plan.code run) (c.openings.ensures.silent s (OfText plan.unit) plan.code run) (c.openings.ensures.waits s (OfText plan.unit) plan.code run) in
-    let laws = stream_laws plan opening inputs stalls run c.compiled.ensures.queue c.regular.ensures.sends c.queues.ensures.next c.queues.ensures.look c.queue_sizes.ensures.held in
+    let laws = stream_laws plan opening inputs stalls run c.regular.ensures.sends c.queues.ensures.next c.queues.ensures.look c.queue_sizes.ensures.held in
     let cycles = date * plan.unit.quantum in
     let upto : cycles ≤ date * plan.unit.quantum = omega arith in
     shared_moves plan opening inputs stalls bare lawful laws date begun (turns_of s order cycles) (λ variable clock size. c.rings.ensures.next s date variable size lawful clock) (λ agent number new. c.given.ensures.unstarted s order date cycles agent number lawful bare.quantum.0 upto new) old (new_of c) c.requires.due stands (moved_by c)
@@ -224,7 +272,7 @@ returns-clause-begun c agent begins =
     let run = c.openings.ensures.run (system_of plan inputs stalls) opening (OfText plan.unit) plan.code whole sound in
     let lawful = c.regular.ensures.lawful s (OfText plan.unit) plan.code run in
     let begun = are_begun s (OfText plan.unit) plan.code c.args.date sound behind (c.openings.ensures.none s (OfText plan.unit) plan.code run) (c.openings.ensures.silent s (OfText plan.unit) plan.code run) (c.openings.ensures.waits s (OfText plan.unit) plan.code run) in
-    let laws = stream_laws plan opening inputs stalls run c.compiled.ensures.queue c.regular.ensures.sends c.queues.ensures.next c.queues.ensures.look c.queue_sizes.ensures.held in
+    let laws = stream_laws plan opening inputs stalls run c.regular.ensures.sends c.queues.ensures.next c.queues.ensures.look c.queue_sizes.ensures.held in
     let turns = turns_of s order (c.args.date * plan.unit.quantum) in
     let moved = moved_by c in
     let new = new_of c in (
@@ -243,10 +291,28 @@ returns-clause-going c agent goes =
     let run = c.openings.ensures.run (system_of plan inputs stalls) opening (OfText plan.unit) plan.code whole sound in
     let lawful = c.regular.ensures.lawful s (OfText plan.unit) plan.code run in
     let begun = are_begun s (OfText plan.unit) plan.code c.args.date sound behind (c.openings.ensures.none s (OfText plan.unit) plan.code run) (c.openings.ensures.silent s (OfText plan.unit) plan.code run) (c.openings.ensures.waits s (OfText plan.unit) plan.code run) in
-    let laws = stream_laws plan opening inputs stalls run c.compiled.ensures.queue c.regular.ensures.sends c.queues.ensures.next c.queues.ensures.look c.queue_sizes.ensures.held in
+    let laws = stream_laws plan opening inputs stalls run c.regular.ensures.sends c.queues.ensures.next c.queues.ensures.look c.queue_sizes.ensures.held in
     let turns = turns_of s order (c.args.date * plan.unit.quantum) in
     let moved = moved_by c in
     let new = new_of c in (
       box_goes plan opening inputs stalls c.requires.plan.compiled.text.bare lawful laws c.args.date begun turns old c.requires.due stands new.seats.items moved.seated moved.seats new.outboxes.items moved.outboxes agent goes,
       take_goes plan opening inputs stalls c.requires.plan.compiled.text.bare lawful laws c.args.date begun turns old c.requires.due stands new.seats.items moved.seated moved.seats new.taken.items moved.taken agent goes,
     )
+
+pub returns-clause-moved : goal.returns-clause-moved
+returns-clause-moved c =
+    let plan = c.args.plan.now in
+    let old = c.args.shared.now in
+    let inputs = old.inputs.lists in
+    let date = c.args.date in
+    let (opening, stalls, order, sound, behind, stands) = c.requires.stands in
+    let s = opened_of plan opening inputs stalls in
+    let bare = c.requires.plan.compiled.text.bare in
+    let whole = c.compiled.ensures.run plan.unit plan.code plan.nexts stalls inputs c.requires.plan.compiled c.requires.inputs in
+    let run = c.openings.ensures.run (system_of plan inputs stalls) opening (OfText plan.unit) plan.code whole sound in
+    let lawful = c.regular.ensures.lawful s (OfText plan.unit) plan.code run in
+    let begun = are_begun s (OfText plan.unit) plan.code date sound behind (c.openings.ensures.none s (OfText plan.unit) plan.code run) (c.openings.ensures.silent s (OfText plan.unit) plan.code run) (c.openings.ensures.waits s (OfText plan.unit) plan.code run) in
+    let laws = stream_laws plan opening inputs stalls run c.regular.ensures.sends c.queues.ensures.next c.queues.ensures.look c.queue_sizes.ensures.held in
+    let cycles = date * plan.unit.quantum in
+    let upto : cycles ≤ date * plan.unit.quantum = omega arith in
+    starts_known plan opening inputs stalls bare lawful laws date begun (turns_of s order cycles) (λ variable clock size. c.rings.ensures.next s date variable size lawful clock) (λ agent number new. c.given.ensures.unstarted s order date cycles agent number lawful bare.quantum.0 upto new) old (new_of c) c.requires.due stands (moved_by c)

@@ -10,7 +10,7 @@ use Rattle.psy_history.specs.Visible.{message_of, messages_from}
 use Rattle.psy_dates.specs.Messages.{HaveRoom, with_entered}
 use Rattle.psy_dates.specs.Plans.{system_of}
 use Rattle.psy_dates.proofs.Entering.{enters_first, left_is, room_at, room_left, with_first}
-use Rattle.psy_dates.proofs.Lists.{slice_get_other, slice_get_same}
+use Rattle.psy_dates.proofs.lemmas.Sets.{get_set_other, get_set_there}
 use Rattle.psy_dates.proofs.enters.enter_sends.Goals as goal
 
 abbrev none : Sent
@@ -44,8 +44,8 @@ sends-preserved c =
     let at : slice_get c.sends.queues sent.stream ≡ Some queue = slice_get-get_or c.sends.queues sent.stream c.index-queues-sent.result within in
     let new : c.enter.new.self ≡ with_entered (m ∷ []) queue = c.enter.ensures ∙ ap (λ (m : Message). record queue { messages = put_in_order m queue.messages }) c.message_of.ensures in
     let after : List Queued = slice_set c.sends.queues sent.stream c.enter.new.self in
-    let there : slice_get after sent.stream ≡ Some (with_entered (m ∷ []) queue) = slice_get_same c.sends.queues sent.stream c.enter.new.self within ∙ ap Some new in
-    let others : (stream : ℕ) → (stream ≡ sent.stream → ⊥) → slice_get after stream ≡ slice_get c.sends.queues stream = λ stream other. slice_get_other c.sends.queues sent.stream stream c.enter.new.self other in
+    let there : slice_get after sent.stream ≡ Some (with_entered (m ∷ []) queue) = get_set_there c.sends.queues sent.stream c.enter.new.self within ∙ ap Some new in
+    let others : (stream : ℕ) → (stream ≡ sent.stream → ⊥) → slice_get after stream ≡ slice_get c.sends.queues stream = λ stream other. get_set_other c.sends.queues sent.stream stream c.enter.new.self other in
     record {
       room = room_left sent.stream m rest c.sends.queues queue at after there others (room_told s c.args.agent c.args.end sends number c.sends.queues c.sends-test.true c.sends.invariant.room);
       enters = λ last on. c.sends.invariant.enters last (λ stream held is.

@@ -1,7 +1,7 @@
 -- What is left of the proof of `delays::+stmt`.
 use Rattle.std.proofs.Common.{◌≡◌, Some, take, max, ap, sym, ◌∙◌}
 use Rattle.psy_tree.specs.declared.unit.Stmt.TheVariants as stmt
-use Rattle.psy_meaning.specs.QueueSizes.{sendings_in, sendings_of}
+use Rattle.psy_meaning.specs.Sendings.{sendings_in, sendings_of}
 use Rattle.psy_flow.specs.Listed.{delay_among}
 use Rattle.psy_flow.proofs.DelaysAmong.{branches, stmt_more}
 use Rattle.psy_flow.proofs.delays.+stmt.Goals as goal

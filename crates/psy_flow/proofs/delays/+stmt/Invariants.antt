@@ -1,6 +1,6 @@
 -- What each loop of `delays::+stmt` keeps.
 use Rattle.std.proofs.Common.{◌≡◌, take}
-use Rattle.psy_meaning.specs.QueueSizes.{sendings_in}
+use Rattle.psy_meaning.specs.Sendings.{sendings_in}
 use Rattle.psy_flow.specs.Listed.{delay_among}
 use Rattle.psy_flow.proofs.delays.+stmt.Given as goal
 

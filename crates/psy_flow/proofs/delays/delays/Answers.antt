@@ -1,6 +1,6 @@
 -- What is left of the proof of `delays::delays`.
 use Rattle.std.proofs.Common.{◌≡◌, [], ◌∷◌, length, length-append, ap, arith}
-use Rattle.psy_meaning.specs.QueueSizes.{longest_delay}
+use Rattle.psy_meaning.specs.Sendings.{longest_delay}
 use Rattle.psy_flow.proofs.WayRows.{each_after}
 use Rattle.psy_flow.proofs.delays.delays.Goals as goal
 

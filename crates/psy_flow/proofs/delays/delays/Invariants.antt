@@ -1,6 +1,6 @@
 -- What each loop of `delays::delays` keeps.
 use Rattle.std.proofs.Common.{◌≡◌, ℕ, length, slice_get, Some}
-use Rattle.psy_meaning.specs.QueueSizes.{longest_delay}
+use Rattle.psy_meaning.specs.Sendings.{longest_delay}
 use Rattle.psy_flow.proofs.delays.delays.Given as goal
 
 abbrev pub invariant-streams : goal.invariant-streams

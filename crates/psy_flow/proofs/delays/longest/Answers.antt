@@ -1,7 +1,7 @@
 -- What is left of the proof of `delays::longest`.
 use Rattle.std.proofs.Common.{◌≡◌, ◌<◌, max, get_or, length, take, sym, ap, ◌∙◌, arith}
 use Rattle.std.proofs.lemmas.List.{take_all}
-use Rattle.psy_meaning.specs.QueueSizes.{sendings_in}
+use Rattle.psy_meaning.specs.Sendings.{sendings_in}
 use Rattle.psy_flow.specs.Listed.{delay_among}
 use Rattle.psy_flow.proofs.DelaysAmong.{delay_by_all, agent_more}
 use Rattle.psy_flow.proofs.delays.longest.Goals as goal

@@ -1,6 +1,5 @@
 -- What is left of the proof of `ends::ends_among`.
-use Rattle.std.proofs.Common.{◌≡◌, ◌<◌, List, Bool, false, get_or, length, replicate, sym, ap, subst, ◌∙◌, arith}
-use Rattle.std.specs.List.{All}
+use Rattle.std.proofs.Common.{◌≡◌, List, Bool, false, get_or, replicate, sym, ap, subst, ◌∙◌, arith}
 use Rattle.std.proofs.lemmas.List.{length-replicate}
 use Rattle.std.proofs.lemmas.List.Elements.{Contains-get_or}
 use Rattle.std.proofs.lemmas.Result.{IfOk-weaker}

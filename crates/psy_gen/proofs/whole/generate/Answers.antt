@@ -2,8 +2,10 @@
 use Rattle.std.proofs.Common.{length, sym, ap, subst, arith}
 use Rattle.psy_code.specs.declared.code.Code.{Code}
 use Rattle.psy_meaning.specs.Alike.{ActsAlike}
+use Rattle.psy_meaning.specs.CodeWays.{CanWalk}
 use Rattle.psy_gen.specs.Emission.{function_code, function_size}
 use Rattle.psy_gen.specs.Rooms.{HasRooms}
+use Rattle.psy_gen.specs.SameWays.{HasSameWays}
 use Rattle.psy_gen.proofs.Rooms.{rooms_of}
 use Rattle.psy_gen.proofs.Wholes.{codes_length, function_length, code_is, code_size}
 use Rattle.psy_gen.proofs.whole.generate.Goals as goal
@@ -19,6 +21,12 @@ returns-clause-alike c =
     let unit = c.args.unit.now in
     let text = c.requires.text.text in
     subst (ActsAlike unit) (sym (returns-clause-code c)) (c.alike.ensures unit (c.sound.ensures.unit text.0 unit text.1))
+
+pub returns-clause-walk : goal.returns-clause-walk
+returns-clause-walk c = subst (CanWalk c.args.unit.now) (sym (returns-clause-code c)) (c.walked.ensures c.args.unit.now c.requires.text)
+
+pub returns-clause-ways : goal.returns-clause-ways
+returns-clause-ways c = subst (HasSameWays c.args.unit.now) (sym (returns-clause-code c)) (c.same_ways.ensures c.args.unit.now c.requires.text)
 
 pub returns-clause-rooms : goal.returns-clause-rooms
 returns-clause-rooms c = subst (HasRooms c.args.unit.now) (sym (returns-clause-code c)) (rooms_of c.args.unit.now)

@@ -2,11 +2,12 @@
 use Rattle.std.proofs.Common.{refl, sym, subst, slice_index_or}
 use Rattle.std.proofs.lemmas.Option.{slice_get-get_or}
 use Rattle.psy_meaning.specs.Timing.{timing_of}
+use Rattle.psy_graph.proofs.ByNexts.{by_nexts, of_text}
 use Rattle.psy_graph.proofs.Causes.{there, same_graphs, graphs_apart, same_cause, graphs_or_cause}
 use Rattle.psy_graph.specs.Graphs.{IsTimed}
 use Rattle.psy_graph.proofs.EdgesKept.{edges_kept}
 use Rattle.psy_graph.proofs.NearGraphs.{graph_near}
-use Rattle.psy_graph.proofs.Timed.{timed}
+use Rattle.psy_graph.proofs.Timed.{timed, timed_for}
 use Rattle.psy_graph.proofs.lemmas.Unique.{drawn_spots, drawn_edges, same_timing}
 use Rattle.psy_graph.proofs.laws.one_graph.Goals as goal
 
@@ -42,3 +43,16 @@ returns-clause-near c unit graphs text are number d less =
     let (timing, (agent, nexts, got, follow, is), drawn, small) = are.each number (slice_index_or graphs number d) (slice_get-get_or graphs number d less) in
     let its = timed unit number agent nexts (text, got) follow (c.known.ensures unit number agent (text, got)) (c.nexts.ensures.within unit number agent (text, got)) in
     graph_near c.distances.ensures.again c.distances.ensures.late c.distances.ensures.near timing (subst IsTimed (sym is) its) (slice_index_or graphs number d) drawn small
+
+pub returns-clause-timed : goal.returns-clause-timed
+returns-clause-timed c unit ways number text are less = timed_for unit ways text are number less
+
+pub returns-clause-of_text : goal.returns-clause-of_text
+returns-clause-of_text c unit number timing text (agent, nexts, got, follow, is) =
+    subst IsTimed (sym is) (timed unit number agent nexts (text, got) follow (c.known.ensures unit number agent (text, got)) (c.nexts.ensures.within unit number agent (text, got)))
+
+pub returns-clause-fit : goal.returns-clause-fit
+returns-clause-fit c timing graph its drawn = edges_kept c.distances.ensures.late timing graph its drawn
+
+pub returns-clause-by_nexts : goal.returns-clause-by_nexts
+returns-clause-by_nexts c unit nexts graphs are = (by_nexts unit nexts are graphs, of_text unit nexts are graphs)

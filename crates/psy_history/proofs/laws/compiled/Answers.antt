@@ -10,7 +10,6 @@ use Rattle.psy_history.specs.Executors.{by_code}
 use Rattle.psy_meaning.specs.Units.{IsOfText}
 use Rattle.psy_history.specs.Regular.{number_of}
 use Rattle.psy_history.proofs.CompiledRuns.{AreLaws, compiled_run}
-use Rattle.psy_history.proofs.SizesOfText.{outbox_of_text, queue_of_text, ring_of_text}
 use Rattle.psy_history.proofs.laws.compiled.Goals as goal
 
 laws_of : (c : goal.After-follows) (unit : Whole) (code : Code) → IsOfText unit → AreLaws unit code
@@ -39,12 +38,3 @@ no_number unit code nexts agent (Some a) = refl
 
 pub returns-clause-numbers : goal.returns-clause-numbers
 returns-clause-numbers c unit code nexts stalls inputs agent = no_number unit code nexts agent (slice_get unit.agents agent)
-
-pub returns-clause-ring : goal.returns-clause-ring
-returns-clause-ring c unit nexts variable size is = ring_of_text unit nexts variable size is
-
-pub returns-clause-queue : goal.returns-clause-queue
-returns-clause-queue c unit nexts stream size is = queue_of_text unit nexts stream size is
-
-pub returns-clause-outbox : goal.returns-clause-outbox
-returns-clause-outbox c unit code nexts agent size compiled less greatest = outbox_of_text unit code nexts compiled agent less size greatest

@@ -2,7 +2,7 @@
 use Rattle.psy_code.specs.declared.code.Code.{Code}
 use Rattle.psy_history.specs.Actions.{System}
 use Rattle.psy_history.specs.Runs.{IsRun}
-use Rattle.psy_history.specs.Ways.{Ways}
+use Rattle.psy_meaning.specs.KnownWays.{Ways}
 use Rattle.psy_history.proofs.QueueLooks.{ended_is, look_is, shows_is}
 use Rattle.psy_history.proofs.QueueSteps.{next_is}
 use Rattle.psy_history.proofs.RunStreams.{has_streams}

@@ -1,7 +1,7 @@
 -- What is left of the proof of `laws::sendings`.
 use Rattle.std.specs.List.{Contains}
 use Rattle.psy_tree.proofs.lemmas.Among.{among, contains}
-use Rattle.psy_meaning.specs.QueueSizes.{sendings_in}
+use Rattle.psy_meaning.specs.Sendings.{sendings_in}
 use Rattle.psy_meaning.specs.Sound.{Each}
 use Rattle.psy_meaning.specs.Ways.{Sending, To, unmetered, callee_ways}
 use Rattle.psy_meaning.proofs.lemmas.Eaches.{each-among, each-look}

@@ -3,7 +3,7 @@ use Rattle.std.proofs.Common.{◌+◌, ◌*◌, ◌≤◌, arith}
 use Rattle.psy_history.specs.Summary.{most_held}
 use Rattle.psy_history.specs.Compiled.{coded}
 use Rattle.psy_history.specs.Scripts.{order_of, stalls_of}
-use Rattle.psy_history.specs.Ways.{OfText}
+use Rattle.psy_meaning.specs.KnownWays.{OfText}
 use Rattle.psy_run.proofs.KeptBounds.{keeps_bounds}
 use Rattle.psy_run.proofs.laws.bounds.Goals as goal
 
@@ -23,8 +23,8 @@ returns c plan inputs script is are its =
       held = c.alike.ensures.held plan.unit plan.code plan.nexts stalls inputs is.compiled are plan.until;
       finishes = λ agent r supplied. c.on_time.ensures.finishes s ties plan.until cycles agent r supplied (omega arith);
       worked = λ agent r supplied. c.on_time.ensures.finished s ties plan.until (plan.until + 1) agent r supplied;
-      reached = λ variable size n supplied sized. c.ring_sizes.ensures.reached s ways plan.code run ties plan.until cycles variable size n supplied (omega arith) (c.compiled.ensures.ring plan.unit plan.nexts variable size sized);
+      reached = λ variable size n supplied sized. c.ring_sizes.ensures.reached s ways plan.code run ties plan.until cycles variable size n supplied (omega arith) sized;
       most = λ stream size less sized small.
-          (let held : most_held s plan.until stream ≤ size + 0 = c.queue_sizes.ensures.most s ways plan.code run plan.until stream size less (c.compiled.ensures.queue plan.unit plan.nexts stream size sized) small in
+          (let held : most_held s plan.until stream ≤ size + 0 = c.queue_sizes.ensures.most s ways plan.code run plan.until stream size less sized small in
           omega (arith, held));
     })

@@ -2,7 +2,7 @@
 use Rattle.std.proofs.Common.{◌≡◌, ◌++◌, length, map}
 use Rattle.std.specs.Option.{option_map}
 use Rattle.psy_script.specs.Entries.{place_in}
-use Rattle.psy_script.specs.Lines.{words_of}
+use Rattle.psy_text.specs.Words.{words_of}
 use Rattle.psy_script.specs.Numbers.{all_some}
 use Rattle.psy_script.proofs.entry.places.Given as goal
 

@@ -4,7 +4,7 @@ use Rattle.std.proofs.lemmas.Bool.Decides.{nat_tests}
 use Rattle.psy_base.specs.declared.limits.TheConstants.{LINES}
 use Rattle.psy_script.specs.Faults.{IsFirst}
 use Rattle.psy_script.specs.Inputs.{inputs_judge, lists_in}
-use Rattle.psy_script.specs.Lines.{lines_of}
+use Rattle.psy_text.specs.Lines.{lines_of}
 use Rattle.psy_script.proofs.FirstFaults.{AreRead, read_none, read_more, read_fault, read_all, told}
 use Rattle.psy_script.proofs.InputFaults.{inputs_of_lists}
 use Rattle.psy_script.proofs.ListsKept.{lists_none}

@@ -1,7 +1,7 @@
 -- What each loop of `inputs::stated_lists` keeps.
 use Rattle.std.proofs.Common.{◌≡◌, ℕ, List, length}
 use Rattle.psy_script.specs.Inputs.{inputs_judge, lists_in}
-use Rattle.psy_script.specs.Lines.{lines_of}
+use Rattle.psy_text.specs.Lines.{lines_of}
 use Rattle.psy_script.proofs.FirstFaults.{AreRead}
 use Rattle.psy_script.proofs.inputs.stated_lists.Given as goal
 

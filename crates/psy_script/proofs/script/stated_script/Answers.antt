@@ -1,6 +1,6 @@
 -- What is left of the proof of `script::stated_script`.
 use Rattle.std.proofs.Common.{◌≡◌, ◌+◌, ◌∙◌, [], ◌∷◌, ◌++◌, None, length, length-append, sym, ap, subst}
-use Rattle.psy_script.specs.Lines.{lines_of}
+use Rattle.psy_text.specs.Lines.{lines_of}
 use Rattle.psy_script.specs.Script.{script_in, script_judge}
 use Rattle.psy_script.proofs.FirstFaults.{AreRead, read_all, read_more}
 use Rattle.psy_script.proofs.SoundScripts.{script_is}

@@ -1,6 +1,6 @@
 -- What each loop of `script::stated_script` keeps.
 use Rattle.std.proofs.Common.{◌≡◌, List, ℕ, length}
-use Rattle.psy_script.specs.Lines.{lines_of}
+use Rattle.psy_text.specs.Lines.{lines_of}
 use Rattle.psy_script.specs.Script.{script_judge, script_in}
 use Rattle.psy_script.proofs.FirstFaults.{AreRead}
 use Rattle.psy_script.proofs.script.stated_script.Given as goal

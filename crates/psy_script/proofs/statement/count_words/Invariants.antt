@@ -1,6 +1,6 @@
 -- What each loop of `statement::count_words` keeps.
 use Rattle.std.proofs.Common.{◌≡◌, ◌+◌, ◌≤◌, length}
-use Rattle.psy_script.specs.Lines.{words_of}
+use Rattle.psy_text.specs.Words.{words_of}
 use Rattle.psy_script.proofs.statement.count_words.Given as goal
 
 abbrev pub invariant-loop-cut : goal.invariant-loop-cut

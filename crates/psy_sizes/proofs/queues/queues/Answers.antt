@@ -1,9 +1,9 @@
 -- What is left of the proof of `queues::queues`.
-use Rattle.std.proofs.Common.{◌≡◌, ◌⊎◌, ℕ, ◌<◌, ◌≤◌, List, [], ◌∷◌, ◌++◌, length, length-append, Err, IfErr, sym, ap, subst, inl, inr, arith, rules}
+use Rattle.std.proofs.Common.{◌≡◌, ◌⊎◌, ℕ, ◌<◌, ◌≤◌, [], ◌∷◌, ◌++◌, length, length-append, Err, IfErr, sym, ap, subst, inl, inr, arith, rules}
 use Rattle.std.specs.List.{All}
 use Rattle.std.proofs.lemmas.List.Elements.{All-push}
 use Rattle.psy_base.specs.declared.limits.TheConstants.{QUEUE}
-use Rattle.psy_meaning.specs.Flow.{AreAllNexts}
+use Rattle.psy_meaning.specs.KnownWays.{Listed}
 use Rattle.psy_sizes.specs.declared.fault.SizeFault.{SizeFault}
 use Rattle.psy_sizes.specs.declared.fault.SizeFault.TheVariants.{Memory}
 use Rattle.psy_sizes.specs.Queues.{IsKeptQueue, IsQueueFault}
@@ -18,10 +18,11 @@ returns-in_err-queue-clause-cause c =
     let stream = c.streams.stream in
     let kept = c.streams.invariant in
     let known : stream < length unit.streams = omega (arith, c.streams-test.true, c.streams.auto.stream-end, c.len-stream-end.ensures) in
-    let Q : SizeFault → Type 0 = λ f. (f ≡ Memory) ⊎ ((nexts : List (List (List ℕ))) → AreAllNexts unit nexts → IsQueueFault unit nexts f) in
+    let ways = c.args.ways.now in
+    let Q : SizeFault → Type 0 = λ f. (f ≡ Memory) ⊎ IsQueueFault unit (Listed ways) ways.nexts f in
     let is : Q fault = elim c.in_err-queue.ensures.cause [
       | inl memory ↦ inl memory
-      | inr at ↦ inr (λ nexts are. first_fault unit nexts stream c.streams.sizes fault known (λ before d less. kept.each before d less nexts are) (at nexts are))
+      | inr at ↦ inr (first_fault unit (Listed ways) ways.nexts stream c.streams.sizes fault known kept.each at)
     ] in
     let e : c.from_residual.result ≡ Err fault = search rules in
     subst (λ r. IfErr r Q) (sym e) is
@@ -34,7 +35,7 @@ streams-preserved c =
     let size = c.in_ok-queue.field-0 in
     let pushed : new ≡ old ++ size ∷ [] = c.in_ok-push.ensures in
     let count : length new ≡ length (old ++ size ∷ []) = ap length pushed in
-    let Each : ℕ → ℕ → Type 0 = λ stream n. (nexts : List (List (List ℕ))) → AreAllNexts unit nexts → IsKeptQueue unit nexts stream n in
+    let Each : ℕ → ℕ → Type 0 = λ stream n. IsKeptQueue unit (Listed c.args.ways.now) c.args.ways.now.nexts stream n in
     let Fit : ℕ → Type 0 = λ n. n ≤ QUEUE in
     record {
       count = omega (arith, count, c.streams.invariant.count, length-append old (size ∷ []));
@@ -43,12 +44,12 @@ streams-preserved c =
     }
 
 pub returns-clause-queues : goal.returns-clause-queues
-returns-clause-queues c nexts are =
+returns-clause-queues c =
     let unit = c.args.unit.now in
     let kept = c.streams.invariant in
     let all : c.streams.stream ≡ length unit.streams = omega (arith, kept.count, c.streams-test.false, c.streams.auto.stream-end, c.len-stream-end.ensures) in
-    all_queues unit nexts c.streams.sizes (omega (arith, kept.count, all)) (λ stream d less. kept.each stream d (omega (arith, less, all)) nexts are)
+    all_queues unit (Listed c.args.ways.now) c.args.ways.now.nexts c.streams.sizes (omega (arith, kept.count, all)) (λ stream d less. kept.each stream d (omega (arith, less, all)))
 
 pub returns-clause-counted : goal.returns-clause-counted
-returns-clause-counted c nexts are stream known =
-    (c.streams.invariant.each stream 0 (omega (arith, known, c.streams-test.false, c.streams.auto.stream-end, c.len-stream-end.ensures)) nexts are).counted
+returns-clause-counted c stream known =
+    (c.streams.invariant.each stream 0 (omega (arith, known, c.streams-test.false, c.streams.auto.stream-end, c.len-stream-end.ensures))).counted

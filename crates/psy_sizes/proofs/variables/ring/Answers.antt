@@ -1,10 +1,10 @@
 -- What is left of the proof of `variables::ring`.
-use Rattle.std.proofs.Common.{◌≡◌, ℕ, ◌+◌, List, Some, length, get_or, refl, ap, subst, ◌∙◌, arith}
+use Rattle.std.proofs.Common.{◌≡◌, ◌+◌, Some, length, get_or, refl, ap, subst, ◌∙◌, arith}
 use Rattle.std.specs.List.{slice_get}
 use Rattle.std.proofs.lemmas.List.{get_or_default}
 use Rattle.std.proofs.lemmas.Option.{slice_get_read, get_or_from_slice_get}
 use Rattle.psy_clock.specs.declared.clock.Clock.{Clock}
-use Rattle.psy_meaning.specs.Flow.{AreAllNexts}
+use Rattle.psy_meaning.specs.KnownWays.{Listed}
 use Rattle.psy_meaning.specs.RingSizes.{IsRingSize}
 use Rattle.psy_meaning.specs.Units.{IsBareVariable}
 use Rattle.psy_sizes.proofs.RingsOf.{ring_size}
@@ -12,8 +12,8 @@ use Rattle.psy_sizes.proofs.Sharing.{no_clock}
 use Rattle.psy_sizes.proofs.variables.ring.Goals as goal
 use Rattle.psy_sizes.proofs.variables.ring.Goals.{After-from}
 
-size_is : (c : After-from) (nexts : List (List (List ℕ))) → AreAllNexts c.args.unit.now nexts → IsRingSize c.args.unit.now nexts c.args.variable (c.index-as_slice-variable.result.depth + c.most_of_all-most.result)
-size_is c nexts are =
+size_is : (c : After-from) → IsRingSize c.args.unit.now (Listed c.args.ways.now) c.args.ways.now.nexts c.args.variable (c.index-as_slice-variable.result.depth + c.most_of_all-most.result)
+size_is c =
     let unit = c.args.unit.now in
     let variable = c.args.variable in
     let decl = c.index-as_slice-variable.result in
@@ -25,11 +25,11 @@ size_is c nexts are =
     let nothing : Clock = record { period = 0; first = 0 } in
     let clock = get_or c.as_slice-2.result.now decl.clock nothing in
     let clock_is : clock ≡ get_or unit.clocks decl.clock no_clock = ap (λ xs. get_or xs decl.clock nothing) c.as_slice-2.ensures ∙ get_or_default unit.clocks decl.clock nothing no_clock bare.clock in
-    ring_size unit nexts are (c.one_graph.ensures.timing unit) variable decl declared clock clock_is c.most_of_all-most.result c.most_of_all-most.ensures
+    ring_size unit (Listed c.args.ways.now) c.args.ways.now.nexts variable decl declared clock clock_is c.most_of_all-most.result c.most_of_all-most.ensures
 
 pub returns-then-most-from-clause-large : goal.returns-then-most-from-clause-large
-returns-then-most-from-clause-large c nexts are =
-    (c.index-as_slice-variable.result.depth + c.most_of_all-most.result, size_is (goal.at.returns-then-most-from-clause-large c).After-from nexts are, omega (arith, c.if-most-from.true, c.from.ensures))
+returns-then-most-from-clause-large c =
+    (c.index-as_slice-variable.result.depth + c.most_of_all-most.result, size_is (goal.at.returns-then-most-from-clause-large c).After-from, omega (arith, c.if-most-from.true, c.from.ensures))
 
 pub returns-clause-size : goal.returns-clause-size
-returns-clause-size c nexts are = size_is (goal.at.returns-clause-size c).After-from nexts are
+returns-clause-size c = size_is (goal.at.returns-clause-size c).After-from

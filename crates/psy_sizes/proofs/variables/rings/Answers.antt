@@ -4,19 +4,19 @@ use Rattle.std.specs.List.{All}
 use Rattle.std.proofs.lemmas.List.Elements.{All-push, All-weaker}
 use Rattle.psy_base.specs.declared.limits.TheConstants.{RING}
 use Rattle.psy_tree.specs.declared.unit.Unit.{Unit as Whole}
-use Rattle.psy_meaning.specs.Flow.{AreAllNexts}
+use Rattle.psy_meaning.specs.KnownWays.{Listed, Ways}
 use Rattle.psy_meaning.specs.RingSizes.{IsRingSize}
 use Rattle.psy_sizes.specs.declared.fault.SizeFault.{SizeFault}
 use Rattle.psy_sizes.specs.declared.fault.SizeFault.TheVariants.{LargeRing, Memory}
-use Rattle.psy_sizes.specs.Faults.{IsCause}
+use Rattle.psy_sizes.specs.Faults.{IsFaultBy}
 use Rattle.psy_sizes.proofs.AllRings.{AreRingsBefore, all_rings, first_large}
 use Rattle.psy_sizes.proofs.RingsOf.{each_more}
 use Rattle.psy_sizes.proofs.variables.rings.Goals as goal
 
 -- The sizes that were found are those of the variables so far.
-so_far : (unit : Whole) (nexts : List (List (List ℕ))) (sizes : List ℕ) (variable : ℕ) → length sizes ≡ variable → ((before d : ℕ) → before < variable → IsRingSize unit nexts before (get_or sizes before d)) →
-    All (λ n. (1 ≤ n) × (n ≤ RING)) sizes → AreRingsBefore unit nexts variable sizes
-so_far unit nexts sizes variable count each small = record {
+so_far : (unit : Whole) (ways : Ways) (nexts : List (List (List ℕ))) (sizes : List ℕ) (variable : ℕ) → length sizes ≡ variable → ((before d : ℕ) → before < variable → IsRingSize unit ways nexts before (get_or sizes before d)) →
+    All (λ n. (1 ≤ n) × (n ≤ RING)) sizes → AreRingsBefore unit ways nexts variable sizes
+so_far unit ways nexts sizes variable count each small = record {
   count = count;
   each = each;
   small = All-weaker (λ n. (1 ≤ n) × (n ≤ RING)) (λ n. n ≤ RING) (λ n h. h.1) sizes small;
@@ -28,12 +28,12 @@ returns-in_err-ring-clause-cause c =
     let fault = c.in_err-ring.field-0.0 in
     let variable = c.variables.variable in
     let kept = c.variables.invariant in
-    let Q : SizeFault → Type 0 = λ f. (f ≡ Memory) ⊎ IsCause unit f in
-    let large : IsCause unit (LargeRing variable) = λ nexts are. (
-    let (size, is, passes) = c.in_err-ring.ensures.large nexts are in
-    first_large unit nexts c.variables.sizes variable size (so_far unit nexts c.variables.sizes variable kept.count (λ before d less. kept.each before d less nexts are) kept.small) is passes
-    ) in
-    let is : Q fault = inr (subst (IsCause unit) (sym c.in_err-ring.ensures.fault) large) in
+    let ways : Ways = Listed c.args.ways.now in
+    let nexts = c.args.ways.now.nexts in
+    let Q : SizeFault → Type 0 = λ f. (f ≡ Memory) ⊎ IsFaultBy unit ways nexts f in
+    let (size, its, passes) = c.in_err-ring.ensures.large in
+    let large : IsFaultBy unit ways nexts (LargeRing variable) = first_large unit ways nexts c.variables.sizes variable size (so_far unit ways nexts c.variables.sizes variable kept.count kept.each kept.small) its passes in
+    let is : Q fault = inr (subst (IsFaultBy unit ways nexts) (sym c.in_err-ring.ensures.fault) large) in
     let e : c.from_residual.result ≡ Err fault = search rules in
     subst (λ r. IfErr r Q) (sym e) is
 
@@ -45,7 +45,7 @@ variables-preserved c =
     let size = c.in_ok-ring.field-0 in
     let pushed : new ≡ old ++ size ∷ [] = c.in_ok-push.ensures in
     let count : length new ≡ length (old ++ size ∷ []) = ap length pushed in
-    let Each : ℕ → ℕ → Type 0 = λ variable n. (nexts : List (List (List ℕ))) → AreAllNexts unit nexts → IsRingSize unit nexts variable n in
+    let Each : ℕ → ℕ → Type 0 = λ variable n. IsRingSize unit (Listed c.args.ways.now) c.args.ways.now.nexts variable n in
     let Fit : ℕ → Type 0 = λ n. (1 ≤ n) × (n ≤ RING) in
     record {
       count = omega (arith, count, c.variables.invariant.count, length-append old (size ∷ []));
@@ -54,9 +54,11 @@ variables-preserved c =
     }
 
 pub returns-clause-rings : goal.returns-clause-rings
-returns-clause-rings c nexts are =
+returns-clause-rings c =
     let unit = c.args.unit.now in
+    let ways : Ways = Listed c.args.ways.now in
+    let nexts = c.args.ways.now.nexts in
     let sizes = c.variables.sizes in
     let kept = c.variables.invariant in
     let all : c.variables.variable ≡ length unit.variables = omega (arith, kept.count, c.variables-test.false, c.variables.auto.variable-end, c.len-variable-end.ensures) in
-    all_rings unit nexts sizes (subst (λ k. AreRingsBefore unit nexts k sizes) all (so_far unit nexts sizes c.variables.variable kept.count (λ before d less. kept.each before d less nexts are) kept.small))
+    all_rings unit ways nexts sizes (subst (λ k. AreRingsBefore unit ways nexts k sizes) all (so_far unit ways nexts sizes c.variables.variable kept.count kept.each kept.small))

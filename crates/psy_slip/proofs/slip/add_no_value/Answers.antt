@@ -1,6 +1,7 @@
 -- What is left of the proof of `slip::add_no_value`.
 use Rattle.std.proofs.Common.{◌≡◌, ℕ, List, ◌++◌, codes, ap, ◌∙◌, append_assoc}
-use Rattle.psy_slip.specs.Slips.{quoted, no_value}
+use Rattle.psy_slip.specs.Slips.{no_value}
+use Rattle.psy_slip.specs.Told.{quoted}
 use Rattle.psy_slip.proofs.slip.add_no_value.Goals as goal
 
 joined : (out head told end : List ℕ) → ((out ++ head) ++ told) ++ end ≡ out ++ ((head ++ told) ++ end)

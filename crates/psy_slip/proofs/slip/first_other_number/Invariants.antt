@@ -1,7 +1,7 @@
 -- What each loop of `slip::first_other_number` keeps.
 use Rattle.std.proofs.Common.{◌≡◌, not, length, map}
 use Rattle.std.specs.Prelude.{find}
-use Rattle.psy_slip.specs.Words.{is_number}
+use Rattle.psy_text.specs.Words.{is_number}
 use Rattle.psy_slip.proofs.slip.first_other_number.Given as goal
 
 abbrev pub invariant-each : goal.invariant-each

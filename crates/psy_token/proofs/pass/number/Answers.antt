@@ -3,7 +3,7 @@ use Rattle.std.proofs.Common.{◌≤◌, arith}
 use Rattle.std.specs.Char.{is_ascii_digit}
 use Rattle.std.specs.List.{prefix_len}
 use Rattle.std.proofs.lemmas.Bool.Decides.{nat_tests}
-use Rattle.psy_token.proofs.Runs.{All-run}
+use Rattle.psy_text.proofs.lemmas.Runs.{All-run}
 use Rattle.psy_token.proofs.pass.number.Goals as goal
 
 pub decimal_value-requires : goal.decimal_value-requires

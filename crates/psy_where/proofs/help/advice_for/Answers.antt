@@ -1,5 +1,5 @@
 -- What is left of the proof of `help::advice_for`.
-use Rattle.std.proofs.Common.{List, length, Result, Err, refl, sym, subst, ◌∙◌, arith}
+use Rattle.std.proofs.Common.{List, length, sym, subst, arith}
 use Rattle.std.proofs.lemmas.Result.{err_from_is_err_and}
 use Rattle.psy_tree.specs.declared.token.Token.{Token}
 use Rattle.psy_where.specs.Places.{IsStart}

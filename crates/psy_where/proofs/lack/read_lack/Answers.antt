@@ -1,6 +1,5 @@
 -- What is left of the proof of `lack::read_lack`.
-use Rattle.std.proofs.Common.{◌++◌, codes, refl, sym}
-use Rattle.std.specs.Prelude.{decimal}
+use Rattle.std.proofs.Common.{refl, sym}
 use Rattle.psy_log.specs.Forms.{on_processor}
 use Rattle.psy_where.proofs.LackLines.{lack_behind, lack_written, on_processor-ends}
 use Rattle.psy_where.proofs.lack.read_lack.Goals as goal

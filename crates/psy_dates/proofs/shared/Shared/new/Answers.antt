@@ -1,5 +1,5 @@
 -- What is left of the proof of `shared::Shared::new`.
-use Rattle.std.proofs.Common.{ℕ, ◌<◌, ◌≤◌, List, [], All, length, get_or, Option, Some, refl, sym, ap, subst, ◌∙◌}
+use Rattle.std.proofs.Common.{ℕ, ◌<◌, ◌≤◌, false, List, [], All, length, get_or, Option, Some, refl, sym, ap, subst, ◌∙◌}
 use Rattle.std.specs.Prelude.{map, pos, replicate, ℤ}
 use Rattle.psy_base.specs.declared.limits.TheConstants.{RING}
 use Rattle.psy_tree.specs.declared.unit.VarDecl.{VarDecl}
@@ -34,6 +34,7 @@ returns-clause-stands c stalls =
         count = c.in_ok-new.ensures.count ∙ ap length c.as_slice-7.ensures;
         nexts = subst (λ clocks. AreNext clocks 0 c.in_ok-new.field-0) c.as_slice-7.ensures c.in_ok-new.ensures.nexts;
       };
+      movers = c.in_ok-new-2.ensures ∙ ap (λ n. record { moved = record { size = n; agents = [] }; least = 0; stopped = false }) c.len-3.ensures;
     })
   where
     filled : List ℕ → List VarDecl → ℕ → Option (List ℤ)

@@ -12,7 +12,7 @@ use Rattle.psy_queue.specs.Order.{Queued}
 use Rattle.psy_kernel.specs.declared.eyes.Eyes.{Eyes}
 use Rattle.psy_kernel.specs.Looking.{window_of}
 use Rattle.psy_kernel.specs.Seeing.{is_mine, left_in, left_of, seen_by, view_in}
-use Rattle.psy_kernel.proofs.Sets.{get_set_other, get_set_same}
+use Rattle.psy_dates.proofs.lemmas.Sets.{get_set_other, get_set_same}
 use Rattle.psy_kernel.proofs.StreamsLeft.{IsLeft, left_first, left_none, messages_are, none_lists, seen_few, served, taken_lists}
 use Rattle.psy_kernel.proofs.eyes.EyesLook.take.Goals as goal
 

@@ -6,7 +6,7 @@ use Rattle.std.proofs.lemmas.List.{length-replicate}
 use Rattle.std.proofs.lemmas.List.FromFn.{length-map-range_with_len}
 use Rattle.psy_history.specs.Compiled.{AreInputs, coded}
 use Rattle.psy_history.specs.Openings.{IsSound}
-use Rattle.psy_history.specs.Ways.{OfText}
+use Rattle.psy_meaning.specs.KnownWays.{OfText}
 use Rattle.psy_history.specs.Actions.{System}
 use Rattle.psy_history.specs.History.{history}
 use Rattle.psy_dates.specs.Standing.{SharedStands, dates_done}

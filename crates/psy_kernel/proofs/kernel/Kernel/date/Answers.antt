@@ -1,5 +1,5 @@
 -- What is left of the proof of `kernel::Kernel::date`.
-use Rattle.std.proofs.Common.{◌≡◌, ℕ, ◌+◌, ◌*◌, ◌≤◌, suc, List, length, None, true, refl, ap, sym, subst, ◌∙◌, arith, ℤ}
+use Rattle.std.proofs.Common.{◌≡◌, ℕ, ◌+◌, ◌*◌, ◌<◌, ◌≤◌, suc, All, List, length, None, true, refl, ap, sym, subst, ◌∙◌, arith, ℤ}
 use Rattle.std.proofs.Math.Numerals.{add-one}
 use Rattle.psy_ready.specs.Choice.{pending_deadline}
 use Rattle.psy_history.specs.Actions.{System}
@@ -7,7 +7,7 @@ use Rattle.psy_history.specs.History.{history}
 use Rattle.psy_history.specs.Summary.{reach}
 use Rattle.psy_history.specs.Compiled.{AreInputs}
 use Rattle.psy_history.specs.Openings.{IsSound}
-use Rattle.psy_history.specs.Ways.{OfText}
+use Rattle.psy_meaning.specs.KnownWays.{OfText}
 use Rattle.psy_history.specs.Scheduled.{turns_of}
 use Rattle.psy_dates.specs.Plans.{opened_of}
 use Rattle.psy_dates.specs.Standing.{SharedStands, dates_done}
@@ -15,9 +15,12 @@ use Rattle.psy_kernel.specs.declared.stage.Stage.TheVariants.{CycleDue}
 use Rattle.psy_kernel.specs.Progress.{Progress, after_date, stage_of}
 use Rattle.psy_history.specs.Scripts.{stalls_of}
 use Rattle.psy_kernel.specs.Standing.{AgentStands, DeedsStand, InTick, given_at, most_held_in}
-use Rattle.psy_kernel.specs.Starting.{IsDoneBelow, charge_at, deadline_at, held_at, seat_at, starts_at}
+use Rattle.psy_dates.specs.Movers.{IsDoneBelow, NamesAll}
+use Rattle.psy_dates.proofs.lemmas.Names.{names_within}
+use Rattle.psy_kernel.specs.Starting.{charge_at, deadline_at, held_at, seat_at, starts_at}
 use Rattle.psy_kernel.proofs.Dated.{cycle_after, date_due, over_after}
 use Rattle.psy_kernel.proofs.DatesDue.{AreRunLaws, after, agents, before_filled, begins, deeds, free, helds, is_due, its, later, none_due, none_given, same_reach, sound, tick, ties, view_after}
+use Rattle.psy_kernel.proofs.StartsNamed.{starts_named}
 use Rattle.psy_kernel.proofs.kernel.Kernel.date.Goals as goal
 
 pub at_date-requires-clause-due : goal.at_date-requires-clause-due
@@ -52,6 +55,21 @@ start_all-requires-clause-seated c =
     let due = is_due k c.args.self.now date c.self.invariant c.self.view_is c.requires.due c.dates-date.ensures.dates c.dates-date.ensures.few laws c.given.ensures.unstarted c.on_time.ensures.due in
     let done = c.at_date.ensures.stands (begins k date due) (stalls_of k.script) (ties k date due) (sound k date due) (later k date due) (before_filled k date due) in
     ap length c.as_slice-2.ensures.value ∙ done.seated ∙ sym (ap length c.as_slice-3.ensures)
+
+pub start_all-requires-clause-movers : goal.start_all-requires-clause-movers
+start_all-requires-clause-movers c =
+    let date = c.dates-date.result in
+    subst (λ seats. NamesAll (λ agent. starts_at date (seat_at seats agent)) (length seats) 0 c.agents.result.now) (sym c.as_slice-2.ensures.value)
+    (subst (NamesAll (λ agent. starts_at date (seat_at c.at_date.new.shared.seats.items agent)) (length c.at_date.new.shared.seats.items) 0) (sym c.agents.ensures)
+    (starts_named date c.at_date.new.shared.seats.items c.at_date.new.shared.movers.moved.agents c.at_date.ensures.moved))
+
+pub start_all-requires-clause-known : goal.start_all-requires-clause-known
+start_all-requires-clause-known c =
+    let date = c.dates-date.result in
+    let all = starts_named date c.at_date.new.shared.seats.items c.at_date.new.shared.movers.moved.agents c.at_date.ensures.moved in
+    subst (λ seats. All (λ agent. agent < length seats) c.agents.result.now) (sym c.as_slice-2.ensures.value)
+    (subst (All (λ agent. agent < length c.at_date.new.shared.seats.items)) (sym c.agents.ensures)
+    (names_within (λ agent. starts_at date (seat_at c.at_date.new.shared.seats.items agent)) (length c.at_date.new.shared.seats.items) 0 c.at_date.new.shared.movers.moved.agents all))
 
 pub start_all-requires-clause-free : goal.start_all-requires-clause-free
 start_all-requires-clause-free c =

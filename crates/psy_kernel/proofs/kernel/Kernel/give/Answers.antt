@@ -1,6 +1,7 @@
 -- What is left of the proof of `kernel::Kernel::give`.
 use Rattle.std.proofs.Common.{◌≡◌, ℕ, ◌+◌, ◌-◌, ◌*◌, ◌<◌, ◌≤◌, List, ◌∷◌, Bool, true, false, not, Option, Some, None, length, get_or, if◌then◌else◌, slice_get, slice_set, ℤ, Vec, Global, refl, sym, ap, ◌∙◌, subst, arith}
 use Rattle.std.proofs.lemmas.Bool.{true≢false}
+use Rattle.std.proofs.lemmas.List.{length-set}
 use Rattle.std.proofs.lemmas.Option.{get_or_from_slice_get, same_Some, slice_get_read}
 use Rattle.std.specs.List.{All, AllPairs}
 use Rattle.std.specs.Vec.{with_item}
@@ -25,8 +26,9 @@ use Rattle.psy_kernel.specs.Standing.{AreInForce, IsChosen, KernelStands}
 use Rattle.psy_kernel.specs.Stretches.{MayLast, given_to}
 use Rattle.psy_kernel.proofs.CyclesGiven.{Takes, given_between, given_steady, idle_between, idle_steady, known, may_last, on_date, over_by, reached_given, row, takes}
 use Rattle.psy_kernel.proofs.Kernels.{IsDue, ahead_of, counted_fresh, counted_stale, due_by, high_of, lists_read, opening_in, order_read, run_in, turns_in}
+use Rattle.psy_kernel.proofs.MoversGiven.{IsTold}
 use Rattle.psy_kernel.proofs.RingViews.{few_places}
-use Rattle.psy_kernel.proofs.Sets.{get_set_other, get_set_same}
+use Rattle.psy_dates.proofs.lemmas.Sets.{get_set_other, get_set_same}
 use Rattle.psy_kernel.proofs.kernel.Kernel.give.Goals as goal
 
 is_off : (b : Bool) → not b ≡ true → b ≡ false
@@ -53,6 +55,12 @@ module _ (k : Inside) (is : KernelStands k) (d : IsDue k) (agent : ℕ) (pick : 
 
   outbox_at : (outbox : Outboxed) → outbox ≡ get_or k.shared.outboxes.items agent outbox → slice_get k.shared.outboxes.items agent ≡ Some outbox
   outbox_at outbox outbox_is = slice_get_read k.shared.outboxes.items (length k.shared.outboxes.items) agent outbox refl (omega (arith, less, is.shared.boxed)) outbox_is
+
+  -- its seat, read where it was written
+  read_seat : (seat x : Seat) → x ≡ get_or (slice_set k.shared.seats.items agent seat) agent x → x ≡ seat
+  read_seat seat x e =
+      let seats = slice_set k.shared.seats.items agent seat in
+      get_set_same k.shared.seats.items agent seat x (slice_get_read seats (length seats) agent x refl (omega (arith, less, is.shared.seated, length-set k.shared.seats.items agent seat)) e)
 
   -- the outbox that it has then is as large
   same_size : (outbox new : Outboxed) → outbox ≡ get_or k.shared.outboxes.items agent outbox → new.size ≡ outbox.size → (old : Outboxed) → slice_get k.shared.outboxes.items agent ≡ Some old → new.size ≡ old.size
@@ -219,13 +227,16 @@ invariant_of-self-then-not-lasted c =
     let one : OneStands (run_in k) k.plan.code (given_to (turn_of (Some r)) n (turns_in k k.cycles)) k.plan.until d.date agent (r ∷ before) charge machine None figure seat copies.items =
     subst (λ m. OneStands (run_in k) k.plan.code (given_to (turn_of (Some r)) n (turns_in k k.cycles)) k.plan.until m agent (r ∷ before) charge machine None figure seat copies.items) (on_date k is d agent pick r before t.2 date date_is)
     (subst (λ on. OneStands (run_in k) k.plan.code (given_to (turn_of (Some r)) n (turns_in k k.cycles)) k.plan.until date agent (r ∷ before) charge machine (if on then waits else None) figure seat copies.items) (is_off c.go_on-lasted.result.goes c.if-not-lasted.true) has_then) in
+    let told : IsTold seat k.shared.movers c.tell.new.self =
+    subst (λ (x : Seat). IsTold x k.shared.movers c.tell.new.self) (read_seat k is d agent pick date date_is seat c.index.result.now c.index.ensures)
+    (record { moved = c.tell.ensures.moved; earlier = c.tell.ensures.earlier; before = c.tell.ensures.before; kept = c.tell.ensures.kept; stopped = c.tell.ensures.stopped }) in
     let within : k.cycles + n ≤ (d.date + 1) * k.plan.unit.quantum = omega (arith, high, lasted.count.1) in
     let ready : List (Option ℕ) = c.drop_agent.new.self in
     let dropped : ready ≡ slice_set k.ready agent None = c.drop_agent.ensures.pending in
-    counted_stale (record k { shared = record k.shared { seats = seats; ended = copies; outboxes = outboxes; taken = counts }; machines = machines; charges = charges; figures = figures; ready = ready; reaches = reaches; chosen = chosen; stale = true }) n
+    counted_stale (record k { shared = record k.shared { seats = seats; ended = copies; outboxes = outboxes; taken = counts; movers = c.tell.new.self }; machines = machines; charges = charges; figures = figures; ready = ready; reaches = reaches; chosen = chosen; stale = true }) n
     (given_between k is d agent pick r before t.2 n within (turns n (omega arith)) machine charge None figure seat copies.items one lasted.all lasted.others outbox counts.items box size lasted.taking lasted.untaken ready c.drop_agent.ensures.agents
     (λ w at. get_set_same k.ready agent None w (sym (ap (λ xs. slice_get xs agent) dropped) ∙ at)) (λ other differs. ap (λ xs. slice_get xs other) dropped ∙ get_set_other k.ready agent other None differs)
-    seats copies outboxes counts machines charges figures reaches chosen true refl refl refl refl refl refl refl lasted.reaching reached (λ wrong. absurd (true≢false wrong))) passed come
+    c.tell.new.self told seats copies outboxes counts machines charges figures reaches chosen true refl refl refl refl refl refl refl lasted.reaching reached (λ wrong. absurd (true≢false wrong))) passed come
 
 pub invariant_of-self-else-not-lasted : goal.invariant_of-self-else-not-lasted
 invariant_of-self-else-not-lasted c =
@@ -277,11 +288,14 @@ invariant_of-self-else-not-lasted c =
     let one : OneStands (run_in k) k.plan.code (given_to (turn_of (Some r)) n (turns_in k k.cycles)) k.plan.until d.date agent (r ∷ before) charge machine waits figure seat copies.items =
     subst (λ m. OneStands (run_in k) k.plan.code (given_to (turn_of (Some r)) n (turns_in k k.cycles)) k.plan.until m agent (r ∷ before) charge machine waits figure seat copies.items) (on_date k is d agent pick r before t.2 date date_is)
     (subst (λ on. OneStands (run_in k) k.plan.code (given_to (turn_of (Some r)) n (turns_in k k.cycles)) k.plan.until date agent (r ∷ before) charge machine (if on then waits else None) figure seat copies.items) (is_on c.go_on-lasted.result.goes c.if-not-lasted.false) has_then) in
+    let told : IsTold seat k.shared.movers c.tell.new.self =
+    subst (λ (x : Seat). IsTold x k.shared.movers c.tell.new.self) (read_seat k is d agent pick date date_is seat c.index.result.now c.index.ensures)
+    (record { moved = c.tell.ensures.moved; earlier = c.tell.ensures.earlier; before = c.tell.ensures.before; kept = c.tell.ensures.kept; stopped = c.tell.ensures.stopped }) in
     let within : k.cycles + n ≤ (d.date + 1) * k.plan.unit.quantum = omega (arith, high, lasted.count.1) in
-    counted_fresh (record k { shared = record k.shared { seats = seats; ended = copies; outboxes = outboxes; taken = counts }; machines = machines; charges = charges; figures = figures; reaches = reaches; chosen = chosen; stale = false }) n
+    counted_fresh (record k { shared = record k.shared { seats = seats; ended = copies; outboxes = outboxes; taken = counts; movers = c.tell.new.self }; machines = machines; charges = charges; figures = figures; reaches = reaches; chosen = chosen; stale = false }) n
     (given_between k is d agent pick r before t.2 n within (turns n (omega arith)) machine charge waits figure seat copies.items one lasted.all lasted.others outbox counts.items box size lasted.taking lasted.untaken k.ready refl
     (λ w at. sym (get_or_from_slice_get k.ready agent w None at)) (λ other differs. refl)
-    seats copies outboxes counts machines charges figures reaches chosen false refl refl refl refl refl refl refl lasted.reaching reached (λ fresh. choice)) refl passed come c.passed_by-passed-in-Some.ensures.no_less
+    c.tell.new.self told seats copies outboxes counts machines charges figures reaches chosen false refl refl refl refl refl refl refl lasted.reaching reached (λ fresh. choice)) refl passed come c.passed_by-passed-in-Some.ensures.no_less
 
 pub returns-in-None-clause-steady : goal.returns-in-None-clause-steady
 returns-in-None-clause-steady c =

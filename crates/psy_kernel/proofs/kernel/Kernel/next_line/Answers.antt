@@ -2,7 +2,7 @@
 use Rattle.std.proofs.Common.{◌≡◌, ◌+◌, ◌*◌, ◌≤◌, ℕ, length, slice_get, Some, refl, ap, subst, arith}
 use Rattle.psy_dates.specs.Plans.{system_of}
 use Rattle.psy_history.specs.Scheduled.{turns_of}
-use Rattle.psy_history.specs.Ways.{OfText}
+use Rattle.psy_meaning.specs.KnownWays.{OfText}
 use Rattle.psy_kernel.specs.Progress.{Progress, after_line, beginning, lines_told, order, system}
 use Rattle.psy_history.specs.Scripts.{stalls_of}
 use Rattle.psy_kernel.specs.Standing.{KernelStands, progress_of}
@@ -48,7 +48,7 @@ overflow_add-self c =
     given_few k w date c.in-Some.is later (c.regular.ensures.lawful s ways k.plan.code run)
     (λ stream within. shown_few s (turns_of s (order (progress_of k)) k.cycles) date k.shared (stands_now k w date c.in-Some.is later).stands stream
     (c.queues.ensures.shows s ways k.plan.code run date stream within)
-    (λ size is small. c.queue_sizes.ensures.held s ways k.plan.code run (date + 1) stream size within (c.compiled.ensures.queue k.plan.unit k.plan.nexts stream size is) small) (w.sound.messages stream).few within) in
+    (λ size is small. c.queue_sizes.ensures.held s ways k.plan.code run (date + 1) stream size within is small) (w.sound.messages stream).few within) in
     let bare = w.plan.compiled.text.bare in
     omega (arith, few, w.place, bare.agent_limit, bare.variable_limit, bare.stream_limit)
 

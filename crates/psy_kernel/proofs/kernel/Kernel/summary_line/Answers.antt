@@ -1,7 +1,7 @@
 -- What is left of the proof of `kernel::Kernel::summary_line`.
 use Rattle.std.proofs.Common.{◌≡◌, ◌<◌, ◌≤◌, ◌^◌, length, slice_get, sym, ap, subst, ◌∙◌, arith}
 use Rattle.psy_dates.specs.Plans.{system_of}
-use Rattle.psy_history.specs.Ways.{OfText}
+use Rattle.psy_meaning.specs.KnownWays.{OfText}
 use Rattle.psy_kernel.specs.Progress.{beginning, order, stage_of, summary_told, system}
 use Rattle.psy_kernel.specs.declared.stage.Stage.TheVariants.{Over}
 use Rattle.psy_history.specs.Scripts.{stalls_of}

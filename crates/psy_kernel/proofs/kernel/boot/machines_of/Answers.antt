@@ -2,7 +2,7 @@
 use Rattle.std.proofs.Common.{◌≡◌, [], ◌∷◌, ◌++◌, length, length-append, ap, sym, subst, arith}
 use Rattle.psy_machine.specs.Stepping.{IsNew, IsOf}
 use Rattle.psy_kernel.specs.Starting.{AreNew}
-use Rattle.psy_kernel.proofs.Placed.{each_pushed}
+use Rattle.psy_dates.proofs.lemmas.Placed.{each_pushed}
 use Rattle.psy_kernel.proofs.kernel.boot.machines_of.Goals as goal
 
 pub agents-preserved : goal.agents-preserved

@@ -9,7 +9,7 @@ use Rattle.psy_history.specs.Openings.{IsSound}
 use Rattle.psy_history.specs.Runs.{IsRun}
 use Rattle.psy_history.specs.Scheduled.{IsSupplied}
 use Rattle.psy_history.specs.Scripts.{order_of, stalls_of}
-use Rattle.psy_history.specs.Ways.{OfText}
+use Rattle.psy_meaning.specs.KnownWays.{OfText}
 use Rattle.psy_history.specs.Actions.{Action, Opening}
 use Rattle.psy_history.specs.History.{history}
 use Rattle.psy_history.specs.Schedule.{is_pending}
@@ -53,9 +53,6 @@ returns-clause-looks c = λ plan opening inputs script date cycle agent r before
       fronts = c.queues.ensures.look;
       sends = c.deeds.ensures.sends;
       takes = c.deeds.ensures.takes;
-      rings = c.compiled.ensures.ring;
-      queues = c.compiled.ensures.queue;
-      outboxes = c.compiled.ensures.outbox;
     } in
     looks plan opening inputs (stalls_of script) h.of_plan run script date cycle h.low h.high laws (supply_of c plan opening inputs script date cycle h) agent r before is (gets_by c plan opening inputs script date cycle agent r before h is pending)
 

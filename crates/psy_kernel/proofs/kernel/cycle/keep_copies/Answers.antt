@@ -4,7 +4,7 @@ use Rattle.std.proofs.lemmas.Option.{slice_get_within}
 use Rattle.psy_code.specs.Execution.{copy_from, copy_of}
 use Rattle.psy_meaning.specs.Alike.{owned_from}
 use Rattle.psy_tree.specs.declared.unit.VarDecl.{VarDecl}
-use Rattle.psy_kernel.proofs.KeptCopies.{copies_of, own_owned, owned_own}
+use Rattle.psy_dates.proofs.lemmas.OwnCopies.{copies_of, own_owned, owned_own}
 use Rattle.psy_kernel.proofs.kernel.cycle.keep_copies.Goals as goal
 
 pub keep_listed-requires-clause-known : goal.keep_listed-requires-clause-known

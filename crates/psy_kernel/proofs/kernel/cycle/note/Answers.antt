@@ -12,7 +12,7 @@ use Rattle.psy_base.specs.Extremes.{greater}
 use Rattle.psy_tree.specs.declared.unit.VarDecl.{VarDecl}
 use Rattle.psy_kernel.specs.Cycles.{IsNear, reach_by}
 use Rattle.psy_kernel.specs.Seeing.{clock_in}
-use Rattle.psy_kernel.proofs.Sets.{get_set_other, get_set_same}
+use Rattle.psy_dates.proofs.lemmas.Sets.{get_set_other, get_set_same}
 use Rattle.psy_kernel.proofs.kernel.cycle.note.Goals as goal
 use Rattle.psy_tree.specs.Parts.{no_variable}
 

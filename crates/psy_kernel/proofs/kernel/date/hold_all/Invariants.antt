@@ -1,5 +1,6 @@
 -- What each loop of `kernel::date::hold_all` keeps.
-use Rattle.psy_kernel.specs.Starting.{IsDoneBelow, held_at}
+use Rattle.psy_dates.specs.Movers.{IsDoneBelow}
+use Rattle.psy_kernel.specs.Starting.{held_at}
 use Rattle.psy_kernel.proofs.kernel.date.hold_all.Given as goal
 
 abbrev pub invariant-each : goal.invariant-each

@@ -25,10 +25,10 @@ walking-preserved c =
     let plan = c.args.plan.now in
     let within : c.walking.at < length plan.unit.agents + length plan.unit.variables = omega (arith, c.walking-test.true, c.len-agents.ensures, c.len.ensures) in
     record {
-      within = omega (arith, c.walking-test.true);
+      within = omega (arith, c.may_tell-at-in-walking.ensures.within.1, c.len-agents.ensures, c.len.ensures);
       line = c.if-told.ensures.kept refl ∙ c.walking.invariant.line;
       told = λ opening stalls turns stands.
-          walked_on (opened_of plan opening c.args.shared.now.inputs.lists stalls) c.args.date c.args.place c.walking.at c.walking.line c.tell_place-told.new.line within (c.walking.invariant.told opening stalls turns stands) (c.if-told.ensures.told opening stalls turns stands);
+          c.may_tell-at-in-walking.ensures.told opening stalls turns stands ∙ walked_on (opened_of plan opening c.args.shared.now.inputs.lists stalls) c.args.date c.args.place c.walking.at c.walking.line c.tell_place-told.new.line within (c.walking.invariant.told opening stalls turns stands) (c.if-told.ensures.told opening stalls turns stands);
     }
 
 pub returns-then-not-any_had-clause-told : goal.returns-then-not-any_had-clause-told

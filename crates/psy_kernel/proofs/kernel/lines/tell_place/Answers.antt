@@ -7,7 +7,7 @@ use Rattle.psy_tree.specs.declared.unit.AgentDecl.{AgentDecl}
 use Rattle.psy_tree.specs.declared.unit.VarDecl.{VarDecl}
 use Rattle.psy_tree.specs.Parts.{agent_at, variable_at}
 use Rattle.psy_dates.specs.Plans.{opened_of, system_of}
-use Rattle.psy_history.specs.Ways.{OfText}
+use Rattle.psy_meaning.specs.KnownWays.{OfText}
 use Rattle.psy_kernel.specs.Telling.{TellsValue}
 use Rattle.psy_kernel.proofs.Named.{agent_found, variable_found}
 use Rattle.psy_kernel.proofs.PlacesTold.{agent_told, variable_told}

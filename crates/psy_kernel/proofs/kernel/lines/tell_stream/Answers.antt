@@ -4,7 +4,7 @@ use Rattle.std.proofs.lemmas.Option.{slice_get_read}
 use Rattle.psy_tree.specs.declared.unit.StreamDecl.{StreamDecl}
 use Rattle.psy_tree.specs.Parts.{stream_at}
 use Rattle.psy_dates.specs.Plans.{opened_of, system_of}
-use Rattle.psy_history.specs.Ways.{OfText}
+use Rattle.psy_meaning.specs.KnownWays.{OfText}
 use Rattle.psy_kernel.proofs.Named.{stream_found}
 use Rattle.psy_kernel.proofs.StreamsTold.{stream_told}
 use Rattle.psy_kernel.proofs.kernel.lines.tell_stream.Goals as goal

@@ -1,0 +1,110 @@
+-- The working copies of an agent's code are those of the variables that it owns.
+use Rattle.std.proofs.Common.{◌≡◌, refl, sym, ap, subst, ◌∙◌, inl, inr, arith, map}
+use Rattle.std.specs.Prelude.{◌⊎◌, ℕ, zero, suc, ◌+◌, ◌<◌, if◌then◌else◌, List, [], ◌∷◌, ◌++◌, length, get_or, Option, Some, None, slice_get}
+use Rattle.std.proofs.lemmas.Bool.{cases_eq, eq-eqb, ne_eqb}
+use Rattle.std.proofs.lemmas.Option.{slice_get-get_or, slice_get_read}
+use Rattle.psy_code.specs.declared.code.AgentCode.{AgentCode}
+use Rattle.psy_code.specs.declared.code.Code.{Code}
+use Rattle.psy_code.specs.declared.code.CopyInit.{CopyInit}
+use Rattle.psy_code.specs.Execution.{Copy, copy_from}
+use Rattle.psy_meaning.specs.Alike.{ActsAlike, owned_copy, owned_from}
+use Rattle.psy_tree.specs.Parts.{agent_at, no_agent}
+use Rattle.psy_tree.specs.declared.unit.Unit.{Unit as Whole}
+use Rattle.psy_tree.specs.declared.unit.VarDecl.{VarDecl}
+
+-- ---- what is listed
+
+-- The variable of this number is one of these, counted from a number on, and the agent owns it.
+abbrev IsOwned : ℕ → ℕ → List VarDecl → ℕ → Type 0
+IsOwned agent first variables number = (n : ℕ) × (v : VarDecl) × (number ≡ first + n) × (slice_get variables n ≡ Some v) × (v.owner ≡ Some agent)
+
+abbrev IsListed : List Copy → ℕ → Type 0
+IsListed copies number = (place : ℕ) × (c : Copy) × (slice_get copies place ≡ Some c) × (c.variable ≡ number)
+
+at_front : {X : Type 0} (xs ys : List X) (place : ℕ) (x : X) → slice_get xs place ≡ Some x → slice_get (xs ++ ys) place ≡ Some x
+at_front [] ys place x e = cc
+at_front (y ∷ xs) ys zero x e = e
+at_front (y ∷ xs) ys (suc place) x e = at_front xs ys place x e
+
+at_back : {X : Type 0} (xs ys : List X) (place : ℕ) → slice_get (xs ++ ys) (length xs + place) ≡ slice_get ys place
+at_back [] ys place = (let same : 0 + place ≡ place = omega arith in ap (slice_get ys) same)
+at_back (x ∷ xs) ys place = (let same : suc (length xs) + place ≡ suc (length xs + place) = omega arith in ap (slice_get ((x ∷ xs) ++ ys)) same ∙ at_back xs ys place)
+
+one_listed : (agent first : ℕ) (v : VarDecl) (rest : List Copy) → v.owner ≡ Some agent → IsListed (owned_copy agent first v v.owner ++ rest) first
+one_listed agent first v rest owned =
+    let same : owned_copy agent first v v.owner ≡ record { variable = first; value = v.init } ∷ [] =
+    ap (owned_copy agent first v) owned ∙ ap (λ b. if b then record { variable = first; value = v.init } ∷ [] else []) (eq-eqb agent agent refl) in
+    subst (λ copies. IsListed (copies ++ rest) first) (sym same) (0, record { variable = first; value = v.init }, refl, refl)
+
+later_listed : (here rest : List Copy) (number : ℕ) → IsListed rest number → IsListed (here ++ rest) number
+later_listed here rest number l = (length here + l.0, l.1, at_back here rest l.0 ∙ l.2, l.3)
+
+-- Each variable that the agent owns is listed.
+listed_from : (agent first : ℕ) (variables : List VarDecl) (n : ℕ) (v : VarDecl) → slice_get variables n ≡ Some v → v.owner ≡ Some agent → IsListed (owned_from agent first variables) (first + n)
+listed_from agent first [] n v at owned = cc
+listed_from agent first (w ∷ rest) zero v at owned =
+    let same : w ≡ v = cc in
+    subst (IsListed (owned_from agent first (w ∷ rest))) (omega arith) (one_listed agent first w (owned_from agent (first + 1) rest) (ap (λ (x : VarDecl). x.owner) same ∙ owned))
+listed_from agent first (w ∷ rest) (suc n) v at owned =
+    subst (IsListed (owned_from agent first (w ∷ rest))) (omega arith)
+    (later_listed (owned_copy agent first w w.owner) (owned_from agent (first + 1) rest) (first + 1 + n) (listed_from agent (first + 1) rest n v at owned))
+
+owned_here : (agent first : ℕ) (v : VarDecl) (owner : Option ℕ) (place : ℕ) (c : Copy) → slice_get (owned_copy agent first v owner) place ≡ Some c → (owner ≡ Some agent) × (c.variable ≡ first)
+owned_here agent first v None place c at = cc
+owned_here agent first v (Some owner) place c at = elim (cases_eq owner agent) [
+  | inl same ↦
+      let one : owned_copy agent first v (Some owner) ≡ record { variable = first; value = v.init } ∷ [] = ap (λ b. if b then record { variable = first; value = v.init } ∷ [] else []) (eq-eqb owner agent same) in
+      (ap Some same, only place (ap (λ xs. slice_get xs place) (sym one) ∙ at))
+  | inr other ↦
+      let none : owned_copy agent first v (Some owner) ≡ [] = ap (λ b. if b then record { variable = first; value = v.init } ∷ [] else []) (ne_eqb owner agent other) in
+      let wrong : slice_get {X = Copy} [] place ≡ Some c = ap (λ xs. slice_get xs place) (sym none) ∙ at in cc
+]
+  where
+    only : (n : ℕ) → slice_get (record { variable = first; value = v.init } ∷ []) n ≡ Some c → c.variable ≡ first
+    only zero e = cc
+    only (suc n) e = cc
+
+in_either : {X : Type 0} (xs ys : List X) (place : ℕ) (x : X) → slice_get (xs ++ ys) place ≡ Some x → (slice_get xs place ≡ Some x) ⊎ ((n : ℕ) × (slice_get ys n ≡ Some x))
+in_either [] ys place x e = inr (place, e)
+in_either (y ∷ xs) ys zero x e = inl e
+in_either (y ∷ xs) ys (suc place) x e = in_either xs ys place x e
+
+-- Each variable that is listed is one that the agent owns.
+owned_each : (agent first : ℕ) (variables : List VarDecl) (place : ℕ) (c : Copy) → slice_get (owned_from agent first variables) place ≡ Some c → IsOwned agent first variables c.variable
+owned_each agent first [] place c at = cc
+owned_each agent first (v ∷ rest) place c at = elim (in_either (owned_copy agent first v v.owner) (owned_from agent (first + 1) rest) place c at) [
+  | inl here ↦ (let found = owned_here agent first v v.owner place c here in (0, v, found.1 ∙ omega arith, refl, found.0))
+  | inr later ↦ (let found = owned_each agent (first + 1) rest later.0 c later.1 in (suc found.0, found.1, found.2 ∙ omega arith, found.3, found.4))
+]
+
+-- ---- of code
+
+copied : (own : List CopyInit) (place : ℕ) (c : CopyInit) → slice_get own place ≡ Some c → slice_get (map copy_from own) place ≡ Some (copy_from c)
+copied [] place c e = cc
+copied (d ∷ own) zero c e = (let same : d ≡ c = cc in ap (λ x. Some (copy_from x)) same)
+copied (d ∷ own) (suc place) c e = copied own place c e
+
+copied_back : (own : List CopyInit) (place : ℕ) (c : Copy) → slice_get (map copy_from own) place ≡ Some c → (d : CopyInit) × (slice_get own place ≡ Some d) × (d.variable ≡ c.variable)
+copied_back [] place c e = cc
+copied_back (d ∷ own) zero c e = (let same : copy_from d ≡ c = cc in (d, refl, ap (λ (x : Copy). x.variable) same))
+copied_back (d ∷ own) (suc place) c e = copied_back own place c e
+
+module _ (agent : ℕ) (variables : List VarDecl) (own : List CopyInit) (is : map copy_from own ≡ owned_from agent 0 variables) where
+  pub own_owned : (place : ℕ) (c : CopyInit) → slice_get own place ≡ Some c → (v : VarDecl) × (slice_get variables c.variable ≡ Some v) × (v.owner ≡ Some agent)
+  own_owned place c at =
+      let found = owned_each agent 0 variables place (copy_from c) (ap (λ xs. slice_get xs place) (sym is) ∙ copied own place c at) in
+      (found.1, ap (slice_get variables) (found.2 ∙ omega arith) ∙ found.3, found.4)
+
+  pub owned_own : (variable : ℕ) (v : VarDecl) → slice_get variables variable ≡ Some v → v.owner ≡ Some agent → (place : ℕ) × (c : CopyInit) × (slice_get own place ≡ Some c) × (c.variable ≡ variable)
+  owned_own variable v at owned =
+      let listed = listed_from agent 0 variables variable v at owned in
+      let back = copied_back own listed.0 listed.1 (ap (λ xs. slice_get xs listed.0) is ∙ listed.2) in
+      (listed.0, back.0, back.1, back.2 ∙ listed.3 ∙ omega arith)
+
+-- The copies of an agent's code are those of the variables that it owns.
+pub copies_of : (unit : Whole) (code : Code) → ActsAlike unit code → (agent : ℕ) → agent < length unit.agents → (agents : List AgentCode) → agents ≡ code.agents → (its : AgentCode) → its ≡ get_or agents agent its
+    → (own : List CopyInit) → own ≡ its.copies → map copy_from own ≡ owned_from agent 0 unit.variables
+copies_of unit code alike agent known agents same its is own of =
+    let within : agent < length code.agents = omega (arith, known, alike.agents) in
+    let at : slice_get code.agents agent ≡ Some its = slice_get_read code.agents (length code.agents) agent its refl within (is ∙ ap (λ xs. get_or xs agent its) same) in
+    ap (map copy_from) of ∙ (alike.each agent (agent_at unit agent) its (slice_get-get_or unit.agents agent no_agent known) at).copies

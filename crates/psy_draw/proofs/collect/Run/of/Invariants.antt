@@ -1,9 +1,0 @@
--- What each loop of `collect::Run::of` keeps.
-use Rattle.std.proofs.Common.{◌≡◌, ℕ, ◌<◌, true, get_or}
-use Rattle.psy_log.specs.declared.note.Note.{Note}
-use Rattle.psy_draw.specs.Tables.{is_among}
-use Rattle.psy_draw.proofs.collect.Run.of.Given as goal
-
--- The names so far are listed
-abbrev pub invariant-loop-index : goal.invariant-loop-index
-invariant-loop-index l = (k : ℕ) (d : Note) → k < l.index → is_among l.listed (get_or l.notes k d) ≡ true

@@ -1,0 +1,102 @@
+//! The lane of a variable with few values: a box for each, with the value in it.
+
+ghost use Rattle.std.specs.Prelude.{◌≡◌, ◌≤◌, ◌++◌, OnOk};
+ghost use Rattle.psy_draw.specs.Columns.{end_of};
+ghost use Rattle.psy_draw.specs.Strokes.{outline};
+
+use crate::column::Column;
+use crate::labels::{self, Extent};
+use crate::page::Page;
+use crate::piece::Piece;
+use crate::scale::PLOT_WIDTH;
+use psy_base::Memory;
+
+/// The height of a lane.
+pub const BOXES_HEIGHT: u32 = 36;
+
+// What stays free at both sides of a value.
+const PADDING: u32 = 4;
+
+/// Draws a variable.
+pub fn draw_boxes(page: &mut Page, columns: &[Column]) -> Result<(), Memory> {
+    put_outlines(page, b"box", true, columns)?;
+    put_outlines(page, b"box dense", false, columns)?;
+    put_values(page, columns)
+}
+
+// Draws the boxes of the columns with one value, or of those with more.
+fn put_outlines(
+    page: &mut Page,
+    class: &[u8],
+    even: bool,
+    columns: &[Column],
+) -> Result<(), Memory> {
+    page.put(&[
+        Piece::Raw(b"<path class=\""),
+        Piece::Raw(class),
+        Piece::Raw(b"\" d=\""),
+    ])?;
+    put_boxes(page, even, columns)?;
+    page.put(&[Piece::Raw(b"\"/>\n")])
+}
+
+fn put_boxes(page: &mut Page, even: bool, columns: &[Column]) -> Result<(), Memory> {
+    let mut rest = columns;
+    while let Some((column, later)) = rest.split_first() {
+        put_box(page, even, column, end_of(later))?;
+        rest = later;
+    }
+    Ok(())
+}
+
+fn put_box(page: &mut Page, even: bool, column: &Column, to: u32) -> Result<(), Memory> {
+    if column.is_even() == even {
+        put_outline(page, column.x, to)
+    } else {
+        Ok(())
+    }
+}
+
+fn put_outline(page: &mut Page, from: u32, to: u32) -> Result<(), Memory>
+    ensures { OnOk result (page.new ≡ page.old ++ outline from to) }
+{
+    page.put(&[
+        Piece::Raw(b"M"),
+        Piece::Number(from),
+        Piece::Raw(b" 8H"),
+        Piece::Number(to),
+        Piece::Raw(b"V28H"),
+        Piece::Number(from),
+        Piece::Raw(b"Z"),
+    ])
+}
+
+// Writes the values, where there is room in their boxes.
+fn put_values(page: &mut Page, columns: &[Column]) -> Result<(), Memory> {
+    let mut rest = columns;
+    while let Some((column, later)) = rest.split_first() {
+        put_value(page, column, end_of(later))?;
+        rest = later;
+    }
+    Ok(())
+}
+
+fn put_value(page: &mut Page, column: &Column, to: u32) -> Result<(), Memory> {
+    let extent = Extent::new(column.x + PADDING, labels::width(column.first));
+    if column.is_even() && extent.to + PADDING <= to {
+        labels::put_label(page, extent.from, 22, column.first)
+    } else {
+        Ok(())
+    }
+}
+
+/// Where the first of these columns begins, or the plot ends.
+pub fn end_of(columns: &[Column]) -> u32
+    ensures place { result ≡ end_of columns.now }
+    ensures within { result ≤ 960 }
+{
+    match columns.first() {
+        Some(column) => column.x,
+        None => PLOT_WIDTH,
+    }
+}

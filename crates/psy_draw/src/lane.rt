@@ -1,0 +1,66 @@
+//! A lane of a picture.
+
+ghost use Rattle.std.specs.Prelude.{◌≡◌, ◌≤◌, length};
+ghost use Rattle.psy_draw.specs.Shapes.{class_of, columns_of, height_of};
+
+use crate::boxes::BOXES_HEIGHT;
+use crate::column::Column;
+use crate::curve::CURVE_HEIGHT;
+use crate::messages::MESSAGES_HEIGHT;
+use crate::stops::{STOP_HEIGHT, Stop};
+
+/// A lane: a name, and what is drawn beside it.
+#[derive(Drop)]
+pub struct Lane<'a> {
+    pub name: &'a [u8],
+    pub shape: Shape,
+}
+
+/// What is drawn in a lane.
+#[derive(Drop)]
+pub enum Shape {
+    /// The stop of an agent.
+    Stop(Stop),
+    /// The values of a variable, as a line.
+    Curve(Vec<Column>),
+    /// The values of a variable that has few, as boxes.
+    Boxes(Vec<Column>),
+    /// The messages of a stream, as marks.
+    Marks(Vec<Column>),
+}
+
+impl<'a> Lane<'a> {
+    /// Its height.
+    pub fn height(&self) -> u32
+        ensures high { result ≡ height_of self.now.shape }
+        ensures low { result ≤ 64 }
+    {
+        match self.shape {
+            Shape::Stop(_) => STOP_HEIGHT,
+            Shape::Curve(_) => CURVE_HEIGHT,
+            Shape::Boxes(_) => BOXES_HEIGHT,
+            Shape::Marks(_) => MESSAGES_HEIGHT,
+        }
+    }
+
+    /// The class of its group.
+    pub fn class(&self) -> &'static [u8]
+        ensures { result.now ≡ class_of self.now.shape }
+    {
+        match self.shape {
+            Shape::Stop(_) => b"stop",
+            Shape::Curve(_) | Shape::Boxes(_) => b"variable",
+            Shape::Marks(_) => b"stream",
+        }
+    }
+
+    /// How many columns it has.
+    pub fn columns(&self) -> usize
+        ensures { result ≡ length (columns_of self.now.shape) }
+    {
+        match &self.shape {
+            Shape::Stop(_) => 0,
+            Shape::Curve(columns) | Shape::Boxes(columns) | Shape::Marks(columns) => columns.len(),
+        }
+    }
+}

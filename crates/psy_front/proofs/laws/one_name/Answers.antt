@@ -1,6 +1,0 @@
--- What is left of the proof of `laws::one_name`.
-use Rattle.psy_front.proofs.Words.{one_name}
-use Rattle.psy_front.proofs.laws.one_name.Goals as goal
-
-pub returns : goal.returns
-returns c = one_name

@@ -1,0 +1,25 @@
+-- The ways of code beside those of statements, by subject.
+pub mod Agents
+pub mod Behinds
+pub mod Counts
+pub mod Courses
+pub mod Delays
+pub mod Exprs
+pub mod ExprSteps
+pub mod Flows
+pub mod Gauges
+pub mod Joins
+pub mod Kinds
+pub mod Lists
+pub mod Measures
+pub mod Modes
+pub mod Passing
+pub mod Points
+pub mod Rests
+pub mod Rounds
+pub mod Same
+pub mod Stays
+pub mod Stmts
+pub mod Suits
+pub mod Turns
+pub mod Walks

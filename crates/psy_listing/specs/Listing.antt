@@ -1,0 +1,40 @@
+-- The listing of a program's code.
+use Rattle.std.specs.Prelude.{ℕ, List, [], ◌++◌, Option, None, Some, codes, decimal, flat_map, get_or, length, slice_get}
+use Rattle.std.specs.List.{range_with_len}
+use Rattle.psy_code.specs.declared.code.Code.{Code}
+use Rattle.psy_code.specs.declared.instr.Instr.{Instr}
+use Rattle.psy_meaning.specs.CodeWays.{code_of, place_of}
+use Rattle.psy_tree.specs.declared.unit.Unit.{Unit as Whole}
+use Rattle.psy_tree.specs.Parts.{agent_at}
+use Rattle.psy_listing.specs.Instructions.{instr_text}
+use Rattle.psy_listing.specs.Straight.{straight_way}
+
+-- The head line of a point
+abbrev pub head_line : List ℕ → ℕ → ℕ → List ℕ
+head_line agent point place = codes "agent " ++ agent ++ codes " point " ++ decimal point ++ codes " at " ++ decimal place ++ codes "\n"
+
+-- The instruction at a place, where there is one
+abbrev pub at_text : Whole → Option Instr → List ℕ
+at_text unit None = []
+at_text unit (Some i) = instr_text unit i
+
+-- The line of an instruction of a way: its number, its place, and what it is
+abbrev pub step_text : Whole → List Instr → List ℕ → ℕ → List ℕ
+step_text unit instrs places number =
+    let place = get_or places number 0 in
+    codes "  " ++ decimal number ++ codes " at " ++ decimal place ++ codes ": " ++ at_text unit (slice_get instrs place) ++ codes "\n"
+
+-- A point of an agent: its head line, and the straight way from its place, numbered from 0
+abbrev pub point_text : Whole → Code → ℕ → ℕ → List ℕ
+point_text unit code agent point =
+    let places = straight_way code.instrs (place_of code agent point) in
+    head_line (agent_at unit agent).name point (place_of code agent point)
+    ++ flat_map (step_text unit code.instrs places) (range_with_len 0 (length places))
+
+-- The points of an agent
+abbrev pub agent_text : Whole → Code → ℕ → List ℕ
+agent_text unit code agent = flat_map (point_text unit code agent) (range_with_len 0 (length (code_of code agent).points))
+
+-- The points of all agents
+abbrev pub listing_of : Whole → Code → List ℕ
+listing_of unit code = flat_map (agent_text unit code) (range_with_len 0 (length unit.agents))

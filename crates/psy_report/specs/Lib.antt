@@ -1,0 +1,5 @@
+-- The definitions of this crate, by subject.
+pub mod Agents
+pub mod Reports
+pub mod Tightness
+pub mod Warnings

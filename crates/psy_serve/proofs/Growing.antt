@@ -1,0 +1,52 @@
+-- What a sink holds behind a text, and behind what was added to it.
+use Rattle.std.proofs.Common.{◌≡◌, ◌≢◌, ℕ, true, false, List, [], ◌++◌, Option, None, Some, inl, inr, sym, ap, subst, ◌∙◌, append_assoc, ◌≤◌, arith}
+use Rattle.std.specs.Prelude.{MatchBool, MatchOption, ⊤}
+use Rattle.std.proofs.lemmas.Bool.{true≢false}
+use Rattle.std.proofs.lemmas.Option.{none-some, same_Some}
+use Rattle.psy_door.specs.Faults.{Rose}
+use Rattle.psy_door.specs.Files.{Files}
+use Rattle.psy_door.specs.Growth.{Grew}
+use Rattle.psy_last.specs.Lasts.{last_line, short}
+use Rattle.psy_last.specs.Remembering.{IsFresh}
+use Rattle.psy_serve.specs.Behind.{IsBehind, IsExplained}
+use Rattle.psy_serve.specs.Speaking.{is_refusal}
+
+-- One text was added, and another behind it.
+pub grew_on : (old mid now : Option (List ℕ)) (text more : List ℕ) → Grew old mid text → Grew mid now more → Grew old now (text ++ more)
+grew_on old mid None text more first second = tt
+grew_on None None (Some n) text more first second = absurd second
+grew_on (Some o) None (Some n) text more first second = absurd second
+grew_on None (Some m) (Some n) text more first second = absurd first
+grew_on (Some o) (Some m) (Some n) text more first second = second ∙ ap (λ b. b ++ more) first ∙ append_assoc o text more
+
+-- Behind the text of a refusal its last line is explained over the files that are told then, where nothing stood before the text.
+pub explained_behind : (words : List (List ℕ)) (files seen : Option Files) (status : ℕ) (text more piece : List ℕ) (old mid now : Option (List ℕ))
+    → is_refusal status ≡ true → seen ≡ files → IsFresh old → Grew old mid text → Grew mid now piece
+    → MatchOption mid ⊤ (λ bytes. IsExplained words seen (last_line bytes) more) → MatchOption now ⊤ (λ all. IsBehind words files status text more)
+explained_behind words files seen status text more piece old mid None refusal alike fresh first second explained = tt
+explained_behind words files seen status text more piece None None (Some n) refusal alike fresh first second explained = absurd second
+explained_behind words files seen status text more piece (Some o) None (Some n) refusal alike fresh first second explained = absurd second
+explained_behind words files seen status text more piece None (Some m) (Some n) refusal alike fresh first second explained = absurd first
+explained_behind words files seen status text more piece (Some o) (Some m) (Some n) refusal alike fresh first second explained =
+    let none : o ≡ [] = elim fresh [
+      | inl untold ↦ absurd (none-some o (sym untold))
+      | inr empty ↦ same_Some o [] empty
+    ] in
+    let same : m ≡ text = first ∙ ap (λ b. b ++ text) none in
+    subst (λ b. MatchBool b (IsExplained words files (last_line text) more) (more ≡ [])) (sym refusal)
+    (subst (λ f. IsExplained words f (last_line text) more) alike (subst (λ bytes. IsExplained words seen (last_line bytes) more) same explained))
+
+-- A status with which nothing was refused isn't that of a refusal.
+pub no_refusal : (status other : ℕ) → is_refusal status ≡ true → is_refusal other ≡ false → status ≢ other
+no_refusal status other refusal none same = true≢false (sym refusal ∙ ap is_refusal same ∙ none)
+
+-- A count that rose from a later one on rose from an earlier one on.
+pub rose_before : (before between after : ℕ) → before ≤ between → Rose between after → Rose before after
+rose_before before between after less rose = omega arith
+
+-- Behind what a sink remembers its last line is explained.
+pub last_explained : (words : List (List ℕ)) (files : Option Files) (held last : Option (List ℕ)) (more : List ℕ)
+    → MatchOption held ⊤ (λ bytes. last ≡ short (last_line bytes)) → ((line : List ℕ) → last ≡ short line → IsExplained words files line more)
+    → MatchOption held ⊤ (λ bytes. IsExplained words files (last_line bytes) more)
+last_explained words files None last more told is = tt
+last_explained words files (Some bytes) last more told is = is (last_line bytes) told

@@ -1,0 +1,51 @@
+-- Which earlier line of inputs or of a script says the same as a line: gives an input its values, stalls there, or orders from that cycle on.
+use Rattle.std.specs.Prelude.{ℕ, suc, Bool, false, ◌&&◌, if◌then◌else◌, List, [], ◌∷◌, codes, bytes_eq, Option, None, Some, option_map}
+use Rattle.std.specs.List.{list_any}
+use Rattle.psy_slip.specs.declared.slip.File.{File}
+use Rattle.psy_slip.specs.declared.slip.File.TheVariants.{Program, Inputs, Script}
+use Rattle.psy_slip.specs.Numbers.{is_same_number}
+use Rattle.psy_text.specs.Lines.{lines_of}
+use Rattle.psy_text.specs.Words.{words_of}
+
+-- Two lines, by their words, are of one name.
+abbrev pub is_same_name : List (List ℕ) → List (List ℕ) → Bool
+is_same_name (name ∷ values) (other ∷ others) = bytes_eq name other
+is_same_name _ _ = false
+
+-- Two stalls, by the words behind `stall`, are of one instruction of one action of one agent.
+unfoldable pub is_same_stall : List (List ℕ) → List (List ℕ) → Bool
+is_same_stall (agent ∷ action ∷ instr ∷ cycles ∷ []) (other ∷ act ∷ place ∷ taken ∷ []) =
+    bytes_eq agent other && (is_same_number action act && is_same_number instr place)
+is_same_stall _ _ = false
+
+-- Two orders, by the words behind `order`, begin with one cycle.
+unfoldable pub is_same_order : List (List ℕ) → List (List ℕ) → Bool
+is_same_order (cycle ∷ names) (other ∷ others) = is_same_number cycle other
+is_same_order _ _ = false
+
+-- Two lines of a script, by their words, say the same.
+abbrev pub is_same_statement : List (List ℕ) → List (List ℕ) → Bool
+is_same_statement (word ∷ words) (other ∷ others) =
+    if bytes_eq word (codes "stall") then bytes_eq other (codes "stall") && is_same_stall words others
+    else bytes_eq word (codes "order") && (bytes_eq other (codes "order") && is_same_order words others)
+is_same_statement _ _ = false
+
+-- Two lines of a file, by their words, say the same; of a program's nothing is told.
+abbrev pub is_said_by : File → List (List ℕ) → List (List ℕ) → Bool
+is_said_by Program words others = false
+is_said_by Inputs words others = is_same_name words others
+is_said_by Script words others = is_same_statement words others
+
+-- The number, from 1, of the first element that passes a test
+abbrev pub first_number : {X : Type 0} → (X → Bool) → List X → Option ℕ
+first_number p [] = None
+first_number p (x ∷ xs) = if p x then Some 1 else option_map suc (first_number p xs)
+
+-- The number, from 1, of the first line of a text that says the same as these words
+abbrev pub first_like : File → List (List ℕ) → List ℕ → Option ℕ
+first_like file words text = first_number (λ line. is_said_by file words (words_of line)) (lines_of text)
+
+-- The first word that stands again behind itself
+abbrev pub first_repeated : List (List ℕ) → Option (List ℕ)
+first_repeated [] = None
+first_repeated (word ∷ words) = if list_any (bytes_eq word) words then Some word else first_repeated words

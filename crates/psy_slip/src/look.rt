@@ -1,0 +1,139 @@
+//! What a file looks like that may stand in another's place.
+ghost use Rattle.std.specs.Prelude.{◌≡◌, ◌++◌, IfOk, OnOk, map};
+ghost use Rattle.std.specs.List.{list_all};
+ghost use Rattle.psy_slip.specs.Looks.{are_values, begins_program, begins_statement, called, file_hint, first_said, is_like, is_marked};
+ghost use Rattle.psy_slip.specs.Looks.{look_in, look_told, unlike};
+ghost use Rattle.psy_text.specs.Words.{is_value};
+
+use crate::slip::File;
+use psy_base::Memory;
+use psy_text::line::{cut_line, is_skipped};
+use psy_text::word::{is_value, words_of};
+use std::alloc::{AllocError, Global};
+
+/// A line that tells of the whole of a file, which should be of this sort: that a byte order mark stands in front, or that it looks like one of another
+/// sort; nothing where neither is so. The only error is want of memory.
+pub fn file_hint(alloc: Global, wanted: File, text: &[u8]) -> Result<Vec<u8>, Memory>
+    ensures { IfOk result (λ hint. hint.items ≡ file_hint wanted text.now) }
+{
+    let mut hint = Vec::new(alloc);
+    if is_marked(text) {
+        hint.extend_from_slice(
+            b"hint: this file begins with a byte order mark, the bytes EF BB BF: save it without one\n",
+        )?;
+        return Ok(hint);
+    }
+    let words = words_of(alloc, first_said(text))?;
+    add_look(&mut hint, wanted, words.as_slice())?;
+    Ok(hint)
+}
+
+// The first line that says something; an empty one where none does.
+fn first_said(text: &[u8]) -> &[u8]
+    ensures { result.now ≡ first_said text.now }
+{
+    let mut rest = text;
+    'each: while let Some(cut) = cut_line(rest) {
+        if !is_skipped(cut.front) {
+            return cut.front;
+        }
+        rest = cut.rest;
+    }
+    b""
+}
+
+fn is_marked(text: &[u8]) -> bool
+    ensures { result ≡ is_marked text.now }
+{
+    text.starts_with(b"\xEF\xBB\xBF")
+}
+
+fn add_look(out: &mut Vec<u8>, wanted: File, words: &[&[u8]]) -> Result<(), AllocError>
+    ensures { OnOk result (out.new.items ≡ out.old.items ++ look_told wanted (map (λ w. w.now) words.now)) }
+{
+    if is_like(wanted, words) {
+        return Ok(());
+    }
+    add_unlike(out, wanted, look_in(words))
+}
+
+fn add_unlike(out: &mut Vec<u8>, wanted: File, look: Option<File>) -> Result<(), AllocError>
+    ensures { OnOk result (out.new.items ≡ out.old.items ++ unlike wanted look) }
+{
+    let Some(look) = look else { return Ok(()) };
+    out.extend_from_slice(b"hint: this file looks like ")?;
+    out.extend_from_slice(called(look))?;
+    out.extend_from_slice(b", not like ")?;
+    out.extend_from_slice(called(wanted))?;
+    out.push(b'\n')?;
+    Ok(())
+}
+
+fn called(file: File) -> &'static [u8]
+    ensures { result.now ≡ called file }
+{
+    match file {
+        File::Program => b"a program",
+        File::Inputs => b"inputs",
+        File::Script => b"a script",
+    }
+}
+
+// The first of the sorts that a file looks like, by the words of its first line that says something.
+fn look_in(words: &[&[u8]]) -> Option<File>
+    ensures { result ≡ look_in (map (λ w. w.now) words.now) }
+{
+    if is_like(File::Program, words) {
+        Some(File::Program)
+    } else if is_like(File::Script, words) {
+        Some(File::Script)
+    } else if is_like(File::Inputs, words) {
+        Some(File::Inputs)
+    } else {
+        None
+    }
+}
+
+fn is_like(file: File, words: &[&[u8]]) -> bool
+    ensures { result ≡ is_like file (map (λ w. w.now) words.now) }
+{
+    let Some((word, more)) = words.split_first() else {
+        return false;
+    };
+    match file {
+        File::Program => begins_program(word),
+        File::Script => begins_statement(word),
+        File::Inputs => !begins_program(word) && are_values(more),
+    }
+}
+
+fn begins_program(word: &[u8]) -> bool
+    ensures { result ≡ begins_program word.now }
+{
+    word == b"tick".as_slice() || word.starts_with(b"/*")
+}
+
+fn are_values(words: &[&[u8]]) -> bool
+    ensures { result ≡ are_values (map (λ w. w.now) words.now) }
+{
+    !words.is_empty() && all_values(words)
+}
+
+fn all_values(words: &[&[u8]]) -> bool
+    ensures { result ≡ list_all is_value (map (λ w. w.now) words.now) }
+{
+    let mut rest = words;
+    'each: while let [word, more @ ..] = rest {
+        if !is_value(word) {
+            return false;
+        }
+        rest = more;
+    }
+    true
+}
+
+fn begins_statement(word: &[u8]) -> bool
+    ensures { result ≡ begins_statement word.now }
+{
+    word == b"stall".as_slice() || word == b"order".as_slice()
+}

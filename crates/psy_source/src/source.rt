@@ -1,0 +1,71 @@
+//! The program that a text stands for.
+ghost use Rattle.std.specs.Prelude.{◌≤◌, IfErr, IfOk, length};
+ghost use Rattle.psy_base.specs.declared.limits.TheConstants.{FILE_BYTES};
+ghost use Rattle.psy_meaning.specs.Units.{IsOfText};
+ghost use Rattle.psy_tree.specs.Stands.{Stands};
+ghost use Rattle.psy_source.specs.Programs.{AreTokensOf, IsLexical, IsProgram, IsRead, IsRefused, IsUnlawful, IsUnparsed, Stops};
+
+use crate::refusal::{Refusal, Stop};
+use psy_base::Items;
+use psy_meaning::laws::of_text;
+use psy_parse::ParseFault;
+use psy_rules::RuleFault;
+use psy_token::LexFault;
+use psy_tree::{Raw, Token, Unit};
+use std::alloc::Global;
+
+// The tokens of a text.
+fn lex(alloc: Global, bytes: &[u8]) -> Result<Items<Token>, Stop>
+    requires { length bytes.now ≤ FILE_BYTES }
+    ensures tokens { IfOk result (AreTokensOf bytes.now) }
+    ensures fault { IfErr result (Stops (IsLexical bytes.now)) }
+{
+    match psy_token::lex(alloc, bytes) {
+        Ok(tokens) => Ok(tokens),
+        Err(LexFault::Lexical { kind, place }) => {
+            Err(Stop::Refused(Refusal::Lexical { kind, place }))
+        }
+        Err(LexFault::Memory) => Err(Stop::Memory),
+    }
+}
+
+// The tree of tokens.
+fn parse(alloc: Global, tokens: &Items<Token>) -> Result<Raw, Stop>
+    requires { length tokens.now ≤ FILE_BYTES }
+    ensures tree { IfOk result (IsRead tokens.now) }
+    ensures fault { IfErr result (Stops (IsUnparsed tokens.now)) }
+{
+    match psy_parse::parse(alloc, tokens.as_slice()) {
+        Ok(raw) => Ok(raw),
+        Err(ParseFault::Deep(token)) => Err(Stop::Refused(Refusal::Deep(token))),
+        Err(ParseFault::Syntax(token)) => Err(Stop::Refused(Refusal::Syntax(token))),
+        Err(ParseFault::Memory) => Err(Stop::Memory),
+    }
+}
+
+// The program that a tree stands for.
+fn resolve(alloc: Global, raw: &Raw) -> Result<Unit, Stop>
+    ensures unit { IfOk result (λ unit. Stands unit raw.now) }
+    ensures fault { IfErr result (Stops (IsUnlawful raw.now)) }
+{
+    match psy_rules::resolve(alloc, raw) {
+        Ok(unit) => Ok(unit),
+        Err(RuleFault::Rule { kind, token }) => Err(Stop::Refused(Refusal::Rule { kind, token })),
+        Err(RuleFault::Many(count)) => Err(Stop::Refused(Refusal::Many(count))),
+        Err(RuleFault::Memory) => Err(Stop::Memory),
+    }
+}
+
+/// The program of a text of at most 262,144 bytes, or why it is none: its first fault, as psyc tells it. The only other error is want of memory.
+pub fn unit_of(alloc: Global, bytes: &[u8]) -> Result<Unit, Stop>
+    requires { length bytes.now ≤ FILE_BYTES }
+    // A unit is that of the text, and a refusal is the text's.
+    ensures unit { IfOk result (IsProgram bytes.now) }
+    ensures text { IfOk result IsOfText }
+    ensures refused { IfErr result (Stops (IsRefused bytes.now)) }
+{
+    of_text();
+    let tokens = lex(alloc, bytes)?;
+    let raw = parse(alloc, &tokens)?;
+    resolve(alloc, &raw)
+}

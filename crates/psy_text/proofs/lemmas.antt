@@ -1,0 +1,4 @@
+-- Lemmas that crates above may cite, by subject.
+pub mod Names
+pub mod Numerals
+pub mod Runs

@@ -1,8 +1,0 @@
--- What each loop of `refusals::joined` keeps.
-use Rattle.std.proofs.Common.{◌≡◌, take}
-use Rattle.std.specs.List.{flat_map}
-use Rattle.psy_view.proofs.refusals.joined.Given as goal
-
--- The pieces so far
-abbrev pub invariant-loop-piece : goal.invariant-loop-piece
-invariant-loop-piece l = l.line.items ≡ flat_map (λ piece. piece.now) (take l.piece-index l.pieces)

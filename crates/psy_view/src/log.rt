@@ -1,0 +1,129 @@
+//! Views of logs: tables, dumps, comparisons, and assertions.
+ghost use Rattle.std.specs.Prelude.{◌≡◌, ◌∷◌, [], ℕ, List, IfOk};
+ghost use Rattle.psy_listed.specs.Listing.{streams_in, variables_in};
+ghost use Rattle.psy_listed.specs.Logs.{IsLog};
+ghost use Rattle.psy_view.specs.Asked.{Dump, Table};
+ghost use Rattle.psy_view.specs.Views.{IsCompared, IsExpected, IsFaultOf, IsNoLog, ViewOf};
+
+use crate::refusals::{broken_line, unlisted_line, wrong_line};
+use crate::view::View;
+use psy_base::Memory;
+use psy_claims::{ClaimFault, expect};
+use psy_differ::{DiffFault, diff};
+use psy_listed::{Log, LogFault, read_log};
+use psy_table::csv;
+use psy_wave::vcd;
+use std::alloc::Global;
+
+/// The run in a text as a table.
+#[tactic(auto, using(crate::specs::Views::tabled, crate::specs::Views::no_table))]
+pub fn tabled(alloc: Global, name: &str, bytes: &[u8]) -> Result<View, Memory>
+    ensures { IfOk result (λ v. ViewOf (Table name.now) (bytes.now ∷ []) v.status v.text.items) }
+{
+    match csv(alloc, bytes) {
+        Ok(text) => Ok(View { status: 0, text }),
+        Err(fault) => Ok(View {
+            status: 1,
+            text: refusal(alloc, name, fault)?,
+        }),
+    }
+}
+
+/// The run in a text as a value change dump.
+#[tactic(auto, using(crate::specs::Views::dumped, crate::specs::Views::no_dump))]
+pub fn dumped(alloc: Global, name: &str, bytes: &[u8]) -> Result<View, Memory>
+    ensures { IfOk result (λ v. ViewOf (Dump name.now) (bytes.now ∷ []) v.status v.text.items) }
+{
+    match vcd(alloc, bytes) {
+        Ok(text) => Ok(View { status: 0, text }),
+        Err(fault) => Ok(View {
+            status: 1,
+            text: refusal(alloc, name, fault)?,
+        }),
+    }
+}
+
+/// The first difference of the runs in two texts.
+#[tactic(auto, using(crate::specs::Views::same, crate::specs::Views::differs, crate::specs::Views::first_breaks, crate::specs::Views::second_breaks))]
+pub fn compared(
+    alloc: Global,
+    name: &str,
+    other: &str,
+    first: &[u8],
+    second: &[u8],
+) -> Result<View, Memory>
+    ensures { IfOk result (λ v. IsCompared name.now other.now first.now second.now v.status v.text.items) }
+{
+    match diff(alloc, first, second) {
+        Ok(None) => Ok(View {
+            status: 0,
+            text: Vec::new(alloc),
+        }),
+        Ok(Some(text)) => Ok(View { status: 1, text }),
+        Err(DiffFault::First { line }) => Ok(View {
+            status: 1,
+            text: broken_line(alloc, name.as_bytes(), line, b"run")?,
+        }),
+        Err(DiffFault::Second { line }) => Ok(View {
+            status: 1,
+            text: broken_line(alloc, other.as_bytes(), line, b"run")?,
+        }),
+        Err(DiffFault::Memory) => Err(Memory),
+    }
+}
+
+/// The first assertion of a text that the run in another doesn't keep.
+#[tactic(auto, using(crate::specs::Views::no_log))]
+pub fn expected(
+    alloc: Global,
+    name: &str,
+    claims: &str,
+    bytes: &[u8],
+    text: &[u8],
+) -> Result<View, Memory>
+    ensures { IfOk result (λ v. IsExpected name.now claims.now bytes.now text.now v.status v.text.items) }
+{
+    match read_log(alloc, bytes) {
+        Ok(log) => tried(alloc, claims, &log, text),
+        Err(fault) => Ok(View {
+            status: 1,
+            text: refusal(alloc, name, fault)?,
+        }),
+    }
+}
+
+// The same for a log that was read.
+#[tactic(auto, using(crate::specs::Views::kept, crate::specs::Views::unkept, crate::specs::Views::wrong))]
+fn tried(alloc: Global, claims: &str, log: &Log, text: &[u8]) -> Result<View, Memory>
+    requires variables { log.now.listed.variables ≡ variables_in log.now.notes.items }
+    requires streams { log.now.listed.streams ≡ streams_in log.now.notes.items }
+    ensures { IfOk result (λ v. (name bytes : List ℕ) → IsLog bytes log.now.notes.items → IsExpected name claims.now bytes text.now v.status v.text.items) }
+{
+    match expect(alloc, claims.as_bytes(), log, text) {
+        Ok(None) => Ok(View {
+            status: 0,
+            text: Vec::new(alloc),
+        }),
+        Ok(Some(told)) => Ok(View {
+            status: 1,
+            text: told,
+        }),
+        Err(ClaimFault::Line { line, slip }) => Ok(View {
+            status: 1,
+            text: wrong_line(alloc, claims.as_bytes(), line, slip)?,
+        }),
+        Err(ClaimFault::Memory) => Err(Memory),
+    }
+}
+
+// The line with which a text that isn't a log is refused.
+#[tactic(auto, using(crate::specs::Views::broken, crate::specs::Views::has_unlisted))]
+fn refusal(alloc: Global, name: &str, fault: LogFault) -> Result<Vec<u8>, Memory>
+    ensures { (bytes : List ℕ) → IsFaultOf bytes fault → IfOk result (λ text. IsNoLog name.now bytes text.items) }
+{
+    match fault {
+        LogFault::Line { line } => Ok(broken_line(alloc, name.as_bytes(), line, b"run")?),
+        LogFault::Unlisted { line } => Ok(unlisted_line(alloc, name.as_bytes(), line)?),
+        LogFault::Memory => Err(Memory),
+    }
+}

@@ -1,0 +1,45 @@
+//! Tries cases on the commands of psyc that are explained: programs, words, files and devices, and the answers that are wanted.
+#![tactic(auto)]
+
+use psy_base::Memory;
+use psy_cases::{Answer, Asked, Command, run_list};
+use psy_door::{FileShelf, ShelfMap, SinkVec, StdSink};
+use psy_last::LastLine;
+use psy_serve::serve;
+use std::alloc::Global;
+use std::env;
+use std::process::ExitCode;
+use std::rt::Env;
+
+/// The commands over forms in memory.
+#[derive(Drop)]
+struct Served;
+
+impl Command for Served {
+    fn answer(&mut self, alloc: Global, asked: Asked<'_>) -> Result<Answer, Memory> {
+        let mut shelf = ShelfMap::new(asked.files, asked.unread);
+        let sink = SinkVec::new(alloc, asked.room, asked.most.max(1), asked.fails)?;
+        let mut out = LastLine::new(sink);
+        let status = serve(alloc, asked.words, &mut shelf, &mut out);
+        Ok(Answer {
+            status,
+            text: Vec::from_slice(alloc, out.sink().bytes())?,
+            is_sound: true,
+        })
+    }
+}
+
+// The first word after the program's name.
+fn list(rt: &(impl Env + AllocGlobal)) -> Option<String> {
+    env::args(rt).ok()?.nth(1)
+}
+
+fn main(rt: HostRuntime) -> ExitCode {
+    let Some(list) = list(&rt) else {
+        return ExitCode::from(2);
+    };
+    let mut shelf = FileShelf::new(&rt);
+    let mut out = StdSink::new(rt.stdout());
+    let status = run_list(rt.alloc(), list.as_str(), &mut Served, &mut shelf, &mut out);
+    ExitCode::from(status)
+}
