@@ -1,5 +1,7 @@
 -- The lemmas of this crate, by subject.
 mod AskedLemmas
+mod PictureLemmas
 mod PlanLemmas
 mod ReplyLemmas
+mod SelectLemmas
 mod TopLemmas

@@ -19,7 +19,7 @@ pub viewed_one : (files : Option Files) (b a : ℕ) (name : List ℕ) (view : On
     → IsTextOf files (file_of name (most_of_one view)) bytes → ViewOf (request_of_one name view) (bytes ∷ []) status text
     → Replies files b a (request_of_one name view) status text
 viewed_one files b a name (one.Where words) bytes status text is views = viewed_all (bytes ∷ []) status text (is, tt) views
-viewed_one files b a name one.Timeline bytes status text is views = viewed_all (bytes ∷ []) status text (is, tt) views
+viewed_one files b a name (one.Timeline window names) bytes status text is views = viewed_all (bytes ∷ []) status text (is, tt) views
 viewed_one files b a name one.Dot bytes status text is views = viewed_all (bytes ∷ []) status text (is, tt) views
 viewed_one files b a name one.Csv bytes status text is views = viewed_all (bytes ∷ []) status text (is, tt) views
 viewed_one files b a name one.Vcd bytes status text is views = viewed_all (bytes ∷ []) status text (is, tt) views
@@ -30,7 +30,7 @@ viewed_one files b a name (one.Report until) bytes status text is views = viewed
 pub unread_one : (files : Option Files) (b a : ℕ) (name : List ℕ) (view : One) (status : ℕ) (text : List ℕ)
     → IsUnread files b a (file_of name (most_of_one view)) status text → Replies files b a (request_of_one name view) status text
 unread_one files b a name (one.Where words) status text is = stopped_at _ status text (first _ []) is
-unread_one files b a name one.Timeline status text is = stopped_at _ status text (first _ []) is
+unread_one files b a name (one.Timeline window names) status text is = stopped_at _ status text (first _ []) is
 unread_one files b a name one.Dot status text is = stopped_at _ status text (first _ []) is
 unread_one files b a name one.Csv status text is = stopped_at _ status text (first _ []) is
 unread_one files b a name one.Vcd status text is = stopped_at _ status text (first _ []) is

@@ -3,13 +3,15 @@ use Rattle.std.proofs.Common.{◌≡◌, ◌≢◌, ◌∙◌, sym, subst, refl,
 use Rattle.psy_door.specs.Faults.{Rose}
 use Rattle.psy_door.specs.Files.{Files}
 use Rattle.psy_door.specs.Growth.{Grew, GrewByFront}
+use Rattle.psy_draw.specs.declared.window.Window.{Window}
 use Rattle.psy_view.specs.Answer.{Answers, no_words, of_itself, viewed, too_long}
 use Rattle.psy_view.specs.Asked.{File, Request, Asks, AskNothing, files_of}
 use Rattle.psy_view.specs.Fetching.{ComeTo, IsUnread, failed, long}
 use Rattle.psy_view.specs.Outcome.{MayAnswer, may_answer, may_miss, Replies, viewed_all, stopped_at, Says}
 use Rattle.psy_view.specs.Refusals.{unread_line}
-use Rattle.psy_view.specs.Views.{ViewOf, explained, no_refusal, beyond, drawn, no_run, unlisted, dotted, no_graph, tabled, no_table, dumped, no_dump, compared, expected}
+use Rattle.psy_view.specs.Views.{ViewOf, explained, no_refusal, beyond, pictured, dotted, no_graph, tabled, no_table, dumped, no_dump, compared, expected}
 use Rattle.psy_view.specs.Views.{flows, no_flow, lists, no_listing, reports, no_report, unmeasured}
+use Rattle.psy_view.specs.Views.{IsDrawn, drawn, no_run, unlisted, unknown, empty}
 use Rattle.psy_view.specs.Views.{IsCompared, same, differs, first_breaks, second_breaks, IsExpected, kept, unkept, wrong, no_log}
 
 -- ---- the statuses
@@ -17,6 +19,13 @@ use Rattle.psy_view.specs.Views.{IsCompared, same, differs, first_breaks, second
 -- 0 or 1
 abbrev IsOfView : ℕ → Type 0
 IsOfView status = (status ≡ 0) ⊎ (status ≡ 1)
+
+of_drawn : (name : List ℕ) (window : Window) (names : List (List ℕ)) (bytes : List ℕ) (status : ℕ) (text : List ℕ) → IsDrawn name window names bytes status text → IsOfView status
+of_drawn name window names bytes _ _ (drawn notes svg is picture) = inl refl
+of_drawn name window names bytes _ _ (no_run line is) = inr refl
+of_drawn name window names bytes _ _ (unlisted notes line is first) = inr refl
+of_drawn name window names bytes _ _ (unknown notes place asked is first at) = inr refl
+of_drawn name window names bytes _ _ (empty notes is none) = inr refl
 
 of_compared : (name other first second : List ℕ) (status : ℕ) (text : List ℕ) → IsCompared name other first second status text → IsOfView status
 of_compared name other first second _ _ (same notes is equal) = inl refl
@@ -34,9 +43,7 @@ of_view : (request : Request) (texts : List (List ℕ)) (status : ℕ) (text : L
 of_view _ _ _ _ (explained name line bytes text is) = inl refl
 of_view _ _ _ _ (no_refusal name line bytes is) = inr refl
 of_view _ _ _ _ (beyond name line bytes is) = inr refl
-of_view _ _ _ _ (drawn name bytes notes svg is picture) = inl refl
-of_view _ _ _ _ (no_run name bytes line is) = inr refl
-of_view _ _ _ _ (unlisted name bytes notes line is first) = inr refl
+of_view _ _ _ _ (pictured name window names bytes status text is) = of_drawn name window names bytes status text is
 of_view _ _ _ _ (dotted name bytes notes is) = inl refl
 of_view _ _ _ _ (no_graph name bytes line is) = inr refl
 of_view _ _ _ _ (tabled name bytes notes is) = inl refl

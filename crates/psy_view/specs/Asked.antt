@@ -1,14 +1,17 @@
 -- What the words of the command line ask for.
-use Rattle.std.specs.Prelude.{◌≡◌, ℕ, ◌≤◌, List, [], ◌∷◌, ◌++◌, Some, codes}
+use Rattle.std.specs.Prelude.{◌≡◌, ℕ, ◌≤◌, Bool, true, not, List, [], ◌∷◌, ◌++◌, Some, codes}
+use Rattle.std.specs.List.{list_all}
 use Rattle.psy_base.specs.declared.limits.TheConstants.{FILE_BYTES, UNTIL}
-use Rattle.psy_text.specs.Words.{number_of}
+use Rattle.psy_draw.specs.declared.window.Window.{Window}
+use Rattle.psy_draw.specs.declared.window.TheConstants.Window.{WHOLE}
+use Rattle.psy_text.specs.Words.{is_number, number_of}
 use Rattle.psy_view.specs.declared.asked.TheConstants.{TEXT_BYTES}
 use Rattle.psy_view.specs.declared.help.TheConstants.{HELP, VERSION}
 
 -- A request, with the names of its files; a line that is to be explained is told in the words behind the name
 pub data Request : Type 0 where
   Where : (name line : List ℕ) → Request
-  Timeline : (name : List ℕ) → Request
+  Timeline : (name : List ℕ) (window : Window) (names : List (List ℕ)) → Request
   Dot : (name : List ℕ) → Request
   Table : (name : List ℕ) → Request
   Dump : (name : List ℕ) → Request
@@ -29,11 +32,23 @@ pub record IsDate (word : List ℕ) (date : ℕ) : Type 0 where
   pub value : number_of word ≡ Some date
   pub most : date ≤ UNTIL
 
--- The words ask for this: `where PROG LINE..`, `timeline LOG`, `dot GRAPH`, `csv LOG`, `vcd LOG`, `flow PROG`, `list PROG`, `report PROG UNTIL`,
--- `diff LOG LOG` or `expect LOG FILE`
+-- The word is a name: it is no date.
+abbrev pub is_name : List ℕ → Bool
+is_name word = not (is_number word)
+
+-- Words select the dates of a window, and names: they are two dates and names, or names alone, of all dates.
+pub data Select (words : List (List ℕ)) : Window → List (List ℕ) → Type 0 where
+  of_all_dates : list_all is_name words ≡ true → Select words WHOLE words
+  of_two_dates : (from to : List ℕ) (first last : ℕ) (names : List (List ℕ)) → words ≡ from ∷ to ∷ names
+      → number_of from ≡ Some first → number_of to ≡ Some last → list_all is_name names ≡ true
+      → Select words (record { from = first; to = last }) names
+
+-- The words ask for this: `where PROG LINE..`, `timeline LOG [FROM TO] [NAME..]`, `dot GRAPH`, `csv LOG`, `vcd LOG`, `flow PROG`, `list PROG`,
+-- `report PROG UNTIL`, `diff LOG LOG` or `expect LOG FILE`
 pub data Asks (words : List (List ℕ)) : Request → Type 0 where
   asks_where : (name word : List ℕ) (more : List (List ℕ)) → words ≡ codes "where" ∷ name ∷ word ∷ more → Asks words (Where name (line_of_words (word ∷ more)))
-  asks_timeline : (name : List ℕ) → words ≡ codes "timeline" ∷ name ∷ [] → Asks words (Timeline name)
+  asks_timeline : (name : List ℕ) (more : List (List ℕ)) (window : Window) (names : List (List ℕ)) → words ≡ codes "timeline" ∷ name ∷ more
+      → Select more window names → Asks words (Timeline name window names)
   asks_dot : (name : List ℕ) → words ≡ codes "dot" ∷ name ∷ [] → Asks words (Dot name)
   asks_table : (name : List ℕ) → words ≡ codes "csv" ∷ name ∷ [] → Asks words (Table name)
   asks_dump : (name : List ℕ) → words ≡ codes "vcd" ∷ name ∷ [] → Asks words (Dump name)
@@ -77,7 +92,7 @@ by_psyc name = file_of name TEXT_BYTES
 -- The files that are asked about, in the order in which they are read
 abbrev pub files_of : Request → List File
 files_of (Where name line) = by_hand name ∷ []
-files_of (Timeline name) = by_psyc name ∷ []
+files_of (Timeline name window names) = by_psyc name ∷ []
 files_of (Dot name) = by_psyc name ∷ []
 files_of (Table name) = by_psyc name ∷ []
 files_of (Dump name) = by_psyc name ∷ []

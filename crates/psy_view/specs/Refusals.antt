@@ -31,6 +31,14 @@ broken_line name line command = name ++ codes ":" ++ decimal line ++ codes ": fr
 abbrev pub unlisted_line : List ℕ → ℕ → List ℕ
 unlisted_line name line = name ++ codes ":" ++ decimal line ++ codes ": the summary doesn't list this name\n"
 
+-- The summary of a log doesn't list this name, for which was asked
+abbrev pub unknown_line : List ℕ → List ℕ → List ℕ
+unknown_line name asked = asked ++ codes ": the summary of " ++ name ++ codes " doesn't list this name\n"
+
+-- No date of a run lies from the first of these to the second
+abbrev pub empty_line : List ℕ → ℕ → ℕ → List ℕ
+empty_line name from to = name ++ codes ": no date of this run lies from " ++ decimal from ++ codes " to " ++ decimal to ++ codes "\n"
+
 -- What is wrong with a line of assertions
 abbrev pub slip_text : Slip → List ℕ
 slip_text Form = codes "this line is no assertion"

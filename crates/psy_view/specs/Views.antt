@@ -1,5 +1,6 @@
 -- The view of texts that a request asks for: the status, and what is written.
-use Rattle.std.specs.Prelude.{◌≡◌, ℕ, ◌-◌, ◌≤◌, List, [], ◌∷◌, length, take, codes, None, Some, ◌⊎◌}
+use Rattle.std.specs.Prelude.{◌≡◌, ℕ, ◌-◌, ◌<◌, ◌≤◌, List, [], ◌∷◌, length, take, codes, None, Some, ◌⊎◌}
+use Rattle.std.specs.List.{slice_get}
 use Rattle.psy_log.specs.declared.note.Note.{Note}
 use Rattle.psy_text.specs.Lines.{lines_of}
 use Rattle.psy_notes.specs.Stands.{run_begins, graph_begins}
@@ -16,8 +17,12 @@ use Rattle.psy_claims.specs.Claims.{WrongAt}
 use Rattle.psy_claims.specs.Outcome.{IsTried}
 use Rattle.psy_where.specs.Explained.{Explains, IsNone, IsBeyond}
 use Rattle.psy_dot.specs.Drawing.{dot_of}
-use Rattle.psy_draw.specs.Listing.{first_unlisted}
+use Rattle.psy_draw.specs.Dates.{last_date}
+use Rattle.psy_draw.specs.Listing.{first_unasked, first_unlisted}
+use Rattle.psy_draw.specs.Places.{window_end}
+use Rattle.psy_draw.specs.Planning.{ShowsWindow}
 use Rattle.psy_draw.specs.declared.file.TheConstants.{TOO_LARGE}
+use Rattle.psy_draw.specs.declared.window.Window.{Window}
 use Rattle.psy_draw.specs.Showing.{ShowsSummary}
 use Rattle.psy_draw.specs.Spelling.{svg_of}
 use Rattle.psy_tree.specs.declared.unit.Unit.{Unit as Whole}
@@ -30,15 +35,30 @@ use Rattle.psy_listing.specs.Listing.{listing_of}
 use Rattle.psy_measures.specs.Measured.{IsUnmeasured}
 use Rattle.psy_report.specs.Reports.{IsReport}
 use Rattle.psy_view.specs.Asked.{Request, Where, Timeline, Dot, Table, Dump, Flow, Listing, Report, Difference, Expectation}
-use Rattle.psy_view.specs.Refusals.{no_refusal_line, beyond_line, broken_line, unlisted_line, wrong_line}
+use Rattle.psy_view.specs.Refusals.{no_refusal_line, beyond_line, broken_line, unlisted_line, unknown_line, empty_line, wrong_line}
 
--- A picture of a run's notes, whose names the summary lists: an SVG file of at most 2,000,000 bytes, which shows each line of the
--- summary, or says that it would be too large
-pub record IsPicture (notes : List Note) (svg : List ℕ) : Type 0 where
+-- A picture of a window and of these names, of a run's notes, whose names the summary lists, as it does those that were asked for: an
+-- SVG file of at most 2,000,000 bytes, which shows the lanes of the window and each line of the summary, or says that it would be too large
+pub record IsPicture (window : Window) (names : List (List ℕ)) (notes : List Note) (svg : List ℕ) : Type 0 where
   pub listed : first_unlisted notes ≡ None
+  pub known : first_unasked notes names ≡ None
+  pub dated : window.from ≤ window_end window (last_date notes)
   pub whole : (inside : List ℕ) × (svg ≡ svg_of inside)
+  pub lanes : (svg ≡ svg_of TOO_LARGE.now) ⊎ ShowsWindow svg window names notes
   pub shown : (svg ≡ svg_of TOO_LARGE.now) ⊎ ShowsSummary svg notes
   pub small : length svg ≤ 2000000
+
+-- What is told of a text of which a window and these names are to be drawn: the picture; or that the text isn't what `psyc run` writes, that
+-- it has a name that its summary doesn't list, that the summary doesn't list a name that was asked for, or that the window is empty
+pub data IsDrawn (name : List ℕ) (window : Window) (names : List (List ℕ)) (bytes : List ℕ) : ℕ → List ℕ → Type 0 where
+  drawn : (notes : List Note) (svg : List ℕ) → IsText run_begins bytes notes → IsPicture window names notes svg → IsDrawn name window names bytes 0 svg
+  no_run : (line : ℕ) → BreaksAt run_begins bytes line → IsDrawn name window names bytes 1 (broken_line name line (codes "run"))
+  unlisted : (notes : List Note) (line : ℕ) → IsText run_begins bytes notes → first_unlisted notes ≡ Some line
+      → IsDrawn name window names bytes 1 (unlisted_line name line)
+  unknown : (notes : List Note) (place : ℕ) (asked : List ℕ) → IsText run_begins bytes notes → first_unasked notes names ≡ Some place
+      → slice_get names place ≡ Some asked → IsDrawn name window names bytes 1 (unknown_line name asked)
+  empty : (notes : List Note) → IsText run_begins bytes notes → window_end window (last_date notes) < window.from
+      → IsDrawn name window names bytes 1 (empty_line name window.from window.to)
 
 -- The text isn't what `psyc run` writes, or it has a name that its summary doesn't list; the line that says so, with the name of its file
 pub data IsNoLog (name bytes : List ℕ) : List ℕ → Type 0 where
@@ -81,11 +101,8 @@ pub data ViewOf : Request → List (List ℕ) → ℕ → List ℕ → Type 0 wh
   explained : (name line bytes text : List ℕ) → Explains name bytes line text → ViewOf (Where name line) (bytes ∷ []) 0 text
   no_refusal : (name line bytes : List ℕ) → IsNone line → ViewOf (Where name line) (bytes ∷ []) 1 (no_refusal_line name)
   beyond : (name line bytes : List ℕ) → IsBeyond bytes line → ViewOf (Where name line) (bytes ∷ []) 1 (beyond_line name)
-  drawn : (name bytes : List ℕ) (notes : List Note) (svg : List ℕ) → IsText run_begins bytes notes → IsPicture notes svg
-      → ViewOf (Timeline name) (bytes ∷ []) 0 svg
-  no_run : (name bytes : List ℕ) (line : ℕ) → BreaksAt run_begins bytes line → ViewOf (Timeline name) (bytes ∷ []) 1 (broken_line name line (codes "run"))
-  unlisted : (name bytes : List ℕ) (notes : List Note) (line : ℕ) → IsText run_begins bytes notes → first_unlisted notes ≡ Some line
-      → ViewOf (Timeline name) (bytes ∷ []) 1 (unlisted_line name line)
+  pictured : (name : List ℕ) (window : Window) (names : List (List ℕ)) (bytes : List ℕ) (status : ℕ) (text : List ℕ)
+      → IsDrawn name window names bytes status text → ViewOf (Timeline name window names) (bytes ∷ []) status text
   dotted : (name bytes : List ℕ) (notes : List Note) → IsText graph_begins bytes notes → ViewOf (Dot name) (bytes ∷ []) 0 (dot_of notes)
   no_graph : (name bytes : List ℕ) (line : ℕ) → BreaksAt graph_begins bytes line → ViewOf (Dot name) (bytes ∷ []) 1 (broken_line name line (codes "graph"))
   tabled : (name bytes : List ℕ) (notes : List Note) → IsLog bytes notes → ViewOf (Table name) (bytes ∷ []) 0 (csv_of notes)

@@ -3,6 +3,7 @@ ghost use Rattle.std.specs.Prelude.{◌≡◌};
 ghost use Rattle.psy_view.specs.Reading.{most_of_one, most_of_other};
 
 use psy_base::limits::FILE_BYTES;
+use psy_draw::Window;
 
 /// Bytes of a text that psyc wrote.
 pub const TEXT_BYTES: usize = 16_777_216;
@@ -28,8 +29,8 @@ pub enum Asked<'a> {
 pub enum One<'a> {
     /// To explain the refusal that these words are, of the text in this file.
     Where { words: &'a [String] },
-    /// To draw the run in this file.
-    Timeline,
+    /// To draw the dates of the run in this file that lie in a window: the lanes of these names, or all where there are none.
+    Timeline { window: Window, names: &'a [String] },
     /// To draw the graphs in this file.
     Dot,
     /// To write the run as a table.
@@ -60,7 +61,7 @@ impl One<'_> {
     {
         match *self {
             One::Where { .. } | One::Flow | One::List | One::Report { .. } => FILE_BYTES,
-            One::Timeline | One::Dot | One::Csv | One::Vcd => TEXT_BYTES,
+            One::Timeline { .. } | One::Dot | One::Csv | One::Vcd => TEXT_BYTES,
         }
     }
 }

@@ -7,7 +7,9 @@ pub const HELP: &[u8] =
   psyview check PROGRAM ..    does what `psyc check` does, likewise
   psyview where FILE LINE..   shows where the line that psyc wrote points to in FILE,
                               the program, the inputs or the script, and says what it means
-  psyview timeline LOG        draws what `psyc run` wrote as a picture, an SVG file
+  psyview timeline LOG [FROM TO] [NAME..]
+                              draws what `psyc run` wrote as a picture, an SVG file: the dates
+                              FROM to TO, and variables, streams or agents of these names
   psyview csv LOG             writes it as a table
   psyview vcd LOG             writes it as a dump, for viewers of waveforms
   psyview diff LOG LOG        tells the first line in which two runs differ

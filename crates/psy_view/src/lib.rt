@@ -7,6 +7,7 @@ mod asked;
 mod fetching;
 mod help;
 mod log;
+mod picture;
 mod plan;
 mod refusals;
 mod top;

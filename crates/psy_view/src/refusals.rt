@@ -1,9 +1,11 @@
 //! The lines that are written where a text can't be viewed.
 ghost use Rattle.std.specs.Prelude.{◌≡◌, ◌++◌, IfOk, codes, decimal};
-ghost use Rattle.psy_view.specs.Refusals.{beyond_line, broken_line, long_line, no_refusal_line, slip_text, unlisted_line, unread_line, wrong_line};
+ghost use Rattle.psy_view.specs.Refusals.{beyond_line, broken_line, empty_line, long_line, no_refusal_line, slip_text};
+ghost use Rattle.psy_view.specs.Refusals.{unknown_line, unlisted_line, unread_line, wrong_line};
 
 use itoa::Buffer;
 use psy_claims::Slip;
+use psy_draw::Window;
 use psy_text::write::joined;
 use std::alloc::{AllocError, Global};
 
@@ -79,6 +81,42 @@ pub fn unlisted_line(alloc: Global, name: &[u8], line: usize) -> Result<Vec<u8>,
     joined(
         alloc,
         &[name, b":", line, b": the summary doesn't list this name\n"],
+    )
+}
+
+/// The summary of the log doesn't list this name, for which was asked.
+pub fn unknown_line(alloc: Global, name: &[u8], asked: &[u8]) -> Result<Vec<u8>, AllocError>
+    ensures { IfOk result (λ text. text.items ≡ unknown_line name.now asked.now) }
+{
+    joined(
+        alloc,
+        &[
+            asked,
+            b": the summary of ",
+            name,
+            b" doesn't list this name\n",
+        ],
+    )
+}
+
+/// No date of the run lies in the window.
+pub fn empty_line(alloc: Global, name: &[u8], window: Window) -> Result<Vec<u8>, AllocError>
+    ensures { IfOk result (λ text. text.items ≡ empty_line name.now window.from window.to) }
+{
+    let mut first = Buffer::new();
+    let from = first.format(window.from).as_bytes();
+    let mut last = Buffer::new();
+    let to = last.format(window.to).as_bytes();
+    joined(
+        alloc,
+        &[
+            name,
+            b": no date of this run lies from ",
+            from,
+            b" to ",
+            to,
+            b"\n",
+        ],
     )
 }
 

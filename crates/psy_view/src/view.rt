@@ -2,18 +2,18 @@
 ghost use Rattle.std.specs.Prelude.{◌≡◌, ◌≤◌, [], ◌∷◌, ◌++◌, IfOk, OnOk, codes, length, map, string_bytes};
 ghost use Rattle.std.specs.List.{flat_map};
 ghost use Rattle.psy_base.specs.declared.limits.TheConstants.{FILE_BYTES};
-ghost use Rattle.psy_view.specs.Asked.{Dot, Timeline, Where, line_of_words};
+ghost use Rattle.psy_view.specs.Asked.{Dot, Where, line_of_words};
 ghost use Rattle.psy_view.specs.Reading.{most_of_one, request_of_one, request_of_two};
 ghost use Rattle.psy_view.specs.Views.{ViewOf};
 
 use crate::asked::{One, Two};
 use crate::log::{compared, dumped, expected, tabled};
+use crate::picture::drawn;
 use crate::plan::{fed, listed, reported};
-use crate::refusals::{beyond_line, broken_line, no_refusal_line, unlisted_line};
+use crate::refusals::{beyond_line, broken_line, no_refusal_line};
 use psy_base::Memory;
 use psy_dot::dot;
-use psy_draw::{DrawFault, Window, timeline};
-use psy_notes::{TextFault, read_graph, read_run};
+use psy_notes::{TextFault, read_graph};
 use psy_where::{WhereFault, explain};
 use std::alloc::{AllocError, Global};
 
@@ -25,13 +25,14 @@ pub struct View {
 }
 
 /// The view of a file's text. The only error is want of memory.
+#[tactic(auto, using(crate::specs::Views::pictured))]
 pub fn view_of(alloc: Global, name: &str, view: &One, bytes: &[u8]) -> Result<View, Memory>
     requires { length bytes.now ≤ most_of_one view.now }
     ensures { IfOk result (λ v. ViewOf (request_of_one name.now view.now) (bytes.now ∷ []) v.status v.text.items) }
 {
     match *view {
         One::Where { words } => explained(alloc, name, words, bytes),
-        One::Timeline => drawn(alloc, name, bytes),
+        One::Timeline { window, names } => drawn(alloc, name, window, names, bytes),
         One::Dot => dotted(alloc, name, bytes),
         One::Csv => tabled(alloc, name, bytes),
         One::Vcd => dumped(alloc, name, bytes),
@@ -115,38 +116,6 @@ pub fn told_of(alloc: Global, name: &str, bytes: &[u8], line: &[u8]) -> Result<V
             text: beyond_line(alloc, name.as_bytes())?,
         }),
         Err(WhereFault::Memory) => Err(Memory),
-    }
-}
-
-#[tactic(auto, using(crate::specs::Views::drawn, crate::specs::Views::no_run, crate::specs::Views::unlisted))]
-fn drawn(alloc: Global, name: &str, bytes: &[u8]) -> Result<View, Memory>
-    ensures { IfOk result (λ v. ViewOf (Timeline name.now) (bytes.now ∷ []) v.status v.text.items) }
-{
-    let notes = match read_run(alloc, bytes) {
-        Ok(notes) => notes,
-        Err(TextFault::Line { line }) => {
-            return Ok(View {
-                status: 1,
-                text: broken_line(alloc, name.as_bytes(), line, b"run")?,
-            });
-        }
-        Err(TextFault::Memory) => return Err(Memory),
-    };
-    match timeline(alloc, name, notes.as_slice(), Window::WHOLE, &[]) {
-        Ok(svg) => Ok(View {
-            status: 0,
-            text: svg,
-        }),
-        Err(DrawFault::Unlisted { number }) => {
-            Ok(View {
-                status: 1,
-                text: unlisted_line(alloc, name.as_bytes(), number)?,
-            })
-        }
-        // The whole run is drawn: no name was asked for, and its dates are some.
-        Err(DrawFault::Unknown { .. }) => unreachable!(),
-        Err(DrawFault::Empty) => unreachable!(),
-        Err(DrawFault::Memory) => Err(Memory),
     }
 }
 

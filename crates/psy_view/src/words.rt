@@ -1,12 +1,16 @@
 //! The words of the command line.
-ghost use Rattle.std.specs.Prelude.{◌≢◌, ◌<◌, List, ◌∷◌, [], ℕ, codes, length, map, MatchOption, string_bytes};
-ghost use Rattle.psy_view.specs.Asked.{Asks, AskForText, AskNoView, IsDate};
-ghost use Rattle.psy_view.specs.Reading.{request_of, request_of_one, request_of_two};
+ghost use Rattle.std.specs.Prelude.{◌≡◌, ◌≢◌, ◌<◌, ◌⊎◌, List, ◌∷◌, [], ℕ, None, Some, codes, false, length, map, true, MatchOption, string_bytes};
+ghost use Rattle.std.specs.List.{list_all};
+ghost use Rattle.psy_draw.specs.declared.window.Window.{Window};
+ghost use Rattle.psy_text.specs.Words.{number_of};
+ghost use Rattle.psy_view.specs.Asked.{Asks, AskForText, AskNoView, IsDate, Select, is_name};
+ghost use Rattle.psy_view.specs.Reading.{Draws, IsPictureOf, request_of, request_of_one, request_of_two};
 
 use crate::asked::{Asked, One, Two};
 use crate::help::{HELP, VERSION};
 use psy_base::limits;
-use psy_text::word::number;
+use psy_draw::Window;
+use psy_text::word::{is_number, number};
 
 /// The text that the words ask for: help, which no words ask for too, or the version. None exactly where they ask for none.
 pub fn read_text(words: &[String]) -> Option<&'static [u8]>
@@ -58,7 +62,10 @@ fn one_view(command: &str) -> Option<One<'static>>
         (λ view. (name : List ℕ) → Asks (command.now ∷ name ∷ []) (request_of_one name view)) }
 {
     match command {
-        "timeline" => Some(One::Timeline),
+        "timeline" => Some(One::Timeline {
+            window: Window::WHOLE,
+            names: &[],
+        }),
         "dot" => Some(One::Dot),
         "csv" => Some(One::Csv),
         "vcd" => Some(One::Vcd),
@@ -68,7 +75,7 @@ fn one_view(command: &str) -> Option<One<'static>>
     }
 }
 
-// `where PROG LINE..`, or a command and the names of its two files
+// `where PROG LINE..`, `timeline LOG` and dates or names, or a command and the names of its two files
 #[tactic(auto, using(crate::proofs::AskedLemmas::asks_line))]
 fn of_more<'a>(command: &str, name: &'a str, line: &'a [String]) -> Option<Asked<'a>>
     requires { 0 < length line.now }
@@ -81,15 +88,92 @@ fn of_more<'a>(command: &str, name: &'a str, line: &'a [String]) -> Option<Asked
             view: One::Where { words: line },
         });
     }
+    if command == "timeline" {
+        return of_timeline(name, line);
+    }
     match line {
         [other] => of_three(command, name, other.as_str()),
         _ => None,
     }
 }
 
-// `report PROG UNTIL`, or a command and the names of its two files, where it isn't `where`
+// `timeline LOG` and dates or names
+fn of_timeline<'a>(name: &'a str, words: &'a [String]) -> Option<Asked<'a>>
+    ensures { MatchOption result (AskNoView (codes "timeline" ∷ name.now ∷ map string_bytes words.now))
+        (λ asked. Asks (codes "timeline" ∷ name.now ∷ map string_bytes words.now) (request_of asked)) }
+{
+    let view = selected(words)?;
+    Some(Asked::One { name, view })
+}
+
+// The picture of the dates and names that words select.
+fn selected(words: &[String]) -> Option<One<'_>>
+    ensures { MatchOption result ((window : Window) (names : List (List ℕ)) → Select (map string_bytes words.now) window names → ⊥)
+        (λ view. IsPictureOf (map string_bytes words.now) view) }
+{
+    match words {
+        [from, to, names @ ..] => of_front(from.as_str(), to.as_str(), names, words),
+        _ => of_names(Window::WHOLE, words),
+    }
+}
+
+// The same of words of which these are the first two, and those behind them.
+fn of_front<'a>(from: &str, to: &str, names: &'a [String], words: &'a [String]) -> Option<One<'a>>
+    requires { map string_bytes words.now ≡ from.now ∷ to.now ∷ map string_bytes names.now }
+    ensures { MatchOption result ((window : Window) (names : List (List ℕ)) → Select (map string_bytes words.now) window names → ⊥)
+        (λ view. IsPictureOf (map string_bytes words.now) view) }
+{
+    match window_of(from, to) {
+        Some(window) => of_names(window, names),
+        None => of_names(Window::WHOLE, words),
+    }
+}
+
+// The dates from a word to another, where both are dates.
+fn window_of(from: &str, to: &str) -> Option<Window>
+    ensures { MatchOption result ((number_of from.now ≡ None) ⊎ (number_of to.now ≡ None))
+        (λ window. (number_of from.now ≡ Some window.from) × (number_of to.now ≡ Some window.to)) }
+{
+    let from = number(from.as_bytes())?;
+    let to = number(to.as_bytes())?;
+    Some(Window { from, to })
+}
+
+// The picture of this window and these names, where no date is among them.
+fn of_names(window: Window, names: &[String]) -> Option<One<'_>>
+    ensures { MatchOption result (list_all is_name (map string_bytes names.now) ≡ false)
+        (λ view. (list_all is_name (map string_bytes names.now) ≡ true) × Draws window (map string_bytes names.now) view) }
+{
+    if are_names(names) {
+        Some(One::Timeline { window, names })
+    } else {
+        None
+    }
+}
+
+fn are_names(words: &[String]) -> bool
+    ensures { result ≡ list_all is_name (map string_bytes words.now) }
+{
+    is_each_name(words)
+}
+
+fn is_each_name(words: &[String]) -> bool
+    ensures { result ≡ list_all (λ word. is_name (string_bytes word)) words.now }
+{
+    words.iter().all(is_name)
+}
+
+// The word is no date.
+fn is_name(word: &String) -> bool
+    ensures { result ≡ is_name (string_bytes word.now) }
+{
+    !is_number(word.as_bytes())
+}
+
+// `report PROG UNTIL`, or a command and the names of its two files, where it is neither `where` nor `timeline`
 fn of_three<'a>(command: &str, name: &'a str, other: &'a str) -> Option<Asked<'a>>
-    requires { command.now ≢ codes "where" }
+    requires unexplained { command.now ≢ codes "where" }
+    requires undrawn { command.now ≢ codes "timeline" }
     ensures { MatchOption result (AskNoView (command.now ∷ name.now ∷ other.now ∷ []))
         (λ asked. Asks (command.now ∷ name.now ∷ other.now ∷ []) (request_of asked)) }
 {
@@ -124,10 +208,11 @@ fn date(word: &[u8]) -> Option<u32>
     }
 }
 
-// The view of two files that is made by a command other than `where` and `report`.
+// The view of two files that is made by a command other than `where`, `timeline` and `report`.
 fn two_view(command: &str) -> Option<Two>
-    requires one { command.now ≢ codes "where" }
-    requires other { command.now ≢ codes "report" }
+    requires unexplained { command.now ≢ codes "where" }
+    requires undrawn { command.now ≢ codes "timeline" }
+    requires unreported { command.now ≢ codes "report" }
     ensures { MatchOption result ((name other : List ℕ) → AskNoView (command.now ∷ name ∷ other ∷ []))
         (λ view. (name other : List ℕ) → Asks (command.now ∷ name ∷ other ∷ []) (request_of_two name other view)) }
 {

@@ -1,10 +1,11 @@
 -- What is left of the proof of `words::one_view`.
-use Rattle.std.proofs.Common.{◌≡◌, [], ◌∷◌, ap, codes}
-use Rattle.psy_view.specs.Asked.{asks_timeline, asks_dot, asks_table, asks_dump, asks_flow, asks_listing}
+use Rattle.std.proofs.Common.{◌≡◌, refl, [], ◌∷◌, ap, codes}
+use Rattle.psy_draw.specs.declared.window.TheConstants.Window.{WHOLE}
+use Rattle.psy_view.specs.Asked.{of_all_dates, asks_timeline, asks_dot, asks_table, asks_dump, asks_flow, asks_listing}
 use Rattle.psy_view.proofs.words.one_view.Goals as goal
 
 pub returns-in-timeline : goal.returns-in-timeline
-returns-in-timeline c name = let is : c.args.command.now ≡ codes "timeline" = cc c.in-timeline.is in asks_timeline name (ap (λ w. w ∷ name ∷ []) is)
+returns-in-timeline c name = let is : c.args.command.now ≡ codes "timeline" = cc c.in-timeline.is in asks_timeline name [] WHOLE [] (ap (λ w. w ∷ name ∷ []) is) (of_all_dates refl)
 
 pub returns-in-dot : goal.returns-in-dot
 returns-in-dot c name = let is : c.args.command.now ≡ codes "dot" = cc c.in-dot.is in asks_dot name (ap (λ w. w ∷ name ∷ []) is)
