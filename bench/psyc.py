@@ -1,7 +1,9 @@
 """The programs that the scripts of this folder time."""
 import os
+import re
 import subprocess
 import sys
+import tempfile
 import time
 
 HERE = os.path.dirname(os.path.abspath(__file__))
@@ -68,3 +70,16 @@ def first_byte(words, times=5):
         running.communicate()
         least = took if least is None else min(least, took)
     return least
+
+
+def executed(words, inside=None):
+    """How many instructions the processor executes for a process with these words, or of them inside of a function and what it calls: 0 where it
+    isn't called, or the program has no symbols."""
+    with tempfile.TemporaryDirectory() as folder:
+        asked = [f"--toggle-collect={inside}"] if inside else []
+        done = subprocess.run(["valgrind", "--tool=callgrind", f"--callgrind-out-file={folder}/out", *asked, *words],
+                              stdout=subprocess.DEVNULL, stderr=subprocess.PIPE, text=True)
+    found = re.search(r"Collected : (\d+)", done.stderr)
+    if done.returncode != 0 or not found:
+        sys.exit(f"{' '.join(words)}: status {done.returncode}\n{done.stderr}")
+    return int(found.group(1))

@@ -71,11 +71,11 @@ pub record Moved (plan : Plan) (inputs : List (List ℤ)) (date : ℕ) (old new 
   pub names : NamesAll (moves_in plan date old.seats.items) (length old.seats.items) 0 new.movers.moved.agents
   pub others : (agent : ℕ) (seat : Seat) → slice_get old.seats.items agent ≡ Some seat → moves_in plan date old.seats.items agent ≡ false → IsBefore new.movers.least (first_in plan agent) seat seat.phase
 
-module _ (plan : Plan) (opening : Opening) (inputs : List (List ℤ)) (stalls : ℕ → List Stall) (bare : IsBare plan.unit) (lawful : IsLawful (opened_of plan opening inputs stalls)) (laws : AreStreamLaws (opened_of plan opening inputs stalls)) (date : ℕ)
+module _ (plan : Plan) (opening : Opening) (inputs : List (List ℤ)) (stalls : ℕ → List Stall) (bare : IsBare plan.unit) (lawful : IsLawful (opened_of plan opening inputs stalls)) (laws : AreStreamLaws (opened_of plan opening inputs stalls) plan.sizes) (date : ℕ)
     (begun : AreBegun (opened_of plan opening inputs stalls) date) (turns : List (Option Turn))
     (goes : (variable : ℕ) → IsClock (publishing (opened_of plan opening inputs stalls) variable) → Goes (opened_of plan opening inputs stalls) date variable)
     (unstarted : (agent number : ℕ) → first_number (opened_of plan opening inputs stalls) agent + length (history (opened_of plan opening inputs stalls) date agent) ≤ number → units agent number turns ≡ 0)
-    (old new : Shared) (due : NoneActs date old.seats.items) (stands : SharedStands (opened_of plan opening inputs stalls) turns date old) (moved : Moved plan inputs date old new) where
+    (old new : Shared) (due : NoneActs date old.seats.items) (stands : SharedStands (opened_of plan opening inputs stalls) plan.sizes turns date old) (moved : Moved plan inputs date old new) where
   abbrev s : System
   s = opened_of plan opening inputs stalls
 
@@ -128,15 +128,15 @@ module _ (plan : Plan) (opening : Opening) (inputs : List (List ℤ)) (stalls : 
   clock_is : (variable : ℕ) → variable < length plan.unit.variables → IsClock (publishing s variable)
   clock_is variable within = All-get_or IsClock plan.unit.clocks (variable_of s variable).clock _ (bare.variables variable _ within).clock bare.clocks
 
-  ring_stands : (variable : ℕ) (ring : List ℤ) → slice_get new.rings.items variable ≡ Some ring → RingStands s (date + 1) variable ring
+  ring_stands : (variable : ℕ) (ring : List ℤ) → slice_get new.rings.items variable ≡ Some ring → RingStands s plan.sizes (date + 1) variable ring
   ring_stands variable ring is =
       let within : variable < length plan.unit.variables = omega (arith, slice_get_within new.rings.items variable ring is, moved.ringed, stands.ringed) in
       let before = get_or old.rings.items variable [] in
       let was : slice_get old.rings.items variable ≡ Some before = slice_get-get_or old.rings.items variable [] (omega (arith, within, stands.ringed)) in
       let value = get_or new.committed.items variable (pos 0) in
       let committed = committed_is variable value (slice_get-get_or new.committed.items variable (pos 0) (omega (arith, within, moved.valued, stands.valued))) in
-      subst (RingStands s (date + 1) variable) (same_Some _ _ (sym (moved.rings variable before was) ∙ is))
-      (ring_moves s date variable begun.behind (goes variable (clock_is variable within)) new.committed.items before
+      subst (RingStands s plan.sizes (date + 1) variable) (same_Some _ _ (sym (moved.rings variable before was) ∙ is))
+      (ring_moves s plan.sizes date variable begun.behind (goes variable (clock_is variable within)) new.committed.items before
       (subst (λ n. value ≡ committed_by s (history s n) variable date (variable_of s variable).owner) (sym (add-one date)) committed) (stands.rings variable before was))
 
   -- The seats of agents before the date
@@ -147,7 +147,7 @@ module _ (plan : Plan) (opening : Opening) (inputs : List (List ℤ)) (stalls : 
   pub starts_known : NamesAll (starts_in (date + 1) new.seats.items) (length new.seats.items) 0 new.movers.moved.agents
   starts_known = starts_then plan date old.seats.items new.seats.items moved.seated moved.seats earlier new.movers.moved.agents moved.names
 
-  pub shared_moves : SharedStands s turns (date + 1) new
+  pub shared_moves : SharedStands s plan.sizes turns (date + 1) new
   shared_moves = record {
     date = ap dates_done moved.date_is;
     seated = moved.seated ∙ stands.seated;
@@ -161,7 +161,7 @@ module _ (plan : Plan) (opening : Opening) (inputs : List (List ℤ)) (stalls : 
     queued = moved.queued ∙ stands.queued;
     queues = queue_stands plan opening inputs stalls bare lawful laws date begun turns old due stands new.queues.items moved.queued moved.queues;
     boxed = moved.boxed ∙ stands.boxed;
-    outboxes = λ agent outbox is. subst (λ d. OutboxStands s d turns agent (history s (date + 1) agent) outbox) (sym (one_back date)) (subst (λ n. OutboxStands s date turns agent (history s n agent) outbox) (sym (add-one date)) (outbox_stands plan opening inputs stalls bare lawful laws date begun turns old due stands unstarted new.outboxes.items moved.boxed moved.outboxes agent outbox is));
+    outboxes = λ agent outbox is. subst (λ d. OutboxStands plan.sizes d turns agent (history s (date + 1) agent) outbox) (sym (one_back date)) (subst (λ n. OutboxStands plan.sizes date turns agent (history s n agent) outbox) (sym (add-one date)) (outbox_stands plan opening inputs stalls bare lawful laws date begun turns old due stands unstarted new.outboxes.items moved.boxed moved.outboxes agent outbox is));
     taking = moved.taking ∙ stands.taking;
     taken = λ stream n is. subst (λ d. KeepsTakes d turns stream (history s (date + 1) (stream_of s stream).receiver) n) (sym (one_back date)) (subst (λ k. KeepsTakes date turns stream (history s k (stream_of s stream).receiver) n) (sym (add-one date)) (takes_stand plan opening inputs stalls bare lawful laws date begun turns old due stands unstarted new.taken.items moved.taking moved.taken stream n is));
     calendar = moved.calendar;

@@ -5,12 +5,12 @@ use Rattle.std.proofs.lemmas.List.{get_or-map, length-map, length-replicate}
 use Rattle.std.proofs.lemmas.List.Elements.{All-get_or}
 use Rattle.std.proofs.lemmas.Option.{get_or_from_slice_get, same_Some, slice_get-get_or, slice_get_within}
 use Rattle.psy_base.specs.declared.limits.TheConstants.{RING}
+use Rattle.psy_base.specs.declared.sizes.Sizes.{Sizes}
 use Rattle.psy_budget.specs.declared.charge.Stall.{Stall}
 use Rattle.psy_tree.specs.declared.unit.VarDecl.{VarDecl}
 use Rattle.psy_history.specs.Actions.{System, timing, variable_of}
 use Rattle.psy_history.specs.History.{history}
-use Rattle.psy_meaning.specs.KnownWays.{OfText}
-use Rattle.psy_meaning.specs.RingSizes.{IsRingSize}
+use Rattle.psy_meaning.specs.KnownWays.{Ways}
 use Rattle.psy_meaning.specs.Units.{IsBare}
 use Rattle.psy_dates.specs.Calendars.{CalendarStands}
 use Rattle.psy_dates.specs.declared.plan.Plan.{Plan}
@@ -30,17 +30,18 @@ first_value s variable None = refl
 first_value s variable (Some owner) = refl
 
 -- The ring of a variable, filled with its first value
-first_ring : (s : System) (variable size : ℕ) (value : ℤ) → IsRingSize s.unit (OfText s.unit) s.nexts variable size → value ≡ (variable_of s variable).init → RingStands s 0 variable (replicate size value)
-first_ring s variable size value of_size is =
+first_ring : (s : System) (sizes : Sizes) (variable : ℕ) (value : ℤ) → value ≡ (variable_of s variable).init → RingStands s sizes 0 variable (replicate (get_or sizes.rings variable 0) value)
+first_ring s sizes variable value is =
+    let size = get_or sizes.rings variable 0 in
     let long = length-replicate size value in
     record {
-      size = subst (IsRingSize s.unit (OfText s.unit) s.nexts variable) (sym long) of_size;
+      size = long;
       values = ap (replicate size) is ∙ ap (λ n. replicate n (variable_of s variable).init) (sym long);
     }
 
 -- A ring has a place at least, since a variable has a depth
-pub ring_places : (plan : Plan) → IsBare plan.unit → AreSizes plan.unit (OfText plan.unit) plan.nexts plan.sizes → All (λ size. (1 ≤ size) × (size ≤ RING)) plan.sizes.rings
-ring_places plan bare sizes variable d l =
+pub ring_places : (plan : Plan) (ways : Ways) → IsBare plan.unit → AreSizes plan.unit ways plan.nexts plan.sizes → All (λ size. (1 ≤ size) × (size ≤ RING)) plan.sizes.rings
+ring_places plan ways bare sizes variable d l =
     let its = sizes.rings.each variable (get_or plan.sizes.rings variable d) (slice_get-get_or plan.sizes.rings variable d l) in
     let depth = (bare.variables variable its.decl (omega (arith, l, sizes.rings.count))).depth in
     let same : get_or plan.unit.variables variable its.decl ≡ its.decl = get_or_from_slice_get plan.unit.variables variable its.decl its.decl its.declared in
@@ -77,8 +78,8 @@ pub record IsFirst (plan : Plan) (shared : Shared) : Type 0 where
   pub calendar : CalendarStands plan.unit.clocks 0 shared.calendar
   pub movers : shared.movers ≡ record { moved = record { size = length plan.unit.agents; agents = [] }; least = 0; stopped = false }
 
-pub first_stands : (plan : Plan) (inputs : List (List ℤ)) (stalls : ℕ → List Stall) (shared : Shared) → AreSizes plan.unit (OfText plan.unit) plan.nexts plan.sizes → IsFirst plan shared → SharedStands (system_of plan inputs stalls) [] 0 shared
-first_stands plan inputs stalls shared sizes is =
+pub first_stands : (plan : Plan) (inputs : List (List ℤ)) (stalls : ℕ → List Stall) (shared : Shared) (ways : Ways) → AreSizes plan.unit ways plan.nexts plan.sizes → IsFirst plan shared → SharedStands (system_of plan inputs stalls) plan.sizes [] 0 shared
+first_stands plan inputs stalls shared ways sizes is =
     let s = system_of plan inputs stalls in
     let count : length shared.committed.items ≡ length plan.unit.variables = ap length is.committed ∙ length-map plan.unit.variables (λ v. v.init) in
     let init : VarDecl → ℤ = λ v. v.init in
@@ -93,28 +94,23 @@ first_stands plan inputs stalls shared sizes is =
       ended = λ variable owner value at owned. tt {0};
       ringed = is.ringed;
       rings = λ variable ring at. (let within : variable < length plan.unit.variables = omega (arith, slice_get_within shared.rings.items variable ring at, is.ringed) in
-          let size = get_or plan.sizes.rings variable 0 in
-          let of_size : IsRingSize plan.unit (OfText plan.unit) plan.nexts variable size = sizes.rings.each variable size (slice_get-get_or plan.sizes.rings variable 0 (omega (arith, within, sizes.rings.count))) in
-          subst (RingStands s 0 variable) (same_Some _ _ (sym (is.rings variable within) ∙ at)) (first_ring s variable size _ of_size (get_or-map init plan.unit.variables variable _ (pos 0) within)));
+          subst (RingStands s plan.sizes 0 variable) (same_Some _ _ (sym (is.rings variable within) ∙ at)) (first_ring s plan.sizes variable _ (get_or-map init plan.unit.variables variable _ (pos 0) within)));
       queued = is.queued ∙ sizes.queues.count;
       queues = λ stream queue at. (let within : stream < length plan.sizes.queues = omega (arith, slice_get_within shared.queues.items stream queue at, is.queued) in
           let size = get_or plan.sizes.queues stream 0 in
-          let first : QueueStands s 0 stream (record { size = size; messages = [] }) = record {
-            places = size;
-            size = sizes.queues.each stream size (slice_get-get_or plan.sizes.queues stream 0 within);
-            small = sizes.small_queues stream 0 within;
+          let first : QueueStands s plan.sizes 0 stream (record { size = size; messages = [] }) = record {
             room = (let same : size ≡ size + 0 = omega arith in same);
             messages = refl;
           } in
-          subst (QueueStands s 0 stream) (same_Some _ _ (sym (is.queues stream within) ∙ at)) first);
+          subst (QueueStands s plan.sizes 0 stream) (same_Some _ _ (sym (is.queues stream within) ∙ at)) first);
       boxed = is.boxed ∙ sizes.outboxes.count;
       outboxes = λ agent outbox at. (let within : agent < length plan.sizes.outboxes = omega (arith, slice_get_within shared.outboxes.items agent outbox at, is.boxed) in
           let size = get_or plan.sizes.outboxes agent 0 in
-          let first : OutboxStands s (0 - 1) [] agent [] (record { size = size; sends = [] }) = record {
-            size = sizes.outboxes.each agent size (slice_get-get_or plan.sizes.outboxes agent 0 within);
+          let first : OutboxStands plan.sizes (0 - 1) [] agent [] (record { size = size; sends = [] }) = record {
+            size = refl;
             sends = refl;
           } in
-          subst (OutboxStands s (0 - 1) [] agent []) (same_Some _ _ (sym (is.outboxes agent within) ∙ at)) first);
+          subst (OutboxStands plan.sizes (0 - 1) [] agent []) (same_Some _ _ (sym (is.outboxes agent within) ∙ at)) first);
       taking = is.taking;
       taken = λ stream n at. sym (get_or_from_slice_get shared.taken.items stream n n at) ∙ is.taken stream n (slice_get_within shared.taken.items stream n at);
       calendar = is.calendar;

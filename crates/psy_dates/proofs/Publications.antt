@@ -4,13 +4,12 @@ use Rattle.std.specs.Prelude.{if◌then◌else◌, nat_le, ℤ, pos}
 use Rattle.std.proofs.lemmas.Bool.{cond-false, lt-leb, ne_eqb}
 use Rattle.std.proofs.lemmas.List.Elements.{All-get_or}
 use Rattle.std.proofs.lemmas.Option.{get_or_from_slice_get, slice_get-get_or, slice_get_within}
+use Rattle.psy_base.specs.declared.sizes.Sizes.{Sizes}
 use Rattle.psy_clock.specs.Dates.{from_date}
 use Rattle.psy_dates.specs.Calendars.{CalendarStands}
 use Rattle.psy_history.specs.Actions.{History, System, publishing, variable_of}
 use Rattle.psy_history.specs.History.{history}
 use Rattle.psy_history.specs.Lines.{is_date}
-use Rattle.psy_meaning.specs.KnownWays.{OfText}
-use Rattle.psy_meaning.specs.RingSizes.{IsRingSize}
 use Rattle.psy_history.specs.Visible.{published, published_before, published_behind, published_by}
 use Rattle.psy_history.specs.Rings.{ring_of}
 use Rattle.psy_dates.specs.Publications.{ring_then, value_by}
@@ -47,14 +46,14 @@ ring_stays s values date variable ring not = cond-false (is_date (publishing s v
 abbrev pub Goes : System → ℕ → ℕ → Type 0
 Goes s date variable = (size : ℕ) → ring_of s (date + 1) variable size ≡ (if is_date (publishing s variable) date then take size (published s (history s (date + 1)) variable date ∷ ring_of s date variable size) else ring_of s date variable size)
 
-pub ring_moves : (s : System) (date variable : ℕ) → s.opening.dates ≤ date → Goes s date variable → (values ring : List ℤ) → get_or values variable (pos 0) ≡ committed_by s (history s (date + 1)) variable date (variable_of s variable).owner → RingStands s date variable ring → RingStands s (date + 1) variable (ring_then s values date variable ring)
-ring_moves s date variable later goes values ring committed stands =
+pub ring_moves : (s : System) (sizes : Sizes) (date variable : ℕ) → s.opening.dates ≤ date → Goes s date variable → (values ring : List ℤ) → get_or values variable (pos 0) ≡ committed_by s (history s (date + 1)) variable date (variable_of s variable).owner → RingStands s sizes date variable ring → RingStands s sizes (date + 1) variable (ring_then s values date variable ring)
+ring_moves s sizes date variable later goes values ring committed stands =
     let at = is_date (publishing s variable) date in
     let owner = (variable_of s variable).owner in
     let size = length ring in
     let long : length (ring_then s values date variable ring) ≡ size = same_size at (value_by s values date variable owner) ring in
     record {
-      size = subst (IsRingSize s.unit (OfText s.unit) s.nexts variable) (sym long) stands.size;
+      size = long ∙ stands.size;
       values = ap (λ value. if at then take size (value ∷ ring) else ring) (value_is s (history s (date + 1)) values date variable owner committed ∙ published_now s (history s (date + 1)) variable date s.opening.dates later)
           ∙ ap (λ held. if at then take size (published s (history s (date + 1)) variable date ∷ held) else held) stands.values
           ∙ sym (goes size)

@@ -57,8 +57,8 @@ cleared : (ends : Bool) (outbox : Outboxed) → (if ends then record outbox { se
 cleared true outbox = refl
 cleared false outbox = refl
 
-module _ (plan : Plan) (opening : Opening) (inputs : List (List ℤ)) (stalls : ℕ → List Stall) (bare : IsBare plan.unit) (lawful : IsLawful (opened_of plan opening inputs stalls)) (laws : AreStreamLaws (opened_of plan opening inputs stalls)) (date : ℕ)
-    (begun : AreBegun (opened_of plan opening inputs stalls) date) (turns : List (Option Turn)) (old : Shared) (due : NoneActs date old.seats.items) (stands : SharedStands (opened_of plan opening inputs stalls) turns date old) where
+module _ (plan : Plan) (opening : Opening) (inputs : List (List ℤ)) (stalls : ℕ → List Stall) (bare : IsBare plan.unit) (lawful : IsLawful (opened_of plan opening inputs stalls)) (laws : AreStreamLaws (opened_of plan opening inputs stalls) plan.sizes) (date : ℕ)
+    (begun : AreBegun (opened_of plan opening inputs stalls) date) (turns : List (Option Turn)) (old : Shared) (due : NoneActs date old.seats.items) (stands : SharedStands (opened_of plan opening inputs stalls) plan.sizes turns date old) where
   abbrev s : System
   s = opened_of plan opening inputs stalls
 
@@ -179,21 +179,21 @@ module _ (plan : Plan) (opening : Opening) (inputs : List (List ℤ)) (stalls : 
       let queue = get_or old.queues.items stream none in
       let at : slice_get old.queues.items stream ≡ Some queue = slice_get-get_or old.queues.items stream none within in
       let its = stands.queues stream queue at in
-      let fits = laws.held (date + 1) stream its.places (omega (arith, within, stands.queued)) its.size its.small in
+      let fits = laws.held (date + 1) stream (omega (arith, within, stands.queued)) in
       let behind : with_entered (all_sent stream) held ≡ record queue { messages = queue_of s (date + 1) stream } = ap (with_entered (all_sent stream)) (same_Some _ _ (sym is ∙ settles stream queue at)) ∙ whole stream queue at in
       let long : length (entered (all_sent stream) held.messages) ≡ length (queue_of s (date + 1) stream) = ap (λ (q : Queued). length q.messages) behind in
       let size : held.size ≡ queue.size = ap (λ (q : Queued). q.size) behind in
       omega (arith, length_entered (all_sent stream) held.messages, long, size, its.room, fits)
 
   pub queue_stands : (new : List Queued) → length new ≡ length old.queues.items → ((stream : ℕ) (queue : Queued) → slice_get old.queues.items stream ≡ Some queue → slice_get new stream ≡ Some (with_entered (all_sent stream) (queue_then stream queue)))
-      → (stream : ℕ) (queue : Queued) → slice_get new stream ≡ Some queue → QueueStands s (date + 1) stream queue
+      → (stream : ℕ) (queue : Queued) → slice_get new stream ≡ Some queue → QueueStands s plan.sizes (date + 1) stream queue
   queue_stands new same moves stream held is =
       let none : Queued = record { size = 0; messages = [] } in
       let within : stream < length old.queues.items = omega (arith, slice_get_within new stream held is, same) in
       let queue = get_or old.queues.items stream none in
       let at : slice_get old.queues.items stream ≡ Some queue = slice_get-get_or old.queues.items stream none within in
       let its = stands.queues stream queue at in
-      subst (QueueStands s (date + 1) stream) (sym (whole stream queue at) ∙ same_Some _ _ (sym (moves stream queue at) ∙ is)) (record { places = its.places; size = its.size; small = its.small; room = its.room; messages = refl })
+      subst (QueueStands s plan.sizes (date + 1) stream) (sym (whole stream queue at) ∙ same_Some _ _ (sym (moves stream queue at) ∙ is)) (record { room = its.room; messages = refl })
 
   -- ---- what was sent and taken
 
@@ -224,12 +224,12 @@ module _ (plan : Plan) (opening : Opening) (inputs : List (List ℤ)) (stalls : 
       takes stream (get_or old.taken.items stream 0) (slice_get-get_or old.taken.items stream 0 (omega (arith, l, stands.taking)))
       ∙ ap (λ found. Some (if ends_at date found then 0 else get_or old.taken.items stream 0)) (seat_at (receiver stream) (received stream l))
 
-  pub outbox_stands : Unstarted → (new : List Outboxed) → length new ≡ length old.outboxes.items → Boxes new → (agent : ℕ) (outbox : Outboxed) → slice_get new agent ≡ Some outbox → OutboxStands s date turns agent (history s (suc date) agent) outbox
+  pub outbox_stands : Unstarted → (new : List Outboxed) → length new ≡ length old.outboxes.items → Boxes new → (agent : ℕ) (outbox : Outboxed) → slice_get new agent ≡ Some outbox → OutboxStands plan.sizes date turns agent (history s (suc date) agent) outbox
   outbox_stands unstarted new same boxes agent outbox is =
       let l : agent < length plan.unit.agents = omega (arith, slice_get_within new agent outbox is, same, stands.boxed) in
       let its = stands.outboxes agent (box_of agent) (box_at agent l) in
       let kept = kept_moves s lawful date turns agent (seat_of agent) (late agent l) (seated agent l) (List Sent) [] (λ r. r.deeds.sends) (box_of agent).sends (sends_kept (date - 1) turns (history s date agent) (box_of agent).sends its.sends) (unstarted agent) in
-      subst (OutboxStands s date turns agent (history s (suc date) agent)) (same_Some _ _ (sym (box_then new boxes agent l) ∙ is)) (record {
+      subst (OutboxStands plan.sizes date turns agent (history s (suc date) agent)) (same_Some _ _ (sym (box_then new boxes agent l) ∙ is)) (record {
         size = its.size;
         sends = kept_sends date turns (history s (suc date) agent) _ kept;
       })

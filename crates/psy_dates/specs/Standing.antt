@@ -1,16 +1,12 @@
 -- When what the agents share stands for a dated history.
-use Rattle.std.specs.Prelude.{◌≡◌, ◌≢◌, ℕ, suc, ◌+◌, ◌-◌, ◌<◌, ◌≤◌, Bool, true, false, List, [], ◌∷◌, length, Option, Some, None, slice_get, ⊤, ℤ}
+use Rattle.std.specs.Prelude.{◌≡◌, ◌≢◌, ℕ, suc, ◌+◌, ◌-◌, ◌<◌, ◌≤◌, Bool, true, false, List, [], ◌∷◌, length, get_or, Option, Some, None, slice_get, ⊤, ℤ}
 use Rattle.psy_arith.specs.declared.operators.Trap.{Trap}
-use Rattle.psy_base.specs.declared.limits.TheConstants.{QUEUE}
+use Rattle.psy_base.specs.declared.sizes.Sizes.{Sizes}
 use Rattle.psy_code.specs.declared.look.Sent.{Sent}
 use Rattle.psy_queue.specs.Order.{Queued}
 use Rattle.psy_history.specs.Actions.{Action, History, System, Verdict, Done, Trapped, is_done, is_silent, stream_of, timing, variable_of}
 use Rattle.psy_history.specs.Executors.{copy_in}
-use Rattle.psy_base.specs.Extremes.{IsGreatest}
 use Rattle.psy_history.specs.History.{history}
-use Rattle.psy_meaning.specs.KnownWays.{OfText}
-use Rattle.psy_meaning.specs.QueueSizes.{HasSendsTo, IsQueueSize}
-use Rattle.psy_meaning.specs.RingSizes.{IsRingSize}
 use Rattle.psy_meaning.specs.Timing.{first_date}
 use Rattle.psy_history.specs.Schedule.{Turn, is_pending}
 use Rattle.psy_history.specs.Visible.{committed_in, taken}
@@ -94,18 +90,15 @@ abbrev pub KeepsCopy : ℕ → List (Option Turn) → ℕ → List Action → �
 KeepsCopy date turns variable [] value = ⊤
 KeepsCopy date turns variable (r ∷ before) value = phase_of date turns r ≡ phase.Ended → value ≡ copy_in r.after variable
 
--- The ring of a variable has the size that it needs, and holds the values published last in the first dates.
-pub record RingStands (s : System) (dates variable : ℕ) (ring : List ℤ) : Type 0 where
-  pub size : IsRingSize s.unit (OfText s.unit) s.nexts variable (length ring)
+-- The ring of a variable has its size, and holds the values published last in the first dates.
+pub record RingStands (s : System) (sizes : Sizes) (dates variable : ℕ) (ring : List ℤ) : Type 0 where
+  pub size : length ring ≡ get_or sizes.rings variable 0
   pub values : ring ≡ ring_of s dates variable (length ring)
 
--- The queue of a stream has the places that it needs, and as many more as the stream held messages when the history began; and it holds what
+-- The queue of a stream has the places of its size, and as many more as the stream held messages when the history began; and it holds what
 -- the stream holds when the first so many dates are done.
-pub record QueueStands (s : System) (dates stream : ℕ) (queue : Queued) : Type 0 where
-  pub places : ℕ
-  pub size : IsQueueSize s.unit (OfText s.unit) s.nexts stream places
-  pub small : places ≤ QUEUE
-  pub room : queue.size ≡ places + length (s.opening.messages stream)
+pub record QueueStands (s : System) (sizes : Sizes) (dates stream : ℕ) (queue : Queued) : Type 0 where
+  pub room : queue.size ≡ get_or sizes.queues stream 0 + length (s.opening.messages stream)
   pub messages : queue.messages ≡ queue_of s dates stream
 
 -- What an agent that has ended its action sent is kept; before its first action there is nothing.
@@ -113,9 +106,9 @@ abbrev pub KeepsSends : ℕ → List (Option Turn) → List Action → List Sent
 KeepsSends date turns [] sends = sends ≡ []
 KeepsSends date turns (r ∷ before) sends = phase_of date turns r ≡ phase.Ended → sends ≡ r.deeds.sends
 
--- The outbox of an agent has the size that it needs, and keeps what was sent.
-pub record OutboxStands (s : System) (date : ℕ) (turns : List (Option Turn)) (agent : ℕ) (actions : List Action) (outbox : Outboxed) : Type 0 where
-  pub size : IsGreatest (HasSendsTo s.unit (OfText s.unit) s.nexts agent) outbox.size
+-- The outbox of an agent has its size, and keeps what was sent.
+pub record OutboxStands (sizes : Sizes) (date : ℕ) (turns : List (Option Turn)) (agent : ℕ) (actions : List Action) (outbox : Outboxed) : Type 0 where
+  pub size : outbox.size ≡ get_or sizes.outboxes agent 0
   pub sends : KeepsSends date turns actions outbox.sends
 
 -- How many messages of a stream its receiver took in an action that it has ended is kept; before its first action there are none.
@@ -131,8 +124,8 @@ pub record MoversStand (s : System) (dates : ℕ) (seats : List Seat) (movers : 
   pub stopped : movers.stopped ≡ false → NoneStopped seats
   pub fallen : NamesAll (falls_in dates seats) (length seats) 0 movers.moved.agents
 
--- The shared state stands for the history of the first so many dates, where the cycles done went to these turns.
-pub record SharedStands (s : System) (turns : List (Option Turn)) (dates : ℕ) (shared : Shared) : Type 0 where
+-- The shared state, with buffers of these sizes, stands for the history of the first so many dates, where the cycles done went to these turns.
+pub record SharedStands (s : System) (sizes : Sizes) (turns : List (Option Turn)) (dates : ℕ) (shared : Shared) : Type 0 where
   pub date : dates_done shared.date ≡ dates
   pub seated : length shared.seats.items ≡ length s.unit.agents
   pub seats : (agent : ℕ) (seat : Seat) → slice_get shared.seats.items agent ≡ Some seat
@@ -144,12 +137,12 @@ pub record SharedStands (s : System) (turns : List (Option Turn)) (dates : ℕ) 
   pub ended : (variable owner : ℕ) (value : ℤ) → slice_get shared.ended.items variable ≡ Some value → (variable_of s variable).owner ≡ Some owner
       → KeepsCopy (dates - 1) turns variable (history s dates owner) value
   pub ringed : length shared.rings.items ≡ length s.unit.variables
-  pub rings : (variable : ℕ) (ring : List ℤ) → slice_get shared.rings.items variable ≡ Some ring → RingStands s dates variable ring
+  pub rings : (variable : ℕ) (ring : List ℤ) → slice_get shared.rings.items variable ≡ Some ring → RingStands s sizes dates variable ring
   pub queued : length shared.queues.items ≡ length s.unit.streams
-  pub queues : (stream : ℕ) (queue : Queued) → slice_get shared.queues.items stream ≡ Some queue → QueueStands s dates stream queue
+  pub queues : (stream : ℕ) (queue : Queued) → slice_get shared.queues.items stream ≡ Some queue → QueueStands s sizes dates stream queue
   pub boxed : length shared.outboxes.items ≡ length s.unit.agents
   pub outboxes : (agent : ℕ) (outbox : Outboxed) → slice_get shared.outboxes.items agent ≡ Some outbox
-      → OutboxStands s (dates - 1) turns agent (history s dates agent) outbox
+      → OutboxStands sizes (dates - 1) turns agent (history s dates agent) outbox
   pub taking : length shared.taken.items ≡ length s.unit.streams
   pub taken : (stream n : ℕ) → slice_get shared.taken.items stream ≡ Some n
       → KeepsTakes (dates - 1) turns stream (history s dates (stream_of s stream).receiver) n

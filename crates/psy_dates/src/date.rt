@@ -4,10 +4,8 @@ ghost use Rattle.psy_budget.specs.declared.charge.Stall.{Stall};
 ghost use Rattle.psy_history.specs.Compiled.{AreInputs};
 ghost use Rattle.psy_history.specs.Scheduled.{turns_of};
 ghost use Rattle.psy_history.specs.Actions.{Opening};
-ghost use Rattle.psy_history.specs.Openings.{IsSound};
-ghost use Rattle.psy_meaning.specs.KnownWays.{OfText};
 ghost use Rattle.psy_dates.specs.Movers.{NamesAll, starts_in};
-ghost use Rattle.psy_dates.specs.Plans.{IsPlan, opened_of};
+ghost use Rattle.psy_dates.specs.Plans.{IsPlan, IsSoundFor, opened_of};
 ghost use Rattle.psy_dates.specs.Outboxes.{Outboxed};
 ghost use Rattle.psy_dates.specs.Standing.{Begins, GoesOn, NoneActs, SharedStands, dates_done};
 ghost use Rattle.psy_tree.specs.declared.unit.StreamDecl.{StreamDecl};
@@ -20,7 +18,7 @@ use crate::plan::Plan;
 use crate::rings::publish_all;
 use crate::settles::settle_all;
 use crate::shared::Shared;
-use psy_history::laws::{compiled, given, openings, queue_sizes, queues, regular, rings};
+use psy_history::laws::{fitting, given, openings, queue_sizes, queues, regular, rings};
 
 /// Does a date. The actions that end there commit. Of each stream whose receiver ends there what it took goes, and what has expired where
 /// the receiver starts there or is silent. The messages of the actions that end there enter. Each variable whose clock has that date
@@ -35,15 +33,15 @@ pub fn at_date(shared: &mut Shared, plan: &Plan, date: u64)
     requires due { NoneActs date shared.old.seats.items }
     // it stands for the history of the dates before, with all their cycles done, for some sound opening and some script
     requires stands { (opening : Opening) × (stalls : ℕ → List Stall) × (order : ℕ → List ℕ)
-        × IsSound (opened_of plan.now opening shared.old.inputs.lists stalls) (OfText plan.now.unit) plan.now.code × (opening.dates ≤ date)
-        × SharedStands (opened_of plan.now opening shared.old.inputs.lists stalls)
+        × IsSoundFor plan.now opening shared.old.inputs.lists stalls × (opening.dates ≤ date)
+        × SharedStands (opened_of plan.now opening shared.old.inputs.lists stalls) plan.now.sizes
         (turns_of (opened_of plan.now opening shared.old.inputs.lists stalls) order (date * plan.now.unit.quantum)) date shared.old }
     // for each opening and script for which it does, it stands for the history up to this date
     ensures stands { (opening : Opening) (stalls : ℕ → List Stall) (order : ℕ → List ℕ)
-        → IsSound (opened_of plan.now opening shared.old.inputs.lists stalls) (OfText plan.now.unit) plan.now.code → opening.dates ≤ date
-        → SharedStands (opened_of plan.now opening shared.old.inputs.lists stalls)
+        → IsSoundFor plan.now opening shared.old.inputs.lists stalls → opening.dates ≤ date
+        → SharedStands (opened_of plan.now opening shared.old.inputs.lists stalls) plan.now.sizes
         (turns_of (opened_of plan.now opening shared.old.inputs.lists stalls) order (date * plan.now.unit.quantum)) date shared.old
-        → SharedStands (opened_of plan.now opening shared.old.inputs.lists stalls)
+        → SharedStands (opened_of plan.now opening shared.old.inputs.lists stalls) plan.now.sizes
         (turns_of (opened_of plan.now opening shared.old.inputs.lists stalls) order (date * plan.now.unit.quantum)) (date + 1) shared.new }
     // an action that starts there has sent and taken nothing, and what one that goes on has sent and taken stays
     ensures begun { (agent : ℕ) → Begins date shared.new.seats.items agent
@@ -58,7 +56,7 @@ pub fn at_date(shared: &mut Shared, plan: &Plan, date: u64)
     ensures moved { NamesAll (starts_in (date + 1) shared.new.seats.items) (length shared.new.seats.items) 0 shared.new.movers.moved.agents }
     ensures inputs { shared.new.inputs ≡ shared.old.inputs }
 {
-    compiled();
+    fitting();
     openings();
     given();
     regular();

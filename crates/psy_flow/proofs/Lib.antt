@@ -18,6 +18,7 @@ mod Homes
 mod Layers
 mod Limits
 mod Lists
+mod Longer
 mod LooksBelow
 mod MarkedNumbers
 mod Marks
@@ -45,11 +46,14 @@ mod SendsUpTo
 mod Silent
 mod Sizes
 mod Still
+mod TextLooks
+mod TextMarks
 mod Throughs
 mod TopsOf
 mod Turnings
 mod Uncapped
 mod WalksMet
 mod WayRows
+mod WaysCounted
 mod WorthCells
 mod WorstCosts

@@ -1,6 +1,6 @@
 -- The variables at which the ways from a point look, one variable after the other.
-use Rattle.std.proofs.Common.{◌≡◌, ℕ, ◌+◌, ◌<◌, Bool, true, false, List, [], ◌∷◌, ◌++◌, get_or, Some, refl, sym, subst, inl, inr, arith}
-use Rattle.std.specs.Prelude.{◌↔◌, slice_get}
+use Rattle.std.proofs.Common.{◌≡◌, ℕ, ◌+◌, ◌<◌, Bool, true, false, List, [], ◌∷◌, ◌++◌, get_or, refl, sym, subst, inl, inr, arith}
+use Rattle.std.specs.Prelude.{◌↔◌}
 use Rattle.std.specs.List.{AllPairs, Contains}
 use Rattle.std.proofs.lemmas.Bool.{cases_lt, false≢true}
 use Rattle.std.proofs.lemmas.List.{append-nil}
@@ -13,16 +13,12 @@ use Rattle.psy_meaning.specs.Flow.{MayLook, Rises}
 use Rattle.psy_meaning.specs.ListedWays.{AreLooks}
 use Rattle.psy_flow.specs.Listed.{if_so, AreLooksBelow}
 
-pub rises_of_pairs : (xs : List ℕ) → AllPairs (λ a b. a < b) xs → Rises xs
+rises_of_pairs : (xs : List ℕ) → AllPairs (λ a b. a < b) xs → Rises xs
 rises_of_pairs xs pairs i j m n less at also =
     let inside = slice_get_within xs j n also in
     let first = get_or_from_slice_get xs i m 0 at in
     let second = get_or_from_slice_get xs j n 0 also in
     omega (arith, pairs i j 0 less inside, first, second)
-
--- Two that stand in a list rise with their places.
-pub less_by_place : (xs : List ℕ) → Rises xs → (i j m n : ℕ) → i < j → slice_get xs i ≡ Some m → slice_get xs j ≡ Some n → m < n
-less_by_place xs rise = rise
 
 module _ (functions : List FunctionDecl) (agent : AgentDecl) (point : ℕ) where
   pub looks_none : AreLooksBelow functions agent point 0 []
@@ -48,7 +44,7 @@ module _ (functions : List FunctionDecl) (agent : AgentDecl) (point : ℕ) where
   }
 
   -- Where none does
-  without : (below : ℕ) (xs : List ℕ) → AreLooksBelow functions agent point below xs → (MayLook functions agent point below → ⊥) → AreLooksBelow functions agent point (below + 1) xs
+  pub without : (below : ℕ) (xs : List ℕ) → AreLooksBelow functions agent point below xs → (MayLook functions agent point below → ⊥) → AreLooksBelow functions agent point (below + 1) xs
   without below xs kept none = record {
     rise = kept.rise;
     each = λ variable. (

@@ -1,4 +1,4 @@
--- The sends on the ways from a point, one stream and one next point after the other.
+-- The sends on the ways from a point, one stream and one point after the other.
 use Rattle.std.proofs.Common.{◌≡◌, ◌⊎◌, ℕ, ◌+◌, ◌<◌, ◌≤◌, Bool, true, false, List, [], ◌∷◌, ◌++◌, length, get_or, take, refl, sym, ap, subst, ◌∙◌, inl, inr, arith}
 use Rattle.std.specs.Prelude.{nat_lt, ◌↔◌}
 use Rattle.std.specs.List.{AllPairs, Contains}
@@ -84,7 +84,8 @@ module _ (Most : ℕ → ℕ → ℕ → Type 0) (one : (to stream n m : ℕ) �
     );
   }
 
-  without : (to stream : ℕ) (sends : List SendWay) → AreSendsUpTo Most to stream sends → Most to stream 0 → AreSendsUpTo Most to (stream + 1) sends
+  -- Where there are none to the stream
+  pub without : (to stream : ℕ) (sends : List SendWay) → AreSendsUpTo Most to stream sends → ((n : ℕ) → Most to stream n → n ≡ 0) → AreSendsUpTo Most to (stream + 1) sends
   without to stream sends kept none = record {
     rise = kept.rise;
     each = λ way. (
@@ -92,7 +93,7 @@ module _ (Most : ℕ → ℕ → ℕ → Type 0) (one : (to stream n m : ℕ) �
       (λ (up, sent). elim (up_or to stream way up) [
         | inl before ↦ (kept.each way).1 (before, sent)
         | inr (e, f) ↦ (
-            let same = one to stream way.most 0 (subst (λ s. Most to s way.most) f (subst (λ t. Most t way.stream way.most) e sent.0)) none in
+            let same = none way.most (subst (λ s. Most to s way.most) f (subst (λ t. Most t way.stream way.most) e sent.0)) in
             absurd (omega (arith, same, sent.1)))
       ]),
     );
@@ -105,18 +106,41 @@ module _ (Most : ℕ → ℕ → ℕ → Type 0) (one : (to stream n m : ℕ) �
       rw so (with_one to stream sends new refl refl kept (is, some))
   more_by to stream most sends false so kept is =
       let none : most ≡ 0 = grind (arith, so) in
-      rw so (subst (AreSendsUpTo Most to (stream + 1)) (sym (append-nil sends)) (without to stream sends kept (subst (Most to stream) none is)))
+      rw so (subst (AreSendsUpTo Most to (stream + 1)) (sym (append-nil sends)) (without to stream sends kept (λ n has. one to stream n 0 has (subst (Most to stream) none is))))
 
   pub sends_more : (to stream most : ℕ) (sends : List SendWay) → AreSendsUpTo Most to stream sends → Most to stream most → AreSendsUpTo Most to (stream + 1) (sends ++ some_way (record { to = to; stream = stream; most = most }))
   sends_more to stream most sends kept is = more_by to stream most sends (nat_lt 0 most) refl kept is
 
-  -- ---- one next point more
+  -- ---- one point more
 
-  pub among_none : AreSendsAmong Most [] []
-  among_none = record {
+  pub none_before : (to : ℕ) → ((way : SendWay) → Is way → to ≤ way.to) → AreSendsUpTo Most to 0 []
+  none_before to late = record {
     rise = λ i j d less inside. absurd (omega (arith, inside));
-    each = λ way. ((λ c. absurd (omega (arith, c.1))), (λ (c, sent). absurd (omega (arith, c.1))));
+    each = λ way. (
+      (λ c. absurd (omega (arith, c.1))),
+      (λ (up, sent). elim up [ inl less ↦ absurd (omega (arith, less, late way sent)) | inr (is, less) ↦ absurd (omega (arith, less)) ]),
+    );
   }
+
+  pub next_end : (to streams : ℕ) (sends : List SendWay) → ((way : SendWay) → Is way → way.stream < streams) → AreSendsUpTo Most to streams sends → AreSendsUpTo Most (to + 1) 0 sends
+  next_end to streams sends known kept = record {
+    rise = kept.rise;
+    each = λ way. (
+      (λ c. let (up, sent) = (kept.each way).0 c in (elim up [ inl less ↦ inl (omega (arith, less)) | inr (is, less) ↦ inl (omega (arith, is)) ], sent)),
+      (λ (up, sent). (kept.each way).1 (
+        elim up [
+          | inl less ↦ elim (cases_lt way.to to) [ inl under ↦ inl under | inr above ↦ inr (omega (arith, less, above), known way sent) ]
+          | inr (is, less) ↦ absurd (omega (arith, less))
+        ],
+        sent,
+      )),
+    );
+  }
+
+  pub all_ends : (to : ℕ) (sends : List SendWay) → ((way : SendWay) → Is way → way.to < to) → AreSendsUpTo Most to 0 sends → AllPairs IsWayBefore sends × ((way : SendWay) → Contains sends way ↔ Is way)
+  all_ends to sends known kept = (kept.rise, (λ way. ((λ c. ((kept.each way).0 c).1), (λ sent. (kept.each way).1 (inl (known way sent), sent)))))
+
+  -- ---- one next point more
 
   module _ (nexts : List ℕ) (streams : ℕ) (rise : Rises nexts) (there : (way : SendWay) → Is way → (way.stream < streams) × Contains nexts way.to) where
     pub among_up : (i : ℕ) (sends : List SendWay) → i < length nexts → AreSendsAmong Most (take i nexts) sends → AreSendsUpTo Most (get_or nexts i 0) 0 sends

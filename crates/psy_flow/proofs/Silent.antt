@@ -19,6 +19,7 @@ use Rattle.psy_meaning.specs.Flow.{IsMostSends, MayLook}
 use Rattle.psy_flow.specs.Tops.{count_of, called, capped_count, capped_tops, pieces_tops}
 use Rattle.psy_flow.proofs.Greatest.{IsRow, IsTopTo, top_to, row_of}
 use Rattle.psy_flow.proofs.Still.{Left, Still, still_calls}
+use Rattle.psy_flow.proofs.TextLooks.{Zero}
 
 -- What is counted doesn't change where looks and sends don't.
 abbrev Counts : Gauge → Type 0
@@ -108,6 +109,17 @@ module _ (unit : Whole) (number : ℕ) (agent : AgentDecl) (its : IsKnown unit n
       subst (λ o. (nat_lt 0 (unwrap_or o 0) ≡ true) ↔ MayLook unit.functions agent point variable) (sym (ap (λ (u : Tops). u.to) h))
       (looks_by variable (pieces_tops g None (called []) (rest agent.stmts point)).to
       (top_to g None unit.functions (called []) (rest agent.stmts point) its.none (calls g (looks_same variable))))
+
+  -- Where nothing is counted none looks.
+  pub none_looked : (variable : ℕ) → Zero (pieces_tops (gauge.Looks variable) None (called []) (rest agent.stmts point)).to → MayLook unit.functions agent point variable → ⊥
+  none_looked variable none may =
+      let g = gauge.Looks variable in
+      let pieces = pieces_tops g None (called []) (rest agent.stmts point) in
+      never pieces.to none ((looks_of_tops variable (capped_tops g pieces) refl).1 may)
+    where
+      never : (o : Option ℕ) → Zero o → nat_lt 0 (unwrap_or (capped_count (gauge.Looks variable) o) 0) ≡ true → ⊥
+      never None h e = false≢true e
+      never (Some n) h e = let more : 0 < min n 1 = grind (arith, e) in omega (arith, h, more)
 
   -- Whether it may look
   pub told : (variable : ℕ) → MayLook unit.functions agent point variable ⊎ (MayLook unit.functions agent point variable → ⊥)

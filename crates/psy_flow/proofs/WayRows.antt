@@ -34,12 +34,6 @@ read_is xs i x y less is at = let same : Some x ≡ Some y = ap Some is ∙ sym 
 abbrev pub NextsAt : AgentDecl → ℕ → List ℕ → Type 0
 NextsAt agent point list = (unit : Whole) (number : ℕ) → IsAgentOf unit number agent → Rises list × ((to : ℕ) → (Contains list to ↔ IsNext unit.functions agent point to))
 
-abbrev pub LooksAt : AgentDecl → ℕ → ℕ → List ℕ → Type 0
-LooksAt agent variables point list = (unit : Whole) (number : ℕ) → IsAgentOf unit number agent → length unit.variables ≡ variables → AreLooks unit.functions agent point list
-
-abbrev pub SendsAt : AgentDecl → ℕ → ℕ → List SendWay → Type 0
-SendsAt agent streams point list = (unit : Whole) (number : ℕ) → IsAgentOf unit number agent → length unit.streams ≡ streams → AreSends unit.functions agent point list
-
 -- ---- by agent
 
 abbrev pub AllNextsAt : Whole → ℕ → List (List ℕ) → Type 0

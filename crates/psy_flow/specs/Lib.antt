@@ -8,6 +8,7 @@ pub mod Listed
 pub mod Quests
 pub mod Reach
 pub mod Readings
+pub mod Texts
 pub mod Tops
 pub mod Walks
 pub mod Worths

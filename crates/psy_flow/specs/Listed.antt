@@ -1,5 +1,5 @@
 -- The lists of an agent's ways while they grow.
-use Rattle.std.specs.Prelude.{◌≡◌, ◌⊎◌, ◌↔◌, ℕ, ◌<◌, ◌≤◌, ◌==◌, nat_lt, Bool, if◌then◌else◌, List, [], ◌∷◌, filter, map, length, Some, slice_get}
+use Rattle.std.specs.Prelude.{◌≡◌, ◌⊎◌, ◌↔◌, ℕ, ◌<◌, ◌≤◌, ◌==◌, nat_lt, Bool, if◌then◌else◌, List, [], ◌∷◌, ◌++◌, filter, map, length, Some, slice_get}
 use Rattle.std.specs.List.{AllPairs, Contains}
 use Rattle.psy_base.specs.Extremes.{most_of}
 use Rattle.psy_base.specs.declared.ways.SendWay.{SendWay}
@@ -48,6 +48,13 @@ pub record AreSendsAmong (Most : ℕ → ℕ → ℕ → Type 0) (nexts : List �
 -- The greatest delay of those of some sends that go to a stream
 abbrev pub delay_among : Whole → ℕ → List Sending → ℕ
 delay_among unit stream sendings = most_of (map (delay_of unit) (filter (λ (s : Sending). s.stream == stream) sendings))
+
+-- ---- lists that grow
+
+-- Each list has so much more at its end.
+pub record AreLonger {X : Type 0} (more : ℕ → List X) (before after : List (List X)) : Type 0 where
+  pub count : length after ≡ length before
+  pub each : (place : ℕ) (list : List X) → slice_get before place ≡ Some list → slice_get after place ≡ Some (list ++ more place)
 
 -- ---- an agent
 

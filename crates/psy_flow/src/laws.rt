@@ -1,6 +1,7 @@
 //! What the laws of the definitions say of the agents of a text.
 
 ghost use Rattle.std.specs.Prelude.{◌≡◌, ◌↔◌, ◌<◌, ◌≤◌, ◌⊎◌, ℕ, true, List, length};
+ghost use Rattle.std.specs.List.{Contains};
 ghost use Rattle.psy_base.specs.Extremes.{IsGreatest};
 ghost use Rattle.psy_base.specs.declared.limits.TheConstants.{COST};
 ghost use Rattle.psy_base.specs.declared.ways.SendWay.{SendWay};
@@ -18,6 +19,7 @@ ghost use Rattle.psy_meaning.specs.Units.{IsOfText};
 ghost use Rattle.psy_meaning.specs.Ways.{Meter, callee_ways};
 ghost use Rattle.psy_flow.specs.Agents.{IsAgentOf, IsKnown};
 ghost use Rattle.psy_flow.specs.Readings.{AreAlike};
+ghost use Rattle.psy_flow.specs.Texts.{looks_in, streams_in};
 
 use psy_meaning::laws::{follows, met, named as can_name, sendings, sound};
 
@@ -76,6 +78,17 @@ pub fn named()
 {
     known();
     can_name();
+}
+
+/// What the ways from a point of an agent of a text look at and send to is named in the agent's text.
+pub fn texts()
+    ensures looks { (unit : Whole) (number : ℕ) (agent : AgentDecl) (point variable : ℕ) → IsAgentOf unit number agent
+        → MayLook unit.functions agent point variable → Contains (looks_in agent.stmts) variable }
+    ensures sends { (unit : Whole) (number : ℕ) (agent : AgentDecl) (point : ℕ) (way : SendWay) → IsAgentOf unit number agent
+        → IsSendWay unit.functions agent point way → Contains (streams_in agent.stmts) way.stream }
+{
+    known();
+    sendings();
 }
 
 /// The lists of the ways of a program's statements are ways of the program, and say what the statements say. These send to streams that

@@ -30,6 +30,7 @@ mod sending;
 mod settling;
 mod stack;
 mod statements;
+mod texts;
 mod tops;
 mod walks;
 mod worst_costs;

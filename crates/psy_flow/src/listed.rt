@@ -8,10 +8,10 @@ ghost use Rattle.psy_flow.specs.Agents.{IsOfSome, IsAgentOf};
 ghost use Rattle.psy_flow.specs.Listed.{AreAgentWays};
 
 use crate::delays::delays;
-use crate::looking::looks_from;
-use crate::next::next_points;
+use crate::looking::looks_by_point;
+use crate::next::nexts_by_point;
 use crate::pushes::push;
-use crate::sending::sends_from;
+use crate::sending::sends_by_point;
 use psy_base::{Items, Memory, SendWay, Ways};
 use psy_tree::{AgentDecl, Unit};
 use std::alloc::Global;
@@ -38,17 +38,9 @@ fn ways_of(
     ensures { IfOk result (λ ways. (unit : Whole) (number : ℕ) → IsAgentOf unit number agent.now → length unit.variables ≡ variables
         → length unit.streams ≡ streams → AreAgentWays unit.functions agent.now ways) }
 {
-    let mut nexts = Items::new(alloc);
-    let mut looks = Items::new(alloc);
-    let mut sends = Items::new(alloc);
-    'points: for point in 0..agent.points.len() as u32 {
-        let to = next_points(alloc, agent, point)?;
-        let looked = looks_from(alloc, agent, point, variables)?;
-        let sent = sends_from(alloc, agent, point, to.as_slice(), streams)?;
-        push(&mut nexts, to)?;
-        push(&mut looks, looked)?;
-        push(&mut sends, sent)?;
-    }
+    let nexts = nexts_by_point(alloc, agent)?;
+    let looks = looks_by_point(alloc, agent, variables)?;
+    let sends = sends_by_point(alloc, agent, streams)?;
     Ok(AgentWays {
         nexts,
         looks,

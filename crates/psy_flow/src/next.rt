@@ -5,10 +5,11 @@ ghost use Rattle.std.specs.List.{All, Contains};
 ghost use Rattle.psy_base.specs.declared.limits.TheConstants.{POINTS};
 ghost use Rattle.psy_tree.specs.declared.unit.Unit.{Unit as Whole};
 ghost use Rattle.psy_flow.specs.Agents.{IsOfSome, IsAgentOf};
-ghost use Rattle.psy_meaning.specs.Flow.{IsNext, Rises};
+ghost use Rattle.psy_meaning.specs.Flow.{AreNexts, IsNext, Rises};
 ghost use Rattle.psy_flow.specs.Reach.{numbers_of};
 
 use crate::laws::known;
+use crate::pushes::push;
 use crate::reach::reach_from;
 use psy_base::{Items, Memory};
 use psy_tree::AgentDecl;
@@ -54,4 +55,17 @@ pub fn next_points(alloc: Global, agent: &AgentDecl, point: u32) -> Result<Items
     let mut marks = no_marks(alloc, agent.points.len())?;
     reach_from(&mut marks, agent.stmts.as_slice(), point);
     marked_numbers(alloc, marks.as_slice())
+}
+
+/// By point of an agent, the points that may follow it. The only error is want of memory.
+pub fn nexts_by_point(alloc: Global, agent: &AgentDecl) -> Result<Items<Items<u32>>, Memory>
+    requires { IsOfSome agent.now }
+    ensures { IfOk result (λ lists. (unit : Whole) (number : ℕ) → IsAgentOf unit number agent.now → AreNexts unit.functions agent.now lists) }
+{
+    let mut lists = Items::new(alloc);
+    'points: for point in 0..agent.points.len() as u32 {
+        let next = next_points(alloc, agent, point)?;
+        push(&mut lists, next)?;
+    }
+    Ok(lists)
 }

@@ -1,15 +1,19 @@
-//! The sends on the ways from a point.
+//! The sends on the ways from an agent's points.
 
-ghost use Rattle.std.specs.Prelude.{◌≡◌, ◌++◌, ◌<◌, ◌↔◌, ℕ, length, IfOk, OnOk};
-ghost use Rattle.std.specs.List.{Contains};
+ghost use Rattle.std.specs.Prelude.{◌≡◌, ◌+◌, ◌++◌, ◌≤◌, ℕ, false, get_or, length, replicate, IfOk, OnOk};
+ghost use Rattle.psy_base.specs.declared.ways.SendWay.{SendWay};
 ghost use Rattle.psy_tree.specs.declared.unit.Unit.{Unit as Whole};
-ghost use Rattle.psy_meaning.specs.Flow.{IsMostSends, IsNext, Rises};
-ghost use Rattle.psy_meaning.specs.ListedWays.{AreSends};
+ghost use Rattle.psy_meaning.specs.Flow.{IsMostSends};
+ghost use Rattle.psy_meaning.specs.ListedWays.{AreSends, IsSendWay};
 ghost use Rattle.psy_flow.specs.Agents.{IsOfSome, IsAgentOf};
-ghost use Rattle.psy_flow.specs.Listed.{AreSendsUpTo, some_way};
+ghost use Rattle.psy_flow.specs.Listed.{AreLonger, AreOf, AreSendsUpTo, some_way};
+ghost use Rattle.psy_flow.specs.Texts.{marked_at, streams_in};
 
-use crate::flow::most_sends;
-use crate::laws::named;
+use crate::backwards::counts_of_points;
+use crate::gauge::Gauge;
+use crate::laws::{known, named, nexts, texts};
+use crate::pushes::empty_lists;
+use crate::texts::sent_to;
 use psy_base::{Items, Memory, SendWay};
 use psy_tree::AgentDecl;
 use std::alloc::Global;
@@ -24,45 +28,103 @@ pub fn push_some(ways: &mut Items<SendWay>, way: SendWay) -> Result<(), Memory>
     Ok(())
 }
 
-// The sends to the first so many streams on the ways from a point to another, behind those of the ways to earlier points.
-fn add_sends(
-    ways: &mut Items<SendWay>,
-    agent: &AgentDecl,
-    point: u32,
+// Adds the sends to a stream, on the ways that end at a point, to the list of each point with a count.
+fn add_where(
+    lists: &mut [Items<SendWay>],
     to: u32,
-    streams: u32,
+    stream: u32,
+    counts: &[u64],
 ) -> Result<(), Memory>
-    requires text { IsOfSome agent.now }
-    requires point { point < length agent.now.points }
-    ensures { OnOk result ((unit : Whole) (number : ℕ) → IsAgentOf unit number agent.now
-        → AreSendsUpTo (IsMostSends unit.functions agent.now point) to 0 ways.old
-        → AreSendsUpTo (IsMostSends unit.functions agent.now point) to streams ways.new) }
+    requires { length lists.old ≤ length counts.now }
+    ensures as_many { length lists.new ≡ length lists.old }
+    ensures longer { OnOk result (AreLonger (λ point. some_way (record { to = to; stream = stream; most = get_or counts.now point 0 })) lists.old lists.new) }
 {
-    'streams: for stream in 0..streams {
-        let most = most_sends(agent, point, to, stream);
-        push_some(ways, SendWay { to, stream, most })?;
+    'points: for point in 0..lists.len() {
+        let most = counts[point];
+        push_some(&mut lists[point], SendWay { to, stream, most })?;
     }
     Ok(())
 }
 
-/// All sends of the ways from a point in order, where these are the points that may follow it, and the program has so many streams. The only
-/// error is want of memory.
-pub fn sends_from(
+// Adds the sends to a stream, on the ways that end at a point, to the list of each point where such ways begin, by one walk, and by none
+// where the text doesn't send to the stream.
+fn add_stream(
     alloc: Global,
+    lists: &mut [Items<SendWay>],
     agent: &AgentDecl,
-    point: u32,
-    nexts: &[u32],
-    streams: u32,
-) -> Result<Items<SendWay>, Memory>
+    to: u32,
+    stream: u32,
+    sent: bool,
+) -> Result<(), Memory>
     requires text { IsOfSome agent.now }
-    requires point { point < length agent.now.points }
-    ensures { IfOk result (λ list. (unit : Whole) (number : ℕ) → IsAgentOf unit number agent.now → length unit.streams ≡ streams → Rises nexts.now
-        → ((to : ℕ) → (Contains nexts.now to ↔ IsNext unit.functions agent.now point to)) → AreSends unit.functions agent.now point list) }
+    requires count { length lists.old ≡ length agent.now.points }
+    requires sent { sent ≡ false → (unit : Whole) (number point : ℕ) (way : SendWay) → IsAgentOf unit number agent.now
+        → IsSendWay unit.functions agent.now point way → way.stream ≡ stream → ⊥ }
+    ensures as_many { length lists.new ≡ length lists.old }
+    ensures sends { OnOk result ((unit : Whole) (number : ℕ) → IsAgentOf unit number agent.now
+        → AreOf agent.now (λ point. AreSendsUpTo (IsMostSends unit.functions agent.now point) to stream) lists.old
+        → AreOf agent.now (λ point. AreSendsUpTo (IsMostSends unit.functions agent.now point) to (stream + 1)) lists.new) }
+{
+    if !sent {
+        return Ok(());
+    }
+    known();
+    let gauge = Gauge::Sends(stream);
+    let counts = counts_of_points(alloc, gauge, Some(to), &[], agent.stmts.as_slice())?;
+    add_where(lists, to, stream, counts.as_slice())?;
+    Ok(())
+}
+
+// Adds the sends on the ways that end at a point, behind those of the ways to earlier points.
+fn add_sends(
+    alloc: Global,
+    lists: &mut [Items<SendWay>],
+    agent: &AgentDecl,
+    to: u32,
+    sent: &[bool],
+    streams: u32,
+) -> Result<(), Memory>
+    requires text { IsOfSome agent.now }
+    requires count { length lists.old ≡ length agent.now.points }
+    requires sent { sent.now ≡ marked_at (replicate streams false) (streams_in agent.now.stmts) }
+    ensures as_many { length lists.new ≡ length lists.old }
+    ensures sends { OnOk result ((unit : Whole) (number : ℕ) → IsAgentOf unit number agent.now → length unit.streams ≡ streams
+        → AreOf agent.now (λ point. AreSendsUpTo (IsMostSends unit.functions agent.now point) to 0) lists.old
+        → AreOf agent.now (λ point. AreSendsUpTo (IsMostSends unit.functions agent.now point) (to + 1) 0) lists.new) }
 {
     named();
-    let mut ways = Items::new(alloc);
-    'nexts: for to in nexts {
-        add_sends(&mut ways, agent, point, *to, streams)?;
+    texts();
+    'streams: for stream in 0..streams {
+        let names = sent[stream as usize];
+        add_stream(alloc, lists, agent, to, stream, names)?;
     }
-    Ok(ways)
+    Ok(())
+}
+
+/// By point of an agent, all sends of the ways from it in order, where the program has so many streams: by one walk through the body for each
+/// point where ways may end and each stream to which it sends. The only error is want of memory.
+pub fn sends_by_point(
+    alloc: Global,
+    agent: &AgentDecl,
+    streams: u32,
+) -> Result<Items<Items<SendWay>>, Memory>
+    requires text { IsOfSome agent.now }
+    ensures { IfOk result (λ lists. (unit : Whole) (number : ℕ) → IsAgentOf unit number agent.now → length unit.streams ≡ streams
+        → AreOf agent.now (AreSends unit.functions agent.now) lists) }
+{
+    named();
+    nexts();
+    let sent = sent_to(alloc, agent.stmts.as_slice(), streams as usize)?;
+    let mut lists = empty_lists(alloc, agent.points.len())?;
+    'points: for to in 1..agent.points.len() as u32 {
+        add_sends(
+            alloc,
+            lists.as_mut_slice(),
+            agent,
+            to,
+            sent.as_slice(),
+            streams,
+        )?;
+    }
+    Ok(Items::from_vec(lists))
 }

@@ -21,5 +21,4 @@ pub mod Same
 pub mod Stays
 pub mod Stmts
 pub mod Suits
-pub mod Turns
 pub mod Walks

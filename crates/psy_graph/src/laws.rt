@@ -14,7 +14,7 @@ ghost use Rattle.psy_window.specs.Windows.{IsEdge};
 ghost use Rattle.psy_graph.specs.declared.fault.GraphFault.{GraphFault};
 ghost use Rattle.psy_graph.specs.declared.graph.Graph.{Graph};
 ghost use Rattle.psy_meaning.specs.Timing.{Timing};
-ghost use Rattle.psy_graph.specs.Graphs.{AreGraphs, AreGraphsBy, IsCause, IsGraphOf, IsTimed, IsTimingOf};
+ghost use Rattle.psy_graph.specs.Graphs.{AreGraphs, AreGraphsBy, IsCause, IsCauseBy, IsGraphOf, IsTimed, IsTimingOf};
 ghost use Rattle.psy_graph.specs.Near.{IsNear};
 
 use psy_clock::laws::distances;
@@ -36,13 +36,15 @@ pub fn one_graph()
     // Its numbers lie near.
     ensures near { (unit : Whole) (graphs : List Graph) → IsOfText unit → AreGraphs unit graphs → All IsNear graphs }
     // By ways of the program or by its statements, its agents' actions begin and end as they may, and so have such edges; and where these
-    // points follow each point, the graphs are the same.
+    // points follow each point, the graphs and the faults are the same.
     ensures timed { (unit : Whole) (ways : Ways) (number : ℕ) → IsOfText unit → AreWaysFor unit ways → number < length unit.agents
         → IsTimed (agent_timing unit ways.nexts number) }
     ensures of_text { (unit : Whole) (number : ℕ) (timing : Timing) → IsOfText unit → IsTimingOf unit number timing → IsTimed timing }
     ensures fit { (timing : Timing) (graph : Graph) → IsTimed timing → IsGraphOf timing graph → All (IsEdge (length graph.nodes)) graph.edges }
     ensures by_nexts { (unit : Whole) (nexts : List (List (List ℕ))) (graphs : List Graph) → AreAllNexts unit nexts
         → AreGraphs unit graphs ↔ AreGraphsBy unit nexts graphs }
+    ensures causes_by_nexts { (unit : Whole) (nexts : List (List (List ℕ))) (fault : GraphFault) → AreAllNexts unit nexts
+        → IsCauseBy unit nexts fault → IsCause unit fault }
     ensures some { (unit : Whole) → IsOfText unit → ((graphs : List Graph) × AreGraphs unit graphs) ⊎ ((fault : GraphFault) × IsCause unit fault) }
 {
     known();

@@ -49,6 +49,7 @@ use Rattle.psy_history.proofs.LateLooks.{over_stays}
 use Rattle.psy_history.proofs.Members.{all_members, contains_map, contains_none, filter_in, flat_map_in, get_or_holds}
 use Rattle.psy_history.proofs.MessageOrder.{pairs_none}
 use Rattle.psy_history.proofs.OutboxSizes.{count_none}
+use Rattle.psy_history.proofs.PlainOpenings.{plain_sound}
 use Rattle.psy_history.proofs.Seeing.{Fits, zero_fits}
 use Rattle.psy_history.proofs.Sights.{SeesAs, same_running, sees_as, there_found}
 use Rattle.psy_history.proofs.Stores.{AreStoreLaws, EndsAlike, ends_alike, first_carried, of_unit}
@@ -288,38 +289,11 @@ module _ (unit : Whole) (code : Code) (nexts : List (List (List ℕ))) (stalls :
 
   -- ---- where it begins
 
-  opened : IsSound system (OfText unit) code
-  opened = record {
-    begins = λ agent less loud.
-        let begins = first_action unit nexts (by_code code) agent in
-        (begins, ap (λ o. found_in o (λ a. Some begins)) (at agent less));
-    known = λ agent n is. ((opens_with unit nexts (by_code code) stalls inputs agent n is).0, refl);
-    places = λ agent n is. inr (record { first = sym (opens_with unit nexts (by_code code) stalls inputs agent n is).1; ahead = omega arith; committed = λ variable owned. refl });
-    starts = λ agent n is.
-        let (less, begins) = opens_with unit nexts (by_code code) stalls inputs agent n is in
-        let times = timing system agent in
-        let alike : MayStartAlike times 0 (first_date times) = record {
-          met = first_date times;
-          may = first;
-          apart = 0;
-          whole = all_members (λ period. period ∣ 0) (periods times) (λ period c. dvd-zero period);
-          far = inl (omega arith);
-        } in
-        subst (λ (m : Next). MayStartAlike times m.point m.start) begins alike;
-    carries = λ agent n is.
-        let (less, begins) = opens_with unit nexts (by_code code) stalls inputs agent n is in
-        let carried = may_carry unit code nexts laws.stores compiled agent less (first_store unit agent (agent_at unit agent)) (laws.stores.first agent (agent_at unit agent) (at agent less)) in
-        subst (λ (m : Next). MayCarry unit code agent m.carried) begins (subst (MayCarry unit code agent) (sym (first_carried unit code nexts laws.stores compiled agent less)) carried);
-    committed = λ variable. get_or_holds (λ v. Fits v.init) unit.variables variable _ zero_fits laws.stores.sound.values;
-    inputs = λ variable none. refl;
-    published = λ variable. All-nil Fits;
-    rings = λ last variable none less. absurd cc;
-    messages = λ stream. record { each = All-nil (IsHeldBefore system stream); rise = pairs_none (λ m n. comes_before m n ≡ true); few = omega arith };
-    counts = λ agent. omega arith;
-    slacks = λ agent. refl;
-    reaches = λ variable size n ring is. absurd (none-some n is);
-    most = λ stream size is. omega arith;
-  }
+  begins_with : (agent : ℕ) → agent < length unit.agents → MayCarry unit code agent ((by_code code).first agent)
+  begins_with agent less =
+      let store = first_store unit agent (agent_at unit agent) in
+      subst (MayCarry unit code agent) (sym (first_carried unit code nexts laws.stores compiled agent less))
+      (may_carry unit code nexts laws.stores compiled agent less store (laws.stores.first agent (agent_at unit agent) (at agent less)))
 
   pub compiled_run : IsRun system (OfText unit) code
   compiled_run = record {
@@ -330,6 +304,6 @@ module _ (unit : Whole) (code : Code) (nexts : List (List (List ℕ))) (stalls :
     coded = refl;
     agents = compiled.alike.agents;
     inputs = given;
-    opened = opened;
+    opened = plain_sound unit code nexts stalls inputs (OfText unit) laws.stores.sound.values begins_with;
     runs = λ agent point start carried view less may carries sees. goes agent less point start may carried view carries sees;
   }

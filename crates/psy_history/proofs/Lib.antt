@@ -12,6 +12,7 @@ mod Deadlines
 mod Edges
 mod EnteringMessages
 mod Finishes
+mod FittedRuns
 mod Given
 mod GoingOn
 mod Greatest
@@ -49,6 +50,7 @@ mod PassingMessages
 mod PastValues
 mod PastsOf
 mod PathShifts
+mod PlainOpenings
 mod QueueLooks
 mod QueueSteps
 mod Reached

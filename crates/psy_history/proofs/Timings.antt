@@ -16,7 +16,8 @@ use Rattle.psy_tree.specs.Parts.{no_clock}
 
 -- ---- parts by number
 
-listed : (nexts : List (List ℕ)) (point to : ℕ) → Contains (get_or nexts point []) to → slice_get nexts point ≡ Some (get_or nexts point [])
+-- A list that has a member is there.
+pub listed : (nexts : List (List ℕ)) (point to : ℕ) → Contains (get_or nexts point []) to → slice_get nexts point ≡ Some (get_or nexts point [])
 listed [] point to (k, less, is) = absurd (omega (arith, less))
 listed (list ∷ nexts) zero to c = refl
 listed (list ∷ nexts) (suc point) to c = listed nexts point to c

@@ -4,6 +4,7 @@ pub mod Asked
 pub mod Compiled
 pub mod Executors
 pub mod Feeding
+pub mod Fitting
 pub mod History
 pub mod Likeness
 pub mod Lines

@@ -6,6 +6,7 @@ ghost use Rattle.std.specs.Int.{w32};
 ghost use Rattle.std.specs.List.{All, Contains, count_by};
 ghost use Rattle.psy_base.specs.declared.limits.TheConstants.{QUEUE};
 ghost use Rattle.psy_base.specs.declared.message.Message.{Message};
+ghost use Rattle.psy_base.specs.declared.ways.Ways.{Ways as WayLists};
 ghost use Rattle.psy_budget.specs.declared.charge.Stall.{Stall};
 ghost use Rattle.psy_budget.specs.Charges.{cycle_of};
 ghost use Rattle.psy_clock.specs.Dates.{IsClock};
@@ -28,6 +29,7 @@ ghost use Rattle.psy_history.specs.Visible.{messages, published};
 ghost use Rattle.psy_history.specs.Asked.{IsBoundedBy};
 ghost use Rattle.psy_history.specs.Compiled.{AreInputs, IsCompiled, coded, stated};
 ghost use Rattle.psy_history.specs.Feeding.{AreSame, OverranAlike, Reaches};
+ghost use Rattle.psy_history.specs.Fitting.{FitsBy};
 ghost use Rattle.psy_history.specs.Likeness.{AreLike};
 ghost use Rattle.psy_history.specs.Openings.{IsSound};
 ghost use Rattle.psy_history.specs.Queues.{entered, entering, queue_of, settled};
@@ -36,7 +38,7 @@ ghost use Rattle.psy_history.specs.Rings.{age_at, reach_with, ring_of};
 ghost use Rattle.psy_history.specs.Runs.{IsRun};
 ghost use Rattle.psy_history.specs.Scheduled.{IsFinished, IsSupplied, turns_of};
 ghost use Rattle.psy_history.specs.Ways.{IsSentBy};
-ghost use Rattle.psy_meaning.specs.KnownWays.{Looks, OfText, Ways};
+ghost use Rattle.psy_meaning.specs.KnownWays.{Listed, Looks, OfText, Ways};
 ghost use Rattle.psy_meaning.specs.QueueSizes.{AreQueues, HasSendsTo, IsQueueSize};
 ghost use Rattle.psy_meaning.specs.RingSizes.{IsRingSize};
 
@@ -60,6 +62,12 @@ pub fn compiled()
     lasting();
     follows();
 }
+
+/// Code that fits a program by ways goes well by them, whatever stalls it and whatever its inputs.
+pub fn fitting()
+    ensures { (unit : Whole) (code : Code) (ways : WayLists) (stalls : ℕ → List Stall) (inputs : List (List ℤ)) → FitsBy unit code ways
+        → AreInputs unit inputs → IsRun (coded unit code ways.nexts stalls inputs) (Listed ways) code }
+{}
 
 /// The history of a run is regular, its code runs on within its actions' budgets, and they send what the ways send.
 pub fn regular()

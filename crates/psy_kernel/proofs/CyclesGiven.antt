@@ -14,10 +14,7 @@ use Rattle.psy_dates.specs.Standing.{dates_done}
 use Rattle.psy_history.specs.Regular.{IsLawful}
 use Rattle.psy_machine.specs.Stepping.{AgentMachine}
 use Rattle.psy_history.specs.Actions.{Action}
-use Rattle.psy_base.specs.Extremes.{IsGreatest}
 use Rattle.psy_history.specs.History.{history}
-use Rattle.psy_meaning.specs.KnownWays.{OfText}
-use Rattle.psy_meaning.specs.QueueSizes.{HasSendsTo}
 use Rattle.psy_history.specs.Schedule.{Turn, is_pending, pending, soonest, turn_of, units}
 use Rattle.psy_history.specs.Summary.{reach}
 use Rattle.psy_ready.specs.Choice.{IsPick, pending_deadline}
@@ -90,7 +87,7 @@ module _ (k : Inside) (is : KernelStands k) (d : IsDue k) where
     idle_turns j less =
         in_a_row (run_in k) (order_of k.plan.unit k.script) date k.cycles inside.2 None
         (ap (λ m. turn_of (soonest (pending order before_cycle (history (run_in k) m)))) (sym inside.0)
-        ∙ ap turn_of (nobody_soonest (run_in k) k.plan.code k.plan.until before_cycle dates k.shared k.machines.items k.charges.items k.ready k.figures.items (parts_in k is) lawful over_now order nobody))
+        ∙ ap turn_of (nobody_soonest (run_in k) k.plan.sizes k.plan.code k.plan.until before_cycle dates k.shared k.machines.items k.charges.items k.ready k.figures.items (parts_in k is) lawful over_now order nobody))
         j (omega (arith, high, less)) (λ i below. order_until k is n ahead i (omega (arith, below, less)))
         (λ i below agent. subst (λ m. All (StaysSo before_cycle (given_to None i before_cycle)) (history (run_in k) m agent)) inside.0 (idle_stay i agent))
 
@@ -102,8 +99,8 @@ module _ (k : Inside) (is : KernelStands k) (d : IsDue k) where
           dates = inside.0;
           cycle = d.cycle;
           inside = high;
-          parts = subst (λ ts. PartsStand (run_in k) k.plan.code k.plan.until ts dates k.shared k.machines.items k.charges.items k.ready k.figures.items) (sym turns)
-              (idle (run_in k) k.plan.code k.plan.until before_cycle dates k.shared k.machines.items k.charges.items k.ready k.figures.items (parts_in k is) n);
+          parts = subst (λ ts. PartsStand (run_in k) k.plan.sizes k.plan.code k.plan.until ts dates k.shared k.machines.items k.charges.items k.ready k.figures.items) (sym turns)
+              (idle (run_in k) k.plan.sizes k.plan.code k.plan.until before_cycle dates k.shared k.machines.items k.charges.items k.ready k.figures.items (parts_in k is) n);
           reaching = is.reaching;
           holding = is.holding;
           held = is.held;
@@ -133,7 +130,7 @@ module _ (k : Inside) (is : KernelStands k) (d : IsDue k) where
 
     pub takes : (r : Action) × (before : List Action) × Takes r before
     takes =
-        let w = pick_soonest (run_in k) k.plan.code k.plan.until before_cycle dates k.shared k.machines.items k.charges.items k.ready k.figures.items (parts_in k is) lawful over_now order agent pick in (
+        let w = pick_soonest (run_in k) k.plan.sizes k.plan.code k.plan.until before_cycle dates k.shared k.machines.items k.charges.items k.ready k.figures.items (parts_in k is) lawful over_now order agent pick in (
           w.0,
           w.1,
           record {
@@ -144,42 +141,42 @@ module _ (k : Inside) (is : KernelStands k) (d : IsDue k) where
         )
 
     pub known : agent < length k.plan.unit.agents
-    known = pick_known (run_in k) k.plan.code k.plan.until before_cycle dates k.shared k.machines.items k.charges.items k.ready k.figures.items (parts_in k is) lawful over_now order agent pick
+    known = pick_known (run_in k) k.plan.sizes k.plan.code k.plan.until before_cycle dates k.shared k.machines.items k.charges.items k.ready k.figures.items (parts_in k is) lawful over_now order agent pick
 
     waits_at : slice_get k.ready agent ≡ Some (pending_deadline k.ready agent)
     waits_at = slice_get-get_or k.ready agent None (omega (arith, known, is.waiting))
 
     -- the rings that it has
-    pub rings_stand : AreRingsOf (run_in k) dates k.shared.rings.items
+    pub rings_stand : AreRingsOf (run_in k) k.plan.sizes dates k.shared.rings.items
     rings_stand = (is.shared.ringed, is.shared.rings)
 
     -- the queues that it has
-    pub queues_stand : AreQueuesOf (run_in k) dates k.shared.queues.items
+    pub queues_stand : AreQueuesOf (run_in k) k.plan.sizes dates k.shared.queues.items
     queues_stand = (is.shared.queued, is.shared.queues)
 
     module _ (r : Action) (before : List Action) (t : Takes r before) where
       last : history (run_in k) (date + 1) agent ≡ r ∷ before
       last = ap (λ n. history (run_in k) n agent) (sym inside.0) ∙ t.is_last
 
-      abbrev looks : LooksBack (run_in k) k.plan.code before_cycle date r
+      abbrev looks : LooksBack (run_in k) k.plan.sizes k.plan.code before_cycle date r
       looks = d.looks k.cycles agent r before d.cycle last t.pending
 
       -- what it has, and what it sees
       module _ (now : ℕ) (now_is : now ≡ dates - 1) (machine : AgentMachine) (charge : Charged) (figure : Figure) (seat : Seat)
           (m : slice_get k.machines.items agent ≡ Some machine) (c : slice_get k.charges.items agent ≡ Some charge) (f : slice_get k.figures.items agent ≡ Some figure) (x : slice_get k.shared.seats.items agent ≡ Some seat) where
         one : OneStands (run_in k) k.plan.code before_cycle k.plan.until date agent (r ∷ before) charge machine (pending_deadline k.ready agent) figure seat k.shared.ended.items
-        one = one_of (run_in k) k.plan.code k.plan.until before_cycle dates k.shared k.machines.items k.charges.items k.ready k.figures.items (parts_in k is) date agent r before (last_date dates date inside.0) t.is_last machine charge (pending_deadline k.ready agent) figure seat m c waits_at f x
+        one = one_of (run_in k) k.plan.sizes k.plan.code k.plan.until before_cycle dates k.shared k.machines.items k.charges.items k.ready k.figures.items (parts_in k is) date agent r before (last_date dates date inside.0) t.is_last machine charge (pending_deadline k.ready agent) figure seat m c waits_at f x
 
         module _ (outbox : Outboxed) (o : slice_get k.shared.outboxes.items agent ≡ Some outbox) where
           -- what its action sees, and what it has done
           acts : ActsIn (run_in k) k.plan.code r (units r.agent r.number before_cycle) (sight_in k.plan.unit k.shared.rings.items k.shared.queues.items agent r.start date) k.shared.taken.items outbox
           acts =
               let own : r.agent ≡ agent = GetsCycle.agent_is (d.gets agent r before last t.pending) in
-              let size = subst (λ n. IsGreatest (HasSendsTo k.plan.unit (OfText k.plan.unit) k.plan.nexts n) outbox.size) (sym own) (is.shared.outboxes agent outbox o).size in
+              let size = (is.shared.outboxes agent outbox o).size ∙ ap (λ n. get_or k.plan.sizes.outboxes n 0) (sym own) in
               let did : HasDone (run_in k) k.plan.code r (charge_after (run_in k) r (units r.agent r.number before_cycle)).paid outbox.sends k.shared.taken.items =
               subst (λ actions. DeedsStand (run_in k) k.plan.code before_cycle actions outbox.sends k.shared.taken.items) t.is_last (is.doing agent outbox o) t.pending in
               subst (λ n. ActsIn (run_in k) k.plan.code r (units r.agent r.number before_cycle) (sight_in k.plan.unit k.shared.rings.items k.shared.queues.items n r.start date) k.shared.taken.items outbox) own
-              (looks.acts k.shared.rings.items k.shared.queues.items k.shared.taken.items outbox (subst (λ n. AreRingsOf (run_in k) n k.shared.rings.items) inside.0 rings_stand) (subst (λ n. AreQueuesOf (run_in k) n k.shared.queues.items) inside.0 queues_stand)
+              (looks.acts k.shared.rings.items k.shared.queues.items k.shared.taken.items outbox (subst (λ n. AreRingsOf (run_in k) k.plan.sizes n k.shared.rings.items) inside.0 rings_stand) (subst (λ n. AreQueuesOf (run_in k) k.plan.sizes n k.shared.queues.items) inside.0 queues_stand)
               is.shared.taking size did)
 
           pub is_given : IsGiven k.plan (opening_in k) k.shared.inputs.lists (stalls_of k.script) before_cycle now k.cycles agent r before charge machine (pending_deadline k.ready agent) figure seat k.shared.ended.items
@@ -215,7 +212,7 @@ module _ (k : Inside) (is : KernelStands k) (d : IsDue k) where
             (own_stay before_cycle r before j (GetsCycle.numbers (d.gets agent r before last t.pending)) t.pending later))
         | inr differs ↦
             All-weaker (AreSameFor before_cycle (given_turns j)) (StaysSo before_cycle (given_turns j)) (same_stays before_cycle (given_turns j)) (history (run_in k) dates other)
-            (others_same (run_in k) k.plan.code k.plan.until before_cycle dates k.shared k.machines.items k.charges.items k.ready k.figures.items (parts_in k is) lawful date agent r before (last_date dates date inside.0) t.is_last j other differs)
+            (others_same (run_in k) k.plan.sizes k.plan.code k.plan.until before_cycle dates k.shared k.machines.items k.charges.items k.ready k.figures.items (parts_in k is) lawful date agent r before (last_date dates date inside.0) t.is_last j other differs)
       ]
 
       module _ (most : ℕ) (high : k.cycles + most ≤ (date + 1) * k.plan.unit.quantum) (ahead : (o : Order) → slice_get k.script.orders k.passed ≡ Some o → k.cycles + most ≤ o.cycle) where
@@ -225,10 +222,10 @@ module _ (k : Inside) (is : KernelStands k) (d : IsDue k) where
             in_a_row (run_in k) (order_of k.plan.unit k.script) date k.cycles inside.2 (turn_of (Some r)) t.first j (omega (arith, high, less)) (λ i below. order_until k is most ahead i (omega (arith, below, less)))
             (λ i below other. subst (λ m. All (StaysSo before_cycle (given_turns i)) (history (run_in k) m other)) inside.0 (stay i (pends i below) other))
 
-        looks_on : (j : ℕ) → j < most → is_pending (given_turns j) r ≡ true → LooksBack (run_in k) k.plan.code (given_turns j) date r
+        looks_on : (j : ℕ) → j < most → is_pending (given_turns j) r ≡ true → LooksBack (run_in k) k.plan.sizes k.plan.code (given_turns j) date r
         looks_on j less later =
             let e : turns_in k (k.cycles + j) ≡ given_turns j = row j (omega (arith, less)) (λ i below. was_pending (turn_of (Some r)) before_cycle r i j (omega (arith, below)) later) in
-            subst (λ ts. LooksBack (run_in k) k.plan.code ts date r) e
+            subst (λ ts. LooksBack (run_in k) k.plan.sizes k.plan.code ts date r) e
             (d.looks (k.cycles + j) agent r before (record { of_plan = d.cycle.of_plan; of_inputs = d.cycle.of_inputs; of_script = d.cycle.of_script; sound = d.cycle.sound; before = d.cycle.before; most = d.cycle.most; low = omega (arith, inside.2); high = omega (arith, high, less) }) last (subst (λ ts. is_pending ts r ≡ true) (sym e) later))
 
         -- what it has, and what it sees with each of them
@@ -242,11 +239,11 @@ module _ (k : Inside) (is : KernelStands k) (d : IsDue k) where
             let own : r.agent ≡ agent = GetsCycle.agent_is (d.gets agent r before last t.pending) in
             record {
               given = is_given now now_is machine charge figure seat m c f x outbox o;
-              ringed = subst (λ n. AreRingsOf (run_in k) n k.shared.rings.items) (inside.0 ∙ ap (λ n. n + 1) (sym here)) rings_stand;
-              queued = subst (λ n. AreQueuesOf (run_in k) n k.shared.queues.items) (inside.0 ∙ ap (λ n. n + 1) (sym here)) queues_stand;
+              ringed = subst (λ n. AreRingsOf (run_in k) k.plan.sizes n k.shared.rings.items) (inside.0 ∙ ap (λ n. n + 1) (sym here)) rings_stand;
+              queued = subst (λ n. AreQueuesOf (run_in k) k.plan.sizes n k.shared.queues.items) (inside.0 ∙ ap (λ n. n + 1) (sym here)) queues_stand;
               counted = is.shared.taking;
-              sized = subst (λ n. IsGreatest (HasSendsTo k.plan.unit (OfText k.plan.unit) k.plan.nexts n) outbox.size) (sym own) (is.shared.outboxes agent outbox o).size;
-              looks = λ j less later. subst (λ n. LooksBack (run_in k) k.plan.code (given_turns j) n r) (sym here) (looks_on j less later);
+              sized = (is.shared.outboxes agent outbox o).size ∙ ap (λ n. get_or k.plan.sizes.outboxes n 0) (sym own);
+              looks = λ j less later. subst (λ n. LooksBack (run_in k) k.plan.sizes k.plan.code (given_turns j) n r) (sym here) (looks_on j less later);
             }
 
       -- with none but the last of them an action is over
@@ -288,11 +285,11 @@ module _ (k : Inside) (is : KernelStands k) (d : IsDue k) where
         (ready : List (Option ℕ)) (as_many : length ready ≡ length k.ready) (own : (w : Option ℕ) → slice_get ready agent ≡ Some w → w ≡ waiting) (rest : (other : ℕ) → (other ≡ agent → ⊥) → slice_get ready other ≡ slice_get k.ready other) where
       pub parts_given : (after : Shared) → after.date ≡ k.shared.date → after.seats.items ≡ slice_set k.shared.seats.items agent seat → after.ended.items ≡ ended → after.committed ≡ k.shared.committed
           → after.rings ≡ k.shared.rings → after.queues ≡ k.shared.queues → after.outboxes.items ≡ slice_set k.shared.outboxes.items agent outbox → after.taken.items ≡ taken → after.calendar ≡ k.shared.calendar → IsTold seat k.shared.movers after.movers
-          → PartsStand (run_in k) k.plan.code k.plan.until (turns_in k (k.cycles + n)) dates after (slice_set k.machines.items agent machine) (slice_set k.charges.items agent charge) ready (slice_set k.figures.items agent figure)
+          → PartsStand (run_in k) k.plan.sizes k.plan.code k.plan.until (turns_in k (k.cycles + n)) dates after (slice_set k.machines.items agent machine) (slice_set k.charges.items agent charge) ready (slice_set k.figures.items agent figure)
       parts_given after a b c d e f g h i told =
-          subst (λ ts. PartsStand (run_in k) k.plan.code k.plan.until ts dates after (slice_set k.machines.items agent machine) (slice_set k.charges.items agent charge) ready (slice_set k.figures.items agent figure)) (sym turns)
-          (given (run_in k) k.plan.code k.plan.until before_cycle dates k.shared k.machines.items k.charges.items k.ready k.figures.items (parts_in k is) lawful date agent r before (last_date dates date inside.0) t.is_last n machine charge waiting figure seat ended one all others outbox taken box size count untaken ready as_many own rest after g h
-          (shared_given (run_in k) k.plan.code k.plan.until before_cycle dates k.shared k.machines.items k.charges.items k.ready k.figures.items (parts_in k is) lawful date agent r before (last_date dates date inside.0) t.is_last n machine charge waiting figure seat ended one all others outbox taken box size count untaken after a b c d e f g h i told))
+          subst (λ ts. PartsStand (run_in k) k.plan.sizes k.plan.code k.plan.until ts dates after (slice_set k.machines.items agent machine) (slice_set k.charges.items agent charge) ready (slice_set k.figures.items agent figure)) (sym turns)
+          (given (run_in k) k.plan.sizes k.plan.code k.plan.until before_cycle dates k.shared k.machines.items k.charges.items k.ready k.figures.items (parts_in k is) lawful date agent r before (last_date dates date inside.0) t.is_last n machine charge waiting figure seat ended one all others outbox taken box size count untaken ready as_many own rest after g h
+          (shared_given (run_in k) k.plan.sizes k.plan.code k.plan.until before_cycle dates k.shared k.machines.items k.charges.items k.ready k.figures.items (parts_in k is) lawful date agent r before (last_date dates date inside.0) t.is_last n machine charge waiting figure seat ended one all others outbox taken box size count untaken after a b c d e f g h i told))
 
       pub given_between : (movers : Movers) (told : IsTold seat k.shared.movers movers) (seats : Vec Seat Global) (copies : Vec ℤ Global) (outboxes : Vec Outboxed Global) (counts : Vec ℕ Global) (machines : Vec AgentMachine Global) (charges : Vec Charged Global) (figures : Vec Figure Global) (reaches : Vec (Option ℕ) Global) (chosen : Option ℕ) (stale : Bool)
           → seats.items ≡ slice_set k.shared.seats.items agent seat → copies.items ≡ ended → outboxes.items ≡ slice_set k.shared.outboxes.items agent outbox → counts.items ≡ taken → machines.items ≡ slice_set k.machines.items agent machine → charges.items ≡ slice_set k.charges.items agent charge → figures.items ≡ slice_set k.figures.items agent figure
@@ -305,9 +302,9 @@ module _ (k : Inside) (is : KernelStands k) (d : IsDue k) where
         cycle = d.cycle;
         inside = high;
         parts =
-            subst (λ ms. PartsStand (run_in k) k.plan.code k.plan.until (turns_in k (k.cycles + n)) dates (record k.shared { seats = seats; ended = copies; outboxes = outboxes; taken = counts; movers = movers }) ms charges.items ready figures.items) (sym c)
-            (subst (λ cs. PartsStand (run_in k) k.plan.code k.plan.until (turns_in k (k.cycles + n)) dates (record k.shared { seats = seats; ended = copies; outboxes = outboxes; taken = counts; movers = movers }) (slice_set k.machines.items agent machine) cs ready figures.items) (sym e)
-            (subst (λ fs. PartsStand (run_in k) k.plan.code k.plan.until (turns_in k (k.cycles + n)) dates (record k.shared { seats = seats; ended = copies; outboxes = outboxes; taken = counts; movers = movers }) (slice_set k.machines.items agent machine) (slice_set k.charges.items agent charge) ready fs) (sym f)
+            subst (λ ms. PartsStand (run_in k) k.plan.sizes k.plan.code k.plan.until (turns_in k (k.cycles + n)) dates (record k.shared { seats = seats; ended = copies; outboxes = outboxes; taken = counts; movers = movers }) ms charges.items ready figures.items) (sym c)
+            (subst (λ cs. PartsStand (run_in k) k.plan.sizes k.plan.code k.plan.until (turns_in k (k.cycles + n)) dates (record k.shared { seats = seats; ended = copies; outboxes = outboxes; taken = counts; movers = movers }) (slice_set k.machines.items agent machine) cs ready figures.items) (sym e)
+            (subst (λ fs. PartsStand (run_in k) k.plan.sizes k.plan.code k.plan.until (turns_in k (k.cycles + n)) dates (record k.shared { seats = seats; ended = copies; outboxes = outboxes; taken = counts; movers = movers }) (slice_set k.machines.items agent machine) (slice_set k.charges.items agent charge) ready fs) (sym f)
             (parts_given (record k.shared { seats = seats; ended = copies; outboxes = outboxes; taken = counts; movers = movers }) refl a b refl refl refl g h refl told)));
         reaching = as_many ∙ is.reaching;
         reached = reached;

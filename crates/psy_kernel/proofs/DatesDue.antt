@@ -3,27 +3,24 @@ use Rattle.std.proofs.Common.{◌≡◌, ℤ, ℕ, suc, ◌+◌, ◌-◌, ◌*�
 use Rattle.std.specs.List.{Contains, slice_get}
 use Rattle.std.proofs.Math.Numerals.{add-one}
 use Rattle.psy_budget.specs.Charges.{Charged}
-use Rattle.psy_budget.specs.declared.charge.Stall.{Stall}
 use Rattle.psy_code.specs.declared.code.Code.{Code}
 use Rattle.psy_machine.specs.Stepping.{AgentMachine}
 use Rattle.psy_ready.specs.Choice.{pending_deadline}
-use Rattle.psy_tree.specs.declared.unit.Unit.{Unit as Whole}
 use Rattle.psy_history.specs.Actions.{Action, Opening, System, first_action}
 use Rattle.psy_history.specs.History.{history}
 use Rattle.psy_history.specs.Schedule.{is_pending, units}
 use Rattle.psy_history.specs.Summary.{reach}
-use Rattle.psy_history.specs.Compiled.{AreInputs, IsCompiled, coded}
-use Rattle.psy_history.specs.Openings.{IsSound}
 use Rattle.psy_history.specs.Regular.{IsLawful, first_number}
 use Rattle.psy_history.specs.Runs.{IsRun}
-use Rattle.psy_meaning.specs.KnownWays.{OfText, Ways}
+use Rattle.psy_meaning.specs.KnownWays.{Listed, Ways}
 use Rattle.psy_history.specs.Scheduled.{IsFinished, IsSupplied, turns_of}
 use Rattle.psy_dates.specs.declared.seat.Seat.{Seat}
 use Rattle.psy_dates.specs.declared.shared.Shared.{Shared}
 use Rattle.psy_dates.specs.Outboxes.{Outboxed}
 use Rattle.psy_dates.specs.Standing.{NoneActs, SharedStands, dates_done}
-use Rattle.psy_dates.specs.Plans.{system_of}
+use Rattle.psy_dates.specs.Plans.{IsSoundFor}
 use Rattle.psy_dates.proofs.lemmas.Begun.{AreBegun, are_begun}
+use Rattle.psy_dates.proofs.lemmas.Fits.{GoOn, GoWell, goes_well_from}
 use Rattle.psy_kernel.specs.declared.kernel.Figure.{Figure}
 use Rattle.psy_kernel.specs.declared.kernel.Kernel.TheInside.{Inside}
 use Rattle.psy_kernel.specs.declared.stage.Stage.TheVariants.{DateDue}
@@ -52,10 +49,10 @@ abbrev pub LeavesReach : Type 0
 LeavesReach = (s : System) (order : ℕ → List ℕ) (date cycles variable : ℕ) → IsLawful s → 1 ≤ s.unit.quantum → cycles ≤ date * s.unit.quantum
     → reach s (turns_of s order cycles) (history s (date + 1)) variable ≡ reach s (turns_of s order cycles) (history s date) variable
 
--- Compiled code runs well by the ways of its statements, from wherever it begins soundly. Runs are lawful, and begin so.
+-- Code that fits goes well, from wherever it begins soundly. Runs are lawful, and begin so.
 pub record AreRunLaws : Type 0 where
-  pub well : (unit : Whole) (code : Code) (nexts : List (List (List ℕ))) (stalls : ℕ → List Stall) (inputs : List (List ℤ)) → IsCompiled unit code nexts → AreInputs unit inputs → IsRun (coded unit code nexts stalls inputs) (OfText unit) code
-  pub opened : (s : System) (opening : Opening) (ways : Ways) (code : Code) → IsRun s ways code → IsSound (record s { opening = opening }) ways code → IsRun (record s { opening = opening }) ways code
+  pub well : GoWell
+  pub opened : GoOn
   pub lawful : (s : System) (ways : Ways) (code : Code) → IsRun s ways code → IsLawful s
   pub none : (s : System) (ways : Ways) (code : Code) → IsRun s ways code → (date agent : ℕ) → date < s.opening.dates → history s date agent ≡ []
   pub silent : (s : System) (ways : Ways) (code : Code) → IsRun s ways code → (date agent : ℕ) → s.opening.silent agent ≡ true → history s date agent ≡ []
@@ -81,7 +78,7 @@ is_due k p date h view due is_date small laws no_cycle in_time = record {
   due = subst (λ q. stage_of q ≡ DateDue q.dates) (sym view) due;
   small = small;
   lawful = laws.lawful s ways code run;
-  opens = are_begun s ways code date h.sound (omega (arith, h.behind, here)) (laws.none s ways code run) (laws.silent s ways code run) (laws.waits s ways code run);
+  opens = are_begun s ways code date (h.sound h.plan) (omega (arith, h.behind, here)) (laws.none s ways code run) (laws.silent s ways code run) (laws.waits s ways code run);
   no_cycle = no_cycle;
   in_time = in_time;
 }
@@ -90,7 +87,7 @@ is_due k p date h view due is_date small laws no_cycle in_time = record {
     s = system (progress_of k)
 
     ways : Ways
-    ways = OfText k.plan.unit
+    ways = Listed h.plan.ways
 
     code : Code
     code = k.plan.code
@@ -99,7 +96,7 @@ is_due k p date h view due is_date small laws no_cycle in_time = record {
     here = is_date ∙ ap (λ (q : Progress). q.dates) (sym view)
 
     run : IsRun s ways code
-    run = laws.opened (system_of k.plan k.shared.inputs.lists (stalls_of k.script)) (beginning (progress_of k)) ways code (laws.well k.plan.unit code k.plan.nexts (stalls_of k.script) k.shared.inputs.lists h.plan.compiled h.inputs) h.sound
+    run = goes_well_from k.plan h.plan laws.well laws.opened (beginning (progress_of k)) k.shared.inputs.lists (stalls_of k.script) h.inputs h.sound
 
 module _ (k : Inside) (date : ℕ) (at : IsDue k date) where
   h : KernelStands k
@@ -124,7 +121,7 @@ module _ (k : Inside) (date : ℕ) (at : IsDue k date) where
   abbrev pub begins : Opening
   begins = beginning (progress_of k)
 
-  pub sound : IsSound its (OfText k.plan.unit) k.plan.code
+  pub sound : IsSoundFor k.plan begins k.shared.inputs.lists (stalls_of k.script)
   sound = h.sound
 
   pub later : begins.dates ≤ date
@@ -139,16 +136,16 @@ module _ (k : Inside) (date : ℕ) (at : IsDue k date) where
       within_until k.plan.unit.quantum k.plan.until date k.cycles tick (λ e. (date_due (progress_of k) due).0 (omega (arith, e, is_date)))
 
   pub quantum_some : 1 ≤ k.plan.unit.quantum
-  quantum_some = h.plan.compiled.text.bare.quantum.0
+  quantum_some = h.plan.fits.bare.quantum.0
 
   supplied : IsSupplied its ties k.plan.until
   supplied = is_supplied (progress_of k) h.plan h.script lawful
 
-  pub before : SharedStands its (turns_of its ties k.cycles) date k.shared
-  before = subst (λ d. SharedStands its (turns_of its ties k.cycles) d k.shared) (sym is_date) h.shared
+  pub before : SharedStands its k.plan.sizes (turns_of its ties k.cycles) date k.shared
+  before = subst (λ d. SharedStands its k.plan.sizes (turns_of its ties k.cycles) d k.shared) (sym is_date) h.shared
 
-  pub before_filled : SharedStands its (turns_of its ties (date * k.plan.unit.quantum)) date k.shared
-  before_filled = subst (λ n. SharedStands its (turns_of its ties n) date k.shared) filled before
+  pub before_filled : SharedStands its k.plan.sizes (turns_of its ties (date * k.plan.unit.quantum)) date k.shared
+  before_filled = subst (λ n. SharedStands its k.plan.sizes (turns_of its ties n) date k.shared) filled before
 
   small : date ≤ 2 ^ 32
   small = at.small
@@ -169,9 +166,9 @@ module _ (k : Inside) (date : ℕ) (at : IsDue k date) where
 
   -- ---- behind the date
 
-  module _ (shared : Shared) (done : SharedStands its (turns_of its ties (date * k.plan.unit.quantum)) (date + 1) shared) where
-    pub after : SharedStands its (turns_of its ties k.cycles) (date + 1) shared
-    after = subst (λ n. SharedStands its (turns_of its ties n) (date + 1) shared) (sym filled) done
+  module _ (shared : Shared) (done : SharedStands its k.plan.sizes (turns_of its ties (date * k.plan.unit.quantum)) (date + 1) shared) where
+    pub after : SharedStands its k.plan.sizes (turns_of its ties k.cycles) (date + 1) shared
+    after = subst (λ n. SharedStands its k.plan.sizes (turns_of its ties n) (date + 1) shared) (sym filled) done
 
     sits : (agent : ℕ) (seat : Seat) → slice_get shared.seats.items agent ≡ Some seat → Sits its date (turns_of its ties k.cycles) agent (history its (suc date) agent) seat
     sits agent seat there =
@@ -190,7 +187,7 @@ module _ (k : Inside) (date : ℕ) (at : IsDue k date) where
     agents = agents_after k.plan.unit k.plan.code k.plan.nexts begins (stalls_of k.script) k.shared.inputs.lists date k.plan.until (turns_of its ties k.cycles) lawful at.opens small unstarted in_time k.machines.items k.charges.items k.ready k.figures.items h.charges h.waiting was shared.seats.items after.seated sits
 
     pub helds : (after : List ℕ) → IsDoneBelow (held_at shared.queues.items) (length shared.queues.items) k.helds.items after → (stream n : ℕ) → slice_get after stream ≡ Some n → n ≡ most_held_in its (date + 1) stream
-    helds after_each done_each = held_more its (turns_of its ties k.cycles) date later shared after k.helds.items after_each h.holding (λ stream n there. subst (λ d. n ≡ most_held_in its d stream) (sym is_date) (h.held stream n there)) done_each
+    helds after_each done_each = held_more its k.plan.sizes (turns_of its ties k.cycles) date later shared after k.helds.items after_each h.holding (λ stream n there. subst (λ d. n ≡ most_held_in its d stream) (sym is_date) (h.held stream n there)) done_each
 
     pub deeds : HaveBegun its date shared.seats.items shared.outboxes.items shared.taken.items → HaveStayed its date shared.seats.items k.shared.outboxes.items shared.outboxes.items k.shared.taken.items shared.taken.items
         → (agent : ℕ) (outbox : Outboxed) → slice_get shared.outboxes.items agent ≡ Some outbox → DeedsStand its k.plan.code (turns_of its ties k.cycles) (history its (suc date) agent) outbox.sends shared.taken.items

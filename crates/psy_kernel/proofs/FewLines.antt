@@ -26,6 +26,6 @@ summary-count p =
 
 pub summary-few : (p : Progress) → IsPlan p.plan → length (summary_told p) < 2 ^ 32
 summary-few p plan =
-    let bare = plan.compiled.text.bare in
+    let bare = plan.fits.bare in
     let count = summary-count p in
     omega (arith, count, bare.agent_limit, bare.variable_limit, bare.stream_limit)

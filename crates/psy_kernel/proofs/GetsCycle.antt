@@ -10,7 +10,7 @@ use Rattle.psy_dates.specs.declared.plan.Plan.{Plan}
 use Rattle.psy_dates.specs.Plans.{IsPlan, opened_of}
 use Rattle.psy_history.specs.Regular.{AreRegular, IsLawful, IsRegular, Runs, WasStarted, WereStarted, first_number}
 use Rattle.psy_history.specs.Scheduled.{IsFinished, IsSupplied, turns_of}
-use Rattle.psy_meaning.specs.KnownWays.{OfText}
+use Rattle.psy_meaning.specs.KnownWays.{Listed}
 use Rattle.psy_history.specs.Actions.{Action, History, Next, Opening, System, charge_of, next_of, timing, verdict_of}
 use Rattle.psy_tree.specs.Parts.{agent_at, no_agent, no_clock}
 use Rattle.psy_history.specs.History.{action_of, history, with_start}
@@ -63,7 +63,7 @@ module _ (plan : Plan) (opening : Opening) (inputs : List (List ℤ)) (stalls : 
   s = opened_of plan opening inputs stalls
 
   bare_agent : (agent : ℕ) → agent < length plan.unit.agents → IsBareAgent plan.unit (agent_at plan.unit agent)
-  bare_agent agent less = is.compiled.text.bare.agents agent no_agent less
+  bare_agent agent less = is.fits.bare.agents agent no_agent less
 
   -- an action that reached a point may end there
   may_end : PointsFollow s → (agent from to start : ℕ) → agent < length plan.unit.agents → Contains (following (timing s agent) from) to → start ≤ 1099511627776 → MayEnd (timing s agent) start to
@@ -73,7 +73,7 @@ module _ (plan : Plan) (opening : Opening) (inputs : List (List ℤ)) (stalls : 
       record {
         known = inner.1;
         clock = point.clock;
-        lawful = is.compiled.text.bare.clocks (point_at (timing s agent) to).clock no_clock point.clock;
+        lawful = is.fits.bare.clocks (point_at (timing s agent) to).clock no_clock point.clock;
         some = point.count.0;
         few = point.count.1;
         early = early;
@@ -84,7 +84,7 @@ module _ (plan : Plan) (opening : Opening) (inputs : List (List ℤ)) (stalls : 
   pub supplied : (script : Script) → IsScript plan.unit script → IsLawful s → IsSupplied s (order_of plan.unit script) plan.until
   supplied script of lawful = record {
     lawful = lawful;
-    quantum = is.compiled.text.bare.quantum.0;
+    quantum = is.fits.bare.quantum.0;
     orders = λ cycle agent less. (lists_order plan.unit script cycle of).each agent less;
     graphs = is.supplied.graphs;
     drawn = record { count = is.supplied.drawn.count; each = is.supplied.drawn.each };
@@ -119,7 +119,7 @@ module _ (plan : Plan) (opening : Opening) (inputs : List (List ℤ)) (stalls : 
 
     pub gets : ((s : System) (order : ℕ → List ℕ) (until date agent : ℕ) (r : Action) → IsSupplied s order until → date ≤ until → Contains (history s date agent) r → r.deadline ≤ date → IsFinished s order (date * s.unit.quantum) r)
         → PointsFollow s → ((agent : ℕ) → opening.count agent < 1125899906842624)
-        → plan.until ≤ 4294967295 → (agent : ℕ) (r : Action) (before : List Action) → history s (date + 1) agent ≡ r ∷ before → All (Runs s (OfText plan.unit) plan.code) (history s (date + 1) agent) → is_pending turns r ≡ true
+        → plan.until ≤ 4294967295 → (agent : ℕ) (r : Action) (before : List Action) → history s (date + 1) agent ≡ r ∷ before → All (Runs s (Listed is.ways) plan.code) (history s (date + 1) agent) → is_pending turns r ≡ true
         → GetsCycle s plan.code turns plan.until date cycle agent r before
     gets due within small most agent r before e all_run pending =
         let are : AreRegular s (date + 1) agent (r ∷ before) = subst (AreRegular s (date + 1) agent) e (supply.lawful.actions (date + 1) agent) in
@@ -134,7 +134,8 @@ module _ (plan : Plan) (opening : Opening) (inputs : List (List ℤ)) (stalls : 
             after = t.1;
             charge = t.2;
             verdict = t.3;
-            runs = All-head (Runs s (OfText plan.unit) plan.code) r before (subst (All (Runs s (OfText plan.unit) plan.code)) e all_run);
+            ways = Listed is.ways;
+            runs = All-head (Runs s (Listed is.ways) plan.code) r before (subst (All (Runs s (Listed is.ways) plan.code)) e all_run);
           };
           agent_is = its.agent_is;
           pending = pending;
@@ -147,7 +148,7 @@ module _ (plan : Plan) (opening : Opening) (inputs : List (List ℤ)) (stalls : 
           within = omega (arith, high, mul-le (date + 1) plan.unit.quantum r.deadline plan.unit.quantum (omega (arith, later)) (omega arith));
           run = omega (arith, high, mul-le (date + 1) plan.unit.quantum plan.until plan.unit.quantum (omega (arith, inside)) (omega arith));
           most = most;
-          quantum = is.compiled.text.bare.quantum.1;
+          quantum = is.fits.bare.quantum.1;
           ends = λ point end is. (let h = its.ends point end is in (h.1, may_end within agent r.point point r.start its.known h.0 (omega (arith, start, w.at, inside, most))));
         }
       where

@@ -77,8 +77,8 @@ module _ (k : Inside) (w : KernelStands k) (date : ℕ) (is : k.shared.date ≡ 
   pub date_within : date ≤ k.plan.until
   date_within = (subst (λ n. InTick k.plan.unit.quantum k.plan.until n k.cycles) done w.in_tick).0
 
-  shared_now : SharedStands s turns (date + 1) k.shared
-  shared_now = subst (λ n. SharedStands s turns n k.shared) (ap dates_done is) w.shared
+  shared_now : SharedStands s k.plan.sizes turns (date + 1) k.shared
+  shared_now = subst (λ n. SharedStands s k.plan.sizes turns n k.shared) (ap dates_done is) w.shared
 
   -- ---- where all is told
 

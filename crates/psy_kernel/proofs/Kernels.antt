@@ -5,13 +5,11 @@ use Rattle.std.specs.List.{range_with_len}
 use Rattle.std.proofs.lemmas.Bool.{ltb-false, true≢false}
 use Rattle.std.proofs.lemmas.Nat.{mul-le}
 use Rattle.psy_dates.specs.declared.plan.Plan.{Plan}
-use Rattle.psy_dates.specs.Plans.{IsPlan}
+use Rattle.psy_dates.specs.Plans.{IsPlan, IsSoundFor}
 use Rattle.psy_history.specs.Compiled.{AreInputs}
 use Rattle.psy_dates.specs.Standing.{dates_done}
 use Rattle.psy_history.specs.Regular.{IsLawful}
 use Rattle.psy_history.specs.Actions.{Action, History, Opening, System}
-use Rattle.psy_history.specs.Openings.{IsSound}
-use Rattle.psy_meaning.specs.KnownWays.{OfText}
 use Rattle.psy_history.specs.History.{history}
 use Rattle.psy_history.specs.Schedule.{Turn, is_pending}
 use Rattle.psy_history.specs.Summary.{reach}
@@ -22,7 +20,7 @@ use Rattle.psy_history.specs.declared.told.Order.{Order}
 use Rattle.psy_history.specs.declared.told.Script.{Script}
 use Rattle.psy_kernel.specs.declared.stage.Stage.TheVariants.{CycleDue}
 use Rattle.psy_kernel.specs.Progress.{Progress, beginning, stage_of}
-use Rattle.psy_history.specs.Scripts.{order_of}
+use Rattle.psy_history.specs.Scripts.{order_of, stalls_of}
 use Rattle.psy_kernel.specs.Standing.{AreInForce, IsChosen, KernelStands, given_at, most_held_in, progress_of}
 use Rattle.psy_kernel.proofs.OrdersInForce.{in_force_is, lists_order, no_more}
 use Rattle.psy_kernel.proofs.Parts.{PartsStand}
@@ -40,7 +38,7 @@ abbrev pub turns_in : Inside → ℕ → List (Option Turn)
 turns_in k cycles = run_turns k.plan (opening_in k) k.shared.inputs.lists k.script cycles
 
 abbrev pub PartsIn : Inside → ℕ → Type 0
-PartsIn k cycles = PartsStand (run_in k) k.plan.code k.plan.until (turns_in k cycles) (dates_done k.shared.date) k.shared k.machines.items k.charges.items k.ready k.figures.items
+PartsIn k cycles = PartsStand (run_in k) k.plan.sizes k.plan.code k.plan.until (turns_in k cycles) (dates_done k.shared.date) k.shared k.machines.items k.charges.items k.ready k.figures.items
 
 -- Rings were reached for as far back as the first so many cycles did
 abbrev pub ReachedIn : Inside → ℕ → Type 0
@@ -173,23 +171,23 @@ pub record IsDue (k : Inside) : Type 0 where
   pub lawful : IsLawful (run_in k)
   pub over : (agent : ℕ) → AreOver (turns_in k k.cycles) (history (run_in k) (date + 1) agent)
   pub gets : (agent : ℕ) (r : Action) (before : List Action) → history (run_in k) (date + 1) agent ≡ r ∷ before → is_pending (turns_in k k.cycles) r ≡ true → GetsCycle (run_in k) k.plan.code (turns_in k k.cycles) k.plan.until date k.cycles agent r before
-  pub looks : (cycle agent : ℕ) (r : Action) (before : List Action) → IsCycleOf k.plan (opening_in k) k.shared.inputs.lists k.script date cycle → history (run_in k) (date + 1) agent ≡ r ∷ before → is_pending (turns_in k cycle) r ≡ true → LooksBack (run_in k) k.plan.code (turns_in k cycle) date r
+  pub looks : (cycle agent : ℕ) (r : Action) (before : List Action) → IsCycleOf k.plan (opening_in k) k.shared.inputs.lists k.script date cycle → history (run_in k) (date + 1) agent ≡ r ∷ before → is_pending (turns_in k cycle) r ≡ true → LooksBack (run_in k) k.plan.sizes k.plan.code (turns_in k cycle) date r
   pub idle : (turns : List (Option Turn)) (h : History) (variable : ℕ) → reach (run_in k) (None ∷ turns) h variable ≡ reach (run_in k) turns h variable
   pub small : (date + 1) * k.plan.unit.quantum < 18446744073709551615
 
 module _ (k : Inside) (is : KernelStands k) where
   small_cycles : (date : ℕ) → IsCycleOf k.plan (opening_in k) k.shared.inputs.lists k.script date k.cycles → (date + 1) * k.plan.unit.quantum < 18446744073709551615
   small_cycles date c =
-      let a = mul-le (date + 1) k.plan.unit.quantum 4294967295 1000000 (omega (arith, c.before, c.most)) is.plan.compiled.text.bare.quantum.1 in
+      let a = mul-le (date + 1) k.plan.unit.quantum 4294967295 1000000 (omega (arith, c.before, c.most)) is.plan.fits.bare.quantum.1 in
       omega (arith, a)
 
   pub due_by : (p : Progress) → progress_of k ≡ p → stage_of p ≡ CycleDue p.cycles → k.plan.until ≤ 4294967295
-      → ((plan : Plan) (opening : Opening) (inputs : List (List ℤ)) (script : Script) → IsPlan plan → AreInputs plan.unit inputs → IsSound (run_of plan opening inputs script) (OfText plan.unit) plan.code → IsLawful (run_of plan opening inputs script))
+      → ((plan : Plan) (opening : Opening) (inputs : List (List ℤ)) (script : Script) → IsPlan plan → AreInputs plan.unit inputs → IsSoundFor plan opening inputs (stalls_of script) → IsLawful (run_of plan opening inputs script))
       → ((plan : Plan) (opening : Opening) (inputs : List (List ℤ)) (script : Script) (date cycle agent : ℕ) → IsCycleOf plan opening inputs script date cycle → AreOver (run_turns plan opening inputs script cycle) (history (run_of plan opening inputs script) (date + 1) agent))
       → ((plan : Plan) (opening : Opening) (inputs : List (List ℤ)) (script : Script) (date cycle agent : ℕ) (r : Action) (before : List Action) → IsCycleOf plan opening inputs script date cycle → history (run_of plan opening inputs script) (date + 1) agent ≡ r ∷ before → is_pending (run_turns plan opening inputs script cycle) r ≡ true
       → GetsCycle (run_of plan opening inputs script) plan.code (run_turns plan opening inputs script cycle) plan.until date cycle agent r before)
       → ((plan : Plan) (opening : Opening) (inputs : List (List ℤ)) (script : Script) (date cycle agent : ℕ) (r : Action) (before : List Action) → IsCycleOf plan opening inputs script date cycle → history (run_of plan opening inputs script) (date + 1) agent ≡ r ∷ before → is_pending (run_turns plan opening inputs script cycle) r ≡ true
-      → LooksBack (run_of plan opening inputs script) plan.code (run_turns plan opening inputs script cycle) date r)
+      → LooksBack (run_of plan opening inputs script) plan.sizes plan.code (run_turns plan opening inputs script cycle) date r)
       → ((s : System) (turns : List (Option Turn)) (h : History) (variable : ℕ) → reach s (None ∷ turns) h variable ≡ reach s turns h variable)
       → IsDue k
   due_by p e due most lawful over gets looks idle =

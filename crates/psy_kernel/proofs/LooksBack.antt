@@ -1,7 +1,8 @@
 -- What the pending action that gets a cycle sees by the rings, and how far back it looks, in the run of a plan.
 use Rattle.std.proofs.Common.{◌≡◌, refl, sym, ap, ◌∙◌, subst, arith}
-use Rattle.std.specs.Prelude.{ℕ, ◌+◌, ◌*◌, ◌/◌, ◌==◌, ◌<◌, ◌≤◌, List, ◌∷◌, drop, filter, length, map, nat_le, take, Option, Some, slice_get, ℤ}
+use Rattle.std.specs.Prelude.{ℕ, ◌+◌, ◌*◌, ◌/◌, ◌==◌, ◌<◌, ◌≤◌, List, ◌∷◌, drop, filter, get_or, length, map, nat_le, take, Option, Some, slice_get, ℤ}
 use Rattle.std.specs.List.{All, Contains, count_by}
+use Rattle.std.proofs.lemmas.List.Elements.{All-contains}
 use Rattle.std.proofs.lemmas.Option.{slice_get_within}
 use Rattle.psy_base.specs.declared.limits.TheConstants.{QUEUE}
 use Rattle.psy_base.specs.declared.message.Message.{Message}
@@ -11,15 +12,16 @@ use Rattle.psy_clock.specs.Dates.{IsClock}
 use Rattle.psy_code.specs.declared.code.Code.{Code}
 use Rattle.psy_code.specs.declared.look.Sent.{Sent}
 use Rattle.psy_code.specs.Execution.{RunState, Running, call_of, run_code}
-use Rattle.psy_code.specs.Views.{Send, messages_of, past_of}
+use Rattle.psy_code.specs.Views.{Past, Send, messages_of, past_of}
 use Rattle.psy_dates.specs.declared.plan.Plan.{Plan}
 use Rattle.psy_dates.specs.Plans.{IsPlan, opened_of}
+use Rattle.psy_dates.proofs.lemmas.Fits.{outbox_size, ring_size, small_ring}
 use Rattle.psy_history.specs.Queues.{queue_of}
-use Rattle.psy_history.specs.Regular.{IsLawful, begun_by}
+use Rattle.psy_history.specs.Regular.{AreRegular, IsLawful, IsRegular, MayAsk, Runs, begun_by}
 use Rattle.psy_history.specs.Rings.{age_at, reach_with, ring_of}
 use Rattle.psy_history.specs.Runs.{IsRun}
 use Rattle.psy_history.specs.Scheduled.{IsSupplied, turns_of}
-use Rattle.psy_meaning.specs.KnownWays.{Looks, OfText, Ways}
+use Rattle.psy_meaning.specs.KnownWays.{Listed, Looks, Ways}
 use Rattle.psy_history.specs.Actions.{Action, Opening, System, publishing, variable_of}
 use Rattle.psy_history.specs.Executors.{agent_code_at}
 use Rattle.psy_tree.specs.Parts.{no_clock, no_variable}
@@ -32,6 +34,7 @@ use Rattle.psy_history.specs.Summary.{reach}
 use Rattle.psy_meaning.specs.Units.{IsBare, IsBareVariable}
 use Rattle.psy_tree.specs.declared.unit.StreamDecl.{StreamDecl}
 use Rattle.psy_tree.specs.declared.unit.VarDecl.{VarDecl}
+use Rattle.psy_kernel.specs.Acting.{IsOfCode}
 use Rattle.psy_kernel.specs.Cycles.{GetsCycle, LooksBack}
 use Rattle.psy_history.specs.declared.told.Script.{Script}
 use Rattle.psy_history.specs.Scripts.{order_of}
@@ -41,7 +44,9 @@ use Rattle.psy_kernel.proofs.LooksMade.{near, reached}
 use Rattle.psy_kernel.proofs.OneAgent.{early}
 use Rattle.psy_kernel.proofs.PaidCycles.{paid_few}
 use Rattle.psy_kernel.proofs.QueueViews.{acts}
-use Rattle.psy_kernel.proofs.RingViews.{shows, size_of}
+use Rattle.psy_kernel.proofs.RingViews.{shows}
+use Rattle.psy_kernel.proofs.RunsOn.{asks}
+use Rattle.psy_kernel.proofs.Verdicts.{is_whole}
 
 -- ---- what is known of all runs
 
@@ -79,15 +84,15 @@ pub record AreLooksLaws : Type 0 where
 -- A variable's clock is one of the program's
 pub clock_lawful : (plan : Plan) → IsPlan plan → (s : System) → s.unit ≡ plan.unit → (variable : ℕ) → variable < length s.unit.variables → IsClock (publishing s variable)
 clock_lawful plan is s e variable less =
-    let bare : IsBare s.unit = subst IsBare (sym e) is.compiled.text.bare in
+    let bare : IsBare s.unit = subst IsBare (sym e) is.fits.bare in
     bare.clocks (variable_of s variable).clock no_clock (IsBareVariable.clock (bare.variables variable no_variable less))
 
-module _ (plan : Plan) (opening : Opening) (inputs : List (List ℤ)) (stalls : ℕ → List Stall) (is : IsPlan plan) (run : IsRun (opened_of plan opening inputs stalls) (OfText plan.unit) plan.code) (script : Script) (date cycle : ℕ) (low : date * plan.unit.quantum ≤ cycle) (high : cycle < (date + 1) * plan.unit.quantum) where
+module _ (plan : Plan) (opening : Opening) (inputs : List (List ℤ)) (stalls : ℕ → List Stall) (is : IsPlan plan) (run : IsRun (opened_of plan opening inputs stalls) (Listed is.ways) plan.code) (script : Script) (date cycle : ℕ) (low : date * plan.unit.quantum ≤ cycle) (high : cycle < (date + 1) * plan.unit.quantum) where
   abbrev s : System
   s = opened_of plan opening inputs stalls
 
   abbrev ways : Ways
-  ways = OfText plan.unit
+  ways = Listed is.ways
 
   abbrev order : ℕ → List ℕ
   order = order_of plan.unit script
@@ -95,9 +100,9 @@ module _ (plan : Plan) (opening : Opening) (inputs : List (List ℤ)) (stalls : 
   abbrev turns : List (Option Turn)
   turns = turns_of s order cycle
 
-  pub looks : AreLooksLaws → IsSupplied s order plan.until → (agent : ℕ) (r : Action) (before : List Action) → history s (date + 1) agent ≡ r ∷ before
-      → GetsCycle s plan.code turns plan.until date cycle agent r before → LooksBack s plan.code turns date r
-  looks laws supply agent r before e g =
+  pub looks : AreLooksLaws → IsSupplied s order plan.until → (agent : ℕ) (r : Action) (before : List Action) → history s (date + 1) agent ≡ r ∷ before → Runs s ways plan.code r
+      → GetsCycle s plan.code turns plan.until date cycle agent r before → LooksBack s plan.sizes plan.code turns date r
+  looks laws supply agent r before e runs g =
       let had : ℕ = units r.agent r.number turns in
       let in_agent : Contains (history s (date + 1) agent) r = subst (λ actions. Contains actions r) (sym e) (0, omega arith, refl) in
       let in_own : Contains (history s (date + 1) r.agent) r = subst (λ n. Contains (history s (date + 1) n) r) (sym g.agent_is) in_agent in
@@ -105,19 +110,24 @@ module _ (plan : Plan) (opening : Opening) (inputs : List (List ℤ)) (stalls : 
       let paid = (charge_after s r had).paid in
       let left : paid < r.budget = (let few = paid_few (s.stalls r.agent) r.number r.budget had (omega (arith, soon)) in omega (arith, few, soon)) in
       let at_date : length turns / plan.unit.quantum ≡ date = ap (λ n. n / plan.unit.quantum) (as_many s order cycle) ∙ tick_of_cycle s order date cycle low high in
+      let of_code : IsOfCode s plan.code r = record { deeds = g.of_code.deeds; after = g.of_code.after; charge = g.of_code.charge; verdict = g.of_code.verdict; ways = ways; runs = runs } in
+      let of_program : agent < length plan.unit.agents = IsRegular.known (All-contains (IsRegular s agent) (history s (date + 1) agent) r (AreRegular.each (supply.lawful.actions (date + 1) agent)) in_agent) in
+      let known : r.agent < length plan.unit.agents = subst (λ n. n < length plan.unit.agents) (sym g.agent_is) of_program in
+      let near_is : (variable back : ℕ) (may : MayAsk ways s.unit r.agent r.point (Some (Past variable back))) → age_at s variable back r.start date < get_or plan.sizes.rings variable 0 = λ variable back may.
+      laws.ages s ways order plan.until (date + 1) r.agent variable back (get_or plan.sizes.rings variable 0) date may.0 r supply in_own may.1 may.3 may.2 (ring_size plan is variable (slice_get_within s.unit.variables variable may.0 may.1)) g.started g.later in
       record {
-        acts = λ rings queues taken outbox ringed filled as_many size did. acts s plan.code r had date rings queues filled taken as_many outbox did
+        acts = λ rings queues taken outbox ringed filled as_many size did. acts s plan.sizes plan.code r had date rings queues filled taken as_many outbox did
             (λ stream decl at own. laws.fronts s ways plan.code run date stream r.agent decl r before at own (ap (history s (date + 1)) g.agent_is ∙ e) g.later)
             (λ stream decl state at own running. laws.takes s ways plan.code run (date + 1) r.agent stream paid decl r state at own in_own running)
-            (λ state sent running call. laws.sends s ways plan.code run plan.sizes.queues is.buffers.queues is.buffers.small_queues (date + 1) r.agent outbox.size paid r state sent size in_own running call left)
-            (λ messages. shows s date r rings ringed messages
-            (λ variable back size decl at may inner sized. laws.ages s ways order plan.until (date + 1) r.agent variable back size date decl r supply in_own at may inner sized g.started g.later)
-            (λ variable back size decl at inner near. laws.values s date r.agent variable back size decl r supply.lawful (clock_lawful plan is s refl variable (slice_get_within s.unit.variables variable decl at)) in_own at inner near));
-        near = near s plan.code r g.of_code had soon date (λ variable back may. (
+            (λ state sent running call. laws.sends s ways plan.code run plan.sizes.queues is.buffers.queues is.buffers.small_queues (date + 1) r.agent outbox.size paid r state sent (subst (IsGreatest (HasSendsTo plan.unit ways plan.nexts r.agent)) (sym size) (outbox_size plan is r.agent known)) in_own running call left)
+            (λ messages state running variable back call. (
+            let may : MayAsk ways s.unit r.agent r.point (Some (Past variable back)) = subst (MayAsk ways s.unit r.agent r.point) call (asks _ _ _ _ _ _ _ (is_whole s plan.code r of_code) paid left state running) in
+            shows s plan.sizes date r rings ringed messages
+            (λ variable back size decl at inner near. laws.values s date r.agent variable back size decl r supply.lawful (clock_lawful plan is s refl variable (slice_get_within s.unit.variables variable decl at)) in_own at inner near)
+            variable back may.0 may.1 may.2 (near_is variable back may)));
+        near = near s plan.code r of_code had soon date (λ variable back may. (
           slice_get_within s.unit.variables variable may.0 may.1,
-          (let size = size_of plan is variable (slice_get_within s.unit.variables variable may.0 may.1) in
-              let less = laws.ages s ways order plan.until (date + 1) r.agent variable back size.0 date may.0 r supply in_own may.1 may.3 may.2 size.1 g.started g.later in
-              omega (arith, less, size.2)),
+          omega (arith, near_is variable back may, small_ring plan is variable (slice_get_within s.unit.variables variable may.0 may.1)),
         ));
         reached = λ variable. reached s plan.code r g.of_code had soon date variable (reach s turns (history s (date + 1)) variable) (reach s (turn_of (Some r) ∷ turns) (history s (date + 1)) variable)
             (laws.stalls s turns (date + 1) r.agent variable r supply.lawful in_own)

@@ -8,7 +8,6 @@ use Rattle.psy_code.specs.declared.code.Code.{Code}
 use Rattle.psy_code.specs.Execution.{RunState, Running, call_of, run_code}
 use Rattle.psy_code.specs.Views.{Call, Past, Ready, Take, Send}
 use Rattle.psy_history.specs.Regular.{MayAsk, begun_by}
-use Rattle.psy_meaning.specs.KnownWays.{OfText}
 use Rattle.psy_history.specs.Rings.{reach_with}
 use Rattle.psy_history.specs.Actions.{Action, System}
 use Rattle.psy_history.specs.Executors.{agent_code_at}
@@ -35,22 +34,22 @@ module _ (s : System) (code : Code) (r : Action) (of_code : IsOfCode s code r) (
 
   -- ---- how far back it goes
 
-  near_of : ((variable back : ℕ) → MayAsk (OfText s.unit) s.unit r.agent r.point (Some (Past variable back)) → IsNear s r.start date (Some (variable, back)))
-      → (call : Option Call) → MayAsk (OfText s.unit) s.unit r.agent r.point call → IsNear s r.start date (look_of call)
+  near_of : ((variable back : ℕ) → MayAsk of_code.ways s.unit r.agent r.point (Some (Past variable back)) → IsNear s r.start date (Some (variable, back)))
+      → (call : Option Call) → MayAsk of_code.ways s.unit r.agent r.point call → IsNear s r.start date (look_of call)
   near_of law None may = tt {0}
   near_of law (Some (Past variable back)) may = law variable back may
   near_of law (Some (Ready stream)) may = tt {0}
   near_of law (Some (Take stream)) may = tt {0}
   near_of law (Some (Send sent)) may = tt {0}
 
-  near_by : ((variable back : ℕ) → MayAsk (OfText s.unit) s.unit r.agent r.point (Some (Past variable back)) → IsNear s r.start date (Some (variable, back)))
+  near_by : ((variable back : ℕ) → MayAsk of_code.ways s.unit r.agent r.point (Some (Past variable back)) → IsNear s r.start date (Some (variable, back)))
       → (look : Option (ℕ × ℕ)) (t : Tick) → LooksBy code r paid look t → IsNear s r.start date look
   near_by law look tick.Paid h =
-      subst (IsNear s r.start date) (sym h.2) (near_of law (call_of code h.0.machine) (asks _ _ _ _ _ _ (is_whole s code r of_code) paid left h.0 h.1))
+      subst (IsNear s r.start date) (sym h.2) (near_of law (call_of code h.0.machine) (asks _ _ _ _ _ _ _ (is_whole s code r of_code) paid left h.0 h.1))
   near_by law look tick.Stalled h = subst (IsNear s r.start date) (sym h) (tt {0})
   near_by law look tick.Spent h = subst (IsNear s r.start date) (sym h) (tt {0})
 
-  pub near : ((variable back : ℕ) → MayAsk (OfText s.unit) s.unit r.agent r.point (Some (Past variable back)) → IsNear s r.start date (Some (variable, back)))
+  pub near : ((variable back : ℕ) → MayAsk of_code.ways s.unit r.agent r.point (Some (Past variable back)) → IsNear s r.start date (Some (variable, back)))
       → (look : Option (ℕ × ℕ)) → LooksBy code r paid look now → IsNear s r.start date look
   near law look h = near_by law look now h
 

@@ -4,7 +4,6 @@ use Rattle.std.specs.Prelude.{IsSome}
 use Rattle.std.proofs.lemmas.Bool.{cond-true, lt-ltb, le-ltb, ltb-true}
 use Rattle.std.proofs.lemmas.Nat.{mul-le}
 use Rattle.psy_arith.specs.declared.operators.Trap.{Trap}
-use Rattle.psy_base.specs.Extremes.{IsGreatest}
 use Rattle.psy_budget.specs.declared.charge.Stall.{Stall}
 use Rattle.psy_budget.specs.Charges.{Charged}
 use Rattle.psy_code.specs.declared.code.Code.{Code}
@@ -22,8 +21,6 @@ use Rattle.psy_history.specs.History.{history}
 use Rattle.psy_history.specs.Regular.{begun_by}
 use Rattle.psy_history.specs.Schedule.{Turn, is_of, is_pending, turn_of, units, work}
 use Rattle.psy_history.specs.Summary.{reach}
-use Rattle.psy_meaning.specs.KnownWays.{OfText}
-use Rattle.psy_meaning.specs.QueueSizes.{HasSendsTo}
 use Rattle.psy_meaning.specs.Timing.{end_date, timing_of}
 use Rattle.psy_queue.specs.Order.{Queued}
 use Rattle.psy_tree.specs.Parts.{agent_at}
@@ -237,7 +234,7 @@ module _ {plan : Plan} {opening : Opening} {inputs : List (List ℤ)} {stalls : 
   units_since : (u : ℕ) → begun ≤ u → units r.agent r.number (many r turns (u - begun)) ≡ u
   units_since u low = units_many r turns (u - begun) ∙ since u low
 
-  looks_at : (u : ℕ) → begun ≤ u → u < begun + most → u < work r → LooksBack s plan.code (many r turns (u - begun)) date r
+  looks_at : (u : ℕ) → begun ≤ u → u < begun + most → u < work r → LooksBack s plan.sizes plan.code (many r turns (u - begun)) date r
   looks_at u low high less = given.looks (u - begun) (omega (arith, low, high)) (is_on r turns (u - begun) (omega (arith, low, less)))
 
   acts_at : (u : ℕ) → begun ≤ u → u < begun + most → u < work r → (taken' : List ℕ) (after : Outboxed) → length taken' ≡ length s.unit.streams
@@ -245,7 +242,7 @@ module _ {plan : Plan} {opening : Opening} {inputs : List (List ℤ)} {stalls : 
   acts_at u low high less taken' after counted size did =
       let at = sym (units_since u low) in
       let acts : ActsIn s plan.code r (units r.agent r.number (many r turns (u - begun))) (sight_in plan.unit rings queues r.agent r.start date) taken' after =
-      LooksBack.acts (looks_at u low high less) rings queues taken' after given.ringed given.queued counted (subst (IsGreatest (HasSendsTo plan.unit (OfText plan.unit) plan.nexts r.agent)) (sym size) given.sized)
+      LooksBack.acts (looks_at u low high less) rings queues taken' after given.ringed given.queued counted (size ∙ given.sized)
       (subst (λ n. HasDone s plan.code r (charge_after s r n).paid after.sends taken') at did) in
       subst (λ n. ActsIn s plan.code r n (sight_in plan.unit rings queues agent seat.start date) taken' after) (sym at)
       (subst (λ n. ActsIn s plan.code r (units r.agent r.number (many r turns (u - begun))) (sight_in plan.unit rings queues n seat.start date) taken' after) given.given.gets.agent_is

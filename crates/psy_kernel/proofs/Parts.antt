@@ -19,10 +19,8 @@ use Rattle.psy_history.specs.Regular.{AreRegular, IsLawful, IsRegular}
 use Rattle.psy_machine.specs.Stepping.{AgentMachine}
 use Rattle.psy_history.specs.Actions.{Action, System, is_done, is_silent, stream_of, variable_of}
 use Rattle.psy_tree.specs.Parts.{no_stream}
-use Rattle.psy_base.specs.Extremes.{IsGreatest}
+use Rattle.psy_base.specs.declared.sizes.Sizes.{Sizes}
 use Rattle.psy_history.specs.History.{history}
-use Rattle.psy_meaning.specs.KnownWays.{OfText}
-use Rattle.psy_meaning.specs.QueueSizes.{HasSendsTo}
 use Rattle.psy_history.specs.Schedule.{Turn, is_pending, pending, soonest}
 use Rattle.psy_ready.specs.Choice.{IsPick, pending_deadline}
 use Rattle.psy_tree.specs.declared.unit.StreamDecl.{StreamDecl}
@@ -39,8 +37,8 @@ use Rattle.psy_kernel.proofs.PickIsSoonest.{Front, IsSoonest, front_of, soonest_
 use Rattle.psy_dates.proofs.lemmas.Sets.{get_set_other, get_set_same}
 
 -- It stands for the history of so many dates, where the cycles done went to these turns
-pub record PartsStand (s : System) (code : Code) (until : ℕ) (turns : List (Option Turn)) (dates : ℕ) (shared : Shared) (machines : List AgentMachine) (charges : List Charged) (ready : List (Option ℕ)) (figures : List Figure) : Type 0 where
-  pub shares : SharedStands s turns dates shared
+pub record PartsStand (s : System) (sizes : Sizes) (code : Code) (until : ℕ) (turns : List (Option Turn)) (dates : ℕ) (shared : Shared) (machines : List AgentMachine) (charges : List Charged) (ready : List (Option ℕ)) (figures : List Figure) : Type 0 where
+  pub shares : SharedStands s sizes turns dates shared
   pub machined : length machines ≡ length s.unit.agents
   pub charged : length charges ≡ length s.unit.agents
   pub waiting : length ready ≡ length s.unit.agents
@@ -69,8 +67,8 @@ last_seated : (quiet : Bool) (before date : ℕ) (turns : List (Option Turn)) (r
 last_seated false before date turns r earlier seat h = h
 last_seated true before date turns r earlier seat h = h
 
-shared_same : (s : System) (turns now : List (Option Turn)) (dates : ℕ) (shared : Shared) → ((agent : ℕ) → All (AreSameFor turns now) (history s dates agent)) → SharedStands s turns dates shared → SharedStands s now dates shared
-shared_same s turns now dates shared same h = record {
+shared_same : (s : System) (sizes : Sizes) (turns now : List (Option Turn)) (dates : ℕ) (shared : Shared) → ((agent : ℕ) → All (AreSameFor turns now) (history s dates agent)) → SharedStands s sizes turns dates shared → SharedStands s sizes now dates shared
+shared_same s sizes turns now dates shared same h = record {
   date = h.date;
   seated = h.seated;
   seats = λ agent seat at. seated_kept (s.opening.silent agent) s.opening.dates turns now (dates - 1) (history s dates agent) seat (same agent) (h.seats agent seat at);
@@ -90,13 +88,13 @@ shared_same s turns now dates shared same h = record {
   movers = h.movers;
 }
 
-module _ (s : System) (code : Code) (until : ℕ) (turns : List (Option Turn)) (dates : ℕ) (shared : Shared) (machines : List AgentMachine) (charges : List Charged) (ready : List (Option ℕ)) (figures : List Figure) (p : PartsStand s code until turns dates shared machines charges ready figures) where
+module _ (s : System) (sizes : Sizes) (code : Code) (until : ℕ) (turns : List (Option Turn)) (dates : ℕ) (shared : Shared) (machines : List AgentMachine) (charges : List Charged) (ready : List (Option ℕ)) (figures : List Figure) (p : PartsStand s sizes code until turns dates shared machines charges ready figures) where
   -- cycles that nobody gets
-  pub idle : (n : ℕ) → PartsStand s code until (given_to None n turns) dates shared machines charges ready figures
+  pub idle : (n : ℕ) → PartsStand s sizes code until (given_to None n turns) dates shared machines charges ready figures
   idle n =
       let same : (agent : ℕ) → All (AreSameFor turns (given_to None n turns)) (history s dates agent) = λ agent k d less. missed_all None turns _ refl n in
       record {
-        shares = shared_same s turns (given_to None n turns) dates shared same p.shares;
+        shares = shared_same s sizes turns (given_to None n turns) dates shared same p.shares;
         machined = p.machined;
         charged = p.charged;
         waiting = p.waiting;
@@ -184,14 +182,14 @@ module _ (s : System) (code : Code) (until : ℕ) (turns : List (Option Turn)) (
             takes_kept turns now (dates - 1) stream (history s dates (stream_of s stream).receiver) n (others_same (stream_of s stream).receiver differs) (p.shares.taken stream n (same_taken stream n at differs))
       ]
 
-      outboxes_given : (other : ℕ) (x : Outboxed) → slice_get (slice_set shared.outboxes.items agent outbox) other ≡ Some x → OutboxStands s (dates - 1) now other (history s dates other) x
+      outboxes_given : (other : ℕ) (x : Outboxed) → slice_get (slice_set shared.outboxes.items agent outbox) other ≡ Some x → OutboxStands sizes (dates - 1) now other (history s dates other) x
       outboxes_given other x at = elim (cases_eq other agent) [
         | inl same ↦
             (let here : slice_get (slice_set shared.outboxes.items agent outbox) agent ≡ Some x = sym (ap (slice_get (slice_set shared.outboxes.items agent outbox)) same) ∙ at in
             let x_is : x ≡ outbox = get_set_same shared.outboxes.items agent outbox x here in
             let old = found shared.outboxes.items agent (omega (arith, slice_get_within (slice_set shared.outboxes.items agent outbox) agent x here, length-set shared.outboxes.items agent outbox)) in
-            subst (λ a. OutboxStands s (dates - 1) now a (history s dates a) x) (sym same) (subst (OutboxStands s (dates - 1) now agent (history s dates agent)) (sym x_is) (record {
-              size = subst (IsGreatest (HasSendsTo s.unit (OfText s.unit) s.nexts agent)) (sym (size old.0 old.1)) (p.shares.outboxes agent old.0 old.1).size;
+            subst (λ a. OutboxStands sizes (dates - 1) now a (history s dates a) x) (sym same) (subst (OutboxStands sizes (dates - 1) now agent (history s dates agent)) (sym x_is) (record {
+              size = size old.0 old.1 ∙ (p.shares.outboxes agent old.0 old.1).size;
               sends = subst (λ actions. KeepsSends (dates - 1) now actions outbox.sends) (sym is) (subst (λ d. KeepsSends d now (r ∷ before) outbox.sends) (sym last) box.sent);
             })))
         | inr differs ↦
@@ -243,7 +241,7 @@ module _ (s : System) (code : Code) (until : ℕ) (turns : List (Option Turn)) (
       ]
 
       pub shared_given : (after : Shared) → after.date ≡ shared.date → after.seats.items ≡ slice_set shared.seats.items agent seat → after.ended.items ≡ ended → after.committed ≡ shared.committed
-          → after.rings ≡ shared.rings → after.queues ≡ shared.queues → after.outboxes.items ≡ slice_set shared.outboxes.items agent outbox → after.taken.items ≡ taken → after.calendar ≡ shared.calendar → IsTold seat shared.movers after.movers → SharedStands s now dates after
+          → after.rings ≡ shared.rings → after.queues ≡ shared.queues → after.outboxes.items ≡ slice_set shared.outboxes.items agent outbox → after.taken.items ≡ taken → after.calendar ≡ shared.calendar → IsTold seat shared.movers after.movers → SharedStands s sizes now dates after
       shared_given after date_is seats_are ended_are committed_is rings_are queues_are outboxes_are taken_is calendar_is told = record {
         date = ap dates_done date_is ∙ p.shares.date;
         seated = ap length seats_are ∙ length-set shared.seats.items agent seat ∙ p.shares.seated;
@@ -283,7 +281,7 @@ module _ (s : System) (code : Code) (until : ℕ) (turns : List (Option Turn)) (
       ]
 
       pub given : (ready' : List (Option ℕ)) → length ready' ≡ length ready → ((w : Option ℕ) → slice_get ready' agent ≡ Some w → w ≡ waits) → ((other : ℕ) → (other ≡ agent → ⊥) → slice_get ready' other ≡ slice_get ready other)
-          → (after : Shared) → after.outboxes.items ≡ slice_set shared.outboxes.items agent outbox → after.taken.items ≡ taken → SharedStands s now dates after → PartsStand s code until now dates after (slice_set machines agent machine) (slice_set charges agent charge) ready' (slice_set figures agent figure)
+          → (after : Shared) → after.outboxes.items ≡ slice_set shared.outboxes.items agent outbox → after.taken.items ≡ taken → SharedStands s sizes now dates after → PartsStand s sizes code until now dates after (slice_set machines agent machine) (slice_set charges agent charge) ready' (slice_set figures agent figure)
       given ready' as_many own rest after outboxes_are taken_is shares = record {
         shares = shares;
         machined = length-set machines agent machine ∙ p.machined;

@@ -72,16 +72,16 @@ module _ (s : System) (code : Code) (r : Action) (had : ℕ) (charge : Charged) 
 
   alike : (window : Window) → ShowsAs s code r paid window → AnswerAlike window.view state.view call
   alike window shows =
-      answers_alike s code r paid window shows state w.running.1 (pasts _ _ _ _ _ _ (is_whole s code r w.of_code) paid left state w.running.1) call (asks_of _ _ _ _ _ _ (is_whole s code r w.of_code) paid left state w.running.1)
+      answers_alike s w.of_code.ways code r paid window shows state w.running.1 (pasts _ _ _ _ _ _ _ (is_whole s code r w.of_code) paid left state w.running.1) call refl (asks_of _ _ _ _ _ _ _ (is_whole s code r w.of_code) paid left state w.running.1)
 
   pub able : (window : Window) → ShowsAs s code r paid window → next_for code window.view machine ≢ Stuck
-  able window shows e = can_go _ _ _ _ _ _ (is_whole s code r w.of_code) paid left state w.running.1 window.view (alike window shows) (sym (next_is window.view) ∙ e)
+  able window shows e = can_go _ _ _ _ _ _ _ (is_whole s code r w.of_code) paid left state w.running.1 window.view (alike window shows) (sym (next_is window.view) ∙ e)
 
   pub permitted : (window : Window) → ShowsAs s code r paid window → PermitsAll window (call_of code machine.machine)
   permitted window shows =
       subst (PermitsAll window) call_is
-      (permits s code r paid window shows state w.running.1 call refl (asks_of _ _ _ _ _ _ (is_whole s code r w.of_code) paid left state w.running.1) (alike window shows)
-      (served _ _ _ _ _ _ (is_whole s code r w.of_code) paid left state w.running.1))
+      (permits s w.of_code.ways code r paid window shows state w.running.1 call refl (asks_of _ _ _ _ _ _ _ (is_whole s code r w.of_code) paid left state w.running.1) (alike window shows)
+      (served _ _ _ _ _ _ _ (is_whole s code r w.of_code) paid left state w.running.1))
 
   charge_by : (t : Tick) → tick_of charge ≡ t → after_tick charge t ≡ charge_after s r (suc had)
   charge_by t e = ap (after_tick charge) (sym e) ∙ ap (λ (c : Charged). after_tick c (tick_of c)) w.charged
@@ -136,15 +136,15 @@ module _ (s : System) (code : Code) (r : Action) (had : ℕ) (charge : Charged) 
     at = paid_at (s.stalls r.agent) r.number r.budget had less (tick_by tick.Paid paying)
 
     runs : (next : Next) → next_for code view machine ≡ next → run (suc paid) ≡ run_by state call next
-    runs next e = next_run _ _ _ _ _ _ (is_whole s code r w.of_code) paid left state w.running.1 view (alike window shows) ∙ ap (run_by state call) (sym (next_is view) ∙ e)
+    runs next e = next_run _ _ _ _ _ _ _ (is_whole s code r w.of_code) paid left state w.running.1 view (alike window shows) ∙ ap (run_by state call) (sym (next_is view) ∙ e)
 
     is_last : (after : Run) → run (suc paid) ≡ after → ((t : RunState) → after ≡ Running t → ⊥) → (runs_of s code r w.of_code).steps ≡ suc paid
     is_last after e halts =
         let going = is_whole s code r w.of_code in
-        at_end _ _ _ _ _ _ going paid (early _ _ _ _ _ _ going paid left state w.running.1) (λ t h. halts t (sym e ∙ h))
+        at_end _ _ _ _ _ _ _ going paid (early _ _ _ _ _ _ _ going paid left state w.running.1) (λ t h. halts t (sym e ∙ h))
 
     is_over : (after : Run) (e : run (suc paid) ≡ after) (halts : (t : RunState) → after ≡ Running t → ⊥) → IsOver (run (runs_of s code r w.of_code).steps) (runs_of s code r w.of_code).last
-    is_over after e halts = over_then _ _ _ _ _ _ (is_whole s code r w.of_code) (suc paid) (is_last after e halts) (λ t h. halts t (sym e ∙ h))
+    is_over after e halts = over_then _ _ _ _ _ _ _ (is_whole s code r w.of_code) (suc paid) (is_last after e halts) (λ t h. halts t (sym e ∙ h))
 
     gone_after : (next : Next) (answer : Step) → next_for code view machine ≡ next → Answers next answer → (after : AgentMachine) → after.machine ≡ machine_after next machine.machine → IsGone s code r had after (gone_by (charge_after s r (suc had)) answer)
     gone_after (Went m) answer e answers after same =

@@ -1,6 +1,7 @@
 -- A line at a place tells what is told of a date there.
 use Rattle.std.proofs.Common.{◌≡◌, ℕ, ◌+◌, ◌-◌, ◌<◌, ◌≤◌, Bool, true, false, List, [], ◌∷◌, ◌++◌, length, slice_get, Option, Some, None, ℤ, refl, sym, ap, subst, ◌∙◌, arith}
 use Rattle.std.proofs.lemmas.List.{append-nil}
+use Rattle.psy_base.specs.declared.sizes.Sizes.{Sizes}
 use Rattle.psy_clock.specs.declared.clock.Clock.{Clock}
 use Rattle.psy_tree.specs.declared.unit.VarDecl.{VarDecl}
 use Rattle.psy_history.specs.Actions.{System, publishing, variable_of}
@@ -19,7 +20,7 @@ use Rattle.psy_kernel.proofs.Publications.{value_told}
 use Rattle.psy_kernel.proofs.Stops.{seat_told}
 use Rattle.psy_kernel.proofs.ToldPlaces.{told_more, told_stop, told_value}
 
-module _ (s : System) (turns : List (Option Turn)) (date : ℕ) (shared : Shared) (stands : SharedStands s turns (date + 1) shared) (place : ℕ) (result : Bool) (old new : List ℕ) where
+module _ (s : System) (sizes : Sizes) (turns : List (Option Turn)) (date : ℕ) (shared : Shared) (stands : SharedStands s sizes turns (date + 1) shared) (place : ℕ) (result : Bool) (old new : List ℕ) where
   last : date + 1 - 1 ≡ date
   last = omega arith
 

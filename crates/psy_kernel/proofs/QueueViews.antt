@@ -6,14 +6,14 @@ use Rattle.std.proofs.lemmas.Bool.{cases_lt, eqb-true}
 use Rattle.std.proofs.lemmas.List.{drop_all, drop-map, length-take, take-map}
 use Rattle.std.proofs.lemmas.Option.{get_or_from_slice_get, slice_get-get_or, slice_get-map, slice_get_within}
 use Rattle.psy_base.specs.declared.message.Message.{Message}
+use Rattle.psy_base.specs.declared.sizes.Sizes.{Sizes}
 use Rattle.psy_code.specs.declared.code.Code.{Code}
 use Rattle.psy_code.specs.declared.look.Sent.{Sent}
 use Rattle.psy_code.specs.Execution.{RunState, Running, call_of, run_code}
 use Rattle.psy_code.specs.Views.{Past, Send, messages_of, past_of}
 use Rattle.psy_dates.specs.Outboxes.{Outboxed}
 use Rattle.psy_history.specs.Queues.{queue_of}
-use Rattle.psy_history.specs.Regular.{MayAsk, begun_by}
-use Rattle.psy_meaning.specs.KnownWays.{OfText}
+use Rattle.psy_history.specs.Regular.{begun_by}
 use Rattle.psy_history.specs.Actions.{Action, System, stream_of}
 use Rattle.psy_history.specs.Executors.{agent_code_at}
 use Rattle.psy_meaning.specs.Kept.{Receives}
@@ -53,7 +53,7 @@ received s agent stream its =
     let w = mapped agent s.unit.streams stream (slice_get s.unit.streams stream) refl (sym (slice_get-map (λ (d : StreamDecl). d.receiver == agent) s.unit.streams stream) ∙ its) in
     record { decl = w.0; at = w.1; own = w.2 }
 
-module _ (s : System) (code : Code) (r : Action) (had date : ℕ) (rings : List (List ℤ)) (queues : List Queued) (stand : AreQueuesOf s (date + 1) queues) (taken : List ℕ) (as_many : length taken ≡ length s.unit.streams) (outbox : Outboxed)
+module _ (s : System) (sizes : Sizes) (code : Code) (r : Action) (had date : ℕ) (rings : List (List ℤ)) (queues : List Queued) (stand : AreQueuesOf s sizes (date + 1) queues) (taken : List ℕ) (as_many : length taken ≡ length s.unit.streams) (outbox : Outboxed)
     (did : HasDone s code r (charge_after s r had).paid outbox.sends taken)
     (look : (stream : ℕ) (decl : StreamDecl) → slice_get s.unit.streams stream ≡ Some decl → decl.receiver ≡ r.agent
     → (filter (λ (m : Message). nat_le m.visible r.start) (queue_of s (date + 1) stream) ≡ r.seen stream) × (take (length (r.seen stream)) (queue_of s (date + 1) stream) ≡ r.seen stream))
@@ -62,7 +62,8 @@ module _ (s : System) (code : Code) (r : Action) (had date : ℕ) (rings : List 
     → messages_of state.view stream ≡ Some (map (λ (m : Message). m.value) (drop (count_by (λ t. t == stream) state.deeds.takes) (r.seen stream))))
     (sends : (state : RunState) (sent : Sent) → run_code code (agent_code_at code r.agent) (begun_by (agent_code_at code r.agent) r) (charge_after s r had).paid ≡ Running state
     → call_of code state.machine ≡ Some (Send sent) → length state.deeds.sends < outbox.size)
-    (pasts : (messages : List (Option (List ℤ))) (variable back : ℕ) → MayAsk (OfText s.unit) s.unit r.agent r.point (Some (Past variable back)) → past_of (view_in rings s.unit.variables s.unit.clocks r.start date messages) variable back ≡ past_of r.view variable back) where
+    (pasts : (messages : List (Option (List ℤ))) (state : RunState) → run_code code (agent_code_at code r.agent) (begun_by (agent_code_at code r.agent) r) (charge_after s r had).paid ≡ Running state
+    → (variable back : ℕ) → call_of code state.machine ≡ Some (Past variable back) → past_of (view_in rings s.unit.variables s.unit.clocks r.start date messages) variable back ≡ past_of r.view variable back) where
   abbrev sight : Sight
   sight = sight_in s.unit rings queues r.agent r.start date
 

@@ -11,7 +11,7 @@ use Rattle.psy_machine.specs.Stepping.{window_after}
 use Rattle.psy_history.specs.Actions.{Action, System}
 use Rattle.psy_history.specs.Executors.{agent_code_at}
 use Rattle.psy_history.specs.Regular.{AnswerAlike, Goes, MayAsk, begun_by}
-use Rattle.psy_meaning.specs.KnownWays.{OfText}
+use Rattle.psy_meaning.specs.KnownWays.{Ways}
 use Rattle.psy_kernel.specs.Acting.{ShowsAs, look_of}
 
 pub same_state : (s t : RunState) → Running s ≡ Running t → s ≡ t
@@ -43,18 +43,18 @@ module _ (code : Code) (its : AgentCode) where
 
 -- ---- what is asked of a window that shows an action what it may ask
 
-module _ (s : System) (code : Code) (r : Action) (paid : ℕ) (window : Window) (shows : ShowsAs s code r paid window) (state : RunState) (running : run_code code (agent_code_at code r.agent) (begun_by (agent_code_at code r.agent) r) paid ≡ Running state) where
+module _ (s : System) (ways : Ways) (code : Code) (r : Action) (paid : ℕ) (window : Window) (shows : ShowsAs s code r paid window) (state : RunState) (running : run_code code (agent_code_at code r.agent) (begun_by (agent_code_at code r.agent) r) paid ≡ Running state) where
   -- it answers what the action asks as its own view does
-  pub answers_alike : state.view.pasts ≡ r.view.pasts → (call : Option Call) → MayAsk (OfText s.unit) s.unit r.agent r.point call → AnswerAlike window.view state.view call
-  answers_alike pasts None asks = tt {0}
-  answers_alike pasts (Some (Past variable back)) asks = shows.pasts variable back asks ∙ sym (ap (λ lists. found_in (slice_get lists variable) (λ values. slice_get values back)) pasts)
-  answers_alike pasts (Some (Ready stream)) asks = ap (λ messages. found_in messages (λ values. Some (length values))) (shows.messages state running stream asks)
-  answers_alike pasts (Some (Take stream)) asks =
+  pub answers_alike : state.view.pasts ≡ r.view.pasts → (call : Option Call) → call_of code state.machine ≡ call → MayAsk ways s.unit r.agent r.point call → AnswerAlike window.view state.view call
+  answers_alike pasts None is asks = tt {0}
+  answers_alike pasts (Some (Past variable back)) is asks = shows.pasts state running variable back is ∙ sym (ap (λ lists. found_in (slice_get lists variable) (λ values. slice_get values back)) pasts)
+  answers_alike pasts (Some (Ready stream)) is asks = ap (λ messages. found_in messages (λ values. Some (length values))) (shows.messages state running stream asks)
+  answers_alike pasts (Some (Take stream)) is asks =
       (ap (λ messages. found_in messages (λ values. Some (length values))) (shows.messages state running stream asks), ap (λ messages. found_in messages first_of) (shows.messages state running stream asks))
-  answers_alike pasts (Some (Send sent)) asks = tt {0}
+  answers_alike pasts (Some (Send sent)) is asks = tt {0}
 
   -- it permits what that view serves
-  pub permits : (call : Option Call) → call_of code state.machine ≡ call → MayAsk (OfText s.unit) s.unit r.agent r.point call → AnswerAlike window.view state.view call → ServesAll state.view call → PermitsAll window call
+  pub permits : (call : Option Call) → call_of code state.machine ≡ call → MayAsk ways s.unit r.agent r.point call → AnswerAlike window.view state.view call → ServesAll state.view call → PermitsAll window call
   permits None is asks alike served = tt {0}
   permits (Some (Past variable back)) is asks alike served = (subst IsSome (sym alike) served, tt {0})
   permits (Some (Ready stream)) is asks alike served = (subst IsSome (sym (shows.messages state running stream asks)) served, tt {0})
@@ -71,13 +71,13 @@ noted_after window (Some (Send sent)) fresh = fresh
 
 -- ---- a run that is over after so many instructions, or goes on until its budget is spent
 
-pub record IsWhole (s : System) (code : Code) (its : AgentCode) (r : Action) (steps : ℕ) (last : RunState) : Type 0 where
+pub record IsWhole (s : System) (ways : Ways) (code : Code) (its : AgentCode) (r : Action) (steps : ℕ) (last : RunState) : Type 0 where
   pub within : steps ≤ r.budget
   pub ends : IsOver (run_code code its (begun_by its r) steps) last ⊎ ((steps ≡ r.budget) × (run_code code its (begun_by its r) steps ≡ Running last))
   pub counted : last.deeds.steps ≡ steps
-  pub on_the_way : (n : ℕ) → n < steps → Goes s (OfText s.unit) code its r n
+  pub on_the_way : (n : ℕ) → n < steps → Goes s ways code its r n
 
-module _ (s : System) (code : Code) (its : AgentCode) (r : Action) (steps : ℕ) (last : RunState) (whole : IsWhole s code its r steps last) where
+module _ (s : System) (ways : Ways) (code : Code) (its : AgentCode) (r : Action) (steps : ℕ) (last : RunState) (whole : IsWhole s ways code its r steps last) where
   abbrev run : ℕ → Run
   run n = run_code code its (begun_by its r) n
 
@@ -104,14 +104,14 @@ module _ (s : System) (code : Code) (its : AgentCode) (r : Action) (steps : ℕ)
 
   -- the next instruction of a run that goes on
   module _ (n : ℕ) (left : n < r.budget) (t : RunState) (running : run n ≡ Running t) where
-    goes : Goes s (OfText s.unit) code its r n
+    goes : Goes s ways code its r n
     goes = whole.on_the_way n (early n left t running)
 
     same : goes.state ≡ t
     same = same_state goes.state t (sym goes.running ∙ running)
 
-    pub asks : MayAsk (OfText s.unit) s.unit r.agent r.point (call_of code t.machine)
-    asks = subst (λ (t : RunState). MayAsk (OfText s.unit) s.unit r.agent r.point (call_of code t.machine)) same goes.asks
+    pub asks : MayAsk ways s.unit r.agent r.point (call_of code t.machine)
+    asks = subst (λ (t : RunState). MayAsk ways s.unit r.agent r.point (call_of code t.machine)) same goes.asks
 
     pub served : ServesAll t.view (call_of code t.machine)
     served = subst (λ (t : RunState). ServesAll t.view (call_of code t.machine)) same goes.served

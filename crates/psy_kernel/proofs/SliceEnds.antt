@@ -68,7 +68,7 @@ module _ (k : Inside) (is : KernelStands k) (p : Progress) (e : progress_of k �
       by : (cycles : ℕ) → k.cycles < cycles → cycles ≤ dates_done k.shared.date * k.plan.unit.quantum → (t : ℕ) → cycles ≡ t * k.plan.unit.quantum → stage_of (record (progress_of k) { cycles = cycles }) ≡ DateDue t
       by cycles above high t filled_is =
           let w = inside_of k is due_in in
-          filled (progress_of k) w.0 w.1 is.plan.compiled.text.bare.quantum.0 cycles above (subst (λ dates. cycles ≤ dates * k.plan.unit.quantum) w.1.0 high) t filled_is
+          filled (progress_of k) w.0 w.1 is.plan.fits.bare.quantum.0 cycles above (subst (λ dates. cycles ≤ dates * k.plan.unit.quantum) w.1.0 high) t filled_is
 
   -- and else the next cycle is.
   pub goes_on : (cycles : ℕ) → p.cycles < cycles → cycles ≤ p.dates * p.plan.unit.quantum → ((t : ℕ) → cycles ≡ t * p.plan.unit.quantum → ⊥) → stage_of (record p { cycles = cycles }) ≡ CycleDue cycles
@@ -77,7 +77,7 @@ module _ (k : Inside) (is : KernelStands k) (p : Progress) (e : progress_of k �
       by : (cycles : ℕ) → k.cycles < cycles → cycles ≤ dates_done k.shared.date * k.plan.unit.quantum → ((t : ℕ) → cycles ≡ t * k.plan.unit.quantum → ⊥) → stage_of (record (progress_of k) { cycles = cycles }) ≡ CycleDue cycles
       by cycles above high none =
           let w = inside_of k is due_in in
-          not_filled (progress_of k) w.0 w.1 is.plan.compiled.text.bare.quantum.0 cycles above (subst (λ dates. cycles ≤ dates * k.plan.unit.quantum) w.1.0 high) (none (dates_done k.shared.date))
+          not_filled (progress_of k) w.0 w.1 is.plan.fits.bare.quantum.0 cycles above (subst (λ dates. cycles ≤ dates * k.plan.unit.quantum) w.1.0 high) (none (dates_done k.shared.date))
 
   -- the cycle before which nothing comes from outside: the next date's first one, or the next order's
   module _ (orders : List Order) (orders_are : orders ≡ k.script.orders) (date : ℕ) (date_is : date ≡ dates_done k.shared.date * k.plan.unit.quantum) (end : ℕ) (no_later : end ≤ date)

@@ -1,16 +1,15 @@
 -- A line of a message tells what a stream shows at a date.
-use Rattle.std.proofs.Common.{◌≡◌, ℕ, ◌+◌, ◌-◌, ◌<◌, ◌≤◌, ◌==◌, Bool, true, false, not, List, [], ◌∷◌, ◌++◌, map, filter, length, slice_get, Option, Some, refl, sym, ap, subst, ◌∙◌, arith}
+use Rattle.std.proofs.Common.{◌≡◌, ℕ, ◌+◌, ◌-◌, ◌<◌, ◌≤◌, ◌==◌, Bool, true, false, not, List, [], ◌∷◌, ◌++◌, map, filter, length, get_or, slice_get, Option, Some, refl, sym, ap, subst, ◌∙◌, arith}
 use Rattle.std.proofs.lemmas.List.{length-map}
 use Rattle.std.proofs.lemmas.List.Filters.{length-filter_both}
 use Rattle.psy_base.specs.declared.limits.TheConstants.{QUEUE}
 use Rattle.psy_base.specs.declared.message.Message.{Message}
+use Rattle.psy_base.specs.declared.sizes.Sizes.{Sizes}
 use Rattle.psy_log.specs.Forms.{message_line}
 use Rattle.psy_queue.specs.Order.{Queued}
 use Rattle.psy_history.specs.Actions.{System, stream_of}
 use Rattle.psy_history.specs.History.{history}
 use Rattle.psy_history.specs.Lines.{Event, Show}
-use Rattle.psy_meaning.specs.KnownWays.{OfText}
-use Rattle.psy_meaning.specs.QueueSizes.{IsQueueSize}
 use Rattle.psy_history.specs.Schedule.{Turn}
 use Rattle.psy_history.specs.Visible.{messages}
 use Rattle.psy_history.specs.Queues.{queue_of}
@@ -18,14 +17,14 @@ use Rattle.psy_dates.specs.declared.shared.Shared.{Shared}
 use Rattle.psy_dates.specs.Standing.{SharedStands}
 use Rattle.psy_kernel.specs.Standing.{told_from}
 use Rattle.psy_kernel.specs.Telling.{IsNextTold, IsShownBy, TellsMessage, places_of}
-use Rattle.psy_kernel.proofs.ShownMessages.{mapped_at, some_at}
+use Rattle.psy_kernel.proofs.ShownMessages.{mapped_at}
 use Rattle.psy_kernel.proofs.ToldStreams.{end_of, message_more, stream_over}
 
 -- The messages that become visible at a date
 abbrev pub of_date : ℕ → List Message → List Message
 of_date date = filter (λ (m : Message). m.visible == date)
 
-module _ (s : System) (turns : List (Option Turn)) (date : ℕ) (shared : Shared) (stands : SharedStands s turns (date + 1) shared) (stream : ℕ)
+module _ (s : System) (sizes : Sizes) (turns : List (Option Turn)) (date : ℕ) (shared : Shared) (stands : SharedStands s sizes turns (date + 1) shared) (stream : ℕ)
     (shows : of_date date (messages s (history s (date + 1)) stream) ≡ of_date date (queue_of s (date + 1) stream)) where
   abbrev event_of : Message → Event
   event_of m = Show stream m.value
@@ -37,12 +36,10 @@ module _ (s : System) (turns : List (Option Turn)) (date : ℕ) (shared : Shared
   fewer p ms = omega (arith, length-filter_both p (λ m. not (p m)) (λ m. refl) ms)
 
   -- A stream shows no more messages than a queue may have, and as many more as it held when the history began.
-  pub shown_few : (bound : (size : ℕ) → IsQueueSize s.unit (OfText s.unit) s.nexts stream size → size ≤ QUEUE → length (queue_of s (date + 1) stream) ≤ size + length (s.opening.messages stream)) → length (s.opening.messages stream) ≤ QUEUE → stream < length s.unit.streams
+  pub shown_few : (bound : length (queue_of s (date + 1) stream) ≤ get_or sizes.queues stream 0 + length (s.opening.messages stream)) → get_or sizes.queues stream 0 ≤ QUEUE → length (s.opening.messages stream) ≤ QUEUE → stream < length s.unit.streams
       → length (map event_of (of_date date (messages s (history s (date + 1)) stream))) ≤ 131072
-  shown_few bound few within =
-      let queue = some_at shared.queues.items stream (omega (arith, within, stands.queued)) in
-      let its = stands.queues stream queue.0 queue.1 in
-      omega (arith, length-map (of_date date (messages s (history s (date + 1)) stream)) event_of, ap length shows, fewer (λ m. m.visible == date) (queue_of s (date + 1) stream), bound its.places its.size its.small, its.small, few)
+  shown_few bound small few within =
+      omega (arith, length-map (of_date date (messages s (history s (date + 1)) stream)) event_of, ap length shows, fewer (λ m. m.visible == date) (queue_of s (date + 1) stream), bound, small, few)
 
   -- The queue of a stream tells what it shows.
   pub stream_told : (shown : ℕ) (old new : List ℕ) (result : Bool) (queue : Queued) (name : List ℕ) → slice_get shared.queues.items stream ≡ Some queue → name ≡ (stream_of s stream).name

@@ -34,7 +34,7 @@ have_all p script cycle = in_force_each p.plan.unit (range_with_len 0 (length p.
 pub supplied : (p : Progress) → IsPlan p.plan → IsScript p.plan.unit p.script → IsLawful (system p) → IsSupplied (system p) (order p) p.plan.until
 supplied p plan script lawful = record {
   lawful = lawful;
-  quantum = plan.compiled.text.bare.quantum.0;
+  quantum = plan.fits.bare.quantum.0;
   orders = have_all p script;
   graphs = plan.supplied.graphs;
   drawn = record { count = plan.supplied.drawn.count; each = plan.supplied.drawn.each };

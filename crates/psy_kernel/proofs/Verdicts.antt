@@ -18,7 +18,6 @@ use Rattle.psy_history.specs.Schedule.{work}
 use Rattle.psy_meaning.specs.Timing.{end_date}
 use Rattle.psy_tree.specs.declared.unit.VarDecl.{VarDecl}
 use Rattle.psy_history.specs.Regular.{Runs, begun_by}
-use Rattle.psy_meaning.specs.KnownWays.{OfText}
 use Rattle.psy_kernel.specs.declared.kernel.advance.Gone.TheVariants as gone
 use Rattle.psy_kernel.specs.Acting.{IsGone, IsOfCode, came_to}
 use Rattle.psy_kernel.proofs.PaidCycles.{more_stalled}
@@ -32,7 +31,7 @@ acted_over budget before (Running s) t over = absurd over
 acted_over budget before NoRun t over = absurd over
 
 module _ (s : System) (code : Code) (r : Action) (w : IsOfCode s code r) where
-  abbrev pub runs : Runs s (OfText s.unit) code r
+  abbrev pub runs : Runs s w.ways code r
   runs = w.runs
 
   abbrev pub its : AgentCode
@@ -50,8 +49,8 @@ module _ (s : System) (code : Code) (r : Action) (w : IsOfCode s code r) where
   pub of_code : slice_get code.agents r.agent ≡ Some its
   of_code = runs.of_code ∙ ap Some same_code
 
-  pub is_whole : IsWhole s code its r runs.steps runs.last
-  is_whole = subst (λ (c : AgentCode). IsWhole s code c r runs.steps runs.last) same_code (record { within = runs.within; ends = runs.ends; counted = runs.counted; on_the_way = runs.on_the_way })
+  pub is_whole : IsWhole s w.ways code its r runs.steps runs.last
+  is_whole = subst (λ (c : AgentCode). IsWhole s w.ways code c r runs.steps runs.last) same_code (record { within = runs.within; ends = runs.ends; counted = runs.counted; on_the_way = runs.on_the_way })
 
   -- ---- its cost and charge
 
@@ -79,7 +78,7 @@ module _ (s : System) (code : Code) (r : Action) (w : IsOfCode s code r) where
   pub less_charge : (had paid : ℕ) (t : RunState) → had ≤ r.budget → run_code code its start paid ≡ Running t → had ≤ cycle_of stalls r.number paid → had < r.charge
   less_charge had paid t most running up_to = elim is_whole.ends [
     | inl over ↦ (
-        let before = before_over s code its r runs.steps runs.last is_whole over paid t running in
+        let before = before_over s w.ways code its r runs.steps runs.last is_whole over paid t running in
         omega (arith, up_to, before, charge_is runs.steps (cost_over over), more_stalled r.number (paid + 1) runs.steps stalls (omega (arith, before))))
     | inr spent ↦ omega (arith, most, charge_is (r.budget + 1) (cost_spent spent.1))
   ]

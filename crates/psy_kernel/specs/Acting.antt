@@ -15,8 +15,8 @@ use Rattle.psy_history.specs.Actions.{Action, System, Done, Trapped, Overran, ch
 use Rattle.psy_history.specs.Executors.{Acted, acted_as, agent_code_at, machine_at}
 use Rattle.psy_meaning.specs.Kept.{Receives}
 use Rattle.psy_history.specs.Schedule.{work}
-use Rattle.psy_history.specs.Regular.{MayAsk, Runs, begun_by}
-use Rattle.psy_meaning.specs.KnownWays.{OfText}
+use Rattle.psy_history.specs.Regular.{Runs, begun_by}
+use Rattle.psy_meaning.specs.KnownWays.{Ways}
 use Rattle.psy_kernel.specs.declared.kernel.advance.Gone.{Gone}
 use Rattle.psy_kernel.specs.declared.kernel.advance.Gone.TheVariants as gone
 use Rattle.psy_kernel.specs.Seeing.{Sight, seen_by}
@@ -26,13 +26,14 @@ use Rattle.psy_kernel.specs.Standing.{HasDone, IsRunning, charge_after}
 abbrev pub came_to : Code → Action → Acted
 came_to code r = acted_as r.budget r.before (run_code code (agent_code_at code r.agent) (begun_by (agent_code_at code r.agent) r) r.budget)
 
--- The action is what its code came to.
+-- The action is what its code came to, and by some ways its code runs on within its budget.
 pub record IsOfCode (s : System) (code : Code) (r : Action) : Type 0 where
   pub deeds : r.deeds ≡ (came_to code r).deeds
   pub after : r.after ≡ (came_to code r).carried
   pub charge : r.charge ≡ charge_of s r.agent r.number r.deeds.steps
   pub verdict : r.verdict ≡ verdict_of (timing s r.agent) r.start r.budget r.charge (came_to code r).fate
-  pub runs : Runs s (OfText s.unit) code r
+  pub ways : Ways
+  pub runs : Runs s ways code r
 
 -- An action that had so many cycles, fewer than its work, with its charge and machine
 pub record InAction (s : System) (code : Code) (r : Action) (had : ℕ) (charge : Charged) (machine : AgentMachine) : Type 0 where
@@ -42,11 +43,11 @@ pub record InAction (s : System) (code : Code) (r : Action) (had : ℕ) (charge 
   pub charged : charge ≡ charge_after s r had
   pub running : IsRunning code r (charge_after s r had).paid machine
 
--- After so many paid instructions a window shows an action what it may look at as it saw it from the start, and of the streams that its
--- agent receives what it has left; it has the program's streams and clocks, and room for the send that comes next.
+-- After so many paid instructions a window shows an action what its next instruction looks at as the action saw it from the start, and of
+-- the streams that its agent receives what it has left; it has the program's streams and clocks, and room for the send that comes next.
 pub record ShowsAs (s : System) (code : Code) (r : Action) (paid : ℕ) (window : Window) : Type 0 where
-  pub pasts : (variable back : ℕ) → MayAsk (OfText s.unit) s.unit r.agent r.point (Some (Past variable back))
-      → past_of window.view variable back ≡ past_of r.view variable back
+  pub pasts : (state : RunState) → run_code code (agent_code_at code r.agent) (begun_by (agent_code_at code r.agent) r) paid ≡ Running state
+      → (variable back : ℕ) → call_of code state.machine ≡ Some (Past variable back) → past_of window.view variable back ≡ past_of r.view variable back
   pub messages : (state : RunState) → run_code code (agent_code_at code r.agent) (begun_by (agent_code_at code r.agent) r) paid ≡ Running state
       → (stream : ℕ) → Receives s.unit r.agent stream → messages_of window.view stream ≡ messages_of state.view stream
   pub streams : window.streams ≡ length s.unit.streams

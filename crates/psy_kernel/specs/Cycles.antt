@@ -3,6 +3,7 @@ use Rattle.std.specs.Prelude.{◌≡◌, ℕ, ◌+◌, ◌-◌, ◌*◌, ◌^◌
 use Rattle.std.specs.Prelude.{Some, None, slice_get, get_or, ⊤, ℤ}
 use Rattle.std.specs.List.{All}
 use Rattle.psy_base.specs.declared.limits.TheConstants.{ADVANCE, QUANTUM}
+use Rattle.psy_base.specs.declared.sizes.Sizes.{Sizes}
 use Rattle.psy_clock.specs.Dates.{IsClock}
 use Rattle.psy_budget.specs.declared.charge.Stall.{Stall}
 use Rattle.psy_budget.specs.Charges.{Charged}
@@ -12,18 +13,15 @@ use Rattle.psy_queue.specs.Order.{Queued}
 use Rattle.psy_dates.specs.declared.plan.Plan.{Plan}
 use Rattle.psy_dates.specs.declared.seat.Seat.{Seat}
 use Rattle.psy_dates.specs.Outboxes.{Outboxed}
-use Rattle.psy_dates.specs.Plans.{IsPlan, opened_of}
+use Rattle.psy_dates.specs.Plans.{IsPlan, IsSoundFor, opened_of}
 use Rattle.psy_dates.specs.Standing.{KeepsCopy, KeepsSends, KeepsTakes, QueueStands, RingStands, SeatStands}
 use Rattle.psy_history.specs.Compiled.{AreInputs}
 use Rattle.psy_history.specs.Rings.{age_at}
 use Rattle.psy_history.specs.Scheduled.{turns_of}
 use Rattle.psy_machine.specs.Stepping.{AgentMachine}
 use Rattle.psy_history.specs.Actions.{Action, Opening, System, Done, stream_of, timing, variable_of}
-use Rattle.psy_history.specs.Openings.{IsSound}
-use Rattle.psy_meaning.specs.KnownWays.{OfText}
-use Rattle.psy_base.specs.Extremes.{IsGreatest, greater, lesser}
+use Rattle.psy_base.specs.Extremes.{greater, lesser}
 use Rattle.psy_history.specs.History.{history}
-use Rattle.psy_meaning.specs.QueueSizes.{HasSendsTo}
 use Rattle.psy_history.specs.Schedule.{Turn, is_pending, turn_of, units}
 use Rattle.psy_history.specs.Summary.{reach}
 use Rattle.psy_meaning.specs.Timing.{Timing, clock_at, end_date, point_at}
@@ -110,22 +108,22 @@ abbrev pub IsNear : System → ℕ → ℕ → Option (ℕ × ℕ) → Type 0
 IsNear s start date None = ⊤
 IsNear s start date (Some (variable, back)) = (variable < length s.unit.variables) × (age_at s variable back start date < 2 ^ 32)
 
--- By variable, the rings stand for the history of the first so many dates.
-abbrev pub AreRingsOf : System → ℕ → List (List ℤ) → Type 0
-AreRingsOf s dates rings = (length rings ≡ length s.unit.variables)
-    × ((variable : ℕ) (ring : List ℤ) → slice_get rings variable ≡ Some ring → RingStands s dates variable ring)
+-- By variable, the rings have these sizes and stand for the history of the first so many dates.
+abbrev pub AreRingsOf : System → Sizes → ℕ → List (List ℤ) → Type 0
+AreRingsOf s sizes dates rings = (length rings ≡ length s.unit.variables)
+    × ((variable : ℕ) (ring : List ℤ) → slice_get rings variable ≡ Some ring → RingStands s sizes dates variable ring)
 
--- By stream, the queues stand for the history of the first so many dates.
-abbrev pub AreQueuesOf : System → ℕ → List Queued → Type 0
-AreQueuesOf s dates queues = (length queues ≡ length s.unit.streams)
-    × ((stream : ℕ) (queue : Queued) → slice_get queues stream ≡ Some queue → QueueStands s dates stream queue)
+-- By stream, the queues have these sizes and stand for the history of the first so many dates.
+abbrev pub AreQueuesOf : System → Sizes → ℕ → List Queued → Type 0
+AreQueuesOf s sizes dates queues = (length queues ≡ length s.unit.streams)
+    × ((stream : ℕ) (queue : Queued) → slice_get queues stream ≡ Some queue → QueueStands s sizes dates stream queue)
 
--- What the action that gets the next cycle sees by the rings and the queues, once it has sent and taken so much, and how far back it looks
--- with that cycle, behind the last of so many dates
-pub record LooksBack (s : System) (code : Code) (turns : List (Option Turn)) (date : ℕ) (r : Action) : Type 0 where
-  pub acts : (rings : List (List ℤ)) (queues : List Queued) (taken : List ℕ) (outbox : Outboxed) → AreRingsOf s (date + 1) rings
-      → AreQueuesOf s (date + 1) queues
-      → length taken ≡ length s.unit.streams → IsGreatest (HasSendsTo s.unit (OfText s.unit) s.nexts r.agent) outbox.size
+-- What the action that gets the next cycle sees by rings, queues and an outbox of these sizes, once it has sent and taken so much, and how
+-- far back it looks with that cycle, behind the last of so many dates
+pub record LooksBack (s : System) (sizes : Sizes) (code : Code) (turns : List (Option Turn)) (date : ℕ) (r : Action) : Type 0 where
+  pub acts : (rings : List (List ℤ)) (queues : List Queued) (taken : List ℕ) (outbox : Outboxed) → AreRingsOf s sizes (date + 1) rings
+      → AreQueuesOf s sizes (date + 1) queues
+      → length taken ≡ length s.unit.streams → outbox.size ≡ get_or sizes.outboxes r.agent 0
       → HasDone s code r (charge_after s r (units r.agent r.number turns)).paid outbox.sends taken
       → ActsIn s code r (units r.agent r.number turns) (sight_in s.unit rings queues r.agent r.start date) taken outbox
   pub near : (look : Option (ℕ × ℕ)) → IsLookIn s code r (units r.agent r.number turns) look → IsNear s r.start date look
@@ -143,7 +141,7 @@ pub record IsCycleOf (plan : Plan) (opening : Opening) (inputs : List (List ℤ)
   pub of_plan : IsPlan plan
   pub of_inputs : AreInputs plan.unit inputs
   pub of_script : IsScript plan.unit script
-  pub sound : IsSound (opened_of plan opening inputs (stalls_of script)) (OfText plan.unit) plan.code
+  pub sound : IsSoundFor plan opening inputs (stalls_of script)
   pub before : date < plan.until
   pub most : plan.until ≤ 4294967295
   pub low : date * plan.unit.quantum ≤ cycle

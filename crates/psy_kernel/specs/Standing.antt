@@ -13,20 +13,18 @@ use Rattle.psy_history.specs.Executors.{agent_code_at, machine_at}
 use Rattle.psy_history.specs.History.{history}
 use Rattle.psy_history.specs.Lines.{Event, publications, shows, stops_of}
 use Rattle.psy_history.specs.Schedule.{Turn, is_pending, units}
-use Rattle.psy_history.specs.Openings.{IsSound}
 use Rattle.psy_history.specs.Summary.{due_by, due_count, least_slack, most_held, reach}
-use Rattle.psy_meaning.specs.KnownWays.{OfText}
 use Rattle.psy_history.specs.Compiled.{AreInputs}
 use Rattle.psy_history.specs.Regular.{begun_by}
 use Rattle.psy_history.specs.Scheduled.{turns_of}
 use Rattle.psy_dates.specs.Outboxes.{Outboxed}
-use Rattle.psy_dates.specs.Plans.{IsPlan}
+use Rattle.psy_dates.specs.Plans.{IsPlan, IsSoundFor}
 use Rattle.psy_dates.specs.Standing.{SharedStands, dates_done}
 use Rattle.psy_kernel.specs.declared.kernel.Figure.{Figure}
 use Rattle.psy_kernel.specs.declared.kernel.Kernel.TheInside.{Inside}
 use Rattle.psy_history.specs.declared.told.Order.{Order}
 use Rattle.psy_kernel.specs.Progress.{Progress, beginning, order, system}
-use Rattle.psy_history.specs.Scripts.{IsScript}
+use Rattle.psy_history.specs.Scripts.{IsScript, stalls_of}
 
 -- How far the run is
 abbrev pub progress_of : Inside → Progress
@@ -162,10 +160,11 @@ pub record KernelStands (k : Inside) : Type 0 where
   pub inputs : AreInputs k.plan.unit k.shared.inputs.lists
   pub script : IsScript k.plan.unit k.script
   -- it begins soundly, with what was done before
-  pub sound : IsSound (system (progress_of k)) (OfText k.plan.unit) k.plan.code
+  pub sound : IsSoundFor k.plan (beginning (progress_of k)) k.shared.inputs.lists (stalls_of k.script)
   pub behind : (beginning (progress_of k)).dates ≤ dates_done k.shared.date
   pub in_tick : InTick k.plan.unit.quantum k.plan.until (dates_done k.shared.date) k.cycles
-  pub shared : SharedStands (system (progress_of k)) (turns_of (system (progress_of k)) (order (progress_of k)) k.cycles) (dates_done k.shared.date) k.shared
+  pub shared : SharedStands (system (progress_of k)) k.plan.sizes (turns_of (system (progress_of k)) (order (progress_of k)) k.cycles)
+      (dates_done k.shared.date) k.shared
   pub machined : length k.machines.items ≡ length k.plan.unit.agents
   pub charges : length k.charges.items ≡ length k.plan.unit.agents
   pub reaching : length k.reaches.items ≡ length k.plan.unit.variables

@@ -1,9 +1,8 @@
 -- Many cycles in a row that go to one action: what they leave, and how far back rings are reached for with them.
-use Rattle.std.specs.Prelude.{◌≡◌, ℕ, zero, suc, ◌+◌, ◌-◌, ◌<◌, ◌≤◌, ◌==◌, true, if◌then◌else◌, List, ◌∷◌, length, Option, Some, ℤ}
+use Rattle.std.specs.Prelude.{◌≡◌, ℕ, zero, suc, ◌+◌, ◌-◌, ◌<◌, ◌≤◌, ◌==◌, true, if◌then◌else◌, List, ◌∷◌, length, get_or, Option, Some, ℤ}
 use Rattle.psy_budget.specs.Charges.{Charged, tick_of}
 use Rattle.psy_budget.specs.declared.charge.Stall.{Stall}
 use Rattle.psy_budget.specs.declared.charge.Tick.TheVariants as tick
-use Rattle.psy_base.specs.Extremes.{IsGreatest}
 use Rattle.psy_code.specs.declared.code.Code.{Code}
 use Rattle.psy_code.specs.declared.look.Sent.{Sent}
 use Rattle.psy_dates.specs.declared.plan.Plan.{Plan}
@@ -15,8 +14,6 @@ use Rattle.psy_history.specs.Schedule.{Turn, is_pending, turn_of, work}
 use Rattle.psy_machine.specs.declared.machine.Step.{Step}
 use Rattle.psy_machine.specs.declared.machine.Step.TheVariants as step
 use Rattle.psy_machine.specs.Stepping.{AgentMachine}
-use Rattle.psy_meaning.specs.KnownWays.{OfText}
-use Rattle.psy_meaning.specs.QueueSizes.{HasSendsTo}
 use Rattle.psy_queue.specs.Order.{Queued}
 use Rattle.psy_kernel.specs.declared.kernel.Figure.{Figure}
 use Rattle.psy_kernel.specs.declared.kernel.advance.Gone.{Gone}
@@ -90,9 +87,9 @@ pub record MayLast (plan : Plan) (opening : Opening) (inputs : List (List ℤ)) 
     (seat : Seat) (ended : List ℤ) (rings : List (List ℤ)) (queues : List Queued) (taken : List ℕ) (outbox : Outboxed) : Type 0 where
   pub given : IsGiven plan opening inputs stalls turns date cycle agent r before charge machine waits figure seat ended
       (sight_in plan.unit rings queues agent seat.start date) taken outbox
-  pub ringed : AreRingsOf (opened_of plan opening inputs stalls) (date + 1) rings
-  pub queued : AreQueuesOf (opened_of plan opening inputs stalls) (date + 1) queues
+  pub ringed : AreRingsOf (opened_of plan opening inputs stalls) plan.sizes (date + 1) rings
+  pub queued : AreQueuesOf (opened_of plan opening inputs stalls) plan.sizes (date + 1) queues
   pub counted : length taken ≡ length plan.unit.streams
-  pub sized : IsGreatest (HasSendsTo plan.unit (OfText plan.unit) plan.nexts r.agent) outbox.size
+  pub sized : outbox.size ≡ get_or plan.sizes.outboxes r.agent 0
   pub looks : (k : ℕ) → k < most → is_pending (given_to (turn_of (Some r)) k turns) r ≡ true
-      → LooksBack (opened_of plan opening inputs stalls) plan.code (given_to (turn_of (Some r)) k turns) date r
+      → LooksBack (opened_of plan opening inputs stalls) plan.sizes plan.code (given_to (turn_of (Some r)) k turns) date r

@@ -10,15 +10,13 @@ use Rattle.psy_tree.specs.declared.unit.Unit.{Unit as Whole}
 use Rattle.psy_tree.specs.declared.unit.VarDecl.{VarDecl}
 use Rattle.psy_budget.specs.declared.charge.Stall.{Stall}
 use Rattle.psy_history.specs.Actions.{Opening, System}
-use Rattle.psy_history.specs.Openings.{IsSound}
 use Rattle.psy_history.specs.Schedule.{Turn}
-use Rattle.psy_meaning.specs.KnownWays.{OfText}
 use Rattle.psy_tree.specs.Parts.{agent_at, variable_at, stream_at}
 use Rattle.psy_history.specs.History.{history}
 use Rattle.psy_history.specs.Lines.{Event, is_date, publications, shows, stops_of}
 use Rattle.psy_dates.specs.declared.plan.Plan.{Plan}
 use Rattle.psy_dates.specs.declared.shared.Shared.{Shared}
-use Rattle.psy_dates.specs.Plans.{opened_of}
+use Rattle.psy_dates.specs.Plans.{IsSoundFor, opened_of}
 use Rattle.psy_dates.specs.Standing.{SharedStands}
 use Rattle.psy_dates.specs.declared.seat.Phase.TheVariants as phase
 use Rattle.psy_dates.specs.declared.seat.Seat.{Seat}
@@ -31,9 +29,9 @@ use Rattle.psy_kernel.specs.Texts.{event_line}
 
 -- What is shared stands for a history of a plan that begins soundly, behind a date that wasn't done before.
 pub record StandsBehind (plan : Plan) (opening : Opening) (stalls : ℕ → List Stall) (turns : List (Option Turn)) (date : ℕ) (shared : Shared) : Type 0 where
-  pub sound : IsSound (opened_of plan opening shared.inputs.lists stalls) (OfText plan.unit) plan.code
+  pub sound : IsSoundFor plan opening shared.inputs.lists stalls
   pub later : opening.dates ≤ date
-  pub stands : SharedStands (opened_of plan opening shared.inputs.lists stalls) turns (date + 1) shared
+  pub stands : SharedStands (opened_of plan opening shared.inputs.lists stalls) plan.sizes turns (date + 1) shared
 
 -- The line of an agent's stop, by its trap; by an overrun where there is none
 abbrev pub stop_line : ℕ → List ℕ → Option Trap → List ℕ

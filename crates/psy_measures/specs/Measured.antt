@@ -1,9 +1,8 @@
 -- What is measured of a program before it runs, and why it can't be.
-use Rattle.std.specs.Prelude.{◌≡◌, ℕ, ◌+◌, ◌*◌, ◌^◌, ◌<◌, ◌≤◌, List, length, slice_get, slice_index, Some}
-use Rattle.std.specs.List.{All, Any}
-use Rattle.psy_base.specs.declared.limits.TheConstants.{WINDOW_CELLS}
+use Rattle.std.specs.Prelude.{◌≡◌, ℕ, ◌^◌, ◌<◌, ◌≤◌, List}
+use Rattle.std.specs.List.{Any}
 use Rattle.psy_base.specs.declared.sizes.Sizes.{Sizes}
-use Rattle.psy_base.specs.Paths.{FitsDueLast, IsGreatestWeight}
+use Rattle.psy_demand.specs.Criterion.{AreEach, AreWeights, PassesCells}
 use Rattle.psy_flow.specs.Costs.{AreAllCosts}
 use Rattle.psy_graph.specs.declared.fault.GraphFault.TheVariants as fault
 use Rattle.psy_graph.specs.declared.graph.Graph.{Graph}
@@ -18,31 +17,15 @@ use Rattle.psy_sizes.specs.Faults.{IsCause as IsSizeCause}
 use Rattle.psy_source.specs.declared.refusal.Refusal.{Refusal}
 use Rattle.psy_source.specs.declared.refusal.Refusal.TheVariants.{Nodes, Edges, Ring, Queue, Cells}
 use Rattle.psy_tree.specs.declared.unit.Unit.{Unit as Whole}
-use Rattle.psy_window.specs.Windows.{IsEdge}
 use Rattle.psy_measures.specs.declared.measures.Measures.{Measures}
 
 -- ---- what is measured
-
--- A graph whose edges lead from node to node
-abbrev pub IsDrawn : Graph → Type 0
-IsDrawn graph = All (IsEdge (length graph.nodes)) graph.edges
-
--- Each graph has one of these things.
-pub record AreEach {X : Type 0} (Is : Graph → X → Type 0) (graphs : List Graph) (things : List X) : Type 0 where
-  pub count : length things ≡ length graphs
-  pub each : (number : ℕ) (graph : Graph) (thing : X) → slice_get graphs number ≡ Some graph → slice_get things number ≡ Some thing → Is graph thing
 
 -- The line above the demand of a graph's agent, with numbers of some size
 pub record IsLine (graph : Graph) (line : Rate) : Type 0 where
   pub its : IsRateOf graph.edges line
   pub rate : line.rate ≤ 2 ^ 40
   pub intercept : line.intercept < 2 ^ 50
-
--- The list has, by length up to this one, the demand of the graph's agent: the greatest budget of a path whose last action is due within the length.
-pub record AreWeights (top : ℕ) (graph : Graph) (list : List ℕ) : Type 0 where
-  pub count : length list ≡ top + 1
-  pub greatest : (within : ℕ) → within < top + 1 → IsGreatestWeight graph.edges (FitsDueLast within) (slice_index list within)
-  pub small : All (λ weight. weight < 2 ^ 50) list
 
 -- The sizes of a program's buffers, by the points that follow each point
 abbrev pub AreSizesOf : Whole → Sizes → Type 0
@@ -72,10 +55,7 @@ IsUnsized unit Cells = (stream : ℕ) × IsSizeCause unit (size.Cells stream)
 IsUnsized unit Queue = (stream : ℕ) × IsSizeCause unit (size.LargeQueue stream)
 IsUnsized unit _ = ⊥
 
--- The table for a list would have more cells than it may: a graph's nodes times the lengths from 0 on.
-abbrev pub PassesCells : ℕ → Graph → Type 0
-PassesCells top graph = WINDOW_CELLS < length graph.nodes * (top + 1)
-
+-- The table for a list would have more cells than it may.
 abbrev pub IsUnlisted : ℕ → List Graph → Refusal → Type 0
 IsUnlisted top graphs refusal = (refusal ≡ Cells) × Any (PassesCells top) graphs
 

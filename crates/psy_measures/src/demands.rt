@@ -1,16 +1,18 @@
 //! The demands of a program's agents, by their graphs: the line above each, and its list by lengths.
-ghost use Rattle.std.specs.Prelude.{◌≡◌, IfErr, IfOk};
-ghost use Rattle.std.specs.List.{All, Any};
+ghost use Rattle.std.specs.Prelude.{IfErr, IfOk};
+ghost use Rattle.std.specs.List.{All};
+ghost use Rattle.psy_demand.specs.Criterion.{AreEach, AreWeights, IsDrawn};
 ghost use Rattle.psy_graph.specs.Graphs.{IsSmall};
 ghost use Rattle.psy_source.specs.Programs.{Stops};
-ghost use Rattle.psy_measures.specs.Measured.{AreEach, AreWeights, IsDrawn, IsLine, IsUnlisted, PassesCells};
+ghost use Rattle.psy_measures.specs.Measured.{IsLine, IsUnlisted};
 
 use crate::lists::push;
 use psy_base::{Items, Memory};
+use psy_demand::weights_of_all;
 use psy_graph::Graph;
 use psy_rate::{Rate, certify};
 use psy_source::{Refusal, Stop};
-use psy_window::{Span, WindowFault, weights};
+use psy_window::WindowFault;
 use std::alloc::Global;
 
 // The line above the demand of an agent.
@@ -40,36 +42,16 @@ pub fn lines_of(alloc: Global, graphs: &Items<Graph>) -> Result<Items<Rate>, Mem
     Ok(lines)
 }
 
-// The greatest budgets of an agent's paths whose last action is due within each length up to this one.
-fn weights_of(alloc: Global, graph: &Graph, top: u32) -> Result<Items<u64>, Stop>
-    requires edges { IsDrawn graph.now }
-    requires few { IsSmall graph.now }
-    ensures list { IfOk result (AreWeights top graph.now) }
-    ensures refused { IfErr result (Stops (λ refusal. (refusal ≡ Refusal.Cells) × PassesCells top graph.now)) }
-{
-    let nodes = graph.nodes.len() as u32;
-    match weights(alloc, graph.edges.as_slice(), nodes, Span::DueLast, top) {
-        Ok(weights) => Ok(weights),
-        Err(WindowFault::Cells) => Err(Stop::Refused(Refusal::Cells)),
-        Err(WindowFault::Memory) => Err(Stop::Memory),
-    }
-}
-
-/// The same of all agents.
-pub fn weights_of_all(
-    alloc: Global,
-    graphs: &Items<Graph>,
-    top: u32,
-) -> Result<Items<Items<u64>>, Stop>
+/// The demands of all agents over each length from 0 to `top`.
+pub fn lists_of(alloc: Global, graphs: &Items<Graph>, top: u32) -> Result<Items<Items<u64>>, Stop>
     requires edges { All IsDrawn graphs.now }
     requires few { All IsSmall graphs.now }
     ensures lists { IfOk result (AreEach (AreWeights top) graphs.now) }
     ensures refused { IfErr result (Stops (IsUnlisted top graphs.now)) }
 {
-    let mut lists = Items::new(alloc);
-    'graphs: for graph in graphs.as_slice() {
-        let list = weights_of(alloc, graph, top)?;
-        push(&mut lists, list)?;
+    match weights_of_all(alloc, graphs.as_slice(), top) {
+        Ok(lists) => Ok(lists),
+        Err(WindowFault::Cells) => Err(Stop::Refused(Refusal::Cells)),
+        Err(WindowFault::Memory) => Err(Stop::Memory),
     }
-    Ok(lists)
 }

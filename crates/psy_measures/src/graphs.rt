@@ -1,10 +1,11 @@
 //! The action graphs of a program, and the sizes of its buffers by them.
 ghost use Rattle.std.specs.Prelude.{◌≡◌, ℕ, List, IfErr, IfOk};
 ghost use Rattle.std.specs.List.{All};
+ghost use Rattle.psy_demand.specs.Criterion.{IsDrawn};
 ghost use Rattle.psy_graph.specs.Graphs.{AreGraphs, IsSmall};
 ghost use Rattle.psy_meaning.specs.Units.{IsOfText};
 ghost use Rattle.psy_source.specs.Programs.{Stops};
-ghost use Rattle.psy_measures.specs.Measured.{AreSizesOf, IsDrawn, IsUndrawn, IsUnsized};
+ghost use Rattle.psy_measures.specs.Measured.{AreSizesOf, IsUndrawn, IsUnsized};
 
 use psy_base::{Items, Sizes};
 use psy_graph::{Graph, GraphFault, build};

@@ -6,7 +6,7 @@ ghost use Rattle.psy_meaning.specs.Units.{IsOfText};
 ghost use Rattle.psy_source.specs.Programs.{Stops};
 ghost use Rattle.psy_measures.specs.Measured.{AreMeasures, IsUnmeasured};
 
-use crate::demands::{lines_of, weights_of_all};
+use crate::demands::{lines_of, lists_of};
 use crate::graphs::{graphs, sizes};
 use psy_base::{Items, Sizes};
 use psy_flow::worsts;
@@ -42,7 +42,7 @@ pub fn measure(alloc: Global, unit: &Unit, top: u32) -> Result<Measures, Stop>
     let sizes = sizes(alloc, unit, &graphs)?;
     let costs = worsts(alloc, unit)?;
     let lines = lines_of(alloc, &graphs)?;
-    let lists = weights_of_all(alloc, &graphs, top)?;
+    let lists = lists_of(alloc, &graphs, top)?;
     Ok(Measures {
         costs,
         sizes,

@@ -2,7 +2,6 @@
 use Rattle.std.proofs.Common.{◌≡◌, ◌∙◌, refl, sym, subst, ℕ, ◌*◌, ◌≤◌, List, length, Option, None, Some, ℤ}
 use Rattle.psy_base.specs.declared.limits.TheConstants.{FILE_BYTES, RUN}
 use Rattle.psy_dates.specs.declared.plan.Plan.{Plan}
-use Rattle.psy_dates.specs.Plans.{IsPlan}
 use Rattle.psy_door.specs.Files.{Files, bytes_under}
 use Rattle.psy_gen.specs.Emission.{code_of}
 use Rattle.psy_graph.specs.Graphs.{IsTimingOf}
@@ -21,6 +20,7 @@ use Rattle.psy_run.specs.Answer.{Answers, refused, served, Supply, compiling, su
 use Rattle.psy_run.specs.Asked.{Asks, Command, Run, Check, Graph, Make, Trial}
 use Rattle.psy_run.specs.Bounds.{IsBounded, IsBorneOut, KeepsBounds}
 use Rattle.psy_run.specs.Courses.{in_row}
+use Rattle.psy_run.specs.Planned.{IsStatedPlan}
 use Rattle.psy_run.specs.Services.{Service, Ran, meaning_of, no_inputs, no_script}
 use Rattle.psy_run.proofs.AskingForms.{one_asking}
 use Rattle.psy_run.proofs.Courses.{gives_then}
@@ -51,7 +51,7 @@ module _ (hold : RunsHold) where
   supplied_bounded unit until supply lists said text supplied are script =
       let plan : Plan = record { unit = unit; code = code_of unit; nexts = supply.nexts; sizes = supply.sizes; until = until } in
       let is = supply_is hold.met unit until supply text supplied in
-      let planned : IsPlan plan = record {
+      let planned : IsStatedPlan plan = record {
         compiled = record { text = text; alike = hold.alike unit text; followed = is.followed };
         buffers = is.sized;
         supplied = is_feasible_for hold.timing plan is.followed supply is;

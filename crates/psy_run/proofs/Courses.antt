@@ -25,6 +25,16 @@ halts_later c f failed before after x _ gives (halts_refused refusal stops) = ha
 halts_later c f failed before after x _ gives (halts_unread file reads rose) = halts_unread file (inr (x, gives, reads)) rose
 halts_later c f failed before after x _ gives halts_memory = halts_memory
 
+-- Where two in a row halt, the first does, or the second with what the first gives.
+pub halts_apart : {X Y : Type 0} (c : Course X) (f : X → Course Y) (failed : List ℕ) (before after : ℕ) (stop : Stop) → Halts (in_row c f) failed before after stop
+    → Halts c failed before after stop ⊎ ((x : X) × c.gives x × Halts (f x) failed before after stop)
+unfolding in_row
+halts_apart c f failed before after _ (halts_refused refusal (inl stops)) = inl (halts_refused refusal stops)
+halts_apart c f failed before after _ (halts_refused refusal (inr (x, gives, stops))) = inr (x, gives, halts_refused refusal stops)
+halts_apart c f failed before after _ (halts_unread file (inl reads) rose) = inl (halts_unread file reads rose)
+halts_apart c f failed before after _ (halts_unread file (inr (x, gives, reads)) rose) = inr (x, gives, halts_unread file reads rose)
+halts_apart c f failed before after _ halts_memory = inl halts_memory
+
 -- Want of memory, wherever it comes
 pub halts_for_memory : {X : Type 0} (c : Course X) (failed : List ℕ) (before after : ℕ) (stop : Stop) → stop ≡ Memory → Halts c failed before after stop
 halts_for_memory c failed before after stop is = subst (Halts c failed before after) (sym is) halts_memory

@@ -17,10 +17,10 @@ use Rattle.psy_history.specs.Likeness.{AreLike, IsLike}
 use Rattle.psy_history.specs.Regular.{IsLawful, IsRegular}
 use Rattle.psy_history.specs.Scheduled.{IsFinished, IsSupplied, turns_of}
 use Rattle.psy_dates.specs.declared.plan.Plan.{Plan}
-use Rattle.psy_dates.specs.Plans.{IsPlan}
 use Rattle.psy_history.specs.declared.told.Script.{Script}
 use Rattle.psy_history.specs.Scripts.{IsScript, order_of, stalls_of}
 use Rattle.psy_run.specs.Bounds.{KeepsBounds}
+use Rattle.psy_run.specs.Planned.{IsStatedPlan}
 use Rattle.psy_run.specs.Services.{meaning_of}
 use Rattle.psy_run.proofs.KeptOrders.{order_each}
 
@@ -59,7 +59,7 @@ module _ (s : System) (lawful : IsLawful s) (date agent : ℕ) (r : Action) wher
 
 -- ---- a run
 
-module _ (plan : Plan) (inputs : List (List ℤ)) (script : Script) (is : IsPlan plan) (its : IsScript plan.unit script) where
+module _ (plan : Plan) (inputs : List (List ℤ)) (script : Script) (is : IsStatedPlan plan) (its : IsScript plan.unit script) where
   -- the run by the plan's code
   abbrev by_code : System
   by_code = coded plan.unit plan.code plan.nexts (stalls_of script) inputs

@@ -5,6 +5,7 @@ mod AskingForms
 mod Courses
 mod CutLemmas
 mod Decisions
+mod FittingPlans
 mod GrowthLemmas
 mod KeptBounds
 mod KeptOrders

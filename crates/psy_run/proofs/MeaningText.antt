@@ -8,7 +8,7 @@ use Rattle.psy_tree.specs.declared.unit.Unit.{Unit as Whole}
 use Rattle.psy_base.specs.declared.sizes.Sizes.{Sizes}
 use Rattle.psy_dates.specs.declared.plan.Plan.{Plan}
 use Rattle.psy_dates.specs.Beginnings.{beginning_of}
-use Rattle.psy_dates.specs.Plans.{IsPlan, opened_of}
+use Rattle.psy_dates.specs.Plans.{opened_of}
 use Rattle.psy_history.specs.Compiled.{AreInputs, IsCompiled, coded, stated}
 use Rattle.psy_history.specs.Scheduled.{turns_of}
 use Rattle.psy_history.specs.declared.told.Script.{Script}
@@ -23,6 +23,7 @@ use Rattle.psy_history.specs.Lines.{events}
 use Rattle.psy_history.specs.Summary.{due_by, most_held, reach, slack}
 use Rattle.psy_run.specs.Bounds.{IsBounded, KeepsBounds}
 use Rattle.psy_run.specs.Outcome.{CanServe}
+use Rattle.psy_run.specs.Planned.{IsPlanned, IsStatedPlan}
 use Rattle.psy_run.specs.Runs.{ended}
 use Rattle.psy_run.specs.Services.{HasRun, Leaves, meaning_of, no_inputs, no_script, service_of}
 use Rattle.psy_run.specs.Services as service
@@ -99,7 +100,7 @@ module _ (unit : Whole) (code : Code) (nexts : List (List (List ℕ))) (stalls :
 -- ---- what is left
 
 -- The kernel of a run at its end
-has_run : (kernel : Progress) (inputs : List (List ℤ)) (script : Script) → IsPlan kernel.plan → kernel.inputs ≡ inputs → kernel.script ≡ script → kernel.opening ≡ None
+has_run : (kernel : Progress) (inputs : List (List ℤ)) (script : Script) → IsPlanned kernel.plan → kernel.inputs ≡ inputs → kernel.script ≡ script → kernel.opening ≡ None
     → HasRun kernel.plan.unit kernel.plan.nexts kernel.plan.sizes kernel.plan.until inputs script (ended kernel)
 has_run kernel inputs script plan are is whole = record {
   plan = plan;
@@ -142,7 +143,7 @@ pub served_text : Always AreAlike → (kernel : Progress) → CanServe (served.R
 served_text law kernel (is, plan, are, script) =
     ap (λ opening. run_text (opened_of kernel.plan (beginning_of kernel.plan opening) kernel.inputs (stalls_of kernel.script)) (order kernel) kernel.plan.sizes kernel.plan.until) (ap (λ (p : Progress). p.opening) is)
     ∙ same_text kernel.plan.unit kernel.plan.code kernel.plan.nexts (stalls_of kernel.script) kernel.inputs
-    (law kernel.plan.unit kernel.plan.code kernel.plan.nexts (stalls_of kernel.script) kernel.inputs plan.compiled are) (order kernel) kernel.plan.sizes kernel.plan.until
+    (law kernel.plan.unit kernel.plan.code kernel.plan.nexts (stalls_of kernel.script) kernel.inputs plan.stated.compiled are) (order kernel) kernel.plan.sizes kernel.plan.until
 
 -- And so does one that writes its summary alone
 pub tried_text : Always AreAlike → (kernel : Progress) → CanServe (served.Tried kernel)
@@ -152,7 +153,7 @@ tried_text law kernel (is, plan) =
     let inputs = ap (λ (p : Progress). p.inputs) is in
     let script = ap (λ (p : Progress). p.script) is in
     let opening = ap (λ (p : Progress). p.opening) is in
-    let alike = law unit kernel.plan.code kernel.plan.nexts (stalls_of no_script) (no_inputs unit) plan.compiled (are_no_inputs unit) in
+    let alike = law unit kernel.plan.code kernel.plan.nexts (stalls_of no_script) (no_inputs unit) plan.stated.compiled (are_no_inputs unit) in
     (λ i. text_of (summary_of (opened_of kernel.plan (beginning_of kernel.plan (opening i)) (inputs i) (stalls_of (script i))) (order_of unit (script i)) kernel.plan.sizes kernel.plan.until))
     ∙ ap text_of (same_summary unit kernel.plan.code kernel.plan.nexts (stalls_of no_script) (no_inputs unit) alike (order_of unit no_script) kernel.plan.sizes kernel.plan.until)
 
@@ -160,7 +161,7 @@ tried_text law kernel (is, plan) =
 
 -- Runs of a plan keep their bounds.
 abbrev pub Keeps : Type 0
-Keeps = (plan : Plan) (inputs : List (List ℤ)) (script : Script) → IsPlan plan → AreInputs plan.unit inputs → IsScript plan.unit script
+Keeps = (plan : Plan) (inputs : List (List ℤ)) (script : Script) → IsStatedPlan plan → AreInputs plan.unit inputs → IsScript plan.unit script
     → KeepsBounds (meaning_of plan.unit plan.nexts inputs script) (order_of plan.unit script) plan.sizes plan.until
 
 -- A script with nothing in it
@@ -174,8 +175,8 @@ is_no_script unit = record {
 
 -- What is served keeps its bounds
 pub is_bounded : Keeps → (done : Served) → CanServe done → IsBounded (service_of done)
-is_bounded keeps (served.Ran kernel) (is, plan, are, script) = keeps kernel.plan kernel.inputs kernel.script plan are script
+is_bounded keeps (served.Ran kernel) (is, plan, are, script) = keeps kernel.plan kernel.inputs kernel.script plan.stated are script
 is_bounded keeps (served.Checked unit sizes lines extent) can = tt
 is_bounded keeps (served.Drawn unit graphs costs) can = tt
 is_bounded keeps (served.Made text) can = tt
-is_bounded keeps (served.Tried kernel) (is, plan) = keeps kernel.plan (no_inputs kernel.plan.unit) no_script plan (are_no_inputs kernel.plan.unit) (is_no_script kernel.plan.unit)
+is_bounded keeps (served.Tried kernel) (is, plan) = keeps kernel.plan (no_inputs kernel.plan.unit) no_script plan.stated (are_no_inputs kernel.plan.unit) (is_no_script kernel.plan.unit)

@@ -5,6 +5,7 @@ use Rattle.std.proofs.lemmas.Option.{none-some, same_Some, slice_get_within}
 use Rattle.psy_base.specs.declared.edge.Edge.{Edge}
 use Rattle.psy_base.specs.declared.limits.TheConstants.{COST, FILE_BYTES, RUN}
 use Rattle.psy_base.specs.declared.sizes.Sizes.{Sizes}
+use Rattle.psy_demand.specs.Criterion.{HasCells, PassesCells, edges_of}
 use Rattle.psy_door.specs.Files.{Files, bytes_under}
 use Rattle.psy_tree.specs.declared.faults.LexKind.{LexKind}
 use Rattle.psy_tree.specs.declared.raw.Raw.{Raw}
@@ -49,7 +50,7 @@ use Rattle.psy_run.specs.declared.extent.Extent.{Extent}
 use Rattle.psy_run.specs.declared.extent.Extent.TheVariants.{Horizon, LastDate}
 use Rattle.psy_run.specs.Extents.{IsExtent}
 use Rattle.psy_run.specs.Courses.{step}
-use Rattle.psy_run.specs.Steps.{reading, lexing, parsing, resolving, graphing, sizing, costing, rating, extending, windowing, HasCells, PassesCells, demanding, edges_of, stating, directing, pacing}
+use Rattle.psy_run.specs.Steps.{reading, lexing, parsing, resolving, graphing, sizing, costing, rating, extending, windowing, demanding, stating, directing, pacing}
 use Rattle.psy_run.proofs.Courses.{IsOne, one_unless}
 use Rattle.psy_run.proofs.RefusalLemmas.{lexical_is, unparsed_is, unlawful_is, undrawn_by, undrawn_is, unsized_by, unsized_is, overloaded_is}
 

@@ -4,6 +4,7 @@ use Rattle.std.proofs.lemmas.List.{length-map}
 use Rattle.std.proofs.lemmas.Option.{slice_get_within, slice_get-get_or, get_or_from_slice_get}
 use Rattle.psy_dates.specs.declared.plan.Plan.{Plan}
 use Rattle.psy_dates.specs.Plans.{IsFeasibleFor, system_of}
+use Rattle.psy_demand.specs.Criterion.{edges_of}
 use Rattle.psy_graph.specs.declared.graph.Graph.{Graph}
 use Rattle.psy_graph.specs.Graphs.{AreGraphs, IsTimingOf, spot_of}
 use Rattle.psy_history.specs.Compiled.{AreEdgesOf, AreInputs}
@@ -15,7 +16,6 @@ use Rattle.psy_meaning.specs.Timing.{Timing, timing_of}
 use Rattle.psy_tree.specs.declared.unit.Unit.{Unit as Whole}
 use Rattle.psy_run.specs.Answer.{Supply}
 use Rattle.psy_run.specs.Services.{no_inputs}
-use Rattle.psy_run.specs.Steps.{edges_of}
 use Rattle.psy_run.proofs.RowLemmas.{there}
 use Rattle.psy_run.proofs.SupplyLemmas.{IsSupply, edges_at}
 

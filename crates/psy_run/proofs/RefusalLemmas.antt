@@ -22,7 +22,8 @@ use Rattle.psy_sizes.specs.declared.fault.SizeFault.TheVariants as size
 use Rattle.psy_sizes.specs.Faults.{IsFaultBy}
 use Rattle.psy_run.specs.declared.refusal.Refusal.{Refusal}
 use Rattle.psy_run.specs.declared.refusal.Refusal.TheVariants.{Words, Lexical, Syntax, Deep, Rule, Many, Nodes, Edges, Ring, Queue, Cells, Infeasible}
-use Rattle.psy_run.specs.Steps.{IsLexical, IsUnparsed, IsUnlawful, IsUndrawn, IsUnsized, IsOverloaded, edges_of}
+use Rattle.psy_demand.specs.Criterion.{edges_of}
+use Rattle.psy_run.specs.Steps.{IsLexical, IsUnparsed, IsUnlawful, IsUndrawn, IsUnsized, IsOverloaded}
 
 -- ---- the text of a program
 

@@ -6,6 +6,7 @@ use Rattle.psy_base.specs.declared.edge.Edge.{Edge}
 use Rattle.psy_base.specs.declared.limits.TheConstants.{COST, EDGES, FILE_BYTES, LINES, RUN, WINDOW_CELLS}
 use Rattle.psy_base.specs.declared.sizes.Sizes.{Sizes}
 use Rattle.psy_base.specs.Paths.{IsGreatestWeight}
+use Rattle.psy_demand.specs.Criterion.{HasCells, PassesCells, edges_of}
 use Rattle.psy_door.specs.Files.{Files, bytes_under}
 use Rattle.psy_tree.specs.declared.faults.LexKind.{LexKind}
 use Rattle.psy_tree.specs.declared.raw.Raw.{Raw}
@@ -52,7 +53,7 @@ use Rattle.psy_run.specs.declared.extent.Extent.TheVariants.{Horizon, LastDate}
 use Rattle.psy_rate.specs.declared.line.Rate.{Rate}
 use Rattle.psy_rate.specs.Horizons.{Covers, IsHorizonOf}
 use Rattle.psy_rate.specs.Lines.{IsRateOf, AreRates}
-use Rattle.psy_run.specs.Steps.{reading, lexing, parsing, resolving, graphing, IsUndrawn, IsUnsized, sizing, costing, rating, extending, windowing, HasCells, PassesCells, demanding, edges_of, stating, directing, pacing}
+use Rattle.psy_run.specs.Steps.{reading, lexing, parsing, resolving, graphing, IsUndrawn, IsUnsized, sizing, costing, rating, extending, windowing, demanding, stating, directing, pacing}
 use Rattle.psy_run.proofs.Courses.{IsSome, some_unless}
 use Rattle.psy_run.proofs.Decisions.{most_or_more, all_or_any, list_of}
 use Rattle.psy_run.proofs.OneStep.{IsUntold, TextsHold}

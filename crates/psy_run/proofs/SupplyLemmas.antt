@@ -1,15 +1,15 @@
--- What the steps on action graphs come to: the graphs, the lines, the lists of weights, the demand.
-use Rattle.std.proofs.Common.{◌≡◌, ◌∙◌, ◌⊎◌, inl, inr, refl, sym, subst, ℕ, zero, suc, ◌+◌, ◌*◌, ◌^◌, ◌<◌, ◌≤◌, List, [], ◌∷◌, length, get_or, slice_get, slice_index, Some, All, Any, arith, Result, Ok, Err}
-use Rattle.std.proofs.lemmas.List.{length-map}
+-- What the steps on action graphs come to: the graphs, the sizes, the lines, the demand.
+use Rattle.std.proofs.Common.{◌≡◌, ◌∙◌, ◌⊎◌, inl, inr, refl, sym, subst, ℕ, zero, suc, ◌+◌, ◌*◌, ◌^◌, ◌<◌, ◌≤◌, List, [], ◌∷◌, length, get_or, slice_get, Some, All, Any, arith, Result, Ok, Err}
+use Rattle.std.specs.Prelude.{◌↔◌}
+use Rattle.std.specs.Result.{IsErrOf}
 use Rattle.std.proofs.lemmas.List.Elements.{All-nil, All-cons, All-head}
 use Rattle.std.proofs.lemmas.Option.{slice_get-get_or, slice_get_within, get_or_from_slice_get}
 use Rattle.psy_base.specs.declared.edge.Edge.{Edge}
-use Rattle.psy_base.specs.declared.limits.TheConstants.{EDGES}
+use Rattle.psy_base.specs.declared.limits.TheConstants.{EDGES, WINDOW_CELLS}
 use Rattle.psy_base.specs.declared.sizes.Sizes.{Sizes}
 use Rattle.psy_base.specs.Paths.{FitsDueLast, IsGreatestWeight}
 use Rattle.psy_tree.specs.declared.unit.Unit.{Unit as Whole}
-use Rattle.psy_demand.specs.Demand.{DemandFits, IsVerdict}
-use Rattle.psy_demand.specs.declared.demand.Verdict.TheVariants as verdict
+use Rattle.psy_demand.specs.Criterion.{HasCells, PassesCells, edges_of}
 use Rattle.psy_graph.specs.declared.fault.GraphFault.{GraphFault}
 use Rattle.psy_graph.specs.declared.fault.GraphFault.TheVariants as fault
 use Rattle.psy_graph.specs.declared.graph.Graph.{Graph}
@@ -19,13 +19,15 @@ use Rattle.psy_meaning.specs.KnownWays.{OfText}
 use Rattle.psy_meaning.specs.Demand.{IsDemand, IsFeasible, IsOverload, Suffices}
 use Rattle.psy_meaning.specs.Units.{IsOfText}
 use Rattle.psy_meaning.specs.Flow.{AreAllNexts}
-use Rattle.psy_meaning.proofs.lemmas.Demands.{AreGreatest, feasible-is, overload-is, demand-some, feasible-or-overload, feasible-no-overload, overload-one}
+use Rattle.psy_meaning.proofs.lemmas.Demands.{demand-some, feasible-or-overload, feasible-no-overload, overload-one}
 use Rattle.psy_rate.specs.declared.line.Rate.{Rate}
 use Rattle.psy_rate.specs.Horizons.{Covers, IsHorizonOf, IsHorizon, AreFeasible, HaveDemands}
 use Rattle.psy_rate.specs.Lines.{AreRates, AreAll}
 use Rattle.psy_sizes.specs.declared.fault.SizeFault.{SizeFault}
 use Rattle.psy_sizes.specs.declared.fault.SizeFault.TheVariants as size
-use Rattle.psy_sizes.specs.Faults.{IsCause as IsSizeCause}
+use Rattle.psy_sizes.specs.Faults.{IsFaultBy}
+use Rattle.psy_window.specs.declared.fault.WindowFault.{WindowFault}
+use Rattle.psy_window.specs.declared.fault.WindowFault.TheVariants as window
 use Rattle.psy_window.specs.declared.span.Span.{Span}
 use Rattle.psy_window.specs.declared.span.Span.TheVariants.{DueLast}
 use Rattle.psy_window.specs.Windows.{IsEdge, Fits}
@@ -38,11 +40,20 @@ use Rattle.psy_run.specs.Answer.{Supply, supplying}
 use Rattle.psy_run.specs.Bounds.{IsMet}
 use Rattle.psy_run.specs.Courses.{in_row}
 use Rattle.psy_run.specs.Extents.{IsExtent, IsNearer, length_of as top_of}
-use Rattle.psy_run.specs.Outcome.{Halts, halts_refused, halts_memory}
-use Rattle.psy_run.specs.Steps.{graphing, sizing, windowing, demanding, edges_of, HasCells, PassesCells, IsUndrawn, IsUnsized}
-use Rattle.psy_run.specs.Tables.{AreAllWeights, IsLine, AreLines}
-use Rattle.psy_run.proofs.Courses.{gives_then, halts_first, halts_later}
+use Rattle.psy_run.specs.Outcome.{Halts}
+use Rattle.psy_run.specs.Steps.{graphing, sizing, windowing, demanding, IsUndrawn, IsUnsized}
+use Rattle.psy_run.specs.Supplies.{meeting}
+use Rattle.psy_run.specs.Tables.{IsLine, AreLines}
+use Rattle.psy_run.proofs.Courses.{halts_apart, halts_first, halts_later}
+use Rattle.psy_run.proofs.Decisions.{all_or_any, most_or_more}
 use Rattle.psy_run.proofs.RowLemmas.{there}
+
+-- ---- faults by ways
+
+-- A fault that has its cause by the lists of the ways has it by the statements.
+pub caused : {F : Type 0} (memory : F) (By Is : F → Type 0) → ((fault : F) → By fault → Is fault) → (fault : F) → (fault ≡ memory) ⊎ By fault → (fault ≡ memory) ⊎ Is fault
+caused memory By Is is fault (inl none) = inl none
+caused memory By Is is fault (inr cause) = inr (is fault cause)
 
 -- ---- graphs
 
@@ -55,19 +66,19 @@ undrawn_edges unit f agent is (inl memory) = let no : fault.Edges agent ≡ faul
 undrawn_edges unit f agent is (inr cause) = (agent, subst (IsCause unit) is cause)
 
 -- The ring that is too large
-pub unsized_ring : (unit : Whole) (f : SizeFault) (variable : ℕ) → f ≡ size.LargeRing variable → (f ≡ size.Memory) ⊎ IsSizeCause unit f → (nexts : List (List (List ℕ))) → AreAllNexts unit nexts → IsUnsized unit nexts Ring
-unsized_ring unit f variable is (inl memory) nexts follow = let no : size.LargeRing variable ≡ size.Memory = sym is ∙ memory in absurd cc
-unsized_ring unit f variable is (inr cause) nexts follow = (variable, subst (IsSizeCause unit) is cause nexts follow)
+pub unsized_ring : (unit : Whole) (nexts : List (List (List ℕ))) (f : SizeFault) (variable : ℕ) → f ≡ size.LargeRing variable → (f ≡ size.Memory) ⊎ IsFaultBy unit (OfText unit) nexts f → IsUnsized unit nexts Ring
+unsized_ring unit nexts f variable is (inl memory) = let no : size.LargeRing variable ≡ size.Memory = sym is ∙ memory in absurd cc
+unsized_ring unit nexts f variable is (inr cause) = (variable, subst (IsFaultBy unit (OfText unit) nexts) is cause)
 
 -- The table that has too many cells
-pub unsized_cells : (unit : Whole) (f : SizeFault) (stream : ℕ) → f ≡ size.Cells stream → (f ≡ size.Memory) ⊎ IsSizeCause unit f → (nexts : List (List (List ℕ))) → AreAllNexts unit nexts → IsUnsized unit nexts Cells
-unsized_cells unit f stream is (inl memory) nexts follow = let no : size.Cells stream ≡ size.Memory = sym is ∙ memory in absurd cc
-unsized_cells unit f stream is (inr cause) nexts follow = (stream, subst (IsSizeCause unit) is cause nexts follow)
+pub unsized_cells : (unit : Whole) (nexts : List (List (List ℕ))) (f : SizeFault) (stream : ℕ) → f ≡ size.Cells stream → (f ≡ size.Memory) ⊎ IsFaultBy unit (OfText unit) nexts f → IsUnsized unit nexts Cells
+unsized_cells unit nexts f stream is (inl memory) = let no : size.Cells stream ≡ size.Memory = sym is ∙ memory in absurd cc
+unsized_cells unit nexts f stream is (inr cause) = (stream, subst (IsFaultBy unit (OfText unit) nexts) is cause)
 
 -- The queue that is too large
-pub unsized_queue : (unit : Whole) (f : SizeFault) (stream : ℕ) → f ≡ size.LargeQueue stream → (f ≡ size.Memory) ⊎ IsSizeCause unit f → (nexts : List (List (List ℕ))) → AreAllNexts unit nexts → IsUnsized unit nexts Queue
-unsized_queue unit f stream is (inl memory) nexts follow = let no : size.LargeQueue stream ≡ size.Memory = sym is ∙ memory in absurd cc
-unsized_queue unit f stream is (inr cause) nexts follow = (stream, subst (IsSizeCause unit) is cause nexts follow)
+pub unsized_queue : (unit : Whole) (nexts : List (List (List ℕ))) (f : SizeFault) (stream : ℕ) → f ≡ size.LargeQueue stream → (f ≡ size.Memory) ⊎ IsFaultBy unit (OfText unit) nexts f → IsUnsized unit nexts Queue
+unsized_queue unit nexts f stream is (inl memory) = let no : size.LargeQueue stream ≡ size.Memory = sym is ∙ memory in absurd cc
+unsized_queue unit nexts f stream is (inr cause) = (stream, subst (IsFaultBy unit (OfText unit) nexts) is cause)
 
 pub small_graphs : (unit : Whole) (graphs : List Graph) → AreGraphs unit graphs → All IsSmall graphs
 small_graphs unit graphs are k d less = (are.each k (get_or graphs k d) (slice_get-get_or graphs k d less)).3
@@ -104,24 +115,6 @@ pub nearer_is : (quantum until horizon : ℕ) (lines : List Rate) (extent : Exte
 nearer_is quantum until horizon lines (Horizon length) is (same, within) = (subst (IsHorizonOf quantum lines) (sym same) is, omega (arith, same, within))
 nearer_is quantum until horizon lines (LastDate date) is (same, behind) = (same, λ length other. let least : horizon ≤ length = is.least length other.covers in omega (arith, behind, least))
 
--- ---- lists of weights
-
-module _ (until : ℕ) (graphs : List Graph) (lists : List (List ℕ)) (are : AreAllWeights until graphs lists) where
-  pub all_have_cells : All (HasCells until) graphs
-  all_have_cells k d less =
-      let list = there lists k (omega (arith, less, are.count)) in
-      (are.each k (get_or graphs k d) list.0 (slice_get-get_or graphs k d less) list.1).cells
-
-  pub all_long : All (λ list. length list ≡ until + 1) lists
-  all_long k d less =
-      let graph = there graphs k (omega (arith, less, are.count)) in
-      (are.each k graph.0 (get_or lists k d) graph.1 (slice_get-get_or lists k d less)).count
-
-  pub all_small : All (All (λ weight. weight < 2 ^ 50)) lists
-  all_small k d less =
-      let graph = there graphs k (omega (arith, less, are.count)) in
-      (are.each k graph.0 (get_or lists k d) graph.1 (slice_get-get_or lists k d less)).small
-
 -- ---- demand
 
 -- The edges by a number are those of a graph
@@ -130,19 +123,12 @@ edges_at [] i edges at = cc
 edges_at (graph ∷ graphs) zero edges at = (graph, refl, cc)
 edges_at (graph ∷ graphs) (suc i) edges at = edges_at graphs i edges at
 
-pub are_greatest : (until : ℕ) (graphs : List Graph) (lists : List (List ℕ)) → AreAllWeights until graphs lists → AreGreatest (edges_of graphs) lists until
-are_greatest until graphs lists are i edges list at at' within less =
-    let graph = edges_at graphs i edges at in
-    let weights = are.each i graph.0 list graph.1 at' in
-    subst (λ es. IsGreatestWeight es (FitsDueLast within) (slice_index list within)) graph.2 (weights.greatest within (omega (arith, less)))
-
-pub demand_fits : (until quantum : ℕ) (graphs : List Graph) (lists : List (List ℕ)) → AreAllWeights until graphs lists → DemandFits lists quantum until → IsFeasible (edges_of graphs) quantum until
-demand_fits until quantum graphs lists are fits =
-    feasible-is (edges_of graphs) lists quantum until (are.count ∙ sym (length-map graphs (λ graph. graph.edges))) (are_greatest until graphs lists are) fits
-
-pub demand_passes : (until quantum within passed : ℕ) (graphs : List Graph) (lists : List (List ℕ)) → AreAllWeights until graphs lists → IsVerdict lists quantum until (verdict.No within passed) → IsOverload (edges_of graphs) quantum until within passed
-demand_passes until quantum within passed graphs lists are (above, below, is, passes, least) =
-    overload-is (edges_of graphs) lists quantum until within passed (are.count ∙ sym (length-map graphs (λ graph. graph.edges))) (are_greatest until graphs lists are) above below is passes least
+-- Where the criterion gives a verdict, no table passes its limit.
+pub has_cells : {A : Type 0} (top : ℕ) (graphs : List Graph) (result : Result A WindowFault) (x : A) → result ≡ Ok x → (IsErrOf result window.Cells ↔ Any (PassesCells top) graphs) → All (HasCells top) graphs
+has_cells top graphs result x is passes = elim (all_or_any (HasCells top) (PassesCells top) (λ graph. most_or_more (length graph.nodes * (top + 1)) WINDOW_CELLS) graphs) [
+  | inl all ↦ all
+  | inr any ↦ absurd (let no : Ok x ≡ Err window.Cells = sym is ∙ passes.1 any in cc)
+]
 
 -- The graph of a list of edges is one of the text's, so its edges lead from node to node; and they are few.
 module _ (edges : (unit : Whole) (graphs : List Graph) → IsOfText unit → AreGraphs unit graphs → All (λ graph. All (IsEdge (length graph.nodes)) graph.edges) graphs)
@@ -227,21 +213,47 @@ module _ (unit : Whole) (until : ℕ) (failed : List ℕ) (before after : ℕ) (
     supply_unsized halts = halts_later _ _ failed before after graphs s are (halts_later _ _ failed before after nexts s follow (halts_first _ _ failed before after s halts))
 
     module _ (sizes : Sizes) (lines : List Rate) (extent : Extent) (sized : (sizing unit nexts).gives sizes) (rated : AreRates (edges_of graphs) lines) (looked : IsExtent unit.quantum lines until extent) where
-      pub supply_unwindowed : Halts (windowing graphs (top_of extent)) failed before after s → Halts (supplying unit until) failed before after s
+      supply_unwindowed : Halts (windowing graphs (top_of extent)) failed before after s → Halts (supplying unit until) failed before after s
       supply_unwindowed halts =
           halts_later _ _ failed before after graphs s are (halts_later _ _ failed before after nexts s follow (halts_later _ _ failed before after sizes s sized
           (halts_later _ _ failed before after lines s rated (halts_later _ _ failed before after extent s looked (halts_first _ _ failed before after s halts)))))
 
-      pub supply_overloaded : All (HasCells (top_of extent)) graphs → Halts (demanding unit graphs (top_of extent)) failed before after s → Halts (supplying unit until) failed before after s
+      supply_overloaded : All (HasCells (top_of extent)) graphs → Halts (demanding unit graphs (top_of extent)) failed before after s → Halts (supplying unit until) failed before after s
       supply_overloaded cells halts =
           halts_later _ _ failed before after graphs s are (halts_later _ _ failed before after nexts s follow (halts_later _ _ failed before after sizes s sized
           (halts_later _ _ failed before after lines s rated (halts_later _ _ failed before after extent s looked (halts_later _ _ failed before after tt s cells (halts_first _ _ failed before after s halts))))))
 
-pub supply_gives : (unit : Whole) (until : ℕ) (supply : Supply) → AreGraphs unit supply.graphs → AreAllNexts unit supply.nexts → (sizing unit supply.nexts).gives supply.sizes → AreRates (edges_of supply.graphs) supply.lines
-    → IsExtent unit.quantum supply.lines until supply.extent → All (HasCells (top_of supply.extent)) supply.graphs → IsFeasible (edges_of supply.graphs) unit.quantum (top_of supply.extent) → (supplying unit until).gives supply
-supply_gives unit until supply are follow sized rated looked cells feasible =
-    gives_then _ _ supply.graphs supply are (gives_then _ _ supply.nexts supply follow (gives_then _ _ supply.sizes supply sized (gives_then _ _ supply.lines supply rated (gives_then _ _ supply.extent supply looked
-    (gives_then _ _ tt supply cells (gives_then _ _ tt supply feasible refl))))))
+      -- The last two steps in a row
+      pub supply_unmet : Halts (meeting unit graphs (top_of extent)) failed before after s → Halts (supplying unit until) failed before after s
+      supply_unmet halts = elim (halts_apart (windowing graphs (top_of extent)) (λ done. demanding unit graphs (top_of extent)) failed before after s halts) [
+        | inl passes ↦ supply_unwindowed passes
+        | inr (done, cells, over) ↦ supply_overloaded cells over
+      ]
+
+pub supply_gives : (unit : Whole) (until top : ℕ) (supply : Supply) (done : Unit {0}) → AreGraphs unit supply.graphs → AreAllNexts unit supply.nexts → (sizing unit supply.nexts).gives supply.sizes → AreRates (edges_of supply.graphs) supply.lines
+    → IsExtent unit.quantum supply.lines until supply.extent → top ≡ top_of supply.extent → (meeting unit supply.graphs top).gives done → (supplying unit until).gives supply
+unfolding in_row
+supply_gives unit until top supply done are follow sized rated looked same (had, cells, feasible) = (
+  supply.graphs,
+  are,
+  (
+    supply.nexts,
+    follow,
+    (
+      supply.sizes,
+      sized,
+      (
+        supply.lines,
+        rated,
+        (
+          supply.extent,
+          looked,
+          (had, subst (λ t. All (HasCells t) supply.graphs) same cells, (done, subst (IsFeasible (edges_of supply.graphs) unit.quantum) same feasible, refl)),
+        ),
+      ),
+    ),
+  ),
+)
 
 -- What is supplied up to the length that is looked at is supplied up to the last date, and the verdict is true.
 abbrev pub AllMet : Type 0
@@ -277,13 +289,3 @@ supply_infeasible hold unit until within demand supply text (inr (graphs, drawn,
 supply_infeasible hold unit until within demand supply text (inr (graphs, drawn, inr (nexts, followed, inr (sizes, sized, inr (lines, rated, inr (extent, looked, inl (cells, passes))))))) =
     let no : Infeasible within demand supply ≡ Cells = cells in absurd cc
 supply_infeasible hold unit until within demand supply text (inr (graphs, drawn, inr (nexts, followed, inr (sizes, sized, inr (lines, rated, inr (extent, looked, inr (few, held, inr (done, fits, never)))))))) = absurd never
-
--- ---- outcomes
-
-pub ok_no_err : {A E : Type 0} (result : Result A E) (x : A) (e : E) → result ≡ Ok x → result ≡ Err e → ⊥
-ok_no_err result x e is other = let no = sym is ∙ other in cc
-
--- A list of weights that isn't made
-pub unwindowed : (until : ℕ) (graphs : List Graph) (failed : List ℕ) (before after : ℕ) (s : Stop) → (s ≡ stop.Memory) ⊎ ((s ≡ stop.Refused Cells) × Any (PassesCells until) graphs) → Halts (windowing graphs until) failed before after s
-unwindowed until graphs failed before after s (inl memory) = subst (Halts (windowing graphs until) failed before after) (sym memory) halts_memory
-unwindowed until graphs failed before after s (inr (is, passes)) = subst (Halts (windowing graphs until) failed before after) (sym is) (halts_refused Cells (refl, passes))

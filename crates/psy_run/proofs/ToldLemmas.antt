@@ -1,7 +1,6 @@
 -- The steps on what a run is told, and the steps behind them: where they stop, what they give, and what can be served then.
 use Rattle.std.proofs.Common.{◌≡◌, ◌∙◌, refl, sym, ap, subst, ℕ, ◌≤◌, List, Option, ℤ, arith}
 use Rattle.psy_base.specs.declared.sizes.Sizes.{Sizes}
-use Rattle.psy_dates.specs.Plans.{IsPlan}
 use Rattle.psy_door.specs.Faults.{Rose}
 use Rattle.psy_door.specs.Files.{Files}
 use Rattle.psy_history.specs.Compiled.{AreInputs}
@@ -20,6 +19,7 @@ use Rattle.psy_run.specs.declared.served.Served.TheVariants as served
 use Rattle.psy_run.specs.Answer.{Supply, compiling, translating, supplying, listing, scripting, running, trying}
 use Rattle.psy_run.specs.Courses.{Course}
 use Rattle.psy_run.specs.Outcome.{CanServe, Halts, halts_refused, halts_unread, halts_memory}
+use Rattle.psy_run.specs.Planned.{IsPlanned}
 use Rattle.psy_run.specs.Refusals.{stop_by}
 use Rattle.psy_run.specs.Services.{Service, Ran, Tried, no_inputs, no_script, service_of}
 use Rattle.psy_run.specs.Steps.{pacing}
@@ -111,7 +111,7 @@ module _ (seed until : ℕ) (text : List ℕ) (made : text ≡ made_text seed) w
 -- ---- kernels that were just booted
 
 -- One with inputs and a script of its program can be served
-pub can_run : (kernel : Progress) (unit : Whole) (lists : List (List ℤ)) (script : Said) → kernel ≡ booted kernel.plan lists script → IsPlan kernel.plan → kernel.plan.unit ≡ unit → AreInputs unit lists → IsScript unit script → CanServe (served.Ran kernel)
+pub can_run : (kernel : Progress) (unit : Whole) (lists : List (List ℤ)) (script : Said) → kernel ≡ booted kernel.plan lists script → IsPlanned kernel.plan → kernel.plan.unit ≡ unit → AreInputs unit lists → IsScript unit script → CanServe (served.Ran kernel)
 can_run kernel unit lists script is plan its_unit are_inputs is_script =
     let its_inputs : kernel.inputs ≡ lists = ap (λ p. p.inputs) is in
     let its_script : kernel.script ≡ script = ap (λ p. p.script) is in (
@@ -122,7 +122,7 @@ can_run kernel unit lists script is plan its_unit are_inputs is_script =
     )
 
 -- One without can be tried
-pub can_try : (kernel : Progress) (unit : Whole) (lists : List (List ℤ)) (script : Said) → kernel ≡ booted kernel.plan lists script → IsPlan kernel.plan → kernel.plan.unit ≡ unit → lists ≡ no_inputs unit → script ≡ no_script → CanServe (served.Tried kernel)
+pub can_try : (kernel : Progress) (unit : Whole) (lists : List (List ℤ)) (script : Said) → kernel ≡ booted kernel.plan lists script → IsPlanned kernel.plan → kernel.plan.unit ≡ unit → lists ≡ no_inputs unit → script ≡ no_script → CanServe (served.Tried kernel)
 can_try kernel unit lists script is plan its_unit none still = (is ∙ (λ i. booted kernel.plan ((none ∙ ap no_inputs (sym its_unit)) i) (still i)), plan)
 
 -- What is run is the program with them

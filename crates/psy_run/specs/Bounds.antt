@@ -12,12 +12,12 @@ use Rattle.psy_history.specs.declared.told.Script.{Script}
 use Rattle.psy_history.specs.Scripts.{order_of}
 use Rattle.psy_graph.specs.declared.graph.Graph.{Graph}
 use Rattle.psy_graph.specs.Graphs.{AreGraphs}
+use Rattle.psy_demand.specs.Criterion.{edges_of}
 use Rattle.psy_meaning.specs.Demand.{IsFeasible}
 use Rattle.psy_rate.specs.Lines.{AreRates}
 use Rattle.psy_run.specs.declared.extent.Extent.{Extent}
 use Rattle.psy_run.specs.declared.extent.Extent.TheVariants.{Horizon, LastDate}
 use Rattle.psy_run.specs.Services.{Service, Ran, Checked, Tried, meaning_of, no_inputs, no_script}
-use Rattle.psy_run.specs.Steps.{edges_of}
 
 -- A run up to a date keeps its bounds.
 pub record KeepsBounds (s : System) (order : ℕ → List ℕ) (sizes : Sizes) (until : ℕ) : Type 0 where

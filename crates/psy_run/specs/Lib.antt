@@ -8,6 +8,7 @@ pub mod Cuts
 pub mod Extents
 pub mod Outcome
 pub mod OwnLines
+pub mod Planned
 pub mod Refusals
 pub mod Runs
 pub mod Services

@@ -6,7 +6,6 @@ use Rattle.psy_door.specs.Faults.{Rose}
 use Rattle.psy_door.specs.Files.{Files}
 use Rattle.psy_door.specs.Growth.{Grew, GrewByFront}
 use Rattle.psy_history.specs.Compiled.{AreInputs}
-use Rattle.psy_dates.specs.Plans.{IsPlan}
 use Rattle.psy_kernel.specs.Progress.{Progress, booted}
 use Rattle.psy_history.specs.Scripts.{IsScript}
 use Rattle.psy_log.specs.Forms.{read_line}
@@ -23,6 +22,7 @@ use Rattle.psy_run.specs.Answer.{answering}
 use Rattle.psy_run.specs.Asked.{Command, Asks}
 use Rattle.psy_run.specs.Bounds.{IsBounded}
 use Rattle.psy_run.specs.Courses.{Course}
+use Rattle.psy_run.specs.Planned.{IsPlanned}
 use Rattle.psy_run.specs.Refusals.{status_of, line_of, file_name}
 use Rattle.psy_run.specs.Services.{Service, Leaves, no_inputs, no_script, text_of}
 
@@ -87,9 +87,9 @@ Says old now before after answer status text = ((answer ≡ status) × Grew old 
 
 -- What is served can be: a kernel was just booted, with inputs and a script of its program, or without; and the names of a unit are short.
 abbrev pub CanServe : Served → Type 0
-CanServe (served.Ran kernel) = (kernel ≡ booted kernel.plan kernel.inputs kernel.script) × IsPlan kernel.plan × AreInputs kernel.plan.unit kernel.inputs
+CanServe (served.Ran kernel) = (kernel ≡ booted kernel.plan kernel.inputs kernel.script) × IsPlanned kernel.plan × AreInputs kernel.plan.unit kernel.inputs
     × IsScript kernel.plan.unit kernel.script
 CanServe (served.Checked unit sizes lines extent) = IsBare unit
 CanServe (served.Drawn unit graphs costs) = IsBare unit × All IsSmall graphs
 CanServe (served.Made text) = ⊤
-CanServe (served.Tried kernel) = (kernel ≡ booted kernel.plan (no_inputs kernel.plan.unit) no_script) × IsPlan kernel.plan
+CanServe (served.Tried kernel) = (kernel ≡ booted kernel.plan (no_inputs kernel.plan.unit) no_script) × IsPlanned kernel.plan

@@ -5,7 +5,6 @@ use Rattle.psy_history.specs.Actions.{System}
 use Rattle.psy_graph.specs.declared.graph.Graph.{Graph}
 use Rattle.psy_history.specs.Compiled.{stated}
 use Rattle.psy_base.specs.declared.sizes.Sizes.{Sizes}
-use Rattle.psy_dates.specs.Plans.{IsPlan}
 use Rattle.psy_history.specs.declared.told.Script.{Script}
 use Rattle.psy_kernel.specs.Progress.{Progress, lines_told}
 use Rattle.psy_history.specs.Scripts.{order_of, stalls_of}
@@ -14,6 +13,7 @@ use Rattle.psy_rate.specs.declared.line.Rate.{Rate}
 use Rattle.psy_run.specs.declared.extent.Extent.{Extent}
 use Rattle.psy_run.specs.declared.served.Served.{Served}
 use Rattle.psy_run.specs.declared.served.Served.TheVariants as served
+use Rattle.psy_run.specs.Planned.{IsPlanned}
 use Rattle.psy_run.specs.Texts.{check_text, graph_text}
 
 -- What a command does: it runs a program, whose points may be followed by these and whose buffers have these sizes, up to a date, with
@@ -54,7 +54,7 @@ text_of (Tried unit nexts sizes until) = lines_text (summary_of (meaning_of unit
 -- A kernel that ran the program from date 0 to its last one: it is over, and gave all its lines.
 pub record HasRun (unit : Whole) (nexts : List (List (List ℕ))) (sizes : Sizes) (until : ℕ) (inputs : List (List ℤ)) (script : Script)
     (p : Progress) : Type 0 where
-  pub plan : IsPlan p.plan
+  pub plan : IsPlanned p.plan
   pub its_unit : p.plan.unit ≡ unit
   pub its_nexts : p.plan.nexts ≡ nexts
   pub its_sizes : p.plan.sizes ≡ sizes

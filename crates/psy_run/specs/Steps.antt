@@ -1,9 +1,8 @@
 -- The steps that judge a command, each with its refusal.
-use Rattle.std.specs.Prelude.{◌≡◌, ℕ, ◌+◌, ◌*◌, ◌<◌, ◌≤◌, List, map, length, Some, Option, slice_get, ℤ}
+use Rattle.std.specs.Prelude.{◌≡◌, ℕ, ◌*◌, ◌<◌, ◌≤◌, List, length, Some, Option, ℤ}
 use Rattle.std.specs.List.{All, Any}
-use Rattle.psy_base.specs.declared.edge.Edge.{Edge}
 use Rattle.psy_base.specs.declared.sizes.Sizes.{Sizes}
-use Rattle.psy_base.specs.declared.limits.TheConstants.{FILE_BYTES, RUN, WINDOW_CELLS}
+use Rattle.psy_base.specs.declared.limits.TheConstants.{FILE_BYTES, RUN}
 use Rattle.psy_door.specs.Files.{Files, WhereTold, bytes_under}
 use Rattle.psy_tree.specs.declared.raw.Raw.{Raw}
 use Rattle.psy_tree.specs.declared.token.Token.{Token}
@@ -18,6 +17,7 @@ use Rattle.psy_parse.specs.Fault.{AtFault}
 use Rattle.psy_meaning.specs.BufferSizes.{AreSizes}
 use Rattle.psy_meaning.specs.KnownWays.{OfText}
 use Rattle.psy_meaning.specs.Demand.{IsFeasible, IsOverload}
+use Rattle.psy_demand.specs.Criterion.{HasCells, PassesCells, edges_of}
 use Rattle.psy_flow.specs.Costs.{AreAllCosts}
 use Rattle.psy_graph.specs.declared.fault.GraphFault.TheVariants as fault
 use Rattle.psy_graph.specs.declared.graph.Graph.{Graph}
@@ -107,10 +107,6 @@ sizing unit nexts = step (λ sizes. AreSizes unit (OfText unit) nexts sizes × C
 abbrev pub costing : Whole → Course (List (List ℕ))
 costing unit = step (AreAllCosts unit) (λ refusal. ⊥)
 
--- The edges of each graph
-abbrev pub edges_of : List Graph → List (List Edge)
-edges_of graphs = map (λ graph. graph.edges) graphs
-
 -- The lines above the demands of the agents, which hold for every length: each graph has one.
 abbrev pub rating : List Graph → Course (List Rate)
 rating graphs = step (AreRates (edges_of graphs)) (λ refusal. ⊥)
@@ -119,15 +115,7 @@ rating graphs = step (AreRates (edges_of graphs)) (λ refusal. ⊥)
 abbrev pub extending : Whole → List Rate → ℕ → Course Extent
 extending unit lines until = step (IsExtent unit.quantum lines until) (λ refusal. ⊥)
 
--- The tables by which the demand is found have at most 4,000,000 cells each: a graph's nodes times the lengths from 0 on.
-abbrev pub HasCells : ℕ → Graph → Type 0
-HasCells top graph = length graph.nodes * (top + 1) ≤ WINDOW_CELLS
-
--- One of them would have more.
-abbrev pub PassesCells : ℕ → Graph → Type 0
-PassesCells top graph = WINDOW_CELLS < length graph.nodes * (top + 1)
-
--- All tables have at most so many.
+-- The tables by which the demand is found have at most 4,000,000 cells each.
 abbrev pub windowing : List Graph → ℕ → Course (Unit {0})
 windowing graphs top = unless (All (HasCells top) graphs) (Any (PassesCells top) graphs) Cells
 

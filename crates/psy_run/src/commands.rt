@@ -1,14 +1,16 @@
 //! The commands: each is its list of steps.
 ghost use Rattle.std.specs.Prelude.{◌≡◌, ◌≤◌, ℕ, List, map, string_bytes, IfOk, IfErr, OnOk, option_copied};
-ghost use Rattle.psy_dates.specs.Plans.{IsPlan};
 ghost use Rattle.psy_history.specs.Compiled.{AreInputs};
 ghost use Rattle.psy_history.specs.Scripts.{IsScript};
 ghost use Rattle.psy_graph.specs.declared.graph.Graph.{Graph};
 ghost use Rattle.psy_kernel.specs.Progress.{booted};
+ghost use Rattle.psy_meaning.specs.Alike.{ActsAlike};
+ghost use Rattle.psy_meaning.specs.ListedWays.{AreWaysOf};
 ghost use Rattle.psy_meaning.specs.Units.{IsOfText};
 ghost use Rattle.psy_run.specs.Answer.{supplying, running, checking, drawing, making, trying, answering};
 ghost use Rattle.psy_run.specs.Asked.{Command as Asked, Asks};
 ghost use Rattle.psy_run.specs.Outcome.{CanServe, Halts, TookLimit, Unfailed};
+ghost use Rattle.psy_run.specs.Planned.{IsPlanned};
 ghost use Rattle.psy_run.specs.Services.{service_of};
 ghost use Rattle.psy_run.specs.Supplies.{supply_of};
 
@@ -20,6 +22,7 @@ use crate::served::Served;
 use crate::steps::{compile, translate};
 use crate::supply::{Supplied, graphs, supply};
 use crate::told::{inputs_of, no_lists, nothing_said, pace, script_of};
+use crate::ways::with_ways;
 use psy_base::Memory;
 use psy_door::Shelf;
 use psy_history::{Inputs, Script};
@@ -39,17 +42,19 @@ pub fn boot(
     script: Script,
 ) -> Result<Kernel, Memory>
     requires text { IsOfText unit }
+    requires alike { ActsAlike unit supply.code }
+    requires ways { AreWaysOf unit supply.ways }
     requires supplied { (graphs : List Graph) × (supplying unit until).gives (supply_of graphs supply) }
     requires inputs { AreInputs unit inputs.lists }
     requires script { IsScript unit script }
     ensures booted { IfOk result (λ kernel. kernel ≡ booted kernel.plan inputs.lists script) }
-    ensures plan { IfOk result (λ kernel. IsPlan kernel.plan) }
+    ensures plan { IfOk result (λ kernel. IsPlanned kernel.plan) }
     ensures its_unit { IfOk result (λ kernel. kernel.plan.unit ≡ unit) }
-    ensures its_nexts { IfOk result (λ kernel. kernel.plan.nexts ≡ supply.nexts) }
+    ensures its_nexts { IfOk result (λ kernel. kernel.plan.nexts ≡ supply.ways.nexts) }
     ensures its_sizes { IfOk result (λ kernel. kernel.plan.sizes ≡ supply.sizes) }
     ensures its_until { IfOk result (λ kernel. kernel.plan.until ≡ until) }
 {
-    let plan = plan_of(alloc, unit, supply, until)?;
+    let plan = plan_of(unit, supply, until);
     Kernel::boot(alloc, plan, inputs, script)
 }
 
@@ -114,7 +119,8 @@ fn draw<F: Shelf>(alloc: Global, shelf: &mut F, name: &str) -> Result<Served, St
     ensures shelf { (F.faults shelf.old ≤ F.faults shelf.new) × (F.files shelf.new ≡ F.files shelf.old) }
 {
     let unit = compile(alloc, shelf, name)?;
-    let graphs = graphs(alloc, &unit)?;
+    let coded = with_ways(alloc, &unit)?;
+    let graphs = graphs(alloc, &unit, &coded.ways)?;
     let costs = all_costs(alloc, &unit)?;
     Ok(Served::Drawn {
         unit,

@@ -1,8 +1,10 @@
 //! Laws of the defined answer: words have one, and no other; of runs: they keep their bounds; and of checks: what they tell is borne out.
 ghost use Rattle.std.specs.Prelude.{◌≡◌, ℕ, ◌+◌, ◌*◌, List, Option, Some, ℤ};
 ghost use Rattle.psy_door.specs.Files.{Files, bytes_under};
+ghost use Rattle.psy_demand.specs.Criterion.{edges_of};
 ghost use Rattle.psy_dates.specs.declared.plan.Plan.{Plan};
 ghost use Rattle.psy_dates.specs.Plans.{IsPlan};
+ghost use Rattle.psy_base.specs.declared.ways.Ways.{Ways};
 ghost use Rattle.psy_budget.specs.declared.charge.Stall.{Stall};
 ghost use Rattle.psy_tree.specs.declared.unit.Unit.{Unit as Whole};
 ghost use Rattle.psy_history.specs.History.{history};
@@ -15,6 +17,7 @@ ghost use Rattle.psy_run.specs.Accepted.{IsRunnable};
 ghost use Rattle.psy_graph.specs.declared.graph.Graph.{Graph};
 ghost use Rattle.psy_graph.specs.Graphs.{AreGraphs};
 ghost use Rattle.psy_meaning.specs.Demand.{IsFeasible, IsOverload};
+ghost use Rattle.psy_meaning.specs.ListedWays.{AreWaysOf};
 ghost use Rattle.psy_rate.specs.declared.line.Rate.{Rate};
 ghost use Rattle.psy_rate.specs.Lines.{AreRates};
 ghost use Rattle.psy_run.specs.declared.extent.Extent.{Extent};
@@ -24,10 +27,10 @@ ghost use Rattle.psy_run.specs.Asked.{Asks, Check, Run};
 ghost use Rattle.psy_run.specs.Bounds.{IsBounded, IsBorneOut, IsMet, KeepsBounds};
 ghost use Rattle.psy_run.specs.Extents.{IsExtent, length_of};
 ghost use Rattle.psy_run.specs.OwnLines.{own_text};
+ghost use Rattle.psy_run.specs.Planned.{IsStatedPlan};
 ghost use Rattle.psy_run.specs.Services.{Service, meaning_of};
-ghost use Rattle.psy_run.specs.Steps.{edges_of};
 
-use psy_flow::laws::{costs, nexts};
+use psy_flow::laws::{costs, listed, nexts, one_list};
 use psy_gen::laws::alike as generated;
 use psy_graph::laws::one_graph;
 use psy_history::laws::{
@@ -39,7 +42,7 @@ use psy_parse::laws::one_tree;
 use psy_rate::laws::{always, horizons, rates};
 use psy_rules::laws::one_verdict;
 use psy_script::laws::lawful;
-use psy_sizes::laws::one_size;
+use psy_sizes::laws::{listed_sizes, one_size};
 use psy_token::laws::one_reading;
 use psy_window::laws::greatest;
 
@@ -77,10 +80,22 @@ pub fn some_answer()
     horizons();
 }
 
+/// What psyc compiles and plans fits: a plan by the statements of its program is one that a kernel runs, whose code goes well by the lists of
+/// the ways of these statements.
+pub fn fits()
+    ensures { (plan : Plan) (ways : Ways) → IsStatedPlan plan → AreWaysOf plan.unit ways → IsPlan plan }
+{
+    compiled();
+    listed();
+    listed_sizes();
+    one_graph();
+    one_list();
+}
+
 /// A run keeps its bounds, for all inputs and every script: each action that is due by its last date has had all its work, up to its budget,
 /// by its deadline, no ring is reached for beyond its size, and no queue holds more messages than it has places.
 pub fn bounds()
-    ensures { (plan : Plan) (inputs : List (List ℤ)) (script : Script) → IsPlan plan → AreInputs plan.unit inputs → IsScript plan.unit script
+    ensures { (plan : Plan) (inputs : List (List ℤ)) (script : Script) → IsStatedPlan plan → AreInputs plan.unit inputs → IsScript plan.unit script
         → KeepsBounds (meaning_of plan.unit plan.nexts inputs script) (order_of plan.unit script) plan.sizes plan.until }
 {
     compiled();

@@ -10,7 +10,6 @@ mod extent;
 mod kernels;
 pub mod laws;
 mod lists;
-mod nexts;
 mod plan;
 mod rates;
 mod refusal;
@@ -21,6 +20,7 @@ mod supply;
 mod texts;
 mod told;
 mod top;
+mod ways;
 
 pub use clean::psyc_over_clean;
 pub use kernels::kernel_of;

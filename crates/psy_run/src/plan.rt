@@ -1,38 +1,40 @@
 //! What a program needs to be run: its code, the points that follow, and its buffers.
-ghost use Rattle.std.specs.Prelude.{◌≡◌, List, IfOk};
-ghost use Rattle.psy_meaning.specs.Units.{IsOfText};
+ghost use Rattle.std.specs.Prelude.{◌≡◌, List};
 ghost use Rattle.psy_graph.specs.declared.graph.Graph.{Graph};
-ghost use Rattle.psy_dates.specs.Plans.{IsPlan};
+ghost use Rattle.psy_meaning.specs.Alike.{ActsAlike};
+ghost use Rattle.psy_meaning.specs.ListedWays.{AreWaysOf};
+ghost use Rattle.psy_meaning.specs.Units.{IsOfText};
 ghost use Rattle.psy_run.specs.Answer.{supplying};
+ghost use Rattle.psy_run.specs.Planned.{IsPlanned};
 ghost use Rattle.psy_run.specs.Supplies.{supply_of};
 
-use crate::laws::extents;
+use crate::laws::{extents, fits};
 use crate::supply::Supplied;
-use psy_base::Memory;
 use psy_dates::Plan;
-use psy_gen::generate;
 use psy_graph::laws::one_graph;
 use psy_tree::Unit;
-use std::alloc::Global;
 
 /// The plan of a program that can be run, and whose demand the processor can supply up to a date.
-pub fn plan_of(alloc: Global, unit: Unit, supply: Supplied, until: u32) -> Result<Plan, Memory>
+pub fn plan_of(unit: Unit, supply: Supplied, until: u32) -> Plan
     requires text { IsOfText unit }
+    requires alike { ActsAlike unit supply.code }
+    requires ways { AreWaysOf unit supply.ways }
     requires supplied { (graphs : List Graph) × (supplying unit until).gives (supply_of graphs supply) }
-    ensures plan { IfOk result IsPlan }
-    ensures its_unit { IfOk result (λ plan. plan.unit ≡ unit) }
-    ensures its_nexts { IfOk result (λ plan. plan.nexts ≡ supply.nexts) }
-    ensures its_sizes { IfOk result (λ plan. plan.sizes ≡ supply.sizes) }
-    ensures its_until { IfOk result (λ plan. plan.until ≡ until) }
+    ensures plan { IsPlanned result }
+    ensures its_unit { result.unit ≡ unit }
+    ensures its_nexts { result.nexts ≡ supply.ways.nexts }
+    ensures its_sizes { result.sizes ≡ supply.sizes }
+    ensures its_until { result.until ≡ until }
 {
     one_graph();
     extents();
-    let code = generate(alloc, &unit)?;
-    Ok(Plan {
+    fits();
+    let ways = supply.ways;
+    Plan {
         unit,
-        code,
-        nexts: supply.nexts,
+        code: supply.code,
+        nexts: ways.nexts,
         sizes: supply.sizes,
         until,
-    })
+    }
 }

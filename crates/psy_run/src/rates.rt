@@ -1,8 +1,9 @@
 //! The lines above the demands of a program's agents.
 ghost use Rattle.std.specs.Prelude.{◌≡◌, IfOk, IfErr};
 ghost use Rattle.std.specs.List.{All};
+ghost use Rattle.psy_demand.specs.Criterion.{IsDrawn};
 ghost use Rattle.psy_graph.specs.Graphs.{IsSmall};
-ghost use Rattle.psy_run.specs.Tables.{IsDrawn, IsLine, AreLines};
+ghost use Rattle.psy_run.specs.Tables.{IsLine, AreLines};
 
 use crate::lists::push;
 use crate::refusal::Stop;

@@ -1,50 +1,58 @@
 //! The steps on the action graphs of a program: the sizes of its buffers, and whether the processor can supply what its agents may demand.
-ghost use Rattle.std.specs.Prelude.{ℕ, ◌≡◌, ◌+◌, ◌^◌, ◌<◌, ◌≤◌, ◌⊎◌, List, length, IfOk, IfErr};
-ghost use Rattle.std.specs.List.{All, Any};
+ghost use Rattle.std.specs.Prelude.{ℕ, ◌≤◌, List, length, IfOk, IfErr};
+ghost use Rattle.std.specs.List.{All};
 ghost use Rattle.psy_base.specs.declared.limits.TheConstants.{AGENTS};
+ghost use Rattle.psy_demand.specs.Criterion.{IsDrawn};
 ghost use Rattle.psy_graph.specs.declared.graph.Graph.{Graph as Drawn};
 ghost use Rattle.psy_graph.specs.Graphs.{AreGraphs, IsSmall};
-ghost use Rattle.psy_meaning.specs.Flow.{AreAllNexts};
+ghost use Rattle.psy_meaning.specs.Alike.{ActsAlike};
+ghost use Rattle.psy_meaning.specs.ListedWays.{AreWaysOf};
 ghost use Rattle.psy_meaning.specs.Units.{IsOfText};
 ghost use Rattle.psy_run.specs.Answer.{supplying};
 ghost use Rattle.psy_run.specs.Outcome.{Halts};
-ghost use Rattle.psy_run.specs.Supplies.{supply_of};
-ghost use Rattle.psy_run.specs.Steps.{graphing, sizing, demanding, PassesCells};
-ghost use Rattle.psy_run.specs.Tables.{IsDrawn, AreWeights, AreAllWeights};
+ghost use Rattle.psy_run.specs.Supplies.{meeting, supply_of};
+ghost use Rattle.psy_run.specs.Steps.{graphing, sizing};
 
 use crate::extent::{Extent, extent_of};
-use crate::lists::push;
-use crate::nexts::all_nexts;
 use crate::rates::lines_of;
 use crate::refusal::{Refusal, Stop};
-use psy_base::{Items, Sizes};
-use psy_demand::{Verdict, feasible};
-use psy_graph::{Graph, GraphFault, build};
+use crate::ways::with_ways;
+use psy_base::{Items, Sizes, Ways};
+use psy_code::Code;
+use psy_demand::{Verdict, criterion};
+use psy_flow::laws::listed;
+use psy_graph::laws::one_graph;
+use psy_graph::{Graph, GraphFault, build_by};
 use psy_rate::Rate;
-use psy_sizes::SizeFault;
+use psy_sizes::laws::listed_sizes;
+use psy_sizes::{SizeFault, sizes_by};
 use psy_tree::Unit;
-use psy_window::{Span, WindowFault, weights};
+use psy_window::WindowFault;
 use std::alloc::Global;
 
-/// What a program that the processor can run needs: by agent the points that follow each of its points, and the sizes of its buffers; with the lines
-/// above the demands of its agents, and up to which length the demand was looked at.
+/// What a program that the processor can run needs: its code, the ways of its actions, and the sizes of its buffers; with the lines above the
+/// demands of its agents, and up to which length the demand was looked at.
 #[derive(Drop)]
 pub struct Supplied {
-    pub nexts: Items<Items<Items<u32>>>,
+    pub code: Code,
+    pub ways: Ways,
     pub sizes: Sizes,
     pub lines: Items<Rate>,
     pub extent: Extent,
 }
 
-/// The action graphs of a program's agents.
-pub fn graphs(alloc: Global, unit: &Unit) -> Result<Items<Graph>, Stop>
+/// The action graphs of a program's agents, by the ways of their actions.
+pub fn graphs(alloc: Global, unit: &Unit, ways: &Ways) -> Result<Items<Graph>, Stop>
     requires text { IsOfText unit.now }
+    requires ways { AreWaysOf unit.now ways.now }
     ensures ok { IfOk result (λ graphs. (graphing unit.now).gives graphs) }
     ensures edges { IfOk result (All IsDrawn) }
     ensures small { IfOk result (All IsSmall) }
     ensures err { (failed : List ℕ) (before after : ℕ) → IfErr result (Halts (graphing unit.now) failed before after) }
 {
-    match build(alloc, unit) {
+    listed();
+    one_graph();
+    match build_by(alloc, unit, ways) {
         Ok(graphs) => Ok(graphs),
         Err(GraphFault::Nodes(_)) => Err(Stop::Refused(Refusal::Nodes)),
         Err(GraphFault::Edges(_)) => Err(Stop::Refused(Refusal::Edges)),
@@ -52,15 +60,18 @@ pub fn graphs(alloc: Global, unit: &Unit) -> Result<Items<Graph>, Stop>
     }
 }
 
-// The sizes of a program's buffers.
-fn sizes(alloc: Global, unit: &Unit, graphs: &Items<Graph>) -> Result<Sizes, Stop>
+// The sizes of a program's buffers, by the ways of its actions and its graphs.
+fn sizes(alloc: Global, unit: &Unit, graphs: &Items<Graph>, ways: &Ways) -> Result<Sizes, Stop>
     requires text { IsOfText unit.now }
+    requires ways { AreWaysOf unit.now ways.now }
     requires graphs { AreGraphs unit.now graphs.now }
-    ensures ok { IfOk result (λ sizes. (nexts : List (List (List ℕ))) → AreAllNexts unit.now nexts → (sizing unit.now nexts).gives sizes) }
-    ensures err { (nexts : List (List (List ℕ))) (failed : List ℕ) (before after : ℕ) → AreAllNexts unit.now nexts
-        → IfErr result (Halts (sizing unit.now nexts) failed before after) }
+    ensures ok { IfOk result (λ sizes. (sizing unit.now ways.now.nexts).gives sizes) }
+    ensures err { (failed : List ℕ) (before after : ℕ) → IfErr result (Halts (sizing unit.now ways.now.nexts) failed before after) }
 {
-    match psy_sizes::sizes(alloc, unit, graphs.as_slice()) {
+    listed();
+    one_graph();
+    listed_sizes();
+    match sizes_by(alloc, unit, graphs.as_slice(), ways) {
         Ok(sizes) => Ok(sizes),
         Err(SizeFault::LargeRing(_)) => Err(Stop::Refused(Refusal::Ring)),
         Err(SizeFault::Cells(_)) => Err(Stop::Refused(Refusal::Cells)),
@@ -69,48 +80,17 @@ fn sizes(alloc: Global, unit: &Unit, graphs: &Items<Graph>) -> Result<Sizes, Sto
     }
 }
 
-// The greatest budgets of an agent's paths whose last action is due within each length up to this one.
-fn weights_of(alloc: Global, graph: &Graph, top: u32) -> Result<Items<u64>, Stop>
-    requires edges { IsDrawn graph.now }
-    requires few { IsSmall graph.now }
-    ensures ok { IfOk result (AreWeights top graph.now) }
-    ensures err { IfErr result (λ stop. (stop ≡ Stop.Memory) ⊎ ((stop ≡ Stop.Refused Refusal.Cells) × PassesCells top graph.now)) }
-{
-    let nodes = graph.nodes.len() as u32;
-    match weights(alloc, graph.edges.as_slice(), nodes, Span::DueLast, top) {
-        Ok(weights) => Ok(weights),
-        Err(WindowFault::Cells) => Err(Stop::Refused(Refusal::Cells)),
-        Err(WindowFault::Memory) => Err(Stop::Memory),
-    }
-}
-
-// The same of all agents.
-fn all_weights(alloc: Global, graphs: &Items<Graph>, top: u32) -> Result<Items<Items<u64>>, Stop>
+// Whether the processor can supply the demand over each length up to this one.
+fn demand(alloc: Global, unit: &Unit, graphs: &Items<Graph>, top: u32) -> Result<(), Stop>
     requires edges { All IsDrawn graphs.now }
-    requires few { All IsSmall graphs.now }
-    ensures ok { IfOk result (AreAllWeights top graphs.now) }
-    ensures err { IfErr result (λ stop. (stop ≡ Stop.Memory) ⊎ ((stop ≡ Stop.Refused Refusal.Cells) × Any (PassesCells top) graphs.now)) }
+    requires small { All IsSmall graphs.now }
+    requires few { length graphs.now ≤ AGENTS }
+    ensures ok { IfOk result (λ done. (meeting unit.now graphs.now top).gives done) }
+    ensures err { (failed : List ℕ) (before after : ℕ) → IfErr result (Halts (meeting unit.now graphs.now top) failed before after) }
 {
-    let mut lists = Items::new(alloc);
-    'graphs: for graph in graphs.as_slice() {
-        let list = weights_of(alloc, graph, top)?;
-        push(&mut lists, list)?;
-    }
-    Ok(lists)
-}
-
-// Whether the processor can supply the demand over each length up to this one, by the lists of all agents.
-fn demand(unit: &Unit, lists: &Items<Items<u64>>, top: u32) -> Result<(), Stop>
-    requires few { length lists.now ≤ AGENTS }
-    requires long { All (λ list. length list ≡ top + 1) lists.now }
-    requires small { All (All (λ weight. weight < 2 ^ 50)) lists.now }
-    ensures ok { (graphs : List Drawn) → AreAllWeights top graphs lists.now → IfOk result (λ done. (demanding unit.now graphs top).gives done) }
-    ensures err { (graphs : List Drawn) (failed : List ℕ) (before after : ℕ) → AreAllWeights top graphs lists.now
-        → IfErr result (Halts (demanding unit.now graphs top) failed before after) }
-{
-    match feasible(lists.as_slice(), unit.quantum, top) {
-        Verdict::Yes => Ok(()),
-        Verdict::No { length, demand } => {
+    match criterion(alloc, graphs.as_slice(), unit.quantum, top) {
+        Ok(Verdict::Yes) => Ok(()),
+        Ok(Verdict::No { length, demand }) => {
             let supply = u64::from(unit.quantum) * u64::from(length);
             Err(Stop::Refused(Refusal::Infeasible {
                 length,
@@ -118,6 +98,8 @@ fn demand(unit: &Unit, lists: &Items<Items<u64>>, top: u32) -> Result<(), Stop>
                 supply,
             }))
         }
+        Err(WindowFault::Cells) => Err(Stop::Refused(Refusal::Cells)),
+        Err(WindowFault::Memory) => Err(Stop::Memory),
     }
 }
 
@@ -127,18 +109,20 @@ pub fn supply(alloc: Global, unit: &Unit, until: u32) -> Result<Supplied, Stop>
     requires text { IsOfText unit.now }
     ensures ok { IfOk result (λ supply. (graphs : List Drawn)
         × (supplying unit.now until).gives (supply_of graphs supply)) }
+    ensures alike { IfOk result (λ supply. ActsAlike unit.now supply.code) }
+    ensures ways { IfOk result (λ supply. AreWaysOf unit.now supply.ways) }
     ensures err { (failed : List ℕ) (before after : ℕ) → IfErr result (Halts (supplying unit.now until) failed before after) }
 {
-    let graphs = graphs(alloc, unit)?;
-    let nexts = all_nexts(alloc, unit)?;
-    let sizes = sizes(alloc, unit, &graphs)?;
+    let coded = with_ways(alloc, unit)?;
+    let graphs = graphs(alloc, unit, &coded.ways)?;
+    let sizes = sizes(alloc, unit, &graphs, &coded.ways)?;
     let lines = lines_of(alloc, &graphs)?;
     let extent = extent_of(&lines, unit.quantum, until);
     let top = extent.length();
-    let lists = all_weights(alloc, &graphs, top)?;
-    demand(unit, &lists, top)?;
+    demand(alloc, unit, &graphs, top)?;
     Ok(Supplied {
-        nexts,
+        code: coded.code,
+        ways: coded.ways,
         sizes,
         lines,
         extent,

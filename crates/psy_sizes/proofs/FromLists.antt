@@ -44,6 +44,21 @@ module _ (unit : Whole) (ways : WayLists) (same : AreSame unit ways) where
     };
   }
 
+  pub sizes_listed : (sizes : Sizes) → AreSizes unit (OfText unit) ways.nexts sizes → AreSizes unit (Listed ways) ways.nexts sizes
+  sizes_listed sizes are = record {
+    rings = record { count = are.rings.count; each = λ variable size at. (same.rings variable size).1 (are.rings.each variable size at) };
+    small_rings = are.small_rings;
+    queues = record {
+      count = are.queues.count;
+      each = λ stream size at. (let inside = slice_get_within sizes.queues stream size at in (same.queues stream size (omega (arith, inside, are.queues.count))).1 (are.queues.each stream size at));
+    };
+    small_queues = are.small_queues;
+    outboxes = record {
+      count = are.outboxes.count;
+      each = λ agent size at. (let inside = slice_get_within sizes.outboxes agent size at in (same.outboxes agent size (omega (arith, inside, are.outboxes.count))).1 (are.outboxes.each agent size at));
+    };
+  }
+
   pub counted_of : CanCount unit (Listed ways) ways.nexts → CanCount unit (OfText unit) ways.nexts
   counted_of counted stream passes = counted stream ((same.tables stream (same.known stream passes)).1 passes)
 

@@ -11,11 +11,12 @@ ghost use Rattle.psy_sizes.specs.declared.fault.SizeFault.TheVariants.{Memory as
 ghost use Rattle.psy_sizes.specs.Faults.{CanCount, IsCause, IsFaultBy};
 
 use crate::fault::SizeFault;
+use crate::laws::listed_sizes;
 use crate::outboxes::outboxes;
 use crate::queues::queues;
 use crate::variables::rings;
 use psy_base::{Sizes, Ways};
-use psy_flow::laws::{listed, one_list, same_sizes};
+use psy_flow::laws::{listed, one_list};
 use psy_flow::ways;
 use psy_graph::Graph;
 use psy_graph::laws::one_graph;
@@ -60,7 +61,7 @@ pub fn sizes(alloc: Global, unit: &Unit, graphs: &[Graph]) -> Result<Sizes, Size
     one_graph();
     one_list();
     listed();
-    same_sizes();
+    listed_sizes();
     let ways = ways(alloc, unit)?;
     sizes_by(alloc, unit, graphs, &ways)
 }

@@ -1,11 +1,13 @@
 //! Laws of the definitions, each the contract of a function that does nothing.
 
-ghost use Rattle.std.specs.Prelude.{◌≡◌, ◌⊎◌, ℕ, List};
+ghost use Rattle.std.specs.Prelude.{◌≡◌, ◌↔◌, ◌⊎◌, ℕ, List};
 ghost use Rattle.psy_base.specs.declared.sizes.Sizes.{Sizes};
+ghost use Rattle.psy_base.specs.declared.ways.Ways.{Ways};
 ghost use Rattle.psy_tree.specs.declared.unit.Unit.{Unit as Whole};
 ghost use Rattle.psy_meaning.specs.BufferSizes.{AreSizes};
 ghost use Rattle.psy_meaning.specs.Flow.{AreAllNexts};
-ghost use Rattle.psy_meaning.specs.KnownWays.{OfText};
+ghost use Rattle.psy_meaning.specs.KnownWays.{Listed, OfText};
+ghost use Rattle.psy_meaning.specs.ListedWays.{AreWaysOf};
 ghost use Rattle.psy_meaning.specs.Units.{IsOfText};
 ghost use Rattle.psy_graph.specs.declared.graph.Graph.{Graph};
 ghost use Rattle.psy_graph.specs.Graphs.{AreGraphs};
@@ -13,7 +15,7 @@ ghost use Rattle.psy_sizes.specs.declared.fault.SizeFault.{SizeFault};
 ghost use Rattle.psy_sizes.specs.Faults.{CanCount, IsFaultBy};
 
 use psy_clock::laws::dates;
-use psy_flow::laws::{known, listed, looking, sends};
+use psy_flow::laws::{known, listed, looking, same_sizes, sends};
 use psy_graph::laws::one_graph;
 use psy_window::laws::greatest;
 
@@ -38,4 +40,17 @@ pub fn one_size()
     one_graph();
     greatest();
     listed();
+}
+
+/// By the lists of the ways of a program's statements, sizes and faults are those by the statements.
+pub fn listed_sizes()
+    ensures sizes { (unit : Whole) (ways : Ways) (sizes : Sizes) → IsOfText unit → AreWaysOf unit ways
+        → AreSizes unit (Listed ways) ways.nexts sizes ↔ AreSizes unit (OfText unit) ways.nexts sizes }
+    ensures counted { (unit : Whole) (ways : Ways) → IsOfText unit → AreWaysOf unit ways → CanCount unit (Listed ways) ways.nexts
+        → CanCount unit (OfText unit) ways.nexts }
+    ensures faults { (unit : Whole) (ways : Ways) (fault : SizeFault) → IsOfText unit → AreWaysOf unit ways
+        → IsFaultBy unit (Listed ways) ways.nexts fault → IsFaultBy unit (OfText unit) ways.nexts fault }
+{
+    listed();
+    same_sizes();
 }

@@ -2,13 +2,14 @@
 use Rattle.std.proofs.Common.{◌≡◌, refl, sym, ap, subst, ◌∙◌, inl, inr, arith, map}
 use Rattle.std.specs.Prelude.{◌⊎◌, ℕ, zero, suc, ◌+◌, ◌<◌, if◌then◌else◌, List, [], ◌∷◌, ◌++◌, length, get_or, Option, Some, None, slice_get}
 use Rattle.std.proofs.lemmas.Bool.{cases_eq, eq-eqb, ne_eqb}
-use Rattle.std.proofs.lemmas.Option.{slice_get-get_or, slice_get_read}
+use Rattle.std.proofs.lemmas.Option.{get_or_from_slice_get, slice_get_read}
 use Rattle.psy_code.specs.declared.code.AgentCode.{AgentCode}
 use Rattle.psy_code.specs.declared.code.Code.{Code}
 use Rattle.psy_code.specs.declared.code.CopyInit.{CopyInit}
-use Rattle.psy_code.specs.Execution.{Copy, copy_from}
-use Rattle.psy_meaning.specs.Alike.{ActsAlike, owned_copy, owned_from}
-use Rattle.psy_tree.specs.Parts.{agent_at, no_agent}
+use Rattle.psy_code.specs.Execution.{Copy}
+use Rattle.psy_meaning.specs.Alike.{owned_copy, owned_from}
+use Rattle.psy_history.specs.Executors.{agent_code_at}
+use Rattle.psy_history.specs.Fitting.{IsCodeFor}
 use Rattle.psy_tree.specs.declared.unit.Unit.{Unit as Whole}
 use Rattle.psy_tree.specs.declared.unit.VarDecl.{VarDecl}
 
@@ -79,32 +80,31 @@ owned_each agent first (v ∷ rest) place c at = elim (in_either (owned_copy age
 
 -- ---- of code
 
-copied : (own : List CopyInit) (place : ℕ) (c : CopyInit) → slice_get own place ≡ Some c → slice_get (map copy_from own) place ≡ Some (copy_from c)
-copied [] place c e = cc
-copied (d ∷ own) zero c e = (let same : d ≡ c = cc in ap (λ x. Some (copy_from x)) same)
-copied (d ∷ own) (suc place) c e = copied own place c e
+-- Where a list shows the same numbers as another one, it has an item at each place of that one.
+shown_at : {A B : Type 0} (f : A → ℕ) (g : B → ℕ) (xs : List A) (ys : List B) → map f xs ≡ map g ys → (place : ℕ) (x : A) → slice_get xs place ≡ Some x → (y : B) × (slice_get ys place ≡ Some y) × (g y ≡ f x)
+shown_at f g [] ys same place x e = cc
+shown_at f g (a ∷ xs) [] same place x e = cc
+shown_at f g (a ∷ xs) (b ∷ ys) same zero x e = (let first : f a ≡ g b = cc in let found : a ≡ x = cc in (b, refl, sym first ∙ ap f found))
+shown_at f g (a ∷ xs) (b ∷ ys) same (suc place) x e = (let rest : map f xs ≡ map g ys = cc in shown_at f g xs ys rest place x e)
 
-copied_back : (own : List CopyInit) (place : ℕ) (c : Copy) → slice_get (map copy_from own) place ≡ Some c → (d : CopyInit) × (slice_get own place ≡ Some d) × (d.variable ≡ c.variable)
-copied_back [] place c e = cc
-copied_back (d ∷ own) zero c e = (let same : copy_from d ≡ c = cc in (d, refl, ap (λ (x : Copy). x.variable) same))
-copied_back (d ∷ own) (suc place) c e = copied_back own place c e
-
-module _ (agent : ℕ) (variables : List VarDecl) (own : List CopyInit) (is : map copy_from own ≡ owned_from agent 0 variables) where
+module _ (agent : ℕ) (variables : List VarDecl) (own : List CopyInit) (is : map (λ c. c.variable) own ≡ map (λ c. c.variable) (owned_from agent 0 variables)) where
   pub own_owned : (place : ℕ) (c : CopyInit) → slice_get own place ≡ Some c → (v : VarDecl) × (slice_get variables c.variable ≡ Some v) × (v.owner ≡ Some agent)
   own_owned place c at =
-      let found = owned_each agent 0 variables place (copy_from c) (ap (λ xs. slice_get xs place) (sym is) ∙ copied own place c at) in
-      (found.1, ap (slice_get variables) (found.2 ∙ omega arith) ∙ found.3, found.4)
+      let (copy, there, same) = shown_at (λ (x : CopyInit). x.variable) (λ (x : Copy). x.variable) own (owned_from agent 0 variables) is place c at in
+      let found = owned_each agent 0 variables place copy there in
+      (found.1, ap (slice_get variables) (sym same ∙ found.2 ∙ omega arith) ∙ found.3, found.4)
 
   pub owned_own : (variable : ℕ) (v : VarDecl) → slice_get variables variable ≡ Some v → v.owner ≡ Some agent → (place : ℕ) × (c : CopyInit) × (slice_get own place ≡ Some c) × (c.variable ≡ variable)
   owned_own variable v at owned =
       let listed = listed_from agent 0 variables variable v at owned in
-      let back = copied_back own listed.0 listed.1 (ap (λ xs. slice_get xs listed.0) is ∙ listed.2) in
+      let back = shown_at (λ (x : Copy). x.variable) (λ (x : CopyInit). x.variable) (owned_from agent 0 variables) own (sym is) listed.0 listed.1 listed.2 in
       (listed.0, back.0, back.1, back.2 ∙ listed.3 ∙ omega arith)
 
 -- The copies of an agent's code are those of the variables that it owns.
-pub copies_of : (unit : Whole) (code : Code) → ActsAlike unit code → (agent : ℕ) → agent < length unit.agents → (agents : List AgentCode) → agents ≡ code.agents → (its : AgentCode) → its ≡ get_or agents agent its
-    → (own : List CopyInit) → own ≡ its.copies → map copy_from own ≡ owned_from agent 0 unit.variables
-copies_of unit code alike agent known agents same its is own of =
-    let within : agent < length code.agents = omega (arith, known, alike.agents) in
+pub copies_of : (unit : Whole) (code : Code) → IsCodeFor unit code → (agent : ℕ) → agent < length unit.agents → (agents : List AgentCode) → agents ≡ code.agents → (its : AgentCode) → its ≡ get_or agents agent its
+    → (own : List CopyInit) → own ≡ its.copies → map (λ c. c.variable) own ≡ map (λ c. c.variable) (owned_from agent 0 unit.variables)
+copies_of unit code fits agent known agents same its is own of =
+    let within : agent < length code.agents = omega (arith, known, fits.agents) in
     let at : slice_get code.agents agent ≡ Some its = slice_get_read code.agents (length code.agents) agent its refl within (is ∙ ap (λ xs. get_or xs agent its) same) in
-    ap (map copy_from) of ∙ (alike.each agent (agent_at unit agent) its (slice_get-get_or unit.agents agent no_agent known) at).copies
+    let there : agent_code_at code agent ≡ its = get_or_from_slice_get code.agents agent its _ at in
+    ap (map (λ (c : CopyInit). c.variable)) of ∙ ap (λ (a : AgentCode). map (λ (c : CopyInit). c.variable) a.copies) (sym there) ∙ (fits.each agent known).copies

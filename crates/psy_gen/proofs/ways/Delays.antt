@@ -31,6 +31,7 @@ use Rattle.psy_gen.proofs.ways.Gauges as gauges
 use Rattle.psy_gen.proofs.ways.Modes.{Found}
 use Rattle.psy_gen.proofs.ways.Passing.{Dies, Earlier, dies_later, on_way, passed_on, passed_then}
 use Rattle.psy_gen.proofs.ways.Points.{IsAgent, coded, stated}
+use Rattle.psy_gen.proofs.ways.Suits.{all_found}
 
 -- ---- the greatest of some delays
 
@@ -154,7 +155,7 @@ module _ (unit : Whole) (number : ℕ) (agent : AgentDecl) (known : IsAgent unit
   dies_first : Dies instrs low
   dies_first =
       let (to, (met, way)) = leads in
-      let l = coded unit number agent known 0 has_points (gauges.looks 0) Found (tt {0}) known.turns to met refl way in
+      let l = coded unit number agent known 0 has_points (gauges.looks 0) Found (tt {0}) (all_found agent.stmts) to met refl way in
       subst (Dies instrs) (place_is unit number agent known.at 0) (record { point = to; places = l.places; way = l.way })
 
   dies_last : Dies instrs high
@@ -248,7 +249,7 @@ module _ (unit : Whole) (agents : (number : ℕ) (agent : AgentDecl) → slice_g
       let agent = agent_at unit number in
       let got = agent_here number less in
       let its = gauges.sends (counts delay) in
-      let a = stated unit number agent (agents number agent got) point named its Found (tt {0}) (agents number agent got).turns to places way in
+      let a = stated unit number agent (agents number agent got) point named its Found (tt {0}) (all_found agent.stmts) to places way in
       let own : Sending = record { stream = stream; after = after; clock = clock } in
       let asked : (stream == stream) ≡ true = grind arith in
       let as_long : (delay_of unit own == delay) ≡ true = grind (arith, is) in

@@ -25,7 +25,7 @@ use Rattle.psy_gen.proofs.ways.Measures.{Measure}
 use Rattle.psy_gen.proofs.ways.Modes.{Allows, Exact, Found, Mode}
 use Rattle.psy_gen.proofs.ways.Rests.{same_rest}
 use Rattle.psy_gen.proofs.ways.Same.{Onto, SameAll, Upto}
-use Rattle.psy_gen.proofs.ways.Suits.{Suits, HasTurns}
+use Rattle.psy_gen.proofs.ways.Suits.{Suits, all_found}
 
 -- What is known of the calls of a unit's functions: from whatever was met there is a way of each, and none looks or sends.
 pub record AreCalls (unit : Whole) : Type 0 where
@@ -37,7 +37,6 @@ pub record IsAgent (unit : Whole) (number : ℕ) (agent : AgentDecl) : Type 0 wh
   pub at : slice_get unit.agents number ≡ Some agent
   pub calls : AreCalls unit
   pub sound : IsSoundAgent unit number agent
-  pub turns : Each HasTurns agent.stmts
 
 module _ (unit : Whole) (number : ℕ) (agent : AgentDecl) (known : IsAgent unit number agent) where
   abbrev instrs : List Instr
@@ -98,8 +97,8 @@ module _ (unit : Whole) (number : ℕ) (agent : AgentDecl) (known : IsAgent unit
 
     nexts : (to : ℕ) → IsNext unit.functions agent point to ↔ ((places : List ℕ) × IsCodeWay instrs to from places)
     nexts to = (
-      (λ (met, way). let l = coded (looks 0) Found (tt {0}) known.turns to met refl way in (l.places, l.way)),
-      (λ (places, way). let a = stated (looks 0) Found (tt {0}) known.turns to places way in (a.now, a.goes)),
+      (λ (met, way). let l = coded (looks 0) Found (tt {0}) (all_found agent.stmts) to met refl way in (l.places, l.way)),
+      (λ (places, way). let a = stated (looks 0) Found (tt {0}) (all_found agent.stmts) to places way in (a.now, a.goes)),
     )
 
     -- ---- looks
@@ -125,12 +124,12 @@ module _ (unit : Whole) (number : ℕ) (agent : AgentDecl) (known : IsAgent unit
     may_look : (variable : ℕ) → MayLook unit.functions agent point variable ↔ ((back : ℕ) × IsOnWay instrs from (instr.Past variable back))
     may_look variable = (
       (λ (to, met, way, look, there, same).
-          let l = coded (looks variable) Found (tt {0}) known.turns to met refl way in
+          let l = coded (looks variable) Found (tt {0}) (all_found agent.stmts) to met refl way in
           let is : looks_at variable look ≡ true = grind (arith, same) in
           look_found variable to met l (find_counted instrs (looks variable) l.places
           (omega (arith, l.weighs, some_among (looks_at variable) met.looks look there is)))),
       (λ (back, (to, place, places, way, among, at)).
-          let a = stated (looks variable) Found (tt {0}) known.turns to places way in
+          let a = stated (looks variable) Found (tt {0}) (all_found agent.stmts) to places way in
           let some = is_counted instrs (looks variable) places place (instr.Past variable back) among at (looked variable back) in
           let l = find_among (looks_at variable) a.now.looks (omega (arith, a.over (omega (arith, some)))) in
           let own = l.counted in

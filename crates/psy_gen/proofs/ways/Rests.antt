@@ -31,7 +31,7 @@ use Rattle.psy_gen.proofs.ways.Modes.{Mode, Allows}
 use Rattle.psy_gen.proofs.ways.Courses.{all_falling, all_on}
 use Rattle.psy_gen.proofs.ways.Same.{SameAll, same_here, same_jump}
 use Rattle.psy_gen.proofs.ways.Stmts.{as_pieces, same_stmts}
-use Rattle.psy_gen.proofs.ways.Suits.{keeps_roll, loops_in, sends_in, Suits}
+use Rattle.psy_gen.proofs.ways.Suits.{loops_in, sends_in, Suits, suits_in}
 
 module _ (instrs : List Instr) (its : Measure) (layout : Layout) (calls : ℕ → Way) (some : (f : ℕ) (m : Meter) → (n : Meter) × calls f m n)
     (still : (f : ℕ) (m n : Meter) → calls f m n → its.met n ≡ its.met m) (sc : Scope) (works : sc.returns ≡ false)
@@ -206,7 +206,7 @@ module _ (instrs : List Instr) (its : Measure) (layout : Layout) (calls : ℕ �
       let self = subst (PiecesSame (Do z ∷ []) p) one_size
       (stmts_same (z ∷ []) c p (sound, tt {0}) (suits, tt {0}) (subst (HasAt instrs p) (sym (append-nil (stmt_code layout z c p))) h)) in
       let done = layer_rests y c p (subst (λ (t : Type 0). t) (rec-roll-Stmt (Type 0) (sound_stmt_step sc) (stmts_natural sc) x) sound)
-      (subst (λ (t : Type 0). t) (keeps_roll (loops_in mode) (sends_in mode) x) suits)
+      (suits_in mode x suits)
       (subst (HasAt instrs p) (stmt_roll layout x c p) h) self in
       subst (λ r. EachSame r (places_of z p) (p + stmt_size z)) (sym (para-roll-Stmt Rests rests_step x))
       (subst (λ (f : Places). EachSame (rests_step (map-Stmt Stmt rest.Part with_rests x)) (f p) (p + stmt_size z))

@@ -1,6 +1,6 @@
 -- The code of statements goes as their courses do.
 use Rattle.std.proofs.Common.{◌≡◌, ℕ, zero, suc, ◌+◌, List, [], ◌∷◌, ◌++◌, map, Some, None, refl, sym, ap, subst, ◌∙◌, inl, inr, arith}
-use Rattle.std.specs.Prelude.{◌⊎◌, true, false}
+use Rattle.std.specs.Prelude.{◌⊎◌, ◌≤◌, true, false}
 use Rattle.std.proofs.lemmas.List.{map-id}
 use Rattle.psy_code.specs.declared.instr.Instr.{Instr}
 use Rattle.psy_code.specs.declared.instr.Instr.TheVariants as instr
@@ -32,7 +32,7 @@ use Rattle.psy_gen.proofs.ways.Courses.{all_falling, all_reaching}
 use Rattle.psy_gen.proofs.ways.Kinds.{IsPlain}
 use Rattle.psy_gen.proofs.ways.Same.{Onto, Upto, Same, SameAll, same_here, same_plain, same_jump, counted, same_both}
 use Rattle.psy_gen.proofs.ways.Courses.{all_behind, all_on, all_fork, all_ends}
-use Rattle.psy_gen.proofs.ways.Suits.{keeps_roll, loops_in, sends_in, Suits}
+use Rattle.psy_gen.proofs.ways.Suits.{loops_in, sends_in, Suits, suits_in}
 
 -- Statements as pieces
 pub as_pieces : (calls : ℕ → Way) (stmts : List Stmt) → courses_through (piece_course calls) (pieces_of stmts) ≡ courses_through (course_by calls) stmts
@@ -248,34 +248,34 @@ module _ (instrs : List Instr) (its : Measure) (layout : Layout) (calls : ℕ �
 
   turns_same : (e : Expr) (most : ℕ) (ks : List Known) (mode : Mode) (c again : ℕ)
       → let end = again + expr_size e + 2 + block_size (map (part layout) (map tree ks)) + 1 in
-      Allows its mode → holds_advance (map tree ks) ≡ false → Each (IsSoundStmt sc) (map tree ks) → loops_in mode most (map tree ks)
+      Allows its mode → holds_advance (map tree ks) ≡ false → 1 ≤ most → Each (IsSoundStmt sc) (map tree ks) → loops_in mode most (map tree ks)
       → Each (Suits mode) (map tree ks)
       → HasAt instrs again (expr_code layout e again ++
       (instr.Guard c most ∷ (instr.JumpZero end ∷ (stmts_code layout (map tree ks) (c + 1) (again + expr_size e + 2) ++ instr.Jump again ∷ []))))
       → A mode (turning most (expr_way calls e) (courses_through (course_by calls) (map tree ks))) again end
-  turns_same e most ks Quiet c again allows stays sound fits suits h = quiet_turns instrs its _ _ again _ _ _
+  turns_same e most ks Quiet c again allows stays turned sound fits suits h = quiet_turns instrs its _ _ again _ _ _
       (loop_at e most ks Quiet c again allows stays sound suits h) most
-  turns_same e most ks Exact c again allows stays sound fits suits h =
+  turns_same e most ks Exact c again allows stays turned sound fits suits h =
       let end = again + expr_size e + 2 + block_size (map (part layout) (map tree ks)) + 1 in
       exact_of instrs its (turning most (expr_way calls e) (courses_through (course_by calls) (map tree ks))) again end
       (quiet_turns instrs its _ _ again _ _ _ (loop_at e most ks Quiet c again allows stays sound fits h) most)
-  turns_same e zero ks Found c again allows stays sound fits suits h = absurd (omega (arith, fits))
-  turns_same e (suc most) ks Found c again allows stays sound fits suits h = found_turns instrs its _ _ again _ _ _
+  turns_same e zero ks Found c again allows stays turned sound fits suits h = absurd (omega (arith, turned))
+  turns_same e (suc most) ks Found c again allows stays turned sound fits suits h = found_turns instrs its _ _ again _ _ _
       (loop_at e (suc most) ks Found c again allows stays sound suits h) most
 
   bounded_same : (e : Expr) (most : ℕ) (ks : List Known) (mode : Mode) (c p : ℕ) → Allows its mode → holds_advance (map tree ks) ≡ false
-      → Each (IsSoundStmt sc) (map tree ks) → loops_in mode most (map tree ks) → Each (Suits mode) (map tree ks)
+      → 1 ≤ most → Each (IsSoundStmt sc) (map tree ks) → loops_in mode most (map tree ks) → Each (Suits mode) (map tree ks)
       → HasAt instrs p (bounded_code layout e most (map (part layout) (map tree ks)) c p)
       → A mode (behind one (turning most (expr_way calls e) (courses_through (course_by calls) (map tree ks)))) p
       (p + (expr_size e + 4 + stmts_size (map tree ks)))
-  bounded_same e most ks mode c p allows stays sound fits suits h =
+  bounded_same e most ks mode c p allows stays turned sound fits suits h =
       let again = p + 1 in
       let course = turning most (expr_way calls e) (courses_through (course_by calls) (map tree ks)) in
       let end = again + expr_size e + 2 + block_size (map (part layout) (map tree ks)) + 1 in
       let place : end ≡ p + (expr_size e + 4 + stmts_size (map tree ks)) = omega (arith, block_size_is layout (map tree ks)) in
       at_place mode (behind one course) p end (p + (expr_size e + 4 + stmts_size (map tree ks))) place
       (all_behind instrs its mode one course p again end (same_plain instrs its mode (instr.Zero c) p (tt {0}) h.0)
-      (turns_same e most ks mode c again allows stays sound fits suits h.1))
+      (turns_same e most ks mode c again allows stays turned sound fits suits h.1))
 
   -- ---- all statements
 
@@ -307,7 +307,7 @@ module _ (instrs : List Instr) (its : Measure) (layout : Layout) (calls : ℕ �
   step (Stmt-F.If test branch None) mode c p allows sound suits h = if_same test branch mode c p allows sound.1 suits.0 h
   step (Stmt-F.If test branch (Some other)) mode c p allows sound suits h = if_else_same test branch other mode c p allows sound.1 suits.0 sound.2 suits.1 h
   step (Stmt-F.Bounded test most body) mode c p allows sound suits h =
-      bounded_same test most body mode c p allows (ap holds_advance (sym (map-id (map tree body))) ∙ sound.3) sound.2
+      bounded_same test most body mode c p allows (ap holds_advance (sym (map-id (map tree body))) ∙ sound.3) sound.1.0 sound.2
       (subst (loops_in mode most) (map-id (map tree body)) suits.0) suits.1 h
   step (Stmt-F.Timed test body) mode c p allows sound suits h = timed_same test body mode c p allows
       (ap quiet_list (sym (map-id (map tree body))) ∙ sound.1) sound.2 suits h
@@ -325,7 +325,7 @@ module _ (instrs : List Instr) (its : Measure) (layout : Layout) (calls : ℕ �
       (subst (λ course. A mode course p (p + stmt_size_step (map-Stmt Stmt ℕ stmt_size x)))
       (sym (rec-roll-Stmt Course (course_step calls) (natural_stmt calls) x))
       (step y mode c p allows (subst (λ (t : Type 0). t) (rec-roll-Stmt (Type 0) (sound_stmt_step sc) (stmts_natural sc) x) sound)
-      (subst (λ (t : Type 0). t) (keeps_roll (loops_in mode) (sends_in mode) x) suits) (subst (HasAt instrs p) (stmt_roll layout x c p) h)))
+      (suits_in mode x suits) (subst (HasAt instrs p) (stmt_roll layout x c p) h)))
 
   pub same_stmt : (stmt : Stmt) → Q stmt
   same_stmt = ind-Stmt Q (λ x y is. subst (λ z. Q (roll-Stmt z)) is (layer y))

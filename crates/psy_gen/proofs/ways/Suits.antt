@@ -1,6 +1,6 @@
 -- What statements keep, by their parts.
-use Rattle.std.proofs.Common.{◌≡◌, map, Some, None, refl, sym, ap, ◌∙◌}
-use Rattle.std.specs.Prelude.{◌≤◌, ⊤}
+use Rattle.std.proofs.Common.{◌≡◌, List, [], ◌∷◌, map, Some, None, refl, sym, ap, subst, ◌∙◌}
+use Rattle.std.specs.Prelude.{⊤}
 use Rattle.std.proofs.lemmas.List.{map-id}
 use Rattle.psy_tree.specs.declared.unit.Stmt.{Stmt, roll-Stmt, map-Stmt, rec-roll-Stmt}
 use Rattle.psy_tree.specs.declared.unit.Stmt.TheOpen.{Stmt-F}
@@ -24,14 +24,14 @@ natural loop sends X v f (Stmt-F.Send value stream after clock) = refl
 natural loop sends X v f (Stmt-F.Advance point) = refl
 natural loop sends X v f (Stmt-F.Return value) = refl
 
-pub keeps_roll : (loop : OfLoops) (sends : Type 0) (x : Stmt-F Stmt)
+keeps_roll : (loop : OfLoops) (sends : Type 0) (x : Stmt-F Stmt)
     → Keeps loop sends (roll-Stmt x) ≡ keeps_step loop sends Stmt (λ y. y) (Keeps loop sends) x
 keeps_roll loop sends x = rec-roll-Stmt (Type 0) (keeps_step loop sends) (natural loop sends) x
 
 -- What bounded loops are to keep, so that what is counted goes over
 abbrev pub loops_in : Mode → OfLoops
 loops_in Quiet most body = ⊤
-loops_in Found most body = 1 ≤ most
+loops_in Found most body = ⊤
 loops_in Exact most body = Each IsSendless body
 
 abbrev pub sends_in : Mode → Type 0
@@ -39,10 +39,25 @@ sends_in Quiet = ⊥
 sends_in Found = ⊤
 sends_in Exact = ⊤
 
--- What a statement is to keep
+-- What a statement is to keep: nothing, where what is counted is found again.
 abbrev pub Suits : Mode → Stmt → Type 0
-Suits mode = Keeps (loops_in mode) (sends_in mode)
+Suits Quiet = Keeps (loops_in Quiet) (sends_in Quiet)
+Suits Found = λ stmt. ⊤
+Suits Exact = Keeps (loops_in Exact) (sends_in Exact)
 
--- Each bounded loop in a statement may be gone round.
-abbrev pub HasTurns : Stmt → Type 0
-HasTurns = Suits Found
+pub all_found : (stmts : List Stmt) → Each (Suits Found) stmts
+all_found [] = tt
+all_found (x ∷ xs) = (tt {0}, all_found xs)
+
+found_in : (x : Stmt-F Stmt) → keeps_step (loops_in Found) (sends_in Found) Stmt (λ y. y) (Suits Found) x
+found_in (Stmt-F.If test branch None) = (all_found branch, tt {0})
+found_in (Stmt-F.If test branch (Some other)) = (all_found branch, all_found other)
+found_in (Stmt-F.Bounded test most body) = (tt {0}, all_found body)
+found_in (Stmt-F.Timed test body) = all_found body
+found_in _ = tt {0}
+
+-- Its parts keep it too.
+pub suits_in : (mode : Mode) (x : Stmt-F Stmt) → Suits mode (roll-Stmt x) → keeps_step (loops_in mode) (sends_in mode) Stmt (λ y. y) (Suits mode) x
+suits_in Quiet x h = subst (λ (t : Type 0). t) (keeps_roll (loops_in Quiet) (sends_in Quiet) x) h
+suits_in Found x h = found_in x
+suits_in Exact x h = subst (λ (t : Type 0). t) (keeps_roll (loops_in Exact) (sends_in Exact) x) h

@@ -17,7 +17,7 @@ use psy_base::{Items, Memory};
 use psy_budget::{Charge, Stall};
 use psy_code::Code;
 use psy_dates::{Plan, Shared};
-use psy_history::laws::{openings, reaches};
+use psy_history::laws::{fitting, reaches};
 use psy_history::{Inputs, Order, Script};
 use psy_machine::Machine;
 use psy_ready::Ready;
@@ -100,7 +100,7 @@ impl Kernel {
         requires script { IsScript plan.unit script }
         ensures { IfOk result (λ kernel. kernel ≡ booted plan inputs.lists script) }
     {
-        openings();
+        fitting();
         reaches();
         let agents = plan.unit.agents.len() as u32;
         let machines = machines_of(alloc, &plan.code)?;

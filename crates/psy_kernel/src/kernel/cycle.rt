@@ -6,12 +6,10 @@ ghost use Rattle.psy_budget.specs.declared.charge.Stall.{Stall};
 ghost use Rattle.psy_code.specs.Execution.{copy_of};
 ghost use Rattle.psy_code.specs.declared.code.CopyInit.{CopyInit};
 ghost use Rattle.psy_dates.specs.declared.plan.Plan.{Plan};
-ghost use Rattle.psy_dates.specs.Plans.{IsPlan, opened_of, system_of};
+ghost use Rattle.psy_dates.specs.Plans.{IsPlan, IsSoundFor, opened_of, system_of};
 ghost use Rattle.psy_dates.specs.Standing.{dates_done};
 ghost use Rattle.psy_history.specs.Compiled.{AreInputs};
-ghost use Rattle.psy_history.specs.Openings.{IsSound};
 ghost use Rattle.psy_history.specs.Regular.{IsLawful};
-ghost use Rattle.psy_meaning.specs.KnownWays.{OfText};
 ghost use Rattle.psy_history.specs.Actions.{Action, History, Opening, System};
 ghost use Rattle.psy_tree.specs.Parts.{agent_at};
 ghost use Rattle.psy_history.specs.History.{history};
@@ -24,6 +22,7 @@ ghost use Rattle.psy_tree.specs.declared.unit.VarDecl.{VarDecl};
 ghost use Rattle.psy_kernel.specs.Cycles.{AreOver, GetsCycle, IsCycleOf, IsNear, LooksBack, MayEnd, figured};
 ghost use Rattle.psy_kernel.specs.Cycles.{order_by, reach_by, run_of, run_turns};
 ghost use Rattle.psy_history.specs.declared.told.Script.{Script};
+ghost use Rattle.psy_history.specs.Scripts.{stalls_of};
 ghost use Rattle.psy_kernel.specs.Progress.{after_cycle, stage_of};
 ghost use Rattle.psy_kernel.specs.Slices.{IsOverBy};
 ghost use Rattle.psy_kernel.specs.Standing.{AreInForce, IsChosen};
@@ -37,7 +36,7 @@ use psy_code::CopyInit;
 use psy_dates::{Phase, Plan, Seat};
 use psy_history::Order;
 use psy_history::laws::{
-    compiled, deeds, on_time, openings, queues, reaches, regular, ring_sizes, rings,
+    deeds, fitting, on_time, openings, queues, reaches, regular, ring_sizes, rings,
 };
 use psy_machine::Machine;
 use psy_ready::Ready;
@@ -221,13 +220,13 @@ fn gets(until: u32)
     ensures looks { (plan : Plan) (opening : Opening) (inputs : List (List ℤ)) (script : Script) (date cycle agent : ℕ) (r : Action) (before : List Action)
         → IsCycleOf plan opening inputs script date cycle
         → history (run_of plan opening inputs script) (date + 1) agent ≡ r ∷ before → is_pending (run_turns plan opening inputs script cycle) r ≡ true
-        → LooksBack (run_of plan opening inputs script) plan.code (run_turns plan opening inputs script cycle) date r }
+        → LooksBack (run_of plan opening inputs script) plan.sizes plan.code (run_turns plan opening inputs script cycle) date r }
     ensures idle { (s : System) (turns : List (Option Turn)) (h : History) (variable : ℕ) → reach s (None ∷ turns) h variable ≡ reach s turns h variable }
     ensures lawful { (plan : Plan) (opening : Opening) (inputs : List (List ℤ)) (script : Script) → IsPlan plan
-        → AreInputs plan.unit inputs → IsSound (run_of plan opening inputs script) (OfText plan.unit) plan.code
+        → AreInputs plan.unit inputs → IsSoundFor plan opening inputs (stalls_of script)
         → IsLawful (run_of plan opening inputs script) }
 {
-    compiled();
+    fitting();
     openings();
     regular();
     on_time();

@@ -11,7 +11,7 @@ use super::Kernel;
 use crate::stage::Stage;
 use psy_budget::Charge;
 use psy_dates::{Phase, Seat, at_date};
-use psy_history::laws::{compiled, given, on_time, openings, reaches, regular};
+use psy_history::laws::{fitting, given, on_time, openings, reaches, regular};
 use psy_queue::Queue;
 use psy_ready::Ready;
 use psy_tree::{AgentDecl, Point};
@@ -85,7 +85,7 @@ impl Kernel {
         ensures earlier { self.old.dates ≢ self.old.plan.until → stage_of self.new ≡ Stage.CycleDue (self.old.dates * self.old.plan.unit.quantum) }
     {
         given();
-        compiled();
+        fitting();
         openings();
         regular();
         on_time();

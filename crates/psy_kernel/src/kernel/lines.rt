@@ -20,7 +20,7 @@ ghost use Rattle.psy_tree.specs.Parts.{no_clock};
 use super::Kernel;
 use psy_clock::Clock;
 use psy_dates::{Calendar, Phase, Plan, Seat, Shared};
-use psy_history::laws::{compiled, openings, queue_sizes, queues, regular};
+use psy_history::laws::{fitting, openings, queue_sizes, queues, regular};
 use psy_log::{Line, Note};
 use psy_queue::Queue;
 use psy_tree::VarDecl;
@@ -125,7 +125,7 @@ fn tell_place(plan: &Plan, shared: &Shared, date: u64, place: usize, line: &mut 
         (told_by (opened_of plan.now opening shared.now.inputs.lists stalls) date place) result line.old line.new }
     ensures kept { IsFalse result → line.new ≡ line.old }
 {
-    compiled();
+    fitting();
     openings();
     regular();
     let agents = plan.unit.agents.as_slice();
@@ -173,7 +173,7 @@ fn may_tell(plan: &Plan, shared: &Shared, date: u64, place: usize) -> usize
         → told_from (opened_of plan.now opening shared.now.inputs.lists stalls) date result 0
         ≡ told_from (opened_of plan.now opening shared.now.inputs.lists stalls) date place 0 }
 {
-    compiled();
+    fitting();
     openings();
     regular();
     let agents = plan.unit.agents.len();
@@ -239,7 +239,7 @@ fn tell_stream(
     ensures room { IsTrue result → shown + 1 < 2 ^ 32 }
     ensures kept { IsFalse result → line.new ≡ line.old }
 {
-    compiled();
+    fitting();
     openings();
     queues();
     tell_message(
@@ -335,7 +335,7 @@ impl Kernel {
         ensures some { IsTrue result → (slice_get (lines_told self.old) self.old.given ≡ Some line.new) × (self.new ≡ after_line self.old) }
         ensures none { IsFalse result → (self.old.given ≡ length (lines_told self.old)) × (self.new ≡ self.old) × (line.new ≡ line.old) }
     {
-        compiled();
+        fitting();
         openings();
         regular();
         queues();

@@ -7,7 +7,7 @@ ghost use Rattle.psy_kernel.specs.Telling.{figured_lines};
 use super::{Figure, Kernel};
 use crate::stage::Stage;
 use psy_dates::Plan;
-use psy_history::laws::{compiled, on_time, openings, regular};
+use psy_history::laws::{fitting, on_time, openings, regular};
 use psy_log::{Line, Note};
 
 /// The line of the summary at a place, by the figures of the agents, by how far back rings were reached for, and by how many messages
@@ -75,7 +75,7 @@ impl Kernel {
         // The place behind the last line is a number of 32 bits too.
         ensures few { length (summary_told self.now) < 2 ^ 32 }
     {
-        compiled();
+        fitting();
         openings();
         regular();
         on_time();

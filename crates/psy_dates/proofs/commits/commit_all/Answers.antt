@@ -22,4 +22,4 @@ pub returns : goal.returns
 returns c variable within =
     let unit = c.args.plan.now.unit in
     all_committed unit.variables c.args.date c.args.seats.now c.args.ended.now c.args.committed.now (length unit.agents) c.args.movers.now c.movers.place c.movers.committed c.movers-test.false c.movers.invariant variable
-    (owned_within (length unit.agents) (owner_of unit.variables variable) (c.requires.plan.compiled.text.bare.variables variable no_variable within).owner)
+    (owned_within (length unit.agents) (owner_of unit.variables variable) (c.requires.plan.fits.bare.variables variable no_variable within).owner)

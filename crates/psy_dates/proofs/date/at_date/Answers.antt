@@ -9,7 +9,7 @@ use Rattle.psy_meaning.specs.Kept.{IsSentOf}
 use Rattle.psy_tree.specs.Parts.{stream_at}
 use Rattle.psy_meaning.specs.Timing.{first_date}
 use Rattle.psy_history.specs.Scheduled.{turns_of}
-use Rattle.psy_meaning.specs.KnownWays.{OfText}
+use Rattle.psy_meaning.specs.KnownWays.{Listed}
 use Rattle.psy_clock.specs.Dates.{IsClock}
 use Rattle.psy_dates.specs.Calendars.{AreNext, CalendarStands}
 use Rattle.psy_dates.specs.declared.plan.Plan.{Plan}
@@ -22,6 +22,7 @@ use Rattle.psy_dates.specs.Outboxes.{Outboxed}
 use Rattle.psy_dates.specs.Plans.{opened_of, system_of}
 use Rattle.psy_dates.specs.Publications.{ring_then}
 use Rattle.psy_dates.proofs.lemmas.Begun.{are_begun}
+use Rattle.psy_dates.proofs.lemmas.Fits.{goes_well_from, nexts_count}
 use Rattle.psy_dates.proofs.lemmas.Moving.{names_ends}
 use Rattle.psy_dates.proofs.lemmas.Names.{names_as, names_within}
 use Rattle.psy_dates.proofs.Dates.{Moved, seat_numbered, shared_moves, starts_known}
@@ -37,10 +38,9 @@ move_all-requires-clause-numbered c =
     let s = opened_of plan opening inputs stalls in
     let seats = c.args.shared.now.seats.items in
     let early : c.args.date ≤ 2 ^ 32 = omega arith in
-    let whole = c.compiled.ensures.run plan.unit plan.code plan.nexts stalls inputs c.requires.plan.compiled c.requires.inputs in
-    let run = c.openings.ensures.run (system_of plan inputs stalls) opening (OfText plan.unit) plan.code whole sound in
-    let lawful = c.regular.ensures.lawful s (OfText plan.unit) plan.code run in
-    let begun = are_begun s (OfText plan.unit) plan.code c.args.date sound behind (c.openings.ensures.none s (OfText plan.unit) plan.code run) (c.openings.ensures.silent s (OfText plan.unit) plan.code run) (c.openings.ensures.waits s (OfText plan.unit) plan.code run) in
+    let run = goes_well_from plan c.requires.plan c.fitting.ensures c.openings.ensures.run opening inputs stalls c.requires.inputs sound in
+    let lawful = c.regular.ensures.lawful s (Listed c.requires.plan.ways) plan.code run in
+    let begun = are_begun s (Listed c.requires.plan.ways) plan.code c.args.date (sound c.requires.plan) behind (c.openings.ensures.none s (Listed c.requires.plan.ways) plan.code run) (c.openings.ensures.silent s (Listed c.requires.plan.ways) plan.code run) (c.openings.ensures.waits s (Listed c.requires.plan.ways) plan.code run) in
     let numbered : All IsNumbered seats = λ k d l. seat_numbered s lawful c.args.date k (turns_of s order (c.args.date * plan.unit.quantum)) (get_or seats k d) (begun.numbers k) early (stands.seats k (get_or seats k d) (slice_get-get_or seats k d l)) in
     subst (All IsNumbered) (sym c.deref_mut-7.ensures.value) numbered
 
@@ -51,13 +51,12 @@ settle_all-requires-clause-held c stream queue at ends =
     let inputs = old.inputs.lists in
     let (opening, stalls, order, sound, behind, stands) = c.requires.stands in
     let s = opened_of plan opening inputs stalls in
-    let whole = c.compiled.ensures.run plan.unit plan.code plan.nexts stalls inputs c.requires.plan.compiled c.requires.inputs in
-    let run = c.openings.ensures.run (system_of plan inputs stalls) opening (OfText plan.unit) plan.code whole sound in
-    let lawful = c.regular.ensures.lawful s (OfText plan.unit) plan.code run in
-    let begun = are_begun s (OfText plan.unit) plan.code c.args.date sound behind (c.openings.ensures.none s (OfText plan.unit) plan.code run) (c.openings.ensures.silent s (OfText plan.unit) plan.code run) (c.openings.ensures.waits s (OfText plan.unit) plan.code run) in
-    let laws = stream_laws plan opening inputs stalls run c.regular.ensures.sends c.queues.ensures.next c.queues.ensures.look c.queue_sizes.ensures.held in
+    let run = goes_well_from plan c.requires.plan c.fitting.ensures c.openings.ensures.run opening inputs stalls c.requires.inputs sound in
+    let lawful = c.regular.ensures.lawful s (Listed c.requires.plan.ways) plan.code run in
+    let begun = are_begun s (Listed c.requires.plan.ways) plan.code c.args.date (sound c.requires.plan) behind (c.openings.ensures.none s (Listed c.requires.plan.ways) plan.code run) (c.openings.ensures.silent s (Listed c.requires.plan.ways) plan.code run) (c.openings.ensures.waits s (Listed c.requires.plan.ways) plan.code run) in
+    let laws = stream_laws plan c.requires.plan opening inputs stalls run c.regular.ensures.sends c.queues.ensures.next c.queues.ensures.look c.queue_sizes.ensures.held in
     subst (λ xs. get_or xs stream 0 ≤ length queue.messages) (sym c.deref-5.ensures.value)
-    (holds_taken plan opening inputs stalls c.requires.plan.compiled.text.bare lawful laws c.args.date begun (turns_of s order (c.args.date * plan.unit.quantum)) old c.requires.due stands stream queue
+    (holds_taken plan opening inputs stalls c.requires.plan.fits.bare lawful laws c.args.date begun (turns_of s order (c.args.date * plan.unit.quantum)) old c.requires.due stands stream queue
     (ap (λ xs. slice_get xs stream) (sym c.deref_mut-2.ensures.value) ∙ at) (ap (λ xs. ends_at c.args.date (slice_get xs (stream_at plan.unit stream).receiver)) (sym c.deref-4.ensures.value) ∙ ends))
 
 pub enter_all-requires-clause-sent : goal.enter_all-requires-clause-sent
@@ -67,13 +66,12 @@ enter_all-requires-clause-sent c agent ends =
     let inputs = old.inputs.lists in
     let (opening, stalls, order, sound, behind, stands) = c.requires.stands in
     let s = opened_of plan opening inputs stalls in
-    let whole = c.compiled.ensures.run plan.unit plan.code plan.nexts stalls inputs c.requires.plan.compiled c.requires.inputs in
-    let run = c.openings.ensures.run (system_of plan inputs stalls) opening (OfText plan.unit) plan.code whole sound in
-    let lawful = c.regular.ensures.lawful s (OfText plan.unit) plan.code run in
-    let begun = are_begun s (OfText plan.unit) plan.code c.args.date sound behind (c.openings.ensures.none s (OfText plan.unit) plan.code run) (c.openings.ensures.silent s (OfText plan.unit) plan.code run) (c.openings.ensures.waits s (OfText plan.unit) plan.code run) in
-    let laws = stream_laws plan opening inputs stalls run c.regular.ensures.sends c.queues.ensures.next c.queues.ensures.look c.queue_sizes.ensures.held in
+    let run = goes_well_from plan c.requires.plan c.fitting.ensures c.openings.ensures.run opening inputs stalls c.requires.inputs sound in
+    let lawful = c.regular.ensures.lawful s (Listed c.requires.plan.ways) plan.code run in
+    let begun = are_begun s (Listed c.requires.plan.ways) plan.code c.args.date (sound c.requires.plan) behind (c.openings.ensures.none s (Listed c.requires.plan.ways) plan.code run) (c.openings.ensures.silent s (Listed c.requires.plan.ways) plan.code run) (c.openings.ensures.waits s (Listed c.requires.plan.ways) plan.code run) in
+    let laws = stream_laws plan c.requires.plan opening inputs stalls run c.regular.ensures.sends c.queues.ensures.next c.queues.ensures.look c.queue_sizes.ensures.held in
     subst (λ xs. All (IsSentOf plan.unit) (sends_of xs agent)) (sym c.deref-7.ensures.value)
-    (sends_of_unit plan opening inputs stalls c.requires.plan.compiled.text.bare lawful laws c.args.date begun (turns_of s order (c.args.date * plan.unit.quantum)) old c.requires.due stands agent
+    (sends_of_unit plan opening inputs stalls c.requires.plan.fits.bare lawful laws c.args.date begun (turns_of s order (c.args.date * plan.unit.quantum)) old c.requires.due stands agent
     (ap (λ xs. ends_at c.args.date (slice_get xs agent)) (sym c.deref-6.ensures.value) ∙ ends))
 
 pub enter_all-requires-clause-room : goal.enter_all-requires-clause-room
@@ -84,17 +82,16 @@ enter_all-requires-clause-room c =
     let date = c.args.date in
     let (opening, stalls, order, sound, behind, stands) = c.requires.stands in
     let s = opened_of plan opening inputs stalls in
-    let whole = c.compiled.ensures.run plan.unit plan.code plan.nexts stalls inputs c.requires.plan.compiled c.requires.inputs in
-    let run = c.openings.ensures.run (system_of plan inputs stalls) opening (OfText plan.unit) plan.code whole sound in
-    let lawful = c.regular.ensures.lawful s (OfText plan.unit) plan.code run in
-    let begun = are_begun s (OfText plan.unit) plan.code c.args.date sound behind (c.openings.ensures.none s (OfText plan.unit) plan.code run) (c.openings.ensures.silent s (OfText plan.unit) plan.code run) (c.openings.ensures.waits s (OfText plan.unit) plan.code run) in
-    let laws = stream_laws plan opening inputs stalls run c.regular.ensures.sends c.queues.ensures.next c.queues.ensures.look c.queue_sizes.ensures.held in
+    let run = goes_well_from plan c.requires.plan c.fitting.ensures c.openings.ensures.run opening inputs stalls c.requires.inputs sound in
+    let lawful = c.regular.ensures.lawful s (Listed c.requires.plan.ways) plan.code run in
+    let begun = are_begun s (Listed c.requires.plan.ways) plan.code c.args.date (sound c.requires.plan) behind (c.openings.ensures.none s (Listed c.requires.plan.ways) plan.code run) (c.openings.ensures.silent s (Listed c.requires.plan.ways) plan.code run) (c.openings.ensures.waits s (Listed c.requires.plan.ways) plan.code run) in
+    let laws = stream_laws plan c.requires.plan opening inputs stalls run c.regular.ensures.sends c.queues.ensures.next c.queues.ensures.look c.queue_sizes.ensures.held in
     let now : (with_items old.queues c.settle_all.new.queues).items ≡ c.settle_all.new.queues = with_items_is old.queues c.settle_all.new.queues (c.settle_all.auto.queues ∙ c.deref_mut-2.ensures.len) in
     let sent : List Seat → List Outboxed → ℕ → _ = λ seats outboxes. sent_from (system_of plan [] (λ agent. [])) date seats outboxes 0 (length plan.unit.agents) in
     subst (HaveRoom (sent c.deref-6.result.now c.deref-7.result.now)) (sym (c.deref_mut-3.ensures.value ∙ now))
     (subst (λ seats. HaveRoom (sent seats c.deref-7.result.now) c.settle_all.new.queues) (sym c.deref-6.ensures.value)
     (subst (λ outboxes. HaveRoom (sent old.seats.items outboxes) c.settle_all.new.queues) (sym c.deref-7.ensures.value)
-    (has_room plan opening inputs stalls c.requires.plan.compiled.text.bare lawful laws date begun (turns_of s order (date * plan.unit.quantum)) old c.requires.due stands c.settle_all.new.queues (c.settle_all.auto.queues ∙ ap length c.deref_mut-2.ensures.value)
+    (has_room plan opening inputs stalls c.requires.plan.fits.bare lawful laws date begun (turns_of s order (date * plan.unit.quantum)) old c.requires.due stands c.settle_all.new.queues (c.settle_all.auto.queues ∙ ap length c.deref_mut-2.ensures.value)
     (λ stream queue at. c.settle_all.ensures stream queue (ap (λ xs. slice_get xs stream) c.deref_mut-2.ensures.value ∙ at)
     ∙ ap (λ xs. Some (settled_then date (first_date (timing_in plan (stream_at plan.unit stream).receiver)) (get_or xs (stream_at plan.unit stream).receiver nowhere) (get_or c.deref-5.result.now stream 0) queue)) c.deref-4.ensures.value
     ∙ ap (λ xs. Some (settled_then date (first_date (timing_in plan (stream_at plan.unit stream).receiver)) (get_or old.seats.items (stream_at plan.unit stream).receiver nowhere) (get_or xs stream 0) queue)) c.deref-5.ensures.value))))
@@ -103,13 +100,16 @@ pub publish_all-requires-clause-calendar : goal.publish_all-requires-clause-cale
 publish_all-requires-clause-calendar c = (c.requires.stands.5).calendar
 
 pub pass-requires-clause-clocks : goal.pass-requires-clause-clocks
-pass-requires-clause-clocks c = subst (All IsClock) (sym c.as_slice.ensures) c.requires.plan.compiled.text.bare.clocks
+pass-requires-clause-clocks c = subst (All IsClock) (sym c.as_slice.ensures) c.requires.plan.fits.bare.clocks
 
 pub pass-requires-clause-count : goal.pass-requires-clause-count
 pass-requires-clause-count c = (c.requires.stands.5).calendar.count ∙ ap length (sym c.as_slice.ensures)
 
 pub pass-requires-clause-nexts : goal.pass-requires-clause-nexts
 pass-requires-clause-nexts c = subst (λ clocks. AreNext clocks c.args.date c.args.shared.now.calendar) (sym c.as_slice.ensures) (c.requires.stands.5).calendar.nexts
+
+pub move_all-requires-clause-nexts : goal.move_all-requires-clause-nexts
+move_all-requires-clause-nexts c = nexts_count c.args.plan.now c.requires.plan
 
 pub move_all-requires-clause-calendar : goal.move_all-requires-clause-calendar
 move_all-requires-clause-calendar c = record {
@@ -251,12 +251,11 @@ returns-clause-stands c opening stalls order sound behind stands =
     let inputs = old.inputs.lists in
     let date = c.args.date in
     let s = opened_of plan opening inputs stalls in
-    let bare = c.requires.plan.compiled.text.bare in
-    let whole = c.compiled.ensures.run plan.unit plan.code plan.nexts stalls inputs c.requires.plan.compiled c.requires.inputs in
-    let run = c.openings.ensures.run (system_of plan inputs stalls) opening (OfText plan.unit) plan.code whole sound in
-    let lawful = c.regular.ensures.lawful s (OfText plan.unit) plan.code run in
-    let begun = are_begun s (OfText plan.unit) plan.code c.args.date sound behind (c.openings.ensures.none s (OfText plan.unit) plan.code run) (c.openings.ensures.silent s (OfText plan.unit) plan.code run) (c.openings.ensures.waits s (OfText plan.unit) plan.code run) in
-    let laws = stream_laws plan opening inputs stalls run c.regular.ensures.sends c.queues.ensures.next c.queues.ensures.look c.queue_sizes.ensures.held in
+    let bare = c.requires.plan.fits.bare in
+    let run = goes_well_from plan c.requires.plan c.fitting.ensures c.openings.ensures.run opening inputs stalls c.requires.inputs sound in
+    let lawful = c.regular.ensures.lawful s (Listed c.requires.plan.ways) plan.code run in
+    let begun = are_begun s (Listed c.requires.plan.ways) plan.code c.args.date (sound c.requires.plan) behind (c.openings.ensures.none s (Listed c.requires.plan.ways) plan.code run) (c.openings.ensures.silent s (Listed c.requires.plan.ways) plan.code run) (c.openings.ensures.waits s (Listed c.requires.plan.ways) plan.code run) in
+    let laws = stream_laws plan c.requires.plan opening inputs stalls run c.regular.ensures.sends c.queues.ensures.next c.queues.ensures.look c.queue_sizes.ensures.held in
     let cycles = date * plan.unit.quantum in
     let upto : cycles ≤ date * plan.unit.quantum = omega arith in
     shared_moves plan opening inputs stalls bare lawful laws date begun (turns_of s order cycles) (λ variable clock size. c.rings.ensures.next s date variable size lawful clock) (λ agent number new. c.given.ensures.unstarted s order date cycles agent number lawful bare.quantum.0 upto new) old (new_of c) c.requires.due stands (moved_by c)
@@ -268,16 +267,15 @@ returns-clause-begun c agent begins =
     let inputs = old.inputs.lists in
     let (opening, stalls, order, sound, behind, stands) = c.requires.stands in
     let s = opened_of plan opening inputs stalls in
-    let whole = c.compiled.ensures.run plan.unit plan.code plan.nexts stalls inputs c.requires.plan.compiled c.requires.inputs in
-    let run = c.openings.ensures.run (system_of plan inputs stalls) opening (OfText plan.unit) plan.code whole sound in
-    let lawful = c.regular.ensures.lawful s (OfText plan.unit) plan.code run in
-    let begun = are_begun s (OfText plan.unit) plan.code c.args.date sound behind (c.openings.ensures.none s (OfText plan.unit) plan.code run) (c.openings.ensures.silent s (OfText plan.unit) plan.code run) (c.openings.ensures.waits s (OfText plan.unit) plan.code run) in
-    let laws = stream_laws plan opening inputs stalls run c.regular.ensures.sends c.queues.ensures.next c.queues.ensures.look c.queue_sizes.ensures.held in
+    let run = goes_well_from plan c.requires.plan c.fitting.ensures c.openings.ensures.run opening inputs stalls c.requires.inputs sound in
+    let lawful = c.regular.ensures.lawful s (Listed c.requires.plan.ways) plan.code run in
+    let begun = are_begun s (Listed c.requires.plan.ways) plan.code c.args.date (sound c.requires.plan) behind (c.openings.ensures.none s (Listed c.requires.plan.ways) plan.code run) (c.openings.ensures.silent s (Listed c.requires.plan.ways) plan.code run) (c.openings.ensures.waits s (Listed c.requires.plan.ways) plan.code run) in
+    let laws = stream_laws plan c.requires.plan opening inputs stalls run c.regular.ensures.sends c.queues.ensures.next c.queues.ensures.look c.queue_sizes.ensures.held in
     let turns = turns_of s order (c.args.date * plan.unit.quantum) in
     let moved = moved_by c in
     let new = new_of c in (
-      box_begun plan opening inputs stalls c.requires.plan.compiled.text.bare lawful laws c.args.date begun turns old c.requires.due stands new.seats.items moved.seated moved.seats new.outboxes.items moved.outboxes agent begins,
-      take_begun plan opening inputs stalls c.requires.plan.compiled.text.bare lawful laws c.args.date begun turns old c.requires.due stands new.seats.items moved.seated moved.seats new.taken.items moved.taken agent begins,
+      box_begun plan opening inputs stalls c.requires.plan.fits.bare lawful laws c.args.date begun turns old c.requires.due stands new.seats.items moved.seated moved.seats new.outboxes.items moved.outboxes agent begins,
+      take_begun plan opening inputs stalls c.requires.plan.fits.bare lawful laws c.args.date begun turns old c.requires.due stands new.seats.items moved.seated moved.seats new.taken.items moved.taken agent begins,
     )
 
 pub returns-clause-going : goal.returns-clause-going
@@ -287,16 +285,15 @@ returns-clause-going c agent goes =
     let inputs = old.inputs.lists in
     let (opening, stalls, order, sound, behind, stands) = c.requires.stands in
     let s = opened_of plan opening inputs stalls in
-    let whole = c.compiled.ensures.run plan.unit plan.code plan.nexts stalls inputs c.requires.plan.compiled c.requires.inputs in
-    let run = c.openings.ensures.run (system_of plan inputs stalls) opening (OfText plan.unit) plan.code whole sound in
-    let lawful = c.regular.ensures.lawful s (OfText plan.unit) plan.code run in
-    let begun = are_begun s (OfText plan.unit) plan.code c.args.date sound behind (c.openings.ensures.none s (OfText plan.unit) plan.code run) (c.openings.ensures.silent s (OfText plan.unit) plan.code run) (c.openings.ensures.waits s (OfText plan.unit) plan.code run) in
-    let laws = stream_laws plan opening inputs stalls run c.regular.ensures.sends c.queues.ensures.next c.queues.ensures.look c.queue_sizes.ensures.held in
+    let run = goes_well_from plan c.requires.plan c.fitting.ensures c.openings.ensures.run opening inputs stalls c.requires.inputs sound in
+    let lawful = c.regular.ensures.lawful s (Listed c.requires.plan.ways) plan.code run in
+    let begun = are_begun s (Listed c.requires.plan.ways) plan.code c.args.date (sound c.requires.plan) behind (c.openings.ensures.none s (Listed c.requires.plan.ways) plan.code run) (c.openings.ensures.silent s (Listed c.requires.plan.ways) plan.code run) (c.openings.ensures.waits s (Listed c.requires.plan.ways) plan.code run) in
+    let laws = stream_laws plan c.requires.plan opening inputs stalls run c.regular.ensures.sends c.queues.ensures.next c.queues.ensures.look c.queue_sizes.ensures.held in
     let turns = turns_of s order (c.args.date * plan.unit.quantum) in
     let moved = moved_by c in
     let new = new_of c in (
-      box_goes plan opening inputs stalls c.requires.plan.compiled.text.bare lawful laws c.args.date begun turns old c.requires.due stands new.seats.items moved.seated moved.seats new.outboxes.items moved.outboxes agent goes,
-      take_goes plan opening inputs stalls c.requires.plan.compiled.text.bare lawful laws c.args.date begun turns old c.requires.due stands new.seats.items moved.seated moved.seats new.taken.items moved.taken agent goes,
+      box_goes plan opening inputs stalls c.requires.plan.fits.bare lawful laws c.args.date begun turns old c.requires.due stands new.seats.items moved.seated moved.seats new.outboxes.items moved.outboxes agent goes,
+      take_goes plan opening inputs stalls c.requires.plan.fits.bare lawful laws c.args.date begun turns old c.requires.due stands new.seats.items moved.seated moved.seats new.taken.items moved.taken agent goes,
     )
 
 pub returns-clause-moved : goal.returns-clause-moved
@@ -307,12 +304,11 @@ returns-clause-moved c =
     let date = c.args.date in
     let (opening, stalls, order, sound, behind, stands) = c.requires.stands in
     let s = opened_of plan opening inputs stalls in
-    let bare = c.requires.plan.compiled.text.bare in
-    let whole = c.compiled.ensures.run plan.unit plan.code plan.nexts stalls inputs c.requires.plan.compiled c.requires.inputs in
-    let run = c.openings.ensures.run (system_of plan inputs stalls) opening (OfText plan.unit) plan.code whole sound in
-    let lawful = c.regular.ensures.lawful s (OfText plan.unit) plan.code run in
-    let begun = are_begun s (OfText plan.unit) plan.code date sound behind (c.openings.ensures.none s (OfText plan.unit) plan.code run) (c.openings.ensures.silent s (OfText plan.unit) plan.code run) (c.openings.ensures.waits s (OfText plan.unit) plan.code run) in
-    let laws = stream_laws plan opening inputs stalls run c.regular.ensures.sends c.queues.ensures.next c.queues.ensures.look c.queue_sizes.ensures.held in
+    let bare = c.requires.plan.fits.bare in
+    let run = goes_well_from plan c.requires.plan c.fitting.ensures c.openings.ensures.run opening inputs stalls c.requires.inputs sound in
+    let lawful = c.regular.ensures.lawful s (Listed c.requires.plan.ways) plan.code run in
+    let begun = are_begun s (Listed c.requires.plan.ways) plan.code date (sound c.requires.plan) behind (c.openings.ensures.none s (Listed c.requires.plan.ways) plan.code run) (c.openings.ensures.silent s (Listed c.requires.plan.ways) plan.code run) (c.openings.ensures.waits s (Listed c.requires.plan.ways) plan.code run) in
+    let laws = stream_laws plan c.requires.plan opening inputs stalls run c.regular.ensures.sends c.queues.ensures.next c.queues.ensures.look c.queue_sizes.ensures.held in
     let cycles = date * plan.unit.quantum in
     let upto : cycles ≤ date * plan.unit.quantum = omega arith in
     starts_known plan opening inputs stalls bare lawful laws date begun (turns_of s order cycles) (λ variable clock size. c.rings.ensures.next s date variable size lawful clock) (λ agent number new. c.given.ensures.unstarted s order date cycles agent number lawful bare.quantum.0 upto new) old (new_of c) c.requires.due stands (moved_by c)

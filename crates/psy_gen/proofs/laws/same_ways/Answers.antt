@@ -5,7 +5,6 @@ use Rattle.psy_tree.specs.declared.unit.AgentDecl.{AgentDecl}
 use Rattle.psy_meaning.specs.Sound.{IsSoundUnit}
 use Rattle.psy_gen.proofs.ways.Delays.{longest}
 use Rattle.psy_gen.proofs.ways.Points.{AreCalls, IsAgent, points_same}
-use Rattle.psy_gen.proofs.ways.Turns.{text_turns}
 use Rattle.psy_gen.proofs.laws.same_ways.Goals as goal
 
 pub returns : goal.returns
@@ -19,7 +18,6 @@ returns c unit text =
       at = got;
       calls = calls;
       sound = sound.agents number agent got;
-      turns = text_turns text.text.0 unit text.text.1 number agent got;
     } in
     record {
       from = λ number point agent got less. points_same unit number agent (known number agent got) point less;

@@ -2,7 +2,7 @@
 use Rattle.std.proofs.Common.{refl, sym, subst, slice_index_or}
 use Rattle.std.proofs.lemmas.Option.{slice_get-get_or}
 use Rattle.psy_meaning.specs.Timing.{timing_of}
-use Rattle.psy_graph.proofs.ByNexts.{by_nexts, of_text}
+use Rattle.psy_graph.proofs.ByNexts.{by_nexts, cause_of, of_text}
 use Rattle.psy_graph.proofs.Causes.{there, same_graphs, graphs_apart, same_cause, graphs_or_cause}
 use Rattle.psy_graph.specs.Graphs.{IsTimed}
 use Rattle.psy_graph.proofs.EdgesKept.{edges_kept}
@@ -56,3 +56,6 @@ returns-clause-fit c timing graph its drawn = edges_kept c.distances.ensures.lat
 
 pub returns-clause-by_nexts : goal.returns-clause-by_nexts
 returns-clause-by_nexts c unit nexts graphs are = (by_nexts unit nexts are graphs, of_text unit nexts are graphs)
+
+pub returns-clause-causes_by_nexts : goal.returns-clause-causes_by_nexts
+returns-clause-causes_by_nexts c unit nexts fault are = cause_of unit nexts are fault

@@ -1,8 +1,9 @@
 -- What is left of the proof of `demands::lines_of`.
 use Rattle.std.proofs.Common.{◌≡◌, ◌∙◌, ◌<◌, ap, subst, get_or, length, arith}
 use Rattle.std.proofs.lemmas.List.{take_all}
-use Rattle.psy_measures.specs.Measured.{AreEach, IsLine}
-use Rattle.psy_measures.proofs.Eaches.{grown}
+use Rattle.psy_demand.specs.Criterion.{AreEach}
+use Rattle.psy_measures.specs.Measured.{IsLine}
+use Rattle.psy_demand.proofs.lemmas.Eaches.{grown}
 use Rattle.psy_measures.proofs.demands.lines_of.Goals as goal
 
 pub graphs-preserved : goal.graphs-preserved

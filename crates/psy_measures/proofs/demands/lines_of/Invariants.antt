@@ -1,6 +1,7 @@
 -- What each loop of `demands::lines_of` keeps.
 use Rattle.std.proofs.Common.{take}
-use Rattle.psy_measures.specs.Measured.{AreEach, IsLine}
+use Rattle.psy_demand.specs.Criterion.{AreEach}
+use Rattle.psy_measures.specs.Measured.{IsLine}
 use Rattle.psy_measures.proofs.demands.lines_of.Given as goal
 
 abbrev pub invariant-graphs : goal.invariant-graphs

@@ -1,9 +1,10 @@
 -- What is left of the proof of `measures::measure`.
 use Rattle.std.proofs.Common.{◌^◌, ◌<◌, ◌≤◌, arith}
 use Rattle.std.specs.List.{All}
-use Rattle.psy_measures.specs.Measured.{AreWeights, IsLine, IsUndrawn, IsUnlisted, IsUnmeasured, IsUnsized, by_graphs, by_lists, by_sizes}
+use Rattle.psy_demand.specs.Criterion.{AreWeights}
+use Rattle.psy_measures.specs.Measured.{IsLine, IsUndrawn, IsUnlisted, IsUnmeasured, IsUnsized, by_graphs, by_lists, by_sizes}
 use Rattle.psy_source.proofs.lemmas.Stopping.{exit_by}
-use Rattle.psy_measures.proofs.Eaches.{all_of}
+use Rattle.psy_demand.proofs.lemmas.Eaches.{all_of}
 use Rattle.psy_measures.proofs.measures.measure.Goals as goal
 
 pub returns-in_err-graphs-clause-refused : goal.returns-in_err-graphs-clause-refused

@@ -1,7 +1,7 @@
 -- What is left of the proof of `commands::draw`.
 use Rattle.std.proofs.Common.{refl, sym, subst, []}
 use Rattle.psy_run.specs.Answer.{compiling}
-use Rattle.psy_run.specs.Outcome.{TookLimit}
+use Rattle.psy_run.specs.Outcome.{TookLimit, halts_memory}
 use Rattle.psy_run.specs.Steps.{graphing, costing}
 use Rattle.psy_run.proofs.Courses.{gives_then, halts_exit, halts_first, halts_later, halts_for_memory}
 use Rattle.psy_run.proofs.LongFiles.{took_exit, took_for_memory, took_never, graphing_never_long}
@@ -10,6 +10,9 @@ use Rattle.psy_run.proofs.commands.draw.Goals as goal
 
 pub returns-in_err-unit-clause-err : goal.returns-in_err-unit-clause-err
 returns-in_err-unit-clause-err g c = halts_exit _ _ _ _ _ _ c.from_residual.ensures.1 (halts_first (compiling _ _) _ _ _ _ _ c.in_err-unit.ensures.err)
+
+pub returns-in_err-coded-clause-err : goal.returns-in_err-coded-clause-err
+returns-in_err-coded-clause-err g c = halts_exit _ _ _ _ _ _ c.from_residual-in_err-coded.ensures.1 halts_memory
 
 pub returns-in_err-graphs-clause-err : goal.returns-in_err-graphs-clause-err
 returns-in_err-graphs-clause-err g c = halts_exit _ _ _ _ _ _ c.from_residual-in_err-graphs.ensures.1
@@ -25,6 +28,9 @@ returns-clause-ok g c =
 pub returns-in_err-unit-clause-long : goal.returns-in_err-unit-clause-long
 returns-in_err-unit-clause-long g c = took_exit _ _ _ c.from_residual.ensures.1 c.in_err-unit.ensures.long
 
+pub returns-in_err-coded-clause-long : goal.returns-in_err-coded-clause-long
+returns-in_err-coded-clause-long g c = took_exit _ _ _ c.from_residual-in_err-coded.ensures.1 (took_for_memory _)
+
 pub returns-in_err-graphs-clause-long : goal.returns-in_err-graphs-clause-long
 returns-in_err-graphs-clause-long g c = took_exit _ _ _ c.from_residual-in_err-graphs.ensures.1 (took_never (graphing c.in_ok-unit.unit) [] 0 0 _ _ (graphing_never_long c.in_ok-unit.unit) (c.in_err-graphs.ensures.err _ _ _))
 
@@ -33,6 +39,9 @@ returns-in_err-costs-clause-long g c = took_exit _ _ _ c.from_residual-in_err-co
 
 pub returns-in_err-unit-clause-unread : goal.returns-in_err-unit-clause-unread
 returns-in_err-unit-clause-unread g c = unfailed_exit _ _ _ _ c.from_residual.ensures.1 c.in_err-unit.ensures.unread
+
+pub returns-in_err-coded-clause-unread : goal.returns-in_err-coded-clause-unread
+returns-in_err-coded-clause-unread g c = unfailed_exit _ _ _ _ c.from_residual-in_err-coded.ensures.1 (λ other. c.in_ok-unit.ensures.unfailed)
 
 pub returns-in_err-graphs-clause-unread : goal.returns-in_err-graphs-clause-unread
 returns-in_err-graphs-clause-unread g c = unfailed_exit _ _ _ _ c.from_residual-in_err-graphs.ensures.1 (λ other. c.in_ok-unit.ensures.unfailed)

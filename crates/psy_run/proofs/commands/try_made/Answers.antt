@@ -40,7 +40,7 @@ returns-in-Ok-clause-ok c =
     let (graphs, gives) = c.in_ok-supply.ensures.ok in
     let plan = c.in-Ok.kernel.plan in
     let its = c.in-Ok.ensures in
-    let same : Tried plan.unit plan.nexts plan.sizes plan.until ≡ Tried c.in_ok-unit.unit supply.nexts supply.sizes c.args.until = λ i. Tried (its.its_unit i) (its.its_nexts i) (its.its_sizes i) (its.its_until i) in
+    let same : Tried plan.unit plan.nexts plan.sizes plan.until ≡ Tried c.in_ok-unit.unit supply.ways.nexts supply.sizes c.args.until = λ i. Tried (its.its_unit i) (its.its_nexts i) (its.its_sizes i) (its.its_until i) in
     trial_gives c.args.seed c.args.until _ c.in_ok-text.ensures _ c.in_ok-unit.ensures.ok (supply_of graphs supply) gives _ c.in_ok-pace.ensures.ok same
 
 pub returns-in-Ok-clause-can : goal.returns-in-Ok-clause-can

@@ -1,22 +1,46 @@
 -- What is left of the proof of `supply::demand`.
-use Rattle.std.proofs.Common.{◌≡◌, subst, ◌*◌}
-use Rattle.psy_demand.specs.Demand.{DemandFits, IsVerdict}
-use Rattle.psy_demand.specs.declared.demand.Verdict.TheVariants as verdict
-use Rattle.psy_run.specs.declared.refusal.Refusal.TheVariants.{Infeasible}
-use Rattle.psy_run.specs.Outcome.{halts_refused}
-use Rattle.psy_run.proofs.SupplyLemmas.{demand_fits, demand_passes}
+use Rattle.std.proofs.Common.{◌≡◌, ◌*◌, Err, refl, subst}
+use Rattle.std.specs.List.{All, Any}
+use Rattle.psy_demand.specs.Criterion.{HasCells, PassesCells, edges_of}
+use Rattle.psy_meaning.specs.Demand.{IsFeasible, IsOverload}
+use Rattle.psy_run.specs.declared.refusal.Refusal.TheVariants.{Cells, Infeasible}
+use Rattle.psy_run.specs.Outcome.{halts_refused, halts_memory}
+use Rattle.psy_run.specs.Steps.{demanding, windowing}
+use Rattle.psy_run.proofs.Courses.{gives_then, halts_first, halts_later}
+use Rattle.psy_run.proofs.SupplyLemmas.{has_cells}
 use Rattle.psy_run.proofs.supply.demand.Goals as goal
 
-pub returns-in-Yes-clause-ok : goal.returns-in-Yes-clause-ok
-returns-in-Yes-clause-ok c graphs are =
-    let fits = subst (λ lists. DemandFits lists c.args.unit.now.quantum c.args.top) c.as_slice.ensures c.in-Yes.ensures in
-    demand_fits c.args.top c.args.unit.now.quantum graphs c.args.lists.now are fits
+pub returns-in-Ok-Yes-clause-ok : goal.returns-in-Ok-Yes-clause-ok
+returns-in-Ok-Yes-clause-ok c =
+    let unit = c.args.unit.now in
+    let graphs = c.args.graphs.now in
+    let top = c.args.top in
+    let cells = has_cells top c.as_slice.result.now c.criterion.result c.in-Ok-Yes.field-0 c.in-Ok-Yes.is c.criterion.ensures.cells in
+    let feasible = c.in-Ok-Yes.ensures.yes.0 c.in-Ok-Yes.field-0-is in
+    gives_then (windowing graphs top) (λ done. demanding unit graphs top) tt tt (subst (All (HasCells top)) c.as_slice.ensures cells)
+    (subst (λ gs. IsFeasible (edges_of gs) unit.quantum top) c.as_slice.ensures feasible)
 
-pub returns-in-No-clause-err : goal.returns-in-No-clause-err
-returns-in-No-clause-err c graphs failed before after are =
-    let within = c.in-No.length in
-    let passed = c.in-No.demand in
-    let no = subst (λ lists. IsVerdict lists c.args.unit.now.quantum c.args.top (verdict.No within passed)) c.as_slice.ensures c.in-No.ensures in
-    let supply = c.from.result * c.from-in-No.result in
-    let product : supply ≡ c.args.unit.now.quantum * within = λ i. c.from.ensures i * c.from-in-No.ensures i in
-    halts_refused (Infeasible within passed supply) (demand_passes c.args.top c.args.unit.now.quantum within passed graphs c.args.lists.now are no, product)
+pub returns-in-Ok-No-clause-err : goal.returns-in-Ok-No-clause-err
+returns-in-Ok-No-clause-err c failed before after =
+    let unit = c.args.unit.now in
+    let graphs = c.args.graphs.now in
+    let top = c.args.top in
+    let within = c.in-Ok-No.length in
+    let passed = c.in-Ok-No.demand in
+    let cells = has_cells top c.as_slice.result.now c.criterion.result c.in-Ok-No.field-0 c.in-Ok-No.is c.criterion.ensures.cells in
+    let over = (c.in-Ok-No.ensures.no within passed).0 c.in-Ok-No.field-0-is in
+    let supply = c.from.result * c.from-in-Ok-No.result in
+    let product : supply ≡ unit.quantum * within = λ i. c.from.ensures i * c.from-in-Ok-No.ensures i in
+    halts_later (windowing graphs top) (λ done. demanding unit graphs top) failed before after tt _ (subst (All (HasCells top)) c.as_slice.ensures cells)
+    (halts_refused (Infeasible within passed supply) (subst (λ gs. IsOverload (edges_of gs) unit.quantum top within passed) c.as_slice.ensures over, product))
+
+pub returns-in-Err-Cells-clause-err : goal.returns-in-Err-Cells-clause-err
+returns-in-Err-Cells-clause-err c failed before after =
+    let graphs = c.args.graphs.now in
+    let top = c.args.top in
+    let passes = c.criterion.ensures.cells.0 (subst (λ f. c.criterion.result ≡ Err f) c.in-Err-Cells.field-0-is c.in-Err-Cells.is) in
+    halts_first (windowing graphs top) (λ done. demanding c.args.unit.now graphs top) failed before after _
+    (halts_refused Cells (refl, subst (Any (PassesCells top)) c.as_slice.ensures passes))
+
+pub returns-in-Err-Memory-clause-err : goal.returns-in-Err-Memory-clause-err
+returns-in-Err-Memory-clause-err c failed before after = halts_memory

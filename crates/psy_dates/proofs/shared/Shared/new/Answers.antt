@@ -3,17 +3,18 @@ use Rattle.std.proofs.Common.{ℕ, ◌<◌, ◌≤◌, false, List, [], All, len
 use Rattle.std.specs.Prelude.{map, pos, replicate, ℤ}
 use Rattle.psy_base.specs.declared.limits.TheConstants.{RING}
 use Rattle.psy_tree.specs.declared.unit.VarDecl.{VarDecl}
+use Rattle.psy_meaning.specs.KnownWays.{Listed}
 use Rattle.psy_dates.specs.Calendars.{AreNext}
 use Rattle.psy_dates.proofs.Opened.{first_stands, ring_places}
 use Rattle.psy_dates.proofs.shared.Shared.new.Goals as goal
 
 pub first_rings-requires-clause-places : goal.first_rings-requires-clause-places
 first_rings-requires-clause-places c =
-    subst (All (λ size. (1 ≤ size) × (size ≤ RING))) (sym c.as_slice-2.ensures) (ring_places c.args.plan.now c.requires.plan.compiled.text.bare c.requires.plan.buffers)
+    subst (All (λ size. (1 ≤ size) × (size ≤ RING))) (sym c.as_slice-2.ensures) (ring_places c.args.plan.now (Listed c.requires.plan.ways) c.requires.plan.fits.bare c.requires.plan.buffers)
 
 pub returns-clause-stands : goal.returns-clause-stands
 returns-clause-stands c stalls =
-    first_stands c.args.plan.now c.args.inputs.lists stalls _ c.requires.plan.buffers (record {
+    first_stands c.args.plan.now c.args.inputs.lists stalls _ (Listed c.requires.plan.ways) c.requires.plan.buffers (record {
       date = refl;
       seated = c.in_ok-first_seats.ensures.0 ∙ c.len-2.ensures;
       waiting = c.in_ok-first_seats.ensures.1;

@@ -5,11 +5,11 @@ use Rattle.std.proofs.lemmas.Bool.{true≢false}
 use Rattle.std.proofs.lemmas.List.{length-replicate}
 use Rattle.std.proofs.lemmas.List.FromFn.{length-map-range_with_len}
 use Rattle.psy_history.specs.Compiled.{AreInputs, coded}
-use Rattle.psy_history.specs.Openings.{IsSound}
-use Rattle.psy_meaning.specs.KnownWays.{OfText}
 use Rattle.psy_history.specs.Actions.{System}
 use Rattle.psy_history.specs.History.{history}
+use Rattle.psy_dates.specs.Plans.{IsSoundFor, whole_of}
 use Rattle.psy_dates.specs.Standing.{SharedStands, dates_done}
+use Rattle.psy_dates.proofs.lemmas.Fits.{goes_well}
 use Rattle.psy_kernel.specs.declared.kernel.Figure.{Figure}
 use Rattle.psy_history.specs.declared.told.Order.{Order}
 use Rattle.psy_history.specs.Scripts.{stalls_of}
@@ -45,13 +45,13 @@ invariant_of-result c =
       plan = c.requires.plan;
       inputs = subst (AreInputs unit) lists c.requires.inputs;
       script = c.requires.script;
-      sound = subst (λ i. IsSound (s i) (OfText unit) plan.code) lists (c.openings.ensures.plain unit plan.code plan.nexts (stalls_of script) c.args.inputs.lists c.requires.plan.compiled c.requires.inputs);
+      sound = subst (λ i. IsSoundFor plan (whole_of plan) i (stalls_of script)) lists (λ its. (goes_well plan its c.fitting.ensures c.args.inputs.lists (stalls_of script) c.requires.inputs).opened);
       behind = omega arith;
       before = λ last first. absurd (cc);
       in_tick = subst (λ d. InTick unit.quantum plan.until d 0) dates refl;
-      shared = subst (λ i. SharedStands (s i) [] (dates_done shared.date) shared) lists
-          (subst (λ d. SharedStands (s c.args.inputs.lists) [] d shared) dates first);
-      machined = machines.count ∙ c.requires.plan.compiled.alike.agents;
+      shared = subst (λ i. SharedStands (s i) plan.sizes [] (dates_done shared.date) shared) lists
+          (subst (λ d. SharedStands (s c.args.inputs.lists) plan.sizes [] d shared) dates first);
+      machined = machines.count ∙ c.requires.plan.fits.parts.agents;
       charges = ap length charges ∙ length-map-range_with_len (first_charge script) 0 count ∙ counted;
       reaching = ap length reached ∙ length-replicate c.len.result never ∙ c.len.ensures;
       reached = λ variable n en.

@@ -6,10 +6,8 @@ use Rattle.psy_history.specs.Actions.{System}
 use Rattle.psy_history.specs.History.{history}
 use Rattle.psy_history.specs.Summary.{reach}
 use Rattle.psy_history.specs.Compiled.{AreInputs}
-use Rattle.psy_history.specs.Openings.{IsSound}
-use Rattle.psy_meaning.specs.KnownWays.{OfText}
 use Rattle.psy_history.specs.Scheduled.{turns_of}
-use Rattle.psy_dates.specs.Plans.{opened_of}
+use Rattle.psy_dates.specs.Plans.{IsSoundFor, opened_of}
 use Rattle.psy_dates.specs.Standing.{SharedStands, dates_done}
 use Rattle.psy_kernel.specs.declared.stage.Stage.TheVariants.{CycleDue}
 use Rattle.psy_kernel.specs.Progress.{Progress, after_date, stage_of}
@@ -27,14 +25,14 @@ pub at_date-requires-clause-due : goal.at_date-requires-clause-due
 at_date-requires-clause-due c =
     let k = c.self.inside in
     let date = c.dates-date.result in
-    let laws : AreRunLaws = record { well = c.compiled.ensures.run; opened = c.openings.ensures.run; lawful = c.regular.ensures.lawful; none = c.openings.ensures.none; silent = c.openings.ensures.silent; waits = c.openings.ensures.waits } in
+    let laws : AreRunLaws = record { well = c.fitting.ensures; opened = c.openings.ensures.run; lawful = c.regular.ensures.lawful; none = c.openings.ensures.none; silent = c.openings.ensures.silent; waits = c.openings.ensures.waits } in
     none_due k date (is_due k c.args.self.now date c.self.invariant c.self.view_is c.requires.due c.dates-date.ensures.dates c.dates-date.ensures.few laws c.given.ensures.unstarted c.on_time.ensures.due)
 
 pub at_date-requires-clause-stands : goal.at_date-requires-clause-stands
 at_date-requires-clause-stands c =
     let k = c.self.inside in
     let date = c.dates-date.result in
-    let laws : AreRunLaws = record { well = c.compiled.ensures.run; opened = c.openings.ensures.run; lawful = c.regular.ensures.lawful; none = c.openings.ensures.none; silent = c.openings.ensures.silent; waits = c.openings.ensures.waits } in
+    let laws : AreRunLaws = record { well = c.fitting.ensures; opened = c.openings.ensures.run; lawful = c.regular.ensures.lawful; none = c.openings.ensures.none; silent = c.openings.ensures.silent; waits = c.openings.ensures.waits } in
     let due = is_due k c.args.self.now date c.self.invariant c.self.view_is c.requires.due c.dates-date.ensures.dates c.dates-date.ensures.few laws c.given.ensures.unstarted c.on_time.ensures.due in
     (begins k date due, stalls_of k.script, ties k date due, sound k date due, later k date due, before_filled k date due)
 
@@ -42,7 +40,7 @@ pub hold_all-requires : goal.hold_all-requires
 hold_all-requires c =
     let k = c.self.inside in
     let date = c.dates-date.result in
-    let laws : AreRunLaws = record { well = c.compiled.ensures.run; opened = c.openings.ensures.run; lawful = c.regular.ensures.lawful; none = c.openings.ensures.none; silent = c.openings.ensures.silent; waits = c.openings.ensures.waits } in
+    let laws : AreRunLaws = record { well = c.fitting.ensures; opened = c.openings.ensures.run; lawful = c.regular.ensures.lawful; none = c.openings.ensures.none; silent = c.openings.ensures.silent; waits = c.openings.ensures.waits } in
     let due = is_due k c.args.self.now date c.self.invariant c.self.view_is c.requires.due c.dates-date.ensures.dates c.dates-date.ensures.few laws c.given.ensures.unstarted c.on_time.ensures.due in
     let done = c.at_date.ensures.stands (begins k date due) (stalls_of k.script) (ties k date due) (sound k date due) (later k date due) (before_filled k date due) in
     c.self.invariant.holding ∙ sym done.queued ∙ sym (ap length c.as_slice.ensures.value)
@@ -51,7 +49,7 @@ pub start_all-requires-clause-seated : goal.start_all-requires-clause-seated
 start_all-requires-clause-seated c =
     let k = c.self.inside in
     let date = c.dates-date.result in
-    let laws : AreRunLaws = record { well = c.compiled.ensures.run; opened = c.openings.ensures.run; lawful = c.regular.ensures.lawful; none = c.openings.ensures.none; silent = c.openings.ensures.silent; waits = c.openings.ensures.waits } in
+    let laws : AreRunLaws = record { well = c.fitting.ensures; opened = c.openings.ensures.run; lawful = c.regular.ensures.lawful; none = c.openings.ensures.none; silent = c.openings.ensures.silent; waits = c.openings.ensures.waits } in
     let due = is_due k c.args.self.now date c.self.invariant c.self.view_is c.requires.due c.dates-date.ensures.dates c.dates-date.ensures.few laws c.given.ensures.unstarted c.on_time.ensures.due in
     let done = c.at_date.ensures.stands (begins k date due) (stalls_of k.script) (ties k date due) (sound k date due) (later k date due) (before_filled k date due) in
     ap length c.as_slice-2.ensures.value ∙ done.seated ∙ sym (ap length c.as_slice-3.ensures)
@@ -75,7 +73,7 @@ pub start_all-requires-clause-free : goal.start_all-requires-clause-free
 start_all-requires-clause-free c =
     let k = c.self.inside in
     let date = c.dates-date.result in
-    let laws : AreRunLaws = record { well = c.compiled.ensures.run; opened = c.openings.ensures.run; lawful = c.regular.ensures.lawful; none = c.openings.ensures.none; silent = c.openings.ensures.silent; waits = c.openings.ensures.waits } in
+    let laws : AreRunLaws = record { well = c.fitting.ensures; opened = c.openings.ensures.run; lawful = c.regular.ensures.lawful; none = c.openings.ensures.none; silent = c.openings.ensures.silent; waits = c.openings.ensures.waits } in
     let due = is_due k c.args.self.now date c.self.invariant c.self.view_is c.requires.due c.dates-date.ensures.dates c.dates-date.ensures.few laws c.given.ensures.unstarted c.on_time.ensures.due in
     let done = c.at_date.ensures.stands (begins k date due) (stalls_of k.script) (ties k date due) (sound k date due) (later k date due) (before_filled k date due) in
     subst (λ seats. (agent : ℕ) → starts_at date (seat_at seats agent) ≡ true → pending_deadline k.ready agent ≡ None) (sym c.as_slice-2.ensures.value) (free k date due c.at_date.new.shared done)
@@ -86,7 +84,7 @@ invariant_of-self c =
     let h = c.self.invariant in
     let unit = k.plan.unit in
     let date = c.dates-date.result in
-    let laws : AreRunLaws = record { well = c.compiled.ensures.run; opened = c.openings.ensures.run; lawful = c.regular.ensures.lawful; none = c.openings.ensures.none; silent = c.openings.ensures.silent; waits = c.openings.ensures.waits } in
+    let laws : AreRunLaws = record { well = c.fitting.ensures; opened = c.openings.ensures.run; lawful = c.regular.ensures.lawful; none = c.openings.ensures.none; silent = c.openings.ensures.silent; waits = c.openings.ensures.waits } in
     let due = is_due k c.args.self.now date h c.self.view_is c.requires.due c.dates-date.ensures.dates c.dates-date.ensures.few laws c.given.ensures.unstarted c.on_time.ensures.due in
     let order = ties k date due in
     let s : List (List ℤ) → System = λ i. opened_of k.plan (begins k date due) i (stalls_of k.script) in
@@ -106,12 +104,12 @@ invariant_of-self c =
       plan = h.plan;
       inputs = subst (AreInputs unit) lists h.inputs;
       script = h.script;
-      sound = subst (λ i. IsSound (s i) (OfText unit) k.plan.code) lists h.sound;
+      sound = subst (λ i. IsSoundFor k.plan (begins k date due) i (stalls_of k.script)) lists h.sound;
       behind = omega (arith, later k date due, dates);
       before = λ last first done. absurd (omega (arith, later k date due, dates, first, done));
       in_tick = subst (λ d. InTick unit.quantum k.plan.until d k.cycles) dates (tick k date due);
-      shared = subst (λ i. SharedStands (s i) (turns_of (s i) order k.cycles) (dates_done shared.date) shared) lists
-          (subst (λ d. SharedStands (its k date due) (turns_of (its k date due) order k.cycles) d shared) (sym done.date) (after k date due shared done));
+      shared = subst (λ i. SharedStands (s i) k.plan.sizes (turns_of (s i) order k.cycles) (dates_done shared.date) shared) lists
+          (subst (λ d. SharedStands (its k date due) k.plan.sizes (turns_of (its k date due) order k.cycles) d shared) (sym done.date) (after k date due shared done));
       machined = h.machined;
       charges = same_seats.count ∙ h.charges;
       reaching = h.reaching;
@@ -145,7 +143,7 @@ pub returns-clause-state : goal.returns-clause-state
 returns-clause-state c =
     let k = c.self.inside in
     let date = c.dates-date.result in
-    let laws : AreRunLaws = record { well = c.compiled.ensures.run; opened = c.openings.ensures.run; lawful = c.regular.ensures.lawful; none = c.openings.ensures.none; silent = c.openings.ensures.silent; waits = c.openings.ensures.waits } in
+    let laws : AreRunLaws = record { well = c.fitting.ensures; opened = c.openings.ensures.run; lawful = c.regular.ensures.lawful; none = c.openings.ensures.none; silent = c.openings.ensures.silent; waits = c.openings.ensures.waits } in
     let due = is_due k c.args.self.now date c.self.invariant c.self.view_is c.requires.due c.dates-date.ensures.dates c.dates-date.ensures.few laws c.given.ensures.unstarted c.on_time.ensures.due in
     let shared = c.at_date.new.shared in
     let done = c.at_date.ensures.stands (begins k date due) (stalls_of k.script) (ties k date due) (sound k date due) (later k date due) (before_filled k date due) in
@@ -158,6 +156,6 @@ pub returns-clause-earlier : goal.returns-clause-earlier
 returns-clause-earlier c = λ differs.
     (let p = c.args.self.now in
     let filled = (date_due p c.requires.due).1 in
-    let some : 1 ≤ p.plan.unit.quantum = subst (λ q. 1 ≤ q.plan.unit.quantum) c.self.view_is c.self.invariant.plan.compiled.text.bare.quantum.0 in
+    let some : 1 ≤ p.plan.unit.quantum = subst (λ q. 1 ≤ q.plan.unit.quantum) c.self.view_is c.self.invariant.plan.fits.bare.quantum.0 in
     let more : (p.dates + 1) * p.plan.unit.quantum ≡ p.dates * p.plan.unit.quantum + p.plan.unit.quantum = omega arith in
     ap stage_of (returns-clause-state c) ∙ cycle_after (after_date p) (λ e. differs (omega (arith, e))) (λ e. omega (arith, e, filled, more, some)) ∙ ap CycleDue filled)

@@ -114,7 +114,7 @@ invariant_of-self c =
 pub go_on-lasted-requires-clause-few : goal.go_on-lasted-requires-clause-few
 go_on-lasted-requires-clause-few c =
     let k : Inside = c.self.inside in
-    subst (All (λ ring. length ring ≤ RING)) (sym c.deref.ensures.value) (few_places k.plan c.self.invariant.plan (run_in k) refl refl (dates_done k.shared.date) k.shared.rings.items (c.self.invariant.shared.ringed, c.self.invariant.shared.rings))
+    subst (All (λ ring. length ring ≤ RING)) (sym c.deref.ensures.value) (few_places k.plan c.self.invariant.plan (run_in k) refl (dates_done k.shared.date) k.shared.rings.items (c.self.invariant.shared.ringed, c.self.invariant.shared.rings))
 
 pub go_on-lasted-requires-clause-inside : goal.go_on-lasted-requires-clause-inside
 go_on-lasted-requires-clause-inside c =

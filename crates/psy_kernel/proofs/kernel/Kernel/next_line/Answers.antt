@@ -1,8 +1,8 @@
 -- What is left of the proof of `kernel::Kernel::next_line`.
-use Rattle.std.proofs.Common.{◌≡◌, ◌+◌, ◌*◌, ◌≤◌, ℕ, length, slice_get, Some, refl, ap, subst, arith}
-use Rattle.psy_dates.specs.Plans.{system_of}
+use Rattle.std.proofs.Common.{◌≡◌, ◌+◌, ◌*◌, ◌≤◌, ℕ, length, get_or, slice_get, Some, refl, ap, subst, arith}
+use Rattle.psy_dates.proofs.lemmas.Fits.{goes_well_from, queue_size, small_queue}
 use Rattle.psy_history.specs.Scheduled.{turns_of}
-use Rattle.psy_meaning.specs.KnownWays.{OfText}
+use Rattle.psy_meaning.specs.KnownWays.{Listed}
 use Rattle.psy_kernel.specs.Progress.{Progress, after_line, beginning, lines_told, order, system}
 use Rattle.psy_history.specs.Scripts.{stalls_of}
 use Rattle.psy_kernel.specs.Standing.{KernelStands, progress_of}
@@ -41,15 +41,16 @@ overflow_add-self c =
     let date = c.in-Some.date in
     let later : (beginning (progress_of k)).dates ≤ date = date_later k w date c.in-Some.is (λ e. c.if-self-end.false (omega (arith, e, c.len.ensures, c.len-2.ensures, c.len-3.ensures))) in
     let s = system (progress_of k) in
-    let ways = OfText k.plan.unit in
+    let ways = Listed w.plan.ways in
     let lists = k.shared.inputs.lists in
-    let run = c.openings.ensures.run (system_of k.plan lists (stalls_of k.script)) (beginning (progress_of k)) ways k.plan.code (c.compiled.ensures.run k.plan.unit k.plan.code k.plan.nexts (stalls_of k.script) lists w.plan.compiled w.inputs) w.sound in
+    let run = goes_well_from k.plan w.plan c.fitting.ensures c.openings.ensures.run (beginning (progress_of k)) lists (stalls_of k.script) w.inputs w.sound in
     let few : k.given ≤ k.place + k.place + k.place * 131072 + 131072 =
     given_few k w date c.in-Some.is later (c.regular.ensures.lawful s ways k.plan.code run)
-    (λ stream within. shown_few s (turns_of s (order (progress_of k)) k.cycles) date k.shared (stands_now k w date c.in-Some.is later).stands stream
+    (λ stream within. shown_few s k.plan.sizes (turns_of s (order (progress_of k)) k.cycles) date k.shared (stands_now k w date c.in-Some.is later).stands stream
     (c.queues.ensures.shows s ways k.plan.code run date stream within)
-    (λ size is small. c.queue_sizes.ensures.held s ways k.plan.code run (date + 1) stream size within is small) (w.sound.messages stream).few within) in
-    let bare = w.plan.compiled.text.bare in
+    (c.queue_sizes.ensures.held s ways k.plan.code run (date + 1) stream (get_or k.plan.sizes.queues stream 0) within (queue_size k.plan w.plan stream within) (small_queue k.plan w.plan stream within))
+    (small_queue k.plan w.plan stream within) ((w.sound w.plan).messages stream).few within) in
+    let bare = w.plan.fits.bare in
     omega (arith, few, w.place, bare.agent_limit, bare.variable_limit, bare.stream_limit)
 
 pub invariant_of-self : goal.invariant_of-self

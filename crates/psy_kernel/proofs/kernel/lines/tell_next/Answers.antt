@@ -39,7 +39,7 @@ returns-then-not-any_had-clause-told c =
     let none_there : (clock : ℕ) → clock < length unit.clocks → is_date (clock_in unit clock) c.args.date ≡ false =
     subst (λ xs. (clock : ℕ) → clock < length xs → is_date (get_or xs clock no_clock) c.args.date ≡ false) c.as_slice.ensures none in
     let without : (variable : ℕ) → variable < length unit.variables → is_date (clock_in unit (variable_at unit variable).clock) c.args.date ≡ false =
-    λ variable within. none_there (variable_at unit variable).clock (c.requires.plan.compiled.text.bare.variables variable no_variable within).clock in
+    λ variable within. none_there (variable_at unit variable).clock (c.requires.plan.fits.bare.variables variable no_variable within).clock in
     let at : length unit.agents ≡ c.walking.at = omega (arith, c.if-at-agents.true, c.len-agents.ensures) in
     λ opening stalls turns stands.
     (let s = opened_of c.args.plan.now opening c.args.shared.now.inputs.lists stalls in

@@ -6,8 +6,9 @@ use Rattle.psy_clock.specs.declared.clock.Clock.{Clock}
 use Rattle.psy_tree.specs.declared.unit.AgentDecl.{AgentDecl}
 use Rattle.psy_tree.specs.declared.unit.VarDecl.{VarDecl}
 use Rattle.psy_tree.specs.Parts.{agent_at, variable_at}
-use Rattle.psy_dates.specs.Plans.{opened_of, system_of}
-use Rattle.psy_meaning.specs.KnownWays.{OfText}
+use Rattle.psy_dates.specs.Plans.{opened_of}
+use Rattle.psy_dates.proofs.lemmas.Fits.{goes_well_from}
+use Rattle.psy_meaning.specs.KnownWays.{Listed}
 use Rattle.psy_kernel.specs.Telling.{TellsValue}
 use Rattle.psy_kernel.proofs.Named.{agent_found, variable_found}
 use Rattle.psy_kernel.proofs.PlacesTold.{agent_told, variable_told}
@@ -28,9 +29,9 @@ returns-then-place-agents-clause-told c =
     c.bytes.ensures ∙ ap (λ (a : AgentDecl). a.name) (agent_found plan.unit c.args.place c.as_slice-agents.result.now c.index-agents-place.result c.as_slice-agents.ensures within) in
     λ opening stalls turns stands.
     let s = opened_of plan opening shared.inputs.lists stalls in
-    let run = c.openings.ensures.run (system_of plan shared.inputs.lists stalls) opening (OfText plan.unit) plan.code (c.compiled.ensures.run plan.unit plan.code plan.nexts stalls shared.inputs.lists c.requires.plan.compiled c.requires.inputs) stands.sound in
-    agent_told s turns c.args.date shared stands.stands c.args.place c.tell_stop.result c.args.line.now c.tell_stop.new.line stands.later (c.openings.ensures.silent s (OfText plan.unit) plan.code run (c.args.date + 1) c.args.place) c.index.result.now c.bytes.result.now
-    ((c.regular.ensures.lawful s (OfText plan.unit) plan.code run).actions (c.args.date + 1) c.args.place)
+    let run = goes_well_from plan c.requires.plan c.fitting.ensures c.openings.ensures.run opening shared.inputs.lists stalls c.requires.inputs stands.sound in
+    agent_told s plan.sizes turns c.args.date shared stands.stands c.args.place c.tell_stop.result c.args.line.now c.tell_stop.new.line stands.later (c.openings.ensures.silent s (Listed c.requires.plan.ways) plan.code run (c.args.date + 1) c.args.place) c.index.result.now c.bytes.result.now
+    ((c.regular.ensures.lawful s (Listed c.requires.plan.ways) plan.code run).actions (c.args.date + 1) c.args.place)
     among at named c.tell_stop.ensures.told
 
 pub returns-clause-told : goal.returns-clause-told
@@ -53,5 +54,5 @@ returns-clause-told c =
     let bits : to_z w32 (of_z w32 value) ≡ value = grind (arith, to_z-of_z) in
     let told = subst (λ (z : ℤ). TellsValue v (get_or c.as_slice-2.result.now v.clock every_tick) z c.args.date c.tell_value.result c.args.line.now c.tell_value.new.line) bits c.tell_value.ensures.told in
     λ opening stalls turns stands.
-    variable_told (opened_of plan opening shared.inputs.lists stalls) turns c.args.date shared stands.stands c.args.place c.tell_value.result c.args.line.now c.tell_value.new.line
+    variable_told (opened_of plan opening shared.inputs.lists stalls) plan.sizes turns c.args.date shared stands.stands c.args.place c.tell_value.result c.args.line.now c.tell_value.new.line
     stands.later v (get_or c.as_slice-2.result.now v.clock every_tick) value behind named timed at told

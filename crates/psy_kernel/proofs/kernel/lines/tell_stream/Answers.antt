@@ -3,8 +3,9 @@ use Rattle.std.proofs.Common.{◌≡◌, ◌<◌, ℕ, length, slice_get, Some, 
 use Rattle.std.proofs.lemmas.Option.{slice_get_read}
 use Rattle.psy_tree.specs.declared.unit.StreamDecl.{StreamDecl}
 use Rattle.psy_tree.specs.Parts.{stream_at}
-use Rattle.psy_dates.specs.Plans.{opened_of, system_of}
-use Rattle.psy_meaning.specs.KnownWays.{OfText}
+use Rattle.psy_dates.specs.Plans.{opened_of}
+use Rattle.psy_dates.proofs.lemmas.Fits.{goes_well_from}
+use Rattle.psy_meaning.specs.KnownWays.{Listed}
 use Rattle.psy_kernel.proofs.Named.{stream_found}
 use Rattle.psy_kernel.proofs.StreamsTold.{stream_told}
 use Rattle.psy_kernel.proofs.kernel.lines.tell_stream.Goals as goal
@@ -21,6 +22,6 @@ returns-clause-told c =
     c.bytes.ensures ∙ ap (λ (d : StreamDecl). d.name) (stream_found plan.unit stream c.as_slice.result.now stream c.index-as_slice-stream.result c.as_slice.ensures refl among) in
     λ opening stalls turns stands.
     let s = opened_of plan opening shared.inputs.lists stalls in
-    let run = c.openings.ensures.run (system_of plan shared.inputs.lists stalls) opening (OfText plan.unit) plan.code (c.compiled.ensures.run plan.unit plan.code plan.nexts stalls shared.inputs.lists c.requires.plan.compiled c.requires.inputs) stands.sound in
-    stream_told s turns c.args.date shared stands.stands stream (c.queues.ensures.shows s (OfText plan.unit) plan.code run c.args.date stream c.requires.within)
+    let run = goes_well_from plan c.requires.plan c.fitting.ensures c.openings.ensures.run opening shared.inputs.lists stalls c.requires.inputs stands.sound in
+    stream_told s plan.sizes turns c.args.date shared stands.stands stream (c.queues.ensures.shows s (Listed c.requires.plan.ways) plan.code run c.args.date stream c.requires.within)
     c.args.shown c.args.line.now c.tell_message.new.line c.tell_message.result c.index.result.now c.bytes.result.now at named c.tell_message.ensures.told

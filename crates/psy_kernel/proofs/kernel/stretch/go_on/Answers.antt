@@ -29,7 +29,7 @@ new-scene-requires c =
     let start : c.args.seat.now.start ≡ c.requires.given.4.start = g.given.has.seated.start in
     record {
       few = c.requires.few;
-      lawful = subst (All IsClock) (sym c.as_slice-2.ensures) c.requires.plan.compiled.text.bare.clocks;
+      lawful = subst (All IsClock) (sym c.as_slice-2.ensures) c.requires.plan.fits.bare.clocks;
       start_early = omega (arith, start, g.given.gets.started, c.requires.early);
       date_early = c.requires.early;
     }

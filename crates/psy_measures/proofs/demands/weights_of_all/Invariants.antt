@@ -1,7 +1,0 @@
--- What each loop of `demands::weights_of_all` keeps.
-use Rattle.std.proofs.Common.{take}
-use Rattle.psy_measures.specs.Measured.{AreEach, AreWeights}
-use Rattle.psy_measures.proofs.demands.weights_of_all.Given as goal
-
-abbrev pub invariant-graphs : goal.invariant-graphs
-invariant-graphs l = AreEach (AreWeights l.top) (take l.graph-index l.graphs) l.lists
