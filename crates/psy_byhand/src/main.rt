@@ -1,0 +1,74 @@
+//! Runs plans whose code no compiler made: it was written by hand, instruction by instruction, for programs without statements. Prints the
+//! texts of their runs.
+#![tactic(auto)]
+
+ghost use Rattle.std.specs.Prelude.{◌≡◌, [], map, IfOk};
+ghost use Rattle.psy_dates.specs.Plans.{IsPlan};
+
+mod counting;
+mod parts;
+mod relaying;
+
+use counting::counter;
+use psy_base::{Items, Memory};
+use psy_dates::Plan;
+use psy_door::{Sink, StdSink};
+use psy_history::{Inputs, Script};
+use psy_kernel::Kernel;
+use psy_run::run_loop;
+use psy_tree::Unit;
+use relaying::relay;
+use std::alloc::Global;
+use std::process::ExitCode;
+
+// No input has a list.
+fn no_lists(alloc: Global, unit: &Unit) -> Result<Inputs, Memory>
+    ensures { IfOk result (λ inputs. inputs.lists ≡ map (λ v. []) unit.now.variables) }
+{
+    let mut lists = Items::new(alloc);
+    'variables: for _ in unit.variables.as_slice() {
+        lists.push(Items::new(alloc))?;
+    }
+    Ok(Inputs { lists })
+}
+
+// Runs a plan, with neither inputs nor a script.
+fn run<S: Sink>(alloc: Global, plan: Plan, out: &mut S) -> Option<()>
+    requires { IsPlan plan }
+{
+    let Ok(inputs) = no_lists(alloc, &plan.unit) else {
+        return None;
+    };
+    let script = Script {
+        stalls: Items::new(alloc),
+        orders: Items::new(alloc),
+    };
+    let Ok(mut kernel) = Kernel::boot(alloc, plan, inputs, script) else {
+        return None;
+    };
+    run_loop(&mut kernel, out).ok()
+}
+
+// Runs the counter with ample cycles, and with just as many as may be demanded; then the relay.
+fn run_all<S: Sink>(alloc: Global, out: &mut S) -> Option<()> {
+    let Ok(ample) = counter(alloc, 100, 40, 30) else {
+        return None;
+    };
+    let Ok(tight) = counter(alloc, 4, 40, 30) else {
+        return None;
+    };
+    let Ok(both) = relay(alloc, 100, 40, 40) else {
+        return None;
+    };
+    run(alloc, ample, out)?;
+    run(alloc, tight, out)?;
+    run(alloc, both, out)
+}
+
+fn main(rt: HostRuntime) -> ExitCode {
+    let mut out = StdSink::new(rt.stdout());
+    match run_all(rt.alloc(), &mut out) {
+        Some(()) => ExitCode::from(0),
+        None => ExitCode::from(1),
+    }
+}
