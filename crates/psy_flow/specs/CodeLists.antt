@@ -6,10 +6,12 @@ use Rattle.psy_code.specs.declared.instr.Instr.{Instr}
 use Rattle.psy_code.specs.declared.instr.Instr.TheVariants as instr
 use Rattle.psy_tree.specs.declared.unit.Unit.{Unit as Whole}
 use Rattle.psy_tree.specs.Parts.{agent_at}
-use Rattle.psy_meaning.specs.CodeWays.{AreCodeLooks, AreCodeNexts, AreCodeSends, IsOnWay, budget_of, place_of}
+use Rattle.psy_meaning.specs.CodeWays.{AreCodeDelays, AreCodeLooks, AreCodeNexts, IsOnWay, place_of}
+use Rattle.psy_meaning.specs.ListedWays.{AreByPoint, points_of}
 use Rattle.psy_meaning.specs.Sendings.{delay_of}
-use Rattle.psy_flow.specs.declared.code_lists.WaysFrom.{WaysFrom}
-use Rattle.psy_flow.specs.declared.listed.AgentWays.{AgentWays}
+use Rattle.psy_flow.specs.declared.listed.AgentPaths.{AgentPaths}
+use Rattle.psy_flow.specs.declared.paths.Paths.{Paths}
+use Rattle.psy_flow.specs.declared.paths.PathsFrom.{PathsFrom}
 use Rattle.psy_flow.specs.declared.parts.Part.{Part}
 use Rattle.psy_flow.specs.declared.parts.Part.TheVariants as part
 use Rattle.psy_flow.specs.Listed.{AreOf}
@@ -85,14 +87,18 @@ pub record IsRaisedTo (Has : ℕ → ℕ → Type 0) (before after : List ℕ) :
 
 -- ---- by point of an agent
 
--- The ways from a place, where actions have this budget
-pub record AreCodeWaysFrom (instrs : List Instr) (from budget : ℕ) (ways : WaysFrom) : Type 0 where
-  pub nexts : AreCodeNexts instrs from ways.nexts
-  pub looks : AreCodeLooks instrs from ways.looks
-  pub sends : AreCodeSends instrs from budget ways.sends
+-- The paths from a place
+pub record ArePathsFrom (instrs : List Instr) (from : ℕ) (paths : PathsFrom) : Type 0 where
+  pub nexts : AreCodeNexts instrs from paths.nexts
+  pub looks : AreCodeLooks instrs from paths.looks
 
--- By point of an agent, its ways
-pub record AreCodeAgentWays (unit : Whole) (code : Code) (number : ℕ) (ways : AgentWays) : Type 0 where
-  pub nexts : AreOf (agent_at unit number) (λ point. AreCodeNexts code.instrs (place_of code number point)) ways.nexts
-  pub looks : AreOf (agent_at unit number) (λ point. AreCodeLooks code.instrs (place_of code number point)) ways.looks
-  pub sends : AreOf (agent_at unit number) (λ point. AreCodeSends code.instrs (place_of code number point) (budget_of unit number point)) ways.sends
+-- By point of an agent, its paths
+pub record AreAgentPaths (unit : Whole) (code : Code) (number : ℕ) (paths : AgentPaths) : Type 0 where
+  pub nexts : AreOf (agent_at unit number) (λ point. AreCodeNexts code.instrs (place_of code number point)) paths.nexts
+  pub looks : AreOf (agent_at unit number) (λ point. AreCodeLooks code.instrs (place_of code number point)) paths.looks
+
+-- The ways of a program's code without what they send
+pub record AreCodePaths (unit : Whole) (code : Code) (paths : Paths) : Type 0 where
+  pub nexts : AreByPoint (points_of unit) (λ agent point. AreCodeNexts code.instrs (place_of code agent point)) paths.nexts
+  pub looks : AreByPoint (points_of unit) (λ agent point. AreCodeLooks code.instrs (place_of code agent point)) paths.looks
+  pub delays : AreCodeDelays unit code paths.delays

@@ -7,10 +7,10 @@ use Rattle.psy_tree.specs.declared.unit.AgentDecl.{AgentDecl}
 use Rattle.psy_tree.specs.declared.unit.FunctionDecl.{FunctionDecl}
 use Rattle.psy_tree.specs.declared.unit.Unit.{Unit as Whole}
 use Rattle.psy_meaning.specs.Flow.{AreNexts, MayLook}
-use Rattle.psy_meaning.specs.ListedWays.{AreLooks, AreSends, IsWayBefore}
+use Rattle.psy_meaning.specs.ListedWays.{AreLooks, IsWayBefore}
 use Rattle.psy_meaning.specs.Sendings.{delay_of}
 use Rattle.psy_meaning.specs.Ways.{Sending}
-use Rattle.psy_flow.specs.declared.listed.AgentWays.{AgentWays}
+use Rattle.psy_flow.specs.declared.listed.AgentPaths.{AgentPaths}
 
 -- ---- looks
 
@@ -63,8 +63,7 @@ pub record AreOf {X : Type 0} (agent : AgentDecl) (Are : ℕ → X → Type 0) (
   pub count : length lists ≡ length agent.points
   pub each : (point : ℕ) (one : X) → slice_get lists point ≡ Some one → Are point one
 
--- By point of an agent, its ways
-pub record AreAgentWays (functions : List FunctionDecl) (agent : AgentDecl) (ways : AgentWays) : Type 0 where
-  pub nexts : AreNexts functions agent ways.nexts
-  pub looks : AreOf agent (AreLooks functions agent) ways.looks
-  pub sends : AreOf agent (AreSends functions agent) ways.sends
+-- By point of an agent, its ways without what they send
+pub record AreStatedPaths (functions : List FunctionDecl) (agent : AgentDecl) (paths : AgentPaths) : Type 0 where
+  pub nexts : AreNexts functions agent paths.nexts
+  pub looks : AreOf agent (AreLooks functions agent) paths.looks

@@ -1,78 +1,30 @@
 //! The ways of a program's code, as lists.
 //!
-//! From each point one walk meets the places that it reaches, which are sorted; the ends, the looks and the delays are then read from these
-//! places, once it is known from which of them a way ends. The sends take passes over these places (`settling`) for each point where ways end
-//! and each stream to which one of the places sends. No table has more than one cell for each instruction of the code.
+//! The sends take passes over the places that a point reaches (`settling`) for each point where ways end and each stream to which one of the
+//! places sends. No table has more than one cell for each instruction of the code.
 
 ghost use Rattle.std.specs.Prelude.{◌≡◌, ◌<◌, ◌≤◌, ℕ, false, length, replicate, Some, IfOk, OnOk, slice_get};
 ghost use Rattle.psy_base.specs.declared.limits.TheConstants.{POINTS, STREAMS};
 ghost use Rattle.psy_code.specs.declared.instr.Instr.{Instr as Instruction};
 ghost use Rattle.psy_tree.specs.Parts.{agent_at};
-ghost use Rattle.psy_meaning.specs.CodeWays.{AreCodeWays, CanWalk, IsPassed, NamesThere, budget_of, code_of, place_of};
+ghost use Rattle.psy_meaning.specs.CodeWays.{AreCodeSends, AreCodeWays, CanWalk, IsPassed, NamesThere, budget_of, place_of};
+ghost use Rattle.psy_meaning.specs.ListedWays.{AreByPoint, points_of};
 ghost use Rattle.psy_meaning.specs.Units.{IsOfText};
-ghost use Rattle.psy_flow.specs.CodeLists.{AreCodeAgentWays, AreCodeWaysFrom, HasAgentDelay, HasWayDelay, IsRaisedTo};
-ghost use Rattle.psy_flow.specs.Quests.{any};
-ghost use Rattle.psy_flow.specs.Walks.{ArePassed, StaysIn};
-ghost use Rattle.psy_flow.specs.Worths.{AreTops};
+ghost use Rattle.psy_flow.specs.Listed.{AreOf};
+ghost use Rattle.psy_flow.specs.Walks.{StaysIn};
 
-use crate::code_delays::raise_delays;
-use crate::code_looks::code_looks;
 use crate::code_sends::code_sends;
 use crate::ends::ends_among;
-use crate::listed::AgentWays;
 use crate::next::no_marks;
+use crate::paths::{code_paths, passed_backwards, place_at, zeros};
 use crate::pushes::push;
-use crate::quests::Quest;
-use crate::settling::settle;
-use crate::walks::passed_by_marks;
 use psy_base::{Items, Memory, SendWay, Ways};
 use psy_code::{Code, Instr};
 use psy_tree::{AgentDecl, Unit};
 use std::alloc::Global;
 
-/// The ways from one point.
-#[derive(Debug, Drop)]
-pub struct WaysFrom {
-    /// Where they end.
-    pub nexts: Items<u32>,
-    /// At what they look.
-    pub looks: Items<u32>,
-    /// What they send.
-    pub sends: Items<SendWay>,
-}
-
-// The places that ways from a place pass, from the last to the first. The marks are left as they were, none of them set.
-fn passed_backwards(
-    alloc: Global,
-    instrs: &[Instr],
-    from: usize,
-    marks: &mut Items<bool>,
-) -> Result<Items<usize>, Memory>
-    requires inside { StaysIn instrs.now from }
-    requires clear { marks.old ≡ replicate (length instrs.now) false }
-    ensures places { IfOk result (ArePassed instrs.now from) }
-    ensures clear { OnOk result (marks.new ≡ replicate (length instrs.now) false) }
-{
-    let places = passed_by_marks(alloc, instrs, from, marks)?;
-    let mut ordered = Vec::from_slice(alloc, places.as_slice())?;
-    ordered.sort_unstable();
-    ordered.reverse();
-    Ok(Items::from_vec(ordered))
-}
-
-// From which of the places a way ends.
-fn settle_ends(instrs: &[Instr], from: usize, places: &[usize], row: &mut Items<u64>)
-    requires inside { StaysIn instrs.now from }
-    requires passed { ArePassed instrs.now from places.now }
-    requires count { length row.old ≡ length instrs.now }
-    ensures count { length row.new ≡ length instrs.now }
-    ensures tops { AreTops instrs.now any places.now row.new }
-{
-    settle(Quest::Any, instrs, from, places, row);
-}
-
-// The ways from a place of an agent's code, where its actions have this budget; their delays are added to those of other ways.
-fn ways_from(
+// The sends on the ways from a place of an agent's code, where its actions have this budget.
+fn sends_from(
     alloc: Global,
     unit: &Unit,
     instrs: &[Instr],
@@ -81,41 +33,21 @@ fn ways_from(
     budget: u32,
     marks: &mut Items<bool>,
     row: &mut Items<u64>,
-    delays: &mut Items<u64>,
-) -> Result<WaysFrom, Memory>
+) -> Result<Items<SendWay>, Memory>
     requires inside { StaysIn instrs.now from }
     requires named { (place : ℕ) (i : Instruction) → IsPassed instrs.now from place → slice_get instrs.now place ≡ Some i
         → NamesThere unit.now agent.now i }
     requires points { length agent.now.points ≤ POINTS }
-    requires variables { length unit.now.variables ≤ POINTS }
     requires streams { length unit.now.streams ≤ STREAMS }
     requires clear { marks.old ≡ replicate (length instrs.now) false }
     requires count { length row.old ≡ length instrs.now }
     ensures clear { OnOk result (marks.new ≡ replicate (length instrs.now) false) }
     ensures count { length row.new ≡ length instrs.now }
-    ensures ways { IfOk result (AreCodeWaysFrom instrs.now from budget) }
-    ensures delays { OnOk result (IsRaisedTo (HasWayDelay unit.now instrs.now from) delays.old delays.new) }
+    ensures sends { IfOk result (AreCodeSends instrs.now from budget) }
 {
     let places = passed_backwards(alloc, instrs, from, marks)?;
     let nexts = ends_among(alloc, instrs, from, places.as_slice(), agent.points.len())?;
-    settle_ends(instrs, from, places.as_slice(), row);
-    let looks = code_looks(
-        alloc,
-        instrs,
-        from,
-        places.as_slice(),
-        row.as_slice(),
-        unit.variables.len(),
-    )?;
-    raise_delays(
-        delays,
-        unit,
-        instrs,
-        from,
-        places.as_slice(),
-        row.as_slice(),
-    );
-    let sends = code_sends(
+    code_sends(
         alloc,
         instrs,
         from,
@@ -124,21 +56,7 @@ fn ways_from(
         unit.streams.len(),
         budget,
         row,
-    )?;
-    Ok(WaysFrom {
-        nexts,
-        looks,
-        sends,
-    })
-}
-
-// Where a point of an agent stands in the code.
-fn place_at(code: &Code, agent: usize, point: usize) -> usize
-    requires agent { agent < length code.now.agents }
-    requires point { point < length (code_of code.now agent).points }
-    ensures { result ≡ place_of code.now agent point }
-{
-    code.agents.as_slice()[agent].points.as_slice()[point] as usize
+    )
 }
 
 // The budget of a point of an agent.
@@ -150,16 +68,15 @@ fn budget_at(unit: &Unit, agent: usize, point: usize) -> u32
     unit.agents.as_slice()[agent].points.as_slice()[point].budget
 }
 
-// The ways of an agent of this number; their delays are added to those of other agents.
-fn code_ways_of(
+// By point of the agent of this number, the sends on the ways from it.
+fn sends_of(
     alloc: Global,
     unit: &Unit,
     code: &Code,
     number: usize,
     marks: &mut Items<bool>,
     row: &mut Items<u64>,
-    delays: &mut Items<u64>,
-) -> Result<AgentWays, Memory>
+) -> Result<Items<Items<SendWay>>, Memory>
     requires text { IsOfText unit.now }
     requires walk { CanWalk unit.now code.now }
     requires number { number < length unit.now.agents }
@@ -167,15 +84,13 @@ fn code_ways_of(
     requires count { length row.old ≡ length code.now.instrs }
     ensures clear { OnOk result (marks.new ≡ replicate (length code.now.instrs) false) }
     ensures count { length row.new ≡ length code.now.instrs }
-    ensures ways { IfOk result (AreCodeAgentWays unit.now code.now number) }
-    ensures delays { OnOk result (IsRaisedTo (HasAgentDelay unit.now code.now number (length (agent_at unit.now number).points)) delays.old delays.new) }
+    ensures sends { IfOk result (AreOf (agent_at unit.now number)
+        (λ point. AreCodeSends code.now.instrs (place_of code.now number point) (budget_of unit.now number point))) }
 {
     let agent = &unit.agents.as_slice()[number];
-    let mut nexts = Items::new(alloc);
-    let mut looks = Items::new(alloc);
     let mut sends = Items::new(alloc);
     'points: for point in 0..agent.points.len() {
-        let ways = ways_from(
+        let own = sends_from(
             alloc,
             unit,
             code.instrs.as_slice(),
@@ -184,24 +99,31 @@ fn code_ways_of(
             budget_at(unit, number, point),
             marks,
             row,
-            delays,
         )?;
-        push(&mut nexts, ways.nexts)?;
-        push(&mut looks, ways.looks)?;
-        push(&mut sends, ways.sends)?;
+        push(&mut sends, own)?;
     }
-    Ok(AgentWays {
-        nexts,
-        looks,
-        sends,
-    })
+    Ok(sends)
 }
 
-// So many zeros.
-fn zeros(alloc: Global, count: usize) -> Result<Items<u64>, Memory>
-    ensures { IfOk result (λ list. list ≡ replicate count 0) }
+// By agent and point, the sends on the ways from it.
+fn all_sends(
+    alloc: Global,
+    unit: &Unit,
+    code: &Code,
+) -> Result<Items<Items<Items<SendWay>>>, Memory>
+    requires text { IsOfText unit.now }
+    requires walk { CanWalk unit.now code.now }
+    ensures { IfOk result (AreByPoint (points_of unit.now)
+        (λ agent point. AreCodeSends code.now.instrs (place_of code.now agent point) (budget_of unit.now agent point))) }
 {
-    Ok(Items::from_vec(vec![in alloc; 0; count]?))
+    let mut marks = no_marks(alloc, code.instrs.len())?;
+    let mut row = zeros(alloc, code.instrs.len())?;
+    let mut sends = Items::new(alloc);
+    'agents: for number in 0..unit.agents.len() {
+        let own = sends_of(alloc, unit, code, number, &mut marks, &mut row)?;
+        push(&mut sends, own)?;
+    }
+    Ok(sends)
 }
 
 /// The ways of a program's actions by its code, whatever the values: from each point of each agent the points where they end, the variables at
@@ -212,22 +134,12 @@ pub fn code_ways(alloc: Global, unit: &Unit, code: &Code) -> Result<Ways, Memory
     requires walk { CanWalk unit.now code.now }
     ensures { IfOk result (AreCodeWays unit.now code.now) }
 {
-    let mut marks = no_marks(alloc, code.instrs.len())?;
-    let mut row = zeros(alloc, code.instrs.len())?;
-    let mut delays = zeros(alloc, unit.streams.len())?;
-    let mut nexts = Items::new(alloc);
-    let mut looks = Items::new(alloc);
-    let mut sends = Items::new(alloc);
-    'agents: for number in 0..unit.agents.len() {
-        let own = code_ways_of(alloc, unit, code, number, &mut marks, &mut row, &mut delays)?;
-        push(&mut nexts, own.nexts)?;
-        push(&mut looks, own.looks)?;
-        push(&mut sends, own.sends)?;
-    }
+    let paths = code_paths(alloc, unit, code)?;
+    let sends = all_sends(alloc, unit, code)?;
     Ok(Ways {
-        nexts,
-        looks,
+        nexts: paths.nexts,
+        looks: paths.looks,
         sends,
-        delays,
+        delays: paths.delays,
     })
 }

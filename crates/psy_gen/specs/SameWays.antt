@@ -7,10 +7,13 @@ use Rattle.psy_code.specs.declared.code.Code.{Code}
 use Rattle.psy_code.specs.declared.instr.Instr.TheVariants as instr
 use Rattle.psy_tree.specs.declared.unit.AgentDecl.{AgentDecl}
 use Rattle.psy_tree.specs.declared.unit.Unit.{Unit as Whole}
+use Rattle.psy_tree.specs.Parts.{agent_at}
 use Rattle.psy_meaning.specs.CodeWays.{HasCodeDelay, HasCodeSends, IsCodeWay, IsOnWay, place_of}
-use Rattle.psy_meaning.specs.Flow.{HasSends, IsNext, MayLook}
+use Rattle.psy_meaning.specs.Flow.{AreAllNexts, HasSends, IsNext, MayLook}
+use Rattle.psy_meaning.specs.ListedWays.{AreByPoint, AreDelays, AreLooks, points_of}
 use Rattle.psy_meaning.specs.Sendings.{longest_delay}
 use Rattle.psy_meaning.specs.Sound.{Each}
+use Rattle.psy_flow.specs.declared.paths.Paths.{Paths}
 use Rattle.psy_gen.specs.Keeping.{HasSendlessLoops}
 
 -- From a point the ways of the code end where those of the statements do and look at the same variables; and where no send stands in a
@@ -31,6 +34,12 @@ pub record HasSameWays (unit : Whole) (code : Code) : Type 0 where
 -- No send stands in a bounded loop of an agent.
 abbrev pub SendsOutsideLoops : Whole → Type 0
 SendsOutsideLoops unit = All (λ (agent : AgentDecl). Each HasSendlessLoops agent.stmts) unit.agents
+
+-- They are those of the statements: the points that follow, the variables looked at, and how long messages take.
+pub record ArePathsOf (unit : Whole) (paths : Paths) : Type 0 where
+  pub nexts : AreAllNexts unit paths.nexts
+  pub looks : AreByPoint (points_of unit) (λ agent. AreLooks unit.functions (agent_at unit agent)) paths.looks
+  pub delays : AreDelays unit paths.delays
 
 -- The lists of the ways are the same but for the sends.
 pub record AreSameButSends (these those : Ways) : Type 0 where

@@ -4,8 +4,10 @@ ghost use Rattle.std.specs.Prelude.{◌≡◌};
 ghost use Rattle.psy_base.specs.declared.ways.Ways.{Ways};
 ghost use Rattle.psy_code.specs.declared.code.Code.{Code};
 ghost use Rattle.psy_tree.specs.declared.unit.Unit.{Unit as Whole};
+ghost use Rattle.psy_flow.specs.CodeLists.{AreCodePaths};
+ghost use Rattle.psy_flow.specs.declared.paths.Paths.{Paths};
 ghost use Rattle.psy_gen.specs.Emission.{code_of};
-ghost use Rattle.psy_gen.specs.SameWays.{AreSameButSends, HasSameWays, SendsOutsideLoops};
+ghost use Rattle.psy_gen.specs.SameWays.{ArePathsOf, AreSameButSends, HasSameWays, SendsOutsideLoops};
 ghost use Rattle.psy_meaning.specs.Alike.{ActsAlike};
 ghost use Rattle.psy_meaning.specs.CodeWays.{AreCodeWays, CanWalk};
 ghost use Rattle.psy_meaning.specs.ListedWays.{AreWaysOf};
@@ -40,6 +42,11 @@ pub fn same_ways()
     calls();
     sendings();
 }
+
+/// Where the ways of code are those of a unit's statements, so are the lists of where they end, at what they look and how long messages take.
+pub fn same_paths()
+    ensures { (unit : Whole) (code : Code) (paths : Paths) → HasSameWays unit code → AreCodePaths unit code paths → ArePathsOf unit paths }
+{}
 
 /// Where the ways of code are those of a text's statements, so are their lists: all but the sends, and where no send stands in a bounded loop
 /// these too.

@@ -8,9 +8,9 @@ ghost use Rattle.psy_meaning.specs.Units.{IsOfText};
 
 use psy_base::{Memory, Ways};
 use psy_code::Code;
-use psy_flow::{code_ways, ways};
+use psy_flow::{code_paths, sends};
 use psy_gen::generate;
-use psy_gen::laws::same_lists;
+use psy_gen::laws::same_paths;
 use psy_tree::Unit;
 use std::alloc::Global;
 
@@ -28,14 +28,14 @@ fn ways_of(alloc: Global, unit: &Unit, code: &Code) -> Result<Ways, Memory>
     requires same { HasSameWays unit.now code.now }
     ensures { IfOk result (AreWaysOf unit.now) }
 {
-    same_lists();
-    let coded = code_ways(alloc, unit, code)?;
-    let stated = ways(alloc, unit)?;
+    same_paths();
+    let paths = code_paths(alloc, unit, code)?;
+    let sends = sends(alloc, unit)?;
     Ok(Ways {
-        nexts: coded.nexts,
-        looks: coded.looks,
-        sends: stated.sends,
-        delays: coded.delays,
+        nexts: paths.nexts,
+        looks: paths.looks,
+        sends,
+        delays: paths.delays,
     })
 }
 

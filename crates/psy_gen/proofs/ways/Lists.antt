@@ -18,8 +18,10 @@ use Rattle.psy_meaning.specs.Flow.{AreAllNexts, HasSends, IsCut, IsMostSends}
 use Rattle.psy_meaning.specs.ListedWays.{AreByPoint, AreDelays, AreLooks, AreSends, points_of}
 use Rattle.psy_meaning.specs.Sendings.{longest_delay}
 use Rattle.psy_meaning.specs.Sound.{Each}
+use Rattle.psy_flow.specs.CodeLists.{AreCodePaths}
+use Rattle.psy_flow.specs.declared.paths.Paths.{Paths}
 use Rattle.psy_gen.specs.Keeping.{HasSendlessLoops}
-use Rattle.psy_gen.specs.SameWays.{HasSameWays, SameFrom, SendsOutsideLoops}
+use Rattle.psy_gen.specs.SameWays.{ArePathsOf, HasSameWays, SameFrom, SendsOutsideLoops}
 use Rattle.psy_gen.proofs.Basics.{some_is}
 
 -- ---- numbers of some kind
@@ -49,7 +51,7 @@ module _ {X : Type 0} (unit : Whole) (Are : ℕ → ℕ → X → Type 0) (lists
       (λ ns. slice_get ns number) by_point.counts
       ∙ slice_get-map (λ (a : AgentDecl). length a.points) unit.agents number ∙ ap (option_map (λ (a : AgentDecl). length a.points)) got)
 
-module _ (unit : Whole) (code : Code) (same : HasSameWays unit code) (coded : Ways) (are : AreCodeWays unit code coded) where
+module _ (unit : Whole) (code : Code) (same : HasSameWays unit code) (coded : Paths) (are : AreCodePaths unit code coded) where
   -- ---- next points
 
   pub nexts_of : AreAllNexts unit coded.nexts
@@ -104,7 +106,15 @@ module _ (unit : Whole) (code : Code) (same : HasSameWays unit code) (coded : Wa
         ));
   }
 
-  -- ---- sends
+  pub paths_of : ArePathsOf unit coded
+  paths_of = record { nexts = nexts_of; looks = looks_of; delays = delays_of }
+
+-- ---- sends
+
+module _ (unit : Whole) (code : Code) (same : HasSameWays unit code) (coded : Ways) (are : AreCodeWays unit code coded) where
+  pub paths_in : ArePathsOf unit (record { nexts = coded.nexts; looks = coded.looks; delays = coded.delays })
+  paths_in = paths_of unit code same (record { nexts = coded.nexts; looks = coded.looks; delays = coded.delays })
+      (record { nexts = are.nexts; looks = are.looks; delays = are.delays })
 
   module _ (some : (number : ℕ) (agent : AgentDecl) (from to stream : ℕ) → slice_get unit.agents number ≡ Some agent → (n : ℕ)
       × IsMostSends unit.functions agent from to stream n) (silent : SendsOutsideLoops unit) where

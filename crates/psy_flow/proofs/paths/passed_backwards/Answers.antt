@@ -1,8 +1,8 @@
--- What is left of the proof of `code_lists::passed_backwards`.
+-- What is left of the proof of `paths::passed_backwards`.
 use Rattle.std.proofs.Common.{◌≡◌, sym, subst, ◌∙◌}
 use Rattle.psy_flow.specs.Walks.{ArePassed}
 use Rattle.psy_flow.proofs.PassRows.{passed_in_order}
-use Rattle.psy_flow.proofs.code_lists.passed_backwards.Goals as goal
+use Rattle.psy_flow.proofs.paths.passed_backwards.Goals as goal
 
 pub returns-clause-places : goal.returns-clause-places
 returns-clause-places c =

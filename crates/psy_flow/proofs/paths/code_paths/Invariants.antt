@@ -1,11 +1,10 @@
--- What each loop of `code_lists::code_ways` keeps.
+-- What each loop of `paths::code_paths` keeps.
 use Rattle.std.proofs.Common.{◌≡◌, ℕ, List, false, length, replicate, slice_get, Some}
-use Rattle.psy_base.specs.declared.ways.SendWay.{SendWay}
 use Rattle.psy_tree.specs.Parts.{agent_at}
-use Rattle.psy_meaning.specs.CodeWays.{AreCodeLooks, AreCodeNexts, AreCodeSends, budget_of, place_of}
+use Rattle.psy_meaning.specs.CodeWays.{AreCodeLooks, AreCodeNexts, place_of}
 use Rattle.psy_flow.specs.CodeLists.{HasDelayUpTo, IsRaisedTo}
 use Rattle.psy_flow.specs.Listed.{AreOf}
-use Rattle.psy_flow.proofs.code_lists.code_ways.Given as goal
+use Rattle.psy_flow.proofs.paths.code_paths.Given as goal
 
 abbrev pub invariant-agents : goal.invariant-agents
 invariant-agents l = record {
@@ -13,12 +12,9 @@ invariant-agents l = record {
   row : length l.row ≡ length l.code.instrs;
   nexts : length l.nexts ≡ l.number;
   looks : length l.looks ≡ l.number;
-  sends : length l.sends ≡ l.number;
   each_next : (number : ℕ) (lists : List (List ℕ)) → slice_get l.nexts number ≡ Some lists
       → AreOf (agent_at l.unit number) (λ point. AreCodeNexts l.code.instrs (place_of l.code number point)) lists;
   each_look : (number : ℕ) (lists : List (List ℕ)) → slice_get l.looks number ≡ Some lists
       → AreOf (agent_at l.unit number) (λ point. AreCodeLooks l.code.instrs (place_of l.code number point)) lists;
-  each_send : (number : ℕ) (lists : List (List SendWay)) → slice_get l.sends number ≡ Some lists
-      → AreOf (agent_at l.unit number) (λ point. AreCodeSends l.code.instrs (place_of l.code number point) (budget_of l.unit number point)) lists;
   delays : IsRaisedTo (HasDelayUpTo l.unit l.code l.number) (replicate (length l.unit.streams) 0) l.delays;
 }
