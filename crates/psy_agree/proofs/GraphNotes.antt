@@ -98,7 +98,7 @@ AreTellableGraphs _ _ _ = ⊤
 module _ (graph : Graph) (costs : List ℕ) (its : IsTellableGraph graph costs) where
   node_line : (number : ℕ) (node : Node) → number < NODES → IsTellableNode node → IsNodeLine number (node_note costs number node)
   node_line number node few told = (
-    (omega (arith, few), told.0, told.1, told.2, its.worst node.point, told.3),
+    (omega (arith, few), (told.0, (told.1, (told.2, (its.worst node.point, (told.3, tt)))))),
     λ agents nodes edges less. where_true (number == number && nat_lt number nodes) (stand.Graphs agents nodes (number + 1) edges) (and_from (number == number) (nat_lt number nodes) (eq-eqb number number refl) (lt-ltb number nodes less)),
   )
 
@@ -110,7 +110,7 @@ edge_line : (nodes : ℕ) (edge : Edge) → nodes ≤ NODES → IsTellableEdge n
 edge_line nodes edge few told = (
   let from = told.0 in
       let into = told.1 in
-      (omega (arith, from, few), omega (arith, into, few), told.2),
+      (omega (arith, from, few), (omega (arith, into, few), (told.2, tt))),
   λ agents edges. (
       let less : suc edges - 1 ≡ edges = omega arith in
       where_true ((nodes == nodes && nat_lt 0 (suc edges)) && (nat_lt edge.from nodes && nat_lt edge.to nodes)) (stand.Graphs agents nodes nodes (suc edges - 1))
@@ -127,7 +127,7 @@ head_line : (agent : AgentDecl) (graph : Graph) → IsName agent.name → length
 head_line agent graph named few_nodes few_edges =
     let nodes = length graph.nodes in
     let edges = length graph.edges in (
-      (named, omega (arith, few_nodes), omega (arith, few_edges)),
+      (named, (omega (arith, few_nodes), (omega (arith, few_edges), tt))),
       λ agents told less. where_true ((told == told && 0 == 0) && (nat_lt agents AGENTS && (nat_le nodes NODES && nat_le edges EDGES))) (stand.Graphs (agents + 1) nodes 0 edges)
           (and_from (told == told && 0 == 0) (nat_lt agents AGENTS && (nat_le nodes NODES && nat_le edges EDGES)) (and_from (told == told) (0 == 0) (eq-eqb told told refl) refl)
           (and_from (nat_lt agents AGENTS) (nat_le nodes NODES && nat_le edges EDGES) (lt-ltb agents AGENTS less) (and_from (nat_le nodes NODES) (nat_le edges EDGES) (le-leb nodes NODES few_nodes) (le-leb edges EDGES few_edges)))),

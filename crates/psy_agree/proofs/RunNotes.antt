@@ -128,10 +128,10 @@ all_numbers P f first (suc n) below within each = (each first (omega (arith, wit
 
 module _ (s : System) (turns : List (Option Turn)) (sizes : Sizes) (until : ℕ) (run : IsTellableRun s turns sizes until) where
   event_at : (date : ℕ) → date ≤ until → (e : Event) → IsTellable s e → IsAt date (event_note s date e)
-  event_at date within (Stop agent None) named = ((omega (arith, within, run.most), named), λ last. refl)
-  event_at date within (Stop agent (Some kind)) named = ((omega (arith, within, run.most), named), λ last. refl)
-  event_at date within (Publish variable value) told = ((omega (arith, within, run.most), told.0, told.1), λ last. refl)
-  event_at date within (Show stream value) told = ((omega (arith, within, run.most), told.0, told.1), λ last. refl)
+  event_at date within (Stop agent None) named = ((omega (arith, within, run.most), (named, tt)), λ last. refl)
+  event_at date within (Stop agent (Some kind)) named = ((omega (arith, within, run.most), (named, (tt, tt))), λ last. refl)
+  event_at date within (Publish variable value) told = ((omega (arith, within, run.most), (told.0, (told.1, tt))), λ last. refl)
+  event_at date within (Show stream value) told = ((omega (arith, within, run.most), (told.0, (told.1, tt))), λ last. refl)
 
   events_at : (date : ℕ) → date ≤ until → (es : List Event) → AllByRecursion (IsTellable s) es → AllByRecursion (IsAt date) (map (event_note s date) es)
   events_at date within [] told = tt
@@ -142,13 +142,13 @@ module _ (s : System) (turns : List (Option Turn)) (sizes : Sizes) (until : ℕ)
     most = run.most;
     dated = λ date within. events_at date within (events s date) (run.events_told date within);
     agent_lines = all_numbers IsAgentLine (agent_note s turns sizes until) 0 (length s.unit.agents) (length s.unit.agents) (omega arith)
-        (λ k less. ((run.agents k less, run.counts k, run.slacks k), λ agents. refl));
+        (λ k less. ((run.agents k less, (run.counts k, (run.slacks k, tt))), λ agents. refl));
     few_agents = omega (arith, run.few_agents, length-map-range_with_len (agent_note s turns sizes until) 0 (length s.unit.agents));
     variable_lines = all_numbers IsVariableLine (variable_note s turns sizes until) 0 (length s.unit.variables) (length s.unit.variables) (omega arith)
-        (λ k less. record { told = (run.variables k less, run.rings k less, run.reaches k less); first = λ agents. refl; next = λ variables. refl });
+        (λ k less. record { told = (run.variables k less, (run.rings k less, (run.reaches k less, tt))); first = λ agents. refl; next = λ variables. refl });
     few_variables = omega (arith, run.few_variables, length-map-range_with_len (variable_note s turns sizes until) 0 (length s.unit.variables));
     stream_lines = all_numbers IsStreamLine (stream_note s turns sizes until) 0 (length s.unit.streams) (length s.unit.streams) (omega arith)
-        (λ k less. record { told = (run.streams k less, run.queues k less, run.held k less); first = λ agents. refl; behind = λ variables. refl; next = λ streams. refl });
+        (λ k less. record { told = (run.streams k less, (run.queues k less, (run.held k less, tt))); first = λ agents. refl; behind = λ variables. refl; next = λ streams. refl });
     few_streams = omega (arith, run.few_streams, length-map-range_with_len (stream_note s turns sizes until) 0 (length s.unit.streams));
   }
 

@@ -152,7 +152,7 @@ module _ (until : ℕ) (events : ℕ → List Note) (agents variables streams : 
         end.1,
         (
           stand.Agents 0,
-          (long, where_true (may_be_dated last until) (stand.Agents 0) (may_be last until within are.most)),
+          ((long, tt), where_true (may_be_dated last until) (stand.Agents 0) (may_be last until within are.most)),
           Leads-append (stand.Agents 0) (stand.Agents (0 + length agents)) end.0 agents (variables ++ streams) first behind,
         ),
       )

@@ -1,13 +1,14 @@
 //! Numbers in a text of cases.
 use crate::fault::Fault;
 use psy_text::front::short;
+use psy_text::whole;
 use std::alloc::Global;
 
 /// The number that these bytes are.
 pub fn number(text: &[u8]) -> Result<u32, Fault> {
-    match short(text) {
-        Some((number, [])) => Ok(number),
-        _ => Err(Fault::BadNumber),
+    match whole::short(text) {
+        Some(number) => Ok(number),
+        None => Err(Fault::BadNumber),
     }
 }
 

@@ -4,8 +4,9 @@ ghost use Rattle.psy_assert.specs.declared.terms.Relation.{Relation as Sort};
 ghost use Rattle.psy_assert.specs.declared.terms.Span.{Span as Dates};
 ghost use Rattle.psy_claims.specs.Grammar.{FitSpan, Spell, SpellNone, date_words, sign_of};
 
-use crate::numbers::{two_dates, whole_date, whole_value};
+use crate::numbers::two_dates;
 use psy_assert::{Assertion, Claim, Relation, Span};
+use psy_text::whole;
 
 /// The assertion that these words are; none exactly where they are none.
 pub fn read_words<'a>(words: &[&'a [u8]]) -> Option<Assertion<'a>>
@@ -42,7 +43,7 @@ fn of_values<'a>(variable: &'a [u8], relation: Relation, rest: &[&'a [u8]]) -> O
     let [value, dates @ ..] = rest else {
         return None;
     };
-    let value = whole_value(value)?;
+    let value = whole::value(value)?;
     let span = read_span(dates)?;
     Some(Assertion {
         claim: Claim::Values {
@@ -142,11 +143,11 @@ fn of_dates(word: &[u8], dates: &[u8]) -> Option<Span>
         (λ span. (word.now ∷ dates.now ∷ [] ≡ date_words span) × FitSpan span) }
 {
     if word == b"from".as_slice() {
-        let date = whole_date(dates)?;
+        let date = whole::number(dates)?;
         return Some(Span::From { date });
     }
     if word == b"by".as_slice() {
-        let date = whole_date(dates)?;
+        let date = whole::number(dates)?;
         return Some(Span::By { date });
     }
     if word == b"at".as_slice() {
@@ -160,7 +161,7 @@ fn at_dates(dates: &[u8]) -> Option<Span>
     ensures { MatchOption result ((span : Dates) → FitSpan span → codes "at" ∷ dates.now ∷ [] ≢ date_words span)
         (λ span. (codes "at" ∷ dates.now ∷ [] ≡ date_words span) × FitSpan span) }
 {
-    if let Some(date) = whole_date(dates) {
+    if let Some(date) = whole::number(dates) {
         return Some(Span::At { date });
     }
     let (from, to) = two_dates(dates)?;

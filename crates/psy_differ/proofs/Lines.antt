@@ -1,5 +1,5 @@
 -- The lines of notes.
-use Rattle.std.proofs.Common.{◌≡◌, ℕ, ◌+◌, ◌<◌, ◌≤◌, zero, suc, List, [], ◌∷◌, ◌++◌, length, map, take, get_or, inl, inr, ◌⊎◌, sym, ap, subst, refl, ◌∙◌, arith}
+use Rattle.std.proofs.Common.{◌≡◌, ℕ, ◌+◌, ◌<◌, ◌≤◌, zero, suc, List, [], ◌∷◌, ◌++◌, length, map, take, get_or, Some, None, inl, inr, ◌⊎◌, sym, ap, subst, refl, ◌∙◌, arith}
 use Rattle.std.specs.Prelude.{◌≢◌, All, min, slice_get}
 use Rattle.std.proofs.lemmas.Bool.{cases_lt}
 use Rattle.std.proofs.lemmas.Option.{slice_get-get_or, slice_get_within}
@@ -15,30 +15,23 @@ use Rattle.psy_differ.specs.Differences.{DifferFirst, Fits}
 
 -- A line has room for the name in a note that can be told.
 told_fits : (n : Note) → IsTold n → Fits n
-told_fits (note.StopOverrun date agent) told = told.1.1
-told_fits (note.StopTrap date agent kind) told = told.1.1
-told_fits (note.Value date variable value) told = told.1.1
-told_fits (note.Message date stream value) told = told.1.1
-told_fits (note.End until) told = omega arith
+told_fits (note.StopOverrun date agent) told = told.1.0.1
+told_fits (note.StopTrap date agent trap) told = told.1.0.1
+told_fits (note.Value date variable value) told = told.1.0.1
+told_fits (note.Message date stream value) told = told.1.0.1
 told_fits (note.AgentEnd agent count slack) told = told.0.1
 told_fits (note.VariableEnd variable size reach) told = told.0.1
 told_fits (note.StreamEnd stream size held) told = told.0.1
+told_fits (note.VariableSize variable size) told = told.0.1
+told_fits (note.StreamSize stream size) told = told.0.1
+told_fits (note.Rate agent rate intercept) told = told.0.1
 told_fits (note.AgentGraph agent nodes edges) told = told.0.1
-told_fits (note.Node number point phase budget worst due) told = omega arith
-told_fits (note.EdgeOf from to len) told = omega arith
-told_fits (note.VariableSize variable size) told = absurd told
-told_fits (note.StreamSize stream size) told = absurd told
-told_fits (note.Rate agent rate intercept) told = absurd told
-told_fits note.Always told = absurd told
-told_fits (note.Feasible until) told = absurd told
-told_fits (note.Infeasible len demand supply processor) told = absurd told
-told_fits note.Words told = absurd told
-told_fits (note.Read file) told = absurd told
-told_fits (note.Limit name number) told = absurd told
-told_fits (note.Refused what number at) told = absurd told
-told_fits (note.RefusedImage place) told = absurd told
-told_fits (note.Busy agent) told = absurd told
-told_fits (note.Legal acts looks) told = absurd told
+told_fits (note.Read file) told = told.0.1
+told_fits (note.Limit name number) told = told.0.1
+told_fits (note.Refused what number None) told = told.0.1
+told_fits (note.Refused what number (Some at)) told = told.0.1
+told_fits (note.Busy agent) told = told.0.1
+told_fits _ told = omega arith
 
 -- So it has for each note of a text.
 pub notes_fit : (from to : Stand) (notes : List Note) → Leads from notes to → All Fits notes

@@ -9,6 +9,10 @@ pub three : (a b c old one two new : List ℕ) → one ≡ old ++ a → two ≡ 
 three a b c old one two new e f g =
     g ∙ ap (λ t. t ++ c) (f ∙ ap (λ t. t ++ b) e ∙ append_assoc old a b) ∙ append_assoc old (a ++ b) c ∙ ap (λ t. old ++ t) (append_assoc a b c)
 
+-- What goes on behind a text that goes on behind another
+pub onto : (old more last text : List ℕ) → text ≡ old ++ more → text ++ last ≡ old ++ (more ++ last)
+onto old more last text e = ap (λ t. t ++ last) e ∙ append_assoc old more last
+
 map_same : (xs : List ℕ) → map (λ (k : ℕ). k) xs ≡ xs
 map_same [] = refl
 map_same (x ∷ xs) = ap (λ ys. x ∷ ys) (map_same xs)

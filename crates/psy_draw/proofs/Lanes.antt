@@ -2,8 +2,7 @@
 use Rattle.std.proofs.Common.{◌≡◌, ℕ, suc, ◌+◌, ◌<◌, ◌==◌, Bool, true, false, cond, List, [], ◌∷◌, ◌++◌, length, take, get_or, refl, sym, ap, subst, ◌∙◌, append_assoc, append-nil, arith}
 use Rattle.std.proofs.lemmas.Grind.{common_steps}
 use Rattle.std.proofs.lemmas.List.{take_more}
-use Rattle.std.specs.Prelude.{ℤ}
-use Rattle.psy_draw.specs.Columns.{Keeps}
+use Rattle.psy_draw.specs.Columns.{Dated, Keeps}
 use Rattle.psy_draw.specs.declared.column.Column.{Column}
 use Rattle.psy_draw.specs.declared.lane.Lane.{Lane}
 use Rattle.psy_draw.specs.declared.lane.Shape.{Shape}
@@ -13,15 +12,15 @@ use Rattle.psy_draw.specs.Planning.{Are, Has, Held, IsVariable, Shown}
 use Rattle.psy_draw.specs.Shapes.{height_of}
 
 -- One more lane
-pub are_more : (shown : List Shown) (lanes : List Lane) (s : Shown) (lane : Lane) → Are shown lanes → lane.name.now ≡ s.name → Has lane.shape s.content → Are (shown ++ s ∷ []) (lanes ++ lane ∷ [])
-are_more [] [] s lane are name has = (name, has, tt)
-are_more [] (l ∷ lanes) s lane are name has = absurd are
-are_more (t ∷ shown) [] s lane are name has = absurd are
-are_more (t ∷ shown) (l ∷ lanes) s lane are name has = (are.0, are.1, are_more shown lanes s lane are.2 name has)
+pub are_more : (place : ℕ → ℕ) (shown : List Shown) (lanes : List Lane) (s : Shown) (lane : Lane) → Are place shown lanes → lane.name.now ≡ s.name → lane.silent ≡ s.silent → Has place lane.shape s.content → Are place (shown ++ s ∷ []) (lanes ++ lane ∷ [])
+are_more place [] [] s lane are name silent has = (name, silent, has, tt)
+are_more place [] (l ∷ lanes) s lane are name silent has = absurd are
+are_more place (t ∷ shown) [] s lane are name silent has = absurd are
+are_more place (t ∷ shown) (l ∷ lanes) s lane are name silent has = (are.0, are.1, are.2, are_more place shown lanes s lane are.3 name silent has)
 
 -- No more lane
-pub are_same : (shown : List Shown) (lanes : List Lane) → Are shown lanes → Are (shown ++ []) lanes
-are_same shown lanes are = subst (λ s. Are s lanes) (sym (append-nil shown)) are
+pub are_same : (place : ℕ → ℕ) (shown : List Shown) (lanes : List Lane) → Are place shown lanes → Are place (shown ++ []) lanes
+are_same place shown lanes are = subst (λ s. Are place s lanes) (sym (append-nil shown)) are
 
 -- One more height
 pub heights_more : (lanes : List Lane) (lane : Lane) → heights (lanes ++ lane ∷ []) ≡ heights lanes + height_of lane.shape
@@ -58,23 +57,23 @@ stacks_step left lanes i d top text drawn within place stacks draws =
     subst Q (sym (take_more lanes i d within)) (stacks_more left 56 (take i lanes) (get_or lanes i d) text drawn stacks (subst P place draws))
 
 -- A lane that was asked for
-pub added : (b : Bool) (s : Shown) (shown : List Shown) (old new : List Lane) (lane : Lane) → b ≡ true → new ≡ old ++ lane ∷ [] → lane.name.now ≡ s.name → Has lane.shape s.content → Are shown old → Are (shown ++ cond b (s ∷ []) []) new
-added b s shown old new lane asked is name has are =
-    let P : Bool → Type 0 = λ t. Are (shown ++ cond t (s ∷ []) []) (old ++ lane ∷ []) in
-    subst (λ ls. Are (shown ++ cond b (s ∷ []) []) ls) (sym is) (subst P (sym asked) (are_more shown old s lane are name has))
+pub added : (place : ℕ → ℕ) (b : Bool) (s : Shown) (shown : List Shown) (old new : List Lane) (lane : Lane) → b ≡ true → new ≡ old ++ lane ∷ [] → lane.name.now ≡ s.name → lane.silent ≡ s.silent → Has place lane.shape s.content → Are place shown old → Are place (shown ++ cond b (s ∷ []) []) new
+added place b s shown old new lane asked is name silent has are =
+    let P : Bool → Type 0 = λ t. Are place (shown ++ cond t (s ∷ []) []) (old ++ lane ∷ []) in
+    subst (λ ls. Are place (shown ++ cond b (s ∷ []) []) ls) (sym is) (subst P (sym asked) (are_more place shown old s lane are name silent has))
 
 -- A lane that was asked for, of some values
-pub value_added : (n b : Bool) (s : Shown) (shown : List Shown) (old new : List Lane) (lane : Lane) → n ≡ false → b ≡ true → new ≡ old ++ lane ∷ [] → lane.name.now ≡ s.name → Has lane.shape s.content → Are shown old → Are (shown ++ cond n [] (cond b (s ∷ []) [])) new
-value_added n b s shown old new lane some asked is name has are =
-    let P : Bool → Type 0 = λ t. Are (shown ++ cond t [] (cond b (s ∷ []) [])) new in
-    subst P (sym some) (added b s shown old new lane asked is name has are)
+pub value_added : (place : ℕ → ℕ) (n b : Bool) (s : Shown) (shown : List Shown) (old new : List Lane) (lane : Lane) → n ≡ false → b ≡ true → new ≡ old ++ lane ∷ [] → lane.name.now ≡ s.name → lane.silent ≡ s.silent → Has place lane.shape s.content → Are place shown old → Are place (shown ++ cond n [] (cond b (s ∷ []) [])) new
+value_added place n b s shown old new lane some asked is name silent has are =
+    let P : Bool → Type 0 = λ t. Are place (shown ++ cond t [] (cond b (s ∷ []) [])) new in
+    subst P (sym some) (added place b s shown old new lane asked is name silent has are)
 
 -- The shape of a variable has the values for which its columns stand.
-pub has_variable : (of : Shape) (columns : List Column) (values : List ℤ) → IsVariable columns of → Keeps values columns → Has of (Held values)
-has_variable (shape.Stop stop) columns values is keeps = absurd is
-has_variable (shape.Curve drawn) columns values is keeps = subst (Keeps values) (sym is) keeps
-has_variable (shape.Boxes drawn) columns values is keeps = subst (Keeps values) (sym is) keeps
-has_variable (shape.Marks drawn) columns values is keeps = absurd is
+pub has_variable : (place : ℕ → ℕ) (of : Shape) (columns : List Column) (values : List Dated) → IsVariable columns of → Keeps place values columns → Has place of (Held values)
+has_variable place (shape.Stop stop) columns values is keeps = absurd is
+has_variable place (shape.Curve drawn) columns values is keeps = subst (Keeps place values) (sym is) keeps
+has_variable place (shape.Boxes drawn) columns values is keeps = subst (Keeps place values) (sym is) keeps
+has_variable place (shape.Marks drawn) columns values is keeps = absurd is
 
 -- What holds of true alone
 holds : Bool → Type 0
@@ -89,7 +88,7 @@ more_than_none : (n k : ℕ) → n ≡ suc k → (n == 0) ≡ false
 more_than_none n k e = grind (arith, common_steps)
 
 -- Where there are columns there are values.
-pub keeps_some : (values : List ℤ) (columns : List Column) → Keeps values columns → (length columns == 0) ≡ false → (length values == 0) ≡ false
-keeps_some values [] keeps some = absurd (true_false some)
-keeps_some values (c ∷ columns) keeps some =
-    more_than_none (length values) (length (keeps.3.first.0 ++ keeps.1)) (ap length (keeps.2 ∙ ap (λ g. g ++ keeps.1) keeps.3.first.1))
+pub keeps_some : (place : ℕ → ℕ) (values : List Dated) (columns : List Column) → Keeps place values columns → (length columns == 0) ≡ false → (length values == 0) ≡ false
+keeps_some place values [] keeps some = absurd (true_false some)
+keeps_some place values (c ∷ columns) keeps some =
+    more_than_none (length values) (length (keeps.4.first.0 ++ keeps.1)) (ap length (keeps.2 ∙ ap (λ g. g ++ keeps.1) keeps.4.first.1))

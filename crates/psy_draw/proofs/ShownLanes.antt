@@ -3,13 +3,15 @@ use Rattle.std.proofs.Common.{◌≡◌, ℕ, List, ◌++◌, codes, sym, ap, �
 use Rattle.psy_draw.specs.declared.lane.Lane.{Lane}
 use Rattle.psy_draw.specs.Drawing.{Stacks}
 use Rattle.psy_draw.specs.Planning.{Are, ShowsLanes, lanes_of}
+use Rattle.psy_draw.specs.Places.{x_of}
 use Rattle.psy_draw.specs.Showing.{Grows}
+use Rattle.psy_draw.specs.Silences.{Silent}
 use Rattle.psy_draw.specs.Spelling.{svg_of}
 use Rattle.psy_log.specs.declared.note.Note.{Note}
 
 -- Lanes that were drawn are shown in what goes on behind them.
-pub lanes_shown : (from to : ℕ) (names : List (List ℕ)) (notes : List Note) (lanes : List Lane) (left : ℕ) (front between text : List ℕ) → Are (lanes_of from to names notes) lanes → ((drawn : List ℕ) × (between ≡ front ++ drawn) × Stacks left 56 lanes drawn) → Grows between text → ShowsLanes text from to names notes
-lanes_shown from to names notes lanes left front between text are drawn grows = record {
+pub lanes_shown : (from to grain : ℕ) (silences : List Silent) (names : List (List ℕ)) (notes : List Note) (lanes : List Lane) (left : ℕ) (front between text : List ℕ) → Are (x_of from to grain) (lanes_of from to silences names notes) lanes → ((drawn : List ℕ) × (between ≡ front ++ drawn) × Stacks left 56 lanes drawn) → Grows between text → ShowsLanes text from to grain silences names notes
+lanes_shown from to grain silences names notes lanes left front between text are drawn grows = record {
   lanes = lanes;
   are = are;
   front = front;
@@ -21,8 +23,8 @@ lanes_shown from to names notes lanes left front between text are drawn grows = 
 }
 
 -- A file shows the lanes of its inside.
-pub lanes_in_file : (inside : List ℕ) (from to : ℕ) (names : List (List ℕ)) (notes : List Note) → ShowsLanes inside from to names notes → ShowsLanes (svg_of inside) from to names notes
-lanes_in_file inside from to names notes shows = record {
+pub lanes_in_file : (inside : List ℕ) (from to grain : ℕ) (silences : List Silent) (names : List (List ℕ)) (notes : List Note) → ShowsLanes inside from to grain silences names notes → ShowsLanes (svg_of inside) from to grain silences names notes
+lanes_in_file inside from to grain silences names notes shows = record {
   lanes = shows.lanes;
   are = shows.are;
   front = codes "<svg" ++ shows.front;

@@ -1,5 +1,5 @@
 -- What a column keeps of its values.
-use Rattle.std.proofs.Common.{◌≡◌, suc, ◌+◌, ◌-◌, ◌^◌, min, ◌⊎◌, ⊎_elim, inl, inr, List, [], ◌∷◌, ◌++◌, length, refl, sym, ap, subst, ◌∙◌, arith, length-append}
+use Rattle.std.proofs.Common.{◌≡◌, ℕ, ◌≤◌, suc, ◌+◌, ◌-◌, ◌^◌, min, ◌⊎◌, ⊎_elim, inl, inr, List, [], ◌∷◌, ◌++◌, length, refl, sym, ap, subst, ◌∙◌, arith, length-append, slice_get, Some}
 use Rattle.std.specs.Prelude.{ℤ, ◌≤ℤ◌}
 use Rattle.std.specs.Int.{int_min, int_max}
 use Rattle.std.specs.Int.RustNames.{int_lt}
@@ -8,7 +8,7 @@ use Rattle.std.proofs.lemmas.Bool.{cases_cond}
 use Rattle.std.proofs.lemmas.Int.{ints, clamps}
 use Rattle.std.proofs.lemmas.List.Elements.{Contains-append_left, Contains-append_right, All-append, All-nil, All-cons}
 use Rattle.psy_draw.specs.declared.column.Column.{Column}
-use Rattle.psy_draw.specs.Columns.{StandsFor}
+use Rattle.psy_draw.specs.Columns.{Dated, StandsAt, StandsFor, dated}
 
 -- The last of a list is in it
 contains_last : (values : List ℤ) (v : ℤ) → Contains (values ++ v ∷ []) v
@@ -47,3 +47,39 @@ stands_more values v c d h first least greatest last more =
       );
       more = omega arith;
     }
+
+-- What a column has near, by its place and its first value
+abbrev Near : (ℕ → ℕ) → ℕ → ℤ → Dated → Type 0
+Near place x first v = (place v.date ≤ x) ⊎ (v.value ≡ first)
+
+-- It stands at the place of its one value.
+pub stands_at_one : (place : ℕ → ℕ) (c : Column) → c.x ≡ place c.date → StandsAt place (dated c.date c.first ∷ []) c
+stands_at_one place c at = record {
+  first = ([], refl);
+  at = at;
+  near = All-cons (Near place c.x c.first) (dated c.date c.first) [] (inr refl) (All-nil (Near place c.x c.first));
+}
+
+-- One more value is near it.
+pub stands_at_more : (place : ℕ → ℕ) (values : List Dated) (v : Dated) (c d : Column) → StandsAt place values c → d.x ≡ c.x → d.date ≡ c.date → d.first ≡ c.first → (place v.date ≤ c.x) ⊎ (v.value ≡ c.first) → StandsAt place (values ++ v ∷ []) d
+stands_at_more place values v c d h x date first near =
+    let P : ℕ → ℤ → Type 0 = λ at one. All (Near place at one) (values ++ v ∷ []) in
+    let all : P c.x c.first = All-append (Near place c.x c.first) values (v ∷ []) h.near (All-cons (Near place c.x c.first) v [] near (All-nil (Near place c.x c.first))) in
+    record {
+      first = (
+        h.first.0 ++ v ∷ [],
+        ap (λ xs. xs ++ v ∷ []) h.first.1 ∙ ap (λ t. dated t c.first ∷ (h.first.0 ++ v ∷ [])) (sym date) ∙ ap (λ f. dated d.date f ∷ (h.first.0 ++ v ∷ [])) (sym first),
+      );
+      at = x ∙ h.at ∙ ap place (sym date);
+      near = subst (λ one. P d.x one) (sym first) (subst (λ at. P at c.first) (sym x) all);
+    }
+
+-- The value of a list that a test of its last one speaks of
+pub last_got : (columns : List Column) (c : Column) → slice_get (columns ++ c ∷ []) (length (columns ++ c ∷ []) - 1) ≡ Some c
+last_got columns c =
+    let long : length (columns ++ c ∷ []) ≡ length columns + 1 = length-append columns (c ∷ []) in
+    ap (λ n. slice_get (columns ++ c ∷ []) n) (omega (arith, long)) ∙ got columns
+  where
+    got : (cs : List Column) → slice_get (cs ++ c ∷ []) (length cs) ≡ Some c
+    got [] = refl
+    got (b ∷ cs) = got cs

@@ -3,6 +3,8 @@ pub mod Axes
 pub mod Columns
 pub mod Dates
 pub mod Drawing
+pub mod Folded
+pub mod Graph
 pub mod Groups
 pub mod Heads
 pub mod Labels
@@ -10,8 +12,10 @@ pub mod Lanes
 pub mod Listing
 pub mod Places
 pub mod Planning
+pub mod Scales
 pub mod Shapes
 pub mod Showing
+pub mod Silences
 pub mod Sources
 pub mod Spelling
 pub mod Stops

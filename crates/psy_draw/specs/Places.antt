@@ -1,6 +1,8 @@
 -- Where dates and values stand in the plot, in pixels.
-use Rattle.std.specs.Prelude.{◌+◌, ◌-◌, ◌*◌, ◌/◌, ◌==◌, ◌-ℤ◌, ℕ, ℤ, cond, max, min, unsigned_abs}
+use Rattle.std.specs.Int.{div_ceil}
+use Rattle.std.specs.Prelude.{◌+◌, ◌-◌, ◌*◌, ◌/◌, ◌==◌, ◌-ℤ◌, ℕ, ℤ, Option, None, Some, cond, max, min, unsigned_abs}
 use Rattle.psy_draw.specs.declared.layout.TheConstants.{MOST_LETTERS}
+use Rattle.psy_draw.specs.declared.scale.TheConstants.{COLUMNS}
 use Rattle.psy_draw.specs.declared.window.Window.{Window}
 
 -- The last date that is shown: that of the window, or of the run where that is before it
@@ -10,6 +12,15 @@ window_end window last = min window.to last
 -- The place of a date: the first date stands at 0 and the last one at 960, and places are multiples of the grain
 abbrev pub x_of : ℕ → ℕ → ℕ → ℕ → ℕ
 x_of from to grain date = (max (min date to) from - from) * 960 / max (to - from) 1 / grain * grain
+
+-- The grain where there are so many lanes, at most: all of them have 40,000 columns, or one each
+abbrev pub grain_of : ℕ → ℕ
+grain_of lanes = div_ceil 960 (min (COLUMNS / max 1 (min lanes COLUMNS)) 960)
+
+-- Where a lane that is silent from a date on is so, by the places of dates; the right end of the plot, where it isn't
+abbrev pub silent_place : (ℕ → ℕ) → Option ℕ → ℕ
+silent_place place None = 960
+silent_place place (Some date) = place date
 
 -- The width of so many letters, each of so many hundredths of a pixel; no more than a hundred letters are measured
 abbrev pub width_of : ℕ → ℕ → ℕ

@@ -1,10 +1,11 @@
 -- What a picture shows of a summary.
-use Rattle.std.specs.Prelude.{◌≡◌, ℕ, List, [], ◌∷◌, ◌++◌, All, Some, codes, decimal}
+use Rattle.std.specs.Prelude.{◌≡◌, ℕ, ◌+◌, List, [], ◌∷◌, ◌++◌, Some, codes, decimal}
 use Rattle.std.specs.List.{flat_map}
 use Rattle.psy_log.specs.declared.note.Note.{Note}
 use Rattle.psy_log.specs.declared.note.Note.TheVariants as note
 use Rattle.psy_log.specs.Forms.{number_or_dash}
 use Rattle.psy_draw.specs.declared.row.Row.{Row}
+use Rattle.psy_draw.specs.declared.table.TheConstants.{ROW_HEIGHT}
 use Rattle.psy_draw.specs.Spelling.{escaped}
 
 -- These bytes stand in a text.
@@ -22,9 +23,14 @@ row_text y first second row =
     ++ (codes "<tspan class=\"number\" x=\"" ++ (decimal first ++ (codes "\">" ++ (decimal row.first
     ++ (codes "</tspan><tspan class=\"number\" x=\"" ++ (decimal second ++ (codes "\">" ++ (number_or_dash row.second ++ codes "</tspan></text>\n")))))))))))
 
--- The row stands somewhere in a text.
-abbrev pub ShowsRow : List ℕ → Row → Type 0
-ShowsRow text row = (y first second : ℕ) × HasPart text (row_text y first second row)
+-- Rows one below the other, each 17 pixels below the one before it, the first of them that far below a height
+abbrev pub rows_text : ℕ → ℕ → ℕ → List Row → List ℕ
+rows_text y first second [] = []
+rows_text y first second (row ∷ rows) = row_text (y + ROW_HEIGHT) first second row ++ rows_text (y + ROW_HEIGHT) first second rows
+
+-- The rows stand somewhere in a text, one below the other and nothing between them.
+abbrev pub ShowsRows : List ℕ → List Row → Type 0
+ShowsRows text rows = (y first second : ℕ) × HasPart text (rows_text y first second rows)
 
 -- The row of an agent in the summary: its actions, and the least slack among them
 abbrev pub agent_rows : Note → List Row
@@ -41,8 +47,8 @@ abbrev pub stream_rows : Note → List Row
 stream_rows (note.StreamEnd stream size held) = record { name = stream; first = size; second = Some held } ∷ []
 stream_rows _ = []
 
--- A text shows each row of the summary among these notes.
+-- A text shows the rows of the summary among these notes, kind by kind.
 pub record ShowsSummary (text : List ℕ) (notes : List Note) : Type 0 where
-  pub agents : All (ShowsRow text) (flat_map agent_rows notes)
-  pub variables : All (ShowsRow text) (flat_map variable_rows notes)
-  pub streams : All (ShowsRow text) (flat_map stream_rows notes)
+  pub agents : ShowsRows text (flat_map agent_rows notes)
+  pub variables : ShowsRows text (flat_map variable_rows notes)
+  pub streams : ShowsRows text (flat_map stream_rows notes)

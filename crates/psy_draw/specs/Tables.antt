@@ -27,5 +27,5 @@ AllListed listed notes names = (first_failing (is_among listed) notes ≡ None) 
 -- The fault tells the first name that isn't listed, of a note or of these.
 abbrev pub NamesFault : Listed → List Note → List (List ℕ) → DrawFault → Type 0
 NamesFault listed notes names (fault.Unlisted n) = first_failing (is_among listed) notes ≡ Some n
-NamesFault listed notes names (fault.Unknown k) = first_outside (has_name listed) names ≡ Some k
+NamesFault listed notes names (fault.Unknown k) = (first_failing (is_among listed) notes ≡ None) × (first_outside (has_name listed) names ≡ Some k)
 NamesFault listed notes names _ = ⊥

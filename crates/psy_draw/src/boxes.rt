@@ -1,8 +1,9 @@
 //! The lane of a variable with few values: a box for each, with the value in it.
 
 ghost use Rattle.std.specs.Prelude.{◌≡◌, ◌≤◌, ◌++◌, OnOk};
-ghost use Rattle.psy_draw.specs.Columns.{end_of};
-ghost use Rattle.psy_draw.specs.Strokes.{outline};
+ghost use Rattle.std.specs.Option.{option_copied};
+ghost use Rattle.psy_draw.specs.Columns.{end_behind, end_by, end_of, voiced_end};
+ghost use Rattle.psy_draw.specs.Strokes.{outline, silent_box};
 
 use crate::column::Column;
 use crate::labels::{self, Extent};
@@ -17,11 +18,53 @@ pub const BOXES_HEIGHT: u32 = 36;
 // What stays free at both sides of a value.
 const PADDING: u32 = 4;
 
-/// Draws a variable.
-pub fn draw_boxes(page: &mut Page, columns: &[Column]) -> Result<(), Memory> {
-    put_outlines(page, b"box", true, columns)?;
-    put_outlines(page, b"box dense", false, columns)?;
+/// Draws a variable that is silent from a place on.
+pub fn draw_boxes(page: &mut Page, columns: &[Column], silent: u32) -> Result<(), Memory>
+    requires { silent ≤ 960 }
+{
+    let end = voiced_end(columns, silent);
+    put_outlines(page, b"box", true, columns, end)?;
+    put_outlines(page, b"box dense", false, columns, end)?;
+    put_silent(page, end)?;
     put_values(page, columns)
+}
+
+/// Where the part of a lane ends in which its variable isn't silent: where it falls silent, or where its last value begins, if that is behind it.
+pub fn voiced_end(columns: &[Column], silent: u32) -> u32
+    requires { silent ≤ 960 }
+    ensures end { result ≡ voiced_end columns.now silent }
+    ensures within { result ≤ 960 }
+{
+    end_behind(columns.last(), silent)
+}
+
+fn end_behind(last: Option<&Column>, silent: u32) -> u32
+    requires { silent ≤ 960 }
+    ensures end { result ≡ end_behind (option_copied last.entry) silent }
+    ensures within { result ≤ 960 }
+{
+    match last {
+        Some(last) => last.x.max(silent),
+        None => silent,
+    }
+}
+
+// Draws the box of the last value from where its variable is silent.
+fn put_silent(page: &mut Page, from: u32) -> Result<(), Memory>
+    ensures { OnOk result (page.new ≡ page.old ++ silent_box from) }
+{
+    if PLOT_WIDTH <= from {
+        return Ok(());
+    }
+    page.put(&[
+        Piece::Raw(b"<path class=\"box silent\" d=\"M"),
+        Piece::Number(from),
+        Piece::Raw(b" 8H"),
+        Piece::Number(PLOT_WIDTH),
+        Piece::Raw(b"V28H"),
+        Piece::Number(from),
+        Piece::Raw(b"\"/>\n"),
+    ])
 }
 
 // Draws the boxes of the columns with one value, or of those with more.
@@ -30,20 +73,21 @@ fn put_outlines(
     class: &[u8],
     even: bool,
     columns: &[Column],
+    end: u32,
 ) -> Result<(), Memory> {
     page.put(&[
         Piece::Raw(b"<path class=\""),
         Piece::Raw(class),
         Piece::Raw(b"\" d=\""),
     ])?;
-    put_boxes(page, even, columns)?;
+    put_boxes(page, even, columns, end)?;
     page.put(&[Piece::Raw(b"\"/>\n")])
 }
 
-fn put_boxes(page: &mut Page, even: bool, columns: &[Column]) -> Result<(), Memory> {
+fn put_boxes(page: &mut Page, even: bool, columns: &[Column], end: u32) -> Result<(), Memory> {
     let mut rest = columns;
     while let Some((column, later)) = rest.split_first() {
-        put_box(page, even, column, end_of(later))?;
+        put_box(page, even, column, end_by(later, end))?;
         rest = later;
     }
     Ok(())
@@ -87,6 +131,16 @@ fn put_value(page: &mut Page, column: &Column, to: u32) -> Result<(), Memory> {
         labels::put_label(page, extent.from, 22, column.first)
     } else {
         Ok(())
+    }
+}
+
+// Where the first of these columns begins, or this.
+fn end_by(columns: &[Column], end: u32) -> u32
+    ensures { result ≡ end_by columns.now end }
+{
+    match columns.first() {
+        Some(column) => column.x,
+        None => end,
     }
 }
 

@@ -2,6 +2,8 @@
 
 ghost use Rattle.std.specs.Prelude.{◌≤◌};
 
+use crate::scale::Scale;
+
 /// The values that a lane has in one column: of them the first, the least, the greatest and the last, and how many there are.
 #[derive(Clone, Copy, Debug, PartialEq, Eq)]
 pub struct Column {
@@ -19,16 +21,18 @@ pub struct Column {
 }
 
 impl Column {
-    ghost use Rattle.std.specs.Prelude.{◌≡◌, ◌++◌, [], ◌∷◌, List, ℤ};
-    ghost use Rattle.psy_draw.specs.Columns.{StandsFor, is_even};
+    ghost use Rattle.std.specs.Prelude.{◌≡◌, ◌⊎◌, ◌++◌, [], ◌∷◌, List, ℕ, ℤ};
+    ghost use Rattle.psy_draw.specs.Columns.{Dated, StandsAt, StandsFor, is_even};
+    ghost use Rattle.psy_draw.specs.Scales.{place_by};
 
     /// The column of one value.
-    pub fn of(x: u32, date: u64, value: i32) -> Column
-        requires { x ≤ 960 }
-        ensures { StandsFor (value ∷ []) result }
+    pub fn of(scale: &Scale, date: u64, value: i32) -> Column
+        ensures stands { StandsFor (value ∷ []) result }
+        ensures told { (result.date ≡ date) × (result.first ≡ value) }
+        ensures place { result.x ≡ place_by scale.now date }
     {
         Column {
-            x,
+            x: scale.x(date),
             date,
             first: value,
             least: value,
@@ -40,7 +44,9 @@ impl Column {
 
     /// The column of one more value.
     pub fn and(self, value: i32) -> Column
-        ensures { (values : List ℤ) → StandsFor values self → StandsFor (values ++ value ∷ []) result }
+        ensures stands { (values : List ℤ) → StandsFor values self → StandsFor (values ++ value ∷ []) result }
+        ensures place { (place : ℕ → ℕ) (values : List Dated) (v : Dated) → StandsAt place values self → (place v.date ≤ self.x) ⊎ (v.value ≡ self.first)
+            → StandsAt place (values ++ v ∷ []) result }
     {
         Column {
             x: self.x,

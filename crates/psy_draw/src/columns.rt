@@ -1,47 +1,73 @@
 //! The columns of a lane.
 
-ghost use Rattle.std.specs.Prelude.{◌≡◌, ◌≤◌, ◌++◌, [], ◌∷◌, List, ℤ, OnOk};
-ghost use Rattle.psy_draw.specs.Columns.{Keeps};
+ghost use Rattle.std.specs.Prelude.{◌≡◌, ◌≤◌, ◌-◌, ◌++◌, [], ◌∷◌, true, ℕ, List, OnOk, length, slice_get};
+ghost use Rattle.std.specs.Option.{option_copied};
+ghost use Rattle.psy_draw.specs.Columns.{AddsValues, Dated, Joins, Keeps, StandsFor, dated};
+ghost use Rattle.psy_draw.specs.Scales.{place_by};
 
 use crate::column::Column;
+use crate::scale::Scale;
 use psy_base::Memory;
 
-/// Adds a value of a variable at a place to the columns of its lane, whose places rise: it goes into the last column where that
-/// isn't before it, and where it is the value that stands there already.
-pub fn add_value(columns: &mut Vec<Column>, x: u32, date: u64, value: i32) -> Result<(), Memory>
-    requires { x ≤ 960 }
-    ensures { OnOk result ((values : List ℤ) → Keeps values columns.old.items → Keeps (values ++ value ∷ []) columns.new.items) }
+/// Adds a value of a variable to the columns of its lane, whose places rise: it goes into the last column where its place isn't
+/// behind that, and where it is the value that stands there already.
+pub fn add_value(
+    columns: &mut Vec<Column>,
+    scale: &Scale,
+    date: u64,
+    value: i32,
+) -> Result<(), Memory>
+    ensures { OnOk result (AddsValues (place_by scale.now) (dated date value ∷ []) columns.old.items columns.new.items) }
 {
-    let joins = match columns.last() {
-        Some(last) => x <= last.x || (last.is_even() && last.last == value),
-        None => false,
-    };
-    add(columns, joins, x, date, value)
+    let one = Column::of(scale, date, value);
+    let joins = joins_value(columns.last(), &one);
+    add(columns, joins, one)
 }
 
-/// Adds a message at a place to the columns of a stream's lane: it goes into the last column where that isn't before it.
-pub fn add_message(columns: &mut Vec<Column>, x: u32, date: u64, value: i32) -> Result<(), Memory>
-    requires { x ≤ 960 }
-    ensures { OnOk result ((values : List ℤ) → Keeps values columns.old.items → Keeps (values ++ value ∷ []) columns.new.items) }
+/// Adds a message to the columns of a stream's lane: it goes into the last column where its place isn't behind that.
+pub fn add_message(
+    columns: &mut Vec<Column>,
+    scale: &Scale,
+    date: u64,
+    value: i32,
+) -> Result<(), Memory>
+    ensures { OnOk result (AddsValues (place_by scale.now) (dated date value ∷ []) columns.old.items columns.new.items) }
 {
-    let joins = match columns.last() {
-        Some(last) => x <= last.x,
-        None => false,
-    };
-    add(columns, joins, x, date, value)
+    let one = Column::of(scale, date, value);
+    let joins = joins_place(columns.last(), &one);
+    add(columns, joins, one)
 }
 
-// Adds a value at a place, to the last column where there is one that it joins.
-fn add(columns: &mut Vec<Column>, joins: bool, x: u32, date: u64, value: i32) -> Result<(), Memory>
-    requires { x ≤ 960 }
-    ensures { OnOk result ((values : List ℤ) → Keeps values columns.old.items → Keeps (values ++ value ∷ []) columns.new.items) }
+fn joins_value(last: Option<&Column>, one: &Column) -> bool
+    ensures { result ≡ true → Joins (option_copied last.entry) one.now }
+{
+    match last {
+        Some(last) => one.x <= last.x || (last.is_even() && one.first == last.first),
+        None => false,
+    }
+}
+
+fn joins_place(last: Option<&Column>, one: &Column) -> bool
+    ensures { result ≡ true → Joins (option_copied last.entry) one.now }
+{
+    match last {
+        Some(last) => one.x <= last.x,
+        None => false,
+    }
+}
+
+// Adds a column of one value, to the last column where there is one that it joins.
+fn add(columns: &mut Vec<Column>, joins: bool, one: Column) -> Result<(), Memory>
+    requires { joins ≡ true → Joins (slice_get columns.now.items (length columns.now.items - 1)) one }
+    ensures { OnOk result ((place : ℕ → ℕ) → one.x ≡ place one.date → StandsFor (one.first ∷ []) one
+        → AddsValues place (dated one.date one.first ∷ []) columns.old.items columns.new.items) }
 {
     match columns.pop() {
-        None => columns.push(Column::of(x, date, value))?,
-        Some(last) if joins => columns.push(last.and(value))?,
+        None => columns.push(one)?,
+        Some(last) if joins => columns.push(last.and(one.first))?,
         Some(last) => {
             columns.push(last)?;
-            columns.push(Column::of(x, date, value))?;
+            columns.push(one)?;
         }
     }
     Ok(())

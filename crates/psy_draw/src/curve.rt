@@ -1,9 +1,10 @@
 //! The lane of a variable: a line that steps from value to value.
 
-ghost use Rattle.std.specs.Prelude.{◌≡◌, ◌≤◌, ◌++◌, ◌&&◌, ◌==◌, IfOk};
+ghost use Rattle.std.specs.Prelude.{◌≡◌, ◌≤◌, ◌++◌, ◌&&◌, ◌==◌, IfOk, OnOk};
 ghost use Rattle.psy_draw.specs.Places.{y_of};
-ghost use Rattle.psy_draw.specs.Strokes.{upright};
+ghost use Rattle.psy_draw.specs.Strokes.{silent_line, upright};
 
+use crate::boxes::voiced_end;
 use crate::column::Column;
 use crate::labels::{self, Extent, Side};
 use crate::page::Page;
@@ -34,13 +35,15 @@ pub fn bound_letters(columns: &[Column]) -> usize {
     }
 }
 
-/// Draws a variable.
-pub fn draw_curve(page: &mut Page, columns: &[Column]) -> Result<(), Memory> {
+/// Draws a variable that is silent from a place on.
+pub fn draw_curve(page: &mut Page, columns: &[Column], silent: u32) -> Result<(), Memory>
+    requires { silent ≤ 960 }
+{
     if let Some((first, rest)) = columns.split_first() {
         let span = Span::of(first, rest);
         put_bounds(page, span)?;
         put_zero(page, span)?;
-        put_line(page, span, first, rest)?;
+        put_line(page, span, first, rest, voiced_end(columns, silent))?;
         put_labels(page, span, columns)?;
     }
     Ok(())
@@ -97,8 +100,14 @@ fn y_of(span: Span, value: i32) -> u32
     TOP + span.depth(value, DEPTH).min(DEPTH)
 }
 
-// Draws the line.
-fn put_line(page: &mut Page, span: Span, first: &Column, rest: &[Column]) -> Result<(), Memory> {
+// Draws the line, which is dashed from a place on.
+fn put_line(
+    page: &mut Page,
+    span: Span,
+    first: &Column,
+    rest: &[Column],
+    end: u32,
+) -> Result<(), Memory> {
     let y = y_of(span, first.first);
     page.put(&[
         Piece::Raw(b"<path class=\"line\" d=\"M"),
@@ -107,22 +116,37 @@ fn put_line(page: &mut Page, span: Span, first: &Column, rest: &[Column]) -> Res
         Piece::Number(y),
     ])?;
     let y = put_stroke(page, span, first, y)?;
-    put_strokes(page, span, rest, y)?;
+    let y = put_strokes(page, span, rest, y)?;
+    page.put(&[Piece::Raw(b"H"), Piece::Number(end), Piece::Raw(b"\"/>\n")])?;
+    put_silent(page, end, y)
+}
+
+fn put_silent(page: &mut Page, from: u32, y: u32) -> Result<(), Memory>
+    ensures { OnOk result (page.new ≡ page.old ++ silent_line from y) }
+{
+    if PLOT_WIDTH <= from {
+        return Ok(());
+    }
     page.put(&[
+        Piece::Raw(b"<path class=\"line silent\" d=\"M"),
+        Piece::Number(from),
+        Piece::Raw(b" "),
+        Piece::Number(y),
         Piece::Raw(b"H"),
         Piece::Number(PLOT_WIDTH),
         Piece::Raw(b"\"/>\n"),
     ])
 }
 
-fn put_strokes(page: &mut Page, span: Span, columns: &[Column], y: u32) -> Result<(), Memory> {
+// Draws the line over columns from a height on; to the height where it is then.
+fn put_strokes(page: &mut Page, span: Span, columns: &[Column], y: u32) -> Result<u32, Memory> {
     let mut rest = columns;
     let mut y = y;
     while let Some((column, later)) = rest.split_first() {
         y = put_step(page, span, column, y)?;
         rest = later;
     }
-    Ok(())
+    Ok(y)
 }
 
 // Draws the line over a column from a height on; to the height where it is then.

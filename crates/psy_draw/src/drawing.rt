@@ -1,7 +1,8 @@
 //! Draws a lane.
 
-ghost use Rattle.std.specs.Prelude.{◌≡◌, ◌++◌, ℕ, List, OnOk};
+ghost use Rattle.std.specs.Prelude.{◌≡◌, ◌≤◌, ◌++◌, ℕ, List, OnOk};
 ghost use Rattle.psy_draw.specs.Drawing.{DrawsLane, lane_text};
+ghost use Rattle.psy_draw.specs.Places.{silent_place, x_of};
 
 use crate::boxes::{BOXES_HEIGHT, draw_boxes};
 use crate::curve::{CURVE_HEIGHT, draw_curve};
@@ -11,6 +12,7 @@ use crate::layout::{Corner, close_lane, open_lane};
 use crate::messages::{MESSAGES_HEIGHT, draw_messages};
 use crate::page::Page;
 use crate::piece::Piece;
+use crate::scale::{PLOT_WIDTH, Scale};
 use crate::stops::draw_stop;
 use psy_base::Memory;
 use std::alloc::Global;
@@ -19,6 +21,7 @@ use std::alloc::Global;
 pub fn draw_lane(
     alloc: Global,
     page: &mut Page,
+    scale: &Scale,
     corner: Corner,
     lane: &Lane,
     tells: bool,
@@ -26,7 +29,7 @@ pub fn draw_lane(
     ensures { OnOk result ((text : List ℕ) × (page.new ≡ page.old ++ text) × DrawsLane corner.left corner.top lane.now text) }
 {
     let mut inside = Page::new(alloc);
-    draw_shape(&mut inside, &lane.shape)?;
+    draw_shape(&mut inside, &lane.shape, silent_place(scale, lane))?;
     if tells {
         tell(&mut inside, &lane.shape)?;
     }
@@ -44,11 +47,24 @@ fn put_lane(page: &mut Page, corner: Corner, lane: &Lane, inside: &[u8]) -> Resu
     Ok(())
 }
 
-fn draw_shape(page: &mut Page, shape: &Shape) -> Result<(), Memory> {
+// The place from which on a lane is silent, or the plot's right end.
+fn silent_place(scale: &Scale, lane: &Lane) -> u32
+    ensures place { result ≡ silent_place (x_of scale.now.from scale.now.to scale.now.grain) lane.now.silent }
+    ensures within { result ≤ 960 }
+{
+    match lane.silent {
+        Some(date) => scale.x(date),
+        None => PLOT_WIDTH,
+    }
+}
+
+fn draw_shape(page: &mut Page, shape: &Shape, silent: u32) -> Result<(), Memory>
+    requires { silent ≤ 960 }
+{
     match shape {
         Shape::Stop(stop) => draw_stop(page, stop),
-        Shape::Curve(columns) => draw_curve(page, columns.as_slice()),
-        Shape::Boxes(columns) => draw_boxes(page, columns.as_slice()),
+        Shape::Curve(columns) => draw_curve(page, columns.as_slice(), silent),
+        Shape::Boxes(columns) => draw_boxes(page, columns.as_slice(), silent),
         Shape::Marks(columns) => draw_messages(page, columns.as_slice()),
     }
 }

@@ -9,10 +9,11 @@ use crate::curve::CURVE_HEIGHT;
 use crate::messages::MESSAGES_HEIGHT;
 use crate::stops::{STOP_HEIGHT, Stop};
 
-/// A lane: a name, and what is drawn beside it.
+/// A lane: a name, the date from which on it is silent, and what is drawn beside it.
 #[derive(Drop)]
 pub struct Lane<'a> {
     pub name: &'a [u8],
+    pub silent: Option<u64>,
     pub shape: Shape,
 }
 

@@ -1,5 +1,5 @@
-//! Draws what a run said as a picture: an SVG file with a lane for each stopped agent, variable and stream.
-//! It may know notes of a run.
+//! Draws what psyc wrote: a run as an SVG file with a lane for each stopped agent, variable and stream; action graphs in the language DOT of
+//! Graphviz. It may know notes of a run and of a graph.
 #![tactic(auto)]
 
 mod axis;
@@ -13,7 +13,9 @@ mod drawing;
 mod fault;
 mod few;
 mod file;
+mod folded;
 mod frame;
+mod graph;
 mod head;
 mod hover;
 mod inputs;
@@ -24,6 +26,8 @@ mod legend;
 mod listed;
 mod messages;
 mod names;
+mod node;
+mod nodes;
 mod page;
 mod picture;
 mod piece;
@@ -31,6 +35,7 @@ mod plan;
 mod room;
 mod row;
 mod scale;
+mod silence;
 mod source;
 mod span;
 mod stops;
@@ -41,6 +46,10 @@ mod unlisted;
 mod values;
 mod window;
 
+pub use dates::last_date;
 pub use fault::DrawFault;
+pub use folded::dot_by_point;
+pub use graph::dot;
 pub use picture::timeline;
+pub use silence::Silence;
 pub use window::Window;

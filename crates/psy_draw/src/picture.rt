@@ -1,10 +1,11 @@
 //! The picture of a run.
 
-ghost use Rattle.std.specs.Prelude.{◌≡◌, ◌+◌, ◌++◌, ◌≤◌, ◌<◌, ◌⊎◌, ℕ, List, All, IfOk, MatchOption, OnOk, vec_len, map, string_bytes, length};
+ghost use Rattle.std.specs.Prelude.{◌≡◌, ◌+◌, ◌++◌, ◌≤◌, ◌<◌, ◌⊎◌, ℕ, List, IfOk, MatchOption, OnOk, vec_len, map, string_bytes, length};
 ghost use Rattle.psy_draw.specs.Drawing.{Stacks};
 ghost use Rattle.psy_draw.specs.Planning.{ShowsWindow};
+ghost use Rattle.psy_draw.specs.Silences.{silent_of};
 ghost use Rattle.psy_draw.specs.Sources.{ShowsSource};
-ghost use Rattle.psy_draw.specs.Showing.{Grows, ShowsRow, ShowsSummary};
+ghost use Rattle.psy_draw.specs.Showing.{Grows, ShowsRows, ShowsSummary};
 ghost use Rattle.psy_draw.specs.Listing.{first_unlisted, first_unasked};
 ghost use Rattle.psy_draw.specs.Dates.{last_date};
 ghost use Rattle.psy_draw.specs.Places.{window_end};
@@ -29,6 +30,7 @@ use crate::piece::Piece;
 use crate::plan::{Plan, lane_count};
 use crate::room::{MOST_LANES, RoomFault};
 use crate::scale::Scale;
+use crate::silence::Silence;
 use crate::source::Source;
 use crate::table::Table;
 use crate::tables::Tables;
@@ -42,7 +44,8 @@ use std::alloc::Global;
 /// of the agents that were stopped up to the window's end, of the variables that have a value there and of the streams; of these
 /// those whose names were asked for, or all where none were. All of them together have at most 40,000 columns, none of less than a
 /// pixel: of several values in one column a line goes over the first, the least, the greatest and the last, a box is filled, and
-/// several messages are one mark. Where a file would be longer, or would have more than 4,096 lanes or rows of a table, it is
+/// several messages are one mark. Lines and boxes of a variable that is silent are dashed from there on.
+/// Where a file would be longer, or would have more than 4,096 lanes or rows of a table, it is
 /// one that says so. Notes that are no part of a run are skipped.
 pub fn timeline(
     alloc: Global,
@@ -50,24 +53,29 @@ pub fn timeline(
     notes: &[Note],
     window: Window,
     names: &[String],
+    silences: &[Silence],
 ) -> Result<Vec<u8>, DrawFault>
     ensures unlisted { (n : ℕ) → result ≡ Err (DrawFault.Unlisted n) → first_unlisted notes.now ≡ Some n }
     ensures listed { OnOk result (first_unlisted notes.now ≡ None) }
-    ensures unknown { (k : ℕ) → result ≡ Err (DrawFault.Unknown k) → first_unasked notes.now (map string_bytes names.now) ≡ Some k }
+    // A name that was asked for is looked at where all names in the notes are listed, and the window where those that were asked for are too.
+    ensures unknown { (k : ℕ) → result ≡ Err (DrawFault.Unknown k) → (first_unlisted notes.now ≡ None)
+        × (first_unasked notes.now (map string_bytes names.now) ≡ Some k) }
     ensures known { OnOk result (first_unasked notes.now (map string_bytes names.now) ≡ None) }
-    ensures empty { result ≡ Err DrawFault.Empty → window_end window (last_date notes.now) < window.from }
+    ensures empty { result ≡ Err DrawFault.Empty → (first_unlisted notes.now ≡ None) × (first_unasked notes.now (map string_bytes names.now) ≡ None)
+        × (window_end window (last_date notes.now) < window.from) }
     ensures dated { OnOk result (window.from ≤ window_end window (last_date notes.now)) }
     // The lanes of the window are there, those alone, and each once, unless the picture would be too large.
-    ensures lanes { IfOk result (λ svg. (svg.items ≡ svg_of TOO_LARGE.now) ⊎ ShowsWindow svg.items window (map string_bytes names.now) notes.now) }
+    ensures lanes { IfOk result (λ svg. (svg.items ≡ svg_of TOO_LARGE.now)
+        ⊎ ShowsWindow svg.items window (map silent_of silences.now) (map string_bytes names.now) notes.now) }
     ensures whole { IfOk result (λ svg. (inside : List ℕ) × (svg.items ≡ svg_of inside)) }
-    // Each row of the summary is shown, unless the picture would be too large.
+    // The rows of the summary are shown, one below the other, unless the picture would be too large.
     ensures shown { IfOk result (λ svg. (svg.items ≡ svg_of TOO_LARGE.now) ⊎ ShowsSummary svg.items notes.now) }
     ensures small { IfOk result (λ svg. vec_len svg ≤ 2000000) }
 {
     let listed = Listed::of(alloc, notes)?;
     match names_fault(notes, names, &listed) {
         Some(fault) => Err(fault),
-        None => drawn(alloc, title, notes, window, names),
+        None => drawn(alloc, title, notes, window, names, silences),
     }
 }
 
@@ -91,12 +99,14 @@ fn drawn(
     notes: &[Note],
     window: Window,
     names: &[String],
+    silences: &[Silence],
 ) -> Result<Vec<u8>, DrawFault>
     ensures unlisted { (n : ℕ) → result ≡ Err (DrawFault.Unlisted n) → ⊥ }
     ensures unknown { (k : ℕ) → result ≡ Err (DrawFault.Unknown k) → ⊥ }
     ensures empty { result ≡ Err DrawFault.Empty → window_end window (last_date notes.now) < window.from }
     ensures dated { OnOk result (window.from ≤ window_end window (last_date notes.now)) }
-    ensures lanes { IfOk result (λ svg. (svg.items ≡ svg_of TOO_LARGE.now) ⊎ ShowsWindow svg.items window (map string_bytes names.now) notes.now) }
+    ensures lanes { IfOk result (λ svg. (svg.items ≡ svg_of TOO_LARGE.now)
+        ⊎ ShowsWindow svg.items window (map silent_of silences.now) (map string_bytes names.now) notes.now) }
     ensures whole { IfOk result (λ svg. (inside : List ℕ) × (svg.items ≡ svg_of inside)) }
     ensures shown { IfOk result (λ svg. (svg.items ≡ svg_of TOO_LARGE.now) ⊎ ShowsSummary svg.items notes.now) }
     ensures small { IfOk result (λ svg. vec_len svg ≤ 2000000) }
@@ -108,6 +118,7 @@ fn drawn(
             title,
             Source {
                 notes,
+                silences,
                 names,
                 scale: &scale,
             },
@@ -142,7 +153,13 @@ fn inside_of(alloc: Global, title: &str, source: Source) -> Result<Page, RoomFau
     let mut page = Page::new(alloc);
     put_head(&mut page, &frame, source.scale, title)?;
     put_dates(&mut page, &frame, source.scale)?;
-    put_lanes(alloc, &mut page, frame.left, plan.lanes.as_slice())?;
+    put_lanes(
+        alloc,
+        &mut page,
+        source.scale,
+        frame.left,
+        plan.lanes.as_slice(),
+    )?;
     put_inputs(&mut page, frame.inputs, &inputs)?;
     put_legend(&mut page, frame.legend)?;
     put_tables(&mut page, frame.tables, &tables)?;
@@ -161,7 +178,13 @@ fn put_dates(page: &mut Page, frame: &Frame, scale: &Scale) -> Result<(), Memory
 }
 
 // Draws the lanes, one below the other.
-fn put_lanes(alloc: Global, page: &mut Page, left: u32, lanes: &[Lane]) -> Result<(), Memory>
+fn put_lanes(
+    alloc: Global,
+    page: &mut Page,
+    scale: &Scale,
+    left: u32,
+    lanes: &[Lane],
+) -> Result<(), Memory>
     requires room { length lanes.now ≤ MOST_LANES }
     requires beside { 12 ≤ left }
     ensures { OnOk result ((drawn : List ℕ) × (page.new ≡ page.old ++ drawn) × Stacks left 56 lanes.now drawn) }
@@ -169,7 +192,7 @@ fn put_lanes(alloc: Global, page: &mut Page, left: u32, lanes: &[Lane]) -> Resul
     let tells = column_count(lanes) <= TELLING_COLUMNS;
     let mut top = LANES_TOP;
     for lane in lanes {
-        draw_lane(alloc, page, Corner { left, top }, lane, tells)?;
+        draw_lane(alloc, page, scale, Corner { left, top }, lane, tells)?;
         top += lane.height();
     }
     Ok(())
@@ -200,9 +223,9 @@ fn put_inputs(page: &mut Page, top: u32, inputs: &Inputs) -> Result<(), Memory>
 // Draws the tables side by side.
 fn put_tables(page: &mut Page, top: u32, tables: &Tables) -> Result<(), Memory>
     ensures grows { OnOk result (Grows page.old page.new) }
-    ensures agents { OnOk result (All (ShowsRow page.new) tables.now.agents.rows.items) }
-    ensures variables { OnOk result (All (ShowsRow page.new) tables.now.variables.rows.items) }
-    ensures streams { OnOk result (All (ShowsRow page.new) tables.now.streams.rows.items) }
+    ensures agents { OnOk result (ShowsRows page.new tables.now.agents.rows.items) }
+    ensures variables { OnOk result (ShowsRows page.new tables.now.variables.rows.items) }
+    ensures streams { OnOk result (ShowsRows page.new tables.now.streams.rows.items) }
 {
     let Tables {
         agents,

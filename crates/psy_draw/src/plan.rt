@@ -4,7 +4,7 @@ ghost use Rattle.std.specs.Prelude.{◌≡◌, ◌≤◌, ◌++◌, ◌&&◌, []
 ghost use Rattle.std.specs.List.{count_by, flat_map};
 ghost use Rattle.psy_draw.specs.Lanes.{is_asked, may_have_lane};
 ghost use Rattle.psy_draw.specs.Planning.{AddsLanes, Are, IsVariable};
-ghost use Rattle.psy_draw.specs.Sources.{lanes_in, messages_in, names_in, stop_in, stops_of, streams_of, values_in, variables_of};
+ghost use Rattle.psy_draw.specs.Sources.{lanes_in, messages_in, names_in, place_in, stop_in, stops_of, streams_of, values_in, variables_of};
 ghost use Rattle.psy_draw.specs.declared.room.TheConstants.{MOST_LANES};
 
 use crate::choice::is_asked;
@@ -12,6 +12,7 @@ use crate::column::Column;
 use crate::few::is_few;
 use crate::lane::{Lane, Shape};
 use crate::room::{MOST_LANES, RoomFault};
+use crate::silence::silence_at;
 use crate::source::Source;
 use crate::stops::Stop;
 use crate::values::{stream_columns, variable_columns};
@@ -30,7 +31,7 @@ pub struct Plan<'a> {
 impl<'a> Plan<'a> {
     /// The lanes of what was asked for.
     pub fn of(alloc: Global, source: Source<'a, '_>) -> Result<Plan<'a>, RoomFault>
-        ensures { IfOk result (λ plan. Are (lanes_in source.entry) plan.lanes.items) }
+        ensures { IfOk result (λ plan. Are (place_in source.entry) (lanes_in source.entry) plan.lanes.items) }
     {
         let mut plan = Plan {
             lanes: Vec::new(alloc),
@@ -43,7 +44,8 @@ impl<'a> Plan<'a> {
     }
 
     fn add_stops(&mut self, source: Source<'a, '_>) -> Result<(), RoomFault>
-        ensures { OnOk result (AddsLanes (flat_map (stops_of source.entry) source.entry.notes.now) self.old.lanes.items self.new.lanes.items) }
+        ensures { OnOk result (AddsLanes (place_in source.entry) (flat_map (stops_of source.entry) source.entry.notes.now)
+            self.old.lanes.items self.new.lanes.items) }
     {
         for note in source.notes {
             self.add_stop(source, *note)?;
@@ -52,7 +54,7 @@ impl<'a> Plan<'a> {
     }
 
     fn add_stop(&mut self, source: Source<'a, '_>, note: Note<'a>) -> Result<(), RoomFault>
-        ensures { OnOk result (AddsLanes (stops_of source.entry note.entry) self.old.lanes.items self.new.lanes.items) }
+        ensures { OnOk result (AddsLanes (place_in source.entry) (stops_of source.entry note.entry) self.old.lanes.items self.new.lanes.items) }
     {
         match note {
             Note::StopOverrun { date, agent } => self.add_stop_of(source, date, agent, None),
@@ -71,20 +73,22 @@ impl<'a> Plan<'a> {
         agent: &'a [u8],
         trap: Option<Trap>,
     ) -> Result<(), RoomFault>
-        ensures { OnOk result (AddsLanes (stop_in source.entry date agent.now trap) self.old.lanes.items self.new.lanes.items) }
+        ensures { OnOk result (AddsLanes (place_in source.entry) (stop_in source.entry date agent.now trap) self.old.lanes.items self.new.lanes.items) }
     {
         if !is_shown(source, date, agent) {
             return Ok(());
         }
         self.add(Lane {
             name: agent,
+            silent: None,
             shape: Shape::Stop(Stop::new(source.scale, date, trap)),
         })?;
         Ok(())
     }
 
     fn add_variables(&mut self, alloc: Global, source: Source<'a, '_>) -> Result<(), RoomFault>
-        ensures { OnOk result (AddsLanes (flat_map (variables_of source.entry) source.entry.notes.now) self.old.lanes.items self.new.lanes.items) }
+        ensures { OnOk result (AddsLanes (place_in source.entry) (flat_map (variables_of source.entry) source.entry.notes.now)
+            self.old.lanes.items self.new.lanes.items) }
     {
         for note in source.notes {
             self.add_variable(alloc, source, *note)?;
@@ -98,7 +102,7 @@ impl<'a> Plan<'a> {
         source: Source<'a, '_>,
         note: Note<'a>,
     ) -> Result<(), RoomFault>
-        ensures { OnOk result (AddsLanes (variables_of source.entry note.entry) self.old.lanes.items self.new.lanes.items) }
+        ensures { OnOk result (AddsLanes (place_in source.entry) (variables_of source.entry note.entry) self.old.lanes.items self.new.lanes.items) }
     {
         match note {
             Note::VariableEnd { variable, .. } => { self.add_values(alloc, source, variable) }
@@ -113,7 +117,7 @@ impl<'a> Plan<'a> {
         source: Source<'a, '_>,
         name: &'a [u8],
     ) -> Result<(), RoomFault>
-        ensures { OnOk result (AddsLanes (values_in source.entry name.now) self.old.lanes.items self.new.lanes.items) }
+        ensures { OnOk result (AddsLanes (place_in source.entry) (values_in source.entry name.now) self.old.lanes.items self.new.lanes.items) }
     {
         if !is_asked(source.names, name) {
             return Ok(());
@@ -124,13 +128,15 @@ impl<'a> Plan<'a> {
         }
         self.add(Lane {
             name,
+            silent: silence_at(source.silences, name),
             shape: shape_of(columns),
         })?;
         Ok(())
     }
 
     fn add_streams(&mut self, alloc: Global, source: Source<'a, '_>) -> Result<(), RoomFault>
-        ensures { OnOk result (AddsLanes (flat_map (streams_of source.entry) source.entry.notes.now) self.old.lanes.items self.new.lanes.items) }
+        ensures { OnOk result (AddsLanes (place_in source.entry) (flat_map (streams_of source.entry) source.entry.notes.now)
+            self.old.lanes.items self.new.lanes.items) }
     {
         for note in source.notes {
             self.add_stream(alloc, source, *note)?;
@@ -144,7 +150,7 @@ impl<'a> Plan<'a> {
         source: Source<'a, '_>,
         note: Note<'a>,
     ) -> Result<(), RoomFault>
-        ensures { OnOk result (AddsLanes (streams_of source.entry note.entry) self.old.lanes.items self.new.lanes.items) }
+        ensures { OnOk result (AddsLanes (place_in source.entry) (streams_of source.entry note.entry) self.old.lanes.items self.new.lanes.items) }
     {
         match note {
             Note::StreamEnd { stream, .. } => self.add_messages(alloc, source, stream),
@@ -159,7 +165,7 @@ impl<'a> Plan<'a> {
         source: Source<'a, '_>,
         name: &'a [u8],
     ) -> Result<(), RoomFault>
-        ensures { OnOk result (AddsLanes (messages_in source.entry name.now) self.old.lanes.items self.new.lanes.items) }
+        ensures { OnOk result (AddsLanes (place_in source.entry) (messages_in source.entry name.now) self.old.lanes.items self.new.lanes.items) }
     {
         if !is_asked(source.names, name) {
             return Ok(());
@@ -167,6 +173,7 @@ impl<'a> Plan<'a> {
         let columns = stream_columns(alloc, source.notes, name, source.scale)?;
         self.add(Lane {
             name,
+            silent: None,
             shape: Shape::Marks(columns),
         })?;
         Ok(())

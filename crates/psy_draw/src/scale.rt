@@ -2,6 +2,7 @@
 
 ghost use Rattle.std.specs.Prelude.{◌≡◌, ◌<◌, ◌≤◌, ℕ, IfSome, min, max};
 ghost use Rattle.psy_base.specs.declared.limits.TheConstants.{UNTIL};
+ghost use Rattle.psy_draw.specs.Places.{grain_of};
 
 use crate::window::Window;
 use psy_base::limits;
@@ -25,12 +26,13 @@ pub struct Scale {
 }
 
 impl Scale {
-    ghost use Rattle.psy_draw.specs.Places.{x_of, window_end};
+    ghost use Rattle.psy_draw.specs.Places.{grain_of, x_of, window_end};
 
     /// The scale of a window of a run up to a date, with so many lanes; none exactly where no date of the run lies in it.
     pub fn new(window: Window, last: u64, lanes: usize) -> Option<Scale>
         ensures from { IfSome result (λ scale. scale.from ≡ min window.from UNTIL) }
         ensures to { IfSome result (λ scale. scale.to ≡ min (window_end window last) UNTIL) }
+        ensures grain { IfSome result (λ scale. scale.grain ≡ grain_of lanes) }
         ensures some { IfSome result (λ scale. window.from ≤ window_end window last) }
         ensures none { result ≡ None → window_end window last < window.from }
     {
@@ -67,7 +69,8 @@ impl Scale {
 
 // The width of a column where there are so many lanes.
 fn grain_of(lanes: usize) -> u32
-    ensures { 0 < result }
+    ensures some { 0 < result }
+    ensures grain { result ≡ grain_of lanes }
 {
     let lanes = lanes.clamp(1, COLUMNS as usize) as u32;
     let columns = (COLUMNS / lanes).min(PLOT_WIDTH);

@@ -22,6 +22,7 @@ path{fill:none;stroke-width:1}
 .line{stroke:#0969da;stroke-width:1.5}
 .box{stroke:#0969da;fill:#ddf4ff}
 .dense{fill:#0969da}
+.line.silent,.box.silent{fill:none;stroke-dasharray:4 4}
 .stream .mark{stroke:#8250df;stroke-width:6;stroke-linecap:round}
 .stop path{stroke:#cf222e;stroke-width:1.5}
 .stop text{fill:#cf222e}

@@ -1,8 +1,9 @@
 //! A table of the summary.
 
-ghost use Rattle.std.specs.Prelude.{◌≡◌, ◌≤◌, ◌++◌, [], ◌∷◌, All, OnOk, length};
+ghost use Rattle.std.specs.Prelude.{◌≡◌, ◌≤◌, ◌++◌, [], ◌∷◌, OnOk, length};
 ghost use Rattle.psy_draw.specs.declared.room.TheConstants.{MOST_ROWS};
-ghost use Rattle.psy_draw.specs.Showing.{Grows, ShowsRow};
+ghost use Rattle.psy_draw.specs.declared.table.TheConstants.{HEADS};
+ghost use Rattle.psy_draw.specs.Showing.{Grows, ShowsRows, rows_text};
 
 use crate::labels::digits_of;
 use crate::layout::{Corner, TABLE_LETTER, width_of};
@@ -15,6 +16,9 @@ use std::alloc::Global;
 
 /// The height of a row.
 pub const ROW_HEIGHT: u32 = 17;
+
+// Where the heads stand.
+const HEADS: u32 = 12;
 
 // What stays free between two columns.
 const COLUMN_GAP: u32 = 22;
@@ -112,7 +116,7 @@ impl<'a> Table<'a> {
     /// Draws it, or nothing where it has no rows.
     pub fn draw(&self, page: &mut Page, corner: Corner) -> Result<(), Memory>
         ensures grows { OnOk result (Grows page.old page.new) }
-        ensures rows { OnOk result (All (ShowsRow page.new) self.now.rows.items) }
+        ensures rows { OnOk result (ShowsRows page.new self.now.rows.items) }
     {
         if self.rows.is_empty() {
             return Ok(());
@@ -126,14 +130,23 @@ impl<'a> Table<'a> {
         ])?;
         let ends = self.ends();
         put_heads(page, ends, self.heads)?;
-        let mut y = 12u32;
-        for row in self.rows.as_slice() {
-            y += ROW_HEIGHT;
-            put_row(page, y, ends, row)?;
-        }
+        put_rows(page, ends, self.rows.as_slice())?;
         page.put(&[Piece::Raw(b"</g>\n")])?;
         Ok(())
     }
+}
+
+// Adds rows, one below the other, the first of them below the heads.
+fn put_rows(page: &mut Page, ends: Ends, rows: &[Row]) -> Result<(), Memory>
+    requires { length rows.now ≤ MOST_ROWS }
+    ensures { OnOk result (page.new ≡ page.old ++ rows_text HEADS ends.first ends.second rows.now) }
+{
+    let mut y = HEADS;
+    'rows: for row in rows {
+        y += ROW_HEIGHT;
+        put_row(page, y, ends, row)?;
+    }
+    Ok(())
 }
 
 fn put_heads(page: &mut Page, ends: Ends, heads: Heads) -> Result<(), Memory>

@@ -2,8 +2,9 @@
 
 ghost use Rattle.std.specs.Prelude.{◌≡◌, ◌++◌, [], ◌∷◌, IfOk, OnOk};
 ghost use Rattle.std.specs.List.{flat_map};
-ghost use Rattle.psy_draw.specs.Columns.{AddsValues, Keeps};
+ghost use Rattle.psy_draw.specs.Columns.{AddsValues, Keeps, dated};
 ghost use Rattle.psy_draw.specs.Lanes.{held_values, last_alone, message_values, messages_within, values_before, values_within};
+ghost use Rattle.psy_draw.specs.Scales.{place_by};
 ghost use Rattle.psy_draw.specs.Told.{values_of};
 
 use crate::column::Column;
@@ -27,7 +28,7 @@ pub fn variable_columns(
     name: &[u8],
     scale: &Scale,
 ) -> Result<Vec<Column>, Memory>
-    ensures { IfOk result (λ columns. Keeps (held_values scale.now.from scale.now.to name.now notes.now) columns.items) }
+    ensures { IfOk result (λ columns. Keeps (place_by scale.now) (held_values scale.now.from scale.now.to name.now notes.now) columns.items) }
 {
     let mut columns = first_columns(alloc, notes, name, scale)?;
     for note in notes {
@@ -43,20 +44,21 @@ fn first_columns(
     name: &[u8],
     scale: &Scale,
 ) -> Result<Vec<Column>, Memory>
-    ensures { IfOk result (λ columns. Keeps (last_alone (flat_map (values_before scale.now.from name.now) notes.now)) columns.items) }
+    ensures { IfOk result (λ columns. Keeps (place_by scale.now) (last_alone (flat_map (values_before scale.now.from name.now) notes.now)) columns.items) }
 {
     let columns = Vec::new(alloc);
     match value_before(notes, name, scale) {
-        Some(told) => with_value(columns, told),
+        Some(told) => with_value(columns, scale, told),
         None => Ok(columns),
     }
 }
 
-fn with_value(columns: Vec<Column>, told: Told) -> Result<Vec<Column>, Memory>
-    ensures { IfOk result (λ new. Keeps [] columns.items → Keeps (told.value ∷ []) new.items) }
+fn with_value(columns: Vec<Column>, scale: &Scale, told: Told) -> Result<Vec<Column>, Memory>
+    ensures { IfOk result (λ new. Keeps (place_by scale.now) [] columns.items
+        → Keeps (place_by scale.now) (dated told.date told.value ∷ []) new.items) }
 {
     let mut columns = columns;
-    add_value(&mut columns, 0, told.date, told.value)?;
+    add_value(&mut columns, scale, told.date, told.value)?;
     Ok(columns)
 }
 
@@ -103,7 +105,7 @@ fn add_variable(
     name: &[u8],
     scale: &Scale,
 ) -> Result<(), Memory>
-    ensures { OnOk result (AddsValues (values_within scale.now.from scale.now.to name.now note.now) columns.old.items columns.new.items) }
+    ensures { OnOk result (AddsValues (place_by scale.now) (values_within scale.now.from scale.now.to name.now note.now) columns.old.items columns.new.items) }
 {
     match *note {
         Note::Value {
@@ -111,7 +113,7 @@ fn add_variable(
             variable,
             value,
         } if variable == name && u64::from(scale.from) < date && date <= u64::from(scale.to) => {
-            add_value(columns, scale.x(date), date, value)
+            add_value(columns, scale, date, value)
         }
         _ => Ok(()),
     }
@@ -124,7 +126,7 @@ pub fn stream_columns(
     name: &[u8],
     scale: &Scale,
 ) -> Result<Vec<Column>, Memory>
-    ensures { IfOk result (λ columns. Keeps (message_values scale.now.from scale.now.to name.now notes.now) columns.items) }
+    ensures { IfOk result (λ columns. Keeps (place_by scale.now) (message_values scale.now.from scale.now.to name.now notes.now) columns.items) }
 {
     let mut columns = Vec::new(alloc);
     for note in notes {
@@ -139,7 +141,8 @@ fn add_message(
     name: &[u8],
     scale: &Scale,
 ) -> Result<(), Memory>
-    ensures { OnOk result (AddsValues (messages_within scale.now.from scale.now.to name.now note.now) columns.old.items columns.new.items) }
+    ensures { OnOk result (AddsValues (place_by scale.now) (messages_within scale.now.from scale.now.to name.now note.now)
+        columns.old.items columns.new.items) }
 {
     match *note {
         Note::Message {
@@ -147,7 +150,7 @@ fn add_message(
             stream,
             value,
         } if stream == name && u64::from(scale.from) <= date && date <= u64::from(scale.to) => {
-            columns::add_message(columns, scale.x(date), date, value)
+            columns::add_message(columns, scale, date, value)
         }
         _ => Ok(()),
     }

@@ -1,19 +1,37 @@
 -- What is written of a token with which no program goes on: what may stand there, and a hint.
-use Rattle.std.specs.Prelude.{◌≡◌, ℕ, ◌<◌, ◌≤◌, ◌==◌, if◌then◌else◌, List, [], ◌++◌, length, map, take, codes, Option, None, Some}
+use Rattle.std.specs.Prelude.{◌≡◌, ℕ, ◌+◌, ◌<◌, ◌≤◌, ◌==◌, Bool, false, if◌then◌else◌, MatchBool, List, [], ◌++◌, length, map, take, codes}
+use Rattle.std.specs.Prelude.{option_to_list, Option, None, Some}
+use denote.Enum.Bare.{sameb}
 use Rattle.psy_base.specs.declared.limits.TheConstants.{FILE_BYTES}
 use Rattle.psy_tree.specs.declared.token.Token.{Token}
+use Rattle.psy_expect.specs.contracts.hint.Hint as hint_kind
+use Rattle.psy_expect.specs.declared.around.Around.{Around}
 use Rattle.psy_expect.specs.declared.hint.Hint.{Hint}
+use Rattle.psy_expect.specs.declared.hint.Hint.TheVariants.{Missing}
 use Rattle.psy_expect.specs.declared.phrase.Phrase.{Phrase}
 use Rattle.psy_expect.specs.declared.terminal.Terminal.{Terminal}
 use Rattle.psy_expect.specs.declared.terminal.TheConstants.{EVERY}
-use Rattle.psy_expect.specs.Terminals.{MayFollow, Picks}
+use Rattle.psy_expect.specs.Terminals.{GoesOn, MayFollow, Picks}
+use Rattle.psy_expect.specs.Mending.{Mends}
 use Rattle.psy_expect.specs.Phrases.{phrases, phrase_words, listed}
 use Rattle.psy_expect.specs.Arounds.{around}
 use Rattle.psy_expect.specs.Hints.{hint_of, hint_words}
 
--- Of these terminals is told that they may stand behind the first so many tokens: of all that may; of none behind more than a text can have
-abbrev pub Tells : List Token → ℕ → List Terminal → Type 0
-Tells tokens at told = (at < FILE_BYTES → Picks (MayFollow (take at tokens)) EVERY told) × (FILE_BYTES ≤ at → told ≡ [])
+-- What is found of a place, by the tokens before it and what stands around it: the terminals that may stand there, those of them that mend it, and whether the
+-- program goes on without the token there
+pub record IsFound (front : List Token) (a : Around) (told mends : List Terminal) (extra : Bool) : Type 0 where
+  pub may : Picks (MayFollow front) EVERY told
+  pub mend : Picks (Mends front a) told mends
+  pub without : MatchBool extra (GoesOn front (option_to_list a.behind)) (GoesOn front (option_to_list a.behind) → ⊥)
+
+-- Nothing is told of a place.
+abbrev pub IsNothing : List Terminal → List Terminal → Bool → Type 0
+IsNothing told mends extra = (told ≡ []) × (mends ≡ []) × (extra ≡ false)
+
+-- That is found of a place behind so many tokens that a text may have three more; of others nothing is told.
+abbrev pub IsTried : List Token → Around → List Terminal → List Terminal → Bool → Type 0
+IsTried front a told mends extra =
+    (length front + 3 ≤ FILE_BYTES → IsFound front a told mends extra) × (FILE_BYTES < length front + 3 → IsNothing told mends extra)
 
 -- `here may stand: A, B or C`
 unfoldable pub may_words : List Phrase → List ℕ
@@ -23,11 +41,29 @@ may_words told = codes "here may stand: " ++ listed (map phrase_words told) ++ c
 abbrev pub may_line : List Phrase → List ℕ
 may_line told = if length told == 0 then [] else may_words told
 
--- `hint: ..`, where there is one
-abbrev pub hint_line : Option Hint → List ℕ
-hint_line None = []
-hint_line (Some hint) = codes "hint: " ++ hint_words hint ++ codes "\n"
+-- `hint: A, B or C is missing before this`
+abbrev pub missing_words : List Phrase → List ℕ
+missing_words missing = codes "hint: " ++ listed (map phrase_words missing) ++ codes " is missing before this\n"
 
--- The text is the advice for the place of that number among tokens
+-- `hint: ..`
+abbrev pub words_line : List ℕ → List ℕ
+words_line words = codes "hint: " ++ words ++ codes "\n"
+
+-- What is missing, or the words of another hint
+abbrev pub told_hint : Hint → List Phrase → List ℕ
+told_hint hint missing = if sameb hint_kind.the_type hint Missing then missing_words missing else words_line (hint_words hint)
+
+-- `hint: ..`, where there is one
+abbrev pub hint_line : Option Hint → List Phrase → List ℕ
+hint_line None missing = []
+hint_line (Some hint) missing = told_hint hint missing
+
+-- What is told of a place with this around it, by what was found
+abbrev pub advice_told : Around → List Terminal → List Terminal → Bool → List ℕ
+advice_told a told mends extra = may_line (phrases told) ++ hint_line (hint_of a told mends extra) (phrases mends)
+
+-- The text is the advice for the place of that number among tokens.
 abbrev pub IsAdvice : List Token → ℕ → List ℕ → Type 0
-IsAdvice tokens at text = (told : List Terminal) × Tells tokens at told × (text ≡ may_line (phrases told) ++ hint_line (hint_of (around tokens at) told))
+IsAdvice tokens at text =
+    (told : List Terminal) × (mends : List Terminal) × (extra : Bool) × IsTried (take at tokens) (around tokens at) told mends extra
+    × (text ≡ advice_told (around tokens at) told mends extra)

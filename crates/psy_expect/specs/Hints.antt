@@ -1,14 +1,26 @@
--- What is told of common slips: rules over what stands around the token at fault and what may stand there. The first that fits is told.
-use Rattle.std.specs.Prelude.{ℕ, Bool, true, false, ◌&&◌, ◌||◌, not, List, [], ◌∷◌, codes, Option, None, Some, find}
+-- What is told of common slips: rules over what stands around the token at fault, what may stand there, and what mends it. The first that fits is told.
+use Rattle.std.specs.Prelude.{ℕ, ◌==◌, Bool, true, false, ◌&&◌, ◌||◌, not, nat_le, if◌then◌else◌, List, [], ◌∷◌, codes, length, Option, None, Some, find}
+use denote.Enum.Bare.{sameb}
 use Rattle.psy_tree.specs.declared.token.Word.TheVariants as words
 use Rattle.psy_tree.specs.declared.token.Sign.TheVariants as signs
+use Rattle.psy_expect.specs.contracts.foreign.Foreign as foreign_kind
 use Rattle.psy_expect.specs.declared.around.Around.{Around}
+use Rattle.psy_expect.specs.declared.foreign.Foreign.{Foreign}
+use Rattle.psy_expect.specs.declared.foreign.Foreign.TheVariants as foreign
 use Rattle.psy_expect.specs.declared.hint.Hint.{Hint}
-use Rattle.psy_expect.specs.declared.hint.Hint.TheVariants.{DeclarationInBody, Width, NoFor, Increment, Compound, LessOrEqual, Comparison, Assignment}
-use Rattle.psy_expect.specs.declared.hint.Hint.TheVariants.{Call, Else, Braces, After, NoStatement, Reserved, Close, Semicolon}
+use Rattle.psy_expect.specs.declared.hint.Hint.TheVariants.{DeclarationInBody, DeclarationBehindBody, Width, Modifier, Void, FunctionWord, NoFor}
+use Rattle.psy_expect.specs.declared.hint.Hint.TheVariants.{OtherLoop, Jump, Switch, ElseIf, Else, SmallLetters, Then, Times, Logical, Wait, ValueAlone}
+use Rattle.psy_expect.specs.declared.hint.Hint.TheVariants.{TickAsClock, Increment, Compound, LessOrEqual, Unlike, Power, UnaryPlus, Square, Global}
+use Rattle.psy_expect.specs.declared.hint.Hint.TheVariants.{NoValue, NameAlone, Chain, Comparison, Assignment, OneByOne, Call, Prototype, Brackets}
+use Rattle.psy_expect.specs.declared.hint.Hint.TheVariants.{NumberAlone, LeaveOut, EmptyCondition, Extra, Braces, After, NoStatement, Outside, NoBody}
+use Rattle.psy_expect.specs.declared.hint.Hint.TheVariants.{Back, Close, ElseAlone, Semicolon, FormTick, Missing, Reserved, SemicolonAtEnd, FormClock}
+use Rattle.psy_expect.specs.declared.hint.Hint.TheVariants.{FormTemporal, FormInput, FormStream, FormAgent, FormInt, FormIf, FormWhile, FormSend}
+use Rattle.psy_expect.specs.declared.hint.Hint.TheVariants.{FormAdvance, FormAssign, FunctionInside, Print, NotEqual, NoResult, BodyMissing}
+use Rattle.psy_expect.specs.declared.hint.Hint.TheVariants.{Ended, BodyEnded, SecondTick, SecondBody, InsideAgent, NoSemicolon, LookName, Cast, ReservedCall}
 use Rattle.psy_expect.specs.declared.terminal.Terminal.{Terminal}
 use Rattle.psy_expect.specs.declared.terminal.Terminal.TheVariants.{Word, Name, Number, Sign}
-use Rattle.psy_expect.specs.Phrases.{same, has}
+use Rattle.psy_expect.specs.declared.group.Group.TheVariants.{Operator}
+use Rattle.psy_expect.specs.Phrases.{same, has, members}
 
 -- It is there, and this terminal
 abbrev pub is : Option Terminal → Terminal → Bool
@@ -20,6 +32,11 @@ abbrev pub is_among : Option Terminal → List Terminal → Bool
 is_among (Some t) us = has us t
 is_among None us = false
 
+-- It is there, and may stand
+abbrev pub is_told : Option Terminal → List Terminal → Bool
+is_told (Some t) told = has told t
+is_told None told = false
+
 -- It is there, and a reserved word
 abbrev pub is_reserved : Option Terminal → Bool
 is_reserved (Some (Word w)) = true
@@ -30,6 +47,15 @@ abbrev pub is_nothing : Option Terminal → Bool
 is_nothing None = true
 is_nothing (Some t) = false
 
+-- A word of another language is there, and of this sort
+abbrev pub is_foreign : Option Foreign → Foreign → Bool
+is_foreign (Some f) g = sameb foreign_kind.the_type f g
+is_foreign None g = false
+
+-- There are some, and so few that they are told, or operators among them, which are told as one
+abbrev pub is_some_few : List Terminal → Bool
+is_some_few mends = not (length mends == 0) && (nat_le (length mends) 3 || has mends (Sign signs.Percent))
+
 -- The words of types that there aren't
 abbrev pub WIDTHS : List Terminal
 WIDTHS = Word words.Int8 ∷ Word words.Int16 ∷ Word words.Int32 ∷ Word words.Int64 ∷ []
@@ -38,61 +64,283 @@ WIDTHS = Word words.Int8 ∷ Word words.Int16 ∷ Word words.Int32 ∷ Word word
 abbrev pub HEADS : List Terminal
 HEADS = Word words.Agent ∷ Word words.Clock ∷ Word words.Input ∷ Word words.Stream ∷ Word words.Temporal ∷ []
 
+-- The words that begin a statement or a part of one
+abbrev pub BEGINNINGS : List Terminal
+BEGINNINGS = Word words.Advance ∷ Word words.Else ∷ Word words.If ∷ Word words.Return ∷ Word words.Send ∷ Word words.While ∷ []
+
+-- The words that begin a value
+abbrev pub LOOKS : List Terminal
+LOOKS = Word words.Past ∷ Word words.Ready ∷ Word words.Take ∷ []
+
+-- What begins a value that isn't a number alone
+abbrev pub VALUES : List Terminal
+VALUES = Word words.Past ∷ Word words.Ready ∷ Word words.Take ∷ Name ∷ Sign signs.OpenRound ∷ Sign signs.Minus ∷ []
+
 -- The operators that another language joins with `=`
 abbrev pub JOINED : List Terminal
 JOINED = Sign signs.Plus ∷ Sign signs.Minus ∷ Sign signs.Star ∷ Sign signs.Slash ∷ Sign signs.Percent ∷ Sign signs.Amp ∷ Sign signs.Caret ∷ Sign signs.Bar ∷ []
 
--- The sign stands here and directly behind it, where an assignment may; or here and directly before, as one more of its kind
-abbrev pub is_twice : Around → Terminal → List Terminal → Bool
-is_twice a t told =
-    is a.here t && ((is a.behind t && a.is_joined_behind && has told (Sign signs.Assign)) || (is a.before t && a.is_joined_before))
+-- The operators of sums and products
+abbrev pub OPERATORS : List Terminal
+OPERATORS = Sign signs.Plus ∷ Sign signs.Minus ∷ Sign signs.Star ∷ Sign signs.Slash ∷ Sign signs.Percent ∷ []
 
--- The rule fits a place with this around it, where these terminals may stand
-abbrev pub fits : Hint → Around → List Terminal → Bool
-fits DeclarationInBody a told = is a.here (Word words.Int) && has told (Word words.If)
-fits Width a told = is_among a.here WIDTHS && has told (Word words.Int)
-fits NoFor a told = a.is_behind_for && is a.here (Sign signs.OpenRound)
-fits Increment a told = is_twice a (Sign signs.Plus) told || is_twice a (Sign signs.Minus) told
-fits Compound a told = is_among a.here JOINED && is a.behind (Sign signs.Assign) && a.is_joined_behind && has told (Sign signs.Assign)
-fits LessOrEqual a told =
-    is a.here (Sign signs.Assign) && (is a.behind (Sign signs.Less) || is a.behind (Sign signs.Greater)) && a.is_joined_behind && has told (Sign signs.Equal)
-fits Comparison a told = is a.here (Sign signs.Assign) && has told (Sign signs.Equal)
-fits Assignment a told = is a.here (Sign signs.Equal) && has told (Sign signs.Assign)
-fits Call a told = is a.before Name && is a.here (Sign signs.OpenRound) && has told (Sign signs.Assign)
-fits Else a told = is a.before (Word words.Else) && has told (Sign signs.OpenBrace)
-fits Braces a told = is a.before (Sign signs.CloseRound) && has told (Sign signs.OpenBrace)
-fits After a told = is a.before (Word words.After) && has told Number
-fits NoStatement a told = is a.here (Sign signs.Semicolon) && has told (Word words.If)
-fits Reserved a told =
-    is_reserved a.here && has told Name && (not (has told (Word words.If)) || is a.behind (Sign signs.Assign) || is a.behind (Sign signs.OpenSquare))
-fits Close a told = (is_nothing a.here || is_among a.here HEADS) && has told (Sign signs.CloseBrace)
-fits Semicolon a told = (is_nothing a.here || is_reserved a.here || is a.here Name || is a.here (Sign signs.CloseBrace)) && has told (Sign signs.Semicolon)
+-- What ends the declaration of a variable, or goes on in it
+abbrev pub ENDINGS : List Terminal
+ENDINGS = Sign signs.Assign ∷ Sign signs.Semicolon ∷ Sign signs.OpenSquare ∷ []
+
+-- The words before a condition
+abbrev pub CONDITIONS : List Terminal
+CONDITIONS = Word words.If ∷ Word words.While ∷ []
+
+-- The brackets that close
+abbrev pub CLOSINGS : List Terminal
+CLOSINGS = Sign signs.CloseRound ∷ Sign signs.CloseSquare ∷ Sign signs.CloseBrace ∷ []
+
+-- What begins a statement
+abbrev pub STATEMENTS : List Terminal
+STATEMENTS = Word words.Advance ∷ Word words.If ∷ Word words.Return ∷ Word words.Send ∷ Word words.While ∷ Name ∷ []
+
+-- The sign stands here and directly behind it, or here and directly before it, as one more of its kind
+abbrev pub is_twice : Around → Terminal → Bool
+is_twice a t = is a.here t && ((is a.behind t && a.is_joined_behind) || (is a.before t && a.is_joined_before))
+
+-- The words of types
+abbrev pub TYPES : List Terminal
+TYPES = Word words.Int ∷ Word words.Int8 ∷ Word words.Int16 ∷ Word words.Int32 ∷ Word words.Int64 ∷ []
+
+-- What begins a value that isn't a name alone
+abbrev pub NAMELESS : List Terminal
+NAMELESS =
+    Word words.Past ∷ Word words.Ready ∷ Word words.Take ∷ Number ∷ Sign signs.OpenRound ∷ Sign signs.Minus ∷ Sign signs.Tilde ∷ Sign signs.Bang ∷ []
+
+-- A function begins here among statements or behind a body, or its parameters are here, inside an agent or another function
+abbrev pub is_function_inside : Around → List Terminal → Bool
+is_function_inside a told =
+    (is a.here (Word words.Int) && (is a.further (Sign signs.OpenRound) && has told (Sign signs.CloseBrace)))
+    || (is a.here (Sign signs.OpenRound) && (is a.starter (Word words.Int)
+    && (has told (Sign signs.Assign) && (is a.behind (Word words.Int) || is a.behind (Sign signs.CloseRound)))))
+
+-- A statement begins here, or an `else`
+abbrev pub is_statement : Option Terminal → Bool
+is_statement here = is_among here BEGINNINGS || is here Name
+
+-- A statement begins here, an assignment where it is a name, or an `else`, behind a `}`
+abbrev pub has_ended : Around → Bool
+has_ended a =
+    is a.before (Sign signs.CloseBrace)
+    && (is_among a.here BEGINNINGS || (is a.here Name && (is a.behind (Sign signs.Assign) || is a.behind (Sign signs.OpenSquare))))
+
+-- A comma may stand here, or else a bracket that closes, as behind the name that `past`, `ready` or `take` has in its brackets
+abbrev pub is_one_behind : List Terminal → Bool
+is_one_behind told = if has told (Sign signs.Comma) then not (has told (Sign signs.CloseRound)) else has told (Sign signs.CloseRound)
+
+-- An expression stands in those brackets: in the place of the name, or going on behind it
+abbrev pub is_look : Around → List Terminal → Bool
+is_look a told =
+    (is a.before (Sign signs.OpenRound) && (has told Name && (not (has told (Sign signs.Tilde)) && is_among a.here NAMELESS)))
+    || (is a.before Name && (is_one_behind told && (not (has told (Sign signs.Plus))
+    && (is_among a.here (members Operator) || (is a.here (Sign signs.OpenSquare) || is a.here (Sign signs.OpenRound))))))
+
+-- A reserved word is called, other than one before a condition
+abbrev pub is_called : Around → Bool
+is_called a = is_reserved a.here && (is a.behind (Sign signs.OpenRound) && not (is_among a.here CONDITIONS))
+
+-- The rule fits a place with this around it, where these terminals may stand, and the program goes on where one of those is put before it, or where it is
+-- left out
+abbrev pub fits : Hint → Around → List Terminal → List Terminal → Bool → Bool
+fits FunctionInside a told mends extra = is_function_inside a told
+fits DeclarationInBody a told mends extra = is a.here (Word words.Int) && has told (Word words.If)
+fits DeclarationBehindBody a told mends extra = is a.here (Word words.Int) && has told (Sign signs.CloseBrace)
+fits Width a told mends extra =
+    (is_among a.here WIDTHS && (has told (Word words.Int) || has told (Word words.If)))
+    || ((is_foreign a.foreign_here foreign.TypeWord && has told (Word words.Int))
+    || (is_foreign a.foreign_before foreign.TypeWord && has told (Sign signs.Assign)))
+fits Modifier a told mends extra =
+    (is_foreign a.foreign_here foreign.Modifier && has told (Word words.Int)) || (is_foreign a.foreign_before foreign.Modifier && has told (Sign signs.Assign))
+fits Void a told mends extra = is_foreign a.foreign_here foreign.Void && has told (Word words.Int)
+fits FunctionWord a told mends extra = is_foreign a.foreign_here foreign.Function && has told (Word words.Int)
+fits NoFor a told mends extra = is_foreign a.foreign_before foreign.For && is a.here (Sign signs.OpenRound)
+fits OtherLoop a told mends extra = is_foreign a.foreign_before foreign.Loop && has told (Sign signs.Assign)
+fits Jump a told mends extra = is_foreign a.foreign_before foreign.Jump && has told (Sign signs.Assign)
+fits Switch a told mends extra = is_foreign a.foreign_before foreign.Switch && has told (Sign signs.Assign)
+fits ElseIf a told mends extra =
+    (is_foreign a.foreign_before foreign.ElseIf && has told (Sign signs.Assign))
+    || (is a.before (Word words.Else) && (is a.here (Word words.If) && has told (Sign signs.OpenBrace)))
+fits Else a told mends extra = is a.before (Word words.Else) && has told (Sign signs.OpenBrace)
+fits SmallLetters a told mends extra = is_told a.small_here told || (is_among a.small_before BEGINNINGS && has told (Sign signs.Assign))
+fits Then a told mends extra = is_foreign a.foreign_here foreign.Then && has told (Sign signs.OpenBrace)
+fits Times a told mends extra = is_foreign a.foreign_here foreign.Times && has told (Sign signs.Star)
+fits Logical a told mends extra =
+    (is_foreign a.foreign_here foreign.Logical && has told (Sign signs.Plus)) || (is_foreign a.foreign_before foreign.Logical && has told (Sign signs.Plus))
+fits Wait a told mends extra = is_foreign a.foreign_before foreign.Wait && has told (Sign signs.Assign)
+fits Print a told mends extra = is_foreign a.foreign_before foreign.Print && has told (Sign signs.Assign)
+fits ValueAlone a told mends extra = is_among a.here LOOKS && has told (Word words.If)
+fits TickAsClock a told mends extra = is a.here (Word words.Tick) && is a.before (Word words.On)
+fits Increment a told mends extra = is_twice a (Sign signs.Plus) || is_twice a (Sign signs.Minus)
+fits Compound a told mends extra = is_among a.here JOINED && (is a.behind (Sign signs.Assign) && (a.is_joined_behind && has told (Sign signs.Assign)))
+fits LessOrEqual a told mends extra =
+    is a.here (Sign signs.Assign)
+    && ((is a.behind (Sign signs.Less) || is a.behind (Sign signs.Greater)) && (a.is_joined_behind && has told (Sign signs.Equal)))
+fits NotEqual a told mends extra =
+    is a.here (Sign signs.Assign) && (is a.behind (Sign signs.Bang) && (a.is_joined_behind && has told (Sign signs.Equal)))
+fits Unlike a told mends extra = is a.here (Sign signs.Greater) && (is a.before (Sign signs.Less) && a.is_joined_before)
+fits Power a told mends extra = is a.here (Sign signs.Star) && (is a.before (Sign signs.Star) && a.is_joined_before)
+fits UnaryPlus a told mends extra = is a.here (Sign signs.Plus) && has told (Sign signs.Tilde)
+fits Square a told mends extra = has mends (Sign signs.CloseSquare)
+fits Global a told mends extra =
+    is a.starter (Word words.Int) && (has told (Sign signs.OpenRound) && (is_among a.here ENDINGS && not (has told (Sign signs.Semicolon))))
+fits NoValue a told mends extra = is a.here (Sign signs.Semicolon) && (is a.starter (Word words.Int) && has told (Sign signs.Assign))
+fits NameAlone a told mends extra = is a.here (Sign signs.Semicolon) && (is a.before Name && has told (Sign signs.Assign))
+fits NoResult a told mends extra = is a.before (Word words.Return) && (is a.here (Sign signs.Semicolon) || is a.here (Sign signs.CloseBrace))
+fits Chain a told mends extra = is a.here (Sign signs.Assign) && (has told (Sign signs.Equal) && has told (Sign signs.Semicolon))
+fits Comparison a told mends extra = is a.here (Sign signs.Assign) && has told (Sign signs.Equal)
+fits Assignment a told mends extra = is a.here (Sign signs.Equal) && has told (Sign signs.Assign)
+fits OneByOne a told mends extra = is a.here (Sign signs.Comma) && (has told (Sign signs.Assign) || has told (Sign signs.Semicolon))
+fits Call a told mends extra =
+    is a.before Name && (is a.here (Sign signs.OpenRound) && (has told (Sign signs.Assign) && not (is a.starter (Word words.Int))))
+fits Prototype a told mends extra = is a.here (Sign signs.Semicolon) && (is a.starter (Word words.Int) && has told (Sign signs.OpenBrace))
+fits LeaveOut a told mends extra = extra && (is a.here (Sign signs.Comma) || (is a.here (Word words.Int) && has told Name))
+fits EmptyCondition a told mends extra = is a.here (Sign signs.Semicolon) && (is_among a.starter CONDITIONS && has told (Sign signs.OpenBrace))
+fits BodyMissing a told mends extra = is a.here (Sign signs.CloseBrace) && has told (Word words.Body)
+fits Extra a told mends extra = (is_among a.here CLOSINGS && extra) || (is a.here (Sign signs.CloseBrace) && has told (Word words.Agent))
+fits Braces a told mends extra = is_among a.starter CONDITIONS && has told (Sign signs.OpenBrace)
+fits After a told mends extra = is a.before (Word words.After) && has told Number
+fits NoStatement a told mends extra = is a.here (Sign signs.Semicolon) && has told (Word words.If)
+fits Ended a told mends extra = has_ended a && has told (Word words.Agent)
+fits Outside a told mends extra = is_among a.here STATEMENTS && has told (Word words.Agent)
+fits NoBody a told mends extra = is_among a.here STATEMENTS && has told (Word words.Body)
+fits BodyEnded a told mends extra = is_statement a.here && (has told (Sign signs.CloseBrace) && not (has told (Word words.If)))
+fits SecondTick a told mends extra = is a.here (Word words.Tick) && has told (Word words.Agent)
+fits SecondBody a told mends extra = is a.here (Word words.Body) && (has told (Sign signs.CloseBrace) && not (has told (Word words.If)))
+fits InsideAgent a told mends extra = is_among a.here HEADS && has told (Word words.Body)
+fits Back a told mends extra = is a.here (Sign signs.CloseRound) && (has told (Sign signs.Comma) && not (has told (Sign signs.Plus)))
+fits Close a told mends extra =
+    ((is_nothing a.here || is_among a.here HEADS) && has told (Sign signs.CloseBrace)) || (is a.here (Word words.Else) && has mends (Sign signs.CloseBrace))
+fits ElseAlone a told mends extra = is a.here (Word words.Else) && has told (Word words.If)
+fits Semicolon a told mends extra = has mends (Sign signs.Semicolon)
+fits NoSemicolon a told mends extra = is a.here (Sign signs.Semicolon) && is_nothing a.starter
+fits Missing a told mends extra = is_some_few mends
+fits LookName a told mends extra = is_look a told
+fits Cast a told mends extra =
+    is_among a.here TYPES
+    && (is a.before (Sign signs.OpenRound) && (is a.behind (Sign signs.CloseRound) && (has told (Sign signs.Tilde) && not (has told (Sign signs.CloseRound)))))
+fits ReservedCall a told mends extra = is_called a && (has told (Sign signs.Tilde) || has told (Word words.If))
+fits Reserved a told mends extra =
+    is_reserved a.here && (has told Name && (not (has told (Word words.If)) || (is a.behind (Sign signs.Assign) || is a.behind (Sign signs.OpenSquare))))
+fits Brackets a told mends extra = is_among a.before LOOKS && has told (Sign signs.OpenRound)
+fits NumberAlone a told mends extra =
+    (is_among a.here VALUES && (has told Number && not (has told Name)))
+    || (is_among a.here OPERATORS && (is a.before Number && (not (has told (Sign signs.Plus)) && not (has told (Sign signs.Star)))))
+fits SemicolonAtEnd a told mends extra =
+    (is_nothing a.here || (is_reserved a.here || (is a.here Name || is a.here (Sign signs.CloseBrace)))) && has told (Sign signs.Semicolon)
+fits FormTick a told mends extra = is a.starter (Word words.Tick) || (has told (Word words.Tick) && not (has told Name))
+fits FormClock a told mends extra = is a.starter (Word words.Clock)
+fits FormTemporal a told mends extra = is a.starter (Word words.Temporal)
+fits FormInput a told mends extra = is a.starter (Word words.Input)
+fits FormStream a told mends extra = is a.starter (Word words.Stream)
+fits FormAgent a told mends extra = is a.starter (Word words.Agent)
+fits FormInt a told mends extra = is a.starter (Word words.Int)
+fits FormIf a told mends extra = is a.starter (Word words.If)
+fits FormWhile a told mends extra = is a.starter (Word words.While)
+fits FormSend a told mends extra = is a.starter (Word words.Send)
+fits FormAdvance a told mends extra = is a.starter (Word words.Advance)
+fits FormAssign a told mends extra = is a.starter Name && has told (Sign signs.Assign)
 
 -- The rules, in their order
 abbrev pub RULES : List Hint
 RULES =
-    DeclarationInBody ∷ Width ∷ NoFor ∷ Increment ∷ Compound ∷ LessOrEqual ∷ Comparison ∷ Assignment
-    ∷ Call ∷ Else ∷ Braces ∷ After ∷ NoStatement ∷ Reserved ∷ Close ∷ Semicolon ∷ []
+    FunctionInside ∷ DeclarationInBody ∷ DeclarationBehindBody ∷ Width ∷ Modifier ∷ Void ∷ FunctionWord ∷ NoFor ∷ OtherLoop ∷ Jump ∷ Switch ∷ ElseIf
+    ∷ Else ∷ SmallLetters ∷ Then ∷ Times ∷ Logical ∷ Wait ∷ Print ∷ ValueAlone ∷ TickAsClock ∷ Increment ∷ Compound ∷ LessOrEqual ∷ NotEqual ∷ Unlike
+    ∷ Power ∷ UnaryPlus ∷ Square ∷ Global ∷ NoValue ∷ NameAlone ∷ NoResult ∷ Chain ∷ Comparison ∷ Assignment ∷ OneByOne ∷ Call ∷ Prototype ∷ Brackets
+    ∷ NumberAlone ∷ LeaveOut ∷ EmptyCondition ∷ BodyMissing ∷ Extra ∷ Braces ∷ After ∷ NoStatement ∷ Ended ∷ Outside ∷ NoBody ∷ BodyEnded ∷ SecondTick
+    ∷ SecondBody ∷ InsideAgent ∷ Back ∷ Close ∷ ElseAlone ∷ Semicolon ∷ FormTick ∷ NoSemicolon ∷ Missing ∷ LookName ∷ Cast ∷ ReservedCall ∷ Reserved
+    ∷ SemicolonAtEnd ∷ FormClock ∷ FormTemporal ∷ FormInput ∷ FormStream ∷ FormAgent ∷ FormInt ∷ FormIf ∷ FormWhile ∷ FormSend ∷ FormAdvance
+    ∷ FormAssign ∷ []
 
 -- The first rule that fits
-abbrev pub hint_of : Around → List Terminal → Option Hint
-hint_of a told = find (λ hint. fits hint a told) RULES
+abbrev pub hint_of : Around → List Terminal → List Terminal → Bool → Option Hint
+hint_of a told mends extra = find (λ hint. fits hint a told mends extra) RULES
 
--- What is told where a rule fits
+-- What is told where a rule fits; nothing of what is missing, which is told by its own words
 abbrev pub hint_words : Hint → List ℕ
+hint_words FunctionInside = codes "a function stands outside of agents and of other functions: put it above, or add the `}` that is missing further up"
 hint_words DeclarationInBody = codes "variables are declared before the statements: those of an agent before `body`, those of a function at its head"
+hint_words DeclarationBehindBody = codes "behind `body` nothing stands in an agent: variables are declared before it; before a function a `}` is missing"
 hint_words Width = codes "the only type is `int`"
+hint_words Modifier = codes "there is no `const`, `static` or the like: leave it out; an agent's variables keep their values from action to action"
+hint_words Void = codes "each function gives a value: write `int f(..) { .. return ..; }`"
+hint_words FunctionWord = codes "a function begins with `int`, as in `int f(int a) { return a; }`"
 hint_words NoFor = codes "there is no `for`: count in a `while (..) max N { .. }`"
+hint_words OtherLoop = codes "the only loop is `while (..) max N { .. }`"
+hint_words Jump = codes "there is no `break` and no `continue`: put what ends a loop into its condition"
+hint_words Switch = codes "there is no `switch`: write `if (..) { .. } else { .. }`"
+hint_words ElseIf = codes "behind `else` stands `{`: `else if` is written `else { if (..) { .. } }`"
+hint_words Else = codes "statements under `else` stand in braces, also where there is one alone"
+hint_words SmallLetters = codes "reserved words are written in small letters"
+hint_words Then = codes "there is no `then`: behind the condition stands `{`"
+hint_words Times = codes "the sign of a product is `*`, as in `clock c = 10 * tick;`"
+hint_words Logical = codes "the operators are written `&&`, `||`, `!` and `%`"
+hint_words Wait = codes "time passes at `advance`, as in `advance 1 on c;`"
+hint_words Print = codes "there is no `print`: a run writes its temporal variables and messages, so give the value to a temporal variable"
+hint_words ValueAlone = codes "a value is no statement: give it to a variable, as in `n = take(s);`"
+hint_words TickAsClock = codes "`tick` is no clock by itself: declare one, as in `clock each = 1 * tick;`"
 hint_words Increment = codes "there is no `++` and no `--`: write `v = v + 1;`"
 hint_words Compound = codes "there is no `+=`, nor its kin: write `v = v + ..;`"
 hint_words LessOrEqual = codes "`<=` and `>=` are written with the `=` behind"
+hint_words NotEqual = codes "`!=` is written with the `=` behind"
+hint_words Unlike = codes "that two values differ is written `!=`"
+hint_words Power = codes "there is no `**`: write a product"
+hint_words UnaryPlus = codes "there is no `+` before a value: leave it out"
+hint_words Square = codes "a `]` is missing before this"
+hint_words Global = codes "a variable stands inside an agent or a function; what agents share is declared as in `temporal v of A on c = 0 depth 1;`"
+hint_words NoValue = codes "a variable has a first value, as in `int n = 0;`"
+hint_words NameAlone = codes "a name is no statement: assign to it, as in `v = 1;`"
+hint_words NoResult = codes "a function gives a value, which stands behind `return`, as in `return 0;`"
+hint_words Chain = codes "an assignment has no value: write a statement for each variable; a comparison is written `==`"
 hint_words Comparison = codes "a comparison is written `==`"
 hint_words Assignment = codes "an assignment is written `=`"
+hint_words OneByOne = codes "a declaration has one name, and a statement one assignment: end it with `;`, and begin another"
 hint_words Call = codes "a call is no statement: give its value to a variable, as in `v = f(..);`"
-hint_words Else = codes "behind `else` stands `{`: `else if` is written `else { if (..) { .. } }`"
+hint_words Prototype = codes "a function is declared with its statements, as in `int f(int a) { return a; }`"
+hint_words LeaveOut = codes "leave this out: behind it the program goes on"
+hint_words EmptyCondition = codes "behind a condition stands `{`: leave this `;` out"
+hint_words BodyMissing = codes "the statements of an agent stand in a `body { .. }` behind its variables, and none is here"
+hint_words Extra = codes "this bracket closes none that is open: leave it out"
 hint_words Braces = codes "statements under a condition stand in braces, also where there is one alone"
 hint_words After = codes "behind `after` stands a number, that of the dates by which the message is delayed, which may be 0"
 hint_words NoStatement = codes "there is no empty statement: leave this `;` out"
-hint_words Reserved = codes "this word is reserved, and can't be a name: choose another"
+hint_words Ended = codes "the agent or the function above ends before this: a `}` further up is one too many"
+hint_words Outside =
+    codes "a declaration begins with `clock`, `temporal`, `input`, `stream`, `agent` or `int`; statements stand in the `body` of an agent or in a function"
+hint_words NoBody = codes "the statements of an agent stand in `body { .. }`"
+hint_words BodyEnded = codes "the `body` of this agent ends before this: a `}` further up is one too many"
+hint_words SecondTick = codes "a program has one `tick`, which is its beginning: leave this one out"
+hint_words SecondBody = codes "an agent has one `body`: put all its statements into that"
+hint_words InsideAgent = codes "in an agent stand variables and arrays, and its `body`: put this declaration above the agent"
+hint_words Back = codes "`past` has a number behind the name, of how many dates back: `past(v, 0)` is the last one"
 hint_words Close = codes "a `}` is missing before this"
+hint_words ElseAlone = codes "an `else` stands directly behind the `}` of its `if`"
 hint_words Semicolon = codes "a `;` is missing before this"
+hint_words Missing = []
+hint_words LookName = codes "`past`, `ready` and `take` have a name alone in their brackets, as in `past(v, 0) + 1`"
+hint_words Cast = codes "there are no casts, and each value is an `int`: leave the type and its brackets out"
+hint_words ReservedCall =
+    codes "this word is reserved, and no function has it as its name: declare one of another name, as in `int larger(int a, int b) { .. }`"
+hint_words Reserved = codes "this word is reserved, and can't be a name: choose another"
+hint_words Brackets = codes "what is looked at stands in brackets: `past(v, 0)`, `ready(s)`, `take(s)`"
+hint_words NumberAlone = codes "here stands a number alone, and neither a name nor an expression"
+hint_words SemicolonAtEnd = codes "a `;` is missing before this"
+hint_words FormTick = codes "a program begins as in `tick 100;`, with the cycles of a tick"
+hint_words NoSemicolon = codes "behind `{`, `}` and `;` stands no `;`: leave this one out"
+hint_words FormClock = codes "a clock is declared as in `clock c = 10 * tick;`, or with a shift, as in `clock d = 5 * c + 2;`"
+hint_words FormTemporal = codes "a temporal variable is declared as in `temporal v of A on c = 0 depth 1;`"
+hint_words FormInput = codes "an input is declared as in `input x on c = 0 depth 1;`"
+hint_words FormStream = codes "a stream is declared as in `stream s to A keep 1 on c;`"
+hint_words FormAgent = codes "an agent is declared as in `agent A on c budget 90 { int n = 0; body { n = n + 1; advance 1 on c; } }`"
+hint_words FormInt =
+    codes "`int` begins a function, as in `int f(int a, int b) { return a; }`, a variable, as in `int n = 0;`, and in an agent an array, as in `int a[4];`"
+hint_words FormIf = codes "an `if` is written as in `if (v > 0) { v = 0; } else { v = 1; }`"
+hint_words FormWhile = codes "a loop is written as in `while (v > 0) max 10 { v = v - 1; }`"
+hint_words FormSend = codes "a message is sent as in `send v to s after 0 on c;`"
+hint_words FormAdvance = codes "time passes as in `advance 1 on c;`, with a budget as in `advance 1 on c budget 90;`"
+hint_words FormAssign = codes "a statement that begins with a name is an assignment, as in `v = 1;` or `a[0] = 1;`"

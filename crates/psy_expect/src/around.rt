@@ -1,23 +1,36 @@
 //! What stands around a place among tokens.
-ghost use Rattle.std.specs.Prelude.{◌≡◌, ◌≤◌, length};
+ghost use Rattle.std.specs.Prelude.{◌≡◌, ◌≤◌, ◌-◌, length, slice_get};
+ghost use Rattle.std.specs.List.{suffix_len};
 ghost use Rattle.std.specs.Option.{option_copied};
-ghost use Rattle.psy_expect.specs.Arounds.{around, is_for, is_joined, is_named_for, terminal_at};
+ghost use Rattle.psy_expect.specs.Arounds.{around, around_of, foreign_at, is_joined, is_sign_within, is_within};
+ghost use Rattle.psy_expect.specs.Arounds.{name_at, name_in, small_at, starter_at, terminal_at};
 
+use crate::foreign::{Foreign, foreign_of, small_of};
 use crate::terminal::{Terminal, terminal_of};
-use psy_tree::{Kind, Token};
+use psy_tree::{Kind, Sign, Token};
 
 /// What stands at a place among tokens, before it and behind it. Nothing stands there where the tokens end.
 #[derive(Clone, Copy, Debug, PartialEq, Eq)]
 pub struct Around {
+    /// With what the statement, the declaration or the head of a block begins to which the token before the place belongs.
+    pub starter: Option<Terminal>,
     pub before: Option<Terminal>,
     pub here: Option<Terminal>,
     pub behind: Option<Terminal>,
+    /// What stands behind that.
+    pub further: Option<Terminal>,
     /// Does the token here begin one byte behind that before it?
     pub is_joined_before: bool,
     /// Does the token behind it begin one byte behind that here?
     pub is_joined_behind: bool,
-    /// Is the token before it the name `for`?
-    pub is_behind_for: bool,
+    /// What word of another language the name before the place is.
+    pub foreign_before: Option<Foreign>,
+    /// The same of the name here.
+    pub foreign_here: Option<Foreign>,
+    /// The reserved word that the name before the place would be in small letters.
+    pub small_before: Option<Terminal>,
+    /// The same of the name here.
+    pub small_here: Option<Terminal>,
 }
 
 /// What stands around the place of this number.
@@ -26,16 +39,103 @@ pub fn stands_around(tokens: &[Token], at: usize) -> Around
     ensures { result ≡ around tokens.now at }
 {
     let (front, back) = tokens.split_at(at);
-    let before = front.last();
-    let here = back.first();
-    let behind = back.get(1);
+    around_of(
+        starter_at(front),
+        last_of(front),
+        token_at(back, 0),
+        token_at(back, 1),
+        token_at(back, 2),
+    )
+}
+
+// What stands around a place, by the tokens there.
+#[tactic(auto, unfolding(crate::specs::Arounds::around_of))]
+fn around_of(
+    starter: Option<Terminal>,
+    before: Option<&Token>,
+    here: Option<&Token>,
+    behind: Option<&Token>,
+    further: Option<&Token>,
+) -> Around
+    ensures { result ≡ around_of starter (option_copied before.entry) (option_copied here.entry) (option_copied behind.entry) (option_copied further.entry) }
+{
     Around {
+        starter,
         before: terminal_at(before),
         here: terminal_at(here),
         behind: terminal_at(behind),
+        further: terminal_at(further),
         is_joined_before: is_joined(before, here),
         is_joined_behind: is_joined(here, behind),
-        is_behind_for: is_for(before),
+        foreign_before: foreign_at(before),
+        foreign_here: foreign_at(here),
+        small_before: small_at(before),
+        small_here: small_at(here),
+    }
+}
+
+// The last of some tokens.
+fn last_of(front: &[Token]) -> Option<&Token>
+    ensures { option_copied result ≡ slice_get front.now (length front.now - 1) }
+{
+    token_at(front, front.len().saturating_sub(1))
+}
+
+// What word of another language a name is.
+fn foreign_at(token: Option<&Token>) -> Option<Foreign>
+    ensures { result ≡ foreign_at (option_copied token.entry) }
+{
+    foreign_of(name_at(token))
+}
+
+// The reserved word that a name would be in small letters.
+fn small_at(token: Option<&Token>) -> Option<Terminal>
+    ensures { result ≡ small_at (option_copied token.entry) }
+{
+    small_of(name_at(token))
+}
+
+// The first of the tokens behind the last `;`, `{` or `}`.
+#[tactic(auto, unfolding(crate::specs::Arounds::starter_at))]
+fn starter_at(front: &[Token]) -> Option<Terminal>
+    ensures { result ≡ starter_at front.now }
+{
+    terminal_at(token_at(front, start_of(front)))
+}
+
+fn token_at(tokens: &[Token], at: usize) -> Option<&Token>
+    ensures { option_copied result ≡ slice_get tokens.now at }
+{
+    tokens.get(at)
+}
+
+// How many tokens stand up to the last `;`, `{` or `}`, and with it.
+fn start_of(front: &[Token]) -> usize
+    ensures { result ≡ length front.now - suffix_len is_within front.now }
+{
+    let mut start = front.len();
+    'back: while start > 0 && is_within(&front[start - 1]) {
+        start -= 1;
+    }
+    start
+}
+
+#[tactic(auto, unfolding(crate::specs::Arounds::is_within))]
+fn is_within(token: &Token) -> bool
+    ensures { result ≡ is_within token.now }
+{
+    match &token.kind {
+        Kind::Sign(sign) => is_sign_within(*sign),
+        _ => true,
+    }
+}
+
+fn is_sign_within(sign: Sign) -> bool
+    ensures { result ≡ is_sign_within sign }
+{
+    match sign {
+        Sign::Semicolon | Sign::OpenBrace | Sign::CloseBrace => false,
+        _ => true,
     }
 }
 
@@ -57,20 +157,21 @@ fn is_joined(one: Option<&Token>, next: Option<&Token>) -> bool
     }
 }
 
-fn is_for(token: Option<&Token>) -> bool
-    ensures { result ≡ is_for (option_copied token.entry) }
+// The bytes of a name; none where there is no name.
+fn name_at(token: Option<&Token>) -> &[u8]
+    ensures { result.now ≡ name_at (option_copied token.entry) }
 {
     match token {
-        Some(token) => is_named_for(&token.kind),
-        None => false,
+        Some(token) => name_in(&token.kind),
+        None => b"",
     }
 }
 
-fn is_named_for(kind: &Kind) -> bool
-    ensures { result ≡ is_named_for kind.now }
+fn name_in(kind: &Kind) -> &[u8]
+    ensures { result.now ≡ name_in kind.now }
 {
     match kind {
-        Kind::Name(name) => name.bytes() == b"for".as_slice(),
-        _ => false,
+        Kind::Name(name) => name.bytes(),
+        _ => b"",
     }
 }

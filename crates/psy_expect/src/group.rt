@@ -72,7 +72,8 @@ const OPERATOR: [Terminal; 18] = [
     Terminal::Sign(Sign::BarBar),
 ];
 
-fn members(group: Group) -> &'static [Terminal]
+/// The terminals of a group.
+pub fn members(group: Group) -> &'static [Terminal]
     ensures { result.now ≡ members group }
 {
     match group {

@@ -1,228 +1,381 @@
 //! What is told of common slips.
 ghost use Rattle.std.specs.Prelude.{◌≡◌};
-ghost use Rattle.psy_expect.specs.Hints.{fits, hint_of, hint_words, is, is_among, is_nothing, is_reserved, is_twice};
+ghost use Rattle.psy_expect.specs.Hints.{hint_of, hint_words};
 
 use crate::around::Around;
-use crate::group::{has, same};
+use crate::fits::fits;
 use crate::terminal::Terminal;
-use psy_tree::{Sign, Word};
 
 /// A common slip, by what is told of it.
 #[derive(Clone, Copy, Debug, PartialEq, Eq)]
 pub enum Hint {
+    /// A function inside an agent or another function.
+    FunctionInside,
     /// A variable is declared among statements.
     DeclarationInBody,
-    /// `int8` and its kin are no types.
+    /// A variable is declared behind a body, or a function inside an agent.
+    DeclarationBehindBody,
+    /// `int8`, `float` and their kin are no types.
     Width,
+    /// `const`, `static` and their kin.
+    Modifier,
+    /// A function without a value.
+    Void,
+    /// A function begins with another word.
+    FunctionWord,
     /// A loop in the manner of C.
     NoFor,
+    /// Another loop than `while`.
+    OtherLoop,
+    /// `break` and its kin.
+    Jump,
+    /// `switch` and its kin.
+    Switch,
+    /// `else if`, `elif` and their kin.
+    ElseIf,
+    /// `else` without `{`.
+    Else,
+    /// A reserved word in other case.
+    SmallLetters,
+    /// `then` behind a condition.
+    Then,
+    /// `times` for `*`.
+    Times,
+    /// Operators as words.
+    Logical,
+    /// Another word that lets time pass.
+    Wait,
+    /// A word that prints.
+    Print,
+    /// A value as a statement.
+    ValueAlone,
+    /// `tick` where a clock is named.
+    TickAsClock,
     /// `++` or `--`.
     Increment,
     /// `+=` and its kin.
     Compound,
     /// `=<` or `=>`.
     LessOrEqual,
+    /// `=!`
+    NotEqual,
+    /// `<>`.
+    Unlike,
+    /// `**`.
+    Power,
+    /// A plus before an operand.
+    UnaryPlus,
+    /// A `]` that is missing.
+    Square,
+    /// A variable outside agents and functions.
+    Global,
+    /// A variable without a first value.
+    NoValue,
+    /// A name as a statement.
+    NameAlone,
+    /// `return` without a value.
+    NoResult,
+    /// An assignment as a value.
+    Chain,
     /// `=` where a comparison is meant.
     Comparison,
     /// `==` where an assignment is meant.
     Assignment,
+    /// Two names in one declaration, or two assignments in one statement.
+    OneByOne,
     /// A call as a statement.
     Call,
-    /// `else` without `{`.
-    Else,
+    /// A function without its statements.
+    Prototype,
+    /// `past`, `ready` or `take` without brackets.
+    Brackets,
+    /// A name or an expression where a number stands.
+    NumberAlone,
+    /// A comma, or a type, that is too much.
+    LeaveOut,
+    /// A `;` behind a condition.
+    EmptyCondition,
+    /// An agent without `body`.
+    BodyMissing,
+    /// A bracket that closes none.
+    Extra,
     /// A condition whose statements have no `{`.
     Braces,
     /// `after` without a number.
     After,
     /// A `;` too many.
     NoStatement,
-    /// A reserved word as a name.
-    Reserved,
+    /// A statement behind the `}` of an agent or a function.
+    Ended,
+    /// A statement outside agents and functions.
+    Outside,
+    /// A statement of an agent outside its body.
+    NoBody,
+    /// A statement behind a body.
+    BodyEnded,
+    /// A second `tick`.
+    SecondTick,
+    /// A second `body`.
+    SecondBody,
+    /// A declaration of the whole program inside an agent.
+    InsideAgent,
+    /// `past` without a number.
+    Back,
     /// A `}` that is missing.
     Close,
+    /// An `else` that belongs to no `if`.
+    ElseAlone,
     /// A `;` that is missing.
     Semicolon,
+    /// Something else that is missing.
+    Missing,
+    /// An expression where `past`, `ready` and `take` want a name.
+    LookName,
+    /// A type in brackets before a value.
+    Cast,
+    /// A reserved word that is called.
+    ReservedCall,
+    /// A reserved word as a name.
+    Reserved,
+    /// A `;` that is missing where more is wrong.
+    SemicolonAtEnd,
+    /// The form of the first line.
+    FormTick,
+    /// A `;` behind a bracket or a `;`.
+    NoSemicolon,
+    /// The form of a clock.
+    FormClock,
+    /// The form of a temporal variable.
+    FormTemporal,
+    /// The form of an input.
+    FormInput,
+    /// The form of a stream.
+    FormStream,
+    /// The form of an agent.
+    FormAgent,
+    /// The forms of what `int` begins.
+    FormInt,
+    /// The form of an `if`.
+    FormIf,
+    /// The form of a loop.
+    FormWhile,
+    /// The form of a message.
+    FormSend,
+    /// The form of an advance.
+    FormAdvance,
+    /// The form of an assignment.
+    FormAssign,
 }
 
-const HINTS: [Hint; 16] = [
+const HINTS: [Hint; 78] = [
+    Hint::FunctionInside,
     Hint::DeclarationInBody,
+    Hint::DeclarationBehindBody,
     Hint::Width,
+    Hint::Modifier,
+    Hint::Void,
+    Hint::FunctionWord,
     Hint::NoFor,
+    Hint::OtherLoop,
+    Hint::Jump,
+    Hint::Switch,
+    Hint::ElseIf,
+    Hint::Else,
+    Hint::SmallLetters,
+    Hint::Then,
+    Hint::Times,
+    Hint::Logical,
+    Hint::Wait,
+    Hint::Print,
+    Hint::ValueAlone,
+    Hint::TickAsClock,
     Hint::Increment,
     Hint::Compound,
     Hint::LessOrEqual,
+    Hint::NotEqual,
+    Hint::Unlike,
+    Hint::Power,
+    Hint::UnaryPlus,
+    Hint::Square,
+    Hint::Global,
+    Hint::NoValue,
+    Hint::NameAlone,
+    Hint::NoResult,
+    Hint::Chain,
     Hint::Comparison,
     Hint::Assignment,
+    Hint::OneByOne,
     Hint::Call,
-    Hint::Else,
+    Hint::Prototype,
+    Hint::Brackets,
+    Hint::NumberAlone,
+    Hint::LeaveOut,
+    Hint::EmptyCondition,
+    Hint::BodyMissing,
+    Hint::Extra,
     Hint::Braces,
     Hint::After,
     Hint::NoStatement,
-    Hint::Reserved,
+    Hint::Ended,
+    Hint::Outside,
+    Hint::NoBody,
+    Hint::BodyEnded,
+    Hint::SecondTick,
+    Hint::SecondBody,
+    Hint::InsideAgent,
+    Hint::Back,
     Hint::Close,
+    Hint::ElseAlone,
     Hint::Semicolon,
+    Hint::FormTick,
+    Hint::NoSemicolon,
+    Hint::Missing,
+    Hint::LookName,
+    Hint::Cast,
+    Hint::ReservedCall,
+    Hint::Reserved,
+    Hint::SemicolonAtEnd,
+    Hint::FormClock,
+    Hint::FormTemporal,
+    Hint::FormInput,
+    Hint::FormStream,
+    Hint::FormAgent,
+    Hint::FormInt,
+    Hint::FormIf,
+    Hint::FormWhile,
+    Hint::FormSend,
+    Hint::FormAdvance,
+    Hint::FormAssign,
 ];
 
-const WIDTHS: [Terminal; 4] = [
-    Terminal::Word(Word::Int8),
-    Terminal::Word(Word::Int16),
-    Terminal::Word(Word::Int32),
-    Terminal::Word(Word::Int64),
-];
-
-const HEADS: [Terminal; 5] = [
-    Terminal::Word(Word::Agent),
-    Terminal::Word(Word::Clock),
-    Terminal::Word(Word::Input),
-    Terminal::Word(Word::Stream),
-    Terminal::Word(Word::Temporal),
-];
-
-const JOINED: [Terminal; 8] = [
-    Terminal::Sign(Sign::Plus),
-    Terminal::Sign(Sign::Minus),
-    Terminal::Sign(Sign::Star),
-    Terminal::Sign(Sign::Slash),
-    Terminal::Sign(Sign::Percent),
-    Terminal::Sign(Sign::Amp),
-    Terminal::Sign(Sign::Caret),
-    Terminal::Sign(Sign::Bar),
-];
-
-const ASSIGN: Terminal = Terminal::Sign(Sign::Assign);
-
-const IF: Terminal = Terminal::Word(Word::If);
-
-/// The first rule that fits a place with this around it, where these terminals may stand.
-pub fn hint_of(around: Around, told: &[Terminal]) -> Option<Hint>
-    ensures { result ≡ hint_of around told.now }
+/// The first rule that fits a place with this around it, where these terminals may stand, the program goes on where one of those is put before it, or where
+/// it is left out.
+pub fn hint_of(
+    around: Around,
+    told: &[Terminal],
+    mends: &[Terminal],
+    is_extra: bool,
+) -> Option<Hint>
+    ensures { result ≡ hint_of around told.now mends.now is_extra }
 {
-    HINTS.iter().copied().find(|hint| fits(*hint, around, told))
+    HINTS
+        .iter()
+        .copied()
+        .find(|hint| fits(*hint, around, told, mends, is_extra))
 }
 
-fn fits(hint: Hint, a: Around, told: &[Terminal]) -> bool
-    ensures { result ≡ fits hint a told.now }
-{
-    match hint {
-        Hint::DeclarationInBody => is(a.here, Terminal::Word(Word::Int)) && has(told, IF),
-        Hint::Width => is_among(a.here, &WIDTHS) && has(told, Terminal::Word(Word::Int)),
-        Hint::NoFor => a.is_behind_for && is(a.here, Terminal::Sign(Sign::OpenRound)),
-        Hint::Increment => {
-            is_twice(a, Terminal::Sign(Sign::Plus), told)
-                || is_twice(a, Terminal::Sign(Sign::Minus), told)
-        }
-        Hint::Compound => {
-            is_among(a.here, &JOINED)
-                && is(a.behind, ASSIGN)
-                && a.is_joined_behind
-                && has(told, ASSIGN)
-        }
-        Hint::LessOrEqual => {
-            is(a.here, ASSIGN)
-                && (is(a.behind, Terminal::Sign(Sign::Less))
-                    || is(a.behind, Terminal::Sign(Sign::Greater)))
-                && a.is_joined_behind
-                && has(told, Terminal::Sign(Sign::Equal))
-        }
-        Hint::Comparison => is(a.here, ASSIGN) && has(told, Terminal::Sign(Sign::Equal)),
-        Hint::Assignment => is(a.here, Terminal::Sign(Sign::Equal)) && has(told, ASSIGN),
-        Hint::Call => {
-            is(a.before, Terminal::Name)
-                && is(a.here, Terminal::Sign(Sign::OpenRound))
-                && has(told, ASSIGN)
-        }
-        Hint::Else => {
-            is(a.before, Terminal::Word(Word::Else)) && has(told, Terminal::Sign(Sign::OpenBrace))
-        }
-        Hint::Braces => {
-            is(a.before, Terminal::Sign(Sign::CloseRound))
-                && has(told, Terminal::Sign(Sign::OpenBrace))
-        }
-        Hint::After => is(a.before, Terminal::Word(Word::After)) && has(told, Terminal::Number),
-        Hint::NoStatement => is(a.here, Terminal::Sign(Sign::Semicolon)) && has(told, IF),
-        Hint::Reserved => {
-            is_reserved(a.here)
-                && has(told, Terminal::Name)
-                && (!has(told, IF)
-                    || is(a.behind, ASSIGN)
-                    || is(a.behind, Terminal::Sign(Sign::OpenSquare)))
-        }
-        Hint::Close => {
-            (is_nothing(a.here) || is_among(a.here, &HEADS))
-                && has(told, Terminal::Sign(Sign::CloseBrace))
-        }
-        Hint::Semicolon => {
-            (is_nothing(a.here)
-                || is_reserved(a.here)
-                || is(a.here, Terminal::Name)
-                || is(a.here, Terminal::Sign(Sign::CloseBrace)))
-                && has(told, Terminal::Sign(Sign::Semicolon))
-        }
-    }
-}
-
-// The sign stands here and directly behind it, where an assignment may; or here and directly before, as one more of its kind.
-fn is_twice(a: Around, sign: Terminal, told: &[Terminal]) -> bool
-    ensures { result ≡ is_twice a sign told.now }
-{
-    is(a.here, sign)
-        && ((is(a.behind, sign) && a.is_joined_behind && has(told, ASSIGN))
-            || (is(a.before, sign) && a.is_joined_before))
-}
-
-fn is(there: Option<Terminal>, terminal: Terminal) -> bool
-    ensures { result ≡ is there terminal }
-{
-    match there {
-        Some(here) => same(here, terminal),
-        None => false,
-    }
-}
-
-fn is_among(there: Option<Terminal>, terminals: &[Terminal]) -> bool
-    ensures { result ≡ is_among there terminals.now }
-{
-    match there {
-        Some(here) => has(terminals, here),
-        None => false,
-    }
-}
-
-fn is_reserved(there: Option<Terminal>) -> bool
-    ensures { result ≡ is_reserved there }
-{
-    matches!(there, Some(Terminal::Word(_)))
-}
-
-fn is_nothing(there: Option<Terminal>) -> bool
-    ensures { result ≡ is_nothing there }
-{
-    there.is_none()
-}
-
-/// What is told where the rule fits.
+/// What is told where the rule fits; nothing of what is missing, which is told by its own words.
 pub fn hint_words(hint: Hint) -> &'static [u8]
     ensures { result.now ≡ hint_words hint }
 {
     match hint {
+        Hint::FunctionInside =>
+            b"a function stands outside of agents and of other functions: put it above, or add the `}` that is missing further up",
         Hint::DeclarationInBody =>
             b"variables are declared before the statements: those of an agent before `body`, those of a function at its head",
+        Hint::DeclarationBehindBody =>
+            b"behind `body` nothing stands in an agent: variables are declared before it; before a function a `}` is missing",
         Hint::Width => b"the only type is `int`",
+        Hint::Modifier =>
+            b"there is no `const`, `static` or the like: leave it out; an agent's variables keep their values from action to action",
+        Hint::Void => b"each function gives a value: write `int f(..) { .. return ..; }`",
+        Hint::FunctionWord => b"a function begins with `int`, as in `int f(int a) { return a; }`",
         Hint::NoFor => b"there is no `for`: count in a `while (..) max N { .. }`",
+        Hint::OtherLoop => b"the only loop is `while (..) max N { .. }`",
+        Hint::Jump =>
+            b"there is no `break` and no `continue`: put what ends a loop into its condition",
+        Hint::Switch => b"there is no `switch`: write `if (..) { .. } else { .. }`",
+        Hint::ElseIf => b"behind `else` stands `{`: `else if` is written `else { if (..) { .. } }`",
+        Hint::Else => b"statements under `else` stand in braces, also where there is one alone",
+        Hint::SmallLetters => b"reserved words are written in small letters",
+        Hint::Then => b"there is no `then`: behind the condition stands `{`",
+        Hint::Times => b"the sign of a product is `*`, as in `clock c = 10 * tick;`",
+        Hint::Logical => b"the operators are written `&&`, `||`, `!` and `%`",
+        Hint::Wait => b"time passes at `advance`, as in `advance 1 on c;`",
+        Hint::Print =>
+            b"there is no `print`: a run writes its temporal variables and messages, so give the value to a temporal variable",
+        Hint::ValueAlone => b"a value is no statement: give it to a variable, as in `n = take(s);`",
+        Hint::TickAsClock =>
+            b"`tick` is no clock by itself: declare one, as in `clock each = 1 * tick;`",
         Hint::Increment => b"there is no `++` and no `--`: write `v = v + 1;`",
         Hint::Compound => b"there is no `+=`, nor its kin: write `v = v + ..;`",
         Hint::LessOrEqual => b"`<=` and `>=` are written with the `=` behind",
+        Hint::NotEqual => b"`!=` is written with the `=` behind",
+        Hint::Unlike => b"that two values differ is written `!=`",
+        Hint::Power => b"there is no `**`: write a product",
+        Hint::UnaryPlus => b"there is no `+` before a value: leave it out",
+        Hint::Square => b"a `]` is missing before this",
+        Hint::Global =>
+            b"a variable stands inside an agent or a function; what agents share is declared as in `temporal v of A on c = 0 depth 1;`",
+        Hint::NoValue => b"a variable has a first value, as in `int n = 0;`",
+        Hint::NameAlone => b"a name is no statement: assign to it, as in `v = 1;`",
+        Hint::NoResult =>
+            b"a function gives a value, which stands behind `return`, as in `return 0;`",
+        Hint::Chain =>
+            b"an assignment has no value: write a statement for each variable; a comparison is written `==`",
         Hint::Comparison => b"a comparison is written `==`",
         Hint::Assignment => b"an assignment is written `=`",
+        Hint::OneByOne =>
+            b"a declaration has one name, and a statement one assignment: end it with `;`, and begin another",
         Hint::Call => b"a call is no statement: give its value to a variable, as in `v = f(..);`",
-        Hint::Else => b"behind `else` stands `{`: `else if` is written `else { if (..) { .. } }`",
+        Hint::Prototype =>
+            b"a function is declared with its statements, as in `int f(int a) { return a; }`",
+        Hint::LeaveOut => b"leave this out: behind it the program goes on",
+        Hint::EmptyCondition => b"behind a condition stands `{`: leave this `;` out",
+        Hint::BodyMissing =>
+            b"the statements of an agent stand in a `body { .. }` behind its variables, and none is here",
+        Hint::Extra => b"this bracket closes none that is open: leave it out",
         Hint::Braces =>
             b"statements under a condition stand in braces, also where there is one alone",
         Hint::After =>
             b"behind `after` stands a number, that of the dates by which the message is delayed, which may be 0",
         Hint::NoStatement => b"there is no empty statement: leave this `;` out",
-        Hint::Reserved => b"this word is reserved, and can't be a name: choose another",
+        Hint::Ended =>
+            b"the agent or the function above ends before this: a `}` further up is one too many",
+        Hint::Outside =>
+            b"a declaration begins with `clock`, `temporal`, `input`, `stream`, `agent` or `int`; statements stand in the `body` of an agent or in a function",
+        Hint::NoBody => b"the statements of an agent stand in `body { .. }`",
+        Hint::BodyEnded =>
+            b"the `body` of this agent ends before this: a `}` further up is one too many",
+        Hint::SecondTick => b"a program has one `tick`, which is its beginning: leave this one out",
+        Hint::SecondBody => b"an agent has one `body`: put all its statements into that",
+        Hint::InsideAgent =>
+            b"in an agent stand variables and arrays, and its `body`: put this declaration above the agent",
+        Hint::Back =>
+            b"`past` has a number behind the name, of how many dates back: `past(v, 0)` is the last one",
         Hint::Close => b"a `}` is missing before this",
+        Hint::ElseAlone => b"an `else` stands directly behind the `}` of its `if`",
         Hint::Semicolon => b"a `;` is missing before this",
+        Hint::Missing => b"",
+        Hint::LookName =>
+            b"`past`, `ready` and `take` have a name alone in their brackets, as in `past(v, 0) + 1`",
+        Hint::Cast =>
+            b"there are no casts, and each value is an `int`: leave the type and its brackets out",
+        Hint::ReservedCall =>
+            b"this word is reserved, and no function has it as its name: declare one of another name, as in `int larger(int a, int b) { .. }`",
+        Hint::Reserved => b"this word is reserved, and can't be a name: choose another",
+        Hint::Brackets =>
+            b"what is looked at stands in brackets: `past(v, 0)`, `ready(s)`, `take(s)`",
+        Hint::NumberAlone => b"here stands a number alone, and neither a name nor an expression",
+        Hint::SemicolonAtEnd => b"a `;` is missing before this",
+        Hint::FormTick => b"a program begins as in `tick 100;`, with the cycles of a tick",
+        Hint::NoSemicolon => b"behind `{`, `}` and `;` stands no `;`: leave this one out",
+        Hint::FormClock =>
+            b"a clock is declared as in `clock c = 10 * tick;`, or with a shift, as in `clock d = 5 * c + 2;`",
+        Hint::FormTemporal =>
+            b"a temporal variable is declared as in `temporal v of A on c = 0 depth 1;`",
+        Hint::FormInput => b"an input is declared as in `input x on c = 0 depth 1;`",
+        Hint::FormStream => b"a stream is declared as in `stream s to A keep 1 on c;`",
+        Hint::FormAgent =>
+            b"an agent is declared as in `agent A on c budget 90 { int n = 0; body { n = n + 1; advance 1 on c; } }`",
+        Hint::FormInt =>
+            b"`int` begins a function, as in `int f(int a, int b) { return a; }`, a variable, as in `int n = 0;`, and in an agent an array, as in `int a[4];`",
+        Hint::FormIf => b"an `if` is written as in `if (v > 0) { v = 0; } else { v = 1; }`",
+        Hint::FormWhile => b"a loop is written as in `while (v > 0) max 10 { v = v - 1; }`",
+        Hint::FormSend => b"a message is sent as in `send v to s after 0 on c;`",
+        Hint::FormAdvance =>
+            b"time passes as in `advance 1 on c;`, with a budget as in `advance 1 on c budget 90;`",
+        Hint::FormAssign =>
+            b"a statement that begins with a name is an assignment, as in `v = 1;` or `a[0] = 1;`",
     }
 }

@@ -3,17 +3,20 @@
 #![tactic(auto)]
 
 mod around;
+mod fits;
 mod follow;
+mod foreign;
 mod group;
 mod hint;
 pub mod laws;
+mod mend;
 mod phrase;
 mod slip;
 mod terminal;
 mod viable;
 
 pub use around::Around;
-pub use follow::what_may_follow;
+pub use foreign::Foreign;
 pub use group::Group;
 pub use hint::Hint;
 pub use phrase::{Phrase, phrases};

@@ -1,17 +1,26 @@
 //! What is written of a token with which no program goes on.
-ghost use Rattle.std.specs.Prelude.{◌≡◌, ◌++◌, ◌≤◌, IfOk, OnOk, Some, length, take};
+ghost use Rattle.std.specs.Prelude.{◌≡◌, ◌+◌, ◌++◌, ◌≤◌, IfOk, OnOk, length, take};
 ghost use Rattle.psy_base.specs.declared.limits.TheConstants.{FILE_BYTES};
-ghost use Rattle.psy_expect.specs.Advice.{IsAdvice, Tells, hint_line, may_line, may_words};
+ghost use Rattle.psy_expect.specs.Advice.{IsAdvice, IsTried, advice_told, hint_line, may_line, may_words, missing_words, told_hint, words_line};
 
-use crate::around::stands_around;
-use crate::follow::what_may_follow;
+use crate::around::{Around, stands_around};
+use crate::follow::followers;
 use crate::hint::{Hint, hint_of, hint_words};
+use crate::mend::{cut_to, goes_on_behind, menders};
 use crate::phrase::{Phrase, add_listed, phrases};
-use crate::terminal::Terminal;
+use crate::terminal::{EVERY, Terminal};
 use psy_base::limits::FILE_BYTES;
 use psy_base::{Items, Memory};
 use psy_tree::Token;
 use std::alloc::{AllocError, Global};
+
+// What was tried at a place: which terminals may stand there, which of those mend it, and whether the token there is one too many.
+#[derive(Drop)]
+pub struct Tried {
+    pub told: Vec<Terminal>,
+    pub mends: Vec<Terminal>,
+    pub is_extra: bool,
+}
 
 /// Advice for the place of that number among tokens: what may stand there, and a hint where a common slip stands there. The only error is
 /// want of memory.
@@ -21,35 +30,50 @@ pub fn advice(alloc: Global, tokens: Items<Token>, at: usize) -> Result<Vec<u8>,
     ensures { IfOk result (λ text. IsAdvice tokens at text.items) }
 {
     let around = stands_around(tokens.as_slice(), at);
-    let told = told_at(alloc, tokens, at)?;
-    let phrases = phrases(alloc, told.as_slice())?;
+    let mut front = tokens;
+    cut_to(&mut front, at);
+    let tried = tried_at(alloc, front, around)?;
     let mut out = Vec::new(alloc);
-    add_may_line(&mut out, phrases.as_slice())?;
-    add_hint_line(&mut out, hint_of(around, told.as_slice()))?;
+    add_advice(alloc, &mut out, around, &tried)?;
     Ok(out)
 }
 
-// What may stand at that place: of one behind as many tokens as a text may have bytes nothing is told.
-fn told_at(alloc: Global, tokens: Items<Token>, at: usize) -> Result<Vec<Terminal>, Memory>
-    requires { at ≤ length tokens }
-    ensures { IfOk result (λ told. Tells tokens at told.items) }
+// What was tried behind these tokens: behind nearly as many as a text may have bytes nothing is.
+fn tried_at(alloc: Global, front: Items<Token>, around: Around) -> Result<Tried, Memory>
+    ensures { IfOk result (λ tried. IsTried front around tried.told.items tried.mends.items tried.is_extra) }
 {
-    if at >= FILE_BYTES {
-        return Ok(Vec::new(alloc));
+    let mut front = front;
+    if front.len() + 3 > FILE_BYTES {
+        return Ok(Tried {
+            told: Vec::new(alloc),
+            mends: Vec::new(alloc),
+            is_extra: false,
+        });
     }
-    what_may_follow(alloc, first_of(tokens, at))
+    let told = followers(alloc, &mut front, &EVERY)?;
+    let mends = menders(alloc, &mut front, around, told.as_slice())?;
+    let is_extra = goes_on_behind(alloc, &mut front, around)?;
+    Ok(Tried {
+        told,
+        mends,
+        is_extra,
+    })
 }
 
-// The first so many of these tokens.
-fn first_of(tokens: Items<Token>, many: usize) -> Items<Token>
-    requires { many ≤ length tokens }
-    ensures { result ≡ take many tokens }
+fn add_advice(alloc: Global, out: &mut Vec<u8>, around: Around, tried: &Tried) -> Result<(), Memory>
+    ensures { OnOk result (out.new.items ≡ out.old.items ++ advice_told around tried.now.told.items tried.now.mends.items tried.now.is_extra) }
 {
-    let mut front = tokens;
-    'each: while front.len() > many {
-        front.pop();
-    }
-    front
+    let told = tried.told.as_slice();
+    let mends = tried.mends.as_slice();
+    let may = phrases(alloc, told)?;
+    add_may_line(out, may.as_slice())?;
+    let missing = phrases(alloc, mends)?;
+    add_hint_line(
+        out,
+        hint_of(around, told, mends, tried.is_extra),
+        missing.as_slice(),
+    )?;
+    Ok(())
 }
 
 fn add_may_line(out: &mut Vec<u8>, told: &[Phrase]) -> Result<(), AllocError>
@@ -71,20 +95,43 @@ fn add_may_words(out: &mut Vec<u8>, told: &[Phrase]) -> Result<(), AllocError>
     Ok(())
 }
 
-fn add_hint_line(out: &mut Vec<u8>, hint: Option<Hint>) -> Result<(), AllocError>
-    ensures { OnOk result (out.new.items ≡ out.old.items ++ hint_line hint) }
+fn add_hint_line(
+    out: &mut Vec<u8>,
+    hint: Option<Hint>,
+    missing: &[Phrase],
+) -> Result<(), AllocError>
+    ensures { OnOk result (out.new.items ≡ out.old.items ++ hint_line hint missing.now) }
 {
     match hint {
         None => Ok(()),
-        Some(hint) => add_hint(out, hint),
+        Some(hint) => add_hint(out, hint, missing),
     }
 }
 
-fn add_hint(out: &mut Vec<u8>, hint: Hint) -> Result<(), AllocError>
-    ensures { OnOk result (out.new.items ≡ out.old.items ++ hint_line (Some hint)) }
+fn add_hint(out: &mut Vec<u8>, hint: Hint, missing: &[Phrase]) -> Result<(), AllocError>
+    ensures { OnOk result (out.new.items ≡ out.old.items ++ told_hint hint missing.now) }
+{
+    if hint == Hint::Missing {
+        add_missing(out, missing)
+    } else {
+        add_words(out, hint_words(hint))
+    }
+}
+
+fn add_words(out: &mut Vec<u8>, words: &[u8]) -> Result<(), AllocError>
+    ensures { OnOk result (out.new.items ≡ out.old.items ++ words_line words.now) }
 {
     out.extend_from_slice(b"hint: ")?;
-    out.extend_from_slice(hint_words(hint))?;
+    out.extend_from_slice(words)?;
     out.push(b'\n')?;
+    Ok(())
+}
+
+fn add_missing(out: &mut Vec<u8>, missing: &[Phrase]) -> Result<(), AllocError>
+    ensures { OnOk result (out.new.items ≡ out.old.items ++ missing_words missing.now) }
+{
+    out.extend_from_slice(b"hint: ")?;
+    add_listed(out, missing)?;
+    out.extend_from_slice(b" is missing before this\n")?;
     Ok(())
 }

@@ -1,6 +1,6 @@
 //! The terminals of the grammar.
 ghost use Rattle.std.specs.Prelude.{◌≡◌, IfOk};
-ghost use Rattle.psy_expect.specs.Terminals.{terminal_of};
+ghost use Rattle.psy_expect.specs.Terminals.{stand_in, terminal_of};
 
 use psy_base::{Memory, Text};
 use psy_tree::{Kind, Sign, Token, Word};
@@ -80,9 +80,10 @@ pub const EVERY: [Terminal; 61] = [
     Terminal::Sign(Sign::Bang),
 ];
 
-/// A token of this terminal. The only error is want of memory.
+/// A token of this terminal: the name `x` for any name, and 1 for any number. The only error is want of memory.
 pub fn token_of(alloc: Global, terminal: Terminal) -> Result<Token, Memory>
-    ensures { IfOk result (λ token. terminal_of token.kind ≡ terminal) }
+    ensures is { IfOk result (λ token. terminal_of token.kind ≡ terminal) }
+    ensures token { IfOk result (λ token. token ≡ stand_in terminal) }
 {
     let kind = match terminal {
         Terminal::Word(word) => Kind::Word(word),

@@ -9,9 +9,14 @@ use Rattle.psy_tree.specs.Parts.{agent_at}
 use Rattle.psy_listing.specs.Instructions.{instr_text}
 use Rattle.psy_listing.specs.Straight.{straight_way}
 
--- The head line of a point
-abbrev pub head_line : List ℕ → ℕ → ℕ → List ℕ
-head_line agent point place = codes "agent " ++ agent ++ codes " point " ++ decimal point ++ codes " at " ++ decimal place ++ codes "\n"
+-- The head line of a point: its agent, its number, its place, and its line in the program's text
+abbrev pub head_line : List ℕ → ℕ → ℕ → List ℕ → List ℕ
+head_line agent point place line =
+    codes "agent " ++ agent ++ codes " point " ++ decimal point ++ codes " at " ++ decimal place ++ codes " line " ++ line ++ codes "\n"
+
+-- The line of a point, of lines that are told agent by agent
+abbrev pub line_of : List (List (List ℕ)) → ℕ → ℕ → List ℕ
+line_of lines agent point = get_or (get_or lines agent []) point []
 
 -- The instruction at a place, where there is one
 abbrev pub at_text : Whole → Option Instr → List ℕ
@@ -25,16 +30,16 @@ step_text unit instrs places number =
     codes "  " ++ decimal number ++ codes " at " ++ decimal place ++ codes ": " ++ at_text unit (slice_get instrs place) ++ codes "\n"
 
 -- A point of an agent: its head line, and the straight way from its place, numbered from 0
-abbrev pub point_text : Whole → Code → ℕ → ℕ → List ℕ
-point_text unit code agent point =
+abbrev pub point_text : Whole → Code → List (List (List ℕ)) → ℕ → ℕ → List ℕ
+point_text unit code lines agent point =
     let places = straight_way code.instrs (place_of code agent point) in
-    head_line (agent_at unit agent).name point (place_of code agent point)
+    head_line (agent_at unit agent).name point (place_of code agent point) (line_of lines agent point)
     ++ flat_map (step_text unit code.instrs places) (range_with_len 0 (length places))
 
 -- The points of an agent
-abbrev pub agent_text : Whole → Code → ℕ → List ℕ
-agent_text unit code agent = flat_map (point_text unit code agent) (range_with_len 0 (length (code_of code agent).points))
+abbrev pub agent_text : Whole → Code → List (List (List ℕ)) → ℕ → List ℕ
+agent_text unit code lines agent = flat_map (point_text unit code lines agent) (range_with_len 0 (length (code_of code agent).points))
 
--- The points of all agents
-abbrev pub listing_of : Whole → Code → List ℕ
-listing_of unit code = flat_map (agent_text unit code) (range_with_len 0 (length unit.agents))
+-- The points of all agents, with their lines in the program's text
+abbrev pub listing_of : Whole → Code → List (List (List ℕ)) → List ℕ
+listing_of unit code lines = flat_map (agent_text unit code lines) (range_with_len 0 (length unit.agents))

@@ -4,6 +4,7 @@
 
 mod check;
 mod dated;
+mod form;
 mod graph;
 mod line;
 mod note;
@@ -14,6 +15,7 @@ mod summary;
 mod tests;
 mod write;
 
+pub use form::{Field, Form, Sort};
 pub use line::{LINE_BYTES, Line};
 pub use note::Note;
 pub use write::{WriteFault, write_all_of};

@@ -1,7 +1,8 @@
 -- The lemmas of this crate, by subject.
+mod Apart
+mod Filling
 mod Lines
-mod Fields
-mod Ends
 mod Nexts
+mod Plain
 mod Total
 mod Walks

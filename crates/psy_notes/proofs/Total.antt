@@ -5,7 +5,7 @@ use Rattle.psy_log.specs.Forms.{line_of}
 use Rattle.psy_notes.specs.declared.stand.Stand.{Stand}
 use Rattle.psy_notes.specs.Stands.{may_end}
 use Rattle.psy_notes.specs.Texts.{Steps, text_of, IsText, BreaksAt}
-use Rattle.psy_notes.proofs.Walks.{length-line}
+use Rattle.psy_notes.proofs.Lines.{length-line}
 
 -- No notes have this text from this stand on
 abbrev NoText : Stand → List ℕ → Type 0

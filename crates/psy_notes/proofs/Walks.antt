@@ -1,20 +1,16 @@
 -- Two readings of one text go the same way.
-use Rattle.std.proofs.Common.{◌≡◌, ◌≢◌, ⊎_elim, ℕ, suc, ◌<◌, List, [], ◌∷◌, ◌++◌, None, length, refl, sym, ap, subst, ◌∙◌, append_assoc, append-nil, arith}
-use Rattle.std.specs.Prelude.{IsTrue, IsFalse}
+use Rattle.std.proofs.Common.{◌≡◌, ◌≢◌, ⊎_elim, ℕ, suc, List, [], ◌∷◌, ◌++◌, None, length, refl, sym, ap, subst, ◌∙◌, append_assoc, append-nil, arith}
+use Rattle.std.specs.Prelude.{Contains, IsTrue, IsFalse}
 use Rattle.psy_log.specs.declared.note.Note.{Note}
-use Rattle.psy_log.specs.Forms.{line_of}
+use Rattle.psy_log.specs.Forms.{line_of, says}
 use Rattle.psy_notes.specs.declared.stand.Stand.{Stand}
 use Rattle.psy_notes.specs.Notes.{IsTold}
 use Rattle.psy_notes.specs.Stands.{next_stand, may_end}
 use Rattle.psy_notes.specs.Texts.{Steps, Leads, text_of, IsText, CannotGoOn, BreaksAt}
-use Rattle.psy_notes.specs.Reading.{spell, fields_of, IsReadAt}
-use Rattle.psy_notes.proofs.Lines.{length-spell}
-use Rattle.psy_notes.proofs.Fields.{AllPlain-fields_of, line_of-fields}
-use Rattle.psy_notes.proofs.Nexts.{one_step, IsReadAt-by}
-
--- A note's line has bytes
-pub length-line : (note : Note) (more : List ℕ) → IsTold note → length more < length (line_of note ++ more)
-length-line note more told = omega (arith, length-spell (fields_of note) more (AllPlain-fields_of note told), ap length (line_of-fields note more told))
+use Rattle.psy_notes.specs.Reading.{forms_at}
+use Rattle.psy_notes.proofs.Lines.{length-line}
+use Rattle.psy_notes.proofs.Apart.{all_apart-at, one_note}
+use Rattle.psy_notes.proofs.Nexts.{alike, forms_by}
 
 -- A text that begins with a line isn't empty
 pub some_line : (note : Note) (more : List ℕ) → IsTold note → [] ≢ line_of note ++ more
@@ -27,9 +23,8 @@ stuck from text note to more cannot steps is = ⊎_elim (λ ended. some_line not
 -- Two notes that may stand at the front of one text lead to one stand
 same_step : (from : Stand) (some other : Note) (to on : Stand) (rest more : List ℕ) → Steps from some to → Steps from other on → line_of some ++ rest ≡ line_of other ++ more → (to ≡ on) × (rest ≡ more)
 same_step from some other to on rest more steps goes is =
-    let fields : spell (fields_of some) rest ≡ spell (fields_of other) more = sym (line_of-fields some rest steps.0) ∙ is ∙ line_of-fields other more goes.0 in
-    let one = one_step from some other rest more steps.0 goes.0 (IsReadAt-by from some to steps.1) (IsReadAt-by from other on goes.1) fields in
-    let next : next_stand from some ≡ next_stand from other = one.0 in
+    let one = one_note (forms_at from) (all_apart-at from) some other rest more steps.0 goes.0 (forms_by from some to steps.1) (forms_by from other on goes.1) is in
+    let next : next_stand from some ≡ next_stand from other = alike from some other one.0 in
     let leads = steps.1 in
     let ends = goes.1 in
     (cc (next, leads, ends), one.1)
@@ -72,14 +67,14 @@ one_break first text line other breaks stops =
     omega (arith, same, breaks.number, stops.number)
 
 -- Where no note that is read there stands at the front, no line stands there behind which the text goes on
-pub unread : (from : Stand) (text : List ℕ) → ((note : Note) (more : List ℕ) → IsTold note → IsReadAt from note → text ≢ spell (fields_of note) more) → (note : Note) (to : Stand) (more : List ℕ) → Steps from note to → text ≢ line_of note ++ more
-unread from text none note to more steps is = none note more steps.0 (IsReadAt-by from note to steps.1) (is ∙ line_of-fields note more steps.0)
+pub unread : (from : Stand) (text : List ℕ) → ((note : Note) (more : List ℕ) → IsTold note → Contains (forms_at from) (says note).0 → text ≢ line_of note ++ more) → (note : Note) (to : Stand) (more : List ℕ) → Steps from note to → text ≢ line_of note ++ more
+unread from text none note to more steps is = none note more steps.0 (forms_by from note to steps.1) is
 
 -- Nor where one stands there that may not
-pub unfit : (from : Stand) (text : List ℕ) (some : Note) (rest : List ℕ) → IsTold some → IsReadAt from some → text ≡ spell (fields_of some) rest → next_stand from some ≡ None → (note : Note) (to : Stand) (more : List ℕ) → Steps from note to → text ≢ line_of note ++ more
-unfit from text some rest told read is ends note to more steps eq =
-    let one = one_step from some note rest more told steps.0 read (IsReadAt-by from note to steps.1) (sym is ∙ eq ∙ line_of-fields note more steps.0) in
-    cc (one.0, ends, steps.1)
+pub unfit : (from : Stand) (text : List ℕ) (some : Note) (rest : List ℕ) → IsTold some → Contains (forms_at from) (says some).0 → text ≡ line_of some ++ rest → next_stand from some ≡ None → (note : Note) (to : Stand) (more : List ℕ) → Steps from note to → text ≢ line_of note ++ more
+unfit from text some rest told has is ends note to more steps eq =
+    let one = one_note (forms_at from) (all_apart-at from) some note rest more told steps.0 has (forms_by from note to steps.1) (sym is ∙ eq) in
+    cc (alike from some note one.0, ends, steps.1)
 
 -- One note more
 pub Leads-push : (from : Stand) (notes : List Note) (between : Stand) (note : Note) (to : Stand) → Leads from notes between → Steps between note to → Leads from (notes ++ note ∷ []) to

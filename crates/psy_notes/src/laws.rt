@@ -1,8 +1,25 @@
 //! A text is read in one way.
-ghost use Rattle.std.specs.Prelude.{◌≡◌, ℕ, List};
+ghost use Rattle.std.specs.Prelude.{◌≡◌, ℕ, List, ◌++◌, Contains};
 ghost use Rattle.psy_log.specs.declared.note.Note.{Note};
+ghost use Rattle.psy_log.specs.Forms.{line_of, says};
 ghost use Rattle.psy_notes.specs.declared.stand.Stand.{Stand};
+ghost use Rattle.psy_notes.specs.Notes.{IsTold};
 ghost use Rattle.psy_notes.specs.Texts.{IsText, BreaksAt};
+
+use crate::forms::{CHECK, GRAPH, REFUSALS, RUN};
+
+/// A line of a run says one note, and so does one of a graph, of a check and of a refusal: what stands at the front of a text has one form, says one
+/// thing, and ends at one place.
+pub fn one_note()
+    ensures run { (some other : Note) (rest more : List ℕ) → IsTold some → IsTold other → Contains RUN (says some).0 → Contains RUN (says other).0
+        → line_of some ++ rest ≡ line_of other ++ more → (says some ≡ says other) × (rest ≡ more) }
+    ensures graph { (some other : Note) (rest more : List ℕ) → IsTold some → IsTold other → Contains GRAPH (says some).0 → Contains GRAPH (says other).0
+        → line_of some ++ rest ≡ line_of other ++ more → (says some ≡ says other) × (rest ≡ more) }
+    ensures check { (some other : Note) (rest more : List ℕ) → IsTold some → IsTold other → Contains CHECK (says some).0 → Contains CHECK (says other).0
+        → line_of some ++ rest ≡ line_of other ++ more → (says some ≡ says other) × (rest ≡ more) }
+    ensures refusal { (some other : Note) (rest more : List ℕ) → IsTold some → IsTold other → Contains REFUSALS (says some).0 → Contains REFUSALS (says other).0
+        → line_of some ++ rest ≡ line_of other ++ more → (says some ≡ says other) × (rest ≡ more) }
+{}
 
 /// A text is one of notes or breaks at a line: never neither, never both; and it breaks at one line alone.
 pub fn one_reading()

@@ -2,15 +2,16 @@
 //! It may know the forms of lines, and which may follow which; nothing of programs.
 #![tactic(auto)]
 
-mod dated;
+mod content;
 mod fault;
-mod field;
-mod graph;
+mod filled;
+mod forms;
 pub mod laws;
 mod read;
 mod stand;
-mod summary;
+mod told;
 
 pub use fault::TextFault;
+pub use forms::{CHECK, GRAPH, REFUSALS, RUN, read_note};
 pub use read::{read_graph, read_run};
 pub use stand::Stand;

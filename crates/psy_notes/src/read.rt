@@ -6,15 +6,12 @@ ghost use Rattle.psy_notes.specs.declared.stand.Stand.{Stand};
 ghost use Rattle.psy_notes.specs.declared.fault.TextFault.{TextFault};
 ghost use Rattle.psy_notes.specs.Stands.{run_begins, graph_begins};
 ghost use Rattle.psy_notes.specs.Texts.{IsText, BreaksAt, Steps};
-ghost use Rattle.psy_notes.specs.Notes.{IsTold};
-ghost use Rattle.psy_notes.specs.Reading.{spell, fields_of, IsReadAt};
+ghost use Rattle.psy_notes.specs.Reading.{forms_at};
 
-use crate::dated::dated;
 use crate::fault::TextFault;
-use crate::graph::graph;
+use crate::forms::{GRAPH, RUN, read_note};
 use crate::stand::Stand;
-use crate::summary::summary;
-use psy_log::Note;
+use psy_log::{Form, Note};
 use std::alloc::Global;
 
 /// The notes whose lines `psyc run` wrote, from date 0 to the end of its summary; or the first line that isn't in form.
@@ -73,19 +70,20 @@ fn first_step(stand: Stand, text: &[u8]) -> Option<Step<'_>>
     ensures shorter { IfSome result (λ step. length step.rest.now < length text.now) }
     ensures none { result ≡ None → (note : Note) (to : Stand) (more : List ℕ) → Steps stand note to → text.now ≢ line_of note ++ more }
 {
-    let (note, rest) = note_at(stand, text)?;
+    let (note, rest) = read_note(forms_at(stand), text)?;
     let stand = stand.next(&note)?;
     Some(Step { note, stand, rest })
 }
 
-// The note of the sort that is read at this stand whose line stands at the front of a text.
-fn note_at(stand: Stand, text: &[u8]) -> Option<(Note<'_>, &[u8])>
-    ensures some { IfSome result (λ r. IsTold r.0 × IsReadAt stand r.0 × (text.now ≡ spell (fields_of r.0) r.1.now)) }
-    ensures none { result ≡ None → (note : Note) (more : List ℕ) → IsTold note → IsReadAt stand note → text.now ≢ spell (fields_of note) more }
+// The forms of the lines that are read at this stand.
+fn forms_at(stand: Stand) -> &'static [Form]
+    ensures { result.now ≡ forms_at stand }
 {
     match stand {
-        Stand::Dated { .. } => dated(text),
-        Stand::Agents { .. } | Stand::Variables { .. } | Stand::Streams { .. } => summary(text),
-        Stand::Graphs { .. } => graph(text),
+        Stand::Dated { .. }
+        | Stand::Agents { .. }
+        | Stand::Variables { .. }
+        | Stand::Streams { .. } => &RUN,
+        Stand::Graphs { .. } => &GRAPH,
     }
 }

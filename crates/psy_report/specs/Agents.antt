@@ -3,7 +3,7 @@ use Rattle.std.specs.Prelude.{ℕ, ◌*◌, ◌/◌, ◌%◌, ◌==◌, List, []
 use Rattle.std.specs.Int.{div_ceil}
 use Rattle.std.specs.List.{position_or_len}
 use Rattle.psy_base.specs.Extremes.{most_of}
-use Rattle.psy_measures.specs.declared.measures.Measures.{Measures}
+use Rattle.psy_report.specs.declared.measures.Measures.{Measures}
 use Rattle.psy_rate.specs.declared.line.Rate.{Rate}
 use Rattle.psy_rate.specs.declared.line.TheConstants.{SCALE}
 use Rattle.psy_report.specs.declared.peak.TheConstants.{WHOLE}

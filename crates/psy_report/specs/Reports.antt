@@ -2,8 +2,8 @@
 use Rattle.std.specs.Prelude.{◌≡◌, ℕ, ◌-◌, ◌*◌, nat_le, if◌then◌else◌, List, [], ◌++◌, Option, Some, None, MatchOption}
 use Rattle.std.specs.Prelude.{codes, decimal, flat_map, get_or, length}
 use Rattle.std.specs.List.{range_with_len}
-use Rattle.psy_measures.specs.declared.measures.Measures.{Measures}
-use Rattle.psy_measures.specs.Measured.{AreMeasures}
+use Rattle.psy_report.specs.declared.measures.Measures.{Measures}
+use Rattle.psy_report.specs.Measured.{AreMeasures}
 use Rattle.psy_tree.specs.declared.unit.Unit.{Unit as Whole}
 use Rattle.psy_tree.specs.Parts.{stream_at, variable_at}
 use Rattle.psy_report.specs.Agents.{agent_text, part_text}

@@ -6,7 +6,7 @@ use Rattle.psy_feed.specs.Arrows.{looks, sends}
 use Rattle.psy_feed.specs.Backs.{backs_in}
 use Rattle.psy_history.specs.Feeding.{pasts_in}
 use Rattle.psy_meaning.specs.Sendings.{sendings_in}
-use Rattle.psy_measures.specs.declared.measures.Measures.{Measures}
+use Rattle.psy_report.specs.declared.measures.Measures.{Measures}
 use Rattle.psy_tree.specs.declared.unit.AgentDecl.{AgentDecl}
 use Rattle.psy_tree.specs.declared.unit.Unit.{Unit as Whole}
 use Rattle.psy_tree.specs.Parts.{agent_at, stream_at, variable_at}

@@ -4,10 +4,11 @@ ghost use Rattle.std.specs.List.{All, range_with_len};
 ghost use Rattle.psy_tree.specs.Parts.{agent_at};
 ghost use Rattle.psy_report.specs.Agents.{agent_front, agent_text, no_point, no_rate, part_text, share_text, worst_text};
 
+use crate::measures::Measures;
 use crate::peak::{most, place_of, share};
-use crate::piece::{add_labelled, add_named, add_number};
+use crate::piece::add_named;
 use crate::tight::part;
-use psy_measures::Measures;
+use psy_text::write::{add_labelled, add_number};
 use psy_tree::{Point, Unit};
 use std::alloc::AllocError;
 

@@ -5,9 +5,10 @@ ghost use Rattle.psy_meaning.specs.Units.{IsBare};
 ghost use Rattle.psy_tree.specs.Parts.{variable_at};
 ghost use Rattle.psy_report.specs.Warnings.{depth_line, depth_text, is_looked_back_at};
 
-use crate::piece::{add_labelled, add_named};
+use crate::piece::add_named;
 use crate::warnings::variable_name;
 use psy_feed::stmts_look_back;
+use psy_text::write::add_labelled;
 use psy_tree::Unit;
 use std::alloc::AllocError;
 

@@ -1,13 +1,18 @@
-//! Reports what is known of a program before it runs: what its agents may need and have, how tight they stand, and what looks like a slip.
-//! It may know units and what is measured of them; no texts, no runs.
+//! Measures a program before it runs, and reports on it: what its agents may need and have, how tight they stand, and what looks like a slip.
+//! It may know units, through the calls that measure them; no texts, no runs.
 #![tactic(auto)]
 
 mod agents;
+mod demands;
 mod depths;
+mod graphs;
+mod lists;
+mod measures;
 mod peak;
 mod piece;
 mod text;
 mod tight;
 mod warnings;
 
+pub use measures::{Measures, measure};
 pub use text::report;

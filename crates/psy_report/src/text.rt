@@ -3,17 +3,18 @@ ghost use Rattle.std.specs.Prelude.{◌≡◌, ◌++◌, ◌≤◌, ◌<◌, ◌
 ghost use Rattle.std.specs.List.{All, range_with_len};
 ghost use Rattle.psy_base.specs.declared.limits.TheConstants.{AGENTS};
 ghost use Rattle.psy_meaning.specs.Units.{IsBare, IsOfText};
-ghost use Rattle.psy_measures.specs.Measured.{IsUnmeasured};
+ghost use Rattle.psy_report.specs.Measured.{IsUnmeasured};
 ghost use Rattle.psy_source.specs.Programs.{Stops};
 ghost use Rattle.psy_report.specs.Reports.{IsReport, left_text, over_text, queue_text, report_text, ring_text, tight_text};
 
 use crate::agents::{add_agents, add_parts};
 use crate::depths::add_depths;
-use crate::piece::{add_labelled, add_named};
+use crate::measures::{Measures, measure};
+use crate::piece::add_named;
 use crate::tight::{demand, tightest};
 use crate::warnings::{add_costs, add_inputs, add_streams, stream_name, variable_name};
-use psy_measures::{Measures, measure};
 use psy_source::Stop;
+use psy_text::write::add_labelled;
 use psy_tree::Unit;
 use std::alloc::{AllocError, Global};
 

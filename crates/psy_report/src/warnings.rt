@@ -7,9 +7,10 @@ ghost use Rattle.psy_report.specs.Warnings.{cost_text, costs_text, input_by, inp
 ghost use Rattle.psy_report.specs.Warnings.{over_costs, over_front, over_line, stream_text, unlooked_line};
 
 use crate::agents::{agent_name, costs_of, point_budget};
-use crate::piece::{add_labelled, add_named};
+use crate::measures::Measures;
+use crate::piece::add_named;
 use psy_feed::{stmts_look, stmts_send};
-use psy_measures::Measures;
+use psy_text::write::add_labelled;
 use psy_tree::Unit;
 use std::alloc::AllocError;
 

@@ -1,5 +1,5 @@
 //! The commands of psyc, explained.
-ghost use Rattle.std.specs.Prelude.{◌≡◌, ◌≢◌, ◌⊎◌, ◌≤◌, ℕ, List, [], ◌++◌, map, string_bytes, Option, Some, length, take, true, ⊤};
+ghost use Rattle.std.specs.Prelude.{◌≡◌, ◌≢◌, ◌⊎◌, ◌≤◌, ℕ, List, [], ◌++◌, codes, map, string_bytes, Option, Some, length, take, true, ⊤};
 ghost use Rattle.std.specs.Prelude.{MatchOption, IfSome, OnErr, OnOk};
 ghost use Rattle.std.specs.Option.{option_copied};
 ghost use Rattle.psy_base.specs.declared.limits.TheConstants.{FILE_BYTES};
@@ -16,15 +16,17 @@ ghost use Rattle.psy_run.specs.Outcome.{IsUnread, MayAnswer};
 ghost use Rattle.psy_run.specs.Refusals.{file_name};
 ghost use Rattle.psy_run.specs.declared.refusal.File.{File as Role};
 ghost use Rattle.psy_where.specs.Explained.{Explains};
-ghost use Rattle.psy_serve.specs.Behind.{AreBytesOf, IsBehind, IsExplained};
+ghost use Rattle.psy_words.specs.Faults.{words_told as fault_of_words};
+ghost use Rattle.psy_serve.specs.Behind.{AreBytesOf, IsBehind, IsExplained, IsTold, IsToldBeside};
 ghost use Rattle.psy_serve.specs.Speaking.{is_refusal as refuses};
 
-use crate::speak::{is_refusal, spoken_of};
+use crate::speak::{is_of_line, is_of_words, is_refusal, spoken_of, word};
 use psy_door::{FetchFault, Shelf, Sink};
 use psy_last::LastLine;
 use psy_log::{WriteFault, write_all_of};
 use psy_run::psyc;
-use psy_where::explain;
+use psy_where::{beside, explain, plain_told, read_plain};
+use psy_words::words_told;
 use std::alloc::Global;
 
 // The bytes of a file; none where they can't be had.
@@ -54,9 +56,72 @@ fn explanation<F: Shelf>(
     if *feed != b'\n' {
         return None;
     }
+    if is_of_words(line) {
+        return fault_of(alloc, words);
+    }
+    explanation_over(alloc, words, shelf, line)
+}
+
+// The same of a line without its line feed, which doesn't refuse the words.
+fn explanation_over<F: Shelf>(
+    alloc: Global,
+    words: &[String],
+    shelf: &mut F,
+    line: &[u8],
+) -> Option<Vec<u8>>
+    ensures explained { IfSome result (λ more. IsExplained (map string_bytes words.now) (F.files shelf.old) (line.now ++ codes "\n") more.items) }
+    ensures shelf { (F.faults shelf.old ≤ F.faults shelf.new) × (F.files shelf.new ≡ F.files shelf.old) }
+{
     let name = spoken_of(words, line)?;
     let bytes = bytes_of(alloc, shelf, name)?;
-    explained(alloc, name, bytes.as_slice(), line)
+    let more = explained(alloc, name, bytes.as_slice(), line)?;
+    match told_beside(alloc, words, shelf, bytes.as_slice(), line) {
+        Some(told) => joined(more, told.as_slice()),
+        None => Some(more),
+    }
+}
+
+// What the program tells of the line to which this one points; none where it tells nothing, or can't be had.
+fn told_beside<F: Shelf>(
+    alloc: Global,
+    words: &[String],
+    shelf: &mut F,
+    bytes: &[u8],
+    line: &[u8],
+) -> Option<Vec<u8>>
+    requires { length bytes.now ≤ FILE_BYTES }
+    ensures beside { IfSome result (λ told. IsToldBeside (map string_bytes words.now) (F.files shelf.old) bytes.now line.now told.items) }
+    ensures shelf { (F.faults shelf.old ≤ F.faults shelf.new) × (F.files shelf.new ≡ F.files shelf.old) }
+{
+    if !is_of_line(line) {
+        return None;
+    }
+    let name = word(words, 1)?;
+    let program = bytes_of(alloc, shelf, name)?;
+    match beside(alloc, program.as_slice(), bytes, line) {
+        Ok(told) => Some(told),
+        Err(_) => None,
+    }
+}
+
+// A text and another behind it; none where memory runs out.
+fn joined(mut text: Vec<u8>, more: &[u8]) -> Option<Vec<u8>>
+    ensures { IfSome result (λ whole. whole.items ≡ text.items ++ more.now) }
+{
+    match text.extend_from_slice(more) {
+        Ok(()) => Some(text),
+        Err(_) => None,
+    }
+}
+
+// What is wrong with the words; none where memory runs out.
+fn fault_of(alloc: Global, words: &[String]) -> Option<Vec<u8>>
+    ensures { IfSome result (λ more. more.items ≡ fault_of_words (map string_bytes words.now)) }
+{
+    match words_told(alloc, words) {
+        Ok(more) => Some(more),
+        Err(_) => None,
+    }
 }
 
 // The explanation of a line over these bytes of a file.
@@ -112,6 +177,55 @@ fn explain_last<F: Shelf, S: Sink>(
     }
 }
 
+// What a line with its line feed means that tells of a file which can't be read; none where it tells of none.
+fn meaning_of_unread(alloc: Global, words: &[String], last: &[u8]) -> Option<Vec<u8>>
+    ensures { IfSome result (λ more. IsTold (map string_bytes words.now) last.now more.items) }
+{
+    let (feed, line) = last.split_last()?;
+    if *feed != b'\n' {
+        return None;
+    }
+    let name = spoken_of(words, line)?;
+    let plain = read_plain(line)?;
+    match plain_told(alloc, name.as_bytes(), plain) {
+        Ok(more) => Some(more),
+        Err(_) => None,
+    }
+}
+
+// The same of the last line that was written; no bytes where there is none.
+fn meaning_behind(alloc: Global, words: &[String], last: Option<&[u8]>) -> Vec<u8>
+    ensures { (line : List ℕ) → option_copied last.entry ≡ short line → IsTold (map string_bytes words.now) line result.items }
+{
+    let Some(last) = last else {
+        return Vec::new(alloc);
+    };
+    match meaning_of_unread(alloc, words, last) {
+        Some(more) => more,
+        None => Vec::new(alloc),
+    }
+}
+
+// Writes what the last line means, which tells of a file that couldn't be read, behind it.
+fn tell_unread<S: Sink>(
+    alloc: Global,
+    words: &[String],
+    out: &mut LastLine<S>,
+) -> Result<(), WriteFault>
+    ensures counted { out.old.faults ≤ out.new.faults }
+    ensures failed { OnErr result (Rose out.old.faults out.new.faults) }
+    ensures told { OnOk result ((more : List ℕ) × Grew out.old.held out.new.held more
+        × MatchOption out.old.held ⊤ (λ bytes. IsTold (map string_bytes words.now) (last_line bytes) more)) }
+    ensures front { OnErr result ((more : List ℕ) × (n : ℕ) × Grew out.old.held out.new.held (take n more)
+        × MatchOption out.old.held ⊤ (λ bytes. IsTold (map string_bytes words.now) (last_line bytes) more)) }
+{
+    let more = meaning_behind(alloc, words, out.last());
+    match write_all_of(out, more.as_slice()) {
+        Ok(()) => Ok(()),
+        Err(fault) => Err(fault),
+    }
+}
+
 // Does what psyc does for the words, and keeps nothing of a run.
 fn answered<F: Shelf, S: Sink>(
     alloc: Global,
@@ -154,8 +268,9 @@ fn answered<F: Shelf, S: Sink>(
     psyc(alloc, words, shelf, out, &mut left)
 }
 
-/// Does what psyc does for the words, and writes, where it refused the texts that it was given, the explanation of its line behind that, over the file that it
-/// speaks of, which is fetched a second time. Where it can't be had then, or hasn't that place any more, or memory runs out, nothing stands behind the line.
+/// Does what psyc does for the words, and writes, where it refused the words or the texts that it was given, the explanation of its line behind that: what is
+/// wrong with the words; or what the line means over the file that it speaks of, which is fetched a second time. Where it can't be had then, or hasn't that
+/// place any more, or memory runs out, nothing stands behind the line. Of a file that couldn't be read it says so by its name, and doesn't fetch it again.
 pub fn serve<F: Shelf, S: Sink>(
     alloc: Global,
     words: &[String],
@@ -181,7 +296,7 @@ pub fn serve<F: Shelf, S: Sink>(
     ensures listed { result ≡ 2 → AskNothing (map string_bytes words.now) }
 
     // A file that the words name couldn't be read, and no step before that read refuses.
-    ensures read { result ≡ 3 → (file : Role)
+    ensures read { result ≡ 3 → (file : Role) × (more : List ℕ)
         × IsUnread (record {
           words = map string_bytes words.now;
           files = F.files shelf.old;
@@ -189,10 +304,12 @@ pub fn serve<F: Shelf, S: Sink>(
           before = F.faults shelf.old;
           after = F.faults shelf.new;
         }) file
-        × Grew out.old.held out.new.held (read_line (file_name file)) }
+        × MatchOption out.new.held ⊤ (λ all. IsTold (map string_bytes words.now) (last_line (read_line (file_name file))) more)
+        × Grew out.old.held out.new.held (read_line (file_name file) ++ more) }
     ensures write { result ≡ 4 → Rose out.old.faults out.new.faults }
 
-    // Where a write failed, a front of psyc's text was written, or the text of a refusal and a front of its explanation.
+    // Where a write failed, a front of psyc's text was written, or the text of a refusal and a front of its explanation, or the line that tells of a file
+    // and a front of what it means.
     ensures cut_short { result ≡ 4 → ((status : ℕ) × (text : List ℕ) × (kernel : Option Progress)
         × MayAnswer (record {
           words = map string_bytes words.now;
@@ -202,10 +319,20 @@ pub fn serve<F: Shelf, S: Sink>(
           after = F.faults shelf.new;
         }) status text kernel
         × GrewByFront out.old.held out.new.held text)
-        ⊎ ((status : ℕ) × (text : List ℕ) × (more : List ℕ) × (n : ℕ)
+        ⊎ (((status : ℕ) × (text : List ℕ) × (more : List ℕ) × (n : ℕ)
         × (refuses status ≡ true) × Answers (map string_bytes words.now) (F.files shelf.old) status text
         × MatchOption out.new.held ⊤ (λ all. IsBehind (map string_bytes words.now) (F.files shelf.old) status text more)
-        × Grew out.old.held out.new.held (text ++ take n more)) }
+        × Grew out.old.held out.new.held (text ++ take n more))
+        ⊎ ((file : Role) × (more : List ℕ) × (n : ℕ)
+        × IsUnread (record {
+          words = map string_bytes words.now;
+          files = F.files shelf.old;
+          failed = F.failed_name shelf.new;
+          before = F.faults shelf.old;
+          after = F.faults shelf.new;
+        }) file
+        × MatchOption out.new.held ⊤ (λ all. IsTold (map string_bytes words.now) (last_line (read_line (file_name file))) more)
+        × Grew out.old.held out.new.held (read_line (file_name file) ++ take n more))) }
     ensures memory { result ≡ 8 → Grew out.old.held out.new.held [] }
     ensures shelf { (F.faults shelf.old ≤ F.faults shelf.new) × (F.files shelf.new ≡ F.files shelf.old) }
     ensures sink { out.old.faults ≤ out.new.faults }
@@ -215,6 +342,11 @@ pub fn serve<F: Shelf, S: Sink>(
         match explain_last(alloc, words, shelf, out) {
             Ok(()) => status,
             Err(_) => 4,
+        }
+    } else if status == 3 {
+        match tell_unread(alloc, words, out) {
+            Ok(()) => 3,
+            Err(WriteFault { .. }) => 4,
         }
     } else {
         status

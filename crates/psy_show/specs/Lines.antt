@@ -2,7 +2,7 @@
 use Rattle.std.specs.Prelude.{ℕ, List, ◌++◌, codes, max, min, replicate, Option, None, Some}
 use Rattle.bstr.specs.Utf8.{lossy_chars}
 use Rattle.psy_show.specs.Columns.{columns, glyphs}
-use Rattle.psy_show.specs.Cutting.{front_of, back_behind}
+use Rattle.psy_show.specs.Cutting.{front_of, back_behind, back_of}
 
 -- What is shown of the characters of these bytes before a place and behind it
 abbrev pub front : List ℕ → List ℕ → List ℕ
@@ -25,3 +25,7 @@ shown_line before behind wanted =
 -- Bytes as they are shown
 abbrev pub shown : List ℕ → List ℕ
 shown bytes = glyphs (lossy_chars bytes)
+
+-- Bytes as they are shown in so many columns: all that fits, or the front and `..`
+abbrev pub shown_in : ℕ → List ℕ → List ℕ
+shown_in room bytes = glyphs (back_of room (lossy_chars bytes))

@@ -4,9 +4,11 @@
 
 mod column;
 mod cut;
+mod front;
 pub mod laws;
 mod line;
 mod text;
 
+pub use front::add_shown_in;
 pub use line::add_line;
 pub use text::{add_shown, chars_len};

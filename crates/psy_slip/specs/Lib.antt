@@ -1,4 +1,5 @@
 -- The definitions of this crate, by subject.
+pub mod Agents
 pub mod Earlier
 pub mod Looks
 pub mod Numbers

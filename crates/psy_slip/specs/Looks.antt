@@ -1,14 +1,25 @@
 -- What a file looks like that may stand in another's place.
 use Rattle.std.specs.Prelude.{ℕ, Bool, false, not, ◌&&◌, ◌||◌, if◌then◌else◌, List, [], ◌∷◌, ◌++◌, codes, bytes_eq, find, take, unwrap_or, Option, None, Some}
 use Rattle.std.specs.List.{list_all}
+use Rattle.psy_slip.specs.declared.look.Look.{Look}
+use Rattle.psy_slip.specs.declared.look.Look.TheVariants.{Program, Inputs, Script, Log}
 use Rattle.psy_slip.specs.declared.slip.File.{File}
-use Rattle.psy_slip.specs.declared.slip.File.TheVariants.{Program, Inputs, Script}
+use Rattle.psy_slip.specs.declared.slip.File.TheVariants as files
 use Rattle.psy_text.specs.Lines.{is_none_of, is_skipped, lines_of}
-use Rattle.psy_text.specs.Words.{is_value, words_of}
+use Rattle.psy_text.specs.Words.{is_number, is_value, words_of}
+
+-- The first of these words begins with `//`, as a comment in a program.
+abbrev pub is_slashed : List (List ℕ) → Bool
+is_slashed [] = false
+is_slashed (word ∷ words) = bytes_eq (take 2 word) (codes "//")
+
+-- A line says something in one of these files: it is skipped in none.
+abbrev pub says : List ℕ → Bool
+says line = not (is_skipped line || is_slashed (words_of line))
 
 -- The first line of a text that says something; an empty one where none does
 abbrev pub first_said : List ℕ → List ℕ
-first_said text = unwrap_or (find (λ line. not (is_skipped line)) (lines_of text)) []
+first_said text = unwrap_or (find says (lines_of text)) []
 
 -- A program begins with this word: with `tick`, or with a comment.
 abbrev pub begins_program : List ℕ → Bool
@@ -22,36 +33,50 @@ are_values words = not (is_none_of words) && list_all is_value words
 abbrev pub begins_statement : List ℕ → Bool
 begins_statement word = bytes_eq word (codes "stall") || bytes_eq word (codes "order")
 
--- A file looks like one of a sort, by the words of its first line that says something: a program by how it begins, a script by a stall or an order, inputs
--- by a name with values behind it.
-abbrev pub is_like : File → List (List ℕ) → Bool
-is_like file [] = false
+-- Behind a date a line of a log has a name, and something behind that.
+abbrev pub is_note : List (List ℕ) → Bool
+is_note (name ∷ word ∷ more) = not (is_value name)
+is_note _ = false
+
+-- A file looks like one of a sort, by the words of its first line that says something: a program by how it begins, a script by a stall or an order, a log by a
+-- number and a name, and inputs by a name with values behind it.
+abbrev pub is_like : Look → List (List ℕ) → Bool
+is_like look [] = false
 is_like Program (word ∷ words) = begins_program word
 is_like Script (word ∷ words) = begins_statement word
 is_like Inputs (word ∷ words) = not (begins_program word) && are_values words
+is_like Log (word ∷ words) = is_number word && is_note words
 
 -- The first of these sorts that it looks like
-abbrev pub look_in : List (List ℕ) → Option File
+abbrev pub look_in : List (List ℕ) → Option Look
 look_in words =
     if is_like Program words then Some Program
     else if is_like Script words then Some Script
+    else if is_like Log words then Some Log
     else if is_like Inputs words then Some Inputs
     else None
 
+-- What a file of each sort looks like
+abbrev pub look_of : File → Look
+look_of files.Program = Program
+look_of files.Inputs = Inputs
+look_of files.Script = Script
+
 -- How each is called
-abbrev pub called : File → List ℕ
+abbrev pub called : Look → List ℕ
 called Program = codes "a program"
 called Inputs = codes "inputs"
 called Script = codes "a script"
+called Log = codes "the log of a run"
 
--- What is told of a file that should be of one sort and looks like another
-abbrev pub unlike : File → Option File → List ℕ
+-- What is told of a file that should look like one and looks like another
+abbrev pub unlike : Look → Option Look → List ℕ
 unlike wanted None = []
 unlike wanted (Some look) = codes "hint: this file looks like " ++ called look ++ codes ", not like " ++ called wanted ++ codes "\n"
 
 -- The same by the words of its first line that says something, where it doesn't look like one of its sort
 abbrev pub look_told : File → List (List ℕ) → List ℕ
-look_told wanted words = if is_like wanted words then [] else unlike wanted (look_in words)
+look_told wanted words = if is_like (look_of wanted) words then [] else unlike (look_of wanted) (look_in words)
 
 -- A text begins with the three bytes of a byte order mark.
 abbrev pub is_marked : List ℕ → Bool

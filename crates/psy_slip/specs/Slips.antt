@@ -1,12 +1,27 @@
 -- What is wrong with a line of inputs or of a script: the word at fault, and what is missing.
-use Rattle.std.specs.Prelude.{ℕ, ◌==◌, not, if◌then◌else◌, List, [], ◌∷◌, ◌++◌, find, drop, length, codes, bytes_eq}
+use Rattle.std.specs.Prelude.{ℕ, Bool, ◌==◌, not, ◌||◌, if◌then◌else◌, List, [], ◌∷◌, ◌++◌, find, drop, length, take, codes, bytes_eq}
 use Rattle.std.specs.Prelude.{Option, None, Some}
+use Rattle.std.specs.List.{list_any}
 use Rattle.psy_slip.specs.declared.slip.File.{File}
 use Rattle.psy_slip.specs.declared.slip.File.TheVariants.{Program, Inputs, Script}
+use Rattle.psy_slip.specs.Agents.{strangers, strangers_told}
 use Rattle.psy_slip.specs.Earlier.{first_like, first_repeated}
 use Rattle.psy_slip.specs.Ranges.{listing_range, statement_range}
 use Rattle.psy_slip.specs.Told.{counted, no_number, of_first, of_word, quoted}
+use Rattle.psy_text.specs.Lines.{begins_with}
 use Rattle.psy_text.specs.Words.{is_number, is_value}
+
+-- A word begins as a comment does here, where it is the first byte of a line (35 is `#`), or in a program.
+abbrev pub begins_comment : List ℕ → Bool
+begins_comment word = begins_with 35 word || (bytes_eq (take 2 word) (codes "//") || bytes_eq (take 2 word) (codes "/*"))
+
+-- Among the words of a line that isn't skipped one begins so.
+abbrev pub has_comment : List (List ℕ) → Bool
+has_comment words = list_any begins_comment words
+
+-- What is told of such a line
+abbrev pub comment_told : List ℕ
+comment_told = codes "a comment is a line that begins with `#`"
 
 -- A name with no value behind it
 unfoldable pub no_value : List ℕ → List ℕ
@@ -22,6 +37,14 @@ values_slip name (word ∷ more) =
 abbrev pub listing_slip : List (List ℕ) → List ℕ
 listing_slip [] = []
 listing_slip (name ∷ values) = values_slip name values
+
+-- The same, or that a comment stands in it
+abbrev pub listing_form : List (List ℕ) → List ℕ
+listing_form words = if has_comment words then comment_told else listing_slip words
+
+-- The input of a line isn't one of the program, or a comment stands there.
+abbrev pub unknown_slip : List (List ℕ) → List ℕ
+unknown_slip words = if has_comment words then comment_told else of_first words (codes " is no input of the program")
 
 -- What is wrong with the form of a stall, by the words behind `stall`: its agent, and three numbers
 unfoldable pub stall_slip : List (List ℕ) → List ℕ
@@ -47,15 +70,15 @@ statement_slip (word ∷ words) =
     else if bytes_eq word (codes "order") then order_slip words
     else quoted word ++ codes " begins no line of a script: `stall` and `order` do"
 
--- A name of an order is no agent
-unfoldable pub no_agent : List ℕ
-no_agent = codes "a name of this order is no agent of the program"
+-- The same, or that a comment stands in it
+abbrev pub statement_form : List (List ℕ) → List ℕ
+statement_form words = if has_comment words then comment_told else statement_slip words
 
--- The agent of a stall that isn't one; of an order, that a name isn't
-abbrev pub agent_slip : List (List ℕ) → List ℕ
-agent_slip (word ∷ agent ∷ words) =
-    if bytes_eq word (codes "stall") then quoted agent ++ codes " is no agent of the program" else no_agent
-agent_slip words = []
+-- The agent of a stall that isn't one; of an order, the names among which one isn't, given the bytes of earlier lines
+abbrev pub agent_slip : List ℕ → List (List ℕ) → List ℕ
+agent_slip earlier (word ∷ agent ∷ words) =
+    if bytes_eq word (codes "stall") then quoted agent ++ codes " is no agent of the program" else strangers_told (strangers earlier words)
+agent_slip earlier words = []
 
 -- The input of a line has its values from another: from the line of this number, where it is known
 abbrev pub listed_slip : List (List ℕ) → Option ℕ → List ℕ
@@ -75,8 +98,8 @@ said_slip words (Some line) = counted (codes "this is said already by line ") li
 -- What is wrong with a line of inputs, by the number of its fault: its form, its name, that it is said again, or a value
 abbrev pub inputs_slip : ℕ → List ℕ → List (List ℕ) → List ℕ
 inputs_slip number earlier words =
-    if number == 1 then listing_slip words
-    else if number == 2 then of_first words (codes " is no input of the program")
+    if number == 1 then listing_form words
+    else if number == 2 then unknown_slip words
     else if number == 3 then listed_slip words (first_like Inputs words earlier)
     else if number == 4 then listing_range words
     else []
@@ -84,8 +107,8 @@ inputs_slip number earlier words =
 -- The same of a line of a script
 abbrev pub script_slip : ℕ → List ℕ → List (List ℕ) → List ℕ
 script_slip number earlier words =
-    if number == 1 then statement_slip words
-    else if number == 2 then agent_slip words
+    if number == 1 then statement_form words
+    else if number == 2 then agent_slip earlier words
     else if number == 3 then said_slip words (first_like Script words earlier)
     else if number == 4 then statement_range words
     else []

@@ -103,7 +103,8 @@ pub fn first_repeated<'a>(words: &[&'a [u8]]) -> Option<&'a [u8]>
     None
 }
 
-fn contains(words: &[&[u8]], word: &[u8]) -> bool
+/// Is the word among these?
+pub fn contains(words: &[&[u8]], word: &[u8]) -> bool
     ensures { result ≡ list_any (bytes_eq word.now) (map (λ w. w.now) words.now) }
 {
     let mut rest = words;

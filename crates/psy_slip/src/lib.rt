@@ -2,12 +2,13 @@
 //! It may know the words of a line and their forms, and those of earlier lines; no program.
 #![tactic(auto)]
 
+mod agents;
 mod earlier;
 mod look;
 mod numbers;
 mod range;
 mod slip;
-mod told;
+pub mod told;
 
-pub use look::file_hint;
+pub use look::{Look, file_hint};
 pub use slip::{File, slip_line};

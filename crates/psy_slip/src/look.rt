@@ -1,15 +1,25 @@
 //! What a file looks like that may stand in another's place.
 ghost use Rattle.std.specs.Prelude.{◌≡◌, ◌++◌, IfOk, OnOk, map};
 ghost use Rattle.std.specs.List.{list_all};
-ghost use Rattle.psy_slip.specs.Looks.{are_values, begins_program, begins_statement, called, file_hint, first_said, is_like, is_marked};
-ghost use Rattle.psy_slip.specs.Looks.{look_in, look_told, unlike};
-ghost use Rattle.psy_text.specs.Words.{is_value};
+ghost use Rattle.psy_slip.specs.Looks.{are_values, begins_program, begins_statement, called, file_hint, first_said, is_like, is_marked, is_note};
+ghost use Rattle.psy_slip.specs.Looks.{is_slashed, look_in, look_of, look_told, says, unlike};
+ghost use Rattle.psy_text.specs.Words.{is_value, words_of};
 
 use crate::slip::File;
 use psy_base::Memory;
 use psy_text::line::{cut_line, is_skipped};
-use psy_text::word::{is_value, words_of};
+use psy_text::word::{cut_word, is_number, is_value, words_of};
 use std::alloc::{AllocError, Global};
+
+/// What a file may look like.
+#[derive(Clone, Copy, Debug, PartialEq, Eq)]
+pub enum Look {
+    Program,
+    Inputs,
+    Script,
+    /// What a run writes.
+    Log,
+}
 
 /// A line that tells of the whole of a file, which should be of this sort: that a byte order mark stands in front, or that it looks like one of another
 /// sort; nothing where neither is so. The only error is want of memory.
@@ -34,12 +44,28 @@ fn first_said(text: &[u8]) -> &[u8]
 {
     let mut rest = text;
     'each: while let Some(cut) = cut_line(rest) {
-        if !is_skipped(cut.front) {
+        if says(cut.front) {
             return cut.front;
         }
         rest = cut.rest;
     }
     b""
+}
+
+fn says(line: &[u8]) -> bool
+    ensures { result ≡ says line.now }
+{
+    !(is_skipped(line) || is_slashed(line))
+}
+
+// Does the first word of a line begin with `//`?
+fn is_slashed(line: &[u8]) -> bool
+    ensures { result ≡ is_slashed (words_of line.now) }
+{
+    match cut_word(line) {
+        Some(cut) => cut.front.starts_with(b"//"),
+        None => false,
+    }
 }
 
 fn is_marked(text: &[u8]) -> bool
@@ -51,13 +77,24 @@ fn is_marked(text: &[u8]) -> bool
 fn add_look(out: &mut Vec<u8>, wanted: File, words: &[&[u8]]) -> Result<(), AllocError>
     ensures { OnOk result (out.new.items ≡ out.old.items ++ look_told wanted (map (λ w. w.now) words.now)) }
 {
-    if is_like(wanted, words) {
+    if is_like(look_of(wanted), words) {
         return Ok(());
     }
-    add_unlike(out, wanted, look_in(words))
+    add_unlike(out, look_of(wanted), look_in(words))
 }
 
-fn add_unlike(out: &mut Vec<u8>, wanted: File, look: Option<File>) -> Result<(), AllocError>
+// What a file of this sort looks like.
+fn look_of(file: File) -> Look
+    ensures { result ≡ look_of file }
+{
+    match file {
+        File::Program => Look::Program,
+        File::Inputs => Look::Inputs,
+        File::Script => Look::Script,
+    }
+}
+
+fn add_unlike(out: &mut Vec<u8>, wanted: Look, look: Option<Look>) -> Result<(), AllocError>
     ensures { OnOk result (out.new.items ≡ out.old.items ++ unlike wanted look) }
 {
     let Some(look) = look else { return Ok(()) };
@@ -69,41 +106,55 @@ fn add_unlike(out: &mut Vec<u8>, wanted: File, look: Option<File>) -> Result<(),
     Ok(())
 }
 
-fn called(file: File) -> &'static [u8]
-    ensures { result.now ≡ called file }
+fn called(look: Look) -> &'static [u8]
+    ensures { result.now ≡ called look }
 {
-    match file {
-        File::Program => b"a program",
-        File::Inputs => b"inputs",
-        File::Script => b"a script",
+    match look {
+        Look::Program => b"a program",
+        Look::Inputs => b"inputs",
+        Look::Script => b"a script",
+        Look::Log => b"the log of a run",
     }
 }
 
 // The first of the sorts that a file looks like, by the words of its first line that says something.
-fn look_in(words: &[&[u8]]) -> Option<File>
+fn look_in(words: &[&[u8]]) -> Option<Look>
     ensures { result ≡ look_in (map (λ w. w.now) words.now) }
 {
-    if is_like(File::Program, words) {
-        Some(File::Program)
-    } else if is_like(File::Script, words) {
-        Some(File::Script)
-    } else if is_like(File::Inputs, words) {
-        Some(File::Inputs)
+    if is_like(Look::Program, words) {
+        Some(Look::Program)
+    } else if is_like(Look::Script, words) {
+        Some(Look::Script)
+    } else if is_like(Look::Log, words) {
+        Some(Look::Log)
+    } else if is_like(Look::Inputs, words) {
+        Some(Look::Inputs)
     } else {
         None
     }
 }
 
-fn is_like(file: File, words: &[&[u8]]) -> bool
-    ensures { result ≡ is_like file (map (λ w. w.now) words.now) }
+fn is_like(look: Look, words: &[&[u8]]) -> bool
+    ensures { result ≡ is_like look (map (λ w. w.now) words.now) }
 {
     let Some((word, more)) = words.split_first() else {
         return false;
     };
-    match file {
-        File::Program => begins_program(word),
-        File::Script => begins_statement(word),
-        File::Inputs => !begins_program(word) && are_values(more),
+    match look {
+        Look::Program => begins_program(word),
+        Look::Script => begins_statement(word),
+        Look::Inputs => !begins_program(word) && are_values(more),
+        Look::Log => is_number(word) && is_note(more),
+    }
+}
+
+// Does a name stand behind a date, and something behind that?
+fn is_note(words: &[&[u8]]) -> bool
+    ensures { result ≡ is_note (map (λ w. w.now) words.now) }
+{
+    match words {
+        [name, _, ..] => !is_value(name),
+        _ => false,
     }
 }
 

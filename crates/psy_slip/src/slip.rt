@@ -1,17 +1,23 @@
 //! What is wrong with a line of inputs or of a script.
 ghost use Rattle.std.specs.Prelude.{◌≡◌, ◌++◌, IfOk, OnOk, find, map, not};
 ghost use Rattle.std.specs.Option.{option_copied};
+ghost use Rattle.psy_slip.specs.Agents.{strangers, strangers_told};
 ghost use Rattle.psy_slip.specs.Earlier.{first_like};
-ghost use Rattle.psy_slip.specs.Slips.{agent_slip, cycle_slip, inputs_slip, listed_slip, listing_slip, names_slip, no_agent, no_value, order_slip, said_slip};
-ghost use Rattle.psy_slip.specs.Slips.{script_slip, slip, slip_line, stall_slip, statement_slip, values_slip};
+ghost use Rattle.psy_slip.specs.Slips.{agent_slip, cycle_slip, inputs_slip, listed_slip, listing_slip, names_slip, no_value, order_slip, said_slip};
+ghost use Rattle.psy_slip.specs.Slips.{begins_comment, has_comment, listing_form, script_slip, slip, slip_line, stall_slip, statement_form, statement_slip};
+ghost use Rattle.psy_slip.specs.Slips.{unknown_slip, values_slip};
+ghost use Rattle.psy_text.specs.Lines.{begins_with};
 ghost use Rattle.psy_text.specs.Words.{is_number, is_value, words_of};
 
+use crate::agents::{add_strangers_told, strangers};
 use crate::earlier::{first_like, first_repeated};
 use crate::range::{add_listing_range, add_statement_range};
 use crate::told::{add_count, add_of, add_of_first, add_of_first_at, add_of_word, add_quoted};
 use psy_base::Memory;
 use psy_text::word::{is_number, is_value, words_of};
 use std::alloc::{AllocError, Global};
+
+const COMMENT: &[u8] = b"a comment is a line that begins with `#`";
 
 /// The file in which a line stands.
 #[derive(Clone, Copy, Debug, PartialEq, Eq)]
@@ -79,15 +85,77 @@ fn add_inputs(
     ensures { OnOk result (out.new.items ≡ out.old.items ++ inputs_slip number earlier.now (map (λ w. w.now) words.now)) }
 {
     if number == 1 {
-        Ok(add_listing(out, words)?)
+        Ok(add_listing_form(out, words)?)
     } else if number == 2 {
-        Ok(add_of_first(out, words, b" is no input of the program")?)
+        Ok(add_unknown(out, words)?)
     } else if number == 3 {
         add_listed(alloc, out, earlier, words)
     } else if number == 4 {
         Ok(add_listing_range(out, words)?)
     } else {
         Ok(())
+    }
+}
+
+// The form of a line of inputs, or a comment in it.
+fn add_listing_form(out: &mut Vec<u8>, words: &[&[u8]]) -> Result<(), AllocError>
+    ensures { OnOk result (out.new.items ≡ out.old.items ++ listing_form (map (λ w. w.now) words.now)) }
+{
+    if has_comment(words) {
+        out.extend_from_slice(COMMENT)
+    } else {
+        add_listing(out, words)
+    }
+}
+
+// A name that is no input, or a comment.
+fn add_unknown(out: &mut Vec<u8>, words: &[&[u8]]) -> Result<(), AllocError>
+    ensures { OnOk result (out.new.items ≡ out.old.items ++ unknown_slip (map (λ w. w.now) words.now)) }
+{
+    if has_comment(words) {
+        out.extend_from_slice(COMMENT)
+    } else {
+        add_of_first(out, words, b" is no input of the program")
+    }
+}
+
+// The form of a line of a script, or a comment in it.
+fn add_statement_form(out: &mut Vec<u8>, words: &[&[u8]]) -> Result<(), AllocError>
+    ensures { OnOk result (out.new.items ≡ out.old.items ++ statement_form (map (λ w. w.now) words.now)) }
+{
+    if has_comment(words) {
+        out.extend_from_slice(COMMENT)
+    } else {
+        add_statement(out, words)
+    }
+}
+
+// Does a comment begin with one of these words?
+fn has_comment(words: &[&[u8]]) -> bool
+    ensures { result ≡ has_comment (map (λ w. w.now) words.now) }
+{
+    let mut rest = words;
+    'each: while let [word, more @ ..] = rest {
+        if begins_comment(word) {
+            return true;
+        }
+        rest = more;
+    }
+    false
+}
+
+fn begins_comment(word: &[u8]) -> bool
+    ensures { result ≡ begins_comment word.now }
+{
+    begins_with(b'#', word) || (word.starts_with(b"//") || word.starts_with(b"/*"))
+}
+
+fn begins_with(byte: u8, word: &[u8]) -> bool
+    ensures { result ≡ begins_with byte word.now }
+{
+    match word {
+        [first, ..] => *first == byte,
+        [] => false,
     }
 }
 
@@ -162,9 +230,9 @@ fn add_script(
     ensures { OnOk result (out.new.items ≡ out.old.items ++ script_slip number earlier.now (map (λ w. w.now) words.now)) }
 {
     if number == 1 {
-        Ok(add_statement(out, words)?)
+        Ok(add_statement_form(out, words)?)
     } else if number == 2 {
-        Ok(add_agent(out, words)?)
+        add_agent(alloc, out, earlier, words)
     } else if number == 3 {
         add_said(alloc, out, earlier, words)
     } else if number == 4 {
@@ -279,24 +347,34 @@ fn add_cycle(out: &mut Vec<u8>, cycle: &[u8], names: &[&[u8]]) -> Result<(), All
     }
 }
 
-fn add_agent(out: &mut Vec<u8>, words: &[&[u8]]) -> Result<(), AllocError>
-    ensures { OnOk result (out.new.items ≡ out.old.items ++ agent_slip (map (λ w. w.now) words.now)) }
+fn add_agent(
+    alloc: Global,
+    out: &mut Vec<u8>,
+    earlier: &[u8],
+    words: &[&[u8]],
+) -> Result<(), Memory>
+    ensures { OnOk result (out.new.items ≡ out.old.items ++ agent_slip earlier.now (map (λ w. w.now) words.now)) }
 {
     match words {
-        [word, agent, ..] => {
+        [word, agent, names @ ..] => {
             if *word == b"stall".as_slice() {
-                add_of(out, agent, b" is no agent of the program")
+                Ok(add_of(out, agent, b" is no agent of the program")?)
             } else {
-                add_no_agent(out)
+                add_strangers(alloc, out, earlier, names)
             }
         }
         _ => Ok(()),
     }
 }
 
-#[tactic(auto, unfolding(crate::specs::Slips::no_agent))]
-fn add_no_agent(out: &mut Vec<u8>) -> Result<(), AllocError>
-    ensures { OnOk result (out.new.items ≡ out.old.items ++ no_agent) }
+fn add_strangers(
+    alloc: Global,
+    out: &mut Vec<u8>,
+    earlier: &[u8],
+    names: &[&[u8]],
+) -> Result<(), Memory>
+    ensures { OnOk result (out.new.items ≡ out.old.items ++ strangers_told (strangers earlier.now (map (λ w. w.now) names.now))) }
 {
-    out.extend_from_slice(b"a name of this order is no agent of the program")
+    let strangers = strangers(alloc, earlier, names)?;
+    Ok(add_strangers_told(out, strangers.as_slice())?)
 }

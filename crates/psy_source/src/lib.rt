@@ -6,4 +6,4 @@ mod refusal;
 mod source;
 
 pub use refusal::{Refusal, Stop};
-pub use source::unit_of;
+pub use source::{Program, program_of, unit_of};

@@ -56,16 +56,39 @@ fn resolve(alloc: Global, raw: &Raw) -> Result<Unit, Stop>
     }
 }
 
-/// The program of a text of at most 262,144 bytes, or why it is none: its first fault, as psyc tells it. The only other error is want of memory.
-pub fn unit_of(alloc: Global, bytes: &[u8]) -> Result<Unit, Stop>
+/// A program, and the tokens of its text.
+#[derive(Drop)]
+pub struct Program {
+    pub unit: Unit,
+    pub tokens: Items<Token>,
+}
+
+/// The program of a text of at most 262,144 bytes with its tokens, or why it is none: its first fault, as psyc tells it. The only other error is want of
+/// memory.
+pub fn program_of(alloc: Global, bytes: &[u8]) -> Result<Program, Stop>
     requires { length bytes.now ≤ FILE_BYTES }
     // A unit is that of the text, and a refusal is the text's.
-    ensures unit { IfOk result (IsProgram bytes.now) }
-    ensures text { IfOk result IsOfText }
+    ensures unit { IfOk result (λ program. IsProgram bytes.now program.unit) }
+    ensures text { IfOk result (λ program. IsOfText program.unit) }
+    ensures tokens { IfOk result (λ program. AreTokensOf bytes.now program.tokens) }
     ensures refused { IfErr result (Stops (IsRefused bytes.now)) }
 {
     of_text();
     let tokens = lex(alloc, bytes)?;
     let raw = parse(alloc, &tokens)?;
-    resolve(alloc, &raw)
+    let unit = resolve(alloc, &raw)?;
+    Ok(Program { unit, tokens })
+}
+
+/// The program of such a text alone.
+pub fn unit_of(alloc: Global, bytes: &[u8]) -> Result<Unit, Stop>
+    requires { length bytes.now ≤ FILE_BYTES }
+    ensures unit { IfOk result (IsProgram bytes.now) }
+    ensures text { IfOk result IsOfText }
+    ensures refused { IfErr result (Stops (IsRefused bytes.now)) }
+{
+    match program_of(alloc, bytes) {
+        Ok(program) => Ok(program.unit),
+        Err(stop) => Err(stop),
+    }
 }

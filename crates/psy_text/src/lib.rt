@@ -10,5 +10,6 @@ mod numeral;
 pub mod run;
 #[cfg(test)]
 mod tests;
+pub mod whole;
 pub mod word;
 pub mod write;

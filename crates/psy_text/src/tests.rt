@@ -1,6 +1,7 @@
 //! Small texts, read and written.
 use crate::front::{name, number, short, value};
 use crate::line::cut_line;
+use crate::whole;
 use crate::word::{self, Cut, cut_word};
 use crate::write::{add_labelled, add_value, joined};
 use std::test::Fail;
@@ -68,6 +69,21 @@ fn short_numbers_are_read(rt: HostRuntime) {
     for (text, want) in cases {
         assert_eq!(rt; short(text), want, "{text:?}");
     }
+}
+
+#[test]
+fn whole_words_are_read(rt: HostRuntime) {
+    assert_eq!(rt;
+        whole::number(b"18446744073709551615"),
+        Some(18_446_744_073_709_551_615)
+    );
+    assert_eq!(rt; whole::number(b"1 "), None);
+    assert_eq!(rt; whole::short(b"4294967295"), Some(4_294_967_295));
+    assert_eq!(rt; whole::short(b"4294967296"), None);
+    assert_eq!(rt; whole::value(b"-2147483648"), Some(-2_147_483_648));
+    assert_eq!(rt; whole::value(b"-0"), None);
+    assert!(rt; whole::is_name(NAME));
+    assert!(rt; !whole::is_name(b"a b"));
 }
 
 #[test]

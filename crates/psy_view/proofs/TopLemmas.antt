@@ -1,17 +1,22 @@
 -- How the top call ends, clause by clause.
-use Rattle.std.proofs.Common.{◌≡◌, ◌≢◌, ◌∙◌, sym, subst, refl, ℕ, List, [], Option, ◌⊎◌, inl, inr, arith}
+use Rattle.std.proofs.Common.{◌≡◌, ◌≢◌, ◌∙◌, sym, subst, refl, ℕ, List, [], ◌++◌, Option, ◌⊎◌, inl, inr, arith}
 use Rattle.psy_door.specs.Faults.{Rose}
 use Rattle.psy_door.specs.Files.{Files}
 use Rattle.psy_door.specs.Growth.{Grew, GrewByFront}
 use Rattle.psy_draw.specs.declared.window.Window.{Window}
+use Rattle.psy_draw.specs.Silences.{Silent}
+use Rattle.psy_log.specs.declared.note.Note.{Note}
+use Rattle.psy_match.specs.Silences.{silences_in}
+use Rattle.psy_tree.specs.declared.unit.Unit.{Unit as Whole}
 use Rattle.psy_view.specs.Answer.{Answers, no_words, of_itself, viewed, too_long}
 use Rattle.psy_view.specs.Asked.{File, Request, Asks, AskNothing, files_of}
 use Rattle.psy_view.specs.Fetching.{ComeTo, IsUnread, failed, long}
 use Rattle.psy_view.specs.Outcome.{MayAnswer, may_answer, may_miss, Replies, viewed_all, stopped_at, Says}
 use Rattle.psy_view.specs.Refusals.{unread_line}
-use Rattle.psy_view.specs.Views.{ViewOf, explained, no_refusal, beyond, pictured, dotted, no_graph, tabled, no_table, dumped, no_dump, compared, expected}
+use Rattle.psy_view.specs.Views.{ViewOf, where_told, pictured, pictured_of, unpictured_of, pictured_with, unpictured_with, dotted, no_graph, dotted_of, undotted_of}
+use Rattle.psy_view.specs.Views.{tabled, no_table, dumped, no_dump, compared, expected, IsWhere, explained, no_refusal, beyond, IsFed, with_inputs, no_inputs}
 use Rattle.psy_view.specs.Views.{flows, no_flow, lists, no_listing, reports, no_report, unmeasured}
-use Rattle.psy_view.specs.Views.{IsDrawn, drawn, no_run, unlisted, unknown, empty}
+use Rattle.psy_view.specs.Views.{IsDrawn, of_notes, no_run, IsShown, drawn, unlisted, unknown, empty}
 use Rattle.psy_view.specs.Views.{IsCompared, same, differs, first_breaks, second_breaks, IsExpected, kept, unkept, wrong, no_log}
 
 -- ---- the statuses
@@ -20,12 +25,27 @@ use Rattle.psy_view.specs.Views.{IsCompared, same, differs, first_breaks, second
 abbrev IsOfView : ℕ → Type 0
 IsOfView status = (status ≡ 0) ⊎ (status ≡ 1)
 
+of_shown : (name : List ℕ) (window : Window) (silences : List Silent) (names : List (List ℕ)) (notes : List Note) (status : ℕ) (text : List ℕ)
+    → IsShown name window silences names notes status text → IsOfView status
+of_shown name window silences names notes _ _ (drawn svg picture) = inl refl
+of_shown name window silences names notes _ _ (unlisted line first) = inr refl
+of_shown name window silences names notes _ _ (unknown place asked listed first at) = inr refl
+of_shown name window silences names notes _ _ (empty listed known none) = inr refl
+
 of_drawn : (name : List ℕ) (window : Window) (names : List (List ℕ)) (bytes : List ℕ) (status : ℕ) (text : List ℕ) → IsDrawn name window names bytes status text → IsOfView status
-of_drawn name window names bytes _ _ (drawn notes svg is picture) = inl refl
+of_drawn name window names bytes _ _ (of_notes notes status text is shows) = of_shown name window [] names notes status text shows
 of_drawn name window names bytes _ _ (no_run line is) = inr refl
-of_drawn name window names bytes _ _ (unlisted notes line is first) = inr refl
-of_drawn name window names bytes _ _ (unknown notes place asked is first at) = inr refl
-of_drawn name window names bytes _ _ (empty notes is none) = inr refl
+
+of_fed : (name inputs : List ℕ) (window : Window) (names : List (List ℕ)) (notes : List Note) (unit : Whole) (fed : List ℕ) (status : ℕ) (text : List ℕ)
+    → IsFed name inputs window names notes unit fed status text → IsOfView status
+of_fed name inputs window names notes unit fed _ _ (with_inputs given more status text are feed shows) =
+    of_shown name window (silences_in unit notes) names (notes ++ more) status text shows
+of_fed name inputs window names notes unit fed _ _ (no_inputs line told refuses tells) = inr refl
+
+of_where : (name line bytes : List ℕ) (status : ℕ) (text : List ℕ) → IsWhere name line bytes status text → IsOfView status
+of_where name line bytes _ _ (explained text is) = inl refl
+of_where name line bytes _ _ (no_refusal is) = inr refl
+of_where name line bytes _ _ (beyond is) = inr refl
 
 of_compared : (name other first second : List ℕ) (status : ℕ) (text : List ℕ) → IsCompared name other first second status text → IsOfView status
 of_compared name other first second _ _ (same notes is equal) = inl refl
@@ -40,29 +60,35 @@ of_expected name claims log text _ _ (wrong notes line slip is at) = inr refl
 of_expected name claims log text _ _ (no_log told is) = inr refl
 
 of_view : (request : Request) (texts : List (List ℕ)) (status : ℕ) (text : List ℕ) → ViewOf request texts status text → IsOfView status
-of_view _ _ _ _ (explained name line bytes text is) = inl refl
-of_view _ _ _ _ (no_refusal name line bytes is) = inr refl
-of_view _ _ _ _ (beyond name line bytes is) = inr refl
+of_view _ _ _ _ (where_told name line bytes status text is) = of_where name line bytes status text is
 of_view _ _ _ _ (pictured name window names bytes status text is) = of_drawn name window names bytes status text is
+of_view _ _ _ _ (pictured_of name program window names bytes text notes unit status told pair shows) =
+    of_shown name window (silences_in unit notes) names notes status told shows
+of_view _ _ _ _ (unpictured_of name program window names bytes text told is) = inr refl
+of_view _ _ _ _ (pictured_with name program inputs window names bytes text fed notes unit status told pair is) =
+    of_fed name inputs window names notes unit fed status told is
+of_view _ _ _ _ (unpictured_with name program inputs window names bytes text fed told is) = inr refl
 of_view _ _ _ _ (dotted name bytes notes is) = inl refl
+of_view _ _ _ _ (dotted_of name program bytes text notes unit lines pair are) = inl refl
+of_view _ _ _ _ (undotted_of name program bytes text told is) = inr refl
 of_view _ _ _ _ (no_graph name bytes line is) = inr refl
 of_view _ _ _ _ (tabled name bytes notes is) = inl refl
 of_view _ _ _ _ (no_table name bytes told is) = inr refl
 of_view _ _ _ _ (dumped name bytes notes is) = inl refl
 of_view _ _ _ _ (no_dump name bytes told is) = inr refl
 of_view _ _ _ _ (flows name bytes unit is) = inl refl
-of_view _ _ _ _ (no_flow name bytes refusal status text is tells) = inr refl
-of_view _ _ _ _ (lists name bytes unit is) = inl refl
-of_view _ _ _ _ (no_listing name bytes refusal status text is tells) = inr refl
+of_view _ _ _ _ (no_flow name bytes refusal text is tells) = inr refl
+of_view _ _ _ _ (lists name bytes unit lines is are) = inl refl
+of_view _ _ _ _ (no_listing name bytes refusal text is tells) = inr refl
 of_view _ _ _ _ (reports name bytes until unit text is report) = inl refl
-of_view _ _ _ _ (no_report name bytes until refusal status text is tells) = inr refl
-of_view _ _ _ _ (unmeasured name bytes until unit refusal status text is cause tells) = inr refl
+of_view _ _ _ _ (no_report name bytes until refusal text is tells) = inr refl
+of_view _ _ _ _ (unmeasured name bytes until unit refusal text is cause tells) = inr refl
 of_view _ _ _ _ (compared name other first second status text is) = of_compared name other first second status text is
 of_view _ _ _ _ (expected name claims log text status told is) = of_expected name claims log text status told is
 
 -- A defined answer's: 2 for words of no form, and else a view's
 of_answer : (words : List (List ℕ)) (files : Option Files) (status : ℕ) (text : List ℕ) → Answers words files status text → ((status ≡ 2) × AskNothing words) ⊎ IsOfView status
-of_answer words files _ _ (no_words nothing) = inl (refl, nothing)
+of_answer words files _ _ (no_words more nothing behind) = inl (refl, nothing)
 of_answer words files _ _ (of_itself text asks) = inr (inl refl)
 of_answer words files _ _ (viewed request texts status text asks are is) = inr (of_view request texts status text is)
 of_answer words files _ _ (too_long request file asks comes longer) = inr (inr refl)

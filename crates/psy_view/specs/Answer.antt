@@ -1,15 +1,21 @@
 -- The defined answer: the status and the text that belong to the words and to the files that are told.
-use Rattle.std.specs.Prelude.{ℕ, List, Option}
+use Rattle.std.specs.Prelude.{◌≡◌, ◌⊎◌, ℕ, List, [], ◌++◌, Option}
 use Rattle.psy_door.specs.Files.{Files}
 use Rattle.psy_view.specs.Asked.{File, Request, Asks, AskForText, AskNothing, files_of}
 use Rattle.psy_view.specs.Fetching.{AreTexts, ComeTo, IsLong}
-use Rattle.psy_view.specs.Refusals.{words_line, long_line}
+use Rattle.psy_log.specs.Forms.{words_line}
+use Rattle.psy_words.specs.Faults.{words_told}
+use Rattle.psy_view.specs.Refusals.{long_line}
 use Rattle.psy_view.specs.Views.{ViewOf}
+
+-- What stands behind the line that refuses words: what is wrong with them; or nothing, where memory ran out
+abbrev pub IsToldBehind : List (List ℕ) → List ℕ → Type 0
+IsToldBehind words more = (more ≡ words_told words) ⊎ (more ≡ [])
 
 -- The status and the text that answer the words: help or the version; or those of the view of the files that they name, where files are
 -- told, unless one of them has more bytes than it may have
 pub data Answers (words : List (List ℕ)) (files : Option Files) : ℕ → List ℕ → Type 0 where
-  no_words : AskNothing words → Answers words files 2 words_line
+  no_words : (more : List ℕ) → AskNothing words → IsToldBehind words more → Answers words files 2 (words_line ++ more)
   of_itself : (text : List ℕ) → AskForText words text → Answers words files 0 text
   viewed : (request : Request) (texts : List (List ℕ)) (status : ℕ) (text : List ℕ) → Asks words request
       → AreTexts files (files_of request) texts → ViewOf request texts status text → Answers words files status text

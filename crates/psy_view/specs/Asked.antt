@@ -1,6 +1,6 @@
 -- What the words of the command line ask for.
-use Rattle.std.specs.Prelude.{◌≡◌, ℕ, ◌≤◌, Bool, true, not, List, [], ◌∷◌, ◌++◌, Some, codes}
-use Rattle.std.specs.List.{list_all}
+use Rattle.std.specs.Prelude.{◌≡◌, ℕ, ◌≤◌, ◌==◌, ◌||◌, Bool, true, false, not, List, [], ◌∷◌, ◌++◌, Some, codes}
+use Rattle.std.specs.List.{list_all, list_any}
 use Rattle.psy_base.specs.declared.limits.TheConstants.{FILE_BYTES, UNTIL}
 use Rattle.psy_draw.specs.declared.window.Window.{Window}
 use Rattle.psy_draw.specs.declared.window.TheConstants.Window.{WHOLE}
@@ -12,7 +12,10 @@ use Rattle.psy_view.specs.declared.help.TheConstants.{HELP, VERSION}
 pub data Request : Type 0 where
   Where : (name line : List ℕ) → Request
   Timeline : (name : List ℕ) (window : Window) (names : List (List ℕ)) → Request
+  TimelineOf : (name program : List ℕ) (window : Window) (names : List (List ℕ)) → Request
+  TimelineWith : (name program inputs : List ℕ) (window : Window) (names : List (List ℕ)) → Request
   Dot : (name : List ℕ) → Request
+  DotOf : (name program : List ℕ) → Request
   Table : (name : List ℕ) → Request
   Dump : (name : List ℕ) → Request
   Flow : (name : List ℕ) → Request
@@ -32,9 +35,13 @@ pub record IsDate (word : List ℕ) (date : ℕ) : Type 0 where
   pub value : number_of word ≡ Some date
   pub most : date ≤ UNTIL
 
--- The word is a name: it is no date.
+-- The word is that of a file: it has a `.` or a `/`, as no name and no date has.
+abbrev pub is_file : List ℕ → Bool
+is_file word = list_any (λ b. b == 46 || b == 47) word
+
+-- The word is a name: it is no date and no file.
 abbrev pub is_name : List ℕ → Bool
-is_name word = not (is_number word)
+is_name word = not (is_number word || is_file word)
 
 -- Words select the dates of a window, and names: they are two dates and names, or names alone, of all dates.
 pub data Select (words : List (List ℕ)) : Window → List (List ℕ) → Type 0 where
@@ -43,13 +50,28 @@ pub data Select (words : List (List ℕ)) : Window → List (List ℕ) → Type 
       → number_of from ≡ Some first → number_of to ≡ Some last → list_all is_name names ≡ true
       → Select words (record { from = first; to = last }) names
 
--- The words ask for this: `where PROG LINE..`, `timeline LOG [FROM TO] [NAME..]`, `dot GRAPH`, `csv LOG`, `vcd LOG`, `flow PROG`, `list PROG`,
--- `report PROG UNTIL`, `diff LOG LOG` or `expect LOG FILE`
+-- Words select nothing.
+abbrev pub SelectNothing : List (List ℕ) → Type 0
+SelectNothing words = (window : Window) (names : List (List ℕ)) → Select words window names → ⊥
+
+-- The first of some words is that of a file.
+abbrev pub begins_with_file : List (List ℕ) → Bool
+begins_with_file [] = false
+begins_with_file (word ∷ words) = is_file word
+
+-- The words ask for this: `where PROG LINE..`, `timeline LOG [PROG [INPUTS]] [FROM TO] [NAME..]`, `dot GRAPH [PROG]`, `csv LOG`, `vcd LOG`, `flow PROG`,
+-- `list PROG`, `report PROG UNTIL`, `diff LOG LOG` or `expect LOG FILE`
 pub data Asks (words : List (List ℕ)) : Request → Type 0 where
   asks_where : (name word : List ℕ) (more : List (List ℕ)) → words ≡ codes "where" ∷ name ∷ word ∷ more → Asks words (Where name (line_of_words (word ∷ more)))
   asks_timeline : (name : List ℕ) (more : List (List ℕ)) (window : Window) (names : List (List ℕ)) → words ≡ codes "timeline" ∷ name ∷ more
       → Select more window names → Asks words (Timeline name window names)
+  asks_timeline_of : (name program : List ℕ) (more : List (List ℕ)) (window : Window) (names : List (List ℕ)) → words ≡ codes "timeline" ∷ name ∷ program ∷ more
+      → is_file program ≡ true → Select more window names → Asks words (TimelineOf name program window names)
+  asks_timeline_with : (name program inputs : List ℕ) (more : List (List ℕ)) (window : Window) (names : List (List ℕ))
+      → words ≡ codes "timeline" ∷ name ∷ program ∷ inputs ∷ more → is_file program ≡ true → is_file inputs ≡ true → Select more window names
+      → Asks words (TimelineWith name program inputs window names)
   asks_dot : (name : List ℕ) → words ≡ codes "dot" ∷ name ∷ [] → Asks words (Dot name)
+  asks_dot_of : (name program : List ℕ) → words ≡ codes "dot" ∷ name ∷ program ∷ [] → Asks words (DotOf name program)
   asks_table : (name : List ℕ) → words ≡ codes "csv" ∷ name ∷ [] → Asks words (Table name)
   asks_dump : (name : List ℕ) → words ≡ codes "vcd" ∷ name ∷ [] → Asks words (Dump name)
   asks_flow : (name : List ℕ) → words ≡ codes "flow" ∷ name ∷ [] → Asks words (Flow name)
@@ -93,7 +115,10 @@ by_psyc name = file_of name TEXT_BYTES
 abbrev pub files_of : Request → List File
 files_of (Where name line) = by_hand name ∷ []
 files_of (Timeline name window names) = by_psyc name ∷ []
+files_of (TimelineOf name program window names) = by_psyc name ∷ by_hand program ∷ []
+files_of (TimelineWith name program inputs window names) = by_psyc name ∷ by_hand program ∷ by_hand inputs ∷ []
 files_of (Dot name) = by_psyc name ∷ []
+files_of (DotOf name program) = by_psyc name ∷ by_hand program ∷ []
 files_of (Table name) = by_psyc name ∷ []
 files_of (Dump name) = by_psyc name ∷ []
 files_of (Flow name) = by_hand name ∷ []

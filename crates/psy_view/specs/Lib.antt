@@ -3,6 +3,7 @@ pub mod Answer
 pub mod Asked
 pub mod Fetching
 pub mod Outcome
+pub mod Pairing
 pub mod Reading
 pub mod Refusals
 pub mod Views

@@ -6,15 +6,21 @@ use Rattle.psy_view.specs.declared.asked.Asked.{Asked as Read}
 use Rattle.psy_view.specs.declared.asked.Asked.TheVariants as read
 use Rattle.psy_view.specs.declared.asked.One.{One}
 use Rattle.psy_view.specs.declared.asked.One.TheVariants as one
+use Rattle.psy_view.specs.declared.asked.Selection.{Selection}
 use Rattle.psy_view.specs.declared.asked.Two.{Two}
 use Rattle.psy_view.specs.declared.asked.Two.TheVariants as two
 use Rattle.psy_view.specs.declared.asked.TheConstants.{TEXT_BYTES}
-use Rattle.psy_view.specs.Asked.{Request, Select, Where, Timeline, Dot, Table, Dump, Flow, Listing, Report, Difference, Expectation, line_of_words}
+use Rattle.psy_view.specs.Asked.{Request, Where, Timeline, TimelineOf, TimelineWith, Dot, DotOf, Table, Dump, Flow, Listing, Report, Difference, Expectation}
+use Rattle.psy_view.specs.Asked.{Select, line_of_words}
+
+-- The names that are selected
+abbrev pub names_in : Selection → List (List ℕ)
+names_in selection = map string_bytes selection.names.now
 
 -- The request for a view of one file of this name
 abbrev pub request_of_one : List ℕ → One → Request
 request_of_one name (one.Where words) = Where name (line_of_words (map string_bytes words.now))
-request_of_one name (one.Timeline window names) = Timeline name window (map string_bytes names.now)
+request_of_one name (one.Timeline selection) = Timeline name selection.window (names_in selection)
 request_of_one name one.Dot = Dot name
 request_of_one name one.Csv = Table name
 request_of_one name one.Vcd = Dump name
@@ -22,25 +28,26 @@ request_of_one name one.Flow = Flow name
 request_of_one name one.List = Listing name
 request_of_one name (one.Report until) = Report name until
 
--- The view is the picture of this window and these names.
-abbrev pub Draws : Window → List (List ℕ) → One → Type 0
-Draws window names (one.Timeline shown asked) = (shown ≡ window) × (map string_bytes asked.now ≡ names)
-Draws window names _ = ⊥
+-- These dates and names are selected.
+abbrev pub Selects : Window → List (List ℕ) → Selection → Type 0
+Selects window names selection = (selection.window ≡ window) × (names_in selection ≡ names)
 
--- The view is the picture of the window and of the names that words select.
-abbrev pub IsPictureOf : List (List ℕ) → One → Type 0
-IsPictureOf words (one.Timeline window names) = Select words window (map string_bytes names.now)
-IsPictureOf words _ = ⊥
+-- What words select
+abbrev pub IsSelected : List (List ℕ) → Selection → Type 0
+IsSelected words selection = Select words selection.window (names_in selection)
 
 -- The request for a view of two files of these names
 abbrev pub request_of_two : List ℕ → List ℕ → Two → Request
 request_of_two name other two.Diff = Difference name other
 request_of_two name other two.Expect = Expectation name other
+request_of_two name other two.Dot = DotOf name other
+request_of_two name other (two.Timeline selection) = TimelineOf name other selection.window (names_in selection)
 
 -- The request that was read from words
 abbrev pub request_of : Read → Request
 request_of (read.One name view) = request_of_one name.now view
 request_of (read.Two name other view) = request_of_two name.now other.now view
+request_of (read.Fed name program inputs selection) = TimelineWith name.now program.now inputs.now selection.window (names_in selection)
 
 -- How many bytes the one file may have
 abbrev pub most_of_one : One → ℕ
@@ -53,4 +60,4 @@ most_of_one _ = TEXT_BYTES
 -- How many bytes the second of two files may have
 abbrev pub most_of_other : Two → ℕ
 most_of_other two.Diff = TEXT_BYTES
-most_of_other two.Expect = FILE_BYTES
+most_of_other _ = FILE_BYTES

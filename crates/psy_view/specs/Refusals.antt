@@ -1,43 +1,44 @@
--- The lines that are written where a text can't be viewed.
+-- The lines that are written where a text can't be viewed. Names stand in them as they are shown on a screen.
 use Rattle.std.specs.Prelude.{ℕ, List, ◌++◌, codes, decimal}
 use Rattle.psy_claims.specs.declared.fault.Slip.{Slip}
 use Rattle.psy_claims.specs.declared.fault.Slip.TheVariants.{Form, Dates, Name}
-
--- The words are of no listed form
-abbrev pub words_line : List ℕ
-words_line = codes "words\n"
+use Rattle.psy_show.specs.Lines.{shown}
 
 -- The file can't be read
 abbrev pub unread_line : List ℕ → List ℕ
-unread_line name = codes "read " ++ name ++ codes "\n"
+unread_line name = codes "read " ++ shown name ++ codes "\n"
 
 -- It has more bytes than it may have
 abbrev pub long_line : List ℕ → ℕ → List ℕ
-long_line name most = name ++ codes ": this file has more than " ++ decimal most ++ codes " bytes\n"
+long_line name most = shown name ++ codes ": this file has more than " ++ decimal most ++ codes " bytes\n"
 
 -- What stands behind the name is no refusal of a text
 abbrev pub no_refusal_line : List ℕ → List ℕ
-no_refusal_line name = name ++ codes ": what is told of this file is no line with which psyc refuses\n"
+no_refusal_line name = shown name ++ codes ": what is told of this file is no line with which psyc refuses\n"
 
 -- The text has no such byte, token or line
 abbrev pub beyond_line : List ℕ → List ℕ
-beyond_line name = name ++ codes ": this file has no such place\n"
+beyond_line name = shown name ++ codes ": this file has no such place\n"
 
 -- From this line on a text isn't what that command of psyc writes
 abbrev pub broken_line : List ℕ → ℕ → List ℕ → List ℕ
-broken_line name line command = name ++ codes ":" ++ decimal line ++ codes ": from this line on this isn't what `psyc " ++ command ++ codes "` writes\n"
+broken_line name line command = shown name ++ codes ":" ++ decimal line ++ codes ": from this line on this isn't what `psyc " ++ command ++ codes "` writes\n"
 
 -- This line of a log has a name that the summary doesn't list
 abbrev pub unlisted_line : List ℕ → ℕ → List ℕ
-unlisted_line name line = name ++ codes ":" ++ decimal line ++ codes ": the summary doesn't list this name\n"
+unlisted_line name line = shown name ++ codes ":" ++ decimal line ++ codes ": the summary doesn't list this name\n"
 
 -- The summary of a log doesn't list this name, for which was asked
 abbrev pub unknown_line : List ℕ → List ℕ → List ℕ
-unknown_line name asked = asked ++ codes ": the summary of " ++ name ++ codes " doesn't list this name\n"
+unknown_line name asked = shown asked ++ codes ": the summary of " ++ shown name ++ codes " doesn't list this name\n"
 
 -- No date of a run lies from the first of these to the second
 abbrev pub empty_line : List ℕ → ℕ → ℕ → List ℕ
-empty_line name from to = name ++ codes ": no date of this run lies from " ++ decimal from ++ codes " to " ++ decimal to ++ codes "\n"
+empty_line name from to = shown name ++ codes ": no date of this run lies from " ++ decimal from ++ codes " to " ++ decimal to ++ codes "\n"
+
+-- This line of what psyc wrote isn't of the program in that file
+abbrev pub foreign_line : List ℕ → ℕ → List ℕ → List ℕ
+foreign_line name line program = shown name ++ codes ":" ++ decimal line ++ codes ": this isn't of the program in " ++ shown program ++ codes "\n"
 
 -- What is wrong with a line of assertions
 abbrev pub slip_text : Slip → List ℕ
@@ -47,4 +48,4 @@ slip_text Name = codes "the summary of the log doesn't list this name"
 
 -- This line of a file of assertions is wrong
 abbrev pub wrong_line : List ℕ → ℕ → Slip → List ℕ
-wrong_line name line slip = name ++ codes ":" ++ decimal line ++ codes ": " ++ slip_text slip ++ codes "\n"
+wrong_line name line slip = shown name ++ codes ":" ++ decimal line ++ codes ": " ++ slip_text slip ++ codes "\n"

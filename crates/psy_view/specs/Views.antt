@@ -1,9 +1,12 @@
 -- The view of texts that a request asks for: the status, and what is written.
-use Rattle.std.specs.Prelude.{◌≡◌, ℕ, ◌-◌, ◌<◌, ◌≤◌, List, [], ◌∷◌, length, take, codes, None, Some, ◌⊎◌}
-use Rattle.std.specs.List.{slice_get}
+use Rattle.std.specs.Prelude.{◌≡◌, ℕ, ℤ, ◌-◌, ◌<◌, ◌≤◌, List, [], ◌∷◌, ◌++◌, length, take, codes, Option, None, Some, ◌⊎◌}
+use Rattle.std.specs.List.{flat_map, slice_get}
+use Rattle.psy_base.specs.declared.limits.TheConstants.{LINES}
 use Rattle.psy_log.specs.declared.note.Note.{Note}
+use Rattle.psy_log.specs.Forms.{limit_line, refused_line}
 use Rattle.psy_text.specs.Lines.{lines_of}
 use Rattle.psy_notes.specs.Stands.{run_begins, graph_begins}
+use Rattle.psy_notes.specs.declared.stand.Stand.{Stand}
 use Rattle.psy_notes.specs.Texts.{IsText, BreaksAt}
 use Rattle.psy_listed.specs.declared.fault.LogFault.{LogFault}
 use Rattle.psy_listed.specs.declared.fault.LogFault.TheVariants as fault
@@ -16,7 +19,8 @@ use Rattle.psy_claims.specs.declared.fault.Slip.{Slip}
 use Rattle.psy_claims.specs.Claims.{WrongAt}
 use Rattle.psy_claims.specs.Outcome.{IsTried}
 use Rattle.psy_where.specs.Explained.{Explains, IsNone, IsBeyond}
-use Rattle.psy_dot.specs.Drawing.{dot_of}
+use Rattle.psy_draw.specs.Folded.{folded_of}
+use Rattle.psy_draw.specs.Graph.{dot_of}
 use Rattle.psy_draw.specs.Dates.{last_date}
 use Rattle.psy_draw.specs.Listing.{first_unasked, first_unlisted}
 use Rattle.psy_draw.specs.Places.{window_end}
@@ -24,41 +28,55 @@ use Rattle.psy_draw.specs.Planning.{ShowsWindow}
 use Rattle.psy_draw.specs.declared.file.TheConstants.{TOO_LARGE}
 use Rattle.psy_draw.specs.declared.window.Window.{Window}
 use Rattle.psy_draw.specs.Showing.{ShowsSummary}
+use Rattle.psy_draw.specs.Silences.{Silent}
 use Rattle.psy_draw.specs.Spelling.{svg_of}
+use Rattle.psy_match.specs.Belonging.{foreign_in_graph, foreign_in_run}
+use Rattle.psy_match.specs.Feeding.{all_input_values, published_by}
+use Rattle.psy_match.specs.Points.{point_lines}
+use Rattle.psy_match.specs.Silences.{silences_in}
+use Rattle.psy_script.specs.Faults.{HasManyLines, IsFirst, line_number}
+use Rattle.psy_script.specs.Inputs.{AreListsOf, inputs_judge}
+use Rattle.psy_script.specs.declared.fault.LineKind.{LineKind}
+use Rattle.psy_tree.specs.declared.token.Token.{Token}
 use Rattle.psy_tree.specs.declared.unit.Unit.{Unit as Whole}
+use Rattle.psy_tree.specs.Tokens.{TokensOf}
 use Rattle.psy_source.specs.declared.refusal.Refusal.{Refusal}
 use Rattle.psy_source.specs.Lines.{line_of}
 use Rattle.psy_source.specs.Programs.{IsProgram, IsRefused}
 use Rattle.psy_feed.specs.Drawing.{flow_of}
 use Rattle.psy_gen.specs.Emission.{code_of}
 use Rattle.psy_listing.specs.Listing.{listing_of}
-use Rattle.psy_measures.specs.Measured.{IsUnmeasured}
+use Rattle.psy_report.specs.Measured.{IsUnmeasured}
 use Rattle.psy_report.specs.Reports.{IsReport}
-use Rattle.psy_view.specs.Asked.{Request, Where, Timeline, Dot, Table, Dump, Flow, Listing, Report, Difference, Expectation}
-use Rattle.psy_view.specs.Refusals.{no_refusal_line, beyond_line, broken_line, unlisted_line, unknown_line, empty_line, wrong_line}
+use Rattle.psy_view.specs.Asked.{Request, Where, Timeline, TimelineOf, TimelineWith, Dot, DotOf, Table, Dump, Flow, Listing, Report, Difference, Expectation}
+use Rattle.psy_view.specs.Refusals.{no_refusal_line, beyond_line, broken_line, unlisted_line, unknown_line, empty_line, foreign_line, wrong_line}
 
--- A picture of a window and of these names, of a run's notes, whose names the summary lists, as it does those that were asked for: an
--- SVG file of at most 2,000,000 bytes, which shows the lanes of the window and each line of the summary, or says that it would be too large
-pub record IsPicture (window : Window) (names : List (List ℕ)) (notes : List Note) (svg : List ℕ) : Type 0 where
+-- A picture of a window and of these names, of a run's notes, whose names the summary lists, as it does those that were asked for, with these
+-- silences: an SVG file of at most 2,000,000 bytes, which shows the lanes of the window and each line of the summary, or says that it would be too large
+pub record IsPicture (window : Window) (silences : List Silent) (names : List (List ℕ)) (notes : List Note) (svg : List ℕ) : Type 0 where
   pub listed : first_unlisted notes ≡ None
   pub known : first_unasked notes names ≡ None
   pub dated : window.from ≤ window_end window (last_date notes)
   pub whole : (inside : List ℕ) × (svg ≡ svg_of inside)
-  pub lanes : (svg ≡ svg_of TOO_LARGE.now) ⊎ ShowsWindow svg window names notes
+  pub lanes : (svg ≡ svg_of TOO_LARGE.now) ⊎ ShowsWindow svg window silences names notes
   pub shown : (svg ≡ svg_of TOO_LARGE.now) ⊎ ShowsSummary svg notes
   pub small : length svg ≤ 2000000
 
--- What is told of a text of which a window and these names are to be drawn: the picture; or that the text isn't what `psyc run` writes, that
--- it has a name that its summary doesn't list, that the summary doesn't list a name that was asked for, or that the window is empty
+-- What is told of a run with these notes, of which a window and these names are to be drawn: the picture; or that it has a name that its summary doesn't
+-- list, that the summary doesn't list a name that was asked for, or that the window is empty
+pub data IsShown (name : List ℕ) (window : Window) (silences : List Silent) (names : List (List ℕ)) (notes : List Note) : ℕ → List ℕ → Type 0 where
+  drawn : (svg : List ℕ) → IsPicture window silences names notes svg → IsShown name window silences names notes 0 svg
+  unlisted : (line : ℕ) → first_unlisted notes ≡ Some line → IsShown name window silences names notes 1 (unlisted_line name line)
+  unknown : (place : ℕ) (asked : List ℕ) → first_unlisted notes ≡ None → first_unasked notes names ≡ Some place → slice_get names place ≡ Some asked
+      → IsShown name window silences names notes 1 (unknown_line name asked)
+  empty : first_unlisted notes ≡ None → first_unasked notes names ≡ None → window_end window (last_date notes) < window.from
+      → IsShown name window silences names notes 1 (empty_line name window.from window.to)
+
+-- What is told of a text that is to be drawn: what is told of its notes; or that it isn't what `psyc run` writes
 pub data IsDrawn (name : List ℕ) (window : Window) (names : List (List ℕ)) (bytes : List ℕ) : ℕ → List ℕ → Type 0 where
-  drawn : (notes : List Note) (svg : List ℕ) → IsText run_begins bytes notes → IsPicture window names notes svg → IsDrawn name window names bytes 0 svg
+  of_notes : (notes : List Note) (status : ℕ) (text : List ℕ) → IsText run_begins bytes notes → IsShown name window [] names notes status text
+      → IsDrawn name window names bytes status text
   no_run : (line : ℕ) → BreaksAt run_begins bytes line → IsDrawn name window names bytes 1 (broken_line name line (codes "run"))
-  unlisted : (notes : List Note) (line : ℕ) → IsText run_begins bytes notes → first_unlisted notes ≡ Some line
-      → IsDrawn name window names bytes 1 (unlisted_line name line)
-  unknown : (notes : List Note) (place : ℕ) (asked : List ℕ) → IsText run_begins bytes notes → first_unasked notes names ≡ Some place
-      → slice_get names place ≡ Some asked → IsDrawn name window names bytes 1 (unknown_line name asked)
-  empty : (notes : List Note) → IsText run_begins bytes notes → window_end window (last_date notes) < window.from
-      → IsDrawn name window names bytes 1 (empty_line name window.from window.to)
 
 -- The text isn't what `psyc run` writes, or it has a name that its summary doesn't list; the line that says so, with the name of its file
 pub data IsNoLog (name bytes : List ℕ) : List ℕ → Type 0 where
@@ -92,35 +110,105 @@ pub data IsExpected (name claims log text : List ℕ) : ℕ → List ℕ → Typ
 abbrev pub without_feed : List ℕ → List ℕ
 without_feed line = take (length line - 1) line
 
--- What `where` is asked for a refused program: the line with which psyc refuses it
-abbrev pub where_refused : List ℕ → Refusal → Request
-where_refused name refusal = Where name (without_feed (line_of refusal))
+-- What `where` tells of a line, over a text of these bytes in a file of this name: its explanation, or why there is none
+pub data IsWhere (name line bytes : List ℕ) : ℕ → List ℕ → Type 0 where
+  explained : (text : List ℕ) → Explains name bytes line text → IsWhere name line bytes 0 text
+  no_refusal : IsNone line → IsWhere name line bytes 1 (no_refusal_line name)
+  beyond : IsBeyond bytes line → IsWhere name line bytes 1 (beyond_line name)
+
+-- What is told of a text that psyc refuses by this line: what `where` tells of the line, without its line feed
+abbrev pub IsTold : List ℕ → List ℕ → List ℕ → List ℕ → Type 0
+IsTold name bytes line text = (status : ℕ) × IsWhere name (without_feed line) bytes status text
+
+-- ---- what psyc wrote, and a program
+
+-- The bytes are what psyc wrote, and those are of this program, by `foreign`, which tells the first note that isn't.
+pub record IsPair (begins : Stand) (foreign : Whole → List Note → Option ℕ) (bytes text : List ℕ) (notes : List Note) (unit : Whole) : Type 0 where
+  pub written : IsText begins bytes notes
+  pub program : IsProgram text unit
+  pub own : foreign unit notes ≡ None
+
+-- Why there is no such pair, and what is told of it: the first bytes aren't what that command of psyc writes, the second are of no program, or what
+-- was written is of another one
+pub data IsUnpaired (begins : Stand) (command : List ℕ) (foreign : Whole → List Note → Option ℕ) (name program bytes text : List ℕ) : List ℕ → Type 0 where
+  breaks : (line : ℕ) → BreaksAt begins bytes line → IsUnpaired begins command foreign name program bytes text (broken_line name line command)
+  no_program : (notes : List Note) (refusal : Refusal) (told : List ℕ) → IsText begins bytes notes → IsRefused text refusal
+      → IsTold program text (line_of refusal) told → IsUnpaired begins command foreign name program bytes text told
+  is_foreign : (notes : List Note) (unit : Whole) (line : ℕ) → IsText begins bytes notes → IsProgram text unit → foreign unit notes ≡ Some line
+      → IsUnpaired begins command foreign name program bytes text (foreign_line name line program)
+
+-- The same of a run, and of a graph
+abbrev pub IsRunPair : List ℕ → List ℕ → List Note → Whole → Type 0
+IsRunPair bytes text notes unit = IsPair run_begins foreign_in_run bytes text notes unit
+
+abbrev pub IsRunUnpaired : List ℕ → List ℕ → List ℕ → List ℕ → List ℕ → Type 0
+IsRunUnpaired name program bytes text told = IsUnpaired run_begins (codes "run") foreign_in_run name program bytes text told
+
+abbrev pub IsGraphPair : List ℕ → List ℕ → List Note → Whole → Type 0
+IsGraphPair bytes text notes unit = IsPair graph_begins foreign_in_graph bytes text notes unit
+
+abbrev pub IsGraphUnpaired : List ℕ → List ℕ → List ℕ → List ℕ → List ℕ → Type 0
+IsGraphUnpaired name program bytes text told = IsUnpaired graph_begins (codes "graph") foreign_in_graph name program bytes text told
+
+-- The lines of a program's points, by its tokens
+abbrev pub AreLines : List ℕ → List (List (List ℕ)) → Type 0
+AreLines text lines = (tokens : List Token) × TokensOf text tokens × (lines ≡ point_lines text tokens)
+
+-- The line with which psyc refuses a text as inputs of a program
+pub data RefusesInputs (unit : Whole) (fed : List ℕ) : List ℕ → Type 0 where
+  at_line : (kind : LineKind) (line : ℕ) → IsFirst (inputs_judge unit) fed kind line
+      → RefusesInputs unit fed (refused_line (codes "inputs") (line_number kind) (Some line))
+  many_lines : HasManyLines fed → RefusesInputs unit fed (limit_line (codes "lines") LINES)
+
+-- What inputs publish up to the end of a run
+abbrev pub AreFed : Whole → List (List ℤ) → List Note → List Note → Type 0
+AreFed unit lists notes more = flat_map published_by more ≡ all_input_values unit lists (last_date notes)
+
+-- What is told of a run with these notes, by its program and inputs: the picture, with what the inputs publish behind the notes; or why the inputs are
+-- refused
+pub data IsFed (name inputs : List ℕ) (window : Window) (names : List (List ℕ)) (notes : List Note) (unit : Whole) (fed : List ℕ) : ℕ → List ℕ → Type 0 where
+  with_inputs : (lists : List (List ℤ)) (more : List Note) (status : ℕ) (told : List ℕ) → AreListsOf unit fed lists → AreFed unit lists notes more
+      → IsShown name window (silences_in unit notes) names (notes ++ more) status told → IsFed name inputs window names notes unit fed status told
+  no_inputs : (line told : List ℕ) → RefusesInputs unit fed line → IsTold inputs fed line told → IsFed name inputs window names notes unit fed 1 told
 
 -- The view, of texts of these bytes, that a request asks for; of a program that is refused, what `where` tells of the line
 pub data ViewOf : Request → List (List ℕ) → ℕ → List ℕ → Type 0 where
-  explained : (name line bytes text : List ℕ) → Explains name bytes line text → ViewOf (Where name line) (bytes ∷ []) 0 text
-  no_refusal : (name line bytes : List ℕ) → IsNone line → ViewOf (Where name line) (bytes ∷ []) 1 (no_refusal_line name)
-  beyond : (name line bytes : List ℕ) → IsBeyond bytes line → ViewOf (Where name line) (bytes ∷ []) 1 (beyond_line name)
+  where_told : (name line bytes : List ℕ) (status : ℕ) (text : List ℕ) → IsWhere name line bytes status text → ViewOf (Where name line) (bytes ∷ []) status text
   pictured : (name : List ℕ) (window : Window) (names : List (List ℕ)) (bytes : List ℕ) (status : ℕ) (text : List ℕ)
       → IsDrawn name window names bytes status text → ViewOf (Timeline name window names) (bytes ∷ []) status text
+  pictured_of : (name program : List ℕ) (window : Window) (names : List (List ℕ)) (bytes text : List ℕ) (notes : List Note) (unit : Whole) (status : ℕ)
+      (told : List ℕ) → IsRunPair bytes text notes unit → IsShown name window (silences_in unit notes) names notes status told
+      → ViewOf (TimelineOf name program window names) (bytes ∷ text ∷ []) status told
+  unpictured_of : (name program : List ℕ) (window : Window) (names : List (List ℕ)) (bytes text told : List ℕ)
+      → IsRunUnpaired name program bytes text told → ViewOf (TimelineOf name program window names) (bytes ∷ text ∷ []) 1 told
+  pictured_with : (name program inputs : List ℕ) (window : Window) (names : List (List ℕ)) (bytes text fed : List ℕ) (notes : List Note) (unit : Whole)
+      (status : ℕ) (told : List ℕ) → IsRunPair bytes text notes unit → IsFed name inputs window names notes unit fed status told
+      → ViewOf (TimelineWith name program inputs window names) (bytes ∷ text ∷ fed ∷ []) status told
+  unpictured_with : (name program inputs : List ℕ) (window : Window) (names : List (List ℕ)) (bytes text fed told : List ℕ)
+      → IsRunUnpaired name program bytes text told → ViewOf (TimelineWith name program inputs window names) (bytes ∷ text ∷ fed ∷ []) 1 told
   dotted : (name bytes : List ℕ) (notes : List Note) → IsText graph_begins bytes notes → ViewOf (Dot name) (bytes ∷ []) 0 (dot_of notes)
   no_graph : (name bytes : List ℕ) (line : ℕ) → BreaksAt graph_begins bytes line → ViewOf (Dot name) (bytes ∷ []) 1 (broken_line name line (codes "graph"))
+  dotted_of : (name program bytes text : List ℕ) (notes : List Note) (unit : Whole) (lines : List (List (List ℕ))) → IsGraphPair bytes text notes unit
+      → AreLines text lines → ViewOf (DotOf name program) (bytes ∷ text ∷ []) 0 (folded_of lines notes)
+  undotted_of : (name program bytes text told : List ℕ) → IsGraphUnpaired name program bytes text told
+      → ViewOf (DotOf name program) (bytes ∷ text ∷ []) 1 told
   tabled : (name bytes : List ℕ) (notes : List Note) → IsLog bytes notes → ViewOf (Table name) (bytes ∷ []) 0 (csv_of notes)
   no_table : (name bytes told : List ℕ) → IsNoLog name bytes told → ViewOf (Table name) (bytes ∷ []) 1 told
   dumped : (name bytes : List ℕ) (notes : List Note) → IsLog bytes notes → ViewOf (Dump name) (bytes ∷ []) 0 (vcd_of notes)
   no_dump : (name bytes told : List ℕ) → IsNoLog name bytes told → ViewOf (Dump name) (bytes ∷ []) 1 told
   flows : (name bytes : List ℕ) (unit : Whole) → IsProgram bytes unit → ViewOf (Flow name) (bytes ∷ []) 0 (flow_of unit)
-  no_flow : (name bytes : List ℕ) (refusal : Refusal) (status : ℕ) (text : List ℕ) → IsRefused bytes refusal
-      → ViewOf (where_refused name refusal) (bytes ∷ []) status text → ViewOf (Flow name) (bytes ∷ []) 1 text
-  lists : (name bytes : List ℕ) (unit : Whole) → IsProgram bytes unit → ViewOf (Listing name) (bytes ∷ []) 0 (listing_of unit (code_of unit))
-  no_listing : (name bytes : List ℕ) (refusal : Refusal) (status : ℕ) (text : List ℕ) → IsRefused bytes refusal
-      → ViewOf (where_refused name refusal) (bytes ∷ []) status text → ViewOf (Listing name) (bytes ∷ []) 1 text
+  no_flow : (name bytes : List ℕ) (refusal : Refusal) (text : List ℕ) → IsRefused bytes refusal → IsTold name bytes (line_of refusal) text
+      → ViewOf (Flow name) (bytes ∷ []) 1 text
+  lists : (name bytes : List ℕ) (unit : Whole) (lines : List (List (List ℕ))) → IsProgram bytes unit → AreLines bytes lines
+      → ViewOf (Listing name) (bytes ∷ []) 0 (listing_of unit (code_of unit) lines)
+  no_listing : (name bytes : List ℕ) (refusal : Refusal) (text : List ℕ) → IsRefused bytes refusal → IsTold name bytes (line_of refusal) text
+      → ViewOf (Listing name) (bytes ∷ []) 1 text
   reports : (name bytes : List ℕ) (until : ℕ) (unit : Whole) (text : List ℕ) → IsProgram bytes unit → IsReport unit until text
       → ViewOf (Report name until) (bytes ∷ []) 0 text
-  no_report : (name bytes : List ℕ) (until : ℕ) (refusal : Refusal) (status : ℕ) (text : List ℕ) → IsRefused bytes refusal
-      → ViewOf (where_refused name refusal) (bytes ∷ []) status text → ViewOf (Report name until) (bytes ∷ []) 1 text
-  unmeasured : (name bytes : List ℕ) (until : ℕ) (unit : Whole) (refusal : Refusal) (status : ℕ) (text : List ℕ) → IsProgram bytes unit
-      → IsUnmeasured unit until refusal → ViewOf (where_refused name refusal) (bytes ∷ []) status text → ViewOf (Report name until) (bytes ∷ []) 1 text
+  no_report : (name bytes : List ℕ) (until : ℕ) (refusal : Refusal) (text : List ℕ) → IsRefused bytes refusal → IsTold name bytes (line_of refusal) text
+      → ViewOf (Report name until) (bytes ∷ []) 1 text
+  unmeasured : (name bytes : List ℕ) (until : ℕ) (unit : Whole) (refusal : Refusal) (text : List ℕ) → IsProgram bytes unit
+      → IsUnmeasured unit until refusal → IsTold name bytes (line_of refusal) text → ViewOf (Report name until) (bytes ∷ []) 1 text
   compared : (name other first second : List ℕ) (status : ℕ) (text : List ℕ) → IsCompared name other first second status text
       → ViewOf (Difference name other) (first ∷ second ∷ []) status text
   expected : (name claims log text : List ℕ) (status : ℕ) (told : List ℕ) → IsExpected name claims log text status told

@@ -20,8 +20,22 @@ pub enum Asked<'a> {
     Two {
         name: &'a str,
         other: &'a str,
-        view: Two,
+        view: Two<'a>,
     },
+    /// The picture of the run in a file, by the program in another and the inputs in a third.
+    Fed {
+        name: &'a str,
+        program: &'a str,
+        inputs: &'a str,
+        selection: Selection<'a>,
+    },
+}
+
+/// What is drawn of a run: the dates that lie in a window, and the lanes of these names, or all where there are none.
+#[derive(Clone, Copy)]
+pub struct Selection<'a> {
+    pub window: Window,
+    pub names: &'a [String],
 }
 
 /// A view of one file.
@@ -29,8 +43,8 @@ pub enum Asked<'a> {
 pub enum One<'a> {
     /// To explain the refusal that these words are, of the text in this file.
     Where { words: &'a [String] },
-    /// To draw the dates of the run in this file that lie in a window: the lanes of these names, or all where there are none.
-    Timeline { window: Window, names: &'a [String] },
+    /// To draw the run in this file.
+    Timeline { selection: Selection<'a> },
     /// To draw the graphs in this file.
     Dot,
     /// To write the run as a table.
@@ -47,11 +61,15 @@ pub enum One<'a> {
 
 /// A view of two files.
 #[derive(Clone, Copy)]
-pub enum Two {
+pub enum Two<'a> {
     /// To compare two runs.
     Diff,
     /// To try the assertions in the second file on the run in the first.
     Expect,
+    /// To draw the graphs in the first file by the points of the program in the second.
+    Dot,
+    /// To draw the run in the first file by the program in the second.
+    Timeline { selection: Selection<'a> },
 }
 
 impl One<'_> {
@@ -66,14 +84,14 @@ impl One<'_> {
     }
 }
 
-impl Two {
+impl Two<'_> {
     /// How many bytes the second file may have; the first is one that psyc wrote.
     pub fn most_of_other(&self) -> usize
         ensures { result ≡ most_of_other self.now }
     {
         match *self {
             Two::Diff => TEXT_BYTES,
-            Two::Expect => FILE_BYTES,
+            Two::Expect | Two::Dot | Two::Timeline { .. } => FILE_BYTES,
         }
     }
 }

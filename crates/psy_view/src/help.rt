@@ -7,14 +7,16 @@ pub const HELP: &[u8] =
   psyview check PROGRAM ..    does what `psyc check` does, likewise
   psyview where FILE LINE..   shows where the line that psyc wrote points to in FILE,
                               the program, the inputs or the script, and says what it means
-  psyview timeline LOG [FROM TO] [NAME..]
+  psyview timeline LOG [PROGRAM [INPUTS]] [FROM TO] [NAME..]
                               draws what `psyc run` wrote as a picture, an SVG file: the dates
-                              FROM to TO, and variables, streams or agents of these names
+                              FROM to TO, and variables, streams or agents of these names; by
+                              PROGRAM what is silent is dashed, and by INPUTS inputs are drawn
   psyview csv LOG             writes it as a table
   psyview vcd LOG             writes it as a dump, for viewers of waveforms
   psyview diff LOG LOG        tells the first line in which two runs differ
   psyview expect LOG FILE     tells the first assertion in FILE that a run doesn't keep
-  psyview dot GRAPH           draws what `psyc graph` wrote as a text for Graphviz
+  psyview dot GRAPH [PROGRAM] draws what `psyc graph` wrote as a text for Graphviz; by PROGRAM
+                              folded by point, with lines of its text
   psyview flow PROGRAM        draws who feeds whom in a program, for Graphviz too
   psyview list PROGRAM        lists the instructions of its actions, with their numbers
   psyview report PROGRAM UNTIL  reports on it, up to a date: costs, demand, sizes, warnings

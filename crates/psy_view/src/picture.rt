@@ -1,36 +1,47 @@
 //! Pictures of runs.
-ghost use Rattle.std.specs.Prelude.{IfOk, map, string_bytes};
-ghost use Rattle.psy_view.specs.Views.{IsDrawn};
+ghost use Rattle.std.specs.Prelude.{[], IfOk, map, string_bytes};
+ghost use Rattle.psy_draw.specs.Silences.{silent_of};
+ghost use Rattle.psy_view.specs.Reading.{names_in};
+ghost use Rattle.psy_view.specs.Views.{IsDrawn, IsShown};
 
+use crate::asked::Selection;
 use crate::refusals::{broken_line, empty_line, unknown_line, unlisted_line};
 use crate::view::View;
 use psy_base::Memory;
-use psy_draw::{DrawFault, Window, timeline};
+use psy_draw::{DrawFault, Silence, timeline};
+use psy_log::Note;
 use psy_notes::{TextFault, read_run};
 use std::alloc::Global;
 
-/// The picture of a window of the run in a text, with the lanes of these names, or with all where there are none.
-#[tactic(auto, using(crate::specs::Views::drawn, crate::specs::Views::no_run, crate::specs::Views::unlisted))]
-pub fn drawn(
+/// The picture of what is selected of the run in a text.
+#[tactic(auto, using(crate::specs::Views::of_notes, crate::specs::Views::no_run))]
+pub fn drawn(alloc: Global, name: &str, selection: Selection, bytes: &[u8]) -> Result<View, Memory>
+    ensures { IfOk result (λ v. IsDrawn name.now selection.entry.window (names_in selection.entry) bytes.now v.status v.text.items) }
+{
+    match read_run(alloc, bytes) {
+        Ok(notes) => shown(alloc, name, selection, notes.as_slice(), &[]),
+        Err(TextFault::Line { line }) => Ok(View {
+            status: 1,
+            text: broken_line(alloc, name.as_bytes(), line, b"run")?,
+        }),
+        Err(TextFault::Memory) => Err(Memory),
+    }
+}
+
+/// The picture of what is selected of a run with these notes, some variables of which are silent.
+#[tactic(auto, using(crate::specs::Views::drawn))]
+pub fn shown(
     alloc: Global,
     name: &str,
-    window: Window,
-    names: &[String],
-    bytes: &[u8],
+    selection: Selection,
+    notes: &[Note],
+    silences: &[Silence],
 ) -> Result<View, Memory>
-    ensures { IfOk result (λ v. IsDrawn name.now window (map string_bytes names.now) bytes.now v.status v.text.items) }
+    ensures { IfOk result (λ v. IsShown name.now selection.entry.window (map silent_of silences.now) (names_in selection.entry) notes.now
+        v.status v.text.items) }
 {
-    let notes = match read_run(alloc, bytes) {
-        Ok(notes) => notes,
-        Err(TextFault::Line { line }) => {
-            return Ok(View {
-                status: 1,
-                text: broken_line(alloc, name.as_bytes(), line, b"run")?,
-            });
-        }
-        Err(TextFault::Memory) => return Err(Memory),
-    };
-    match timeline(alloc, name, notes.as_slice(), window, names) {
+    let Selection { window, names } = selection;
+    match timeline(alloc, name, notes, window, names, silences) {
         Ok(svg) => Ok(View {
             status: 0,
             text: svg,

@@ -1,17 +1,19 @@
 //! Views of programs that don't run: who feeds whom, the instructions, and the report.
-ghost use Rattle.std.specs.Prelude.{◌≡◌, ◌∷◌, ◌≤◌, [], ℕ, IfOk, length};
+ghost use Rattle.std.specs.Prelude.{◌∷◌, ◌≤◌, [], ℕ, List, IfOk, length};
 ghost use Rattle.psy_base.specs.declared.limits.TheConstants.{FILE_BYTES};
-ghost use Rattle.psy_source.specs.Lines.{line_of};
+ghost use Rattle.psy_meaning.specs.Units.{IsOfText};
+ghost use Rattle.psy_source.specs.Programs.{AreTokensOf, IsProgram};
 ghost use Rattle.psy_view.specs.Asked.{Flow, Listing, Report};
-ghost use Rattle.psy_view.specs.Views.{ViewOf, where_refused, without_feed};
+ghost use Rattle.psy_view.specs.Views.{ViewOf};
 
-use crate::view::{View, told_of};
+use crate::told::refused;
+use crate::view::View;
 use psy_base::Memory;
 use psy_feed::flow;
 use psy_listing::list;
-use psy_log::Line;
+use psy_match::point_lines;
 use psy_report::report;
-use psy_source::{Refusal, Stop, unit_of};
+use psy_source::{Program, Stop, program_of, unit_of};
 use std::alloc::Global;
 
 /// Who feeds whom in the program of a text. The only error is want of memory.
@@ -36,14 +38,27 @@ pub fn listed(alloc: Global, name: &str, bytes: &[u8]) -> Result<View, Memory>
     requires { length bytes.now ≤ FILE_BYTES }
     ensures { IfOk result (λ v. ViewOf (Listing name.now) (bytes.now ∷ []) v.status v.text.items) }
 {
-    match unit_of(alloc, bytes) {
-        Ok(unit) => Ok(View {
-            status: 0,
-            text: list(alloc, &unit)?,
-        }),
+    match program_of(alloc, bytes) {
+        Ok(program) => list_of(alloc, bytes, &program),
         Err(Stop::Refused(refusal)) => refused(alloc, name, bytes, refusal),
         Err(Stop::Memory) => Err(Memory),
     }
+}
+
+// The same of a program that was read.
+#[tactic(auto, using(crate::specs::Views::lists))]
+fn list_of(alloc: Global, bytes: &[u8], program: &Program) -> Result<View, Memory>
+    requires small { length bytes.now ≤ FILE_BYTES }
+    requires unit { IsProgram bytes.now program.now.unit }
+    requires text { IsOfText program.now.unit }
+    requires tokens { AreTokensOf bytes.now program.now.tokens }
+    ensures { (name : List ℕ) → IfOk result (λ v. ViewOf (Listing name) (bytes.now ∷ []) v.status v.text.items) }
+{
+    let lines = point_lines(alloc, bytes, program.tokens.as_slice())?;
+    Ok(View {
+        status: 0,
+        text: list(alloc, &program.unit, lines.as_slice())?,
+    })
 }
 
 /// The report on the program of a text, up to a date. The only error is want of memory.
@@ -62,26 +77,4 @@ pub fn reported(alloc: Global, name: &str, bytes: &[u8], until: u32) -> Result<V
         Err(Stop::Refused(refusal)) => refused(alloc, name, bytes, refusal),
         Err(Stop::Memory) => Err(Memory),
     }
-}
-
-// What is told of a program that is refused: what `where` tells of the line with which psyc refuses it.
-fn refused(alloc: Global, name: &str, bytes: &[u8], refusal: Refusal) -> Result<View, Memory>
-    requires { length bytes.now ≤ FILE_BYTES }
-    ensures status { IfOk result (λ v. v.status ≡ 1) }
-    ensures told { IfOk result (λ v. (status : ℕ) × ViewOf (where_refused name.now refusal) (bytes.now ∷ []) status v.text.items) }
-{
-    let mut line = Line::new();
-    line.set(&refusal.note());
-    let told = told_of(alloc, name, bytes, without_feed(line.bytes()))?;
-    Ok(View {
-        status: 1,
-        text: told.text,
-    })
-}
-
-// A line without its line feed
-fn without_feed(line: &[u8]) -> &[u8]
-    ensures { result.now ≡ without_feed line.now }
-{
-    &line[..line.len().saturating_sub(1)]
 }

@@ -1,19 +1,31 @@
 //! The lines that are written where a text can't be viewed.
 ghost use Rattle.std.specs.Prelude.{◌≡◌, ◌++◌, IfOk, codes, decimal};
-ghost use Rattle.psy_view.specs.Refusals.{beyond_line, broken_line, empty_line, long_line, no_refusal_line, slip_text};
+ghost use Rattle.psy_show.specs.Lines.{shown};
+ghost use Rattle.psy_view.specs.Refusals.{beyond_line, broken_line, empty_line, foreign_line, long_line, no_refusal_line, slip_text};
 ghost use Rattle.psy_view.specs.Refusals.{unknown_line, unlisted_line, unread_line, wrong_line};
 
 use itoa::Buffer;
 use psy_claims::Slip;
 use psy_draw::Window;
+use psy_show::add_shown;
 use psy_text::write::joined;
 use std::alloc::{AllocError, Global};
+
+// A name as it is shown.
+fn shown(alloc: Global, name: &[u8]) -> Result<Vec<u8>, AllocError>
+    ensures { IfOk result (λ text. text.items ≡ shown name.now) }
+{
+    let mut text = Vec::new(alloc);
+    add_shown(&mut text, name)?;
+    Ok(text)
+}
 
 /// `read NAME`
 pub fn unread_line(alloc: Global, name: &[u8]) -> Result<Vec<u8>, AllocError>
     ensures { IfOk result (λ line. line.items ≡ unread_line name.now) }
 {
-    joined(alloc, &[b"read ", name, b"\n"])
+    let name = shown(alloc, name)?;
+    joined(alloc, &[b"read ", name.as_slice(), b"\n"])
 }
 
 /// The file has more bytes than it may have.
@@ -22,9 +34,15 @@ pub fn long_line(alloc: Global, name: &[u8], most: usize) -> Result<Vec<u8>, All
 {
     let mut digits = Buffer::new();
     let most = digits.format(most as u64).as_bytes();
+    let name = shown(alloc, name)?;
     joined(
         alloc,
-        &[name, b": this file has more than ", most, b" bytes\n"],
+        &[
+            name.as_slice(),
+            b": this file has more than ",
+            most,
+            b" bytes\n",
+        ],
     )
 }
 
@@ -32,10 +50,11 @@ pub fn long_line(alloc: Global, name: &[u8], most: usize) -> Result<Vec<u8>, All
 pub fn no_refusal_line(alloc: Global, name: &[u8]) -> Result<Vec<u8>, AllocError>
     ensures { IfOk result (λ line. line.items ≡ no_refusal_line name.now) }
 {
+    let name = shown(alloc, name)?;
     joined(
         alloc,
         &[
-            name,
+            name.as_slice(),
             b": what is told of this file is no line with which psyc refuses\n",
         ],
     )
@@ -45,7 +64,11 @@ pub fn no_refusal_line(alloc: Global, name: &[u8]) -> Result<Vec<u8>, AllocError
 pub fn beyond_line(alloc: Global, name: &[u8]) -> Result<Vec<u8>, AllocError>
     ensures { IfOk result (λ line. line.items ≡ beyond_line name.now) }
 {
-    joined(alloc, &[name, b": this file has no such place\n"])
+    let name = shown(alloc, name)?;
+    joined(
+        alloc,
+        &[name.as_slice(), b": this file has no such place\n"],
+    )
 }
 
 /// From this line on the text isn't what that command of psyc writes.
@@ -59,10 +82,11 @@ pub fn broken_line(
 {
     let mut digits = Buffer::new();
     let line = digits.format(line as u64).as_bytes();
+    let name = shown(alloc, name)?;
     joined(
         alloc,
         &[
-            name,
+            name.as_slice(),
             b":",
             line,
             b": from this line on this isn't what `psyc ",
@@ -76,11 +100,32 @@ pub fn broken_line(
 pub fn unlisted_line(alloc: Global, name: &[u8], line: usize) -> Result<Vec<u8>, AllocError>
     ensures { IfOk result (λ text. text.items ≡ unlisted_line name.now line) }
 {
+    told_at(alloc, name, line, b"the summary doesn't list this name")
+}
+
+/// This line of what psyc wrote isn't of the program in that file.
+pub fn foreign_line(
+    alloc: Global,
+    name: &[u8],
+    line: usize,
+    program: &[u8],
+) -> Result<Vec<u8>, AllocError>
+    ensures { IfOk result (λ text. text.items ≡ foreign_line name.now line program.now) }
+{
     let mut digits = Buffer::new();
     let line = digits.format(line as u64).as_bytes();
+    let name = shown(alloc, name)?;
+    let program = shown(alloc, program)?;
     joined(
         alloc,
-        &[name, b":", line, b": the summary doesn't list this name\n"],
+        &[
+            name.as_slice(),
+            b":",
+            line,
+            b": this isn't of the program in ",
+            program.as_slice(),
+            b"\n",
+        ],
     )
 }
 
@@ -88,12 +133,14 @@ pub fn unlisted_line(alloc: Global, name: &[u8], line: usize) -> Result<Vec<u8>,
 pub fn unknown_line(alloc: Global, name: &[u8], asked: &[u8]) -> Result<Vec<u8>, AllocError>
     ensures { IfOk result (λ text. text.items ≡ unknown_line name.now asked.now) }
 {
+    let name = shown(alloc, name)?;
+    let asked = shown(alloc, asked)?;
     joined(
         alloc,
         &[
-            asked,
+            asked.as_slice(),
             b": the summary of ",
-            name,
+            name.as_slice(),
             b" doesn't list this name\n",
         ],
     )
@@ -107,10 +154,11 @@ pub fn empty_line(alloc: Global, name: &[u8], window: Window) -> Result<Vec<u8>,
     let from = first.format(window.from).as_bytes();
     let mut last = Buffer::new();
     let to = last.format(window.to).as_bytes();
+    let name = shown(alloc, name)?;
     joined(
         alloc,
         &[
-            name,
+            name.as_slice(),
             b": no date of this run lies from ",
             from,
             b" to ",
@@ -134,11 +182,12 @@ pub fn wrong_line(
 
 // This is told of a line.
 fn told_at(alloc: Global, name: &[u8], line: usize, told: &[u8]) -> Result<Vec<u8>, AllocError>
-    ensures { IfOk result (λ text. text.items ≡ name.now ++ codes ":" ++ decimal line ++ codes ": " ++ told.now ++ codes "\n") }
+    ensures { IfOk result (λ text. text.items ≡ shown name.now ++ codes ":" ++ decimal line ++ codes ": " ++ told.now ++ codes "\n") }
 {
     let mut digits = Buffer::new();
     let line = digits.format(line as u64).as_bytes();
-    joined(alloc, &[name, b":", line, b": ", told, b"\n"])
+    let name = shown(alloc, name)?;
+    joined(alloc, &[name.as_slice(), b":", line, b": ", told, b"\n"])
 }
 
 // What is wrong with it.

@@ -1,21 +1,26 @@
 //! The top call.
-ghost use Rattle.std.specs.Prelude.{◌≡◌, ◌≢◌, ℕ, ◌≤◌, ◌⊎◌, List, [], map, string_bytes, IfOk};
+ghost use Rattle.std.specs.Prelude.{◌≡◌, ◌≢◌, ℕ, ◌≤◌, ◌⊎◌, ◌++◌, List, [], map, string_bytes, IfOk};
 ghost use Rattle.psy_door.specs.Faults.{Rose};
 ghost use Rattle.psy_door.specs.Growth.{Grew, GrewByFront};
-ghost use Rattle.psy_view.specs.Answer.{Answers};
-ghost use Rattle.psy_view.specs.Asked.{AskNothing, Asks, File, Request, files_of};
+ghost use Rattle.psy_log.specs.Forms.{words_line};
+ghost use Rattle.psy_words.specs.Faults.{words_told};
+ghost use Rattle.psy_view.specs.Answer.{Answers, IsToldBehind};
+ghost use Rattle.psy_view.specs.Asked.{AskNothing, Asks, File, Request, TimelineWith, files_of};
 ghost use Rattle.psy_view.specs.Fetching.{ComeTo};
 ghost use Rattle.psy_view.specs.Outcome.{MayAnswer, Replies, Says};
-ghost use Rattle.psy_view.specs.Reading.{request_of, request_of_one, request_of_two};
+ghost use Rattle.psy_view.specs.Reading.{names_in, request_of, request_of_one, request_of_two};
 ghost use Rattle.psy_view.specs.Refusals.{unread_line};
 
-use crate::asked::{Asked, One, TEXT_BYTES, Two};
+use crate::asked::{Asked, One, Selection, TEXT_BYTES, Two};
 use crate::fetching::{Fetched, fetch};
+use crate::programs::{Names, drawn_with};
 use crate::view::{View, view_of, view_of_both};
 use crate::words::{read_text, read_words};
 use psy_base::Memory;
+use psy_base::limits::FILE_BYTES;
 use psy_door::{Shelf, Sink};
 use psy_log::write_all_of;
+use psy_words::words_told;
 use std::alloc::Global;
 
 // Writes a text and answers with this status.
@@ -27,6 +32,28 @@ fn say<S: Sink>(text: &[u8], status: u8, out: &mut S) -> u8
     match write_all_of(out, text) {
         Ok(()) => status,
         Err(_) => 4,
+    }
+}
+
+// The line that refuses words, and behind it what is wrong with them.
+fn refusal(alloc: Global, words: &[String]) -> Result<Vec<u8>, Memory>
+    ensures { IfOk result (λ text. text.items ≡ words_line ++ words_told (map string_bytes words.now)) }
+{
+    let mut text = Vec::from_slice(alloc, b"words\n")?;
+    text.extend_from_slice(words_told(alloc, words)?.as_slice())?;
+    Ok(text)
+}
+
+// Refuses words; without what is wrong with them where memory runs out.
+fn refuse<S: Sink>(alloc: Global, words: &[String], out: &mut S) -> u8
+    ensures counted { S.faults out.old ≤ S.faults out.new }
+    ensures unfailed { result ≢ 4 → S.faults out.new ≡ S.faults out.old }
+    ensures said { (more : List ℕ) × IsToldBehind (map string_bytes words.now) more
+        × Says (S.held out.old) (S.held out.new) (S.faults out.old) (S.faults out.new) result 2 (words_line ++ more) }
+{
+    match refusal(alloc, words) {
+        Ok(text) => say(text.as_slice(), 2, out),
+        Err(Memory) => say(b"words\n", 2, out),
     }
 }
 
@@ -79,6 +106,42 @@ fn view_of_two<F: Shelf>(
     }
 }
 
+// The picture of a run by its program and inputs; of the first of these files that can't be read or is too long, what is said of that.
+fn view_of_fed<F: Shelf>(
+    alloc: Global,
+    names: Names,
+    selection: Selection,
+    shelf: &mut F,
+) -> Result<View, Memory>
+    ensures replies { IfOk result (λ v. Replies (F.files shelf.old) (F.faults shelf.old) (F.faults shelf.new)
+        (TimelineWith names.entry.log.now names.entry.program.now names.entry.inputs.now selection.entry.window (names_in selection.entry))
+        v.status v.text.items) }
+    ensures shelf { (F.faults shelf.old ≤ F.faults shelf.new) × (F.files shelf.new ≡ F.files shelf.old) }
+{
+    let fetched = fetch(alloc, shelf, names.log, TEXT_BYTES)?;
+    let log = match fetched {
+        Fetched::Text(bytes) => bytes,
+        Fetched::Unread(said) => return Ok(said),
+    };
+    let also = fetch(alloc, shelf, names.program, FILE_BYTES)?;
+    let program = match also {
+        Fetched::Text(bytes) => bytes,
+        Fetched::Unread(said) => return Ok(said),
+    };
+    let last = fetch(alloc, shelf, names.inputs, FILE_BYTES)?;
+    match last {
+        Fetched::Text(inputs) => drawn_with(
+            alloc,
+            names,
+            selection,
+            log.as_slice(),
+            program.as_slice(),
+            inputs.as_slice(),
+        ),
+        Fetched::Unread(said) => Ok(said),
+    }
+}
+
 // What replies to a request.
 fn reply<F: Shelf>(alloc: Global, asked: &Asked, shelf: &mut F) -> Result<View, Memory>
     ensures replies { IfOk result (λ v. Replies (F.files shelf.old) (F.faults shelf.old) (F.faults shelf.new) (request_of asked.now) v.status v.text.items) }
@@ -87,6 +150,21 @@ fn reply<F: Shelf>(alloc: Global, asked: &Asked, shelf: &mut F) -> Result<View, 
     match asked {
         Asked::One { name, view } => view_of_one(alloc, name, view, shelf),
         Asked::Two { name, other, view } => view_of_two(alloc, name, other, view, shelf),
+        Asked::Fed {
+            name,
+            program,
+            inputs,
+            selection,
+        } => view_of_fed(
+            alloc,
+            Names {
+                log: name,
+                program,
+                inputs,
+            },
+            *selection,
+            shelf,
+        ),
     }
 }
 
@@ -124,7 +202,7 @@ pub fn psyview<F: Shelf, S: Sink>(alloc: Global, words: &[String], shelf: &mut F
         return say(text, 0, out);
     }
     let Some(asked) = read_words(words) else {
-        return say(b"words\n", 2, out);
+        return refuse(alloc, words, out);
     };
     match reply(alloc, &asked, shelf) {
         Ok(View { status, text }) => say(text.as_slice(), status, out),

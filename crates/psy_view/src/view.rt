@@ -3,18 +3,19 @@ ghost use Rattle.std.specs.Prelude.{◌≡◌, ◌≤◌, [], ◌∷◌, ◌++�
 ghost use Rattle.std.specs.List.{flat_map};
 ghost use Rattle.psy_base.specs.declared.limits.TheConstants.{FILE_BYTES};
 ghost use Rattle.psy_view.specs.Asked.{Dot, Where, line_of_words};
-ghost use Rattle.psy_view.specs.Reading.{most_of_one, request_of_one, request_of_two};
+ghost use Rattle.psy_view.specs.Reading.{most_of_one, most_of_other, request_of_one, request_of_two};
 ghost use Rattle.psy_view.specs.Views.{ViewOf};
 
 use crate::asked::{One, Two};
 use crate::log::{compared, dumped, expected, tabled};
 use crate::picture::drawn;
 use crate::plan::{fed, listed, reported};
-use crate::refusals::{beyond_line, broken_line, no_refusal_line};
+use crate::programs::{dotted_of, drawn_of};
+use crate::refusals::broken_line;
+use crate::told::told_of;
 use psy_base::Memory;
-use psy_dot::dot;
+use psy_draw::dot;
 use psy_notes::{TextFault, read_graph};
-use psy_where::{WhereFault, explain};
 use std::alloc::{AllocError, Global};
 
 /// A status, and what is written.
@@ -32,7 +33,7 @@ pub fn view_of(alloc: Global, name: &str, view: &One, bytes: &[u8]) -> Result<Vi
 {
     match *view {
         One::Where { words } => explained(alloc, name, words, bytes),
-        One::Timeline { window, names } => drawn(alloc, name, window, names, bytes),
+        One::Timeline { selection } => drawn(alloc, name, selection, bytes),
         One::Dot => dotted(alloc, name, bytes),
         One::Csv => tabled(alloc, name, bytes),
         One::Vcd => dumped(alloc, name, bytes),
@@ -52,11 +53,14 @@ pub fn view_of_both(
     first: &[u8],
     second: &[u8],
 ) -> Result<View, Memory>
+    requires { length second.now ≤ most_of_other view.now }
     ensures { IfOk result (λ v. ViewOf (request_of_two name.now other.now view.now) (first.now ∷ second.now ∷ []) v.status v.text.items) }
 {
     match *view {
         Two::Diff => compared(alloc, name, other, first, second),
         Two::Expect => expected(alloc, name, other, first, second),
+        Two::Dot => dotted_of(alloc, name, other, first, second),
+        Two::Timeline { selection } => drawn_of(alloc, name, other, selection, first, second),
     }
 }
 
@@ -91,32 +95,13 @@ fn add_words(line: &mut Vec<u8>, words: &[String]) -> Result<(), AllocError>
     Ok(())
 }
 
+#[tactic(auto, using(crate::specs::Views::where_told))]
 fn explained(alloc: Global, name: &str, words: &[String], bytes: &[u8]) -> Result<View, Memory>
     requires { length bytes.now ≤ FILE_BYTES }
     ensures { IfOk result (λ v. ViewOf (Where name.now (line_of_words (map string_bytes words.now))) (bytes.now ∷ []) v.status v.text.items) }
 {
     let line = line_of_words(alloc, words)?;
     told_of(alloc, name, bytes, line.as_slice())
-}
-
-/// What is told of a line with which psyc refuses the text in a file of this name. The only error is want of memory.
-#[tactic(auto, using(crate::specs::Views::explained, crate::specs::Views::no_refusal, crate::specs::Views::beyond))]
-pub fn told_of(alloc: Global, name: &str, bytes: &[u8], line: &[u8]) -> Result<View, Memory>
-    requires { length bytes.now ≤ FILE_BYTES }
-    ensures { IfOk result (λ v. ViewOf (Where name.now line.now) (bytes.now ∷ []) v.status v.text.items) }
-{
-    match explain(alloc, name.as_bytes(), bytes, line) {
-        Ok(text) => Ok(View { status: 0, text }),
-        Err(WhereFault::NoRefusal) => Ok(View {
-            status: 1,
-            text: no_refusal_line(alloc, name.as_bytes())?,
-        }),
-        Err(WhereFault::Beyond) => Ok(View {
-            status: 1,
-            text: beyond_line(alloc, name.as_bytes())?,
-        }),
-        Err(WhereFault::Memory) => Err(Memory),
-    }
 }
 
 #[tactic(auto, using(crate::specs::Views::dotted, crate::specs::Views::no_graph))]

@@ -1,12 +1,11 @@
 //! The words of the command line.
 ghost use Rattle.std.specs.Prelude.{◌≡◌, ◌≢◌, ◌<◌, ◌⊎◌, List, ◌∷◌, [], ℕ, None, Some, codes, false, length, map, true, MatchOption, string_bytes};
 ghost use Rattle.std.specs.List.{list_all};
-ghost use Rattle.psy_draw.specs.declared.window.Window.{Window};
 ghost use Rattle.psy_text.specs.Words.{number_of};
-ghost use Rattle.psy_view.specs.Asked.{Asks, AskForText, AskNoView, IsDate, Select, is_name};
-ghost use Rattle.psy_view.specs.Reading.{Draws, IsPictureOf, request_of, request_of_one, request_of_two};
+ghost use Rattle.psy_view.specs.Asked.{Asks, AskForText, AskNoView, IsDate, SelectNothing, begins_with_file, is_file, is_name};
+ghost use Rattle.psy_view.specs.Reading.{IsSelected, Selects, request_of, request_of_one, request_of_two};
 
-use crate::asked::{Asked, One, Two};
+use crate::asked::{Asked, One, Selection, Two};
 use crate::help::{HELP, VERSION};
 use psy_base::limits;
 use psy_draw::Window;
@@ -63,8 +62,10 @@ fn one_view(command: &str) -> Option<One<'static>>
 {
     match command {
         "timeline" => Some(One::Timeline {
-            window: Window::WHOLE,
-            names: &[],
+            selection: Selection {
+                window: Window::WHOLE,
+                names: &[],
+            },
         }),
         "dot" => Some(One::Dot),
         "csv" => Some(One::Csv),
@@ -97,19 +98,109 @@ fn of_more<'a>(command: &str, name: &'a str, line: &'a [String]) -> Option<Asked
     }
 }
 
-// `timeline LOG` and dates or names
+// `timeline LOG`, the files of a program and of inputs, and dates or names
 fn of_timeline<'a>(name: &'a str, words: &'a [String]) -> Option<Asked<'a>>
     ensures { MatchOption result (AskNoView (codes "timeline" ∷ name.now ∷ map string_bytes words.now))
         (λ asked. Asks (codes "timeline" ∷ name.now ∷ map string_bytes words.now) (request_of asked)) }
 {
-    let view = selected(words)?;
-    Some(Asked::One { name, view })
+    match cut_file(words) {
+        Some(cut) => of_program(name, cut.file, cut.rest),
+        None => of_log(name, words),
+    }
 }
 
-// The picture of the dates and names that words select.
-fn selected(words: &[String]) -> Option<One<'_>>
-    ensures { MatchOption result ((window : Window) (names : List (List ℕ)) → Select (map string_bytes words.now) window names → ⊥)
-        (λ view. IsPictureOf (map string_bytes words.now) view) }
+// A file among words, and what follows it.
+#[derive(Clone, Copy)]
+struct Cut<'a> {
+    file: &'a str,
+    rest: &'a [String],
+}
+
+// The first of some words, where that is a file, and what follows it.
+fn cut_file(words: &[String]) -> Option<Cut<'_>>
+    ensures { MatchOption result (begins_with_file (map string_bytes words.now) ≡ false)
+        (λ cut. (map string_bytes words.now ≡ cut.file.now ∷ map string_bytes cut.rest.now) × (is_file cut.file.now ≡ true)) }
+{
+    let (first, rest) = words.split_first()?;
+    let file = first.as_str();
+    if is_file(file.as_bytes()) {
+        Some(Cut { file, rest })
+    } else {
+        None
+    }
+}
+
+// The word is that of a file.
+fn is_file(word: &[u8]) -> bool
+    ensures { result ≡ is_file word.now }
+{
+    word.iter().any(|b| *b == b'.' || *b == b'/')
+}
+
+// `timeline LOG` and dates or names
+fn of_log<'a>(name: &'a str, words: &'a [String]) -> Option<Asked<'a>>
+    requires { begins_with_file (map string_bytes words.now) ≡ false }
+    ensures { MatchOption result (AskNoView (codes "timeline" ∷ name.now ∷ map string_bytes words.now))
+        (λ asked. Asks (codes "timeline" ∷ name.now ∷ map string_bytes words.now) (request_of asked)) }
+{
+    let selection = selected(words)?;
+    Some(Asked::One {
+        name,
+        view: One::Timeline { selection },
+    })
+}
+
+// `timeline LOG PROG`, a file of inputs, and dates or names
+fn of_program<'a>(name: &'a str, program: &'a str, words: &'a [String]) -> Option<Asked<'a>>
+    requires { is_file program.now ≡ true }
+    ensures { MatchOption result (AskNoView (codes "timeline" ∷ name.now ∷ program.now ∷ map string_bytes words.now))
+        (λ asked. Asks (codes "timeline" ∷ name.now ∷ program.now ∷ map string_bytes words.now) (request_of asked)) }
+{
+    match cut_file(words) {
+        Some(cut) => of_inputs(name, program, cut.file, cut.rest),
+        None => of_program_alone(name, program, words),
+    }
+}
+
+// `timeline LOG PROG` and dates or names
+fn of_program_alone<'a>(name: &'a str, program: &'a str, words: &'a [String]) -> Option<Asked<'a>>
+    requires program { is_file program.now ≡ true }
+    requires alone { begins_with_file (map string_bytes words.now) ≡ false }
+    ensures { MatchOption result (AskNoView (codes "timeline" ∷ name.now ∷ program.now ∷ map string_bytes words.now))
+        (λ asked. Asks (codes "timeline" ∷ name.now ∷ program.now ∷ map string_bytes words.now) (request_of asked)) }
+{
+    let selection = selected(words)?;
+    Some(Asked::Two {
+        name,
+        other: program,
+        view: Two::Timeline { selection },
+    })
+}
+
+// `timeline LOG PROG INPUTS` and dates or names
+fn of_inputs<'a>(
+    name: &'a str,
+    program: &'a str,
+    inputs: &'a str,
+    words: &'a [String],
+) -> Option<Asked<'a>>
+    requires program { is_file program.now ≡ true }
+    requires inputs { is_file inputs.now ≡ true }
+    ensures { MatchOption result (AskNoView (codes "timeline" ∷ name.now ∷ program.now ∷ inputs.now ∷ map string_bytes words.now))
+        (λ asked. Asks (codes "timeline" ∷ name.now ∷ program.now ∷ inputs.now ∷ map string_bytes words.now) (request_of asked)) }
+{
+    let selection = selected(words)?;
+    Some(Asked::Fed {
+        name,
+        program,
+        inputs,
+        selection,
+    })
+}
+
+// The dates and names that words select.
+fn selected(words: &[String]) -> Option<Selection<'_>>
+    ensures { MatchOption result (SelectNothing (map string_bytes words.now)) (λ selection. IsSelected (map string_bytes words.now) selection) }
 {
     match words {
         [from, to, names @ ..] => of_front(from.as_str(), to.as_str(), names, words),
@@ -118,10 +209,14 @@ fn selected(words: &[String]) -> Option<One<'_>>
 }
 
 // The same of words of which these are the first two, and those behind them.
-fn of_front<'a>(from: &str, to: &str, names: &'a [String], words: &'a [String]) -> Option<One<'a>>
+fn of_front<'a>(
+    from: &str,
+    to: &str,
+    names: &'a [String],
+    words: &'a [String],
+) -> Option<Selection<'a>>
     requires { map string_bytes words.now ≡ from.now ∷ to.now ∷ map string_bytes names.now }
-    ensures { MatchOption result ((window : Window) (names : List (List ℕ)) → Select (map string_bytes words.now) window names → ⊥)
-        (λ view. IsPictureOf (map string_bytes words.now) view) }
+    ensures { MatchOption result (SelectNothing (map string_bytes words.now)) (λ selection. IsSelected (map string_bytes words.now) selection) }
 {
     match window_of(from, to) {
         Some(window) => of_names(window, names),
@@ -139,13 +234,13 @@ fn window_of(from: &str, to: &str) -> Option<Window>
     Some(Window { from, to })
 }
 
-// The picture of this window and these names, where no date is among them.
-fn of_names(window: Window, names: &[String]) -> Option<One<'_>>
+// This window and these names, where all of them are names.
+fn of_names(window: Window, names: &[String]) -> Option<Selection<'_>>
     ensures { MatchOption result (list_all is_name (map string_bytes names.now) ≡ false)
-        (λ view. (list_all is_name (map string_bytes names.now) ≡ true) × Draws window (map string_bytes names.now) view) }
+        (λ selection. (list_all is_name (map string_bytes names.now) ≡ true) × Selects window (map string_bytes names.now) selection) }
 {
     if are_names(names) {
-        Some(One::Timeline { window, names })
+        Some(Selection { window, names })
     } else {
         None
     }
@@ -163,11 +258,11 @@ fn is_each_name(words: &[String]) -> bool
     words.iter().all(is_name)
 }
 
-// The word is no date.
+// The word is no date and no file.
 fn is_name(word: &String) -> bool
     ensures { result ≡ is_name (string_bytes word.now) }
 {
-    !is_number(word.as_bytes())
+    !(is_number(word.as_bytes()) || is_file(word.as_bytes()))
 }
 
 // `report PROG UNTIL`, or a command and the names of its two files, where it is neither `where` nor `timeline`
@@ -209,7 +304,7 @@ fn date(word: &[u8]) -> Option<u32>
 }
 
 // The view of two files that is made by a command other than `where`, `timeline` and `report`.
-fn two_view(command: &str) -> Option<Two>
+fn two_view(command: &str) -> Option<Two<'static>>
     requires unexplained { command.now ≢ codes "where" }
     requires undrawn { command.now ≢ codes "timeline" }
     requires unreported { command.now ≢ codes "report" }
@@ -219,6 +314,7 @@ fn two_view(command: &str) -> Option<Two>
     match command {
         "diff" => Some(Two::Diff),
         "expect" => Some(Two::Expect),
+        "dot" => Some(Two::Dot),
         _ => None,
     }
 }

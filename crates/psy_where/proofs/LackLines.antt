@@ -7,6 +7,7 @@ use Rattle.std.proofs.lemmas.Slice.Eq.{bytes_eq-Decides}
 use Rattle.std.proofs.lemmas.List.{append_cancel_right, take-append-drop}
 use Rattle.psy_tree.specs.Lexemes.{EndsBefore}
 use Rattle.psy_log.specs.Forms.{infeasible_line, on_processor}
+use Rattle.psy_log.proofs.lemmas.Pieces.{infeasible_line-pieces}
 use Rattle.psy_text.specs.Fronts.{Cuts}
 use Rattle.psy_where.specs.declared.lack.Lack.{Lack}
 use Rattle.psy_where.specs.Lacks.{IsLack}
@@ -36,7 +37,7 @@ pub lack_behind : (line rest : List ℕ) (lack : Lack) → IsLack line lack → 
     → rest ≡ decimal lack.length ++ (codes " " ++ (decimal lack.demand ++ (codes " " ++ (decimal lack.supply ++ on_processor lack.processor))))
 lack_behind line rest lack is stripped =
     let whole = codes "infeasible " ++ decimal lack.length ++ codes " " ++ decimal lack.demand ++ codes " " ++ decimal lack.supply ++ on_processor lack.processor in
-    stripped ∙ ap (drop 11) (append_cancel_right line whole (codes "\n") is.written)
+    stripped ∙ ap (drop 11) (append_cancel_right line whole (codes "\n") (is.written ∙ infeasible_line-pieces lack.length lack.demand lack.supply lack.processor))
     ∙ regroup (decimal lack.length) (codes " ") (decimal lack.demand) (codes " ") (decimal lack.supply) (on_processor lack.processor)
 
 gather : (a b c d e f : List ℕ) → (a ++ b) ++ ((c ++ d) ++ (e ++ f)) ≡ ((((a ++ b) ++ c) ++ d) ++ e) ++ f
@@ -50,4 +51,4 @@ lack_written line rest one two three lack begins is length demand supply process
     let pieces = gather (decimal lack.length) (codes " ") (decimal lack.demand) (codes " ") (decimal lack.supply) (on_processor lack.processor) in
     let behind = length ∙ ap (λ b. decimal lack.length ++ codes " " ++ b) (demand ∙ ap (λ b. decimal lack.demand ++ codes " " ++ b) (supply ∙ ap (λ b. decimal lack.supply ++ b) processor)) ∙ pieces in
     let whole = sym (take-append-drop 11 line) ∙ ap (λ bytes. bytes ++ drop 11 line) ((bytes_eq-Decides (take 11 line) (codes "infeasible ")).0 begins) ∙ ap (λ bytes. codes "infeasible " ++ bytes) (sym is ∙ behind) in
-    ap (λ bytes. bytes ++ codes "\n") whole
+    ap (λ bytes. bytes ++ codes "\n") whole ∙ sym (infeasible_line-pieces lack.length lack.demand lack.supply lack.processor)

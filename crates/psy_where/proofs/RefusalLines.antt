@@ -6,6 +6,7 @@ use Rattle.std.proofs.lemmas.Bool.Decides.{nat_tests}
 use Rattle.std.proofs.lemmas.Slice.Eq.{bytes_eq-Decides}
 use Rattle.std.proofs.lemmas.List.{append_cancel_left, append_cancel_right, take-append-drop}
 use Rattle.psy_log.specs.Forms.{at_place}
+use Rattle.psy_log.proofs.lemmas.Pieces.{refused_line-pieces}
 use Rattle.psy_text.specs.Fronts.{Cuts}
 use Rattle.psy_where.specs.declared.recall.What.{What}
 use Rattle.psy_where.specs.declared.recall.What.TheVariants.{Lex, Parse, Rule, Inputs, Script}
@@ -43,7 +44,7 @@ sentence_of-small Script number sentence is = grind (arith, nat_tests)
 
 -- The line without its line feed
 said : (line : List ℕ) (refusal : Refusal) (sentence : List ℕ) → Says line refusal sentence → line ≡ codes "refused " ++ word_of refusal.what ++ codes " " ++ decimal refusal.number ++ at_place (Some refusal.at)
-said line refusal sentence says = append_cancel_right line (codes "refused " ++ word_of refusal.what ++ codes " " ++ decimal refusal.number ++ at_place (Some refusal.at)) (codes "\n") says.written
+said line refusal sentence says = append_cancel_right line (codes "refused " ++ word_of refusal.what ++ codes " " ++ decimal refusal.number ++ at_place (Some refusal.at)) (codes "\n") (says.written ∙ refused_line-pieces (word_of refusal.what) refusal.number (Some refusal.at))
 
 -- It begins with `refused `.
 pub said-begins : (line : List ℕ) (refusal : Refusal) (sentence : List ℕ) → Says line refusal sentence → bytes_eq (take 8 line) (codes "refused ") ≡ true
@@ -72,7 +73,8 @@ Says-from line rest behind after sentence what number at begins is word digits p
     sym (take-append-drop 8 line) ∙ ap (λ bytes. bytes ++ drop 8 line) ((bytes_eq-Decides (take 8 line) (codes "refused ")).0 begins)
     ∙ ap (λ bytes. codes "refused " ++ bytes) (sym is ∙ word ∙ ap (λ bytes. word_of what ++ codes " " ++ bytes) (digits ∙ ap (λ bytes. decimal number ++ bytes) place)) in
     record {
-      written = ap (λ bytes. bytes ++ codes "\n") (whole ∙ ap (λ bytes. codes "refused " ++ bytes) (sym (append_assoc (word_of what ++ codes " ") (decimal number) (at_place (Some at)))));
+      written = ap (λ bytes. bytes ++ codes "\n") (whole ∙ ap (λ bytes. codes "refused " ++ bytes) (sym (append_assoc (word_of what ++ codes " ") (decimal number) (at_place (Some at)))))
+          ∙ sym (refused_line-pieces (word_of what) number (Some at));
       means = means;
       small = small;
     }

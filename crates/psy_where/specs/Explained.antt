@@ -1,5 +1,5 @@
 -- What is written for a refusal: where it is, what it means, the line, and a mark below.
-use Rattle.std.specs.Prelude.{◌≡◌, ℕ, ◌+◌, List, ◌++◌, length, take, codes, decimal, Option, None, Some}
+use Rattle.std.specs.Prelude.{◌≡◌, ℕ, ◌+◌, List, ◌++◌, length, take, drop, codes, decimal, Option, None, Some}
 use Rattle.std.specs.List.{prefix_len}
 use Rattle.bstr.specs.Utf8.{lossy_chars}
 use Rattle.psy_show.specs.Lines.{shown, shown_line}
@@ -43,7 +43,8 @@ sentence_line name sentence = shown name ++ codes ": " ++ sentence ++ codes "\n"
 -- What is written for a refusal of the text in a file of this name: its place is where it says, and help stands below.
 abbrev pub IsPlaced : List ℕ → List ℕ → Refusal → List ℕ → List ℕ → Type 0
 IsPlaced name text refusal sentence answer =
-    (place : ℕ) × (help : List ℕ) × IsPlaceOf refusal.what text refusal.at place × IsHelp text (take place text) (rest_at text place) refusal help
+    (place : ℕ) × (help : List ℕ) × IsPlaceOf refusal.what text refusal.at place
+    × IsHelp text (take place text) (drop place text) (rest_at text place) refusal help
     × (answer ≡ explanation name text refusal.what sentence place ++ help)
 
 -- The line is one with which psyc refuses, and this explains it: of a refusal that tells a place in the text of a file of this name, or of another line.

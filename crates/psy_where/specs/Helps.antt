@@ -1,41 +1,71 @@
 -- What is told below the mark of a refusal.
-use Rattle.std.specs.Prelude.{◌≡◌, ◌⊎◌, ℕ, ◌≤◌, List, [], ◌++◌, length}
+use Rattle.std.specs.Prelude.{◌≡◌, ◌⊎◌, ℕ, ◌==◌, ◌≤◌, if◌then◌else◌, List, [], ◌++◌, codes, length}
 use Rattle.psy_tree.specs.declared.token.Token.{Token}
 use Rattle.psy_tree.specs.Tokens.{TokensOf}
+use Rattle.psy_breach.specs.Breaches.{breach_hint}
 use Rattle.psy_expect.specs.Advice.{IsAdvice}
 use Rattle.psy_slip.specs.declared.slip.File.{File}
 use Rattle.psy_slip.specs.declared.slip.File.TheVariants as files
 use Rattle.psy_slip.specs.Looks.{file_hint}
 use Rattle.psy_slip.specs.Slips.{slip, slip_line}
 use Rattle.psy_text.specs.Words.{words_of}
-use Rattle.psy_where.specs.declared.recall.What.TheVariants.{Lex, Parse, Inputs, Script}
+use Rattle.psy_where.specs.declared.byte.ByteSlip.TheVariants.{Nested}
+use Rattle.psy_where.specs.declared.recall.What.TheVariants.{Lex, Parse, Rule, Inputs, Script}
 use Rattle.psy_where.specs.declared.recall.Refusal.{Refusal}
+use Rattle.psy_where.specs.Bytes.{byte_words, closes_first, slip_of}
 
 -- The text has tokens, and this is the advice for the place of that number among them.
 abbrev pub IsAdviceFor : List ℕ → ℕ → List ℕ → Type 0
 IsAdviceFor text at advice = (tokens : List Token) × TokensOf text tokens × (at ≤ length tokens) × IsAdvice tokens at advice
 
+-- The text has tokens, and this is told of the rule of that number, which is broken at the token of that number.
+abbrev pub IsBreachOf : List ℕ → ℕ → ℕ → List ℕ → Type 0
+IsBreachOf text rule at help = (tokens : List Token) × TokensOf text tokens × (at ≤ length tokens) × (help ≡ breach_hint text tokens rule at)
+
 -- The refusal is of a token with which no program goes on.
 abbrev pub IsOfSyntax : Refusal → Type 0
 IsOfSyntax refusal = (refusal.what ≡ Parse) × (refusal.number ≡ 1)
 
--- The refusal is of a line of inputs or of a script.
-abbrev pub IsOfLine : Refusal → Type 0
-IsOfLine refusal = (refusal.what ≡ Inputs) ⊎ (refusal.what ≡ Script)
+-- The refusal is of a text that is nested too deep.
+abbrev pub IsOfDepth : Refusal → Type 0
+IsOfDepth refusal = (refusal.what ≡ Parse) × (refusal.number ≡ 1 → ⊥)
+
+-- `hint: ..`
+abbrev pub hint_line : List ℕ → List ℕ
+hint_line words = codes "hint: " ++ words ++ codes "\n"
+
+-- What is told of a text that is nested too deep
+abbrev pub depth_help : List ℕ
+depth_help = hint_line (codes "split it: compute a part of the expression in a statement before, or put a part of the statements into a function")
+
+-- What is told of bytes that can't be cut into tokens, by the number of the fault, the bytes before the place, and those from it on
+abbrev pub lex_words : ℕ → List ℕ → List ℕ → List ℕ
+lex_words number front back =
+    if number == 1 then byte_words (slip_of front back)
+    else if number == 2 then codes "choose a shorter name"
+    else if number == 3 then codes "a value has 32 bits, from -2147483648 to 2147483647"
+    else codes "a comment that begins with `/*` ends with `*/`"
 
 -- What is told of a line in a file of inputs or in a script, behind the bytes of earlier lines: the word at fault, and what the file looks like
 abbrev pub line_help : File → ℕ → List ℕ → List ℕ → List ℕ → List ℕ
 line_help file number text earlier line = slip_line (slip file number earlier (words_of line)) ++ file_hint file text
 
--- What is told of a token with which no program goes on: advice, and what the file looks like
-abbrev pub IsSyntaxHelp : List ℕ → ℕ → List ℕ → Type 0
-IsSyntaxHelp text at help = (advice : List ℕ) × IsAdviceFor text at advice × (help ≡ advice ++ file_hint files.Program text)
+-- That a comment was closed before these bytes, where it was
+abbrev pub nested_help : List ℕ → List ℕ
+nested_help back = if closes_first back then hint_line (byte_words Nested) else []
 
--- What stands below the mark: help for a token with which no program goes on; for a byte that begins no token, what the file looks like; help for a line of
--- inputs or of a script, whose bytes are given, as are those before it; and below others nothing.
-pub record IsHelp (text earlier line : List ℕ) (refusal : Refusal) (help : List ℕ) : Type 0 where
-  pub advice : IsOfSyntax refusal → IsSyntaxHelp text refusal.at help
-  pub tokens : refusal.what ≡ Lex → help ≡ file_hint files.Program text
+-- What is told of a token with which no program goes on: advice, that a comment was closed before it, and what the file looks like
+abbrev pub IsSyntaxHelp : List ℕ → List ℕ → ℕ → List ℕ → Type 0
+IsSyntaxHelp text back at help =
+    (advice : List ℕ) × IsAdviceFor text at advice × (help ≡ advice ++ nested_help back ++ file_hint files.Program text)
+
+-- What stands below the mark, given the bytes before the place, those from it on, and those of them that are of its line: what is told of a token with which
+-- no program goes on, of bytes that can't be cut into tokens, of a rule that is broken, of a text that is nested too deep, or of a line of inputs or of a
+-- script; and what the file looks like.
+pub record IsHelp (text earlier back line : List ℕ) (refusal : Refusal) (help : List ℕ) : Type 0 where
+  pub advice : IsOfSyntax refusal → IsSyntaxHelp text back refusal.at help
+  pub depth : IsOfDepth refusal → help ≡ depth_help
+  pub tokens : refusal.what ≡ Lex → help ≡ hint_line (lex_words refusal.number earlier back) ++ file_hint files.Program text
+  pub rule : refusal.what ≡ Rule → IsBreachOf text refusal.number refusal.at help
   pub inputs : refusal.what ≡ Inputs → help ≡ line_help files.Inputs refusal.number text earlier line
   pub script : refusal.what ≡ Script → help ≡ line_help files.Script refusal.number text earlier line
-  pub nothing : (IsOfSyntax refusal → ⊥) → (refusal.what ≡ Lex → ⊥) → (IsOfLine refusal → ⊥) → help ≡ []

@@ -1,4 +1,6 @@
 -- The definitions of this crate, by subject.
+pub mod Besides
+pub mod Bytes
 pub mod Explained
 pub mod Helps
 pub mod Lacks

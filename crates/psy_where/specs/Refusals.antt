@@ -17,7 +17,7 @@ word_of Script = codes "script"
 -- What a refusal of each number means
 abbrev pub sentence_of : What → ℕ → Option (List ℕ)
 sentence_of Lex number =
-    if number == 1 then Some (codes "no token begins with this byte, or it may not follow the number before it")
+    if number == 1 then Some (codes "this byte can't stand here")
     else if number == 2 then Some (codes "this word has more than 32 bytes")
     else if number == 3 then Some (codes "this number is above 2147483647")
     else if number == 4 then Some (codes "this comment has no end")
@@ -28,16 +28,16 @@ sentence_of Parse number =
     else None
 sentence_of Rule number =
     if number == 1 then Some (codes "this name is declared already")
-    else if number == 2 then Some (codes "nothing of this name is declared, or only further below")
-    else if number == 3 then Some (codes "this may not stand here: the name is of another kind, as an input outside `past`, the arguments are another number, or the statement belongs elsewhere")
+    else if number == 2 then Some (codes "no declaration of this name is in reach here")
+    else if number == 3 then Some (codes "this can't stand here")
     else if number == 4 then Some (codes "this variable is another agent's: only `past` looks at it")
     else if number == 5 then Some (codes "this agent doesn't receive that stream")
     else if number == 6 then Some (codes "`past` reaches back beyond the depth of the variable")
     else if number == 7 then Some (codes "this loop has no `max` and no `advance`, so it might never end")
-    else if number == 8 then Some (codes "this loop has both `max` and an `advance`, or no `max` and a way round without an `advance`")
+    else if number == 8 then Some (codes "a loop has either a `max` and no `advance`, or no `max` and an `advance` on each way round")
     else if number == 9 then Some (codes "a path through this body meets no `advance`")
     else if number == 10 then Some (codes "this function isn't declared above the one that calls it")
-    else if number == 11 then Some (codes "the shift of this clock isn't below its factor, or its period is above 10000 ticks")
+    else if number == 11 then Some (codes "a number of this clock isn't allowed")
     else if number == 12 then Some (codes "this number is out of its range")
     else None
 sentence_of Inputs number =

@@ -5,6 +5,7 @@ ghost use Rattle.psy_where.specs.declared.fault.WhereFault.{WhereFault};
 ghost use Rattle.psy_where.specs.declared.recall.What.{What};
 ghost use Rattle.psy_where.specs.Explained.{Explains, IsNone, IsBeyond, IsPlaced, explanation, sentence_line};
 ghost use Rattle.psy_where.specs.Lacks.{lack_sentence, supplier};
+ghost use Rattle.psy_where.specs.Plains.{plain_sentence};
 ghost use Rattle.psy_where.specs.Refusals.{IsPlaceOf};
 
 use crate::fault::WhereFault;
@@ -12,9 +13,10 @@ use crate::help::help;
 use crate::lack::{Lack, read_lack};
 use crate::mark::marked;
 use crate::place::place;
-use crate::plain::{plain_sentence, read_plain};
+use crate::plain::{Plain, plain_sentence, read_plain};
 use crate::recall::{Told, What, read_refusal};
 use crate::spot::spot_at;
+use psy_base::Memory;
 use psy_show::{add_line, add_shown, chars_len};
 use psy_text::line::without_return;
 use psy_text::write::{add_labelled, add_number};
@@ -38,6 +40,13 @@ pub fn explain(alloc: Global, name: &[u8], text: &[u8], line: &[u8]) -> Result<V
         return Ok(lack_line(alloc, name, lack)?);
     }
     Err(WhereFault::NoRefusal)
+}
+
+/// What a line means that tells no place and has no number of its own, behind the name of the file that it speaks of. The only error is want of memory.
+pub fn plain_told(alloc: Global, name: &[u8], plain: Plain) -> Result<Vec<u8>, Memory>
+    ensures { IfOk result (λ told. told.items ≡ sentence_line name.now (plain_sentence plain)) }
+{
+    Ok(sentence_line(alloc, name, plain_sentence(plain))?)
 }
 
 // `NAME: SENTENCE`
@@ -92,7 +101,8 @@ fn placed(alloc: Global, name: &[u8], text: &[u8], told: Told) -> Result<Vec<u8>
     let what = told.refusal.what;
     let place = place(alloc, what, text, told.refusal.at)?;
     let line = without_return(spot_at(text, place).behind);
-    let help = help(alloc, text, &text[..place], line, told.refusal)?;
+    let (earlier, back) = text.split_at(place);
+    let help = help(alloc, text, earlier, back, line, told.refusal)?;
     let mut answer = explanation(alloc, name, text, what, told.sentence, place)?;
     answer.extend_from_slice(help.as_slice())?;
     Ok(answer)

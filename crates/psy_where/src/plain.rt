@@ -117,36 +117,36 @@ pub fn plain_sentence(plain: Plain) -> &'static [u8]
 {
     match plain {
         Plain::Words =>
-            b"the words behind `psyc` are none of its commands, or a number among them isn't of 1 to 12 digits, or is too great",
+            b"psyc has `run PROGRAM UNTIL [INPUTS [SCRIPT]]`, `check PROGRAM UNTIL`, `graph PROGRAM`, `make SEED` and `trial SEED UNTIL`; UNTIL up to 1000000",
         Plain::ReadProgram =>
-            b"psyc couldn't read the program: the file isn't there, is a folder, or the system refused it",
+            b"psyc couldn't read the program: look whether a file of this name is there, is no folder, and may be read by you",
         Plain::ReadInputs =>
-            b"psyc couldn't read the inputs: the file isn't there, is a folder, or the system refused it",
+            b"psyc couldn't read the inputs: look whether a file of this name is there, is no folder, and may be read by you",
         Plain::ReadScript =>
-            b"psyc couldn't read the script: the file isn't there, is a folder, or the system refused it",
-        Plain::LongProgram => b"the program has more bytes than that",
-        Plain::LongInputs => b"the file of inputs has more bytes than that",
-        Plain::LongScript => b"the script has more bytes than that",
-        Plain::Clocks => b"more clocks are declared than that",
-        Plain::Agents => b"more agents are declared than that",
-        Plain::Variables => b"more temporal variables and inputs are declared than that",
-        Plain::Streams => b"more streams are declared than that",
-        Plain::Functions => b"more functions are declared than that",
+            b"psyc couldn't read the script: look whether a file of this name is there, is no folder, and may be read by you",
+        Plain::LongProgram => b"the program has more than 262144 bytes",
+        Plain::LongInputs => b"the file of inputs has more than 262144 bytes",
+        Plain::LongScript => b"the script has more than 262144 bytes",
+        Plain::Clocks => b"more than 64 clocks are declared",
+        Plain::Agents => b"more than 64 agents are declared",
+        Plain::Variables => b"more than 256 temporal variables and inputs are declared",
+        Plain::Streams => b"more than 64 streams are declared",
+        Plain::Functions => b"more than 64 functions are declared",
         Plain::Names =>
-            b"an agent or a function has more names than that: parameters, variables and arrays",
+            b"an agent or a function has more than 64 names: parameters, variables and arrays",
         Plain::Points =>
-            b"an agent has more points than that: its `advance` statements, and the head of its body",
+            b"an agent has more than 256 points: its `advance` statements, and the head of its body",
         Plain::Nodes =>
-            b"an agent's actions may start at more pairs of a point and a date of its cycle than that: use clocks whose periods share more",
+            b"an agent's actions may start at more than 512 pairs of a point and a date of its cycle: use clocks whose periods share more",
         Plain::Edges =>
-            b"an agent's graph has more edges than that: use clocks whose periods share more",
+            b"an agent's graph has more than 4096 edges: use clocks whose periods share more",
         Plain::Ring =>
-            b"more values of a variable would have to be kept than that: use a slower clock, or a shorter action",
+            b"more than 65536 values of a variable would have to be kept: use a slower clock, or a shorter action",
         Plain::Queue =>
-            b"more messages of a stream may be held at a time than that: send less, keep them shorter, or make the receiver faster",
+            b"more than 65536 messages of a stream may be held at a time: send less, keep them shorter, or make the receiver faster",
         Plain::Cells =>
-            b"a table for the demand or for a queue would have more cells than that: lower budgets, or use clocks whose periods share more",
-        Plain::Lines => b"the file has more lines than that",
-        Plain::Cycles => b"the last date times the cycles of a tick is more than that",
+            b"a table for the demand or for a queue would have more than 4000000 cells: lower budgets, or use clocks whose periods share more",
+        Plain::Lines => b"the file has more than 10000 lines",
+        Plain::Cycles => b"the last date times the cycles of a tick is more than 100000000",
     }
 }

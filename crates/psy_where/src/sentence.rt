@@ -23,7 +23,7 @@ fn lexing(number: u32) -> Option<&'static [u8]>
     ensures { option_copied result ≡ sentence_of What.Lex number }
 {
     match number {
-        1 => Some(b"no token begins with this byte, or it may not follow the number before it"),
+        1 => Some(b"this byte can't stand here"),
         2 => Some(b"this word has more than 32 bytes"),
         3 => Some(b"this number is above 2147483647"),
         4 => Some(b"this comment has no end"),
@@ -50,22 +50,18 @@ fn rule(number: u32) -> Option<&'static [u8]>
 {
     match number {
         1 => Some(b"this name is declared already"),
-        2 => Some(b"nothing of this name is declared, or only further below"),
-        3 => Some(
-            b"this may not stand here: the name is of another kind, as an input outside `past`, the arguments are another number, or the statement belongs elsewhere",
-        ),
+        2 => Some(b"no declaration of this name is in reach here"),
+        3 => Some(b"this can't stand here"),
         4 => Some(b"this variable is another agent's: only `past` looks at it"),
         5 => Some(b"this agent doesn't receive that stream"),
         6 => Some(b"`past` reaches back beyond the depth of the variable"),
         7 => Some(b"this loop has no `max` and no `advance`, so it might never end"),
         8 => Some(
-            b"this loop has both `max` and an `advance`, or no `max` and a way round without an `advance`",
+            b"a loop has either a `max` and no `advance`, or no `max` and an `advance` on each way round",
         ),
         9 => Some(b"a path through this body meets no `advance`"),
         10 => Some(b"this function isn't declared above the one that calls it"),
-        11 => Some(
-            b"the shift of this clock isn't below its factor, or its period is above 10000 ticks",
-        ),
+        11 => Some(b"a number of this clock isn't allowed"),
         12 => Some(b"this number is out of its range"),
         _ => None,
     }

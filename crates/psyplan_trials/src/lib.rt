@@ -1,10 +1,8 @@
-//! Trials of what is told of programs before they run, from their texts: who feeds whom, the report, the listing, and refusals.
+//! Trials of what is told of programs before they run, from their texts: who feeds whom, the report, and refusals.
 #![tactic(auto)]
 
 #[cfg(test)]
 mod flows;
-#[cfg(test)]
-mod listings;
 #[cfg(test)]
 mod reports;
 #[cfg(test)]

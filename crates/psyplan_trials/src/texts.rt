@@ -3,7 +3,6 @@ ghost use Rattle.std.specs.Prelude.{◌≤◌, length};
 ghost use Rattle.psy_base.specs.declared.limits.TheConstants.{FILE_BYTES};
 
 use psy_feed::flow;
-use psy_listing::list;
 use psy_log::Line;
 use psy_report::report;
 use psy_source::{Stop, unit_of};
@@ -32,16 +31,6 @@ pub fn compare_flow(rt: &impl Abort, alloc: Global, text: &[u8], want: &str) -> 
     let unit = unit_of(alloc, text)?;
     let flow = flow(alloc, &unit)?;
     assert_eq!(rt; flow.as_slice(), want.as_bytes());
-    Ok(())
-}
-
-/// Compares the listing of a program with the one that is wanted.
-pub fn compare_listing(rt: &impl Abort, alloc: Global, text: &[u8], want: &str) -> Result<(), Fail>
-    requires { length text.now ≤ FILE_BYTES }
-{
-    let unit = unit_of(alloc, text)?;
-    let listing = list(alloc, &unit)?;
-    assert_eq!(rt; listing.as_slice(), want.as_bytes());
     Ok(())
 }
 

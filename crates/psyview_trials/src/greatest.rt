@@ -9,7 +9,7 @@ use std::test::Fail;
 
 // Draws these notes, and looks for these pieces in the picture.
 fn look<R: AllocGlobal + Abort>(rt: &R, notes: &[Note], pieces: &[&str]) -> Result<(), Fail> {
-    let svg = timeline(rt.alloc(), "greatest", notes, Window::WHOLE, &[])?;
+    let svg = timeline(rt.alloc(), "greatest", notes, Window::WHOLE, &[], &[])?;
     let text = str::from_utf8(svg.as_slice()).unwrap_or("");
     for piece in pieces {
         assert!(rt; text.contains(*piece), "{piece}");

@@ -2,6 +2,10 @@
 #![tactic(auto)]
 
 #[cfg(test)]
+mod folds;
+#[cfg(test)]
+mod graphs;
+#[cfg(test)]
 mod greatest;
 #[cfg(test)]
 mod windows;

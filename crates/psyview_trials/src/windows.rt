@@ -70,7 +70,7 @@ fn names(alloc: Global, texts: &[&str]) -> Result<Vec<String>, AllocError> {
 #[test]
 fn a_window_begins_with_the_value_that_holds(rt: HostRuntime) -> Result<(), Fail> {
     let window = Window { from: 4, to: 14 };
-    let svg = timeline(rt.alloc(), "run.log", &RUN, window, &[])?;
+    let svg = timeline(rt.alloc(), "run.log", &RUN, window, &[], &[])?;
     let text = str::from_utf8(svg.as_slice()).unwrap_or("");
     // 96 pixels a date: 12 stands at 768, the stop of date 6 at 192, and no message is in the window.
     let pieces = [
@@ -90,7 +90,14 @@ fn a_window_begins_with_the_value_that_holds(rt: HostRuntime) -> Result<(), Fail
 #[test]
 fn lanes_are_those_that_were_asked_for(rt: HostRuntime) -> Result<(), Fail> {
     let asked = names(rt.alloc(), &["s"])?;
-    let svg = timeline(rt.alloc(), "run.log", &RUN, Window::WHOLE, asked.as_slice())?;
+    let svg = timeline(
+        rt.alloc(),
+        "run.log",
+        &RUN,
+        Window::WHOLE,
+        asked.as_slice(),
+        &[],
+    )?;
     let text = str::from_utf8(svg.as_slice()).unwrap_or("");
     assert!(rt; text.contains("<g class=\"stream\""));
     assert!(rt; !text.contains("<g class=\"variable\""));
@@ -103,10 +110,17 @@ fn what_is_not_there_is_refused(rt: HostRuntime) -> Result<(), Fail> {
     let asked = names(rt.alloc(), &["v", "w"])?;
     let late = Window { from: 21, to: 30 };
     let turned = Window { from: 9, to: 8 };
-    let unknown = timeline(rt.alloc(), "run.log", &RUN, Window::WHOLE, asked.as_slice());
+    let unknown = timeline(
+        rt.alloc(),
+        "run.log",
+        &RUN,
+        Window::WHOLE,
+        asked.as_slice(),
+        &[],
+    );
     assert!(rt; matches!(unknown, Err(DrawFault::Unknown { place: 1 })));
     for window in [late, turned] {
-        let empty = timeline(rt.alloc(), "run.log", &RUN, window, &[]);
+        let empty = timeline(rt.alloc(), "run.log", &RUN, window, &[], &[]);
         assert!(rt; matches!(empty, Err(DrawFault::Empty)));
     }
     Ok(())

@@ -12,10 +12,6 @@ module _ (Is Is' : Refusal → Type 0) (by : (refusal : Refusal) → Is refusal 
   stops_by (stop.Refused refusal) h = by refusal h
   stops_by stop.Memory h = h
 
-  pub last_by : {X : Type 0} (result : Result X Stop) → IfErr result (Stops Is) → IfErr result (Stops Is')
-  last_by (Ok x) h = tt
-  last_by (Err s) h = stops_by s h
-
   -- What `?` hands on
   pub exit_by : {X : Type 0} (s : Stop) (result : Result X Stop) → IsErrAnd result (λ handed. handed ≡ s) → Stops Is s → IfErr result (Stops Is')
   exit_by s (Ok x) is h = absurd is

@@ -6,4 +6,4 @@ use Rattle.psy_expect.proofs.follow.may_follow.Goals as goal
 pub returns-clause-tells : goal.returns-clause-tells
 returns-clause-tells c =
     may_follow_by c.args.front.now c.as_slice.result.now c.in_ok-token_of.field-0 c.args.terminal c.in_ok-is_front.is_front
-    (c.as_slice.ensures ∙ c.in_ok-push.ensures.ok) c.in_ok-token_of.ensures c.in_ok-is_front.ensures
+    (c.as_slice.ensures ∙ c.in_ok-push.ensures.ok) c.in_ok-token_of.ensures.is c.in_ok-is_front.ensures

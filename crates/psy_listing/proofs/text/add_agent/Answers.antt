@@ -5,5 +5,5 @@ use Rattle.psy_listing.proofs.text.add_agent.Goals as goal
 
 pub points-preserved : goal.points-preserved
 points-preserved c =
-    line_more (point_text c.args.unit.now c.args.code.now c.args.agent) c.args.out.now.items c.points.out.items c.add_point.new.out.items
+    line_more (point_text c.args.unit.now c.args.code.now c.args.lines.now c.args.agent) c.args.out.now.items c.points.out.items c.add_point.new.out.items
     c.points.point c.points.invariant c.in_ok-add_point.ensures

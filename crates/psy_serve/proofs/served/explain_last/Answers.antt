@@ -1,6 +1,6 @@
 -- What is left of the proof of `served::explain_last`.
 use Rattle.std.proofs.Common.{List, ℕ, sym, subst}
-use Rattle.psy_serve.proofs.Growing.{last_explained}
+use Rattle.psy_serve.proofs.Growing.{last_of}
 use Rattle.psy_serve.specs.Behind.{IsExplained}
 use Rattle.psy_serve.proofs.served.explain_last.Goals as goal
 
@@ -8,7 +8,7 @@ pub returns-in-Ok-clause-explained : goal.returns-in-Ok-clause-explained
 returns-in-Ok-clause-explained g c = (
   c.as_slice.result.now,
   c.in-Ok.ensures.written,
-  rw c.as_slice.ensures.value (last_explained _ _ _ _ _ c.last.ensures c.explanation_behind-more.ensures.explained),
+  rw c.as_slice.ensures.value (last_of _ _ _ c.last.ensures c.explanation_behind-more.ensures.explained),
 )
 
 pub returns-clause-front : goal.returns-clause-front
@@ -16,5 +16,5 @@ returns-clause-front g c = (
   c.as_slice.result.now,
   c.in-Err.fault.taken,
   c.in-Err.ensures.front,
-  rw c.as_slice.ensures.value (last_explained _ _ _ _ _ c.last.ensures c.explanation_behind-more.ensures.explained),
+  rw c.as_slice.ensures.value (last_of _ _ _ c.last.ensures c.explanation_behind-more.ensures.explained),
 )

@@ -1,7 +1,8 @@
 -- What is left of the proof of `served::serve`.
-use Rattle.std.proofs.Common.{List, ℕ, inl, inr, refl, sym, ◌∙◌, take}
+use Rattle.std.proofs.Common.{Global, List, ℕ, inl, inr, map, refl, string_bytes, sym, ◌∙◌, take}
 use Rattle.std.proofs.Math.Nat.{le_trans}
-use Rattle.psy_serve.proofs.Growing.{explained_behind, grew_on, no_refusal, rose_before}
+use Rattle.psy_serve.proofs.Growing.{behind_of, explained_behind, grew_on, no_refusal, rose_before}
+use Rattle.psy_serve.specs.Behind.{IsTold}
 use Rattle.psy_serve.proofs.served.serve.Goals as goal
 
 pub returns-in-Ok-clause-answered : goal.returns-in-Ok-clause-answered
@@ -35,7 +36,7 @@ returns-in-Err-clause-cut_short g c four =
     let refusal = sym c.is_refusal.ensures ∙ c.if-is_refusal.true in
     let said = c.answered-status.ensures.answered (no_refusal _ 3 refusal refl) (no_refusal _ 4 refusal refl) (no_refusal _ 8 refusal refl) in
     let behind = c.in-Err.ensures.front in
-    inr (
+    inr (inl (
       c.answered-status.result,
       said.0,
       behind.0,
@@ -45,4 +46,18 @@ returns-in-Err-clause-cut_short g c four =
       explained_behind _ _ _ c.answered-status.result said.0 behind.0 (take behind.1 behind.0) _ _ _ refusal
           c.answered-status.ensures.shelf.1 c.requires.fresh said.2 behind.2 behind.3,
       grew_on _ _ _ _ _ said.2 behind.2,
-    )
+    ))
+
+pub returns-in-Err-tell_unread-clause-cut_short : goal.returns-in-Err-tell_unread-clause-cut_short
+returns-in-Err-tell_unread-clause-cut_short g c four =
+    let words = map (string_bytes {Z = Global}) c.args.words.now in
+    let said = c.answered-status.ensures.read c.if-status-eq3.true in
+    let behind = c.in-Err-tell_unread.ensures.front in
+    inr (inr (
+      said.0,
+      behind.0,
+      behind.1,
+      said.1,
+      behind_of (λ (line : List ℕ). IsTold words line behind.0) _ _ _ _ _ c.requires.fresh said.2 behind.2 behind.3,
+      grew_on _ _ _ _ _ said.2 behind.2,
+    ))

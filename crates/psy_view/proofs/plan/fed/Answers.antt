@@ -1,8 +1,9 @@
 -- What is left of the proof of `plan::fed`.
-use Rattle.std.proofs.Common.{ℕ, [], ◌∷◌, subst}
+use Rattle.std.proofs.Common.{[], ◌∷◌, subst}
+use Rattle.psy_source.specs.Lines.{line_of}
 use Rattle.psy_source.specs.Programs.{IsRefused, Stops}
 use Rattle.psy_view.specs.Asked.{Flow}
-use Rattle.psy_view.specs.Views.{ViewOf, flows, no_flow, where_refused}
+use Rattle.psy_view.specs.Views.{IsTold, ViewOf, flows, no_flow}
 use Rattle.psy_view.proofs.PlanLemmas.{refused_as}
 use Rattle.psy_view.proofs.plan.fed.Goals as goal
 
@@ -14,6 +15,5 @@ returns-in-Err-Refused c =
     let name = c.args.name.now in
     let bytes = c.args.bytes.now in
     let refusal = c.in-Err-Refused.refusal in
-    refused_as (λ text. (status : ℕ) × ViewOf (where_refused name refusal) (bytes ∷ []) status text)
-    (ViewOf (Flow name) (bytes ∷ [])) c.refused.result c.refused.ensures.status c.refused.ensures.told
-    (λ text told. no_flow name bytes refusal told.0 text (subst (Stops (IsRefused bytes)) c.in-Err-Refused.field-0-is c.in-Err-Refused.ensures.refused) told.1)
+    refused_as (IsTold name bytes (line_of refusal)) (ViewOf (Flow name) (bytes ∷ [])) c.refused.result c.refused.ensures.status c.refused.ensures.told
+    (λ text told. no_flow name bytes refusal text (subst (Stops (IsRefused bytes)) c.in-Err-Refused.field-0-is c.in-Err-Refused.ensures.refused) told)

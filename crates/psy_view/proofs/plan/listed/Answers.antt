@@ -1,16 +1,19 @@
 -- What is left of the proof of `plan::listed`.
-use Rattle.std.proofs.Common.{ℕ, [], ◌∷◌, subst}
+use Rattle.std.proofs.Common.{[], ◌∷◌, subst}
+use Rattle.psy_source.specs.Lines.{line_of}
 use Rattle.psy_source.specs.Programs.{IsRefused, Stops}
 use Rattle.psy_view.specs.Asked.{Listing}
-use Rattle.psy_view.specs.Views.{ViewOf, no_listing, where_refused}
+use Rattle.psy_view.specs.Views.{IsTold, ViewOf, no_listing}
 use Rattle.psy_view.proofs.PlanLemmas.{refused_as}
 use Rattle.psy_view.proofs.plan.listed.Goals as goal
+
+pub returns-in-Ok : goal.returns-in-Ok
+returns-in-Ok c = c.list_of.ensures c.args.name.now
 
 pub returns-in-Err-Refused : goal.returns-in-Err-Refused
 returns-in-Err-Refused c =
     let name = c.args.name.now in
     let bytes = c.args.bytes.now in
     let refusal = c.in-Err-Refused.refusal in
-    refused_as (λ text. (status : ℕ) × ViewOf (where_refused name refusal) (bytes ∷ []) status text)
-    (ViewOf (Listing name) (bytes ∷ [])) c.refused.result c.refused.ensures.status c.refused.ensures.told
-    (λ text told. no_listing name bytes refusal told.0 text (subst (Stops (IsRefused bytes)) c.in-Err-Refused.field-0-is c.in-Err-Refused.ensures.refused) told.1)
+    refused_as (IsTold name bytes (line_of refusal)) (ViewOf (Listing name) (bytes ∷ [])) c.refused.result c.refused.ensures.status c.refused.ensures.told
+    (λ text told. no_listing name bytes refusal text (subst (Stops (IsRefused bytes)) c.in-Err-Refused.field-0-is c.in-Err-Refused.ensures.refused) told)

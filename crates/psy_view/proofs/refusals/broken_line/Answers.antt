@@ -3,4 +3,4 @@ use Rattle.std.proofs.lemmas.List.{append_assoc}
 use Rattle.psy_view.proofs.refusals.broken_line.Goals as goal
 
 pub returns : goal.returns
-returns c = rw (← c.format.ensures.text, ← c.as_bytes-line.ensures.value) (simp append_assoc c.joined.ensures)
+returns c = rw (← c.format.ensures.text, ← c.as_bytes-line.ensures.value, ← c.in_ok-name.ensures, ← c.as_slice.ensures.value) (simp append_assoc c.joined.ensures)

@@ -3,4 +3,4 @@ use Rattle.std.proofs.lemmas.List.{append_assoc}
 use Rattle.psy_view.proofs.refusals.unknown_line.Goals as goal
 
 pub returns : goal.returns
-returns c = simp append_assoc c.joined.ensures
+returns c = rw (← c.in_ok-asked.ensures, ← c.as_slice.ensures.value, ← c.in_ok-name.ensures, ← c.as_slice-2.ensures.value) (simp append_assoc c.joined.ensures)

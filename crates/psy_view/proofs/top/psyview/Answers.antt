@@ -21,13 +21,13 @@ pub returns-in-Some-clause-cut_short : goal.returns-in-Some-clause-cut_short
 returns-in-Some-clause-cut_short g c = ends_cut_short _ _ _ _ _ _ _ _ _ _ _ (may_answer _ _ (of_itself _ c.in-Some.ensures)) c.say.ensures.said
 
 pub returns-in_default-read_words-clause-answered : goal.returns-in_default-read_words-clause-answered
-returns-in_default-read_words-clause-answered g c = ends_answered _ _ 0 0 _ _ _ _ _ _ _ (may_answer _ _ (no_words (c.in_default-read_words.ensures, c.in_default.ensures))) c.say-in_default-read_words.ensures.said
+returns-in_default-read_words-clause-answered g c = ends_answered _ _ 0 0 _ _ _ _ _ _ _ (may_answer _ _ (no_words c.refuse.ensures.said.0 (c.in_default-read_words.ensures, c.in_default.ensures) c.refuse.ensures.said.1)) c.refuse.ensures.said.2
 
 pub returns-in_default-read_words-clause-done : goal.returns-in_default-read_words-clause-done
-returns-in_default-read_words-clause-done g c = ends_done _ _ _ _ _ _ _ _ _ _ _ (may_answer _ _ (no_words (c.in_default-read_words.ensures, c.in_default.ensures))) c.say-in_default-read_words.ensures.said
+returns-in_default-read_words-clause-done g c = ends_done _ _ _ _ _ _ _ _ _ _ _ (may_answer _ _ (no_words c.refuse.ensures.said.0 (c.in_default-read_words.ensures, c.in_default.ensures) c.refuse.ensures.said.1)) c.refuse.ensures.said.2
 
 pub returns-in_default-read_words-clause-cut_short : goal.returns-in_default-read_words-clause-cut_short
-returns-in_default-read_words-clause-cut_short g c = ends_cut_short _ _ _ _ _ _ _ _ _ _ _ (may_answer _ _ (no_words (c.in_default-read_words.ensures, c.in_default.ensures))) c.say-in_default-read_words.ensures.said
+returns-in_default-read_words-clause-cut_short g c = ends_cut_short _ _ _ _ _ _ _ _ _ _ _ (may_answer _ _ (no_words c.refuse.ensures.said.0 (c.in_default-read_words.ensures, c.in_default.ensures) c.refuse.ensures.said.1)) c.refuse.ensures.said.2
 
 pub returns-in-Ok-clause-answered : goal.returns-in-Ok-clause-answered
 returns-in-Ok-clause-answered g c = ends_answered _ _ _ _ _ _ _ _ _ _ _ (of_reply _ _ _ _ _ _ _ c.in-Some-read_words.ensures c.in-Ok.ensures.replies) (rw c.as_slice.ensures.value at c.say-in-Ok.ensures.said)

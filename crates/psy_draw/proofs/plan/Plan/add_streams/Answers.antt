@@ -5,16 +5,17 @@ use Rattle.std.specs.List.{flat_map}
 use Rattle.psy_draw.specs.Planning.{Are, stream_lanes}
 use Rattle.psy_draw.proofs.Carrying.{carried, carried_all}
 use Rattle.psy_draw.proofs.Lanes.{are_same}
+use Rattle.psy_draw.specs.Sources.{place_in}
 use Rattle.psy_draw.proofs.plan.Plan.add_streams.Goals as goal
 
 pub loop-note-init : goal.loop-note-init
-loop-note-init c = λ shown are. are_same shown c.args.self.now.lanes.items are
+loop-note-init c = λ shown are. are_same (place_in c.args.source) shown c.args.self.now.lanes.items are
 
 pub loop-note-preserved : goal.loop-note-preserved
 loop-note-preserved c = λ shown are.
-    carried (λ s. Are s c.add_stream.new.self.lanes.items) (stream_lanes c.args.source.scale.now.from c.args.source.scale.now.to (map string_bytes c.args.source.names.now) c.args.source.notes.now) shown c.args.source.notes.now c.loop-note.note-index _ c.loop-note-test.true
+    carried (λ s. Are (place_in c.args.source) s c.add_stream.new.self.lanes.items) (stream_lanes c.args.source.scale.now.from c.args.source.scale.now.to (map string_bytes c.args.source.names.now) c.args.source.notes.now) shown c.args.source.notes.now c.loop-note.note-index _ c.loop-note-test.true
     (c.in_ok-add_stream.ensures (shown ++ flat_map (stream_lanes c.args.source.scale.now.from c.args.source.scale.now.to (map string_bytes c.args.source.names.now) c.args.source.notes.now) (take c.loop-note.note-index c.args.source.notes.now)) (c.loop-note.invariant shown are))
 
 pub returns : goal.returns
 returns c = λ shown are.
-    carried_all (λ s. Are s c.loop-note.self.lanes.items) (stream_lanes c.args.source.scale.now.from c.args.source.scale.now.to (map string_bytes c.args.source.names.now) c.args.source.notes.now) shown c.args.source.notes.now c.loop-note.note-index (omega (arith, c.loop-note-test.false)) (c.loop-note.invariant shown are)
+    carried_all (λ s. Are (place_in c.args.source) s c.loop-note.self.lanes.items) (stream_lanes c.args.source.scale.now.from c.args.source.scale.now.to (map string_bytes c.args.source.names.now) c.args.source.notes.now) shown c.args.source.notes.now c.loop-note.note-index (omega (arith, c.loop-note-test.false)) (c.loop-note.invariant shown are)

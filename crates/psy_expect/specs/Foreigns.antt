@@ -1,0 +1,64 @@
+-- Names that are words of other languages, or reserved words in other case.
+use Rattle.std.specs.Prelude.{ℕ, Bool, false, ◌||◌, List, [], ◌∷◌, codes, Option, find}
+use Rattle.std.specs.Str.{bytes_eq, str_eq_ignore_ascii_case}
+use Rattle.psy_tree.specs.Lexemes.{word_spelling}
+use Rattle.psy_expect.specs.declared.foreign.Foreign.{Foreign}
+use Rattle.psy_expect.specs.declared.foreign.Foreign.TheVariants.{For, Loop, Jump, Switch, TypeWord, Modifier}
+use Rattle.psy_expect.specs.declared.foreign.Foreign.TheVariants.{Void, Function, ElseIf, Then, Times, Logical, Wait, Print}
+use Rattle.psy_expect.specs.declared.terminal.Terminal.{Terminal}
+use Rattle.psy_expect.specs.declared.terminal.Terminal.TheVariants.{Word}
+use Rattle.psy_expect.specs.declared.terminal.TheConstants.{EVERY}
+
+-- Words for types
+abbrev pub is_type : List ℕ → Bool
+is_type name =
+    bytes_eq name (codes "float") || (bytes_eq name (codes "double") || (bytes_eq name (codes "bool") || (bytes_eq name (codes "boolean")
+    || (bytes_eq name (codes "char") || (bytes_eq name (codes "long") || (bytes_eq name (codes "short") || (bytes_eq name (codes "unsigned")
+    || (bytes_eq name (codes "integer") || bytes_eq name (codes "string")))))))))
+
+-- Words that print
+abbrev pub is_print : List ℕ → Bool
+is_print name =
+    bytes_eq name (codes "print") || (bytes_eq name (codes "printf") || (bytes_eq name (codes "println")
+    || (bytes_eq name (codes "puts") || (bytes_eq name (codes "echo") || bytes_eq name (codes "write")))))
+
+-- A name is one of the words of which this is told.
+abbrev pub is_spelled : Foreign → List ℕ → Bool
+is_spelled For name = bytes_eq name (codes "for") || bytes_eq name (codes "foreach")
+is_spelled Loop name =
+    bytes_eq name (codes "do") || (bytes_eq name (codes "loop") || (bytes_eq name (codes "repeat") || bytes_eq name (codes "until")))
+is_spelled Jump name =
+    bytes_eq name (codes "break") || (bytes_eq name (codes "continue") || (bytes_eq name (codes "exit") || bytes_eq name (codes "goto")))
+is_spelled Switch name = bytes_eq name (codes "switch") || (bytes_eq name (codes "case") || bytes_eq name (codes "default"))
+is_spelled TypeWord name = is_type name
+is_spelled Modifier name =
+    bytes_eq name (codes "const") || (bytes_eq name (codes "static") || (bytes_eq name (codes "volatile")
+    || (bytes_eq name (codes "let") || bytes_eq name (codes "var"))))
+is_spelled Void name = bytes_eq name (codes "void")
+is_spelled Function name =
+    bytes_eq name (codes "function") || (bytes_eq name (codes "def") || (bytes_eq name (codes "fn") || bytes_eq name (codes "func")))
+is_spelled ElseIf name = bytes_eq name (codes "elif") || (bytes_eq name (codes "elsif") || bytes_eq name (codes "elseif"))
+is_spelled Then name = bytes_eq name (codes "then")
+is_spelled Times name = bytes_eq name (codes "times")
+is_spelled Logical name =
+    bytes_eq name (codes "and") || (bytes_eq name (codes "or") || (bytes_eq name (codes "not") || bytes_eq name (codes "mod")))
+is_spelled Wait name =
+    bytes_eq name (codes "wait") || (bytes_eq name (codes "delay") || (bytes_eq name (codes "sleep") || bytes_eq name (codes "pause")))
+is_spelled Print name = is_print name
+
+-- All of them
+abbrev pub FOREIGN : List Foreign
+FOREIGN = For ∷ Loop ∷ Jump ∷ Switch ∷ TypeWord ∷ Modifier ∷ Void ∷ Function ∷ ElseIf ∷ Then ∷ Times ∷ Logical ∷ Wait ∷ Print ∷ []
+
+-- What word of another language a name is
+abbrev pub foreign_of : List ℕ → Option Foreign
+foreign_of name = find (λ foreign. is_spelled foreign name) FOREIGN
+
+-- The terminal is a reserved word, and the name is that in other case.
+abbrev pub is_in_small : Terminal → List ℕ → Bool
+is_in_small (Word word) name = str_eq_ignore_ascii_case (word_spelling word) name
+is_in_small _ name = false
+
+-- The reserved word that a name would be in small letters
+abbrev pub small_of : List ℕ → Option Terminal
+small_of name = find (λ terminal. is_in_small terminal name) EVERY

@@ -1,0 +1,427 @@
+//! Which rule of a common slip fits a place.
+ghost use Rattle.std.specs.Prelude.{◌≡◌};
+ghost use Rattle.psy_expect.specs.Hints.{fits, has_ended, is, is_among, is_called, is_foreign, is_function_inside, is_look};
+ghost use Rattle.psy_expect.specs.Hints.{is_nothing, is_one_behind, is_reserved, is_some_few, is_statement, is_told, is_twice};
+
+use crate::around::Around;
+use crate::foreign::Foreign;
+use crate::group::{Group, has, members, same};
+use crate::hint::Hint;
+use crate::terminal::Terminal;
+use psy_tree::{Sign, Word};
+
+const WIDTHS: [Terminal; 4] = [
+    Terminal::Word(Word::Int8),
+    Terminal::Word(Word::Int16),
+    Terminal::Word(Word::Int32),
+    Terminal::Word(Word::Int64),
+];
+
+const HEADS: [Terminal; 5] = [
+    Terminal::Word(Word::Agent),
+    Terminal::Word(Word::Clock),
+    Terminal::Word(Word::Input),
+    Terminal::Word(Word::Stream),
+    Terminal::Word(Word::Temporal),
+];
+
+const BEGINNINGS: [Terminal; 6] = [
+    Terminal::Word(Word::Advance),
+    Terminal::Word(Word::Else),
+    Terminal::Word(Word::If),
+    Terminal::Word(Word::Return),
+    Terminal::Word(Word::Send),
+    Terminal::Word(Word::While),
+];
+
+const LOOKS: [Terminal; 3] = [
+    Terminal::Word(Word::Past),
+    Terminal::Word(Word::Ready),
+    Terminal::Word(Word::Take),
+];
+
+const VALUES: [Terminal; 6] = [
+    Terminal::Word(Word::Past),
+    Terminal::Word(Word::Ready),
+    Terminal::Word(Word::Take),
+    Terminal::Name,
+    Terminal::Sign(Sign::OpenRound),
+    Terminal::Sign(Sign::Minus),
+];
+
+const JOINED: [Terminal; 8] = [
+    Terminal::Sign(Sign::Plus),
+    Terminal::Sign(Sign::Minus),
+    Terminal::Sign(Sign::Star),
+    Terminal::Sign(Sign::Slash),
+    Terminal::Sign(Sign::Percent),
+    Terminal::Sign(Sign::Amp),
+    Terminal::Sign(Sign::Caret),
+    Terminal::Sign(Sign::Bar),
+];
+
+const OPERATORS: [Terminal; 5] = [
+    Terminal::Sign(Sign::Plus),
+    Terminal::Sign(Sign::Minus),
+    Terminal::Sign(Sign::Star),
+    Terminal::Sign(Sign::Slash),
+    Terminal::Sign(Sign::Percent),
+];
+
+const ENDINGS: [Terminal; 3] = [
+    Terminal::Sign(Sign::Assign),
+    Terminal::Sign(Sign::Semicolon),
+    Terminal::Sign(Sign::OpenSquare),
+];
+
+const CONDITIONS: [Terminal; 2] = [Terminal::Word(Word::If), Terminal::Word(Word::While)];
+
+const CLOSINGS: [Terminal; 3] = [
+    Terminal::Sign(Sign::CloseRound),
+    Terminal::Sign(Sign::CloseSquare),
+    Terminal::Sign(Sign::CloseBrace),
+];
+
+const STATEMENTS: [Terminal; 6] = [
+    Terminal::Word(Word::Advance),
+    Terminal::Word(Word::If),
+    Terminal::Word(Word::Return),
+    Terminal::Word(Word::Send),
+    Terminal::Word(Word::While),
+    Terminal::Name,
+];
+
+const TYPES: [Terminal; 5] = [
+    Terminal::Word(Word::Int),
+    Terminal::Word(Word::Int8),
+    Terminal::Word(Word::Int16),
+    Terminal::Word(Word::Int32),
+    Terminal::Word(Word::Int64),
+];
+
+const NAMELESS: [Terminal; 8] = [
+    Terminal::Word(Word::Past),
+    Terminal::Word(Word::Ready),
+    Terminal::Word(Word::Take),
+    Terminal::Number,
+    Terminal::Sign(Sign::OpenRound),
+    Terminal::Sign(Sign::Minus),
+    Terminal::Sign(Sign::Tilde),
+    Terminal::Sign(Sign::Bang),
+];
+
+/// Does the rule fit a place with this around it, where these terminals may stand, and the program goes on where one of those is put before it, or where it
+/// is left out?
+pub fn fits(hint: Hint, a: Around, told: &[Terminal], mends: &[Terminal], is_extra: bool) -> bool
+    ensures { result ≡ fits hint a told.now mends.now is_extra }
+{
+    match hint {
+        Hint::FunctionInside => is_function_inside(a, told),
+        Hint::DeclarationInBody => is(a.here, Terminal::Word(Word::Int))
+            && has(told, Terminal::Word(Word::If)),
+        Hint::DeclarationBehindBody => is(a.here, Terminal::Word(Word::Int))
+            && has(told, Terminal::Sign(Sign::CloseBrace)),
+        Hint::Width => (is_among(a.here, &WIDTHS)
+            && (has(told, Terminal::Word(Word::Int)) || has(told, Terminal::Word(Word::If))))
+            || ((is_foreign(a.foreign_here, Foreign::TypeWord)
+                && has(told, Terminal::Word(Word::Int)))
+                || (is_foreign(a.foreign_before, Foreign::TypeWord)
+                    && has(told, Terminal::Sign(Sign::Assign)))),
+        Hint::Modifier => (is_foreign(a.foreign_here, Foreign::Modifier)
+            && has(told, Terminal::Word(Word::Int)))
+            || (is_foreign(a.foreign_before, Foreign::Modifier)
+                && has(told, Terminal::Sign(Sign::Assign))),
+        Hint::Void => is_foreign(a.foreign_here, Foreign::Void)
+            && has(told, Terminal::Word(Word::Int)),
+        Hint::FunctionWord => is_foreign(a.foreign_here, Foreign::Function)
+            && has(told, Terminal::Word(Word::Int)),
+        Hint::NoFor => is_foreign(a.foreign_before, Foreign::For)
+            && is(a.here, Terminal::Sign(Sign::OpenRound)),
+        Hint::OtherLoop => is_foreign(a.foreign_before, Foreign::Loop)
+            && has(told, Terminal::Sign(Sign::Assign)),
+        Hint::Jump => is_foreign(a.foreign_before, Foreign::Jump)
+            && has(told, Terminal::Sign(Sign::Assign)),
+        Hint::Switch => is_foreign(a.foreign_before, Foreign::Switch)
+            && has(told, Terminal::Sign(Sign::Assign)),
+        Hint::ElseIf => (is_foreign(a.foreign_before, Foreign::ElseIf)
+            && has(told, Terminal::Sign(Sign::Assign)))
+            || (is(a.before, Terminal::Word(Word::Else))
+                && (is(a.here, Terminal::Word(Word::If))
+                    && has(told, Terminal::Sign(Sign::OpenBrace)))),
+        Hint::Else => is(a.before, Terminal::Word(Word::Else))
+            && has(told, Terminal::Sign(Sign::OpenBrace)),
+        Hint::SmallLetters => is_told(a.small_here, told)
+            || (is_among(a.small_before, &BEGINNINGS) && has(told, Terminal::Sign(Sign::Assign))),
+        Hint::Then => is_foreign(a.foreign_here, Foreign::Then)
+            && has(told, Terminal::Sign(Sign::OpenBrace)),
+        Hint::Times => is_foreign(a.foreign_here, Foreign::Times)
+            && has(told, Terminal::Sign(Sign::Star)),
+        Hint::Logical => (is_foreign(a.foreign_here, Foreign::Logical)
+            && has(told, Terminal::Sign(Sign::Plus)))
+            || (is_foreign(a.foreign_before, Foreign::Logical)
+                && has(told, Terminal::Sign(Sign::Plus))),
+        Hint::Wait => is_foreign(a.foreign_before, Foreign::Wait)
+            && has(told, Terminal::Sign(Sign::Assign)),
+        Hint::Print => is_foreign(a.foreign_before, Foreign::Print)
+            && has(told, Terminal::Sign(Sign::Assign)),
+        Hint::ValueAlone => is_among(a.here, &LOOKS) && has(told, Terminal::Word(Word::If)),
+        Hint::TickAsClock => is(a.here, Terminal::Word(Word::Tick))
+            && is(a.before, Terminal::Word(Word::On)),
+        Hint::Increment => is_twice(a, Terminal::Sign(Sign::Plus))
+            || is_twice(a, Terminal::Sign(Sign::Minus)),
+        Hint::Compound => is_among(a.here, &JOINED)
+            && (is(a.behind, Terminal::Sign(Sign::Assign))
+                && (a.is_joined_behind && has(told, Terminal::Sign(Sign::Assign)))),
+        Hint::LessOrEqual => is(a.here, Terminal::Sign(Sign::Assign))
+            && ((is(a.behind, Terminal::Sign(Sign::Less))
+                || is(a.behind, Terminal::Sign(Sign::Greater)))
+                && (a.is_joined_behind && has(told, Terminal::Sign(Sign::Equal)))),
+        Hint::NotEqual => is(a.here, Terminal::Sign(Sign::Assign))
+            && (is(a.behind, Terminal::Sign(Sign::Bang))
+                && (a.is_joined_behind && has(told, Terminal::Sign(Sign::Equal)))),
+        Hint::Unlike => is(a.here, Terminal::Sign(Sign::Greater))
+            && (is(a.before, Terminal::Sign(Sign::Less)) && a.is_joined_before),
+        Hint::Power => is(a.here, Terminal::Sign(Sign::Star))
+            && (is(a.before, Terminal::Sign(Sign::Star)) && a.is_joined_before),
+        Hint::UnaryPlus => is(a.here, Terminal::Sign(Sign::Plus))
+            && has(told, Terminal::Sign(Sign::Tilde)),
+        Hint::Square => has(mends, Terminal::Sign(Sign::CloseSquare)),
+        Hint::Global => is(a.starter, Terminal::Word(Word::Int))
+            && (has(told, Terminal::Sign(Sign::OpenRound))
+                && (is_among(a.here, &ENDINGS) && !has(told, Terminal::Sign(Sign::Semicolon)))),
+        Hint::NoValue => is(a.here, Terminal::Sign(Sign::Semicolon))
+            && (is(a.starter, Terminal::Word(Word::Int))
+                && has(told, Terminal::Sign(Sign::Assign))),
+        Hint::NameAlone => is(a.here, Terminal::Sign(Sign::Semicolon))
+            && (is(a.before, Terminal::Name) && has(told, Terminal::Sign(Sign::Assign))),
+        Hint::NoResult => is(a.before, Terminal::Word(Word::Return))
+            && (is(a.here, Terminal::Sign(Sign::Semicolon))
+                || is(a.here, Terminal::Sign(Sign::CloseBrace))),
+        Hint::Chain => is(a.here, Terminal::Sign(Sign::Assign))
+            && (has(told, Terminal::Sign(Sign::Equal))
+                && has(told, Terminal::Sign(Sign::Semicolon))),
+        Hint::Comparison => is(a.here, Terminal::Sign(Sign::Assign))
+            && has(told, Terminal::Sign(Sign::Equal)),
+        Hint::Assignment => is(a.here, Terminal::Sign(Sign::Equal))
+            && has(told, Terminal::Sign(Sign::Assign)),
+        Hint::OneByOne => is(a.here, Terminal::Sign(Sign::Comma))
+            && (has(told, Terminal::Sign(Sign::Assign))
+                || has(told, Terminal::Sign(Sign::Semicolon))),
+        Hint::Call => is(a.before, Terminal::Name)
+            && (is(a.here, Terminal::Sign(Sign::OpenRound))
+                && (has(told, Terminal::Sign(Sign::Assign))
+                    && !is(a.starter, Terminal::Word(Word::Int)))),
+        Hint::Prototype => is(a.here, Terminal::Sign(Sign::Semicolon))
+            && (is(a.starter, Terminal::Word(Word::Int))
+                && has(told, Terminal::Sign(Sign::OpenBrace))),
+        Hint::LeaveOut => is_extra
+            && (is(a.here, Terminal::Sign(Sign::Comma))
+                || (is(a.here, Terminal::Word(Word::Int)) && has(told, Terminal::Name))),
+        Hint::EmptyCondition => is(a.here, Terminal::Sign(Sign::Semicolon))
+            && (is_among(a.starter, &CONDITIONS) && has(told, Terminal::Sign(Sign::OpenBrace))),
+        Hint::BodyMissing => is(a.here, Terminal::Sign(Sign::CloseBrace))
+            && has(told, Terminal::Word(Word::Body)),
+        Hint::Extra => (is_among(a.here, &CLOSINGS) && is_extra)
+            || (is(a.here, Terminal::Sign(Sign::CloseBrace))
+                && has(told, Terminal::Word(Word::Agent))),
+        Hint::Braces => is_among(a.starter, &CONDITIONS)
+            && has(told, Terminal::Sign(Sign::OpenBrace)),
+        Hint::After => is(a.before, Terminal::Word(Word::After)) && has(told, Terminal::Number),
+        Hint::NoStatement => is(a.here, Terminal::Sign(Sign::Semicolon))
+            && has(told, Terminal::Word(Word::If)),
+        Hint::Ended => has_ended(a) && has(told, Terminal::Word(Word::Agent)),
+        Hint::Outside => is_among(a.here, &STATEMENTS) && has(told, Terminal::Word(Word::Agent)),
+        Hint::NoBody => is_among(a.here, &STATEMENTS) && has(told, Terminal::Word(Word::Body)),
+        Hint::BodyEnded => is_statement(a.here)
+            && (has(told, Terminal::Sign(Sign::CloseBrace))
+                && !has(told, Terminal::Word(Word::If))),
+        Hint::SecondTick => is(a.here, Terminal::Word(Word::Tick))
+            && has(told, Terminal::Word(Word::Agent)),
+        Hint::SecondBody => is(a.here, Terminal::Word(Word::Body))
+            && (has(told, Terminal::Sign(Sign::CloseBrace))
+                && !has(told, Terminal::Word(Word::If))),
+        Hint::InsideAgent => is_among(a.here, &HEADS) && has(told, Terminal::Word(Word::Body)),
+        Hint::Back => is(a.here, Terminal::Sign(Sign::CloseRound))
+            && (has(told, Terminal::Sign(Sign::Comma)) && !has(told, Terminal::Sign(Sign::Plus))),
+        Hint::Close => ((is_nothing(a.here) || is_among(a.here, &HEADS))
+            && has(told, Terminal::Sign(Sign::CloseBrace)))
+            || (is(a.here, Terminal::Word(Word::Else))
+                && has(mends, Terminal::Sign(Sign::CloseBrace))),
+        Hint::ElseAlone => is(a.here, Terminal::Word(Word::Else))
+            && has(told, Terminal::Word(Word::If)),
+        Hint::Semicolon => has(mends, Terminal::Sign(Sign::Semicolon)),
+        Hint::NoSemicolon => is(a.here, Terminal::Sign(Sign::Semicolon)) && is_nothing(a.starter),
+        Hint::Missing => is_some_few(mends),
+        Hint::LookName => is_look(a, told),
+        Hint::Cast => is_among(a.here, &TYPES)
+            && (is(a.before, Terminal::Sign(Sign::OpenRound))
+                && (is(a.behind, Terminal::Sign(Sign::CloseRound))
+                    && (has(told, Terminal::Sign(Sign::Tilde))
+                        && !has(told, Terminal::Sign(Sign::CloseRound))))),
+        Hint::ReservedCall => is_called(a)
+            && (has(told, Terminal::Sign(Sign::Tilde)) || has(told, Terminal::Word(Word::If))),
+        Hint::Reserved => is_reserved(a.here)
+            && (has(told, Terminal::Name)
+                && (!has(told, Terminal::Word(Word::If))
+                    || (is(a.behind, Terminal::Sign(Sign::Assign))
+                        || is(a.behind, Terminal::Sign(Sign::OpenSquare))))),
+        Hint::Brackets => is_among(a.before, &LOOKS) && has(told, Terminal::Sign(Sign::OpenRound)),
+        Hint::NumberAlone => (is_among(a.here, &VALUES)
+            && (has(told, Terminal::Number) && !has(told, Terminal::Name)))
+            || (is_among(a.here, &OPERATORS)
+                && (is(a.before, Terminal::Number)
+                    && (!has(told, Terminal::Sign(Sign::Plus))
+                        && !has(told, Terminal::Sign(Sign::Star))))),
+        Hint::SemicolonAtEnd => (is_nothing(a.here)
+            || (is_reserved(a.here)
+                || (is(a.here, Terminal::Name) || is(a.here, Terminal::Sign(Sign::CloseBrace)))))
+            && has(told, Terminal::Sign(Sign::Semicolon)),
+        Hint::FormTick => {
+            is(a.starter, Terminal::Word(Word::Tick))
+                || (has(told, Terminal::Word(Word::Tick)) && !has(told, Terminal::Name))
+        }
+        Hint::FormClock => is(a.starter, Terminal::Word(Word::Clock)),
+        Hint::FormTemporal => is(a.starter, Terminal::Word(Word::Temporal)),
+        Hint::FormInput => is(a.starter, Terminal::Word(Word::Input)),
+        Hint::FormStream => is(a.starter, Terminal::Word(Word::Stream)),
+        Hint::FormAgent => is(a.starter, Terminal::Word(Word::Agent)),
+        Hint::FormInt => is(a.starter, Terminal::Word(Word::Int)),
+        Hint::FormIf => is(a.starter, Terminal::Word(Word::If)),
+        Hint::FormWhile => is(a.starter, Terminal::Word(Word::While)),
+        Hint::FormSend => is(a.starter, Terminal::Word(Word::Send)),
+        Hint::FormAdvance => is(a.starter, Terminal::Word(Word::Advance)),
+        Hint::FormAssign => is(a.starter, Terminal::Name)
+            && has(told, Terminal::Sign(Sign::Assign)),
+    }
+}
+
+// Does the sign stand here and directly behind it, or here and directly before it?
+fn is_twice(a: Around, sign: Terminal) -> bool
+    ensures { result ≡ is_twice a sign }
+{
+    is(a.here, sign)
+        && ((is(a.behind, sign) && a.is_joined_behind)
+            || (is(a.before, sign) && a.is_joined_before))
+}
+
+// Does a function begin here among statements or behind a body, or are its parameters here, inside an agent or another function?
+fn is_function_inside(a: Around, told: &[Terminal]) -> bool
+    ensures { result ≡ is_function_inside a told.now }
+{
+    (is(a.here, Terminal::Word(Word::Int))
+        && (is(a.further, Terminal::Sign(Sign::OpenRound))
+            && has(told, Terminal::Sign(Sign::CloseBrace))))
+        || (is(a.here, Terminal::Sign(Sign::OpenRound))
+            && (is(a.starter, Terminal::Word(Word::Int))
+                && (has(told, Terminal::Sign(Sign::Assign))
+                    && (is(a.behind, Terminal::Word(Word::Int))
+                        || is(a.behind, Terminal::Sign(Sign::CloseRound))))))
+}
+
+// Does a statement begin here, or an `else`?
+fn is_statement(here: Option<Terminal>) -> bool
+    ensures { result ≡ is_statement here }
+{
+    is_among(here, &BEGINNINGS) || is(here, Terminal::Name)
+}
+
+// Does a statement begin here, an assignment where it is a name, or an `else`, behind a `}`?
+fn has_ended(a: Around) -> bool
+    ensures { result ≡ has_ended a }
+{
+    is(a.before, Terminal::Sign(Sign::CloseBrace))
+        && (is_among(a.here, &BEGINNINGS)
+            || (is(a.here, Terminal::Name)
+                && (is(a.behind, Terminal::Sign(Sign::Assign))
+                    || is(a.behind, Terminal::Sign(Sign::OpenSquare)))))
+}
+
+// Does an expression stand in the brackets of `past`, `ready` or `take`: in the place of the name, or going on behind it?
+fn is_look(a: Around, told: &[Terminal]) -> bool
+    ensures { result ≡ is_look a told.now }
+{
+    (is(a.before, Terminal::Sign(Sign::OpenRound))
+        && (has(told, Terminal::Name)
+            && (!has(told, Terminal::Sign(Sign::Tilde)) && is_among(a.here, &NAMELESS))))
+        || (is(a.before, Terminal::Name)
+            && (is_one_behind(told)
+                && (!has(told, Terminal::Sign(Sign::Plus))
+                    && (is_among(a.here, members(Group::Operator))
+                        || (is(a.here, Terminal::Sign(Sign::OpenSquare))
+                            || is(a.here, Terminal::Sign(Sign::OpenRound)))))))
+}
+
+// May a comma stand here, or else a bracket that closes, as behind the names in those brackets?
+fn is_one_behind(told: &[Terminal]) -> bool
+    ensures { result ≡ is_one_behind told.now }
+{
+    if has(told, Terminal::Sign(Sign::Comma)) {
+        !has(told, Terminal::Sign(Sign::CloseRound))
+    } else {
+        has(told, Terminal::Sign(Sign::CloseRound))
+    }
+}
+
+// Is a reserved word called, other than one before a condition?
+fn is_called(a: Around) -> bool
+    ensures { result ≡ is_called a }
+{
+    is_reserved(a.here)
+        && (is(a.behind, Terminal::Sign(Sign::OpenRound)) && !is_among(a.here, &CONDITIONS))
+}
+
+fn is(there: Option<Terminal>, terminal: Terminal) -> bool
+    ensures { result ≡ is there terminal }
+{
+    match there {
+        Some(here) => same(here, terminal),
+        None => false,
+    }
+}
+
+fn is_among(there: Option<Terminal>, terminals: &[Terminal]) -> bool
+    ensures { result ≡ is_among there terminals.now }
+{
+    match there {
+        Some(here) => has(terminals, here),
+        None => false,
+    }
+}
+
+// Is it there, and may stand?
+fn is_told(there: Option<Terminal>, told: &[Terminal]) -> bool
+    ensures { result ≡ is_told there told.now }
+{
+    match there {
+        Some(here) => has(told, here),
+        None => false,
+    }
+}
+
+fn is_reserved(there: Option<Terminal>) -> bool
+    ensures { result ≡ is_reserved there }
+{
+    matches!(there, Some(Terminal::Word(_)))
+}
+
+fn is_nothing(there: Option<Terminal>) -> bool
+    ensures { result ≡ is_nothing there }
+{
+    there.is_none()
+}
+
+fn is_foreign(there: Option<Foreign>, foreign: Foreign) -> bool
+    ensures { result ≡ is_foreign there foreign }
+{
+    match there {
+        Some(here) => here == foreign,
+        None => false,
+    }
+}
+
+// Are there some, and so few that they are told, or an operator among them?
+fn is_some_few(mends: &[Terminal]) -> bool
+    ensures { result ≡ is_some_few mends.now }
+{
+    !mends.is_empty() && (mends.len() <= 3 || has(mends, Terminal::Sign(Sign::Percent)))
+}

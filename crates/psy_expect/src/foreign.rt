@@ -1,0 +1,162 @@
+//! Names that are words of other languages, or reserved words in other case.
+ghost use Rattle.std.specs.Prelude.{◌≡◌};
+ghost use Rattle.psy_expect.specs.Foreigns.{foreign_of, is_in_small, is_print, is_spelled, is_type, small_of};
+
+use crate::terminal::{EVERY, Terminal};
+use psy_token::word_spelling;
+
+/// Words of other languages, by what is told of them.
+#[derive(Clone, Copy, Debug, PartialEq, Eq)]
+pub enum Foreign {
+    /// `for`
+    For,
+    /// Other words for loops.
+    Loop,
+    /// `break` and its kin.
+    Jump,
+    /// `switch` and its kin.
+    Switch,
+    /// Words for types.
+    TypeWord,
+    /// `const`, `static` and their kin.
+    Modifier,
+    /// `void`
+    Void,
+    /// Words that begin a function.
+    Function,
+    /// `elif` and its kin.
+    ElseIf,
+    /// `then`
+    Then,
+    /// `times`
+    Times,
+    /// `and`, `or` and their kin.
+    Logical,
+    /// Words that let time pass.
+    Wait,
+    /// Words that print.
+    Print,
+}
+
+const FOREIGN: [Foreign; 14] = [
+    Foreign::For,
+    Foreign::Loop,
+    Foreign::Jump,
+    Foreign::Switch,
+    Foreign::TypeWord,
+    Foreign::Modifier,
+    Foreign::Void,
+    Foreign::Function,
+    Foreign::ElseIf,
+    Foreign::Then,
+    Foreign::Times,
+    Foreign::Logical,
+    Foreign::Wait,
+    Foreign::Print,
+];
+
+/// What word of another language a name is.
+pub fn foreign_of(name: &[u8]) -> Option<Foreign>
+    ensures { result ≡ foreign_of name.now }
+{
+    FOREIGN
+        .iter()
+        .copied()
+        .find(|foreign| is_spelled(*foreign, name))
+}
+
+fn is_spelled(foreign: Foreign, name: &[u8]) -> bool
+    ensures { result ≡ is_spelled foreign name.now }
+{
+    match foreign {
+        Foreign::For => name == b"for".as_slice() || name == b"foreach".as_slice(),
+        Foreign::Loop => {
+            name == b"do".as_slice()
+                || (name == b"loop".as_slice()
+                    || (name == b"repeat".as_slice() || name == b"until".as_slice()))
+        }
+        Foreign::Jump => {
+            name == b"break".as_slice()
+                || (name == b"continue".as_slice()
+                    || (name == b"exit".as_slice() || name == b"goto".as_slice()))
+        }
+        Foreign::Switch => {
+            name == b"switch".as_slice()
+                || (name == b"case".as_slice() || name == b"default".as_slice())
+        }
+        Foreign::TypeWord => is_type(name),
+        Foreign::Modifier => {
+            name == b"const".as_slice()
+                || (name == b"static".as_slice()
+                    || (name == b"volatile".as_slice()
+                        || (name == b"let".as_slice() || name == b"var".as_slice())))
+        }
+        Foreign::Void => name == b"void".as_slice(),
+        Foreign::Function => {
+            name == b"function".as_slice()
+                || (name == b"def".as_slice()
+                    || (name == b"fn".as_slice() || name == b"func".as_slice()))
+        }
+        Foreign::ElseIf => {
+            name == b"elif".as_slice()
+                || (name == b"elsif".as_slice() || name == b"elseif".as_slice())
+        }
+        Foreign::Then => name == b"then".as_slice(),
+        Foreign::Times => name == b"times".as_slice(),
+        Foreign::Logical => {
+            name == b"and".as_slice()
+                || (name == b"or".as_slice()
+                    || (name == b"not".as_slice() || name == b"mod".as_slice()))
+        }
+        Foreign::Wait => {
+            name == b"wait".as_slice()
+                || (name == b"delay".as_slice()
+                    || (name == b"sleep".as_slice() || name == b"pause".as_slice()))
+        }
+        Foreign::Print => is_print(name),
+    }
+}
+
+fn is_type(name: &[u8]) -> bool
+    ensures { result ≡ is_type name.now }
+{
+    name == b"float".as_slice()
+        || (name == b"double".as_slice()
+            || (name == b"bool".as_slice()
+                || (name == b"boolean".as_slice()
+                    || (name == b"char".as_slice()
+                        || (name == b"long".as_slice()
+                            || (name == b"short".as_slice()
+                                || (name == b"unsigned".as_slice()
+                                    || (name == b"integer".as_slice()
+                                        || name == b"string".as_slice()))))))))
+}
+
+fn is_print(name: &[u8]) -> bool
+    ensures { result ≡ is_print name.now }
+{
+    name == b"print".as_slice()
+        || (name == b"printf".as_slice()
+            || (name == b"println".as_slice()
+                || (name == b"puts".as_slice()
+                    || (name == b"echo".as_slice() || name == b"write".as_slice()))))
+}
+
+/// The reserved word that a name would be in small letters.
+pub fn small_of(name: &[u8]) -> Option<Terminal>
+    ensures { result ≡ small_of name.now }
+{
+    EVERY
+        .iter()
+        .copied()
+        .find(|terminal| is_in_small(*terminal, name))
+}
+
+fn is_in_small(terminal: Terminal, name: &[u8]) -> bool
+    ensures { result ≡ is_in_small terminal name.now }
+{
+    match terminal {
+        Terminal::Word(word) => word_spelling(word).eq_ignore_ascii_case(name),
+        Terminal::Name | Terminal::Number | Terminal::Sign(_) => false,
+    }
+}

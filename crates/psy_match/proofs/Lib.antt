@@ -1,0 +1,4 @@
+-- The lemmas of this crate, by subject.
+mod Counting
+mod LinesOfPlaces
+mod Numbered

@@ -1,0 +1,5 @@
+-- The definitions of this crate, by subject.
+pub mod Belonging
+pub mod Feeding
+pub mod Points
+pub mod Silences

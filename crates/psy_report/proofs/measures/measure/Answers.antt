@@ -1,0 +1,36 @@
+-- What is left of the proof of `measures::measure`.
+use Rattle.std.proofs.Common.{◌^◌, ◌<◌, ◌≤◌, arith}
+use Rattle.std.specs.List.{All}
+use Rattle.psy_demand.specs.Criterion.{AreWeights}
+use Rattle.psy_report.specs.Measured.{IsLine, IsUndrawn, IsUnlisted, IsUnmeasured, IsUnsized, by_graphs, by_lists, by_sizes}
+use Rattle.psy_source.proofs.lemmas.Stopping.{exit_by}
+use Rattle.psy_demand.proofs.lemmas.Eaches.{all_of}
+use Rattle.psy_report.proofs.measures.measure.Goals as goal
+
+pub returns-in_err-graphs-clause-refused : goal.returns-in_err-graphs-clause-refused
+returns-in_err-graphs-clause-refused c =
+    let unit = c.args.unit.now in
+    exit_by (IsUndrawn unit) (IsUnmeasured unit c.args.top) (λ refusal. by_graphs) _ _ c.from_residual.ensures.1 c.in_err-graphs.ensures.refused
+
+pub returns-in_err-sizes-clause-refused : goal.returns-in_err-sizes-clause-refused
+returns-in_err-sizes-clause-refused c =
+    let unit = c.args.unit.now in
+    exit_by (IsUnsized unit) (IsUnmeasured unit c.args.top) (λ refusal. by_sizes) _ _ c.from_residual-in_err-sizes.ensures.1 c.in_err-sizes.ensures.refused
+
+pub returns-in_err-lists-clause-refused : goal.returns-in_err-lists-clause-refused
+returns-in_err-lists-clause-refused c =
+    let unit = c.args.unit.now in
+    let graphs = c.in_ok-graphs.graphs in
+    exit_by (IsUnlisted c.args.top graphs) (IsUnmeasured unit c.args.top) (λ refusal. by_lists graphs c.in_ok-graphs.ensures.graphs) _ _
+    c.from_residual-in_err-lists.ensures.1 c.in_err-lists.ensures.refused
+
+pub returns-clause-rates : goal.returns-clause-rates
+returns-clause-rates c = all_of IsLine (λ line. line.rate ≤ 2 ^ 40) (λ graph line is. is.rate) c.in_ok-graphs.graphs c.in_ok-lines.lines c.in_ok-lines.ensures
+
+pub returns-clause-parts : goal.returns-clause-parts
+returns-clause-parts c =
+    all_of (AreWeights c.args.top) (All (λ part. part < 2 ^ 50)) (λ graph list are. are.small) c.in_ok-graphs.graphs c.in_ok-lists.lists
+    c.in_ok-lists.ensures.lists
+
+pub returns-clause-few : goal.returns-clause-few
+returns-clause-few c = omega (arith, c.in_ok-lists.ensures.lists.count, c.in_ok-graphs.ensures.graphs.count, c.requires.text.bare.agent_limit)

@@ -1,0 +1,52 @@
+//! All that is measured of a program.
+ghost use Rattle.std.specs.Prelude.{◌^◌, ◌<◌, ◌≤◌, IfErr, IfOk, length};
+ghost use Rattle.std.specs.List.{All};
+ghost use Rattle.psy_base.specs.declared.limits.TheConstants.{AGENTS};
+ghost use Rattle.psy_meaning.specs.Units.{IsOfText};
+ghost use Rattle.psy_source.specs.Programs.{Stops};
+ghost use Rattle.psy_report.specs.Measured.{AreMeasures, IsUnmeasured};
+
+use crate::demands::{lines_of, lists_of};
+use crate::graphs::{graphs, sizes};
+use psy_base::{Items, Sizes};
+use psy_flow::worsts;
+use psy_rate::Rate;
+use psy_source::Stop;
+use psy_tree::Unit;
+use std::alloc::Global;
+
+/// What is measured of a program.
+#[derive(Drop)]
+pub struct Measures {
+    /// The greatest cost of an action, by agent and point, cut at 1,000,000,000.
+    pub costs: Items<Items<u64>>,
+    /// The places of each buffer.
+    pub sizes: Sizes,
+    /// The line above the demand of each agent.
+    pub lines: Items<Rate>,
+    /// The demand of each agent over each length, from 0 to a greatest one.
+    pub lists: Items<Items<u64>>,
+}
+
+/// Measures a program, and its demands over the lengths up to one. It needn't be a program that the processor can run. A refusal is that of a
+/// limit, as psyc tells it; the only other error is want of memory.
+pub fn measure(alloc: Global, unit: &Unit, top: u32) -> Result<Measures, Stop>
+    requires text { IsOfText unit.now }
+    ensures measures { IfOk result (AreMeasures unit.now top) }
+    ensures rates { IfOk result (λ measures. All (λ line. line.rate ≤ 2 ^ 40) measures.lines) }
+    ensures parts { IfOk result (λ measures. All (All (λ part. part < 2 ^ 50)) measures.lists) }
+    ensures few { IfOk result (λ measures. length measures.lists ≤ AGENTS) }
+    ensures refused { IfErr result (Stops (IsUnmeasured unit.now top)) }
+{
+    let graphs = graphs(alloc, unit)?;
+    let sizes = sizes(alloc, unit, &graphs)?;
+    let costs = worsts(alloc, unit)?;
+    let lines = lines_of(alloc, &graphs)?;
+    let lists = lists_of(alloc, &graphs, top)?;
+    Ok(Measures {
+        costs,
+        sizes,
+        lines,
+        lists,
+    })
+}

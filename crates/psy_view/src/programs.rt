@@ -1,0 +1,183 @@
+//! Views of what psyc wrote by the program that it is of.
+ghost use Rattle.std.specs.Prelude.{◌≡◌, ◌∷◌, ◌++◌, ◌≤◌, [], Some, IfOk, codes, length};
+ghost use Rattle.psy_base.specs.declared.limits.TheConstants.{FILE_BYTES, LINES, WORD_BYTES};
+ghost use Rattle.psy_log.specs.Forms.{limit_line, line_of as note_line, name_of, refused_line};
+ghost use Rattle.psy_meaning.specs.Units.{IsOfText};
+ghost use Rattle.psy_script.specs.Faults.{line_number};
+ghost use Rattle.psy_view.specs.Asked.{DotOf, TimelineOf, TimelineWith};
+ghost use Rattle.psy_view.specs.Reading.{names_in};
+ghost use Rattle.psy_view.specs.Views.{IsFed, IsTold, ViewOf};
+
+use crate::asked::Selection;
+use crate::pair::{Matched, Pair, graph_of, run_of};
+use crate::picture::shown;
+use crate::told::told_of_refused;
+use crate::view::View;
+use psy_base::{Memory, limits};
+use psy_draw::{dot_by_point, last_date};
+use psy_log::{Line, Note};
+use psy_match::{input_notes, point_lines, silences};
+use psy_script::{LineKind, TextFault, read_inputs};
+use std::alloc::{AllocError, Global};
+
+/// The graphs in a text, by the points of the program in another. The only error is want of memory.
+#[tactic(auto, using(crate::specs::Views::dotted_of, crate::specs::Views::undotted_of))]
+pub fn dotted_of(
+    alloc: Global,
+    name: &str,
+    program: &str,
+    bytes: &[u8],
+    text: &[u8],
+) -> Result<View, Memory>
+    requires { length text.now ≤ FILE_BYTES }
+    ensures { IfOk result (λ v. ViewOf (DotOf name.now program.now) (bytes.now ∷ text.now ∷ []) v.status v.text.items) }
+{
+    let matched = graph_of(alloc, name, program, bytes, text)?;
+    match matched {
+        Matched::Told(told) => Ok(told),
+        Matched::Of(pair) => {
+            let lines = point_lines(alloc, text, pair.program.tokens.as_slice())?;
+            Ok(View {
+                status: 0,
+                text: dot_by_point(alloc, pair.notes.as_slice(), lines.as_slice())?,
+            })
+        }
+    }
+}
+
+/// The picture of the run in a text, by the program in another. The only error is want of memory.
+#[tactic(auto, using(crate::specs::Views::pictured_of, crate::specs::Views::unpictured_of))]
+pub fn drawn_of(
+    alloc: Global,
+    name: &str,
+    program: &str,
+    selection: Selection,
+    bytes: &[u8],
+    text: &[u8],
+) -> Result<View, Memory>
+    requires { length text.now ≤ FILE_BYTES }
+    ensures { IfOk result (λ v. ViewOf (TimelineOf name.now program.now selection.entry.window (names_in selection.entry)) (bytes.now ∷ text.now ∷ [])
+        v.status v.text.items) }
+{
+    let matched = run_of(alloc, name, program, bytes, text)?;
+    match matched {
+        Matched::Told(told) => Ok(told),
+        Matched::Of(pair) => {
+            let notes = pair.notes.as_slice();
+            let silences = silences(alloc, notes, &pair.program.unit)?;
+            shown(alloc, name, selection, notes, silences.as_slice())
+        }
+    }
+}
+
+/// The names of a log, of its program and of its inputs.
+#[derive(Clone, Copy)]
+pub struct Names<'a> {
+    pub log: &'a str,
+    pub program: &'a str,
+    pub inputs: &'a str,
+}
+
+/// The picture of the run in a text, by the program in another and the inputs in a third. The only error is want of memory.
+#[tactic(auto, using(crate::specs::Views::pictured_with, crate::specs::Views::unpictured_with))]
+pub fn drawn_with(
+    alloc: Global,
+    names: Names,
+    selection: Selection,
+    bytes: &[u8],
+    text: &[u8],
+    fed: &[u8],
+) -> Result<View, Memory>
+    requires text { length text.now ≤ FILE_BYTES }
+    requires fed { length fed.now ≤ FILE_BYTES }
+    ensures { IfOk result (λ v. ViewOf (TimelineWith names.entry.log.now names.entry.program.now names.entry.inputs.now selection.entry.window
+        (names_in selection.entry)) (bytes.now ∷ text.now ∷ fed.now ∷ []) v.status v.text.items) }
+{
+    let matched = run_of(alloc, names.log, names.program, bytes, text)?;
+    match matched {
+        Matched::Told(told) => Ok(told),
+        Matched::Of(pair) => drawn_by(alloc, names, selection, &pair, fed),
+    }
+}
+
+// The same of a run and its program.
+#[tactic(auto, using(crate::specs::Views::with_inputs, crate::specs::Views::no_inputs))]
+fn drawn_by(
+    alloc: Global,
+    names: Names,
+    selection: Selection,
+    pair: &Pair,
+    fed: &[u8],
+) -> Result<View, Memory>
+    requires text { IsOfText pair.now.program.unit }
+    requires fed { length fed.now ≤ FILE_BYTES }
+    ensures { IfOk result (λ v. IsFed names.entry.log.now names.entry.inputs.now selection.entry.window (names_in selection.entry) pair.now.notes.items
+        pair.now.program.unit fed.now v.status v.text.items) }
+{
+    let unit = &pair.program.unit;
+    let notes = pair.notes.as_slice();
+    let inputs = match read_inputs(alloc, fed, unit) {
+        Ok(inputs) => inputs,
+        Err(TextFault::Line { kind, line }) => {
+            return refused(alloc, names.inputs, fed, refused_at(kind, line));
+        }
+        Err(TextFault::Lines) => return refused(alloc, names.inputs, fed, too_many_lines()),
+        Err(TextFault::Memory) => return Err(Memory),
+    };
+    let more = input_notes(alloc, unit, &inputs, last_date(notes))?;
+    let all = joined(alloc, notes, more.as_slice())?;
+    let silences = silences(alloc, notes, unit)?;
+    shown(
+        alloc,
+        names.log,
+        selection,
+        all.as_slice(),
+        silences.as_slice(),
+    )
+}
+
+// Notes behind others.
+fn joined<'a>(
+    alloc: Global,
+    notes: &[Note<'a>],
+    more: &[Note<'a>],
+) -> Result<Vec<Note<'a>>, AllocError>
+    ensures { IfOk result (λ all. all.items ≡ notes.now ++ more.now) }
+{
+    let mut all = Vec::from_slice(alloc, notes)?;
+    all.extend_from_slice(more)?;
+    Ok(all)
+}
+
+// What is told of inputs that psyc refuses with the line of a note.
+fn refused(alloc: Global, name: &str, fed: &[u8], note: Note) -> Result<View, Memory>
+    requires fed { length fed.now ≤ FILE_BYTES }
+    requires short { length (name_of note) ≤ WORD_BYTES }
+    ensures status { IfOk result (λ v. v.status ≡ 1) }
+    ensures told { IfOk result (λ v. IsTold name.now fed.now (note_line note.entry) v.text.items) }
+{
+    let mut line = Line::new();
+    line.set(&note);
+    told_of_refused(alloc, name, fed, line.bytes())
+}
+
+fn refused_at(kind: LineKind, line: u32) -> Note<'static>
+    ensures line { note_line result ≡ refused_line (codes "inputs") (line_number kind) (Some line) }
+    ensures short { length (name_of result) ≤ WORD_BYTES }
+{
+    Note::Refused {
+        what: b"inputs",
+        number: kind.number(),
+        at: Some(line),
+    }
+}
+
+fn too_many_lines() -> Note<'static>
+    ensures line { note_line result ≡ limit_line (codes "lines") LINES }
+    ensures short { length (name_of result) ≤ WORD_BYTES }
+{
+    Note::Limit {
+        name: b"lines",
+        number: limits::LINES as u64,
+    }
+}

@@ -1,0 +1,204 @@
+//! What is told of a byte with which no token goes on.
+ghost use Rattle.std.specs.Prelude.{◌≡◌, ◌≤◌, length};
+ghost use Rattle.std.specs.List.{suffix_len};
+ghost use Rattle.psy_tree.specs.Lexemes.{is_in_word};
+ghost use Rattle.psy_where.specs.Bytes.{byte_words, closes_first, first_byte, high_slip, is_dash, is_in_number, is_unseen, number_slip, plain_slip, slip_of};
+ghost use Rattle.psy_where.specs.Bytes.{word_back};
+
+use psy_text::run::is_in_word;
+
+/// Why no token goes on with a byte.
+#[derive(Clone, Copy, Debug, PartialEq, Eq)]
+pub enum ByteSlip {
+    /// A comment was closed before it.
+    Nested,
+    /// A point inside a number.
+    Fraction,
+    /// A number in another base.
+    Base,
+    /// A number that begins with 0.
+    Zero,
+    /// A word directly behind a number.
+    UnitBehind,
+    /// A point.
+    Point,
+    /// `#`
+    Directive,
+    /// `?`
+    Choice,
+    /// `:`
+    Colon,
+    /// A quote.
+    Quote,
+    /// Another sign that isn't one of the language.
+    NoSign,
+    /// A character that isn't seen.
+    Unseen,
+    /// A dash.
+    Dash,
+    /// Another character beyond ASCII.
+    Beyond,
+}
+
+/// What stands at a byte with which no token goes on, by the bytes before it, and itself with those behind it.
+pub fn slip_of(front: &[u8], back: &[u8]) -> ByteSlip
+    ensures { result ≡ slip_of front.now back.now }
+{
+    if closes_first(back) {
+        ByteSlip::Nested
+    } else if 128 <= first_byte(back) {
+        high_slip(back)
+    } else if is_in_number(front) {
+        number_slip(front, first_byte(back))
+    } else {
+        plain_slip(first_byte(back))
+    }
+}
+
+/// Is a comment closed in these bytes before one is opened?
+pub fn closes_first(bytes: &[u8]) -> bool
+    ensures { result ≡ closes_first bytes.now }
+{
+    let mut rest = bytes;
+    'each: while let [_, more @ ..] = rest {
+        if rest.starts_with(b"*/") {
+            return true;
+        }
+        if rest.starts_with(b"/*") {
+            return false;
+        }
+        rest = more;
+    }
+    false
+}
+
+fn first_byte(bytes: &[u8]) -> u8
+    ensures { result ≡ first_byte bytes.now }
+{
+    match bytes {
+        [byte, ..] => *byte,
+        [] => 0,
+    }
+}
+
+// Do the bytes end with a number?
+fn is_in_number(front: &[u8]) -> bool
+    ensures { result ≡ is_in_number front.now }
+{
+    first_byte(word_back(front)).is_ascii_digit()
+}
+
+// The letters, digits and `_` at the end.
+fn word_back(front: &[u8]) -> &[u8]
+    ensures { result.now ≡ word_back front.now }
+{
+    &front[front.len() - word_back_len(front)..]
+}
+
+fn word_back_len(front: &[u8]) -> usize
+    ensures value { result ≡ suffix_len is_in_word front.now }
+    ensures within { result ≤ length front.now }
+{
+    front.iter().rev().take_while(|b| is_in_word(**b)).count()
+}
+
+// What a byte directly behind a number is.
+fn number_slip(front: &[u8], byte: u8) -> ByteSlip
+    ensures { result ≡ number_slip front.now byte }
+{
+    if byte == b'.' {
+        ByteSlip::Fraction
+    } else if byte.is_ascii_digit() {
+        ByteSlip::Zero
+    } else if (byte == b'x' || byte == b'X') && word_back(front) == b"0".as_slice() {
+        ByteSlip::Base
+    } else if is_in_word(byte) {
+        ByteSlip::UnitBehind
+    } else {
+        plain_slip(byte)
+    }
+}
+
+// What a byte of ASCII is.
+fn plain_slip(byte: u8) -> ByteSlip
+    ensures { result ≡ plain_slip byte }
+{
+    if byte == b'.' {
+        ByteSlip::Point
+    } else if byte == b'#' {
+        ByteSlip::Directive
+    } else if byte == b'?' {
+        ByteSlip::Choice
+    } else if byte == b':' {
+        ByteSlip::Colon
+    } else if byte == b'"' || byte == b'\'' {
+        ByteSlip::Quote
+    } else if 32 < byte && byte < 127 {
+        ByteSlip::NoSign
+    } else {
+        ByteSlip::Unseen
+    }
+}
+
+// What a character beyond ASCII is.
+fn high_slip(back: &[u8]) -> ByteSlip
+    ensures { result ≡ high_slip back.now }
+{
+    if is_unseen(back) {
+        ByteSlip::Unseen
+    } else if is_dash(back) {
+        ByteSlip::Dash
+    } else {
+        ByteSlip::Beyond
+    }
+}
+
+fn is_unseen(back: &[u8]) -> bool
+    ensures { result ≡ is_unseen back.now }
+{
+    back.starts_with(b"\xC2\xA0")
+        || (back.starts_with(b"\xC2\xAD")
+            || (back.starts_with(b"\xE2\x80\x80")
+                || (back.starts_with(b"\xE2\x80\x83")
+                    || (back.starts_with(b"\xE2\x80\x89")
+                        || (back.starts_with(b"\xE2\x80\x8B")
+                            || (back.starts_with(b"\xE2\x80\xAF")
+                                || (back.starts_with(b"\xE3\x80\x80")
+                                    || back.starts_with(b"\xEF\xBB\xBF"))))))))
+}
+
+fn is_dash(back: &[u8]) -> bool
+    ensures { result ≡ is_dash back.now }
+{
+    back.starts_with(b"\xE2\x80\x93")
+        || (back.starts_with(b"\xE2\x80\x94") || back.starts_with(b"\xE2\x88\x92"))
+}
+
+/// What is told of it.
+pub fn byte_words(slip: ByteSlip) -> &'static [u8]
+    ensures { result.now ≡ byte_words slip }
+{
+    match slip {
+        ByteSlip::Nested =>
+            b"comments don't nest: the first `*/` closed the comment, and what stands behind it is read",
+        ByteSlip::Fraction =>
+            b"there are no fractions: a number is whole, so count in smaller units",
+        ByteSlip::Base => b"numbers are decimal: there are no hexadecimal ones",
+        ByteSlip::Zero =>
+            b"a number of several digits begins with 1 to 9: leave the zeros before it out",
+        ByteSlip::UnitBehind =>
+            b"a number is of digits alone, without a unit or `_`: time is counted in ticks; between a number and a word stands a blank",
+        ByteSlip::Point => b"there are no fractions, and names have no parts: leave the point out",
+        ByteSlip::Directive =>
+            b"a comment is written `/* .. */` or `// ..`, and there are no directives",
+        ByteSlip::Choice => b"there is no `? :`: write `if (..) { .. } else { .. }`",
+        ByteSlip::Colon => b"there is no `:`: an assignment is written `=`",
+        ByteSlip::Quote => b"there are no texts and no characters: each value is a number",
+        ByteSlip::NoSign =>
+            b"this is no sign of the language, and a name has letters, digits and `_` alone",
+        ByteSlip::Unseen =>
+            b"a character that isn't seen stands here: write a blank in its place, or nothing",
+        ByteSlip::Dash => b"this is a dash: the minus sign is `-`",
+        ByteSlip::Beyond => b"outside of comments a program has ASCII characters alone",
+    }
+}
