@@ -156,7 +156,7 @@ fn rate_of(measures: &Measures, number: usize) -> u64
     }
 }
 
-fn part_of(measures: &Measures, number: usize, within: u32) -> u64
+pub fn part_of(measures: &Measures, number: usize, within: u32) -> u64
     ensures { result ≡ get_or (get_or measures.now.lists number []) within 0 }
 {
     match measures.lists.as_slice().get(number) {

@@ -3,6 +3,7 @@
 #![tactic(auto)]
 
 mod agents;
+mod asked;
 mod demands;
 mod depths;
 mod graphs;
@@ -14,5 +15,6 @@ mod text;
 mod tight;
 mod warnings;
 
+pub use asked::asked_for;
 pub use measures::{Measures, measure};
 pub use text::report;

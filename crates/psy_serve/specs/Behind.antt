@@ -6,6 +6,7 @@ use Rattle.psy_last.specs.Lasts.{last_line}
 use Rattle.psy_where.specs.Explained.{Explains, sentence_line}
 use Rattle.psy_where.specs.declared.plain.Plain.{Plain}
 use Rattle.psy_where.specs.Plains.{plain_of, plain_sentence}
+use Rattle.psy_report.specs.Asked.{AreAsked}
 use Rattle.psy_words.specs.Faults.{words_told}
 use Rattle.psy_where.specs.Besides.{IsBeside}
 use Rattle.psy_serve.specs.Speaking.{is_of_words, is_refusal, spoken_of}
@@ -13,6 +14,11 @@ use Rattle.psy_serve.specs.Speaking.{is_of_words, is_refusal, spoken_of}
 -- The bytes of the file with this name, where files are told; none of one that is too long
 abbrev pub AreBytesOf : Option Files → List ℕ → List ℕ → Type 0
 AreBytesOf files name bytes = WhereTold files (λ told. (bytes ≡ bytes_under told name) ⊎ ((bytes ≡ []) × (FILE_BYTES < length (bytes_under told name))))
+
+-- The explanation of a line over a text, and behind it what each agent may ask for, where the line tells of a demand that can't be supplied
+abbrev pub IsExplanation : List ℕ → List ℕ → List ℕ → List ℕ → Type 0
+IsExplanation name bytes line more =
+    (text : List ℕ) × (asked : List ℕ) × Explains name bytes line text × AreAsked bytes line asked × (more ≡ text ++ asked)
 
 -- The program among the words tells this of the line of a text of these bytes to which a line points.
 abbrev pub IsToldBeside : List (List ℕ) → Option Files → List ℕ → List ℕ → List ℕ → Type 0
@@ -24,9 +30,9 @@ IsToldBeside words files bytes line told =
 pub data IsExplained (words : List (List ℕ)) (files : Option Files) (last : List ℕ) : List ℕ → Type 0 where
   nothing : IsExplained words files last []
   explained : (line name bytes more : List ℕ) → last ≡ line ++ codes "\n" → spoken_of words line ≡ Some name → AreBytesOf files name bytes
-      → Explains name bytes line more → IsExplained words files last more
+      → IsExplanation name bytes line more → IsExplained words files last more
   explained_beside : (line name bytes more told : List ℕ) → last ≡ line ++ codes "\n" → spoken_of words line ≡ Some name → AreBytesOf files name bytes
-      → Explains name bytes line more → IsToldBeside words files bytes line told → IsExplained words files last (more ++ told)
+      → IsExplanation name bytes line more → IsToldBeside words files bytes line told → IsExplained words files last (more ++ told)
   of_words : (line more : List ℕ) → last ≡ line ++ codes "\n" → is_of_words line ≡ true → more ≡ words_told words → IsExplained words files last more
 
 -- What stands behind a line with its line feed that tells of a file which can't be read: nothing, or what that means, behind the file's name.

@@ -15,15 +15,15 @@ ghost use Rattle.psy_run.specs.Asked.{AskNothing};
 ghost use Rattle.psy_run.specs.Outcome.{IsUnread, MayAnswer};
 ghost use Rattle.psy_run.specs.Refusals.{file_name};
 ghost use Rattle.psy_run.specs.declared.refusal.File.{File as Role};
-ghost use Rattle.psy_where.specs.Explained.{Explains};
 ghost use Rattle.psy_words.specs.Faults.{words_told as fault_of_words};
-ghost use Rattle.psy_serve.specs.Behind.{AreBytesOf, IsBehind, IsExplained, IsTold, IsToldBeside};
+ghost use Rattle.psy_serve.specs.Behind.{AreBytesOf, IsBehind, IsExplained, IsExplanation, IsTold, IsToldBeside};
 ghost use Rattle.psy_serve.specs.Speaking.{is_refusal as refuses};
 
 use crate::speak::{is_of_line, is_of_words, is_refusal, spoken_of, word};
 use psy_door::{FetchFault, Shelf, Sink};
 use psy_last::LastLine;
 use psy_log::{WriteFault, write_all_of};
+use psy_report::asked_for;
 use psy_run::psyc;
 use psy_where::{beside, explain, plain_told, read_plain};
 use psy_words::words_told;
@@ -124,15 +124,19 @@ fn fault_of(alloc: Global, words: &[String]) -> Option<Vec<u8>>
     }
 }
 
-// The explanation of a line over these bytes of a file.
+// The explanation of a line over these bytes of a file, and what each agent may ask for.
 fn explained(alloc: Global, name: &str, bytes: &[u8], line: &[u8]) -> Option<Vec<u8>>
     requires { length bytes.now ≤ FILE_BYTES }
-    ensures { IfSome result (λ more. Explains name.now bytes.now line.now more.items) }
+    ensures { IfSome result (λ more. IsExplanation name.now bytes.now line.now more.items) }
 {
-    match explain(alloc, name.as_bytes(), bytes, line) {
-        Ok(more) => Some(more),
-        Err(_) => None,
-    }
+    let Ok(text) = explain(alloc, name.as_bytes(), bytes, line) else {
+        return None;
+    };
+    let Ok(asked) = asked_for(alloc, bytes, line) else {
+        return None;
+    };
+    let whole = joined(text, asked.as_slice())?;
+    Some(whole)
 }
 
 // The same of the last line that was written; no bytes where there is none.

@@ -43,7 +43,7 @@ of_fed name inputs window names notes unit fed _ _ (with_inputs given more statu
 of_fed name inputs window names notes unit fed _ _ (no_inputs line told refuses tells) = inr refl
 
 of_where : (name line bytes : List ℕ) (status : ℕ) (text : List ℕ) → IsWhere name line bytes status text → IsOfView status
-of_where name line bytes _ _ (explained text is) = inl refl
+of_where name line bytes _ _ (explained text asked is asks) = inl refl
 of_where name line bytes _ _ (no_refusal is) = inr refl
 of_where name line bytes _ _ (beyond is) = inr refl
 

@@ -46,6 +46,7 @@ use Rattle.psy_source.specs.Programs.{IsProgram, IsRefused}
 use Rattle.psy_feed.specs.Drawing.{flow_of}
 use Rattle.psy_gen.specs.Emission.{code_of}
 use Rattle.psy_listing.specs.Listing.{listing_of}
+use Rattle.psy_report.specs.Asked.{AreAsked}
 use Rattle.psy_report.specs.Measured.{IsUnmeasured}
 use Rattle.psy_report.specs.Reports.{IsReport}
 use Rattle.psy_view.specs.Asked.{Request, Where, Timeline, TimelineOf, TimelineWith, Dot, DotOf, Table, Dump, Flow, Listing, Report, Difference, Expectation}
@@ -110,9 +111,10 @@ pub data IsExpected (name claims log text : List ℕ) : ℕ → List ℕ → Typ
 abbrev pub without_feed : List ℕ → List ℕ
 without_feed line = take (length line - 1) line
 
--- What `where` tells of a line, over a text of these bytes in a file of this name: its explanation, or why there is none
+-- What `where` tells of a line, over a text of these bytes in a file of this name: its explanation, and behind it what each agent may ask for, where the
+-- line tells of a demand that can't be supplied; or why there is none
 pub data IsWhere (name line bytes : List ℕ) : ℕ → List ℕ → Type 0 where
-  explained : (text : List ℕ) → Explains name bytes line text → IsWhere name line bytes 0 text
+  explained : (text asked : List ℕ) → Explains name bytes line text → AreAsked bytes line asked → IsWhere name line bytes 0 (text ++ asked)
   no_refusal : IsNone line → IsWhere name line bytes 1 (no_refusal_line name)
   beyond : IsBeyond bytes line → IsWhere name line bytes 1 (beyond_line name)
 

@@ -1,7 +1,7 @@
 -- What is left of the proof of `served::explanation_over`.
 use Rattle.std.proofs.Common.{ℕ, List, ◌++◌, Global, codes, map, refl, string_bytes, sym, subst}
 use Rattle.std.proofs.lemmas.Option.{IfSome_then}
-use Rattle.psy_where.specs.Explained.{Explains}
+use Rattle.psy_serve.specs.Behind.{IsExplanation}
 use Rattle.psy_serve.proofs.Growing.{beside_over, explained_whole}
 use Rattle.psy_serve.specs.Behind.{explained, explained_beside}
 use Rattle.psy_serve.proofs.served.explanation_over.Goals as goal
@@ -13,7 +13,7 @@ returns-clause-explained g c =
     let bytes = c.in_ok-bytes.bytes.items in
     let more = c.in_ok-more.more.items in
     explained line name bytes more refl (sym c.in_ok-name.ensures) c.in_ok-bytes.ensures.bytes
-    (subst (λ (b : List ℕ). Explains name b line more) c.as_slice.ensures.value c.in_ok-more.ensures)
+    (subst (λ (b : List ℕ). IsExplanation name b line more) c.as_slice.ensures.value c.in_ok-more.ensures)
 
 pub returns-in-Some-clause-explained : goal.returns-in-Some-clause-explained
 returns-in-Some-clause-explained g c =
@@ -30,4 +30,4 @@ returns-in-Some-clause-explained g c =
     (λ whole is.
     explained_whole words files (line ++ codes "\n") (more ++ told) whole.items is
     (explained_beside line name bytes more told refl (sym c.in_ok-name.ensures) c.in_ok-bytes.ensures.bytes
-    (subst (λ (b : List ℕ). Explains name b line more) c.as_slice.ensures.value c.in_ok-more.ensures) tells))
+    (subst (λ (b : List ℕ). IsExplanation name b line more) c.as_slice.ensures.value c.in_ok-more.ensures) tells))
