@@ -15,7 +15,7 @@ use Rattle.psy_graph.specs.declared.graph.Graph.{Graph}
 use Rattle.psy_graph.specs.Graphs.{AreGraphs}
 use Rattle.psy_graph.specs.Near.{IsNear}
 use Rattle.psy_history.specs.Compiled.{AreInputs, stated}
-use Rattle.psy_history.specs.Scheduled.{turns_of}
+use Rattle.psy_history.specs.Scheduled.{turns_by}
 use Rattle.psy_kernel.specs.Texts.{summary_of, text_of as lines_text}
 use Rattle.psy_make.specs.Text.{made_text}
 use Rattle.psy_history.specs.Actions.{System}
@@ -108,8 +108,8 @@ module _ (laws : AreLaws) where
     abbrev s : System
     s = meaning_of unit nexts inputs script
 
-    abbrev turns : List (Option Turn)
-    turns = turns_of s (order_of unit script) (until * unit.quantum)
+    abbrev turns : ℕ → List (Option Turn)
+    turns agent = turns_by s (order_of unit script) (until * unit.quantum) agent
 
     tellable : IsTellableRun s turns sizes until
     tellable =

@@ -151,7 +151,7 @@ short_below : (size : ℕ) (o : Option ℕ) → size < 2 ^ 32 → ((n : ℕ) →
 short_below size None small below = tt
 short_below size (Some n) small below = omega (arith, small, below n refl)
 
-module _ (s : System) (turns : List (Option Turn)) (sizes : Sizes) (until : ℕ) (bare : IsBare s.unit) (buffers : AreSizes s.unit (OfText s.unit) s.nexts sizes) (values : HasValues s) (plain : IsPlain s) (most : until ≤ UNTIL) (paced : until * s.unit.quantum ≤ RUN)
+module _ (s : System) (turns : ℕ → List (Option Turn)) (sizes : Sizes) (until : ℕ) (bare : IsBare s.unit) (buffers : AreSizes s.unit (OfText s.unit) s.nexts sizes) (values : HasValues s) (plain : IsPlain s) (most : until ≤ UNTIL) (paced : until * s.unit.quantum ≤ RUN)
     (rings : (variable n : ℕ) → variable < length s.unit.variables → reach s turns (history s (until + 1)) variable ≡ Some n → n < get_or sizes.rings variable 0)
     (queues : (stream : ℕ) → stream < length s.unit.streams → most_held s until stream ≤ get_or sizes.queues stream 0) where
   ring_short : (variable : ℕ) → variable < length s.unit.variables → IsShort (get_or sizes.rings variable 0)
@@ -177,8 +177,8 @@ module _ (s : System) (turns : List (Option Turn)) (sizes : Sizes) (until : ℕ)
             let few : length (due_by until actions) < 2 ^ 64 = omega (arith, length_filter (λ (r : Action). nat_le r.deadline until) actions, few_actions s (until + 1) agent, most) in
             subst (λ n. IsLong (added_to n (length (due_by until actions)))) (sym (plain.count agent)) few);
         slacks = λ agent. (let due = due_by until (history s (until + 1) agent) in
-            let slacks = map (slack_of s.unit.quantum turns) due in
-            subst (λ o. OrNone IsLong (least_of (numbers_in o ++ slacks))) (sym (plain.slack agent)) (least_long slacks (slacks_long s.unit.quantum until turns (history s (until + 1) agent) paced)));
+            let slacks = map (slack_of s.unit.quantum (turns agent)) due in
+            subst (λ o. OrNone IsLong (least_of (numbers_in o ++ slacks))) (sym (plain.slack agent)) (least_long slacks (slacks_long s.unit.quantum until (turns agent) (history s (until + 1) agent) paced)));
         rings = ring_short;
         reaches = λ variable less. short_below (get_or sizes.rings variable 0) (reach s turns (history s (until + 1)) variable) (ring_short variable less) (λ n far. rings variable n less far);
         queues = queue_short;

@@ -41,11 +41,11 @@ module _ (s : System) where
   abbrev pub date_notes : ℕ → List Note
   date_notes date = map (event_note date) (events s date)
 
-  module _ (turns : List (Option Turn)) (sizes : Sizes) (until : ℕ) where
+  module _ (turns : ℕ → List (Option Turn)) (sizes : Sizes) (until : ℕ) where
     abbrev agent_note : ℕ → Note
     agent_note agent =
         let due = due_by until (history s (until + 1) agent) in
-        note.AgentEnd (named (agent_at s.unit agent).name) (due_count s agent due) (least_slack s turns agent due)
+        note.AgentEnd (named (agent_at s.unit agent).name) (due_count s agent due) (least_slack s (turns agent) agent due)
 
     abbrev variable_note : ℕ → Note
     variable_note variable = note.VariableEnd (named (variable_of s variable).name) (get_or sizes.rings variable 0) (reach s turns (history s (until + 1)) variable)
@@ -104,7 +104,7 @@ IsTellable s (Publish variable value) = IsName (variable_of s variable).name × 
 IsTellable s (Show stream value) = IsName (stream_of s stream).name × FitsSigned w32 value
 
 -- A whole run whose names are words, and whose numbers have the bits of their places
-pub record IsTellableRun (s : System) (turns : List (Option Turn)) (sizes : Sizes) (until : ℕ) : Type 0 where
+pub record IsTellableRun (s : System) (turns : ℕ → List (Option Turn)) (sizes : Sizes) (until : ℕ) : Type 0 where
   pub whole : s.opening.dates ≡ 0
   pub most : until ≤ UNTIL
   pub events_told : (date : ℕ) → date ≤ until → AllByRecursion (IsTellable s) (events s date)
@@ -115,7 +115,7 @@ pub record IsTellableRun (s : System) (turns : List (Option Turn)) (sizes : Size
   pub variables : (variable : ℕ) → variable < length s.unit.variables → IsName (variable_of s variable).name
   pub streams : (stream : ℕ) → stream < length s.unit.streams → IsName (stream_of s stream).name
   pub counts : (agent : ℕ) → IsLong (due_count s agent (due_by until (history s (until + 1) agent)))
-  pub slacks : (agent : ℕ) → OrNone IsLong (least_slack s turns agent (due_by until (history s (until + 1) agent)))
+  pub slacks : (agent : ℕ) → OrNone IsLong (least_slack s (turns agent) agent (due_by until (history s (until + 1) agent)))
   pub rings : (variable : ℕ) → variable < length s.unit.variables → IsShort (get_or sizes.rings variable 0)
   pub reaches : (variable : ℕ) → variable < length s.unit.variables → OrNone IsShort (reach s turns (history s (until + 1)) variable)
   pub queues : (stream : ℕ) → stream < length s.unit.streams → IsShort (get_or sizes.queues stream 0)
@@ -126,7 +126,7 @@ all_numbers : {X : Type 0} (P : X → Type 0) (f : ℕ → X) (first n below : �
 all_numbers P f first zero below within each = tt
 all_numbers P f first (suc n) below within each = (each first (omega (arith, within)), all_numbers P f (first + 1) n below (omega (arith, within)) each)
 
-module _ (s : System) (turns : List (Option Turn)) (sizes : Sizes) (until : ℕ) (run : IsTellableRun s turns sizes until) where
+module _ (s : System) (turns : ℕ → List (Option Turn)) (sizes : Sizes) (until : ℕ) (run : IsTellableRun s turns sizes until) where
   event_at : (date : ℕ) → date ≤ until → (e : Event) → IsTellable s e → IsAt date (event_note s date e)
   event_at date within (Stop agent None) named = ((omega (arith, within, run.most), (named, tt)), λ last. refl)
   event_at date within (Stop agent (Some kind)) named = ((omega (arith, within, run.most), (named, (tt, tt))), λ last. refl)

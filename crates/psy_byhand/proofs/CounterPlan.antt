@@ -27,7 +27,7 @@ use Rattle.psy_byhand.specs.Laps.{variable_of}
 use Rattle.psy_byhand.proofs.CounterFits.{counter_fits}
 use Rattle.psy_byhand.proofs.CounterRuns.{code, counting, ways}
 use Rattle.psy_byhand.proofs.LapGraph.{ComesAgain, lap_graph, laps_of, one_there, spots}
-use Rattle.psy_byhand.proofs.LapPaths.{greatest_due, supplied}
+use Rattle.psy_byhand.proofs.LapPaths.{Alone, greatest_due, supplied}
 
 -- The plan
 abbrev pub plan_of : ℕ → ℕ → ℕ → Plan
@@ -80,7 +80,7 @@ module _ (quantum budget : ℕ) where
 
   -- ---- demand
 
-  module _ (again : ComesAgain) (enough : budget ≤ 10 * quantum) where
+  module _ (again : ComesAgain) (alone : Alone) (enough : budget ≤ 10 * quantum) where
     drawn : (agent : ℕ) (edges : List Edge) → slice_get (laps_of budget ∷ []) agent ≡ Some edges → (spots : List Spot) × IsGraph (timing (undisturbed (unit_of quantum budget) code nexts) agent) spots edges
     drawn zero edges e = (spots, subst (IsGraph (timing (undisturbed (unit_of quantum budget) code nexts) 0) spots) (same_Some (laps_of budget) edges e) (lap_graph again budget))
     drawn (suc agent) edges e = absurd (none-some edges e)
@@ -94,7 +94,7 @@ module _ (quantum budget : ℕ) where
     feasible until = record {
       graphs = laps_of budget ∷ [];
       drawn = record { count = refl; each = drawn };
-      feasible = λ length some within. suffices length;
+      feasible = alone (unit_of quantum budget) (laps_of budget ∷ []) quantum until (λ length some within. suffices length);
     }
 
     pub is_plan : (until : ℕ) → Within 1 QUANTUM quantum → Within 1 BUDGET budget → IsPlan (plan_of quantum budget until)

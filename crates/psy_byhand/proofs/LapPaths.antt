@@ -1,12 +1,20 @@
 -- The paths of a graph whose actions all last ten ticks and weigh the same.
-use Rattle.std.proofs.Common.{◌≡◌, ℕ, zero, suc, ◌+◌, ◌*◌, ◌≤◌, List, [], ◌∷◌, length, refl, sym, ap, ap₂, subst, ◌∙◌, arith}
+use Rattle.std.proofs.Common.{◌≡◌, ℕ, zero, suc, ◌+◌, ◌*◌, ◌<◌, ◌≤◌, List, [], ◌∷◌, length, refl, sym, ap, ap₂, subst, ◌∙◌, arith}
 use Rattle.std.specs.Prelude.{◌/◌}
 use Rattle.std.specs.List.{Contains}
 use Rattle.std.proofs.lemmas.Nat.{mul-le}
 use Rattle.std.proofs.Math.Nat.{mul_assoc, mul_comm, suc-mul}
 use Rattle.psy_base.specs.declared.edge.Edge.{Edge}
 use Rattle.psy_base.specs.Paths.{DueBy, FitsDueLast, FitsFirstFree, IsGreatestWeight, IsPathFrom, length_of, weight_of}
+use Rattle.psy_tree.specs.declared.unit.Unit.{Unit as Whole}
+use Rattle.psy_history.specs.Processors.{edges_for, processors}
+use Rattle.psy_meaning.specs.Demand.{IsFeasible}
 use Rattle.psy_byhand.proofs.LapGraph.{lap, laps_of}
+
+-- One processor supplies what all agents may demand.
+abbrev pub Alone : Type 0
+Alone = (unit : Whole) (graphs : List (List Edge)) (quantum until : ℕ) → IsFeasible graphs quantum until
+    → (processor : ℕ) → processor < processors unit → IsFeasible (edges_for unit processor graphs) quantum until
 
 module _ (weight : ℕ) where
   abbrev edges : List Edge

@@ -19,7 +19,7 @@ use Rattle.psy_meaning.specs.Graph.{IsGraph, Spot}
 use Rattle.psy_meaning.specs.Units.{Within}
 use Rattle.psy_byhand.specs.Relays.{code_of, nexts, sizes_of, unit_of}
 use Rattle.psy_byhand.proofs.LapGraph.{ComesAgain, lap_graph, laps_of, spots}
-use Rattle.psy_byhand.proofs.LapPaths.{greatest_due, supplied}
+use Rattle.psy_byhand.proofs.LapPaths.{Alone, greatest_due, supplied}
 use Rattle.psy_byhand.proofs.RelayBuffers.{AreCounted, buffers}
 use Rattle.psy_byhand.proofs.RelayFits.{relay_fits}
 use Rattle.psy_byhand.proofs.RelayRuns.{code, relaying, ways}
@@ -34,7 +34,7 @@ plan_of quantum budget until = record {
   until = until;
 }
 
-module _ (again : ComesAgain) (counted : AreCounted) (quantum budget : ℕ) (enough : 2 * budget ≤ 10 * quantum) where
+module _ (again : ComesAgain) (counted : AreCounted) (alone : Alone) (quantum budget : ℕ) (enough : 2 * budget ≤ 10 * quantum) where
   drawn : (agent : ℕ) (edges : List Edge) → slice_get (laps_of budget ∷ laps_of budget ∷ []) agent ≡ Some edges → (spots : List Spot) × IsGraph (timing (undisturbed (unit_of quantum budget) code nexts) agent) spots edges
   drawn zero edges e = (spots, subst (IsGraph (timing (undisturbed (unit_of quantum budget) code nexts) 0) spots) (same_Some (laps_of budget) edges e) (lap_graph again budget))
   drawn (suc zero) edges e = (spots, subst (IsGraph (timing (undisturbed (unit_of quantum budget) code nexts) 1) spots) (same_Some (laps_of budget) edges e) (lap_graph again budget))
@@ -50,7 +50,7 @@ module _ (again : ComesAgain) (counted : AreCounted) (quantum budget : ℕ) (eno
   feasible until = record {
     graphs = laps_of budget ∷ laps_of budget ∷ [];
     drawn = record { count = refl; each = drawn };
-    feasible = λ length some within. suffices length;
+    feasible = alone (unit_of quantum budget) (laps_of budget ∷ laps_of budget ∷ []) quantum until (λ length some within. suffices length);
   }
 
   pub is_plan : (until : ℕ) → Within 1 QUANTUM quantum → Within 1 BUDGET budget → IsPlan (plan_of quantum budget until)

@@ -10,6 +10,7 @@ use psy_base::{Items, Memory, Sizes};
 use psy_clock::laws::distances;
 use psy_code::{AgentCode, Code, CopyInit, Instr};
 use psy_dates::Plan;
+use psy_history::laws::one_processor;
 use psy_tree::Unit;
 use std::alloc::Global;
 
@@ -78,6 +79,7 @@ pub fn counter(alloc: Global, quantum: u32, budget: u32, until: u32) -> Result<P
     ensures { IfOk result IsPlan }
 {
     distances();
+    one_processor();
     let instrs = [
         Instr::LoadCopy(0),
         Instr::Push(1),

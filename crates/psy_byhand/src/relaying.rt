@@ -10,6 +10,7 @@ use psy_base::{Items, Memory, Sizes};
 use psy_clock::laws::{dates, distances};
 use psy_code::{AgentCode, Code, CopyInit, Instr};
 use psy_dates::Plan;
+use psy_history::laws::one_processor;
 use psy_tree::{StreamDecl, Unit};
 use std::alloc::Global;
 
@@ -115,6 +116,7 @@ pub fn relay(alloc: Global, quantum: u32, budget: u32, until: u32) -> Result<Pla
 {
     dates();
     distances();
+    one_processor();
     let instrs = [
         Instr::Past {
             variable: 0,

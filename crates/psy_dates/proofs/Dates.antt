@@ -72,9 +72,9 @@ pub record Moved (plan : Plan) (inputs : List (List ℤ)) (date : ℕ) (old new 
   pub others : (agent : ℕ) (seat : Seat) → slice_get old.seats.items agent ≡ Some seat → moves_in plan date old.seats.items agent ≡ false → IsBefore new.movers.least (first_in plan agent) seat seat.phase
 
 module _ (plan : Plan) (opening : Opening) (inputs : List (List ℤ)) (stalls : ℕ → List Stall) (bare : IsBare plan.unit) (lawful : IsLawful (opened_of plan opening inputs stalls)) (laws : AreStreamLaws (opened_of plan opening inputs stalls) plan.sizes) (date : ℕ)
-    (begun : AreBegun (opened_of plan opening inputs stalls) date) (turns : List (Option Turn))
+    (begun : AreBegun (opened_of plan opening inputs stalls) date) (turns : ℕ → List (Option Turn))
     (goes : (variable : ℕ) → IsClock (publishing (opened_of plan opening inputs stalls) variable) → Goes (opened_of plan opening inputs stalls) date variable)
-    (unstarted : (agent number : ℕ) → first_number (opened_of plan opening inputs stalls) agent + length (history (opened_of plan opening inputs stalls) date agent) ≤ number → units agent number turns ≡ 0)
+    (unstarted : (agent number : ℕ) → first_number (opened_of plan opening inputs stalls) agent + length (history (opened_of plan opening inputs stalls) date agent) ≤ number → units agent number (turns agent) ≡ 0)
     (old new : Shared) (due : NoneActs date old.seats.items) (stands : SharedStands (opened_of plan opening inputs stalls) plan.sizes turns date old) (moved : Moved plan inputs date old new) where
   abbrev s : System
   s = opened_of plan opening inputs stalls
@@ -87,14 +87,14 @@ module _ (plan : Plan) (opening : Opening) (inputs : List (List ℤ)) (stalls : 
 
   -- The seat of an agent, as its history has it
   abbrev Sits : ℕ → ℕ → Seat → Type 0
-  Sits done agent = IsSeated (opening.silent agent) opening.dates date turns (history s done agent)
+  Sits done agent = IsSeated (opening.silent agent) opening.dates date (turns agent) (history s done agent)
 
   seat_stands : (agent : ℕ) (seat : Seat) → slice_get new.seats.items agent ≡ Some seat → Sits (suc date) agent seat
   seat_stands agent seat is =
       let within : agent < length plan.unit.agents = omega (arith, slice_get_within new.seats.items agent seat is, moved.seated, stands.seated) in
       let (before, was) = seat_at agent within in
       let same : seat_then (timing_in plan agent) date before ≡ seat = same_Some _ _ (sym (moved.seats agent before was) ∙ is) in
-      subst (Sits (suc date) agent) same (seated_moves s lawful date turns agent (unstarted agent) before begun within (due agent before was) (stands.seats agent before was))
+      subst (Sits (suc date) agent) same (seated_moves s lawful date (turns agent) agent (unstarted agent) before begun within (due agent before was) (stands.seats agent before was))
 
   committed_is : (variable : ℕ) (value : ℤ) → slice_get new.committed.items variable ≡ Some value → value ≡ committed_by s (history s (suc date)) variable date (variable_of s variable).owner
   committed_is variable value is = sym (get_or_from_slice_get new.committed.items variable value (pos 0) is) ∙ moved.committed variable within ∙ by_owner (variable_of s variable).owner (bare.variables variable _ within).owner before copies
@@ -111,19 +111,19 @@ module _ (plan : Plan) (opening : Opening) (inputs : List (List ℤ)) (stalls : 
       before : old_value ≡ committed_by s (history s date) variable (date - 1) (variable_of s variable).owner
       before = stands.committed variable old_value (slice_get-get_or old.committed.items variable (pos 0) (omega (arith, within, stands.valued)))
 
-      copies : (owner : ℕ) → (variable_of s variable).owner ≡ Some owner → KeepsCopy (date - 1) turns variable (history s date owner) copy
+      copies : (owner : ℕ) → (variable_of s variable).owner ≡ Some owner → KeepsCopy (date - 1) (turns owner) variable (history s date owner) copy
       copies owner = stands.ended variable owner copy (slice_get-get_or old.ended.items variable (pos 0) (omega (arith, within, stands.kept)))
 
-      by_owner : (owner : Option ℕ) → OwnedWithin (length plan.unit.agents) owner → old_value ≡ committed_by s (history s date) variable (date - 1) owner → ((agent : ℕ) → owner ≡ Some agent → KeepsCopy (date - 1) turns variable (history s date agent) copy)
+      by_owner : (owner : Option ℕ) → OwnedWithin (length plan.unit.agents) owner → old_value ≡ committed_by s (history s date) variable (date - 1) owner → ((agent : ℕ) → owner ≡ Some agent → KeepsCopy (date - 1) (turns agent) variable (history s date agent) copy)
           → (if commits_at date old.seats.items owner then copy else old_value) ≡ committed_by s (history s (suc date)) variable date owner
       by_owner None known stood kept = stood
       by_owner (Some agent) known stood kept =
           let (seat, at) = seat_at agent known in
-          ap (λ found. if ends_at date found then copy else old_value) at ∙ committed_moves s lawful date turns agent variable old_value copy seat (due agent seat at) (stands.seats agent seat at) stood (kept agent refl)
+          ap (λ found. if ends_at date found then copy else old_value) at ∙ committed_moves s lawful date (turns agent) agent variable old_value copy seat (due agent seat at) (stands.seats agent seat at) stood (kept agent refl)
 
-  ended_is : (variable owner : ℕ) (value : ℤ) → slice_get new.ended.items variable ≡ Some value → (variable_of s variable).owner ≡ Some owner → KeepsCopy date turns variable (history s (suc date) owner) value
+  ended_is : (variable owner : ℕ) (value : ℤ) → slice_get new.ended.items variable ≡ Some value → (variable_of s variable).owner ≡ Some owner → KeepsCopy date (turns owner) variable (history s (suc date) owner) value
   ended_is variable owner value is owned =
-      kept_moves s lawful date turns owner (unstarted owner) variable value (numbered s lawful date owner) (stands.ended variable owner value (ap (λ items. slice_get items variable) (sym moved.ended) ∙ is) owned)
+      kept_moves s lawful date (turns owner) owner (unstarted owner) variable value (numbered s lawful date owner) (stands.ended variable owner value (ap (λ items. slice_get items variable) (sym moved.ended) ∙ is) owned)
 
   clock_is : (variable : ℕ) → variable < length plan.unit.variables → IsClock (publishing s variable)
   clock_is variable within = All-get_or IsClock plan.unit.clocks (variable_of s variable).clock _ (bare.variables variable _ within).clock bare.clocks
@@ -140,8 +140,8 @@ module _ (plan : Plan) (opening : Opening) (inputs : List (List ℤ)) (stalls : 
       (subst (λ n. value ≡ committed_by s (history s n) variable date (variable_of s variable).owner) (sym (add-one date)) committed) (stands.rings variable before was))
 
   -- The seats of agents before the date
-  earlier : (agent : ℕ) (seat : Seat) → slice_get old.seats.items agent ≡ Some seat → IsEarlier s lawful date begun turns agent seat
-  earlier agent seat at = seat_earlier s lawful date begun turns agent seat (stands.seats agent seat at)
+  earlier : (agent : ℕ) (seat : Seat) → slice_get old.seats.items agent ≡ Some seat → IsEarlier s lawful date begun (turns agent) agent seat
+  earlier agent seat at = seat_earlier s lawful date begun (turns agent) agent seat (stands.seats agent seat at)
 
   -- Of the agents that moved it is known whose action started.
   pub starts_known : NamesAll (starts_in (date + 1) new.seats.items) (length new.seats.items) 0 new.movers.moved.agents
@@ -151,19 +151,19 @@ module _ (plan : Plan) (opening : Opening) (inputs : List (List ℤ)) (stalls : 
   shared_moves = record {
     date = ap dates_done moved.date_is;
     seated = moved.seated ∙ stands.seated;
-    seats = λ agent seat is. subst (λ d. IsSeated (opening.silent agent) opening.dates d turns (history s (date + 1) agent) seat) (sym (one_back date)) (subst (λ n. Sits n agent seat) (sym (add-one date)) (seat_stands agent seat is));
+    seats = λ agent seat is. subst (λ d. IsSeated (opening.silent agent) opening.dates d (turns agent) (history s (date + 1) agent) seat) (sym (one_back date)) (subst (λ n. Sits n agent seat) (sym (add-one date)) (seat_stands agent seat is));
     valued = moved.valued ∙ stands.valued;
     committed = λ variable value is. subst (λ d. value ≡ committed_by s (history s (date + 1)) variable d (variable_of s variable).owner) (sym (one_back date)) (subst (λ n. value ≡ committed_by s (history s n) variable date (variable_of s variable).owner) (sym (add-one date)) (committed_is variable value is));
     kept = ap length moved.ended ∙ stands.kept;
-    ended = λ variable owner value is owned. subst (λ d. KeepsCopy d turns variable (history s (date + 1) owner) value) (sym (one_back date)) (subst (λ n. KeepsCopy date turns variable (history s n owner) value) (sym (add-one date)) (ended_is variable owner value is owned));
+    ended = λ variable owner value is owned. subst (λ d. KeepsCopy d (turns owner) variable (history s (date + 1) owner) value) (sym (one_back date)) (subst (λ n. KeepsCopy date (turns owner) variable (history s n owner) value) (sym (add-one date)) (ended_is variable owner value is owned));
     ringed = moved.ringed ∙ stands.ringed;
     rings = ring_stands;
     queued = moved.queued ∙ stands.queued;
     queues = queue_stands plan opening inputs stalls bare lawful laws date begun turns old due stands new.queues.items moved.queued moved.queues;
     boxed = moved.boxed ∙ stands.boxed;
-    outboxes = λ agent outbox is. subst (λ d. OutboxStands plan.sizes d turns agent (history s (date + 1) agent) outbox) (sym (one_back date)) (subst (λ n. OutboxStands plan.sizes date turns agent (history s n agent) outbox) (sym (add-one date)) (outbox_stands plan opening inputs stalls bare lawful laws date begun turns old due stands unstarted new.outboxes.items moved.boxed moved.outboxes agent outbox is));
+    outboxes = λ agent outbox is. subst (λ d. OutboxStands plan.sizes d (turns agent) agent (history s (date + 1) agent) outbox) (sym (one_back date)) (subst (λ n. OutboxStands plan.sizes date (turns agent) agent (history s n agent) outbox) (sym (add-one date)) (outbox_stands plan opening inputs stalls bare lawful laws date begun turns old due stands unstarted new.outboxes.items moved.boxed moved.outboxes agent outbox is));
     taking = moved.taking ∙ stands.taking;
-    taken = λ stream n is. subst (λ d. KeepsTakes d turns stream (history s (date + 1) (stream_of s stream).receiver) n) (sym (one_back date)) (subst (λ k. KeepsTakes date turns stream (history s k (stream_of s stream).receiver) n) (sym (add-one date)) (takes_stand plan opening inputs stalls bare lawful laws date begun turns old due stands unstarted new.taken.items moved.taking moved.taken stream n is));
+    taken = λ stream n is. subst (λ d. KeepsTakes d (turns (stream_of s stream).receiver) stream (history s (date + 1) (stream_of s stream).receiver) n) (sym (one_back date)) (subst (λ k. KeepsTakes date (turns (stream_of s stream).receiver) stream (history s k (stream_of s stream).receiver) n) (sym (add-one date)) (takes_stand plan opening inputs stalls bare lawful laws date begun turns old due stands unstarted new.taken.items moved.taking moved.taken stream n is));
     calendar = moved.calendar;
     movers = record {
       room = omega (arith, moved.room, stands.movers.room);

@@ -78,7 +78,7 @@ pub record IsFirst (plan : Plan) (shared : Shared) : Type 0 where
   pub calendar : CalendarStands plan.unit.clocks 0 shared.calendar
   pub movers : shared.movers ≡ record { moved = record { size = length plan.unit.agents; agents = [] }; least = 0; stopped = false }
 
-pub first_stands : (plan : Plan) (inputs : List (List ℤ)) (stalls : ℕ → List Stall) (shared : Shared) (ways : Ways) → AreSizes plan.unit ways plan.nexts plan.sizes → IsFirst plan shared → SharedStands (system_of plan inputs stalls) plan.sizes [] 0 shared
+pub first_stands : (plan : Plan) (inputs : List (List ℤ)) (stalls : ℕ → List Stall) (shared : Shared) (ways : Ways) → AreSizes plan.unit ways plan.nexts plan.sizes → IsFirst plan shared → SharedStands (system_of plan inputs stalls) plan.sizes (λ agent. []) 0 shared
 first_stands plan inputs stalls shared ways sizes is =
     let s = system_of plan inputs stalls in
     let count : length shared.committed.items ≡ length plan.unit.variables = ap length is.committed ∙ length-map plan.unit.variables (λ v. v.init) in

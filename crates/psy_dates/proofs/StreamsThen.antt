@@ -58,7 +58,7 @@ cleared true outbox = refl
 cleared false outbox = refl
 
 module _ (plan : Plan) (opening : Opening) (inputs : List (List ℤ)) (stalls : ℕ → List Stall) (bare : IsBare plan.unit) (lawful : IsLawful (opened_of plan opening inputs stalls)) (laws : AreStreamLaws (opened_of plan opening inputs stalls) plan.sizes) (date : ℕ)
-    (begun : AreBegun (opened_of plan opening inputs stalls) date) (turns : List (Option Turn)) (old : Shared) (due : NoneActs date old.seats.items) (stands : SharedStands (opened_of plan opening inputs stalls) plan.sizes turns date old) where
+    (begun : AreBegun (opened_of plan opening inputs stalls) date) (turns : ℕ → List (Option Turn)) (old : Shared) (due : NoneActs date old.seats.items) (stands : SharedStands (opened_of plan opening inputs stalls) plan.sizes turns date old) where
   abbrev s : System
   s = opened_of plan opening inputs stalls
 
@@ -74,7 +74,7 @@ module _ (plan : Plan) (opening : Opening) (inputs : List (List ℤ)) (stalls : 
   seat_at : (agent : ℕ) → agent < length plan.unit.agents → slice_get old.seats.items agent ≡ Some (seat_of agent)
   seat_at agent l = slice_get-get_or old.seats.items agent nowhere (omega (arith, l, stands.seated))
 
-  seated : (agent : ℕ) → agent < length plan.unit.agents → IsSeated (opening.silent agent) opening.dates (date - 1) turns (history s date agent) (seat_of agent)
+  seated : (agent : ℕ) → agent < length plan.unit.agents → IsSeated (opening.silent agent) opening.dates (date - 1) (turns agent) (history s date agent) (seat_of agent)
   seated agent l = stands.seats agent (seat_of agent) (seat_at agent l)
 
   late : (agent : ℕ) → agent < length plan.unit.agents → (seat_of agent).deadline ≤ date → (seat_of agent).phase ≡ phase.Acting → ⊥
@@ -83,10 +83,10 @@ module _ (plan : Plan) (opening : Opening) (inputs : List (List ℤ)) (stalls : 
   received : (stream : ℕ) → stream < length plan.unit.streams → receiver stream < length plan.unit.agents
   received stream l = (bare.streams stream _ l).receiver
 
-  took : (stream : ℕ) → stream < length plan.unit.streams → KeepsTakes (date - 1) turns stream (history s date (receiver stream)) (get_or old.taken.items stream 0)
+  took : (stream : ℕ) → stream < length plan.unit.streams → KeepsTakes (date - 1) (turns (receiver stream)) stream (history s date (receiver stream)) (get_or old.taken.items stream 0)
   took stream l = stands.taken stream (get_or old.taken.items stream 0) (slice_get-get_or old.taken.items stream 0 (omega (arith, l, stands.taking)))
 
-  sent : (agent : ℕ) → agent < length plan.unit.agents → KeepsSends (date - 1) turns (history s date agent) (sends_of old.outboxes.items agent)
+  sent : (agent : ℕ) → agent < length plan.unit.agents → KeepsSends (date - 1) (turns agent) (history s date agent) (sends_of old.outboxes.items agent)
   sent agent l = (stands.outboxes agent (get_or old.outboxes.items agent no_box) (slice_get-get_or old.outboxes.items agent no_box (omega (arith, l, stands.boxed)))).sends
 
   -- ---- what was taken is held
@@ -106,11 +106,11 @@ module _ (plan : Plan) (opening : Opening) (inputs : List (List ℤ)) (stalls : 
       now : ends_at date (Some (seat_of (receiver stream))) ≡ true
       now = ap (ends_at date) (sym (seat_at (receiver stream) known)) ∙ ends
 
-      from : (actions : List Action) → history s date (receiver stream) ≡ actions → IsSeated (opening.silent (receiver stream)) opening.dates (date - 1) turns actions (seat_of (receiver stream)) → KeepsTakes (date - 1) turns stream actions (get_or old.taken.items stream 0) → get_or old.taken.items stream 0 ≤ length queue.messages
-      from [] is waits keeps = absurd (ends_nowhere (sym now ∙ ends_none (opening.silent (receiver stream)) opening.dates (date - 1) turns (seat_of (receiver stream)) ((seat_of (receiver stream)).end == date) waits))
+      from : (actions : List Action) → history s date (receiver stream) ≡ actions → IsSeated (opening.silent (receiver stream)) opening.dates (date - 1) (turns (receiver stream)) actions (seat_of (receiver stream)) → KeepsTakes (date - 1) (turns (receiver stream)) stream actions (get_or old.taken.items stream 0) → get_or old.taken.items stream 0 ≤ length queue.messages
+      from [] is waits keeps = absurd (ends_nowhere (sym now ∙ ends_none (opening.silent (receiver stream)) opening.dates (date - 1) (turns (receiver stream)) (seat_of (receiver stream)) ((seat_of (receiver stream)).end == date) waits))
       from (r ∷ before) is sits keeps =
-          let of = seat_of_last (opening.silent (receiver stream)) opening.dates (date - 1) turns r before (seat_of (receiver stream)) sits in
-          let told = tells s lawful date turns (receiver stream) r before is (seat_of (receiver stream)) of (late (receiver stream) known) in
+          let of = seat_of_last (opening.silent (receiver stream)) opening.dates (date - 1) (turns (receiver stream)) r before (seat_of (receiver stream)) sits in
+          let told = tells s lawful date (turns (receiver stream)) (receiver stream) r before is (seat_of (receiver stream)) of (late (receiver stream) known) in
           let ended : ended_at date r.verdict ≡ true = sym told.ends ∙ now in
           let (point, verdict) = done_there date r.verdict ended in
           let past : suc (date - 1) ≡ date = omega (arith, (was_started s lawful date (receiver stream) r before is).at) in
@@ -129,11 +129,11 @@ module _ (plan : Plan) (opening : Opening) (inputs : List (List ℤ)) (stalls : 
     | inr beyond ↦ absurd (ends_nowhere (sym ends ∙ ap (ends_at date) (slice_get_past old.seats.items agent (omega (arith, beyond, stands.seated)))))
   ]
     where
-      from : agent < length plan.unit.agents → (actions : List Action) → history s date agent ≡ actions → IsSeated (opening.silent agent) opening.dates (date - 1) turns actions (seat_of agent) → KeepsSends (date - 1) turns actions (sends_of old.outboxes.items agent) → All (IsSentOf plan.unit) (sends_of old.outboxes.items agent)
-      from known [] is waits keeps = absurd (ends_nowhere (sym ends ∙ ap (ends_at date) (seat_at agent known) ∙ ends_none (opening.silent agent) opening.dates (date - 1) turns (seat_of agent) ((seat_of agent).end == date) waits))
+      from : agent < length plan.unit.agents → (actions : List Action) → history s date agent ≡ actions → IsSeated (opening.silent agent) opening.dates (date - 1) (turns agent) actions (seat_of agent) → KeepsSends (date - 1) (turns agent) actions (sends_of old.outboxes.items agent) → All (IsSentOf plan.unit) (sends_of old.outboxes.items agent)
+      from known [] is waits keeps = absurd (ends_nowhere (sym ends ∙ ap (ends_at date) (seat_at agent known) ∙ ends_none (opening.silent agent) opening.dates (date - 1) (turns agent) (seat_of agent) ((seat_of agent).end == date) waits))
       from known (r ∷ before) is sits keeps =
-          let of = seat_of_last (opening.silent agent) opening.dates (date - 1) turns r before (seat_of agent) sits in
-          let told = tells s lawful date turns agent r before is (seat_of agent) of (late agent known) in
+          let of = seat_of_last (opening.silent agent) opening.dates (date - 1) (turns agent) r before (seat_of agent) sits in
+          let told = tells s lawful date (turns agent) agent r before is (seat_of agent) of (late agent known) in
           let ended : ended_at date r.verdict ≡ true = sym told.ends ∙ ap (ends_at date) (sym (seat_at agent known)) ∙ ends in
           subst (All (IsSentOf plan.unit)) (sym (keeps (told.ended ended).1)) (laws.fit date agent r before is)
 
@@ -148,7 +148,7 @@ module _ (plan : Plan) (opening : Opening) (inputs : List (List ℤ)) (stalls : 
       each agent known =
           ap (λ found. if ends_at date found then messages_from (system_of plan [] (λ agent. [])) stream agent date 0 (sends_of old.outboxes.items agent) else []) (seat_at agent known)
           ∙ ap (λ ms. if ends_at date (Some (seat_of agent)) then ms else []) (same_messages plan opening inputs stalls stream agent date 0 (sends_of old.outboxes.items agent))
-          ∙ enters_there s lawful date turns agent (seat_of agent) (late agent known) (seated agent known) stream (sends_of old.outboxes.items agent) (sent agent known)
+          ∙ enters_there s lawful date (turns agent) agent (seat_of agent) (late agent known) (seated agent known) stream (sends_of old.outboxes.items agent) (sent agent known)
 
   -- ---- the queues
 
@@ -161,7 +161,7 @@ module _ (plan : Plan) (opening : Opening) (inputs : List (List ℤ)) (stalls : 
       let within : stream < length plan.unit.streams = omega (arith, slice_get_within old.queues.items stream queue at, stands.queued) in
       let agent = receiver stream in
       let known = received stream within in
-      settles_there s lawful date turns agent (seat_of agent) (late agent known) (seated agent known) stream (get_or old.taken.items stream 0) (first_date (timing_in plan agent)) begun known refl (took stream within) queue
+      settles_there s lawful date (turns agent) agent (seat_of agent) (late agent known) (seated agent known) stream (get_or old.taken.items stream 0) (first_date (timing_in plan agent)) begun known refl (took stream within) queue
       ∙ ap (λ messages. record queue { messages = settled s date stream messages }) (stands.queues stream queue at).messages
 
   whole : (stream : ℕ) (queue : Queued) → slice_get old.queues.items stream ≡ Some queue → with_entered (all_sent stream) (queue_then stream queue) ≡ record queue { messages = queue_of s (date + 1) stream }
@@ -199,7 +199,7 @@ module _ (plan : Plan) (opening : Opening) (inputs : List (List ℤ)) (stalls : 
 
   -- No action had a cycle before it starts.
   abbrev pub Unstarted : Type 0
-  Unstarted = (agent number : ℕ) → first_number s agent + length (history s date agent) ≤ number → units agent number turns ≡ 0
+  Unstarted = (agent number : ℕ) → first_number s agent + length (history s date agent) ≤ number → units agent number (turns agent) ≡ 0
 
   -- What an agent sent is cleared where its action ends.
   abbrev pub Boxes : List Outboxed → Type 0
@@ -224,24 +224,24 @@ module _ (plan : Plan) (opening : Opening) (inputs : List (List ℤ)) (stalls : 
       takes stream (get_or old.taken.items stream 0) (slice_get-get_or old.taken.items stream 0 (omega (arith, l, stands.taking)))
       ∙ ap (λ found. Some (if ends_at date found then 0 else get_or old.taken.items stream 0)) (seat_at (receiver stream) (received stream l))
 
-  pub outbox_stands : Unstarted → (new : List Outboxed) → length new ≡ length old.outboxes.items → Boxes new → (agent : ℕ) (outbox : Outboxed) → slice_get new agent ≡ Some outbox → OutboxStands plan.sizes date turns agent (history s (suc date) agent) outbox
+  pub outbox_stands : Unstarted → (new : List Outboxed) → length new ≡ length old.outboxes.items → Boxes new → (agent : ℕ) (outbox : Outboxed) → slice_get new agent ≡ Some outbox → OutboxStands plan.sizes date (turns agent) agent (history s (suc date) agent) outbox
   outbox_stands unstarted new same boxes agent outbox is =
       let l : agent < length plan.unit.agents = omega (arith, slice_get_within new agent outbox is, same, stands.boxed) in
       let its = stands.outboxes agent (box_of agent) (box_at agent l) in
-      let kept = kept_moves s lawful date turns agent (seat_of agent) (late agent l) (seated agent l) (List Sent) [] (λ r. r.deeds.sends) (box_of agent).sends (sends_kept (date - 1) turns (history s date agent) (box_of agent).sends its.sends) (unstarted agent) in
-      subst (OutboxStands plan.sizes date turns agent (history s (suc date) agent)) (same_Some _ _ (sym (box_then new boxes agent l) ∙ is)) (record {
+      let kept = kept_moves s lawful date (turns agent) agent (seat_of agent) (late agent l) (seated agent l) (List Sent) [] (λ r. r.deeds.sends) (box_of agent).sends (sends_kept (date - 1) (turns agent) (history s date agent) (box_of agent).sends its.sends) (unstarted agent) in
+      subst (OutboxStands plan.sizes date (turns agent) agent (history s (suc date) agent)) (same_Some _ _ (sym (box_then new boxes agent l) ∙ is)) (record {
         size = its.size;
-        sends = kept_sends date turns (history s (suc date) agent) _ kept;
+        sends = kept_sends date (turns agent) (history s (suc date) agent) _ kept;
       })
 
-  pub takes_stand : Unstarted → (new : List ℕ) → length new ≡ length old.taken.items → Takes new → (stream n : ℕ) → slice_get new stream ≡ Some n → KeepsTakes date turns stream (history s (suc date) (receiver stream)) n
+  pub takes_stand : Unstarted → (new : List ℕ) → length new ≡ length old.taken.items → Takes new → (stream n : ℕ) → slice_get new stream ≡ Some n → KeepsTakes date (turns (receiver stream)) stream (history s (suc date) (receiver stream)) n
   takes_stand unstarted new same takes stream n is =
       let l : stream < length plan.unit.streams = omega (arith, slice_get_within new stream n is, same, stands.taking) in
       let agent = receiver stream in
       let known = received stream l in
       let before = get_or old.taken.items stream 0 in
-      let kept = kept_moves s lawful date turns agent (seat_of agent) (late agent known) (seated agent known) ℕ 0 (λ r. length (taken r stream)) before (takes_kept (date - 1) turns stream (history s date agent) before (took stream l)) (unstarted agent) in
-      subst (KeepsTakes date turns stream (history s (suc date) agent)) (same_Some _ _ (sym (take_then new takes stream l) ∙ is)) (kept_takes date turns stream (history s (suc date) agent) _ kept)
+      let kept = kept_moves s lawful date (turns agent) agent (seat_of agent) (late agent known) (seated agent known) ℕ 0 (λ r. length (taken r stream)) before (takes_kept (date - 1) (turns agent) stream (history s date agent) before (took stream l)) (unstarted agent) in
+      subst (KeepsTakes date (turns agent) stream (history s (suc date) agent)) (same_Some _ _ (sym (take_then new takes stream l) ∙ is)) (kept_takes date (turns agent) stream (history s (suc date) agent) _ kept)
 
   -- ---- actions that start, and that go on
 
@@ -262,7 +262,7 @@ module _ (plan : Plan) (opening : Opening) (inputs : List (List ℤ)) (stalls : 
         let to = moved_to agent seat is in
         let its = stands.outboxes agent (box_of agent) (box_at agent l) in
         ap (λ (o : Outboxed). o.sends) (same_Some _ _ (sym at ∙ box_then new boxes agent l))
-        ∙ nothing_begun s lawful date turns agent (seat_of agent) (late agent l) (seated agent l) (List Sent) [] (λ r. r.deeds.sends) (box_of agent).sends (sends_kept (date - 1) turns (history s date agent) (box_of agent).sends its.sends) (timing_in plan agent) (ap (λ (x : Seat). x.start) to ∙ start) (ap (λ (x : Seat). x.phase) to ∙ acts)
+        ∙ nothing_begun s lawful date (turns agent) agent (seat_of agent) (late agent l) (seated agent l) (List Sent) [] (λ r. r.deeds.sends) (box_of agent).sends (sends_kept (date - 1) (turns agent) (history s date agent) (box_of agent).sends its.sends) (timing_in plan agent) (ap (λ (x : Seat). x.start) to ∙ start) (ap (λ (x : Seat). x.phase) to ∙ acts)
 
     pub take_begun : (new : List ℕ) → Takes new → (agent : ℕ) → Begins date seats agent → (stream : ℕ) (decl : StreamDecl) → slice_get plan.unit.streams stream ≡ Some decl → decl.receiver ≡ agent → slice_get new stream ≡ Some 0
     take_begun new takes agent begins stream decl at is = from (subst (Begins date seats) (receives stream agent decl at is) begins)
@@ -277,7 +277,7 @@ module _ (plan : Plan) (opening : Opening) (inputs : List (List ℤ)) (stalls : 
             let to = moved_to its seat there in
             let before = get_or old.taken.items stream 0 in
             take_then new takes stream l
-            ∙ ap Some (nothing_begun s lawful date turns its (seat_of its) (late its known) (seated its known) ℕ 0 (λ r. length (taken r stream)) before (takes_kept (date - 1) turns stream (history s date its) before (took stream l)) (timing_in plan its) (ap (λ (x : Seat). x.start) to ∙ start) (ap (λ (x : Seat). x.phase) to ∙ acts))
+            ∙ ap Some (nothing_begun s lawful date (turns its) its (seat_of its) (late its known) (seated its known) ℕ 0 (λ r. length (taken r stream)) before (takes_kept (date - 1) (turns its) stream (history s date its) before (took stream l)) (timing_in plan its) (ap (λ (x : Seat). x.start) to ∙ start) (ap (λ (x : Seat). x.phase) to ∙ acts))
 
     pub box_goes : (new : List Outboxed) → Boxes new → (agent : ℕ) → GoesOn date seats agent → slice_get new agent ≡ slice_get old.outboxes.items agent
     box_goes new boxes agent (seat, is, acts, start) =

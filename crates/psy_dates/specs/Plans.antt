@@ -1,5 +1,5 @@
 -- What is asked of a plan.
-use Rattle.std.specs.Prelude.{◌≡◌, ℕ, List, [], ℤ}
+use Rattle.std.specs.Prelude.{◌≡◌, ℕ, ◌<◌, List, [], ℤ}
 use Rattle.psy_base.specs.declared.edge.Edge.{Edge}
 use Rattle.psy_base.specs.declared.ways.Ways.{Ways as WayLists}
 use Rattle.psy_budget.specs.declared.charge.Stall.{Stall}
@@ -10,6 +10,7 @@ use Rattle.psy_meaning.specs.Demand.{IsFeasible}
 use Rattle.psy_history.specs.Compiled.{AreEdgesOf, coded}
 use Rattle.psy_history.specs.Fitting.{FitsBy}
 use Rattle.psy_history.specs.Openings.{IsSound}
+use Rattle.psy_history.specs.Processors.{edges_for, processors}
 use Rattle.psy_dates.specs.declared.plan.Plan.{Plan}
 use Rattle.psy_meaning.specs.KnownWays.{Listed}
 
@@ -25,11 +26,11 @@ opened_of plan opening inputs stalls = record (system_of plan inputs stalls) { o
 abbrev pub whole_of : Plan → Opening
 whole_of plan = plain plan.unit plan.nexts (by_code plan.code)
 
--- The processor can supply what the plan's agents may demand up to its last date.
+-- Each processor can supply what the plan's agents that are its own may demand up to its last date.
 pub record IsFeasibleFor (plan : Plan) : Type 0 where
   pub graphs : List (List Edge)
   pub drawn : AreEdgesOf (system_of plan [] (λ agent. [])) graphs
-  pub feasible : IsFeasible graphs plan.unit.quantum plan.until
+  pub feasible : (processor : ℕ) → processor < processors plan.unit → IsFeasible (edges_for plan.unit processor graphs) plan.unit.quantum plan.until
 
 -- A plan that fits: by some ways its code fits its program, the points that follow are those of the ways, buffers have the sizes that the ways
 -- ask for, none of them beyond its limit, and the demand is supplied. It may have code that doesn't act as the program's statements.

@@ -124,28 +124,29 @@ pub record MoversStand (s : System) (dates : ℕ) (seats : List Seat) (movers : 
   pub stopped : movers.stopped ≡ false → NoneStopped seats
   pub fallen : NamesAll (falls_in dates seats) (length seats) 0 movers.moved.agents
 
--- The shared state, with buffers of these sizes, stands for the history of the first so many dates, where the cycles done went to these turns.
-pub record SharedStands (s : System) (sizes : Sizes) (turns : List (Option Turn)) (dates : ℕ) (shared : Shared) : Type 0 where
+-- The shared state, with buffers of these sizes, stands for the history of the first so many dates, where by agent the cycles done of its
+-- processor went to these turns.
+pub record SharedStands (s : System) (sizes : Sizes) (turns : ℕ → List (Option Turn)) (dates : ℕ) (shared : Shared) : Type 0 where
   pub date : dates_done shared.date ≡ dates
   pub seated : length shared.seats.items ≡ length s.unit.agents
   pub seats : (agent : ℕ) (seat : Seat) → slice_get shared.seats.items agent ≡ Some seat
-      → IsSeated (s.opening.silent agent) s.opening.dates (dates - 1) turns (history s dates agent) seat
+      → IsSeated (s.opening.silent agent) s.opening.dates (dates - 1) (turns agent) (history s dates agent) seat
   pub valued : length shared.committed.items ≡ length s.unit.variables
   pub committed : (variable : ℕ) (value : ℤ) → slice_get shared.committed.items variable ≡ Some value
       → value ≡ committed_at s (history s dates) variable (dates - 1)
   pub kept : length shared.ended.items ≡ length s.unit.variables
   pub ended : (variable owner : ℕ) (value : ℤ) → slice_get shared.ended.items variable ≡ Some value → (variable_of s variable).owner ≡ Some owner
-      → KeepsCopy (dates - 1) turns variable (history s dates owner) value
+      → KeepsCopy (dates - 1) (turns owner) variable (history s dates owner) value
   pub ringed : length shared.rings.items ≡ length s.unit.variables
   pub rings : (variable : ℕ) (ring : List ℤ) → slice_get shared.rings.items variable ≡ Some ring → RingStands s sizes dates variable ring
   pub queued : length shared.queues.items ≡ length s.unit.streams
   pub queues : (stream : ℕ) (queue : Queued) → slice_get shared.queues.items stream ≡ Some queue → QueueStands s sizes dates stream queue
   pub boxed : length shared.outboxes.items ≡ length s.unit.agents
   pub outboxes : (agent : ℕ) (outbox : Outboxed) → slice_get shared.outboxes.items agent ≡ Some outbox
-      → OutboxStands sizes (dates - 1) turns agent (history s dates agent) outbox
+      → OutboxStands sizes (dates - 1) (turns agent) agent (history s dates agent) outbox
   pub taking : length shared.taken.items ≡ length s.unit.streams
   pub taken : (stream n : ℕ) → slice_get shared.taken.items stream ≡ Some n
-      → KeepsTakes (dates - 1) turns stream (history s dates (stream_of s stream).receiver) n
+      → KeepsTakes (dates - 1) (turns (stream_of s stream).receiver) stream (history s dates (stream_of s stream).receiver) n
   pub calendar : CalendarStands s.unit.clocks dates shared.calendar
   pub movers : MoversStand s dates shared.seats.items shared.movers
 

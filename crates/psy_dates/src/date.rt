@@ -2,7 +2,7 @@
 ghost use Rattle.std.specs.Prelude.{◌≡◌, ℕ, ◌+◌, ◌*◌, ◌≤◌, List, [], Some, length, slice_get};
 ghost use Rattle.psy_budget.specs.declared.charge.Stall.{Stall};
 ghost use Rattle.psy_history.specs.Compiled.{AreInputs};
-ghost use Rattle.psy_history.specs.Scheduled.{turns_of};
+ghost use Rattle.psy_history.specs.Scheduled.{turns_by};
 ghost use Rattle.psy_history.specs.Actions.{Opening};
 ghost use Rattle.psy_dates.specs.Movers.{NamesAll, starts_in};
 ghost use Rattle.psy_dates.specs.Plans.{IsPlan, IsSoundFor, opened_of};
@@ -35,14 +35,14 @@ pub fn at_date(shared: &mut Shared, plan: &Plan, date: u64)
     requires stands { (opening : Opening) × (stalls : ℕ → List Stall) × (order : ℕ → List ℕ)
         × IsSoundFor plan.now opening shared.old.inputs.lists stalls × (opening.dates ≤ date)
         × SharedStands (opened_of plan.now opening shared.old.inputs.lists stalls) plan.now.sizes
-        (turns_of (opened_of plan.now opening shared.old.inputs.lists stalls) order (date * plan.now.unit.quantum)) date shared.old }
+        (turns_by (opened_of plan.now opening shared.old.inputs.lists stalls) order (date * plan.now.unit.quantum)) date shared.old }
     // for each opening and script for which it does, it stands for the history up to this date
     ensures stands { (opening : Opening) (stalls : ℕ → List Stall) (order : ℕ → List ℕ)
         → IsSoundFor plan.now opening shared.old.inputs.lists stalls → opening.dates ≤ date
         → SharedStands (opened_of plan.now opening shared.old.inputs.lists stalls) plan.now.sizes
-        (turns_of (opened_of plan.now opening shared.old.inputs.lists stalls) order (date * plan.now.unit.quantum)) date shared.old
+        (turns_by (opened_of plan.now opening shared.old.inputs.lists stalls) order (date * plan.now.unit.quantum)) date shared.old
         → SharedStands (opened_of plan.now opening shared.old.inputs.lists stalls) plan.now.sizes
-        (turns_of (opened_of plan.now opening shared.old.inputs.lists stalls) order (date * plan.now.unit.quantum)) (date + 1) shared.new }
+        (turns_by (opened_of plan.now opening shared.old.inputs.lists stalls) order (date * plan.now.unit.quantum)) (date + 1) shared.new }
     // an action that starts there has sent and taken nothing, and what one that goes on has sent and taken stays
     ensures begun { (agent : ℕ) → Begins date shared.new.seats.items agent
         → ((outbox : Outboxed) → slice_get shared.new.outboxes.items agent ≡ Some outbox → outbox.sends ≡ [])

@@ -124,7 +124,7 @@ impl Shared {
     pub fn new(alloc: Global, plan: &Plan, inputs: Inputs) -> Result<Shared, Memory>
         requires plan { IsPlan plan.now }
         requires inputs { AreInputs plan.now.unit inputs.lists }
-        ensures stands { (stalls : ℕ → List Stall) → IfOk result (SharedStands (system_of plan.now inputs.lists stalls) plan.now.sizes [] 0) }
+        ensures stands { (stalls : ℕ → List Stall) → IfOk result (SharedStands (system_of plan.now inputs.lists stalls) plan.now.sizes (λ agent. []) 0) }
         ensures inputs { IfOk result (λ shared. shared.inputs ≡ inputs) }
     {
         Ok(Shared {

@@ -1,8 +1,8 @@
 -- What an agent may still ask by a date is at most its bound, and so what all may ask at most the sum of the bounds.
-use Rattle.std.proofs.Common.{◌≡◌, ℕ, suc, ◌+◌, ◌-◌, ◌*◌, ◌/◌, ◌%◌, ◌<◌, ◌≤◌, List, [], ◌∷◌, drop, length, Option, refl, ap, subst, inl, inr, arith}
-use Rattle.std.specs.Prelude.{false, ◌&&◌, nat_le, sum_by}
+use Rattle.std.proofs.Common.{◌≡◌, ℕ, suc, ◌+◌, ◌-◌, ◌*◌, ◌/◌, ◌%◌, ◌<◌, ◌≤◌, List, [], ◌∷◌, drop, length, Option, refl, sym, ap, ◌∙◌, subst, inl, inr, arith}
+use Rattle.std.specs.Prelude.{false, ◌==◌, ◌&&◌, nat_le, sum_by}
 use Rattle.std.specs.List.{All, Contains}
-use Rattle.std.proofs.lemmas.Bool.{and_parts, cases_Bool, cases_lt, le-leb, le-ltb, leb-true, lt-ltb, ltb-false, ltb-true}
+use Rattle.std.proofs.lemmas.Bool.{and_parts, cases_Bool, cases_lt, eqb-true, le-leb, le-ltb, leb-true, lt-ltb, ltb-false, ltb-true}
 use Rattle.std.proofs.lemmas.List.Elements.{All-contains, All-head, All-tail}
 use Rattle.std.proofs.lemmas.List.Sums.{sum_by-cons}
 use Rattle.std.proofs.lemmas.Nat.{div-add-mod', div_below, mod_below}
@@ -14,13 +14,15 @@ use Rattle.psy_history.specs.Schedule.{Turn, is_pending, units, work}
 use Rattle.psy_history.specs.Asked.{Drawn, IsBoundedBy, IsContinuation, IsStep, asked_by, found, left_of}
 use Rattle.psy_history.specs.Asked.IsContinuation.{nothing, behind, next}
 use Rattle.psy_history.specs.Regular.{IsRegular}
-use Rattle.psy_history.specs.Scheduled.{IsSupplied, turns_of}
+use Rattle.psy_history.specs.Processors.{processor_at, processors}
+use Rattle.psy_history.specs.Scheduled.{IsFinished, IsSupplied, turns_of}
 use Rattle.psy_history.proofs.Deadlines.{deadline_least}
 use Rattle.psy_history.proofs.Edges.{step_some}
 use Rattle.psy_history.proofs.KeptCycles.{Covers, IsCovered, Older}
 use Rattle.psy_history.proofs.KeptDates.{covered_in, kept, older_in, rests_of}
 use Rattle.psy_history.proofs.Members.{all_members}
 use Rattle.psy_history.proofs.PathShifts.{due_begun}
+use Rattle.psy_history.proofs.Numbers.{agent_of}
 use Rattle.psy_history.proofs.Totals.{sum_most, total}
 
 -- ---- what actions have left
@@ -94,29 +96,36 @@ module _ (s : System) (graphs : List (List Edge)) (agent : ℕ) (g : Drawn s gra
       let weigh = covers.next rests n node path is at from due in
       omega (arith, weigh, left_none by turns actions finished)
 
--- ---- what all may ask
+-- ---- what all agents of a processor may ask
 
-module _ (s : System) (order : ℕ → List ℕ) (until : ℕ) (supplied : IsSupplied s order until) where
+module _ (s : System) (order : ℕ → List ℕ) (until : ℕ) (supplied : IsSupplied s order until) (processor : ℕ) where
+  finished_by : (cycle agent : ℕ) (r : Action) → processor_at s.unit agent ≡ processor → Contains (found s cycle agent) r → work r ≤ units r.agent r.number (turns_of s order cycle processor) → IsFinished s order cycle r
+  finished_by cycle agent r of c done =
+      let its : processor_at s.unit r.agent ≡ processor = ap (processor_at s.unit) (agent_of s (cycle / s.unit.quantum + 1) agent r c) ∙ of in
+      subst (λ p. is_pending (turns_of s order cycle p) r ≡ false) (sym its) (le-ltb (units r.agent r.number (turns_of s order cycle processor)) (work r) done)
+
   -- Where all is finished that is due, or the agents have bounds, what is kept at a cycle is what the schedule promises.
-  promised : (cycle by : ℕ) → cycle < s.unit.quantum * by → Older (turns_of s order cycle) (found s cycle) → IsCovered s supplied.graphs by cycle (turns_of s order cycle) (found s cycle) → IsBoundedBy s order supplied.graphs cycle by
-  promised cycle by early older (inl quiet) = inl (λ agent r c due. le-ltb (units r.agent r.number (turns_of s order cycle)) (work r) (quiet agent r c due))
+  promised : (cycle by : ℕ) → cycle < s.unit.quantum * by → Older s processor (turns_of s order cycle processor) (found s cycle) → IsCovered s supplied.graphs processor by cycle (turns_of s order cycle processor) (found s cycle) → IsBoundedBy s order processor supplied.graphs cycle by
+  promised cycle by early older (inl quiet) = inl (λ agent r of c due. finished_by cycle agent r of c (quiet agent r of c due))
   promised cycle by early older (inr bounded) = inr (λ paths are.
-      let turns = turns_of s order cycle in
-      let each = sum_most (λ agent. asked_by by turns (found s cycle agent) (paths agent)) bounded.bound (length s.unit.agents) (λ agent known.
-      let (g, continues) = are agent known in
-      asked_most s supplied.graphs agent g by turns (found s cycle agent) (paths agent) (bounded.bound agent) (supplied.lawful.actions (cycle / s.unit.quantum + 1) agent).each (older agent) (bounded.covers agent g) continues) in
+      let turns = turns_of s order cycle processor in
+      let each = sum_most (λ agent. processor_at s.unit agent == processor) (λ agent. asked_by by turns (found s cycle agent) (paths agent)) bounded.bound (length s.unit.agents) (λ agent known own.
+      let of = eqb-true (processor_at s.unit agent) processor own in
+      let (g, continues) = are agent known of in
+      asked_most s supplied.graphs agent g by turns (found s cycle agent) (paths agent) (bounded.bound agent) (supplied.lawful.actions (cycle / s.unit.quantum + 1) agent).each (λ x. older agent x of) (bounded.covers agent of g) continues) in
       let enough : total bounded.bound (length s.unit.agents) + cycle ≤ s.unit.quantum * by = subst (λ n. total bounded.bound n + cycle ≤ s.unit.quantum * by) supplied.drawn.count bounded.enough in
       omega (arith, each, enough))
 
-  pub bounded_by : (cycle by : ℕ) → cycle < s.unit.quantum * by → by ≤ until → IsBoundedBy s order supplied.graphs cycle by
-  bounded_by cycle by early soon =
+  pub bounded_by : (cycle by : ℕ) → processor < processors s.unit → cycle < s.unit.quantum * by → by ≤ until → IsBoundedBy s order processor supplied.graphs cycle by
+  bounded_by cycle by there early soon =
       let date = cycle / s.unit.quantum in
       let n = cycle % s.unit.quantum in
       let late : date < by = div_below cycle s.unit.quantum by (omega (arith, supplied.quantum)) (omega (arith, early)) in
       let few : n < s.unit.quantum = mod_below cycle s.unit.quantum (omega (arith, supplied.quantum)) in
       let here : date * s.unit.quantum + n ≡ cycle = div-add-mod' cycle s.unit.quantum in
       let up : suc date ≡ date + 1 = omega arith in
-      let was = kept s order until supplied date (omega (arith, late, soon)) in
-      let older = subst (λ c. Older (turns_of s order c) (history s (suc date))) here (older_in s order until supplied date n (omega (arith, late, soon)) was) in
-      let covered = subst (λ c. IsCovered s supplied.graphs by c (turns_of s order c) (history s (suc date))) here (covered_in s order until supplied date by n (omega (arith, few)) late soon was) in
-      promised cycle by early (subst (λ d. Older (turns_of s order cycle) (history s d)) up older) (subst (λ d. IsCovered s supplied.graphs by cycle (turns_of s order cycle) (history s d)) up covered)
+      let was = kept s order until supplied processor date there (omega (arith, late, soon)) in
+      let older = subst (λ c. Older s processor (turns_of s order c processor) (history s (suc date))) here (older_in s order until supplied processor date n (omega (arith, late, soon)) was) in
+      let covered = subst (λ c. IsCovered s supplied.graphs processor by c (turns_of s order c processor) (history s (suc date))) here (covered_in s order until supplied processor date by n there (omega (arith, few)) late soon was) in
+      promised cycle by early (subst (λ d. Older s processor (turns_of s order cycle processor) (history s d)) up older)
+      (subst (λ d. IsCovered s supplied.graphs processor by cycle (turns_of s order cycle processor) (history s d)) up covered)

@@ -2,13 +2,11 @@
 use Rattle.std.proofs.Common.{◌≡◌, ℕ, ◌+◌, ◌<◌, ◌≤◌, ◌==◌, true, false, List, [], ◌∷◌, ◌++◌, Option, Some, None, map, length, get_or, refl, sym, ap, subst, ◌∙◌, inl, inr, append-nil, append_assoc, arith}
 use Rattle.std.specs.Prelude.{Bool, ℤ, cond, slice_get}
 use Rattle.std.specs.List.{Contains, count_by}
-use Rattle.std.specs.Int.{◌∣◌}
-use Rattle.std.proofs.lemmas.Nat.Gcd.{dvd-zero}
 use Rattle.std.proofs.lemmas.Bool.{cases_Bool, cases_lt, eq-eqb}
 use Rattle.std.proofs.lemmas.List.{map-append}
-use Rattle.std.proofs.lemmas.List.Elements.{All-contains, All-nil, Contains-append_left, Contains-get_or}
+use Rattle.std.proofs.lemmas.List.Elements.{All-contains, Contains-append_left, Contains-get_or}
 use Rattle.std.proofs.lemmas.List.Sums.{sum_by-append, sum_by-cons}
-use Rattle.std.proofs.lemmas.Option.{none-some, slice_get-get_or}
+use Rattle.std.proofs.lemmas.Option.{slice_get-get_or}
 use Rattle.psy_arith.specs.declared.operators.Trap.{Trap}
 use Rattle.psy_budget.specs.declared.charge.Stall.{Stall}
 use Rattle.psy_code.specs.declared.code.AgentCode.{AgentCode}
@@ -16,41 +14,36 @@ use Rattle.psy_code.specs.declared.code.Code.{Code}
 use Rattle.psy_code.specs.declared.look.Sent.{Sent}
 use Rattle.psy_code.specs.Execution.{Run, RunState, RanTo, Running, call_of, run_code}
 use Rattle.psy_code.specs.Lasting.{GoesOn, IsOver, Lasted}
-use Rattle.psy_code.specs.Views.{Call, Deeds, Looked, Past, Ready, Send, ServesAll, Take, View, found_in, nothing_done}
+use Rattle.psy_code.specs.Views.{Call, Deeds, Looked, Past, Ready, Send, ServesAll, Take, View, nothing_done}
 use Rattle.psy_tree.specs.declared.unit.AgentDecl.{AgentDecl}
 use Rattle.psy_tree.specs.declared.unit.Unit.{Unit as Whole}
 use Rattle.psy_tree.specs.declared.unit.VarDecl.{VarDecl}
-use Rattle.psy_history.specs.Actions.{Next, System, first_action, timing}
+use Rattle.psy_history.specs.Actions.{System, timing}
 use Rattle.psy_meaning.specs.Alike.{EndsAs, IsViewOf, begun as begun_with, first_store, is_there, started}
 use Rattle.psy_history.specs.Executors.{Carried, agent_code_at, by_code, carried_by, machine_at, store_of}
 use Rattle.psy_tree.specs.Parts.{agent_at}
 use Rattle.psy_meaning.specs.Flow.{AreNexts, IsWayFrom}
-use Rattle.psy_meaning.specs.Graph.{periods}
 use Rattle.psy_meaning.specs.Kept.{AreDeedsOf, IsKept, IsLookOf, IsSentOf, Receives}
 use Rattle.psy_meaning.specs.Sendings.{all_sendings, delay_of, sendings_in, sendings_to}
 use Rattle.psy_meaning.specs.Rest.{rest}
 use Rattle.psy_meaning.specs.States.{Final, Halts, State}
 use Rattle.psy_meaning.specs.States as by
 use Rattle.psy_meaning.specs.Statements.{Piece, act}
-use Rattle.psy_meaning.specs.Timing.{MayStart, Timing, first, first_date, following, later}
+use Rattle.psy_meaning.specs.Timing.{MayStart, Timing, first, following, later}
 use Rattle.psy_meaning.specs.Ways.{IsFrontOf, IsWay, Meter, Sending, met_by, sending_of}
 use Rattle.psy_history.specs.Compiled.{AreInputs, IsCompiled, coded}
-use Rattle.psy_history.specs.Regular.{MayAsk, MayStartAlike}
-use Rattle.psy_history.specs.Openings.{IsHeldBefore, IsSound, MayCarry}
-use Rattle.psy_queue.specs.Order.{comes_before}
+use Rattle.psy_history.specs.Regular.{MayAsk}
+use Rattle.psy_history.specs.Openings.{MayCarry}
 use Rattle.psy_history.specs.Runs.{GoesWell, IsRun, StandsWell}
 use Rattle.psy_meaning.specs.KnownWays.{HasMost, OfText, is_sent, is_some_sending}
 use Rattle.psy_history.specs.Ways.{IsSentBy, SendsAtMost}
 use Rattle.psy_history.proofs.CarriedStores.{carries_of, may_carry}
 use Rattle.psy_history.proofs.GoingOn.{looked_at, sent_there}
-use Rattle.psy_history.proofs.Growth.{opens_with}
 use Rattle.psy_history.proofs.HeldWindow.{most_above}
 use Rattle.psy_history.proofs.LateLooks.{over_stays}
-use Rattle.psy_history.proofs.Members.{all_members, contains_map, contains_none, filter_in, flat_map_in, get_or_holds}
-use Rattle.psy_history.proofs.MessageOrder.{pairs_none}
+use Rattle.psy_history.proofs.Members.{contains_map, contains_none, filter_in, flat_map_in}
 use Rattle.psy_history.proofs.OutboxSizes.{count_none}
 use Rattle.psy_history.proofs.PlainOpenings.{plain_sound}
-use Rattle.psy_history.proofs.Seeing.{Fits, zero_fits}
 use Rattle.psy_history.proofs.Sights.{SeesAs, same_running, sees_as, there_found}
 use Rattle.psy_history.proofs.Stores.{AreStoreLaws, EndsAlike, ends_alike, first_carried, of_unit}
 use Rattle.psy_history.proofs.Timings.{followed, follows, has_head}

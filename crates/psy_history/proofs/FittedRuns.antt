@@ -1,6 +1,6 @@
 -- Code that fits a program by lists of ways goes well by them.
-use Rattle.std.proofs.Common.{◌≡◌, ℕ, zero, suc, ◌<◌, ◌≤◌, ◌||◌, All, Bool, true, false, List, [], ◌∷◌, length, map, get_or, refl, sym, ap, ◌∙◌, inl, inr, arith}
-use Rattle.std.specs.Prelude.{◌==◌, ℤ, FitsSigned, slice_get}
+use Rattle.std.proofs.Common.{◌≡◌, ℕ, zero, suc, ◌<◌, ◌≤◌, Bool, false, List, [], ◌∷◌, length, get_or, refl, sym, ap, ◌∙◌, inl, inr, arith}
+use Rattle.std.specs.Prelude.{◌==◌, ℤ, FitsSigned}
 use Rattle.std.specs.Int.{w32}
 use Rattle.std.specs.List.{Contains, list_any}
 use Rattle.std.proofs.lemmas.Bool.{cases_Bool, or_parts}
@@ -22,7 +22,6 @@ use Rattle.psy_history.specs.Fitting.{FitsBy, undisturbed}
 use Rattle.psy_history.specs.Openings.{MayCarry}
 use Rattle.psy_history.specs.Runs.{IsRun}
 use Rattle.psy_meaning.specs.KnownWays.{HasMost, Listed, any_to, is_sent, most_in}
-use Rattle.psy_meaning.specs.ListedWays.{AreNextsFor}
 use Rattle.psy_meaning.specs.Timing.{following}
 use Rattle.psy_history.proofs.OpenedRuns.{goes_there}
 use Rattle.psy_history.proofs.PlainOpenings.{plain_sound}

@@ -45,6 +45,7 @@ mod OpenedBuffers
 mod OpenedRuns
 mod OpenedStarts
 mod OutboxSizes
+mod OwnAgents
 mod Owned
 mod PassingMessages
 mod PastValues

@@ -15,9 +15,11 @@ use Rattle.psy_history.specs.Summary.{age_in, ages_of, reach}
 use Rattle.psy_base.specs.Extremes.{greatest_of}
 use Rattle.psy_history.specs.Compiled.{coded, stated}
 use Rattle.psy_history.specs.Likeness.{AreLike, IsLike, looks_within}
-use Rattle.psy_history.specs.Scheduled.{turns_of}
+use Rattle.psy_history.specs.Processors.{processor_at}
+use Rattle.psy_history.specs.Scheduled.{turns_by}
 use Rattle.psy_history.proofs.Given.{given_within}
 use Rattle.psy_history.proofs.LikeActions.{flat_map_like, flat_map_same}
+use Rattle.psy_history.proofs.Turns.{serving}
 use Rattle.psy_history.proofs.UnitCycles.{no_unit}
 
 -- ---- lists
@@ -40,17 +42,17 @@ left_out f p q none (x ∷ xs) =
 
 -- ---- ages
 
-module _ (s : System) (done : List (Option Turn)) (variable : ℕ) where
+module _ (s : System) (done : ℕ → List (Option Turn)) (variable : ℕ) where
   abbrev ages_at : Action → Looked → List ℕ
-  ages_at r look = age_in s r look (cycle_of_unit r.agent r.number (cycle_of (s.stalls r.agent) r.number look.number) done)
+  ages_at r look = age_in s r look (cycle_of_unit r.agent r.number (cycle_of (s.stalls r.agent) r.number look.number) (done r.agent))
 
-  late_age : (r : Action) → units r.agent r.number done ≤ work r → (look : Looked) → nat_lt look.number r.budget ≡ false → ages_at r look ≡ []
+  late_age : (r : Action) → units r.agent r.number (done r.agent) ≤ work r → (look : Looked) → nat_lt look.number r.budget ≡ false → ages_at r look ≡ []
   late_age r h look e =
       let late = ltb-false look.number r.budget e in
-      ap (age_in s r look) (no_unit r.agent r.number (cycle_of (s.stalls r.agent) r.number look.number) done (omega (arith, h, late)))
+      ap (age_in s r look) (no_unit r.agent r.number (cycle_of (s.stalls r.agent) r.number look.number) (done r.agent) (omega (arith, h, late)))
 
   -- only the looks within the budget have an age
-  ages_within : (r : Action) → units r.agent r.number done ≤ work r → ages_of s done variable r ≡ flat_map (ages_at r) (filter (λ (look : Looked). look.variable == variable) (looks_within r))
+  ages_within : (r : Action) → units r.agent r.number (done r.agent) ≤ work r → ages_of s done variable r ≡ flat_map (ages_at r) (filter (λ (look : Looked). look.variable == variable) (looks_within r))
   ages_within r h = left_out (ages_at r) (λ (look : Looked). look.variable == variable) (λ (look : Looked). nat_lt look.number r.budget) (late_age r h) r.deeds.looks
 
 -- ---- the two histories
@@ -66,24 +68,24 @@ module _ (unit : Whole) (code : Code) (nexts : List (List (List ℕ))) (stalls :
   age_same r q look None e = refl
   age_same r q look (Some cycle) e = rw e refl
 
-  ages_at_same : (done : List (Option Turn)) (variable : ℕ) (r q : Action) → IsLike r q → (look : Looked) → ages_at of_code done variable r look ≡ ages_at of_stmts done variable q look
+  ages_at_same : (done : ℕ → List (Option Turn)) (variable : ℕ) (r q : Action) → IsLike r q → (look : Looked) → ages_at of_code done variable r look ≡ ages_at of_stmts done variable q look
   ages_at_same done variable r q h look =
-      ap₂ (λ agent number. age_in of_code r look (cycle_of_unit agent number (cycle_of (stalls agent) number look.number) done)) h.agent h.number
-      ∙ age_same r q look (cycle_of_unit q.agent q.number (cycle_of (stalls q.agent) q.number look.number) done) h.start
+      ap₂ (λ agent number. age_in of_code r look (cycle_of_unit agent number (cycle_of (stalls agent) number look.number) (done agent))) h.agent h.number
+      ∙ age_same r q look (cycle_of_unit q.agent q.number (cycle_of (stalls q.agent) q.number look.number) (done q.agent)) h.start
 
-  ages_same : (done : List (Option Turn)) (variable : ℕ) (r q : Action) → units q.agent q.number done ≤ work q → IsLike r q → ages_of of_code done variable r ≡ ages_of of_stmts done variable q
+  ages_same : (done : ℕ → List (Option Turn)) (variable : ℕ) (r q : Action) → units q.agent q.number (done q.agent) ≤ work q → IsLike r q → ages_of of_code done variable r ≡ ages_of of_stmts done variable q
   ages_same done variable r q few h =
-      let few_too : units r.agent r.number done ≤ work r = rw (h.agent, h.number, h.work) few in
+      let few_too : units r.agent r.number (done r.agent) ≤ work r = rw (h.agent, h.number, h.work) few in
       let test = λ (look : Looked). look.variable == variable in
       ages_within of_code done variable r few_too
       ∙ flat_map_same (ages_at of_code done variable r) (ages_at of_stmts done variable q) (ages_at_same done variable r q h) (filter test (looks_within r))
       ∙ ap (λ looks. flat_map (ages_at of_stmts done variable q) (filter test looks)) h.looks
       ∙ sym (ages_within of_stmts done variable q few)
 
-  pub reach_same : (h : History) (order : ℕ → List ℕ) (cycles dates variable : ℕ) → ((agent : ℕ) → AreLike (h agent) (history of_stmts dates agent)) → reach of_code (turns_of of_stmts order cycles) h variable ≡ reach of_stmts (turns_of of_stmts order cycles) (history of_stmts dates) variable
+  pub reach_same : (h : History) (order : ℕ → List ℕ) (cycles dates variable : ℕ) → ((agent : ℕ) → AreLike (h agent) (history of_stmts dates agent)) → reach of_code (turns_by of_stmts order cycles) h variable ≡ reach of_stmts (turns_by of_stmts order cycles) (history of_stmts dates) variable
   reach_same h order cycles dates variable like =
-      let done = turns_of of_stmts order cycles in
+      let done = turns_by of_stmts order cycles in
       ap greatest_of (flat_map_same (λ agent. flat_map (ages_of of_code done variable) (h agent)) (λ agent. flat_map (ages_of of_stmts done variable) (history of_stmts dates agent))
       (λ agent. flat_map_like (ages_of of_code done variable) (ages_of of_stmts done variable) (h agent) (history of_stmts dates agent)
-      (λ r q there l. ages_same done variable r q (given_within of_stmts order dates cycles agent q there) l) (like agent))
+      (λ r q there l. ages_same done variable r q (given_within of_stmts (serving of_stmts order (processor_at unit q.agent)) dates cycles agent q there) l) (like agent))
       (range_with_len 0 (length unit.agents)))

@@ -1,6 +1,6 @@
 -- The plain opening is sound, by whatever ways: nothing was done yet.
 use Rattle.std.proofs.Common.{◌≡◌, ℕ, ◌<◌, All, List, Some, length, refl, sym, ap, subst, inl, inr, arith, true}
-use Rattle.std.specs.Prelude.{ℤ, slice_get}
+use Rattle.std.specs.Prelude.{ℤ}
 use Rattle.std.specs.Int.{◌∣◌}
 use Rattle.std.proofs.lemmas.Nat.Gcd.{dvd-zero}
 use Rattle.std.proofs.lemmas.List.Elements.{All-nil}
@@ -18,7 +18,7 @@ use Rattle.psy_history.specs.Openings.{IsHeldBefore, IsSound, MayCarry}
 use Rattle.psy_history.specs.Regular.{MayStartAlike}
 use Rattle.psy_meaning.specs.Graph.{periods}
 use Rattle.psy_meaning.specs.KnownWays.{Ways}
-use Rattle.psy_meaning.specs.Timing.{Timing, first, first_date}
+use Rattle.psy_meaning.specs.Timing.{first, first_date}
 use Rattle.psy_history.proofs.Growth.{opens_with}
 use Rattle.psy_history.proofs.Members.{all_members, get_or_holds}
 use Rattle.psy_history.proofs.MessageOrder.{pairs_none}

@@ -1,7 +1,7 @@
 -- A cycle that pays an instruction: rings are reached for as far back as that one asks.
-use Rattle.std.proofs.Common.{◌≡◌, ◌≢◌, ℕ, suc, ◌+◌, ◌-◌, ◌/◌, ◌<◌, ◌==◌, List, ◌∷◌, length, Option, Some, None, refl, sym, ap, ◌∙◌, subst, inl, inr, arith}
+use Rattle.std.proofs.Common.{◌≡◌, ◌≢◌, ℕ, suc, ◌+◌, ◌-◌, ◌/◌, ◌<◌, ◌==◌, List, length, Option, Some, None, refl, sym, ap, ◌∙◌, subst, inl, inr, arith}
 use Rattle.std.specs.List.{Contains}
-use Rattle.std.proofs.lemmas.Bool.{cases_Bool, eqb-false, eqb-true}
+use Rattle.std.proofs.lemmas.Bool.{cases_Bool, eq-eqb, eqb-false, eqb-true}
 use Rattle.std.proofs.lemmas.List.Elements.{All-contains}
 use Rattle.std.proofs.lemmas.Option.{get_or_from_slice_get, none-some, same_Some}
 use Rattle.psy_budget.specs.Charges.{cycle_of}
@@ -13,7 +13,8 @@ use Rattle.psy_code.specs.Views.{Call, Looked, Past, Ready, Send, Take}
 use Rattle.psy_history.specs.Actions.{Action, History, System}
 use Rattle.psy_history.specs.Executors.{agent_code_at}
 use Rattle.psy_history.specs.History.{history}
-use Rattle.psy_history.specs.Schedule.{Turn, turn_of, units}
+use Rattle.psy_history.specs.Processors.{processor_at}
+use Rattle.psy_history.specs.Schedule.{Turn, cycle_of_unit, turn_of, units}
 use Rattle.psy_history.specs.Summary.{reach}
 use Rattle.psy_base.specs.Extremes.{greater}
 use Rattle.psy_history.specs.Regular.{IsLawful, IsRegular, Runs, begun_by}
@@ -23,7 +24,7 @@ use Rattle.psy_meaning.specs.KnownWays.{Ways}
 use Rattle.psy_history.proofs.LateLooks.{over_stays, parts}
 use Rattle.psy_history.proofs.LooksOfCode.{asked_look, look_asked, looks_of, none_ahead}
 use Rattle.psy_history.proofs.Numbers.{agent_of, one_of_number}
-use Rattle.psy_history.proofs.Reached.{IsNow, IsReached, before_or_now, reach_one_more, reach_same, reached_stays}
+use Rattle.psy_history.proofs.Reached.{IsNow, IsReached, before_or_now, reach_one_more, reach_same, reached_stays, with_cycle}
 use Rattle.psy_history.proofs.RunLooks.{before_end, looks_are}
 use Rattle.psy_history.proofs.UnitCycles.{one_paid, unit_now}
 
@@ -96,12 +97,16 @@ module _ (s : System) (ways : Ways) (code : Code) (run : IsRun s ways code) (law
 
     -- ---- how far back it reaches
 
-    module _ (turns : List (Option Turn)) (variable : ℕ) (has : units r.agent r.number turns ≡ cycle_of (s.stalls r.agent) r.number instr) where
+    module _ (turns : ℕ → List (Option Turn)) (variable : ℕ) (has : units r.agent r.number (turns r.agent) ≡ cycle_of (s.stalls r.agent) r.number instr) where
       abbrev h : History
       h = history s dates
 
-      abbrev with_this : List (Option Turn)
-      with_this = turn_of (Some r) ∷ turns
+      abbrev with_this : ℕ → List (Option Turn)
+      with_this = with_cycle s turns h variable r
+
+      -- it is one of this action
+      on_its : (unit : ℕ) → units r.agent r.number (turns r.agent) ≡ unit → cycle_of_unit r.agent r.number unit (with_this r.agent) ≡ Some (length (turns r.agent))
+      on_its unit e = rw (eq-eqb (processor_at s.unit r.agent) (processor_at s.unit r.agent) refl) (unit_now r (turns r.agent) unit e)
 
       -- a look that the next cycle executes is of this action, and the instruction asks for it
       now_asked : (n : ℕ) (it : IsReached s with_this h variable n) → IsNow s turns r it.r it.look it.cycle → (it.r ≡ r) × (call_of code state.machine ≡ Some (Past variable it.look.back))
@@ -115,13 +120,13 @@ module _ (s : System) (ways : Ways) (code : Code) (run : IsRun s ways code) (law
       no_further : ((back : ℕ) → call_of code state.machine ≡ Some (Past variable back) → ⊥) → reach s with_this h variable ≡ reach s turns h variable
       no_further none = reach_same s with_this turns h h variable
           (λ n it. elim (before_or_now s turns h variable r n it) [ inl before ↦ before | inr now ↦ absurd (none it.look.back (now_asked n it now).1) ])
-          (reached_stays s turns h variable (turn_of (Some r)))
+          (reached_stays s turns h variable (processor_at s.unit r.agent) (turn_of (Some r)))
 
       known : agent < length s.unit.agents
       known = (All-contains (IsRegular s agent) (history s dates agent) r (lawful.actions dates agent).each there).known
 
-      further : (back : ℕ) → call_of code state.machine ≡ Some (Past variable back) → reach s with_this h variable ≡ greater (age_at s variable back r.start (length turns / s.unit.quantum)) (reach s turns h variable)
-      further back asks = reach_one_more s with_this turns h h variable (age_at s variable back r.start (length turns / s.unit.quantum))
+      further : (back : ℕ) → call_of code state.machine ≡ Some (Past variable back) → reach s with_this h variable ≡ greater (age_at s variable back r.start (length (turns r.agent) / s.unit.quantum)) (reach s turns h variable)
+      further back asks = reach_one_more s with_this turns h h variable (age_at s variable back r.start (length (turns r.agent) / s.unit.quantum))
           (record {
             agent = agent;
             known = known;
@@ -130,8 +135,8 @@ module _ (s : System) (ways : Ways) (code : Code) (run : IsRun s ways code) (law
             look = record { number = instr; variable = variable; back = back };
             looked = is_looked variable back asks;
             at = refl;
-            cycle = length turns;
-            executed = unit_now r turns (cycle_of (s.stalls r.agent) r.number instr) has;
+            cycle = length (turns r.agent);
+            executed = on_its (cycle_of (s.stalls r.agent) r.number instr) has;
             is = refl;
           })
           (λ n it. elim (before_or_now s turns h variable r n it) [
@@ -142,9 +147,9 @@ module _ (s : System) (ways : Ways) (code : Code) (run : IsRun s ways code) (law
                 let as_far : it.look.back ≡ back = cc in
                 inl (rw (it.is, same, it.at, as_far, sym now.cycle_is) refl))
           ])
-          (reached_stays s turns h variable (turn_of (Some r)))
+          (reached_stays s turns h variable (processor_at s.unit r.agent) (turn_of (Some r)))
 
-      pub reach_paid : (call : Option Call) → call_of code state.machine ≡ call → reach s with_this h variable ≡ reach_with s variable r.start (length turns / s.unit.quantum) call (reach s turns h variable)
+      pub reach_paid : (call : Option Call) → call_of code state.machine ≡ call → reach s with_this h variable ≡ reach_with s variable r.start (length (turns r.agent) / s.unit.quantum) call (reach s turns h variable)
       reach_paid None e = no_further (λ back asks. none-some (Past variable back) (sym e ∙ asks))
       reach_paid (Some (Past looked back)) e = elim (cases_Bool (looked == variable)) [
         | inl t ↦ rw t (further back (subst (λ v. call_of code state.machine ≡ Some (Past v back)) (eqb-true looked variable t) e))

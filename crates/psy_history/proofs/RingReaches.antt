@@ -9,7 +9,7 @@ use Rattle.psy_history.specs.History.{history}
 use Rattle.psy_history.specs.Summary.{numbers_in, reach}
 use Rattle.psy_history.specs.Regular.{IsRegular, Runs}
 use Rattle.psy_history.specs.Runs.{IsRun}
-use Rattle.psy_history.specs.Scheduled.{IsSupplied, turns_of}
+use Rattle.psy_history.specs.Scheduled.{IsSupplied, turns_by}
 use Rattle.psy_meaning.specs.KnownWays.{Ways}
 use Rattle.psy_meaning.specs.RingSizes.{IsRingSize}
 use Rattle.psy_history.proofs.CyclesInTime.{unit_within}
@@ -20,9 +20,9 @@ use Rattle.psy_history.proofs.RunLooks.{may_look}
 
 module _ (s : System) (ways : Ways) (code : Code) (run : IsRun s ways code) where
   now_below : (order : ℕ → List ℕ) (until cycles variable size n : ℕ) → IsSupplied s order until → cycles ≤ until * s.unit.quantum → IsRingSize s.unit ways s.nexts variable size
-      → ((dates agent : ℕ) → All (Runs s ways code) (history s dates agent)) → (dates : ℕ) → Contains (all_ages s (turns_of s order cycles) (history s dates) variable) n → n < size
+      → ((dates agent : ℕ) → All (Runs s ways code) (history s dates agent)) → (dates : ℕ) → Contains (all_ages s (turns_by s order cycles) (history s dates) variable) n → n < size
   now_below order until cycles variable size n supplied early ring all dates there =
-      let turns = turns_of s order cycles in
+      let turns = turns_by s order cycles in
       let on = reached_in s turns (history s dates) variable n there in
       let r = on.r in
       let look = on.look in
@@ -36,9 +36,9 @@ module _ (s : System) (ways : Ways) (code : Code) (run : IsRun s ways code) wher
 
   -- also with what was reached before
   pub reach_below : (order : ℕ → List ℕ) (until cycles variable size n : ℕ) → IsSupplied s order until → cycles ≤ until * s.unit.quantum → IsRingSize s.unit ways s.nexts variable size
-      → ((dates agent : ℕ) → All (Runs s ways code) (history s dates agent)) → (dates : ℕ) → reach s (turns_of s order cycles) (history s dates) variable ≡ Some n → n < size
+      → ((dates agent : ℕ) → All (Runs s ways code) (history s dates agent)) → (dates : ℕ) → reach s (turns_by s order cycles) (history s dates) variable ≡ Some n → n < size
   reach_below order until cycles variable size n supplied early ring all dates e =
-      let turns = turns_of s order cycles in
+      let turns = turns_by s order cycles in
       let before = numbers_in (s.opening.reach variable) in
       let ages = all_ages s turns (history s dates) variable in
       elim (Contains-append_cases before ages n (greatest_in (before ++ ages) n e)) [

@@ -13,11 +13,11 @@ pub pending_in : (order : List ℕ) (turns : List (Option Turn)) (h : History) (
 pending_in order turns h agent r known there less =
     flat_map_in (λ a. filter (is_pending turns) (h a)) order agent r known (filter_in (is_pending turns) (h agent) r there (lt-ltb (units r.agent r.number turns) (work r) less))
 
-pub pending_from : (order : List ℕ) (turns : List (Option Turn)) (h : History) (r : Action) → Contains (pending order turns h) r → (agent : ℕ) × Contains (h agent) r × (units r.agent r.number turns < work r)
+pub pending_from : (order : List ℕ) (turns : List (Option Turn)) (h : History) (r : Action) → Contains (pending order turns h) r → (agent : ℕ) × Contains order agent × Contains (h agent) r × (units r.agent r.number turns < work r)
 pending_from order turns h r c =
     let (agent, known, there) = flat_map_from (λ a. filter (is_pending turns) (h a)) order r c in
     let (within, less) = filter_from (is_pending turns) (h agent) r there in
-    (agent, within, ltb-true (units r.agent r.number turns) (work r) less)
+    (agent, known, within, ltb-true (units r.agent r.number turns) (work r) less)
 
 -- ---- the soonest
 

@@ -1,7 +1,8 @@
 -- Sums over the first numbers, and the demand as one.
-use Rattle.std.proofs.Common.{◌≡◌, ℕ, zero, suc, ◌+◌, ◌<◌, ◌≤◌, List, [], ◌∷◌, length, slice_get, Some, sym, subst, arith}
-use Rattle.std.specs.Prelude.{sum_by}
+use Rattle.std.proofs.Common.{◌≡◌, ℕ, zero, suc, ◌+◌, ◌<◌, ◌≤◌, List, [], ◌∷◌, length, slice_get, Some, sym, subst, inl, inr, arith}
+use Rattle.std.specs.Prelude.{Bool, true, filter, sum_by}
 use Rattle.std.specs.List.{range_with_len}
+use Rattle.std.proofs.lemmas.Bool.{cases_Bool}
 use Rattle.std.proofs.lemmas.List.Sums.{sum_by-cons}
 use Rattle.std.proofs.lemmas.Option.{same_Some}
 use Rattle.psy_base.specs.declared.edge.Edge.{Edge}
@@ -17,16 +18,21 @@ total_most : (f g : ℕ → ℕ) (n : ℕ) → ((k : ℕ) → f k ≤ g k) → t
 total_most f g zero each = omega arith
 total_most f g (suc n) each = omega (arith, each 0, total_most (λ k. f (suc k)) (λ k. g (suc k)) n (λ k. each (suc k)))
 
-range_most : (f g : ℕ → ℕ) (from n : ℕ) → ((k : ℕ) → k < n → f (from + k) ≤ g k) → sum_by f (range_with_len from n) ≤ total g n
-range_most f g from zero each = omega arith
-range_most f g from (suc n) each =
-    let first : f from ≤ g 0 = (let same : from + 0 ≡ from = omega arith in subst (λ m. f m ≤ g 0) same (each 0 (omega arith))) in
-    let rest = range_most f (λ k. g (suc k)) (from + 1) n (λ k l. let same : from + suc k ≡ from + 1 + k = omega arith in subst (λ m. f m ≤ g (suc k)) same (each (suc k) (omega (arith, l)))) in
-    omega (arith, first, rest, sum_by-cons f from (range_with_len (from + 1) n))
+range_most : (test : ℕ → Bool) (f g : ℕ → ℕ) (from n : ℕ) → ((k : ℕ) → k < n → test (from + k) ≡ true → f (from + k) ≤ g k) → sum_by f (filter test (range_with_len from n)) ≤ total g n
+range_most test f g from zero each = omega arith
+range_most test f g from (suc n) each =
+    let more = range_with_len (from + 1) n in
+    let rest = range_most test f (λ k. g (suc k)) (from + 1) n (λ k l. let same : from + suc k ≡ from + 1 + k = omega arith in subst (λ m. test m ≡ true → f m ≤ g (suc k)) same (each (suc k) (omega (arith, l)))) in
+    elim (cases_Bool (test from)) [
+      | inl passes ↦ (
+          let first : f from ≤ g 0 = (let same : from + 0 ≡ from = omega arith in subst (λ m. test m ≡ true → f m ≤ g 0) same (each 0 (omega arith)) passes) in
+          rw passes (omega (arith, first, rest, sum_by-cons f from (filter test more))))
+      | inr fails ↦ rw fails (omega (arith, rest))
+    ]
 
--- Where each of the first so many is at most another, so is the sum over them.
-pub sum_most : (f g : ℕ → ℕ) (n : ℕ) → ((k : ℕ) → k < n → f k ≤ g k) → sum_by f (range_with_len 0 n) ≤ total g n
-sum_most f g n each = range_most f g 0 n (λ k l. let same : k ≡ 0 + k = omega arith in subst (λ m. f m ≤ g k) same (each k l))
+-- Where each of the first so many that pass a test is at most another, so is the sum over them.
+pub sum_most : (test : ℕ → Bool) (f g : ℕ → ℕ) (n : ℕ) → ((k : ℕ) → k < n → test k ≡ true → f k ≤ g k) → sum_by f (filter test (range_with_len 0 n)) ≤ total g n
+sum_most test f g n each = range_most test f g 0 n (λ k l. let same : k ≡ 0 + k = omega arith in subst (λ m. test m ≡ true → f m ≤ g k) same (each k l))
 
 -- Where one is less, and none greater, so is the sum.
 pub total_less : (f g : ℕ → ℕ) (n one : ℕ) → one < n → f one < g one → ((k : ℕ) → f k ≤ g k) → total f n < total g n

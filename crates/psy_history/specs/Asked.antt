@@ -1,4 +1,4 @@
--- What agents may still ask of the processor by a date, and the bound on it that the schedule keeps at each cycle.
+-- What the agents of a processor may still ask of it by a date, and the bound on it that the schedule keeps at each cycle.
 use Rattle.std.specs.Prelude.{◌≡◌, ◌⊎◌, ℕ, ◌+◌, ◌-◌, ◌*◌, ◌/◌, ◌<◌, ◌≤◌, true, false, ◌&&◌, if◌then◌else◌, nat_le}
 use Rattle.std.specs.Prelude.{List, [], ◌∷◌, length, Option, Some, slice_get, sum_by}
 use Rattle.std.specs.List.{All, Contains, range_with_len}
@@ -7,6 +7,7 @@ use Rattle.psy_base.specs.Paths.{DueBy, IsPathFrom, weight_of}
 use Rattle.psy_history.specs.Actions.{Action, History, Next, System, next_of, timing}
 use Rattle.psy_meaning.specs.Graph.{IsGraph, Spot, spot_at}
 use Rattle.psy_history.specs.History.{history}
+use Rattle.psy_history.specs.Processors.{processor_at, served}
 use Rattle.psy_history.specs.Schedule.{Turn, is_pending, units}
 use Rattle.psy_meaning.specs.Timing.{budget_at, deadline, end_date, following}
 use Rattle.psy_history.specs.Scheduled.{IsFinished, turns_of}
@@ -57,16 +58,17 @@ asked_by by turns actions path = sum_by (left_of by turns) actions + weight_of p
 abbrev pub found : System → ℕ → History
 found s cycle = history s (cycle / s.unit.quantum + 1)
 
--- One continuation an agent
-abbrev pub AreContinuations : (s : System) → (ℕ → List ℕ) → List (List Edge) → ℕ → ℕ → (ℕ → List Edge) → Type 0
-AreContinuations s order graphs cycle by paths = (agent : ℕ) → agent < length s.unit.agents
-    → (g : Drawn s graphs agent) × IsContinuation s graphs agent g by (turns_of s order cycle) (found s cycle agent) (paths agent)
+-- One continuation an agent of a processor
+abbrev pub AreContinuations : (s : System) → (ℕ → List ℕ) → ℕ → List (List Edge) → ℕ → ℕ → (ℕ → List Edge) → Type 0
+AreContinuations s order processor graphs cycle by paths = (agent : ℕ) → agent < length s.unit.agents → processor_at s.unit agent ≡ processor
+    → (g : Drawn s graphs agent) × IsContinuation s graphs agent g by (turns_of s order cycle processor) (found s cycle agent) (paths agent)
 
--- Before a cycle all is finished that is due by a date; or what the agents may still ask by then, whichever way each goes on, is at most
--- what the cycles up to that date supply.
-abbrev pub IsBoundedBy : System → (ℕ → List ℕ) → List (List Edge) → ℕ → ℕ → Type 0
-IsBoundedBy s order graphs cycle by =
-    ((agent : ℕ) (r : Action) → Contains (found s cycle agent) r → r.deadline ≤ by → IsFinished s order cycle r)
-    ⊎ ((paths : ℕ → List Edge) → AreContinuations s order graphs cycle by paths
-    → sum_by (λ agent. asked_by by (turns_of s order cycle) (found s cycle agent) (paths agent)) (range_with_len 0 (length s.unit.agents))
+-- Before a cycle all is finished of the agents of a processor that is due by a date; or what these may still ask by then, whichever way each
+-- goes on, is at most what the cycles up to that date supply.
+abbrev pub IsBoundedBy : System → (ℕ → List ℕ) → ℕ → List (List Edge) → ℕ → ℕ → Type 0
+IsBoundedBy s order processor graphs cycle by =
+    ((agent : ℕ) (r : Action) → processor_at s.unit agent ≡ processor → Contains (found s cycle agent) r → r.deadline ≤ by → IsFinished s order cycle r)
+    ⊎ ((paths : ℕ → List Edge) → AreContinuations s order processor graphs cycle by paths
+    → sum_by (λ agent. asked_by by (turns_of s order cycle processor) (found s cycle agent) (paths agent))
+    (served s.unit processor (range_with_len 0 (length s.unit.agents)))
     ≤ s.unit.quantum * by - cycle)

@@ -9,6 +9,7 @@ pub mod History
 pub mod Likeness
 pub mod Lines
 pub mod Openings
+pub mod Processors
 pub mod Queues
 pub mod Regular
 pub mod Rings

@@ -62,14 +62,14 @@ abbrev pub age_in : System → Action → Looked → Option ℕ → List ℕ
 age_in s r look None = []
 age_in s r look (Some cycle) = (look.back + (count (publishing s look.variable) (cycle / s.unit.quantum) - count (publishing s look.variable) r.start)) ∷ []
 
--- The ages of an action's looks at a variable that these cycles executed
-abbrev pub ages_of : System → List (Option Turn) → ℕ → Action → List ℕ
+-- The ages of an action's looks at a variable that were executed, where by agent the cycles of its processor went to these turns
+abbrev pub ages_of : System → (ℕ → List (Option Turn)) → ℕ → Action → List ℕ
 ages_of s turns variable r =
-    flat_map (λ (look : Looked). age_in s r look (cycle_of_unit r.agent r.number (cycle_of (s.stalls r.agent) r.number look.number) turns))
+    flat_map (λ (look : Looked). age_in s r look (cycle_of_unit r.agent r.number (cycle_of (s.stalls r.agent) r.number look.number) (turns r.agent)))
     (filter (λ (look : Looked). look.variable == variable) r.deeds.looks)
 
 -- How far back a variable's ring was reached for, in all looks that these cycles executed, and before
-abbrev pub reach : System → List (Option Turn) → History → ℕ → Option ℕ
+abbrev pub reach : System → (ℕ → List (Option Turn)) → History → ℕ → Option ℕ
 reach s turns h variable =
     greatest_of (numbers_in (s.opening.reach variable)
     ++ flat_map (λ agent. flat_map (ages_of s turns variable) (h agent)) (range_with_len 0 (length s.unit.agents)))

@@ -4,6 +4,7 @@ ghost use Rattle.std.specs.Prelude.{◌≡◌, ℕ, ◌+◌, ◌*◌, ◌/◌, �
 ghost use Rattle.std.specs.Prelude.{false, map, nat_le, slice_get, take, true, FitsSigned};
 ghost use Rattle.std.specs.Int.{w32};
 ghost use Rattle.std.specs.List.{All, Contains, count_by};
+ghost use Rattle.psy_base.specs.declared.edge.Edge.{Edge};
 ghost use Rattle.psy_base.specs.declared.limits.TheConstants.{QUEUE};
 ghost use Rattle.psy_base.specs.declared.message.Message.{Message};
 ghost use Rattle.psy_base.specs.declared.ways.Ways.{Ways as WayLists};
@@ -22,6 +23,7 @@ ghost use Rattle.psy_history.specs.Executors.{agent_code_at};
 ghost use Rattle.psy_base.specs.Extremes.{IsGreatest};
 ghost use Rattle.psy_history.specs.History.{history};
 ghost use Rattle.psy_history.specs.Lines.{events, is_date, publications, stops_of};
+ghost use Rattle.psy_history.specs.Processors.{edges_for, processor_at, processors, served};
 ghost use Rattle.psy_history.specs.Schedule.{Turn, finish, turn_of, units, work};
 ghost use Rattle.psy_meaning.specs.Units.{IsOfText};
 ghost use Rattle.psy_history.specs.Summary.{due_by, most_held, reach, slack};
@@ -36,8 +38,9 @@ ghost use Rattle.psy_history.specs.Queues.{entered, entering, queue_of, settled}
 ghost use Rattle.psy_history.specs.Regular.{IsLawful, Runs, begun_by, first_number};
 ghost use Rattle.psy_history.specs.Rings.{age_at, reach_with, ring_of};
 ghost use Rattle.psy_history.specs.Runs.{IsRun};
-ghost use Rattle.psy_history.specs.Scheduled.{IsFinished, IsSupplied, turns_of};
+ghost use Rattle.psy_history.specs.Scheduled.{IsFinished, IsSupplied, gone_to, turns_by, turns_of};
 ghost use Rattle.psy_history.specs.Ways.{IsSentBy};
+ghost use Rattle.psy_meaning.specs.Demand.{IsFeasible};
 ghost use Rattle.psy_meaning.specs.KnownWays.{Listed, Looks, OfText, Ways};
 ghost use Rattle.psy_meaning.specs.QueueSizes.{AreQueues, HasSendsTo, IsQueueSize};
 ghost use Rattle.psy_meaning.specs.RingSizes.{IsRingSize};
@@ -119,8 +122,8 @@ pub fn alike()
         → (date : ℕ) → events (coded unit code nexts stalls inputs) date ≡ events (stated unit nexts stalls inputs) date }
     ensures schedule { (unit : Whole) (code : Code) (nexts : List (List (List ℕ))) (stalls : ℕ → List Stall) (inputs : List (List ℤ))
         → IsCompiled unit code nexts → AreInputs unit inputs
-        → (order : ℕ → List ℕ) (cycles : ℕ) → turns_of (coded unit code nexts stalls inputs) order cycles
-        ≡ turns_of (stated unit nexts stalls inputs) order cycles }
+        → (order : ℕ → List ℕ) (cycles processor : ℕ) → turns_of (coded unit code nexts stalls inputs) order cycles processor
+        ≡ turns_of (stated unit nexts stalls inputs) order cycles processor }
     ensures counts { (unit : Whole) (code : Code) (nexts : List (List (List ℕ))) (stalls : ℕ → List Stall) (inputs : List (List ℤ))
         → IsCompiled unit code nexts → AreInputs unit inputs
         → (dates until agent : ℕ) → length (due_by until (history (coded unit code nexts stalls inputs) dates agent))
@@ -128,17 +131,18 @@ pub fn alike()
     ensures slacks { (unit : Whole) (code : Code) (nexts : List (List (List ℕ))) (stalls : ℕ → List Stall) (inputs : List (List ℤ))
         → IsCompiled unit code nexts → AreInputs unit inputs
         → (order : ℕ → List ℕ) (dates cycles until agent : ℕ)
-        → slack unit.quantum (turns_of (coded unit code nexts stalls inputs) order cycles)
+        → slack unit.quantum (turns_by (coded unit code nexts stalls inputs) order cycles agent)
         (due_by until (history (coded unit code nexts stalls inputs) dates agent))
-        ≡ slack unit.quantum (turns_of (stated unit nexts stalls inputs) order cycles) (due_by until (history (stated unit nexts stalls inputs) dates agent)) }
+        ≡ slack unit.quantum (turns_by (stated unit nexts stalls inputs) order cycles agent)
+        (due_by until (history (stated unit nexts stalls inputs) dates agent)) }
     ensures held { (unit : Whole) (code : Code) (nexts : List (List (List ℕ))) (stalls : ℕ → List Stall) (inputs : List (List ℤ))
         → IsCompiled unit code nexts → AreInputs unit inputs
         → (until stream : ℕ) → most_held (coded unit code nexts stalls inputs) until stream ≡ most_held (stated unit nexts stalls inputs) until stream }
     ensures reaches { (unit : Whole) (code : Code) (nexts : List (List (List ℕ))) (stalls : ℕ → List Stall) (inputs : List (List ℤ))
         → IsCompiled unit code nexts → AreInputs unit inputs
         → (order : ℕ → List ℕ) (dates cycles variable : ℕ) → reach (coded unit code nexts stalls inputs)
-        (turns_of (coded unit code nexts stalls inputs) order cycles) (history (coded unit code nexts stalls inputs) dates) variable
-        ≡ reach (stated unit nexts stalls inputs) (turns_of (stated unit nexts stalls inputs) order cycles)
+        (turns_by (coded unit code nexts stalls inputs) order cycles) (history (coded unit code nexts stalls inputs) dates) variable
+        ≡ reach (stated unit nexts stalls inputs) (turns_by (stated unit nexts stalls inputs) order cycles)
         (history (stated unit nexts stalls inputs) dates) variable }
 {
     sound();
@@ -148,28 +152,44 @@ pub fn alike()
     compiled();
 }
 
+/// Each agent is of a processor that the program has.
+pub fn one_of_them()
+    ensures { (unit : Whole) (agent : ℕ) → processor_at unit agent < processors unit }
+{}
+
+/// A program has one processor so far, which all agents are of: it serves all of an order, and its demand is that of all graphs.
+pub fn one_processor()
+    ensures agents { (unit : Whole) (agent : ℕ) → processor_at unit agent ≡ 0 }
+    ensures all { (unit : Whole) → processors unit ≡ 1 }
+    ensures orders { (unit : Whole) (order : List ℕ) → served unit 0 order ≡ order }
+    ensures edges { (unit : Whole) (graphs : List (List Edge)) → edges_for unit 0 graphs ≡ graphs }
+    ensures feasible { (unit : Whole) (graphs : List (List Edge)) (quantum until : ℕ) → IsFeasible graphs quantum until
+        → (processor : ℕ) → processor < processors unit → IsFeasible (edges_for unit processor graphs) quantum until }
+{}
+
 /// What each action of a lawful system is given: no cycle before it starts, and no more than its work.
 pub fn given()
     ensures within { (s : System) (order : ℕ → List ℕ) (dates cycles agent : ℕ) (r : Action) → IsLawful s → 1 ≤ s.unit.quantum
-        → Contains (history s dates agent) r → units r.agent r.number (turns_of s order cycles) ≤ work r }
+        → Contains (history s dates agent) r → units r.agent r.number (turns_by s order cycles r.agent) ≤ work r }
     ensures unstarted { (s : System) (order : ℕ → List ℕ) (date cycles agent number : ℕ) → IsLawful s → 1 ≤ s.unit.quantum
-        → cycles ≤ date * s.unit.quantum → first_number s agent + length (history s date agent) ≤ number → units agent number (turns_of s order cycles) ≡ 0 }
+        → cycles ≤ date * s.unit.quantum → first_number s agent + length (history s date agent) ≤ number
+        → units agent number (turns_by s order cycles agent) ≡ 0 }
 {}
 
-/// Where the processor can supply the demand up to a date, each action that is due by then is finished, or stopped, by its deadline
+/// Where each processor can supply the demand of its agents up to a date, each action that is due by then is finished, or stopped, by its deadline
 /// (Baruah, Rosier, Howell 1990): it has had all its work, and the cycle behind its last one is no later. So of an agent's actions the last
-/// alone is pending. What is kept before each cycle, for each later date up to that one: all is finished that is due by the date, or what may
-/// still be asked by then is no more than the cycles that are left until it.
+/// alone is pending. What a processor keeps before each cycle, for each later date up to that one: all is finished that is due by the date, or
+/// what its agents may still ask by then is no more than the cycles that are left until it.
 pub fn on_time()
-    ensures kept { (s : System) (order : ℕ → List ℕ) (until cycle by : ℕ) (supplied : IsSupplied s order until) → cycle < s.unit.quantum * by
-        → by ≤ until → IsBoundedBy s order supplied.graphs cycle by }
+    ensures kept { (s : System) (order : ℕ → List ℕ) (until cycle by processor : ℕ) (supplied : IsSupplied s order until)
+        → processor < processors s.unit → cycle < s.unit.quantum * by → by ≤ until → IsBoundedBy s order processor supplied.graphs cycle by }
     ensures finished { (s : System) (order : ℕ → List ℕ) (until dates agent : ℕ) (r : Action) → IsSupplied s order until
         → Contains (history s dates agent) r → r.deadline ≤ until → IsFinished s order (r.deadline * s.unit.quantum) r }
     ensures due { (s : System) (order : ℕ → List ℕ) (until date agent : ℕ) (r : Action) → IsSupplied s order until → date ≤ until
         → Contains (history s date agent) r → r.deadline ≤ date → IsFinished s order (date * s.unit.quantum) r }
     ensures finishes { (s : System) (order : ℕ → List ℕ) (until cycles agent : ℕ) (r : Action) → IsSupplied s order until
         → until * s.unit.quantum ≤ cycles → Contains (history s until agent) r → r.deadline ≤ until
-        → finish r.agent r.number (turns_of s order cycles) ≤ r.deadline * s.unit.quantum }
+        → finish r.agent r.number (turns_by s order cycles r.agent) ≤ r.deadline * s.unit.quantum }
     ensures earlier { (s : System) (order : ℕ → List ℕ) (until date cycles agent : ℕ) (r : Action) (before : List Action) → IsSupplied s order until
         → date ≤ until → date * s.unit.quantum ≤ cycles → history s (date + 1) agent ≡ r ∷ before → All (IsFinished s order cycles) before }
 {}
@@ -191,25 +211,31 @@ pub fn rings()
 /// How far back rings are reached for: no further by an idle cycle, by a stall, and by the actions that a date starts; and by a cycle that
 /// pays an instruction as far as that one asks.
 pub fn reaches()
-    ensures none { (s : System) (h : History) (variable : ℕ) → reach s [] h variable ≡ s.opening.reach variable }
-    ensures idle { (s : System) (turns : List (Option Turn)) (h : History) (variable : ℕ) → reach s (None ∷ turns) h variable ≡ reach s turns h variable }
-    ensures stalled { (s : System) (turns : List (Option Turn)) (dates agent variable : ℕ) (r : Action) → IsLawful s → Contains (history s dates agent) r
-        → ((instr : ℕ) → units r.agent r.number turns ≡ cycle_of (s.stalls r.agent) r.number instr → ⊥)
-        → reach s (turn_of (Some r) ∷ turns) (history s dates) variable ≡ reach s turns (history s dates) variable }
+    ensures none { (s : System) (h : History) (variable : ℕ) → reach s (λ agent. []) h variable ≡ s.opening.reach variable }
+    ensures same { (s : System) (turns others : ℕ → List (Option Turn)) (h : History) (variable : ℕ) → ((agent : ℕ) → turns agent ≡ others agent)
+        → reach s turns h variable ≡ reach s others h variable }
+    ensures idle { (s : System) (turns : ℕ → List (Option Turn)) (h : History) (processor variable : ℕ)
+        → reach s (gone_to s.unit processor None turns) h variable ≡ reach s turns h variable }
+    ensures stalled { (s : System) (turns : ℕ → List (Option Turn)) (dates agent variable : ℕ) (r : Action) → IsLawful s
+        → Contains (history s dates agent) r
+        → ((instr : ℕ) → units r.agent r.number (turns r.agent) ≡ cycle_of (s.stalls r.agent) r.number instr → ⊥)
+        → reach s (gone_to s.unit (processor_at s.unit r.agent) (turn_of (Some r)) turns) (history s dates) variable
+        ≡ reach s turns (history s dates) variable }
     ensures paid { (s : System) (ways : Ways) (code : Code) → IsRun s ways code
-        → (turns : List (Option Turn)) (dates agent variable instr : ℕ) (r : Action) (state : RunState)
+        → (turns : ℕ → List (Option Turn)) (dates agent variable instr : ℕ) (r : Action) (state : RunState)
         → Contains (history s dates agent) r
         → run_code code (agent_code_at code r.agent) (begun_by (agent_code_at code r.agent) r) instr ≡ Running state
-        → units r.agent r.number turns ≡ cycle_of (s.stalls r.agent) r.number instr → instr < r.budget
-        → reach s (turn_of (Some r) ∷ turns) (history s dates) variable
-        ≡ reach_with s variable r.start (length turns / s.unit.quantum) (call_of code state.machine) (reach s turns (history s dates) variable) }
+        → units r.agent r.number (turns r.agent) ≡ cycle_of (s.stalls r.agent) r.number instr → instr < r.budget
+        → reach s (gone_to s.unit (processor_at s.unit r.agent) (turn_of (Some r)) turns) (history s dates) variable
+        ≡ reach_with s variable r.start (length (turns r.agent) / s.unit.quantum) (call_of code state.machine)
+        (reach s turns (history s dates) variable) }
     ensures date { (s : System) (order : ℕ → List ℕ) (date cycles variable : ℕ) → IsLawful s → 1 ≤ s.unit.quantum → cycles ≤ date * s.unit.quantum
-        → reach s (turns_of s order cycles) (history s (date + 1)) variable ≡ reach s (turns_of s order cycles) (history s date) variable }
+        → reach s (turns_by s order cycles) (history s (date + 1)) variable ≡ reach s (turns_by s order cycles) (history s date) variable }
 {
     regular();
 }
 
-/// Where the processor can supply the demand up to a date, no ring is reached for beyond its size: neither by a look at a date before the
+/// Where each processor can supply the demand of its agents up to a date, no ring is reached for beyond its size: neither by a look at a date before the
 /// deadline of its action, nor in all cycles up to that date.
 pub fn ring_sizes()
     ensures look { (s : System) (ways : Ways) (order : ℕ → List ℕ) (until dates agent variable back size date : ℕ) (decl : VarDecl) (r : Action)
@@ -220,7 +246,7 @@ pub fn ring_sizes()
     ensures reached { (s : System) (ways : Ways) (code : Code) → IsRun s ways code
         → (order : ℕ → List ℕ) (until cycles variable size n : ℕ) → IsSupplied s order until
         → cycles ≤ until * s.unit.quantum → IsRingSize s.unit ways s.nexts variable size
-        → reach s (turns_of s order cycles) (history s (until + 1)) variable ≡ Some n → n < size }
+        → reach s (turns_by s order cycles) (history s (until + 1)) variable ≡ Some n → n < size }
 {
     regular();
 }

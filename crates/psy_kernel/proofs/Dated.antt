@@ -62,19 +62,19 @@ module _ (unit : Whole) (code : Code) (nexts : List (List (List ℕ))) (opening 
   abbrev of_code : System
   of_code = record (coded unit code nexts stalls inputs) { opening = opening }
 
-  module _ (date until : ℕ) (turns : List (Option Turn)) (lawful : IsLawful of_code) (opens : AreBegun of_code date) (small : date ≤ 2 ^ 32)
-      (unstarted : (agent number : ℕ) → first_number of_code agent + length (history of_code date agent) ≤ number → units agent number turns ≡ 0)
-      (in_time : (agent : ℕ) (r : Action) → Contains (history of_code date agent) r → r.deadline ≤ date → is_pending turns r ≡ false)
+  module _ (date until : ℕ) (turns : ℕ → List (Option Turn)) (lawful : IsLawful of_code) (opens : AreBegun of_code date) (small : date ≤ 2 ^ 32)
+      (unstarted : (agent number : ℕ) → first_number of_code agent + length (history of_code date agent) ≤ number → units agent number (turns agent) ≡ 0)
+      (in_time : (agent : ℕ) (r : Action) → Contains (history of_code date agent) r → r.deadline ≤ date → is_pending (turns agent) r ≡ false)
       (machines : List AgentMachine) (charges : List Charged) (ready : List (Option ℕ)) (figures : List Figure)
       (charged : length charges ≡ length unit.agents) (waiting : length ready ≡ length unit.agents)
-      (before : (agent : ℕ) (machine : AgentMachine) (charge : Charged) (waits : Option ℕ) (figure : Figure) → slice_get machines agent ≡ Some machine → slice_get charges agent ≡ Some charge → slice_get ready agent ≡ Some waits → slice_get figures agent ≡ Some figure → AgentStands of_code code turns until agent (history of_code date agent) charge machine waits figure)
+      (before : (agent : ℕ) (machine : AgentMachine) (charge : Charged) (waits : Option ℕ) (figure : Figure) → slice_get machines agent ≡ Some machine → slice_get charges agent ≡ Some charge → slice_get ready agent ≡ Some waits → slice_get figures agent ≡ Some figure → AgentStands of_code code (turns agent) until agent (history of_code date agent) charge machine waits figure)
       (seats : List Seat) (seated : length seats ≡ length unit.agents)
-      (sits : (agent : ℕ) (seat : Seat) → slice_get seats agent ≡ Some seat → Sits of_code date turns agent (history of_code (suc date) agent) seat) where
-    seat_there : (agent : ℕ) → agent < length unit.agents → Sits of_code date turns agent (history of_code (suc date) agent) (seat_at seats agent)
+      (sits : (agent : ℕ) (seat : Seat) → slice_get seats agent ≡ Some seat → Sits of_code date (turns agent) agent (history of_code (suc date) agent) seat) where
+    seat_there : (agent : ℕ) → agent < length unit.agents → Sits of_code date (turns agent) agent (history of_code (suc date) agent) (seat_at seats agent)
     seat_there agent l = sits agent (seat_at seats agent) (slice_get-get_or seats agent _ (omega (arith, l, seated)))
 
     pub agents_after : (charges' : List Charged) (ready' : List (Option ℕ)) → IsDoneBelow (charge_at date seats unit.agents) (length unit.agents) charges charges' → IsDoneBelow (deadline_at date seats) (length unit.agents) ready ready'
-        → (agent : ℕ) (machine : AgentMachine) (charge : Charged) (waits : Option ℕ) (figure : Figure) → slice_get machines agent ≡ Some machine → slice_get charges' agent ≡ Some charge → slice_get ready' agent ≡ Some waits → slice_get figures agent ≡ Some figure → AgentStands of_code code turns until agent (history of_code (suc date) agent) charge machine waits figure
+        → (agent : ℕ) (machine : AgentMachine) (charge : Charged) (waits : Option ℕ) (figure : Figure) → slice_get machines agent ≡ Some machine → slice_get charges' agent ≡ Some charge → slice_get ready' agent ≡ Some waits → slice_get figures agent ≡ Some figure → AgentStands of_code code (turns agent) until agent (history of_code (suc date) agent) charge machine waits figure
     agents_after charges' ready' started waited agent machine charge waits figure em ec ew ef =
         let l : agent < length unit.agents = omega (arith, slice_get_within charges' agent charge ec, started.count, charged) in
         let old_charge = get_or charges agent charge in
@@ -84,8 +84,8 @@ module _ (unit : Whole) (code : Code) (nexts : List (List (List ℕ))) (opening 
         let its_charge : charge_at date seats unit.agents agent old_charge ≡ charge = same_item (slice_get charges' agent) _ charge (started.done agent old_charge l here_charge) ec in
         let its_waits : deadline_at date seats agent old_waits ≡ waits = same_item (slice_get ready' agent) _ waits (waited.done agent old_waits l here_waits) ew in
         let old = before agent machine old_charge old_waits figure em here_charge here_waits ef in
-        let new = agent_after unit code nexts opening stalls inputs date until agent turns lawful opens small (unstarted agent) (in_time agent) (seat_at seats agent) old_charge machine old_waits figure (seat_there agent l) old in
-        subst (λ x. AgentStands of_code code turns until agent (history of_code (suc date) agent) x machine waits figure) its_charge (subst (λ y. AgentStands of_code code turns until agent (history of_code (suc date) agent) (charge_at date seats unit.agents agent old_charge) machine y figure) its_waits new)
+        let new = agent_after unit code nexts opening stalls inputs date until agent (turns agent) lawful opens small (unstarted agent) (in_time agent) (seat_at seats agent) old_charge machine old_waits figure (seat_there agent l) old in
+        subst (λ x. AgentStands of_code code (turns agent) until agent (history of_code (suc date) agent) x machine waits figure) its_charge (subst (λ y. AgentStands of_code code (turns agent) until agent (history of_code (suc date) agent) (charge_at date seats unit.agents agent old_charge) machine y figure) its_waits new)
 
     -- who starts wasn't waiting
     pub free_before : length machines ≡ length unit.agents → length figures ≡ length unit.agents → (agent : ℕ) → starts_at date (seat_at seats agent) ≡ true → pending_deadline ready agent ≡ None
@@ -96,6 +96,6 @@ module _ (unit : Whole) (code : Code) (nexts : List (List (List ℕ))) (opening 
           let figure = get_or figures agent (record { count = 0; slack = None }) in
           let machine = get_or machines agent (record { agent = 0; machine = record { place = 0; operands = []; home = record { cells = []; counters = [] }; calls = []; copies = [] }; stack = 0; frames = 0 }) in
           let old = before agent machine charge waits figure (slice_get-get_or machines agent _ (omega (arith, l, machined))) (slice_get-get_or charges agent _ (omega (arith, l, charged))) (slice_get-get_or ready agent _ (omega (arith, l, waiting))) (slice_get-get_or figures agent _ (omega (arith, l, figured))) in
-          old.ready ∙ free_where unit code nexts opening stalls inputs date until agent turns lawful opens small (unstarted agent) (in_time agent) (seat_at seats agent) (seat_there agent l) starts)
+          old.ready ∙ free_where unit code nexts opening stalls inputs date until agent (turns agent) lawful opens small (unstarted agent) (in_time agent) (seat_at seats agent) (seat_there agent l) starts)
       | inr ge ↦ get_or_past ready agent None (omega (arith, ge, waiting))
     ]

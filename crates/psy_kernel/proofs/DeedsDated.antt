@@ -44,15 +44,15 @@ HaveStayed s date seats boxes_before boxes taken_before taken = (agent : ℕ) �
     → (slice_get boxes agent ≡ slice_get boxes_before agent)
     × ((stream : ℕ) (decl : StreamDecl) → slice_get s.unit.streams stream ≡ Some decl → decl.receiver ≡ agent → slice_get taken stream ≡ slice_get taken_before stream)
 
-module _ (s : System) (code : Code) (date : ℕ) (turns : List (Option Turn)) (lawful : IsLawful s)
-    (unstarted : (agent number : ℕ) → first_number s agent + length (history s date agent) ≤ number → units agent number turns ≡ 0)
-    (in_time : (agent : ℕ) (r : Action) → Contains (history s date agent) r → r.deadline ≤ date → is_pending turns r ≡ false)
+module _ (s : System) (code : Code) (date : ℕ) (turns : ℕ → List (Option Turn)) (lawful : IsLawful s)
+    (unstarted : (agent number : ℕ) → first_number s agent + length (history s date agent) ≤ number → units agent number (turns agent) ≡ 0)
+    (in_time : (agent : ℕ) (r : Action) → Contains (history s date agent) r → r.deadline ≤ date → is_pending (turns agent) r ≡ false)
     (seats : List Seat) (seated : length seats ≡ length s.unit.agents)
-    (sits : (agent : ℕ) (seat : Seat) → slice_get seats agent ≡ Some seat → Sits s date turns agent (history s (suc date) agent) seat)
+    (sits : (agent : ℕ) (seat : Seat) → slice_get seats agent ≡ Some seat → Sits s date (turns agent) agent (history s (suc date) agent) seat)
     (boxes_before boxes : List Outboxed) (boxed : length boxes ≡ length s.unit.agents)
     (taken_before taken : List ℕ) (taking : length taken ≡ length s.unit.streams)
     (begun : HaveBegun s date seats boxes taken) (stayed : HaveStayed s date seats boxes_before boxes taken_before taken)
-    (was : (agent : ℕ) (outbox : Outboxed) → slice_get boxes_before agent ≡ Some outbox → DeedsStand s code turns (history s date agent) outbox.sends taken_before) where
+    (was : (agent : ℕ) (outbox : Outboxed) → slice_get boxes_before agent ≡ Some outbox → DeedsStand s code (turns agent) (history s date agent) outbox.sends taken_before) where
   abbrev actions : ℕ → List Action
   actions agent = history s date agent
 
@@ -68,14 +68,14 @@ module _ (s : System) (code : Code) (date : ℕ) (turns : List (Option Turn)) (l
   -- ---- an action that starts
 
   first_deeds : (agent : ℕ) (n : Next) (outbox : Outboxed) → agent < length s.unit.agents → slice_get boxes agent ≡ Some outbox → n.start ≡ date
-      → history s (suc date) agent ≡ action_of s (history s date) agent n ∷ actions agent → DeedsStand s code turns (action_of s (history s date) agent n ∷ actions agent) outbox.sends taken
+      → history s (suc date) agent ≡ action_of s (history s date) agent n ∷ actions agent → DeedsStand s code (turns agent) (action_of s (history s date) agent n ∷ actions agent) outbox.sends taken
   first_deeds agent n outbox l at now grew pending =
       let r = action_of s (history s date) agent n in
       let regular = All-head (IsRegular s agent) r (actions agent) (subst (All (IsRegular s agent)) grew (lawful.actions (suc date) agent).each) in
       let started = (subst (WereStarted s (suc date) agent) grew (lawful.actions (suc date) agent).were_started).0 in
-      let none : units r.agent r.number turns ≡ 0 = unstarted r.agent r.number (omega (arith, started.number, ap (λ a. first_number s a + length (actions a)) regular.agent_is)) in
-      let sitting : SeatOf date turns r (seat_of agent) = last_sits s date agent turns r (actions agent) (seat_of agent) (subst (λ rs. Sits s date turns agent rs (seat_of agent)) grew (sits agent (seat_of agent) (there agent l))) in
-      let begins = begun agent (seat_of agent, there agent l, acting date turns r (seat_of agent) sitting (omega (arith, regular.due, now)) pending, sitting.start ∙ now) in
+      let none : units r.agent r.number (turns agent) ≡ 0 = ap (λ a. units a r.number (turns agent)) regular.agent_is ∙ unstarted agent r.number (omega (arith, started.number)) in
+      let sitting : SeatOf date (turns agent) r (seat_of agent) = last_sits s date agent (turns agent) r (actions agent) (seat_of agent) (subst (λ rs. Sits s date (turns agent) agent rs (seat_of agent)) grew (sits agent (seat_of agent) (there agent l))) in
+      let begins = begun agent (seat_of agent, there agent l, acting date (turns agent) r (seat_of agent) sitting (omega (arith, regular.due, now)) pending, sitting.start ∙ now) in
       let its = agent_code_at code r.agent in
       record {
         state = begun_by its r;
@@ -86,20 +86,20 @@ module _ (s : System) (code : Code) (date : ℕ) (turns : List (Option Turn)) (l
 
   -- ---- one that goes on
 
-  same_deeds : (agent : ℕ) (outbox : Outboxed) (rs : List Action) → agent < length s.unit.agents → slice_get boxes agent ≡ Some outbox → actions agent ≡ rs → Sits s date turns agent rs (seat_of agent)
-      → ((before : Outboxed) → slice_get boxes_before agent ≡ Some before → DeedsStand s code turns rs before.sends taken_before) → DeedsStand s code turns rs outbox.sends taken
+  same_deeds : (agent : ℕ) (outbox : Outboxed) (rs : List Action) → agent < length s.unit.agents → slice_get boxes agent ≡ Some outbox → actions agent ≡ rs → Sits s date (turns agent) agent rs (seat_of agent)
+      → ((before : Outboxed) → slice_get boxes_before agent ≡ Some before → DeedsStand s code (turns agent) rs before.sends taken_before) → DeedsStand s code (turns agent) rs outbox.sends taken
   same_deeds agent outbox [] l at is sitting old = tt {0}
   same_deeds agent outbox (r ∷ before) l at is sits_so old = λ pending.
-      (let sitting = last_sits s date agent turns r before (seat_of agent) sits_so in
+      (let sitting = last_sits s date agent (turns agent) r before (seat_of agent) sits_so in
       let has : Contains (r ∷ before) r = (0, omega arith, refl) in
       let regular = All-head (IsRegular s agent) r before (subst (All (IsRegular s agent)) is (lawful.actions date agent).each) in
       let started = (subst (WereStarted s date agent) is (lawful.actions date agent).were_started).0 in
       let due : date < r.deadline = elim (cases_lt date r.deadline) [
         | inl less ↦ less
-        | inr more ↦ (let over : is_pending turns r ≡ false = in_time agent r (subst (λ rs. Contains rs r) (sym is) has) more in absurd (cc (over, pending)))
+        | inr more ↦ (let over : is_pending (turns agent) r ≡ false = in_time agent r (subst (λ rs. Contains rs r) (sym is) has) more in absurd (cc (over, pending)))
       ] in
       let early : (seat_of agent).start < date = omega (arith, sitting.start, started.at, ap (λ (q : Action). q.start) started.made) in
-      let stays = stayed agent (seat_of agent, there agent l, acting date turns r (seat_of agent) sitting due pending, early) in
+      let stays = stayed agent (seat_of agent, there agent l, acting date (turns agent) r (seat_of agent) sitting due pending, early) in
       let did = old outbox (sym stays.0 ∙ at) pending in
       record {
         state = did.state;
@@ -109,11 +109,11 @@ module _ (s : System) (code : Code) (date : ℕ) (turns : List (Option Turn)) (l
       })
 
   -- What the actions that are pending behind the date sent and took
-  pub deeds_after : (agent : ℕ) (outbox : Outboxed) → slice_get boxes agent ≡ Some outbox → DeedsStand s code turns (history s (suc date) agent) outbox.sends taken
+  pub deeds_after : (agent : ℕ) (outbox : Outboxed) → slice_get boxes agent ≡ Some outbox → DeedsStand s code (turns agent) (history s (suc date) agent) outbox.sends taken
   deeds_after agent outbox at =
       let l : agent < length s.unit.agents = omega (arith, slice_get_within boxes agent outbox at, boxed) in
       elim (grown_by s (history s date) date agent (actions agent) (next_of s agent (actions agent))) [
-        | inl same ↦ subst (λ rs. DeedsStand s code turns rs outbox.sends taken) (sym same)
-            (same_deeds agent outbox (actions agent) l at refl (subst (λ rs. Sits s date turns agent rs (seat_of agent)) same (sits agent (seat_of agent) (there agent l))) (was agent))
-        | inr grew ↦ subst (λ rs. DeedsStand s code turns rs outbox.sends taken) (sym grew.3) (first_deeds agent grew.0 outbox l at grew.2 grew.3)
+        | inl same ↦ subst (λ rs. DeedsStand s code (turns agent) rs outbox.sends taken) (sym same)
+            (same_deeds agent outbox (actions agent) l at refl (subst (λ rs. Sits s date (turns agent) agent rs (seat_of agent)) same (sits agent (seat_of agent) (there agent l))) (was agent))
+        | inr grew ↦ subst (λ rs. DeedsStand s code (turns agent) rs outbox.sends taken) (sym grew.3) (first_deeds agent grew.0 outbox l at grew.2 grew.3)
       ]

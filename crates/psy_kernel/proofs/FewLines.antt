@@ -4,7 +4,7 @@ use Rattle.std.proofs.lemmas.List.{length-map}
 use Rattle.std.specs.List.{range_with_len}
 use Rattle.std.proofs.lemmas.List.FromFn.{length-range_with_len}
 use Rattle.psy_dates.specs.Plans.{IsPlan}
-use Rattle.psy_history.specs.Scheduled.{turns_of}
+use Rattle.psy_history.specs.Scheduled.{turns_by}
 use Rattle.psy_kernel.specs.Progress.{Progress, order, summary_told, system}
 use Rattle.psy_kernel.specs.Texts.{agent_end, stream_end, variable_end}
 
@@ -13,7 +13,7 @@ pub summary-count : (p : Progress) → length (summary_told p) ≡ 1 + (length p
 summary-count p =
     let s = system p in
     let until = p.plan.until in
-    let turns = turns_of s (order p) (until * s.unit.quantum) in
+    let turns = turns_by s (order p) (until * s.unit.quantum) in
     let agents = map (agent_end s turns until) (range_with_len 0 (length s.unit.agents)) in
     let variables = map (variable_end s turns p.plan.sizes until) (range_with_len 0 (length s.unit.variables)) in
     let streams = map (stream_end s p.plan.sizes until) (range_with_len 0 (length s.unit.streams)) in

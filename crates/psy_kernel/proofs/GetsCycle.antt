@@ -4,12 +4,13 @@ use Rattle.std.specs.Prelude.{ℕ, zero, suc, ◌+◌, ◌*◌, ◌<◌, ◌≤�
 use Rattle.std.specs.List.{All, Contains}
 use Rattle.std.proofs.lemmas.Bool.{cases_lt, both_ways, eqb-true}
 use Rattle.std.proofs.lemmas.Nat.{mul-le}
-use Rattle.std.proofs.lemmas.List.Elements.{All-cons, All-head, All-nil, All-weaker}
+use Rattle.std.proofs.lemmas.List.Elements.{All-cons, All-head, All-nil, All-tail, All-weaker}
 use Rattle.psy_budget.specs.declared.charge.Stall.{Stall}
 use Rattle.psy_dates.specs.declared.plan.Plan.{Plan}
 use Rattle.psy_dates.specs.Plans.{IsPlan, opened_of}
 use Rattle.psy_history.specs.Regular.{AreRegular, IsLawful, IsRegular, Runs, WasStarted, WereStarted, first_number}
-use Rattle.psy_history.specs.Scheduled.{IsFinished, IsSupplied, turns_of}
+use Rattle.psy_history.specs.Processors.{processor_at}
+use Rattle.psy_history.specs.Scheduled.{IsFinished, IsSupplied, turns_by}
 use Rattle.psy_meaning.specs.KnownWays.{Listed}
 use Rattle.psy_history.specs.Actions.{Action, History, Next, Opening, System, charge_of, next_of, timing, verdict_of}
 use Rattle.psy_tree.specs.Parts.{agent_at, no_agent, no_clock}
@@ -106,21 +107,23 @@ module _ (plan : Plan) (opening : Opening) (inputs : List (List ℤ)) (stalls : 
     abbrev order : ℕ → List ℕ
     order = order_of plan.unit script
 
-    abbrev turns : List (Option Turn)
-    turns = turns_of s order cycle
+    abbrev turns : ℕ → List (Option Turn)
+    turns agent = turns_by s order cycle agent
 
     pub all_over : ((s : System) (order : ℕ → List ℕ) (until date cycles agent : ℕ) (r : Action) (before : List Action) → IsSupplied s order until → date ≤ until → date * s.unit.quantum ≤ cycles → history s (date + 1) agent ≡ r ∷ before → All (IsFinished s order cycles) before)
-        → (agent : ℕ) → AreOver turns (history s (date + 1) agent)
-    all_over law agent = by (history s (date + 1) agent) refl
+        → (agent : ℕ) → AreOver (turns agent) (history s (date + 1) agent)
+    all_over law agent = by (history s (date + 1) agent) refl (supply.lawful.actions (date + 1) agent).each
       where
-        by : (actions : List Action) → history s (date + 1) agent ≡ actions → AreOver turns actions
-        by [] e = tt {0}
-        by (r ∷ before) e = law s order plan.until date cycle agent r before supply (omega (arith, inside)) low e
+        by : (actions : List Action) → history s (date + 1) agent ≡ actions → All (IsRegular s agent) actions → AreOver (turns agent) actions
+        by [] e all = tt {0}
+        by (r ∷ before) e all = λ k d less.
+            let q = get_or before k d in
+            subst (λ a. is_pending (turns a) q ≡ false) (IsRegular.agent_is (All-tail (IsRegular s agent) r before all k d less)) (law s order plan.until date cycle agent r before supply (omega (arith, inside)) low e k d less)
 
     pub gets : ((s : System) (order : ℕ → List ℕ) (until date agent : ℕ) (r : Action) → IsSupplied s order until → date ≤ until → Contains (history s date agent) r → r.deadline ≤ date → IsFinished s order (date * s.unit.quantum) r)
         → PointsFollow s → ((agent : ℕ) → opening.count agent < 1125899906842624)
-        → plan.until ≤ 4294967295 → (agent : ℕ) (r : Action) (before : List Action) → history s (date + 1) agent ≡ r ∷ before → All (Runs s (Listed is.ways) plan.code) (history s (date + 1) agent) → is_pending turns r ≡ true
-        → GetsCycle s plan.code turns plan.until date cycle agent r before
+        → plan.until ≤ 4294967295 → (agent : ℕ) (r : Action) (before : List Action) → history s (date + 1) agent ≡ r ∷ before → All (Runs s (Listed is.ways) plan.code) (history s (date + 1) agent) → is_pending (turns agent) r ≡ true
+        → GetsCycle s plan.code (turns agent) plan.until date cycle agent r before
     gets due within small most agent r before e all_run pending =
         let are : AreRegular s (date + 1) agent (r ∷ before) = subst (AreRegular s (date + 1) agent) e (supply.lawful.actions (date + 1) agent) in
         let its : IsRegular s agent r = All-head (IsRegular s agent) r before are.each in
@@ -144,7 +147,7 @@ module _ (plan : Plan) (opening : Opening) (inputs : List (List ℤ)) (stalls : 
           counted = small agent;
           started = omega (arith, start, w.at);
           later = later;
-          at = as_many s order cycle;
+          at = as_many s order (processor_at s.unit agent) cycle;
           within = omega (arith, high, mul-le (date + 1) plan.unit.quantum r.deadline plan.unit.quantum (omega (arith, later)) (omega arith));
           run = omega (arith, high, mul-le (date + 1) plan.unit.quantum plan.until plan.unit.quantum (omega (arith, inside)) (omega arith));
           most = most;
@@ -152,12 +155,16 @@ module _ (plan : Plan) (opening : Opening) (inputs : List (List ℤ)) (stalls : 
           ends = λ point end is. (let h = its.ends point end is in (h.1, may_end within agent r.point point r.start its.known h.0 (omega (arith, start, w.at, inside, most))));
         }
       where
+        regular : (agent : ℕ) (r : Action) (before : List Action) → history s (date + 1) agent ≡ r ∷ before → IsRegular s agent r
+        regular agent r before e = All-head (IsRegular s agent) r before (AreRegular.each (subst (AreRegular s (date + 1) agent) e (supply.lawful.actions (date + 1) agent)))
+
         due_later : ((s : System) (order : ℕ → List ℕ) (until date agent : ℕ) (r : Action) → IsSupplied s order until → date ≤ until → Contains (history s date agent) r → r.deadline ≤ date → IsFinished s order (date * s.unit.quantum) r)
-            → (agent : ℕ) (r : Action) (before : List Action) → history s (date + 1) agent ≡ r ∷ before → is_pending turns r ≡ true → date < r.deadline
+            → (agent : ℕ) (r : Action) (before : List Action) → history s (date + 1) agent ≡ r ∷ before → is_pending (turns agent) r ≡ true → date < r.deadline
         due_later law agent r before e pending = elim (cases_lt date r.deadline) [
           | inl less ↦ less
           | inr past ↦ absurd (elim (here_or_before s date agent r before (sym (ap (λ n. history s n agent) (add-one date)) ∙ e)) [
-            | inl earlier ↦ both_ways (is_pending turns r) (stays_over s order r (date * plan.unit.quantum) cycle low (law s order plan.until date agent r supply (omega (arith, inside)) (subst (λ actions. Contains actions r) (sym earlier) (0, omega arith, refl)) past)) pending
-            | inr here ↦ omega (arith, past, here, IsRegular.due (All-head (IsRegular s agent) r before (AreRegular.each (subst (AreRegular s (date + 1) agent) e (supply.lawful.actions (date + 1) agent)))))
+            | inl earlier ↦ both_ways (is_pending (turns agent) r) (stays_over s order (processor_at s.unit agent) r (date * plan.unit.quantum) cycle low (subst (λ a. is_pending (turns_by s order (date * plan.unit.quantum) a) r ≡ false) (IsRegular.agent_is (regular agent r before e))
+                (law s order plan.until date agent r supply (omega (arith, inside)) (subst (λ actions. Contains actions r) (sym earlier) (0, omega arith, refl)) past))) pending
+            | inr here ↦ omega (arith, past, here, IsRegular.due (regular agent r before e))
           ])
         ]

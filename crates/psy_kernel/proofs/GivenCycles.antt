@@ -1,15 +1,17 @@
 -- Cycles in a row that go to one action, or to nobody: who is pending stays so, and so does the turn.
 use Rattle.std.proofs.Common.{◌≡◌, refl, sym, ap, ◌∙◌, subst, arith}
-use Rattle.std.specs.Prelude.{ℕ, zero, suc, ◌+◌, ◌-◌, ◌*◌, ◌<◌, ◌≤◌, Bool, true, false, nat_lt, if◌then◌else◌, List, [], ◌∷◌, ◌++◌, filter, Option, Some, None}
+use Rattle.std.specs.Prelude.{ℕ, zero, suc, ◌+◌, ◌-◌, ◌*◌, ◌<◌, ◌≤◌, ◌==◌, Bool, true, false, nat_lt, if◌then◌else◌, List, [], ◌∷◌, ◌++◌, filter, Option, Some, None}
 use Rattle.std.specs.List.{All}
-use Rattle.std.proofs.lemmas.Bool.{lt-ltb, ltb-true}
+use Rattle.std.proofs.lemmas.Bool.{cond-true, eq-eqb, lt-ltb, ltb-true}
 use Rattle.std.proofs.lemmas.List.Elements.{All-cons, All-weaker}
 use Rattle.psy_history.specs.Actions.{Action, History, System}
 use Rattle.psy_history.specs.History.{history}
+use Rattle.psy_history.specs.Processors.{processor_at, served}
 use Rattle.psy_history.specs.Schedule.{Turn, is_of, is_pending, pending, soonest, turn_of, units, work}
-use Rattle.psy_history.specs.Scheduled.{turns_of}
+use Rattle.psy_history.specs.Scheduled.{gone_to, turns_of}
 use Rattle.psy_history.specs.Summary.{reach}
-use Rattle.psy_kernel.specs.Stretches.{given_to}
+use Rattle.psy_kernel.specs.Stretches.{given_on, given_to}
+use Rattle.psy_tree.specs.declared.unit.Unit.{Unit as Whole}
 use Rattle.psy_kernel.proofs.CyclesDone.{next_turn}
 use Rattle.psy_kernel.proofs.OtherAgents.{AreSameFor, filter_agree_on, missed, other_number}
 
@@ -26,8 +28,35 @@ missed_all turn turns r h (suc n) =
     let last = missed turn (given_to turn n turns) r h in
     record { units = last.units ∙ before.units; finish = last.finish ∙ before.finish }
 
+-- ---- by agent
+
+-- What they leave to an agent of their processor
+pub own_given : (unit : Whole) (processor agent : ℕ) (turn : Option Turn) (turns : ℕ → List (Option Turn)) → processor_at unit agent ≡ processor → (n : ℕ) → given_on unit processor turn n turns agent ≡ given_to turn n (turns agent)
+own_given unit processor agent turn turns of zero = refl
+own_given unit processor agent turn turns of (suc n) =
+    let before = own_given unit processor agent turn turns of n in
+    let now = given_on unit processor turn n turns agent in
+    cond-true (processor_at unit agent == processor) (turn ∷ now) now (eq-eqb (processor_at unit agent) processor of) ∙ ap (λ ts. turn ∷ ts) before
+
+-- An action that doesn't get them is left as it is, whichever processor they are of.
+missed_by : (test : Bool) (turn : Option Turn) (turns now : List (Option Turn)) (r : Action) → is_of r.agent r.number turn ≡ false → AreSameFor turns now r → AreSameFor turns (if test then turn ∷ now else now) r
+missed_by true turn turns now r h before = (let last = missed turn now r h in record { units = last.units ∙ before.units; finish = last.finish ∙ before.finish })
+missed_by false turn turns now r h before = before
+
+pub missed_on : (unit : Whole) (processor agent : ℕ) (turn : Option Turn) (turns : ℕ → List (Option Turn)) (r : Action) → is_of r.agent r.number turn ≡ false → (n : ℕ) → AreSameFor (turns agent) (given_on unit processor turn n turns agent) r
+missed_on unit processor agent turn turns r h zero = record { units = refl; finish = refl }
+missed_on unit processor agent turn turns r h (suc n) =
+    missed_by (processor_at unit agent == processor) turn (turns agent) (given_on unit processor turn n turns agent) r h (missed_on unit processor agent turn turns r h n)
+
 pub same_stays : (turns now : List (Option Turn)) (r : Action) → AreSameFor turns now r → StaysSo turns now r
 same_stays turns now r same = ap (λ n. nat_lt n (work r)) same.units
+
+-- The agents of the only processor are all agents of an order.
+pub served_all : (unit : Whole) (processor : ℕ) → ((agent : ℕ) → processor_at unit agent ≡ processor) → (order : List ℕ) → served unit processor order ≡ order
+served_all unit processor one [] = refl
+served_all unit processor one (agent ∷ order) =
+    let rest = served unit processor order in
+    cond-true (processor_at unit agent == processor) (agent ∷ rest) rest (eq-eqb (processor_at unit agent) processor (one agent)) ∙ ap (λ agents. agent ∷ agents) (served_all unit processor one order)
 
 -- ---- the action that gets them
 
@@ -73,26 +102,30 @@ pending_kept (agent ∷ rest) turns now h same =
     ap (λ actions. actions ++ pending rest now h) (filter_agree_on (is_pending now) (is_pending turns) (h agent) (same agent))
     ∙ ap (λ actions. filter (is_pending turns) (h agent) ++ actions) (pending_kept rest turns now h same)
 
-module _ (s : System) (order : ℕ → List ℕ) (date cycle : ℕ) (low : date * s.unit.quantum ≤ cycle) where
+module _ (s : System) (order : ℕ → List ℕ) (processor date cycle : ℕ) (low : date * s.unit.quantum ≤ cycle) where
   abbrev before : List (Option Turn)
-  before = turns_of s order cycle
+  before = turns_of s order cycle processor
+
+  -- its agents, in the order in force at a cycle
+  abbrev own : ℕ → List ℕ
+  own c = served s.unit processor (order c)
 
   -- As long as the order and who is pending stay, each cycle goes to what the first one does
-  pub in_a_row : (turn : Option Turn) → turn_of (soonest (pending (order cycle) before (history s (date + 1)))) ≡ turn → (n : ℕ) → cycle + n ≤ (date + 1) * s.unit.quantum → ((k : ℕ) → k < n → order (cycle + k) ≡ order cycle)
-      → ((k : ℕ) → k < n → (agent : ℕ) → All (StaysSo before (given_to turn k before)) (history s (date + 1) agent)) → turns_of s order (cycle + n) ≡ given_to turn n before
-  in_a_row turn first zero high orders same = let e : cycle + 0 ≡ cycle = omega arith in ap (turns_of s order) e
+  pub in_a_row : (turn : Option Turn) → turn_of (soonest (pending (own cycle) before (history s (date + 1)))) ≡ turn → (n : ℕ) → cycle + n ≤ (date + 1) * s.unit.quantum → ((k : ℕ) → k < n → order (cycle + k) ≡ order cycle)
+      → ((k : ℕ) → k < n → (agent : ℕ) → All (StaysSo before (given_to turn k before)) (history s (date + 1) agent)) → turns_of s order (cycle + n) processor ≡ given_to turn n before
+  in_a_row turn first zero high orders same = let e : cycle + 0 ≡ cycle = omega arith in ap (λ m. turns_of s order m processor) e
   in_a_row turn first (suc n) high orders same =
       let e : cycle + suc n ≡ cycle + n + 1 = omega arith in
-      let rest : turns_of s order (cycle + n) ≡ given_to turn n before = in_a_row turn first n (omega (arith, high)) (λ k less. orders k (omega (arith, less))) (λ k less. same k (omega (arith, less))) in
-      ap (turns_of s order) e
-      ∙ next_turn s order date (cycle + n) (omega (arith, low)) (omega (arith, high))
-      ∙ ap (λ o. turn_of (soonest (pending o (turns_of s order (cycle + n)) (history s (date + 1)))) ∷ turns_of s order (cycle + n)) (orders n (omega arith))
-      ∙ ap (λ turns. turn_of (soonest (pending (order cycle) turns (history s (date + 1)))) ∷ turns) rest
-      ∙ ap (λ actions. turn_of (soonest actions) ∷ given_to turn n before) (pending_kept (order cycle) before (given_to turn n before) (history s (date + 1)) (same n (omega arith)))
+      let rest : turns_of s order (cycle + n) processor ≡ given_to turn n before = in_a_row turn first n (omega (arith, high)) (λ k less. orders k (omega (arith, less))) (λ k less. same k (omega (arith, less))) in
+      ap (λ m. turns_of s order m processor) e
+      ∙ next_turn s order processor date (cycle + n) (omega (arith, low)) (omega (arith, high))
+      ∙ ap (λ o. turn_of (soonest (pending (served s.unit processor o) (turns_of s order (cycle + n) processor) (history s (date + 1)))) ∷ turns_of s order (cycle + n) processor) (orders n (omega arith))
+      ∙ ap (λ turns. turn_of (soonest (pending (own cycle) turns (history s (date + 1)))) ∷ turns) rest
+      ∙ ap (λ actions. turn_of (soonest actions) ∷ given_to turn n before) (pending_kept (own cycle) before (given_to turn n before) (history s (date + 1)) (same n (omega arith)))
       ∙ ap (λ t. t ∷ given_to turn n before) first
 
 -- Cycles that nobody gets look at nothing
-pub idle_reach : (s : System) (turns : List (Option Turn)) (h : History) (variable : ℕ) → ((ts : List (Option Turn)) → reach s (None ∷ ts) h variable ≡ reach s ts h variable) → (n : ℕ)
-    → reach s (given_to None n turns) h variable ≡ reach s turns h variable
-idle_reach s turns h variable law zero = refl
-idle_reach s turns h variable law (suc n) = law (given_to None n turns) ∙ idle_reach s turns h variable law n
+pub idle_reach : (s : System) (processor : ℕ) (turns : ℕ → List (Option Turn)) (h : History) (variable : ℕ) → ((ts : ℕ → List (Option Turn)) → reach s (gone_to s.unit processor None ts) h variable ≡ reach s ts h variable) → (n : ℕ)
+    → reach s (given_on s.unit processor None n turns) h variable ≡ reach s turns h variable
+idle_reach s processor turns h variable law zero = refl
+idle_reach s processor turns h variable law (suc n) = law (given_on s.unit processor None n turns) ∙ idle_reach s processor turns h variable law n

@@ -7,7 +7,7 @@ use Rattle.psy_history.specs.History.{history}
 use Rattle.psy_history.specs.Lines.{Event, shows}
 use Rattle.psy_history.specs.Schedule.{Turn}
 use Rattle.psy_history.specs.Regular.{IsLawful}
-use Rattle.psy_history.specs.Scheduled.{turns_of}
+use Rattle.psy_history.specs.Scheduled.{turns_by}
 use Rattle.psy_history.specs.Scripts.{stalls_of}
 use Rattle.psy_dates.specs.Standing.{SharedStands, dates_done}
 use Rattle.psy_kernel.specs.declared.kernel.Kernel.TheInside.{Inside}
@@ -68,8 +68,8 @@ module _ (k : Inside) (w : KernelStands k) (date : ℕ) (is : k.shared.date ≡ 
   abbrev s : System
   s = system (progress_of k)
 
-  abbrev turns : List (Option Turn)
-  turns = turns_of s (order (progress_of k)) k.cycles
+  abbrev turns : ℕ → List (Option Turn)
+  turns agent = turns_by s (order (progress_of k)) k.cycles agent
 
   done : dates_done k.shared.date ≡ suc date
   done = ap dates_done is ∙ omega arith

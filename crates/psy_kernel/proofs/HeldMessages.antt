@@ -61,7 +61,7 @@ module _ (s : System) (stream : ℕ) where
       ∙ least_more (s.opening.most stream) (most_of (map held_by (dates_from s.opening.dates date))) (held_by date)
       ∙ ap (λ n. max n (held_by date)) (sym (greatest_is date behind))
 
-module _ (s : System) (sizes : Sizes) (turns : List (Option Turn)) (date : ℕ) (behind : s.opening.dates ≤ date) (shared : Shared) (stands : SharedStands s sizes turns (date + 1) shared)
+module _ (s : System) (sizes : Sizes) (turns : ℕ → List (Option Turn)) (date : ℕ) (behind : s.opening.dates ≤ date) (shared : Shared) (stands : SharedStands s sizes turns (date + 1) shared)
     (before after : List ℕ) (count : length before ≡ length s.unit.streams) (was : (stream n : ℕ) → slice_get before stream ≡ Some n → n ≡ most_held_in s date stream)
     (done : IsDoneBelow (held_at shared.queues.items) (length shared.queues.items) before after) where
   -- By stream, the greatest number of messages is that of the dates up to this one.

@@ -11,9 +11,12 @@ use Rattle.psy_dates.specs.Standing.{dates_done}
 use Rattle.psy_history.specs.Regular.{IsLawful}
 use Rattle.psy_history.specs.Actions.{Action, History, Opening, System}
 use Rattle.psy_history.specs.History.{history}
+use Rattle.psy_history.specs.Processors.{processor_at}
 use Rattle.psy_history.specs.Schedule.{Turn, is_pending}
+use Rattle.psy_history.specs.Scheduled.{gone_to}
 use Rattle.psy_history.specs.Summary.{reach}
 use Rattle.psy_ready.specs.Choice.{ListsEach}
+use Rattle.psy_tree.specs.declared.unit.Unit.{Unit as Whole}
 use Rattle.psy_kernel.specs.Cycles.{AreOver, GetsCycle, IsCycleOf, LooksBack, order_by, run_of, run_turns}
 use Rattle.psy_kernel.specs.declared.kernel.Kernel.TheInside.{Inside}
 use Rattle.psy_history.specs.declared.told.Order.{Order}
@@ -34,8 +37,9 @@ opening_in k = beginning (progress_of k)
 abbrev pub run_in : Inside → System
 run_in k = run_of k.plan (opening_in k) k.shared.inputs.lists k.script
 
-abbrev pub turns_in : Inside → ℕ → List (Option Turn)
-turns_in k cycles = run_turns k.plan (opening_in k) k.shared.inputs.lists k.script cycles
+-- By agent, what the first so many cycles of its processor went to
+abbrev pub turns_in : Inside → ℕ → ℕ → List (Option Turn)
+turns_in k cycles agent = run_turns k.plan (opening_in k) k.shared.inputs.lists k.script cycles agent
 
 abbrev pub PartsIn : Inside → ℕ → Type 0
 PartsIn k cycles = PartsStand (run_in k) k.plan.sizes k.plan.code k.plan.until (turns_in k cycles) (dates_done k.shared.date) k.shared k.machines.items k.charges.items k.ready k.figures.items
@@ -169,10 +173,13 @@ pub record IsDue (k : Inside) : Type 0 where
   pub inside : IsInside k.plan.unit.quantum k.plan.until (dates_done k.shared.date) k.cycles date
   pub cycle : IsCycleOf k.plan (opening_in k) k.shared.inputs.lists k.script date k.cycles
   pub lawful : IsLawful (run_in k)
-  pub over : (agent : ℕ) → AreOver (turns_in k k.cycles) (history (run_in k) (date + 1) agent)
-  pub gets : (agent : ℕ) (r : Action) (before : List Action) → history (run_in k) (date + 1) agent ≡ r ∷ before → is_pending (turns_in k k.cycles) r ≡ true → GetsCycle (run_in k) k.plan.code (turns_in k k.cycles) k.plan.until date k.cycles agent r before
-  pub looks : (cycle agent : ℕ) (r : Action) (before : List Action) → IsCycleOf k.plan (opening_in k) k.shared.inputs.lists k.script date cycle → history (run_in k) (date + 1) agent ≡ r ∷ before → is_pending (turns_in k cycle) r ≡ true → LooksBack (run_in k) k.plan.sizes k.plan.code (turns_in k cycle) date r
-  pub idle : (turns : List (Option Turn)) (h : History) (variable : ℕ) → reach (run_in k) (None ∷ turns) h variable ≡ reach (run_in k) turns h variable
+  pub over : (agent : ℕ) → AreOver (turns_in k k.cycles agent) (history (run_in k) (date + 1) agent)
+  pub gets : (agent : ℕ) (r : Action) (before : List Action) → history (run_in k) (date + 1) agent ≡ r ∷ before → is_pending (turns_in k k.cycles agent) r ≡ true → GetsCycle (run_in k) k.plan.code (turns_in k k.cycles agent) k.plan.until date k.cycles agent r before
+  pub looks : (cycle agent : ℕ) (r : Action) (before : List Action) → IsCycleOf k.plan (opening_in k) k.shared.inputs.lists k.script date cycle → history (run_in k) (date + 1) agent ≡ r ∷ before → is_pending (turns_in k cycle agent) r ≡ true → LooksBack (run_in k) k.plan.sizes k.plan.code (turns_in k cycle) date r
+  pub idle : (turns : ℕ → List (Option Turn)) (h : History) (processor variable : ℕ) → reach (run_in k) (gone_to k.plan.unit processor None turns) h variable ≡ reach (run_in k) turns h variable
+  pub same : (turns others : ℕ → List (Option Turn)) (h : History) (variable : ℕ) → ((agent : ℕ) → turns agent ≡ others agent) → reach (run_in k) turns h variable ≡ reach (run_in k) others h variable
+  -- there is one processor
+  pub one : (agent : ℕ) → processor_at k.plan.unit agent ≡ 0
   pub small : (date + 1) * k.plan.unit.quantum < 18446744073709551615
 
 module _ (k : Inside) (is : KernelStands k) where
@@ -183,14 +190,16 @@ module _ (k : Inside) (is : KernelStands k) where
 
   pub due_by : (p : Progress) → progress_of k ≡ p → stage_of p ≡ CycleDue p.cycles → k.plan.until ≤ 4294967295
       → ((plan : Plan) (opening : Opening) (inputs : List (List ℤ)) (script : Script) → IsPlan plan → AreInputs plan.unit inputs → IsSoundFor plan opening inputs (stalls_of script) → IsLawful (run_of plan opening inputs script))
-      → ((plan : Plan) (opening : Opening) (inputs : List (List ℤ)) (script : Script) (date cycle agent : ℕ) → IsCycleOf plan opening inputs script date cycle → AreOver (run_turns plan opening inputs script cycle) (history (run_of plan opening inputs script) (date + 1) agent))
-      → ((plan : Plan) (opening : Opening) (inputs : List (List ℤ)) (script : Script) (date cycle agent : ℕ) (r : Action) (before : List Action) → IsCycleOf plan opening inputs script date cycle → history (run_of plan opening inputs script) (date + 1) agent ≡ r ∷ before → is_pending (run_turns plan opening inputs script cycle) r ≡ true
-      → GetsCycle (run_of plan opening inputs script) plan.code (run_turns plan opening inputs script cycle) plan.until date cycle agent r before)
-      → ((plan : Plan) (opening : Opening) (inputs : List (List ℤ)) (script : Script) (date cycle agent : ℕ) (r : Action) (before : List Action) → IsCycleOf plan opening inputs script date cycle → history (run_of plan opening inputs script) (date + 1) agent ≡ r ∷ before → is_pending (run_turns plan opening inputs script cycle) r ≡ true
+      → ((plan : Plan) (opening : Opening) (inputs : List (List ℤ)) (script : Script) (date cycle agent : ℕ) → IsCycleOf plan opening inputs script date cycle → AreOver (run_turns plan opening inputs script cycle agent) (history (run_of plan opening inputs script) (date + 1) agent))
+      → ((plan : Plan) (opening : Opening) (inputs : List (List ℤ)) (script : Script) (date cycle agent : ℕ) (r : Action) (before : List Action) → IsCycleOf plan opening inputs script date cycle → history (run_of plan opening inputs script) (date + 1) agent ≡ r ∷ before → is_pending (run_turns plan opening inputs script cycle agent) r ≡ true
+      → GetsCycle (run_of plan opening inputs script) plan.code (run_turns plan opening inputs script cycle agent) plan.until date cycle agent r before)
+      → ((plan : Plan) (opening : Opening) (inputs : List (List ℤ)) (script : Script) (date cycle agent : ℕ) (r : Action) (before : List Action) → IsCycleOf plan opening inputs script date cycle → history (run_of plan opening inputs script) (date + 1) agent ≡ r ∷ before → is_pending (run_turns plan opening inputs script cycle agent) r ≡ true
       → LooksBack (run_of plan opening inputs script) plan.sizes plan.code (run_turns plan opening inputs script cycle) date r)
-      → ((s : System) (turns : List (Option Turn)) (h : History) (variable : ℕ) → reach s (None ∷ turns) h variable ≡ reach s turns h variable)
+      → ((s : System) (turns : ℕ → List (Option Turn)) (h : History) (processor variable : ℕ) → reach s (gone_to s.unit processor None turns) h variable ≡ reach s turns h variable)
+      → ((s : System) (turns others : ℕ → List (Option Turn)) (h : History) (variable : ℕ) → ((agent : ℕ) → turns agent ≡ others agent) → reach s turns h variable ≡ reach s others h variable)
+      → ((unit : Whole) (agent : ℕ) → processor_at unit agent ≡ 0)
       → IsDue k
-  due_by p e due most lawful over gets looks idle =
+  due_by p e due most lawful over gets looks idle same one =
       let w = inside_of k is (subst (λ q. stage_of q ≡ CycleDue q.cycles) (sym e) due) in
       let cycle = cycle_in k is most w.0 w.1 in
       record {
@@ -202,6 +211,8 @@ module _ (k : Inside) (is : KernelStands k) where
         gets = λ agent r before. gets k.plan (opening_in k) k.shared.inputs.lists k.script w.0 k.cycles agent r before cycle;
         looks = λ at agent r before. looks k.plan (opening_in k) k.shared.inputs.lists k.script w.0 at agent r before;
         idle = idle (run_in k);
+        same = same (run_in k);
+        one = one k.plan.unit;
         small = small_cycles w.0 cycle;
       }
 

@@ -33,6 +33,7 @@ mod DeedsDone
 mod GetsCycle
 mod KeptCopies
 mod Kernels
+mod LooksAlike
 mod LooksBack
 mod OneAgent
 mod OneBox

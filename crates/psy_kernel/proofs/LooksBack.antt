@@ -20,7 +20,8 @@ use Rattle.psy_history.specs.Queues.{queue_of}
 use Rattle.psy_history.specs.Regular.{AreRegular, IsLawful, IsRegular, MayAsk, Runs, begun_by}
 use Rattle.psy_history.specs.Rings.{age_at, reach_with, ring_of}
 use Rattle.psy_history.specs.Runs.{IsRun}
-use Rattle.psy_history.specs.Scheduled.{IsSupplied, turns_of}
+use Rattle.psy_history.specs.Processors.{processor_at}
+use Rattle.psy_history.specs.Scheduled.{IsSupplied, gone_to, turns_by}
 use Rattle.psy_meaning.specs.KnownWays.{Listed, Looks, Ways}
 use Rattle.psy_history.specs.Actions.{Action, Opening, System, publishing, variable_of}
 use Rattle.psy_history.specs.Executors.{agent_code_at}
@@ -29,7 +30,7 @@ use Rattle.psy_base.specs.Extremes.{IsGreatest}
 use Rattle.psy_history.specs.History.{history}
 use Rattle.psy_meaning.specs.QueueSizes.{AreQueues, HasSendsTo}
 use Rattle.psy_meaning.specs.RingSizes.{IsRingSize}
-use Rattle.psy_history.specs.Schedule.{Turn, turn_of, units}
+use Rattle.psy_history.specs.Schedule.{Turn, turn_of, units, work}
 use Rattle.psy_history.specs.Summary.{reach}
 use Rattle.psy_meaning.specs.Units.{IsBare, IsBareVariable}
 use Rattle.psy_tree.specs.declared.unit.StreamDecl.{StreamDecl}
@@ -57,14 +58,14 @@ pub record AreLooksLaws : Type 0 where
   pub values : (s : System) (date agent variable back size : ℕ) (decl : VarDecl) (r : Action) → IsLawful s → IsClock (publishing s variable) → Contains (history s (date + 1) agent) r
       → slice_get s.unit.variables variable ≡ Some decl → back < decl.depth → age_at s variable back r.start date < size
       → slice_get (ring_of s (date + 1) variable size) (age_at s variable back r.start date) ≡ past_of r.view variable back
-  pub stalls : (s : System) (turns : List (Option Turn)) (dates agent variable : ℕ) (r : Action) → IsLawful s → Contains (history s dates agent) r
-      → ((instr : ℕ) → units r.agent r.number turns ≡ cycle_of (s.stalls r.agent) r.number instr → ⊥)
-      → reach s (turn_of (Some r) ∷ turns) (history s dates) variable ≡ reach s turns (history s dates) variable
+  pub stalls : (s : System) (turns : ℕ → List (Option Turn)) (dates agent variable : ℕ) (r : Action) → IsLawful s → Contains (history s dates agent) r
+      → ((instr : ℕ) → units r.agent r.number (turns r.agent) ≡ cycle_of (s.stalls r.agent) r.number instr → ⊥)
+      → reach s (gone_to s.unit (processor_at s.unit r.agent) (turn_of (Some r)) turns) (history s dates) variable ≡ reach s turns (history s dates) variable
   pub pays : (s : System) (ways : Ways) (code : Code) → IsRun s ways code
-      → (turns : List (Option Turn)) (dates agent variable instr : ℕ) (r : Action) (state : RunState) → Contains (history s dates agent) r
+      → (turns : ℕ → List (Option Turn)) (dates agent variable instr : ℕ) (r : Action) (state : RunState) → Contains (history s dates agent) r
       → run_code code (agent_code_at code r.agent) (begun_by (agent_code_at code r.agent) r) instr ≡ Running state
-      → units r.agent r.number turns ≡ cycle_of (s.stalls r.agent) r.number instr → instr < r.budget
-      → reach s (turn_of (Some r) ∷ turns) (history s dates) variable ≡ reach_with s variable r.start (length turns / s.unit.quantum) (call_of code state.machine) (reach s turns (history s dates) variable)
+      → units r.agent r.number (turns r.agent) ≡ cycle_of (s.stalls r.agent) r.number instr → instr < r.budget
+      → reach s (gone_to s.unit (processor_at s.unit r.agent) (turn_of (Some r)) turns) (history s dates) variable ≡ reach_with s variable r.start (length (turns r.agent) / s.unit.quantum) (call_of code state.machine) (reach s turns (history s dates) variable)
   pub fronts : (s : System) (ways : Ways) (code : Code) → IsRun s ways code
       → (date stream agent : ℕ) (decl : StreamDecl) (r : Action) (before : List Action) → slice_get s.unit.streams stream ≡ Some decl → decl.receiver ≡ agent
       → history s (date + 1) agent ≡ r ∷ before → date < r.deadline
@@ -97,19 +98,19 @@ module _ (plan : Plan) (opening : Opening) (inputs : List (List ℤ)) (stalls : 
   abbrev order : ℕ → List ℕ
   order = order_of plan.unit script
 
-  abbrev turns : List (Option Turn)
-  turns = turns_of s order cycle
+  abbrev turns : ℕ → List (Option Turn)
+  turns agent = turns_by s order cycle agent
 
   pub looks : AreLooksLaws → IsSupplied s order plan.until → (agent : ℕ) (r : Action) (before : List Action) → history s (date + 1) agent ≡ r ∷ before → Runs s ways plan.code r
-      → GetsCycle s plan.code turns plan.until date cycle agent r before → LooksBack s plan.sizes plan.code turns date r
+      → GetsCycle s plan.code (turns agent) plan.until date cycle agent r before → LooksBack s plan.sizes plan.code turns date r
   looks laws supply agent r before e runs g =
-      let had : ℕ = units r.agent r.number turns in
+      let had : ℕ = units r.agent r.number (turns r.agent) in
       let in_agent : Contains (history s (date + 1) agent) r = subst (λ actions. Contains actions r) (sym e) (0, omega arith, refl) in
       let in_own : Contains (history s (date + 1) r.agent) r = subst (λ n. Contains (history s (date + 1) n) r) (sym g.agent_is) in_agent in
-      let soon = early s plan.code turns plan.until date cycle agent r before g in
+      let soon : had < work r = subst (λ a. units r.agent r.number (turns a) < work r) (sym g.agent_is) (early s plan.code (turns agent) plan.until date cycle agent r before g) in
       let paid = (charge_after s r had).paid in
       let left : paid < r.budget = (let few = paid_few (s.stalls r.agent) r.number r.budget had (omega (arith, soon)) in omega (arith, few, soon)) in
-      let at_date : length turns / plan.unit.quantum ≡ date = ap (λ n. n / plan.unit.quantum) (as_many s order cycle) ∙ tick_of_cycle s order date cycle low high in
+      let at_date : length (turns r.agent) / plan.unit.quantum ≡ date = ap (λ n. n / plan.unit.quantum) (as_many s order (processor_at s.unit r.agent) cycle) ∙ tick_of_cycle s order (processor_at s.unit r.agent) date cycle low high in
       let of_code : IsOfCode s plan.code r = record { deeds = g.of_code.deeds; after = g.of_code.after; charge = g.of_code.charge; verdict = g.of_code.verdict; ways = ways; runs = runs } in
       let of_program : agent < length plan.unit.agents = IsRegular.known (All-contains (IsRegular s agent) (history s (date + 1) agent) r (AreRegular.each (supply.lawful.actions (date + 1) agent)) in_agent) in
       let known : r.agent < length plan.unit.agents = subst (λ n. n < length plan.unit.agents) (sym g.agent_is) of_program in
@@ -129,7 +130,7 @@ module _ (plan : Plan) (opening : Opening) (inputs : List (List ℤ)) (stalls : 
           slice_get_within s.unit.variables variable may.0 may.1,
           omega (arith, near_is variable back may, small_ring plan is variable (slice_get_within s.unit.variables variable may.0 may.1)),
         ));
-        reached = λ variable. reached s plan.code r g.of_code had soon date variable (reach s turns (history s (date + 1)) variable) (reach s (turn_of (Some r) ∷ turns) (history s (date + 1)) variable)
+        reached = λ variable. reached s plan.code r g.of_code had soon date variable (reach s turns (history s (date + 1)) variable) (reach s (gone_to s.unit (processor_at s.unit r.agent) (turn_of (Some r)) turns) (history s (date + 1)) variable)
             (laws.stalls s turns (date + 1) r.agent variable r supply.lawful in_own)
             (λ instr state running at within. laws.pays s ways plan.code run turns (date + 1) r.agent variable instr r state in_own running at within
             ∙ ap (λ n. reach_with s variable r.start n (call_of plan.code state.machine) (reach s turns (history s (date + 1)) variable)) at_date);

@@ -19,6 +19,7 @@ use Rattle.psy_history.specs.Actions.{Action, Opening, System, timing}
 use Rattle.psy_history.specs.Executors.{agent_code_at}
 use Rattle.psy_history.specs.History.{history}
 use Rattle.psy_history.specs.Regular.{begun_by}
+use Rattle.psy_history.specs.Processors.{processor_at}
 use Rattle.psy_history.specs.Schedule.{Turn, is_of, is_pending, turn_of, units, work}
 use Rattle.psy_history.specs.Summary.{reach}
 use Rattle.psy_meaning.specs.Timing.{end_date, timing_of}
@@ -32,7 +33,8 @@ use Rattle.psy_kernel.specs.Acting.{AfterCycle, HasDoneBy, IsLookIn, IsOfCode}
 use Rattle.psy_kernel.specs.Cycles.{ActsIn, BoxStands, GetsCycle, IsNear, LooksBack, MayEnd, OneStands, figured}
 use Rattle.psy_kernel.specs.Seeing.{Sight, sight_in}
 use Rattle.psy_kernel.specs.Standing.{HasDone, charge_after}
-use Rattle.psy_kernel.specs.Stretches.{AfterCycles, AreReaches, HasDoneIn, MayGoOn, MayLast, given_to}
+use Rattle.psy_kernel.specs.Stretches.{AfterCycles, AreReaches, HasDoneIn, MayGoOn, MayLast, given_on, given_to}
+use Rattle.psy_kernel.proofs.GivenCycles.{own_given}
 use Rattle.psy_kernel.proofs.OneAgent.{count_few, early, goes_on, in_action, overruns, reaches, traps}
 use Rattle.psy_kernel.proofs.OneBox.{box_ended, box_going, box_spent, box_trapped}
 use Rattle.psy_kernel.proofs.OtherAgents.{is_own}
@@ -215,45 +217,60 @@ module _ (s : System) (code : Code) (turns : List (Option Turn)) (until date cyc
 
 -- ---- what is given of all of them
 
-module _ {plan : Plan} {opening : Opening} {inputs : List (List ℤ)} {stalls : ℕ → List Stall} {turns : List (Option Turn)} {date cycle agent most : ℕ} {r : Action} {before : List Action} {charge : Charged} {machine : AgentMachine} {waits : Option ℕ} {figure : Figure} {seat : Seat}
+module _ {plan : Plan} {opening : Opening} {inputs : List (List ℤ)} {stalls : ℕ → List Stall} {turns : ℕ → List (Option Turn)} {date cycle agent most : ℕ} {r : Action} {before : List Action} {charge : Charged} {machine : AgentMachine} {waits : Option ℕ} {figure : Figure} {seat : Seat}
     {ended : List ℤ} {rings : List (List ℤ)} {queues : List Queued} {taken : List ℕ} {outbox : Outboxed}
     (given : MayLast plan opening inputs stalls turns date cycle agent most r before charge machine waits figure seat ended rings queues taken outbox) where
   abbrev s : System
   s = opened_of plan opening inputs stalls
 
+  -- what those of its agent's processor went to
+  abbrev own : List (Option Turn)
+  own = turns agent
+
   abbrev begun : ℕ
-  begun = first r turns
+  begun = first r own
+
+  -- by agent, what all went to behind so many that it gets
+  abbrev passed : ℕ → ℕ → List (Option Turn)
+  passed n = given_on plan.unit (processor_at plan.unit r.agent) (turn_of (Some r)) n turns
+
+  -- those of its own agent's processor
+  own_passed : (n : ℕ) → passed n r.agent ≡ many r own n
+  own_passed n = own_given plan.unit (processor_at plan.unit r.agent) r.agent (turn_of (Some r)) turns refl n ∙ ap (λ a. many r (turns a) n) given.given.gets.agent_is
 
   pub had_less : begun < work r
-  had_less = early s plan.code turns plan.until date cycle agent r before given.given.gets
+  had_less = early s plan.code own plan.until date cycle agent r before given.given.gets
 
   -- by how many cycles the action had
   since : (u : ℕ) → begun ≤ u → begun + (u - begun) ≡ u
   since u low = omega (arith, low)
 
-  units_since : (u : ℕ) → begun ≤ u → units r.agent r.number (many r turns (u - begun)) ≡ u
-  units_since u low = units_many r turns (u - begun) ∙ since u low
+  units_since : (u : ℕ) → begun ≤ u → units r.agent r.number (many r own (u - begun)) ≡ u
+  units_since u low = units_many r own (u - begun) ∙ since u low
 
-  looks_at : (u : ℕ) → begun ≤ u → u < begun + most → u < work r → LooksBack s plan.sizes plan.code (many r turns (u - begun)) date r
-  looks_at u low high less = given.looks (u - begun) (omega (arith, low, high)) (is_on r turns (u - begun) (omega (arith, low, less)))
+  units_passed : (u : ℕ) → begun ≤ u → units r.agent r.number (passed (u - begun) r.agent) ≡ u
+  units_passed u low = ap (units r.agent r.number) (own_passed (u - begun)) ∙ units_since u low
+
+  looks_at : (u : ℕ) → begun ≤ u → u < begun + most → u < work r → LooksBack s plan.sizes plan.code (passed (u - begun)) date r
+  looks_at u low high less = given.looks (u - begun) (omega (arith, low, high)) (is_on r own (u - begun) (omega (arith, low, less)))
 
   acts_at : (u : ℕ) → begun ≤ u → u < begun + most → u < work r → (taken' : List ℕ) (after : Outboxed) → length taken' ≡ length s.unit.streams
       → after.size ≡ outbox.size → HasDone s plan.code r (charge_after s r u).paid after.sends taken' → ActsIn s plan.code r u (sight_in plan.unit rings queues agent seat.start date) taken' after
   acts_at u low high less taken' after counted size did =
-      let at = sym (units_since u low) in
-      let acts : ActsIn s plan.code r (units r.agent r.number (many r turns (u - begun))) (sight_in plan.unit rings queues r.agent r.start date) taken' after =
+      let at = sym (units_passed u low) in
+      let acts : ActsIn s plan.code r (units r.agent r.number (passed (u - begun) r.agent)) (sight_in plan.unit rings queues r.agent r.start date) taken' after =
       LooksBack.acts (looks_at u low high less) rings queues taken' after given.ringed given.queued counted (size ∙ given.sized)
       (subst (λ n. HasDone s plan.code r (charge_after s r n).paid after.sends taken') at did) in
       subst (λ n. ActsIn s plan.code r n (sight_in plan.unit rings queues agent seat.start date) taken' after) (sym at)
-      (subst (λ n. ActsIn s plan.code r (units r.agent r.number (many r turns (u - begun))) (sight_in plan.unit rings queues n seat.start date) taken' after) given.given.gets.agent_is
-      (subst (λ n. ActsIn s plan.code r (units r.agent r.number (many r turns (u - begun))) (sight_in plan.unit rings queues r.agent n date) taken' after) (sym given.given.has.seated.start) acts))
+      (subst (λ n. ActsIn s plan.code r (units r.agent r.number (passed (u - begun) r.agent)) (sight_in plan.unit rings queues n seat.start date) taken' after) given.given.gets.agent_is
+      (subst (λ n. ActsIn s plan.code r (units r.agent r.number (passed (u - begun) r.agent)) (sight_in plan.unit rings queues r.agent n date) taken' after) (sym given.given.has.seated.start) acts))
 
   near_at : (u : ℕ) → begun ≤ u → u < begun + most → u < work r → (look : Option (ℕ × ℕ)) → IsLookIn s plan.code r u look → IsNear s r.start date look
-  near_at u low high less look is = LooksBack.near (looks_at u low high less) look (subst (λ n. IsLookIn s plan.code r n look) (sym (units_since u low)) is)
+  near_at u low high less look is = LooksBack.near (looks_at u low high less) look (subst (λ n. IsLookIn s plan.code r n look) (sym (units_passed u low)) is)
 
   pub may_go_on : MayGoOn s plan.code r begun (begun + most) seat.start date machine (sight_in plan.unit rings queues agent seat.start date) taken outbox
   may_go_on =
-      let w = in_action s plan.code turns plan.until date cycle agent r before given.given.gets charge machine waits figure seat ended given.given.has in
+      let w = in_action s plan.code own plan.until date cycle agent r before given.given.gets charge machine waits figure seat ended given.given.has in
       record {
         of_code = w.of_code;
         on_way = record { within = (let less = had_less in omega (arith, less)); agent = w.agent; running = w.running; did = given.given.acts.did };
@@ -265,20 +282,20 @@ module _ {plan : Plan} {opening : Opening} {inputs : List (List ℤ)} {stalls : 
 
   -- how far back rings are reached for
   abbrev pub reaches_by : ℕ → ℕ → Option ℕ
-  reaches_by u variable = reach s (many r turns (u - begun)) (history s (date + 1)) variable
+  reaches_by u variable = reach s (passed (u - begun)) (history s (date + 1)) variable
 
   pub are_reaches : AreReaches s plan.code r begun (begun + most) date reaches_by
   are_reaches u variable look low high less is =
       let k : ℕ = u - begun in
       let next : suc u - begun ≡ suc k = omega (arith, low) in
-      ap (λ n. reach s (many r turns n) (history s (date + 1)) variable) next
-      ∙ LooksBack.reached (looks_at u low high less) variable look (subst (λ n. IsLookIn s plan.code r n look) (sym (units_since u low)) is)
+      ap (λ n. reach s (passed n) (history s (date + 1)) variable) next
+      ∙ LooksBack.reached (looks_at u low high less) variable look (subst (λ n. IsLookIn s plan.code r n look) (sym (units_passed u low)) is)
 
   pub reaches_first : (variable : ℕ) → reaches_by begun variable ≡ reach s turns (history s (date + 1)) variable
-  reaches_first variable = let none : begun - begun ≡ 0 = omega arith in ap (λ n. reach s (many r turns n) (history s (date + 1)) variable) none
+  reaches_first variable = let none : begun - begun ≡ 0 = omega arith in ap (λ n. reach s (passed n) (history s (date + 1)) variable) none
 
-  pub reaches_then : (n variable : ℕ) → reaches_by (begun + n) variable ≡ reach s (many r turns n) (history s (date + 1)) variable
-  reaches_then n variable = let so : begun + n - begun ≡ n = omega arith in ap (λ n. reach s (many r turns n) (history s (date + 1)) variable) so
+  pub reaches_then : (n variable : ℕ) → reaches_by (begun + n) variable ≡ reach s (passed n) (history s (date + 1)) variable
+  reaches_then n variable = let so : begun + n - begun ≡ n = omega arith in ap (λ n. reach s (passed n) (history s (date + 1)) variable) so
 
   -- what the eyes see at first
   pub may_see : (scene : Sight) → scene ≡ sight_in plan.unit rings queues agent seat.start date → MayGoOn s plan.code r begun (begun + most) seat.start date machine scene taken outbox
@@ -288,7 +305,7 @@ module _ {plan : Plan} {opening : Opening} {inputs : List (List ℤ)} {stalls : 
   charged_at = given.given.has.stands.charged
 
   pub count_fits : figure.count ≤ 2 ^ 50 + plan.until
-  count_fits = count_few s plan.code turns plan.until date cycle agent r before given.given.gets figure given.given.has.stands.counted given.given.has.stands.slacked
+  count_fits = count_few s plan.code own plan.until date cycle agent r before given.given.gets figure given.given.has.stands.counted given.given.has.stands.slacked
 
   -- behind them
   module _ (inside : (date < plan.until) × (cycle + most ≤ (date + 1) * plan.unit.quantum)) (n : ℕ) (count : (1 ≤ n) × (n ≤ most)) where
@@ -303,10 +320,10 @@ module _ {plan : Plan} {opening : Opening} {inputs : List (List ℤ)} {stalls : 
       After result = AfterCycles s plan.code r begun n result charge' machine'
 
       abbrev pub Has : Option ℕ → Figure → Seat → List ℤ → Type 0
-      Has waits' figure' seat' ended' = OneStands s plan.code (many r turns n) plan.until date agent (r ∷ before) charge' machine' waits' figure' seat' ended'
+      Has waits' figure' seat' ended' = OneStands s plan.code (many r own n) plan.until date agent (r ∷ before) charge' machine' waits' figure' seat' ended'
 
       pub going_has : After gone.Going → Has waits figure seat ended
-      going_has a = many_going s plan.code turns plan.until date cycle agent r before given.given.gets most inside.0 inside.1 charge machine waits figure seat ended given.given.has n count.0 count.1 charge' machine' is_of a
+      going_has a = many_going s plan.code own plan.until date cycle agent r before given.given.gets most inside.0 inside.1 charge machine waits figure seat ended given.given.has n count.0 count.1 charge' machine' is_of a
 
       -- with the figure, the seat and the copies that it has then
       module _ (figure' : Figure) (seat' : Seat) (ended' : List ℤ) (figure_is : figure' ≡ figured plan.until plan.unit.quantum seat'.deadline (cycle + n) figure) where
@@ -320,20 +337,20 @@ module _ {plan : Plan} {opening : Opening} {inputs : List (List ℤ)} {stalls : 
         pub ended_has : (point end : ℕ) → end ≡ end_date (timing s agent) seat.start point → After (gone.Ended point) → seat' ≡ record seat { phase = phase.Ended; end = end; reached = point }
             → ((variable : ℕ) (v : VarDecl) (value : ℤ) → slice_get plan.unit.variables variable ≡ Some v → v.owner ≡ Some agent → slice_get ended' variable ≡ Some value → copy_of variable machine'.machine.copies ≡ Some value)
             → Has None figure' seat' ended'
-        ended_has point end end_is a seat_is own =
+        ended_has point end end_is a seat_is copies =
             moves (record seat { phase = phase.Ended; end = end; reached = point }) ended' seat_is refl refl
-            (many_ended s plan.code turns plan.until date cycle agent r before given.given.gets most inside.0 inside.1 charge machine waits figure seat ended given.given.has n count.0 count.1 charge' machine' is_of point end ended'
-            (end_is ∙ ap (λ start. end_date (timing s agent) start point) given.given.has.seated.start) a own)
+            (many_ended s plan.code own plan.until date cycle agent r before given.given.gets most inside.0 inside.1 charge machine waits figure seat ended given.given.has n count.0 count.1 charge' machine' is_of point end ended'
+            (end_is ∙ ap (λ start. end_date (timing s agent) start point) given.given.has.seated.start) a copies)
 
         pub trapped_has : (kind : Trap) → After (gone.Trapped kind) → seat' ≡ record seat { phase = phase.Stopped; trap = Some kind } → ended' ≡ ended → Has None figure' seat' ended'
         trapped_has kind a seat_is copies =
             moves (record seat { phase = phase.Stopped; trap = Some kind }) ended seat_is refl copies
-            (many_trapped s plan.code turns plan.until date cycle agent r before given.given.gets most inside.0 inside.1 charge machine waits figure seat ended given.given.has n count.0 count.1 charge' machine' is_of kind a)
+            (many_trapped s plan.code own plan.until date cycle agent r before given.given.gets most inside.0 inside.1 charge machine waits figure seat ended given.given.has n count.0 count.1 charge' machine' is_of kind a)
 
         pub spent_has : After gone.Spent → seat' ≡ record seat { phase = phase.Stopped; trap = None } → ended' ≡ ended → Has None figure' seat' ended'
         spent_has a seat_is copies =
             moves (record seat { phase = phase.Stopped; trap = None }) ended seat_is refl copies
-            (many_spent s plan.code turns plan.until date cycle agent r before given.given.gets most inside.0 inside.1 charge machine waits figure seat ended given.given.has n count.0 count.1 charge' machine' is_of a)
+            (many_spent s plan.code own plan.until date cycle agent r before given.given.gets most inside.0 inside.1 charge machine waits figure seat ended given.given.has n count.0 count.1 charge' machine' is_of a)
 
       -- where it reached a point
       pub end_may : (point : ℕ) → After (gone.Ended point) → (nexts : List (List ℕ)) × MayEnd (timing_of plan.unit (agent_at plan.unit agent) nexts) seat.start point
@@ -342,24 +359,24 @@ module _ {plan : Plan} {opening : Opening} {inputs : List (List ℤ)} {stalls : 
       pub copies_may : (point : ℕ) → After (gone.Ended point) → (variable : ℕ) (v : VarDecl) → slice_get plan.unit.variables variable ≡ Some v → v.owner ≡ Some agent → IsSome (copy_of variable machine'.machine.copies)
       copies_may point a variable v at owned = a.gone.4 variable v at (owned ∙ ap Some (sym given.given.gets.agent_is))
 
-      pub boxed_then : (result : Gone) → After result → (sends : List Sent) (taken' : List ℕ) → HasDoneIn s plan.code r begun n sends taken' result → BoxStands s plan.code (many r turns n) date agent (r ∷ before) sends taken'
+      pub boxed_then : (result : Gone) → After result → (sends : List Sent) (taken' : List ℕ) → HasDoneIn s plan.code r begun n sends taken' result → BoxStands s plan.code (many r own n) date agent (r ∷ before) sends taken'
       boxed_then result a sends taken' did =
-          many_boxed s plan.code turns plan.until date cycle agent r before given.given.gets most inside.0 inside.1 charge machine waits figure seat ended given.given.has n count.0 count.1 charge' machine' is_of sends taken' result a did
+          many_boxed s plan.code own plan.until date cycle agent r before given.given.gets most inside.0 inside.1 charge machine waits figure seat ended given.given.has n count.0 count.1 charge' machine' is_of sends taken' result a did
 
-      pub pending_then : (result : Gone) → After result → (k : ℕ) → k < n → is_pending (many r turns k) r ≡ true
-      pending_then result a = many_pending s plan.code turns plan.until date cycle agent r before given.given.gets most inside.0 inside.1 charge machine waits figure seat ended given.given.has n count.0 count.1 charge' machine' is_of result a
+      pub pending_then : (result : Gone) → After result → (k : ℕ) → k < n → is_pending (many r own k) r ≡ true
+      pending_then result a = many_pending s plan.code own plan.until date cycle agent r before given.given.gets most inside.0 inside.1 charge machine waits figure seat ended given.given.has n count.0 count.1 charge' machine' is_of result a
 
-      pub on_then : After gone.Going → is_pending (many r turns n) r ≡ true
-      on_then a = many_on s plan.code turns plan.until date cycle agent r before given.given.gets most inside.0 inside.1 charge machine waits figure seat ended given.given.has n count.0 count.1 charge' machine' is_of a
+      pub on_then : After gone.Going → is_pending (many r own n) r ≡ true
+      on_then a = many_on s plan.code own plan.until date cycle agent r before given.given.gets most inside.0 inside.1 charge machine waits figure seat ended given.given.has n count.0 count.1 charge' machine' is_of a
 
-      pub off_then : (result : Gone) → (result ≡ gone.Going → ⊥) → After result → is_pending (many r turns n) r ≡ false
+      pub off_then : (result : Gone) → (result ≡ gone.Going → ⊥) → After result → is_pending (many r own n) r ≡ false
       off_then gone.Going other a = absurd (other refl)
-      off_then (gone.Ended point) other a = is_over r turns n (let h = a.gone.0 in omega (arith, h, count.0))
-      off_then (gone.Trapped kind) other a = is_over r turns n (let h = a.gone.0 in omega (arith, h, count.0))
-      off_then gone.Spent other a = is_over r turns n (let h = a.gone.0 in omega (arith, h, count.0))
+      off_then (gone.Ended point) other a = is_over r own n (let h = a.gone.0 in omega (arith, h, count.0))
+      off_then (gone.Trapped kind) other a = is_over r own n (let h = a.gone.0 in omega (arith, h, count.0))
+      off_then gone.Spent other a = is_over r own n (let h = a.gone.0 in omega (arith, h, count.0))
 
     -- the rings are reached for
     pub reached_then : (reaches' reaches'' : List (Option ℕ)) → ((reach : ℕ → ℕ → Option ℕ) → AreReaches s plan.code r begun (begun + most) date reach → (variable : ℕ) → slice_get reaches' variable ≡ Some (reach begun variable)
         → slice_get reaches'' variable ≡ Some (reach (begun + n) variable))
-        → (variable : ℕ) → slice_get reaches' variable ≡ Some (reach s turns (history s (date + 1)) variable) → slice_get reaches'' variable ≡ Some (reach s (many r turns n) (history s (date + 1)) variable)
+        → (variable : ℕ) → slice_get reaches' variable ≡ Some (reach s turns (history s (date + 1)) variable) → slice_get reaches'' variable ≡ Some (reach s (passed n) (history s (date + 1)) variable)
     reached_then reaches' reaches'' law variable at = law reaches_by are_reaches variable (at ∙ ap Some (sym (reaches_first variable))) ∙ ap Some (reaches_then n variable)

@@ -1,6 +1,6 @@
 -- What all agents have and share, before some cycles and behind them.
 use Rattle.std.proofs.Common.{◌≡◌, ◌≢◌, refl, sym, ap, ◌∙◌, subst, inl, inr, arith}
-use Rattle.std.specs.Prelude.{ℕ, zero, suc, ◌-◌, ◌<◌, ◌≤◌, Bool, true, false, List, [], ◌∷◌, length, Option, Some, None, slice_get, slice_set, ℤ}
+use Rattle.std.specs.Prelude.{ℕ, zero, suc, ◌-◌, ◌<◌, ◌≤◌, Bool, true, false, List, [], ◌∷◌, get_or, length, Option, Some, None, slice_get, slice_set, ℤ}
 use Rattle.std.specs.List.{All}
 use Rattle.std.proofs.lemmas.Bool.{cases_eq, cases_lt}
 use Rattle.std.proofs.lemmas.List.{get_or_past, length-set}
@@ -21,6 +21,7 @@ use Rattle.psy_history.specs.Actions.{Action, System, is_done, is_silent, stream
 use Rattle.psy_tree.specs.Parts.{no_stream}
 use Rattle.psy_base.specs.declared.sizes.Sizes.{Sizes}
 use Rattle.psy_history.specs.History.{history}
+use Rattle.psy_history.specs.Processors.{processor_at}
 use Rattle.psy_history.specs.Schedule.{Turn, is_pending, pending, soonest}
 use Rattle.psy_ready.specs.Choice.{IsPick, pending_deadline}
 use Rattle.psy_tree.specs.declared.unit.StreamDecl.{StreamDecl}
@@ -28,16 +29,16 @@ use Rattle.psy_tree.specs.declared.unit.VarDecl.{VarDecl}
 use Rattle.psy_kernel.specs.Cycles.{AreOver, BoxStands, OneStands}
 use Rattle.psy_kernel.specs.declared.kernel.Figure.{Figure}
 use Rattle.psy_kernel.specs.Standing.{AgentStands, DeedsStand, IsChosen, deadline_of}
-use Rattle.psy_kernel.specs.Stretches.{given_to}
-use Rattle.psy_kernel.proofs.GivenCycles.{missed_all}
+use Rattle.psy_kernel.specs.Stretches.{given_on, given_to}
+use Rattle.psy_kernel.proofs.GivenCycles.{missed_on, own_given}
 use Rattle.psy_kernel.proofs.MoversGiven.{IsTold, movers_given}
 use Rattle.psy_kernel.proofs.OneAgent.{variable_known}
 use Rattle.psy_kernel.proofs.OtherAgents.{AreSameFor, agent_kept, copy_kept, deeds_kept, deeds_untaken, other_agent, seat_kept, sends_kept, takes_kept}
 use Rattle.psy_kernel.proofs.PickIsSoonest.{Front, IsSoonest, front_of, soonest_by_pick, soonest_of_nobody}
 use Rattle.psy_dates.proofs.lemmas.Sets.{get_set_other, get_set_same}
 
--- It stands for the history of so many dates, where the cycles done went to these turns
-pub record PartsStand (s : System) (sizes : Sizes) (code : Code) (until : ℕ) (turns : List (Option Turn)) (dates : ℕ) (shared : Shared) (machines : List AgentMachine) (charges : List Charged) (ready : List (Option ℕ)) (figures : List Figure) : Type 0 where
+-- It stands for the history of so many dates, where by agent the cycles of its processor went to these turns
+pub record PartsStand (s : System) (sizes : Sizes) (code : Code) (until : ℕ) (turns : ℕ → List (Option Turn)) (dates : ℕ) (shared : Shared) (machines : List AgentMachine) (charges : List Charged) (ready : List (Option ℕ)) (figures : List Figure) : Type 0 where
   pub shares : SharedStands s sizes turns dates shared
   pub machined : length machines ≡ length s.unit.agents
   pub charged : length charges ≡ length s.unit.agents
@@ -45,8 +46,8 @@ pub record PartsStand (s : System) (sizes : Sizes) (code : Code) (until : ℕ) (
   pub figured : length figures ≡ length s.unit.agents
   pub agents : (agent : ℕ) (machine : AgentMachine) (charge : Charged) (waits : Option ℕ) (figure : Figure)
       → slice_get machines agent ≡ Some machine → slice_get charges agent ≡ Some charge → slice_get ready agent ≡ Some waits → slice_get figures agent ≡ Some figure
-      → AgentStands s code turns until agent (history s dates agent) charge machine waits figure
-  pub doing : (agent : ℕ) (outbox : Outboxed) → slice_get shared.outboxes.items agent ≡ Some outbox → DeedsStand s code turns (history s dates agent) outbox.sends shared.taken.items
+      → AgentStands s code (turns agent) until agent (history s dates agent) charge machine waits figure
+  pub doing : (agent : ℕ) (outbox : Outboxed) → slice_get shared.outboxes.items agent ≡ Some outbox → DeedsStand s code (turns agent) (history s dates agent) outbox.sends shared.taken.items
 
 found : {X : Type 0} (xs : List X) (place : ℕ) → place < length xs → (x : X) × (slice_get xs place ≡ Some x)
 found [] place less = absurd (omega (arith, less))
@@ -67,43 +68,49 @@ last_seated : (quiet : Bool) (before date : ℕ) (turns : List (Option Turn)) (r
 last_seated false before date turns r earlier seat h = h
 last_seated true before date turns r earlier seat h = h
 
-shared_same : (s : System) (sizes : Sizes) (turns now : List (Option Turn)) (dates : ℕ) (shared : Shared) → ((agent : ℕ) → All (AreSameFor turns now) (history s dates agent)) → SharedStands s sizes turns dates shared → SharedStands s sizes now dates shared
+shared_same : (s : System) (sizes : Sizes) (turns now : ℕ → List (Option Turn)) (dates : ℕ) (shared : Shared) → ((agent : ℕ) → All (AreSameFor (turns agent) (now agent)) (history s dates agent)) → SharedStands s sizes turns dates shared → SharedStands s sizes now dates shared
 shared_same s sizes turns now dates shared same h = record {
   date = h.date;
   seated = h.seated;
-  seats = λ agent seat at. seated_kept (s.opening.silent agent) s.opening.dates turns now (dates - 1) (history s dates agent) seat (same agent) (h.seats agent seat at);
+  seats = λ agent seat at. seated_kept (s.opening.silent agent) s.opening.dates (turns agent) (now agent) (dates - 1) (history s dates agent) seat (same agent) (h.seats agent seat at);
   valued = h.valued;
   committed = h.committed;
   kept = h.kept;
-  ended = λ variable owner value at owned. copy_kept turns now (dates - 1) variable (history s dates owner) value (same owner) (h.ended variable owner value at owned);
+  ended = λ variable owner value at owned. copy_kept (turns owner) (now owner) (dates - 1) variable (history s dates owner) value (same owner) (h.ended variable owner value at owned);
   ringed = h.ringed;
   rings = h.rings;
   queued = h.queued;
   queues = h.queues;
   boxed = h.boxed;
-  outboxes = λ agent outbox at. (let its = h.outboxes agent outbox at in record { size = its.size; sends = sends_kept turns now (dates - 1) (history s dates agent) outbox.sends (same agent) its.sends });
+  outboxes = λ agent outbox at. (let its = h.outboxes agent outbox at in record { size = its.size; sends = sends_kept (turns agent) (now agent) (dates - 1) (history s dates agent) outbox.sends (same agent) its.sends });
   taking = h.taking;
-  taken = λ stream n at. takes_kept turns now (dates - 1) stream (history s dates (stream_of s stream).receiver) n (same (stream_of s stream).receiver) (h.taken stream n at);
+  taken = λ stream n at. takes_kept (turns (stream_of s stream).receiver) (now (stream_of s stream).receiver) (dates - 1) stream (history s dates (stream_of s stream).receiver) n (same (stream_of s stream).receiver) (h.taken stream n at);
   calendar = h.calendar;
   movers = h.movers;
 }
 
-module _ (s : System) (sizes : Sizes) (code : Code) (until : ℕ) (turns : List (Option Turn)) (dates : ℕ) (shared : Shared) (machines : List AgentMachine) (charges : List Charged) (ready : List (Option ℕ)) (figures : List Figure) (p : PartsStand s sizes code until turns dates shared machines charges ready figures) where
-  -- cycles that nobody gets
-  pub idle : (n : ℕ) → PartsStand s sizes code until (given_to None n turns) dates shared machines charges ready figures
-  idle n =
-      let same : (agent : ℕ) → All (AreSameFor turns (given_to None n turns)) (history s dates agent) = λ agent k d less. missed_all None turns _ refl n in
-      record {
-        shares = shared_same s sizes turns (given_to None n turns) dates shared same p.shares;
-        machined = p.machined;
-        charged = p.charged;
-        waiting = p.waiting;
-        figured = p.figured;
-        agents = λ agent machine charge waits figure m c w f. agent_kept turns (given_to None n turns) s code until agent (history s dates agent) charge machine waits figure (same agent) (p.agents agent machine charge waits figure m c w f);
-        doing = λ agent outbox at. deeds_kept turns (given_to None n turns) s code (history s dates agent) outbox.sends shared.taken.items (same agent) (p.doing agent outbox at);
-      }
+module _ (s : System) (sizes : Sizes) (code : Code) (until : ℕ) (turns : ℕ → List (Option Turn)) (dates : ℕ) (shared : Shared) (machines : List AgentMachine) (charges : List Charged) (ready : List (Option ℕ)) (figures : List Figure) (p : PartsStand s sizes code until turns dates shared machines charges ready figures) where
+  -- turns that give each action as many cycles, and the last one as late
+  parts_same : (now : ℕ → List (Option Turn)) → ((agent : ℕ) → All (AreSameFor (turns agent) (now agent)) (history s dates agent)) → PartsStand s sizes code until now dates shared machines charges ready figures
+  parts_same now same = record {
+    shares = shared_same s sizes turns now dates shared same p.shares;
+    machined = p.machined;
+    charged = p.charged;
+    waiting = p.waiting;
+    figured = p.figured;
+    agents = λ agent machine charge waits figure m c w f. agent_kept (turns agent) (now agent) s code until agent (history s dates agent) charge machine waits figure (same agent) (p.agents agent machine charge waits figure m c w f);
+    doing = λ agent outbox at. deeds_kept (turns agent) (now agent) s code (history s dates agent) outbox.sends shared.taken.items (same agent) (p.doing agent outbox at);
+  }
 
-  module _ (lawful : IsLawful s) (over : (agent : ℕ) → AreOver turns (history s dates agent)) where
+  -- the same turns, by agent
+  pub alike : (now : ℕ → List (Option Turn)) → ((agent : ℕ) → turns agent ≡ now agent) → PartsStand s sizes code until now dates shared machines charges ready figures
+  alike now same = parts_same now (λ agent k d less. subst (λ ts. AreSameFor (turns agent) ts (get_or (history s dates agent) k d)) (same agent) (record { units = refl; finish = refl }))
+
+  -- cycles that nobody gets
+  pub idle : (processor n : ℕ) → PartsStand s sizes code until (given_on s.unit processor None n turns) dates shared machines charges ready figures
+  idle processor n = parts_same (given_on s.unit processor None n turns) (λ agent k d less. missed_on s.unit processor agent None turns (get_or (history s dates agent) k d) refl n)
+
+  module _ (lawful : IsLawful s) (over : (agent : ℕ) → AreOver (turns agent) (history s dates agent)) where
     -- an agent that the program doesn't have has no actions
     past : (agent : ℕ) → length s.unit.agents ≤ agent → history s dates agent ≡ []
     past agent h = by (history s dates agent) (AreRegular.each (lawful.actions dates agent))
@@ -112,22 +119,27 @@ module _ (s : System) (sizes : Sizes) (code : Code) (until : ℕ) (turns : List 
         by [] all = refl
         by (r ∷ before) all = absurd (omega (arith, h, IsRegular.known (All-head (IsRegular s agent) r before all)))
 
-    waits_is : (agent : ℕ) → pending_deadline ready agent ≡ deadline_of turns (history s dates agent)
+    waits_is : (agent : ℕ) → pending_deadline ready agent ≡ deadline_of (turns agent) (history s dates agent)
     waits_is agent = elim (cases_lt agent (length s.unit.agents)) [
       | inl less ↦
           (let m = found machines agent (omega (arith, less, p.machined)) in let c = found charges agent (omega (arith, less, p.charged)) in let w = found ready agent (omega (arith, less, p.waiting)) in let f = found figures agent (omega (arith, less, p.figured)) in
           get_or_from_slice_get ready agent w.0 None w.1 ∙ AgentStands.ready (p.agents agent m.0 c.0 w.0 f.0 m.1 c.1 w.1 f.1))
-      | inr more ↦ get_or_past ready agent None (omega (arith, more, p.waiting)) ∙ sym (ap (deadline_of turns) (past agent more))
+      | inr more ↦ get_or_past ready agent None (omega (arith, more, p.waiting)) ∙ sym (ap (deadline_of (turns agent)) (past agent more))
     ]
 
-    pub fronts : (agent : ℕ) → Front turns (history s dates agent) (pending_deadline ready agent)
-    fronts agent = subst (Front turns (history s dates agent)) (sym (waits_is agent)) (front_of turns (history s dates agent) (over agent))
+    fronts_by : (agent : ℕ) → Front (turns agent) (history s dates agent) (pending_deadline ready agent)
+    fronts_by agent = subst (Front (turns agent) (history s dates agent)) (sym (waits_is agent)) (front_of (turns agent) (history s dates agent) (over agent))
 
-    pub nobody_soonest : (order : List ℕ) → IsChosen ready order None → soonest (pending order turns (history s dates)) ≡ None
-    nobody_soonest order none = soonest_of_nobody turns (history s dates) ready fronts order none
+    -- where all agents are of one processor
+    module _ (all : List (Option Turn)) (one : (agent : ℕ) → turns agent ≡ all) where
+      pub fronts : (agent : ℕ) → Front all (history s dates agent) (pending_deadline ready agent)
+      fronts agent = subst (λ ts. Front ts (history s dates agent) (pending_deadline ready agent)) (one agent) (fronts_by agent)
 
-    pub pick_soonest : (order : List ℕ) (agent : ℕ) (pick : IsPick ready order agent) → IsSoonest turns (history s dates) (pending_deadline ready) fronts order agent pick.deadline
-    pick_soonest order agent pick = soonest_by_pick turns (history s dates) ready fronts order agent pick
+      pub nobody_soonest : (order : List ℕ) → IsChosen ready order None → soonest (pending order all (history s dates)) ≡ None
+      nobody_soonest order none = soonest_of_nobody all (history s dates) ready fronts order none
+
+      pub pick_soonest : (order : List ℕ) (agent : ℕ) (pick : IsPick ready order agent) → IsSoonest all (history s dates) (pending_deadline ready) fronts order agent pick.deadline
+      pick_soonest order agent pick = soonest_by_pick all (history s dates) ready fronts order agent pick
 
     pub pick_known : (order : List ℕ) (agent : ℕ) → IsPick ready order agent → agent < length s.unit.agents
     pick_known order agent pick = elim (cases_lt agent (length s.unit.agents)) [
@@ -138,19 +150,23 @@ module _ (s : System) (sizes : Sizes) (code : Code) (until : ℕ) (turns : List 
   -- what an agent has, with its seat and kept copies
   pub one_of : (date agent : ℕ) (r : Action) (before : List Action) → dates - 1 ≡ date → history s dates agent ≡ r ∷ before
       → (machine : AgentMachine) (charge : Charged) (waits : Option ℕ) (figure : Figure) (seat : Seat) → slice_get machines agent ≡ Some machine → slice_get charges agent ≡ Some charge → slice_get ready agent ≡ Some waits → slice_get figures agent ≡ Some figure → slice_get shared.seats.items agent ≡ Some seat
-      → OneStands s code turns until date agent (r ∷ before) charge machine waits figure seat shared.ended.items
+      → OneStands s code (turns agent) until date agent (r ∷ before) charge machine waits figure seat shared.ended.items
   one_of date agent r before last is machine charge waits figure seat m c w f x = record {
-    stands = subst (λ actions. AgentStands s code turns until agent actions charge machine waits figure) is (p.agents agent machine charge waits figure m c w f);
-    seated = seated_last (s.opening.silent agent) s.opening.dates date turns r before seat
-        (subst (λ actions. IsSeated (s.opening.silent agent) s.opening.dates date turns actions seat) is
-        (subst (λ d. IsSeated (s.opening.silent agent) s.opening.dates d turns (history s dates agent) seat) last (p.shares.seats agent seat x)));
-    kept = λ variable value at owned. subst (λ actions. KeepsCopy date turns variable actions value) is (subst (λ d. KeepsCopy d turns variable (history s dates agent) value) last (p.shares.ended variable agent value at owned));
+    stands = subst (λ actions. AgentStands s code (turns agent) until agent actions charge machine waits figure) is (p.agents agent machine charge waits figure m c w f);
+    seated = seated_last (s.opening.silent agent) s.opening.dates date (turns agent) r before seat
+        (subst (λ actions. IsSeated (s.opening.silent agent) s.opening.dates date (turns agent) actions seat) is
+        (subst (λ d. IsSeated (s.opening.silent agent) s.opening.dates d (turns agent) (history s dates agent) seat) last (p.shares.seats agent seat x)));
+    kept = λ variable value at owned. subst (λ actions. KeepsCopy date (turns agent) variable actions value) is (subst (λ d. KeepsCopy d (turns agent) variable (history s dates agent) value) last (p.shares.ended variable agent value at owned));
   }
 
   -- cycles that an agent's last action gets, so many in a row
   module _ (lawful : IsLawful s) (date agent : ℕ) (r : Action) (before : List Action) (last : dates - 1 ≡ date) (is : history s dates agent ≡ r ∷ before) (n : ℕ) where
-    abbrev now : List (Option Turn)
-    now = given_to (Some (record { agent = r.agent; number = r.number })) n turns
+    -- what its cycles leave: to its own agent they all go to it
+    abbrev now : ℕ → List (Option Turn)
+    now = given_on s.unit (processor_at s.unit r.agent) (Some (record { agent = r.agent; number = r.number })) n turns
+
+    abbrev mine : List (Option Turn)
+    mine = given_to (Some (record { agent = r.agent; number = r.number })) n (turns agent)
 
     of_agent : (other : ℕ) (actions : List Action) → All (IsRegular s other) actions → All (λ (q : Action). q.agent ≡ other) actions
     of_agent other actions all = All-weaker (IsRegular s other) (λ (q : Action). q.agent ≡ other) (λ q h. h.agent_is) actions all
@@ -158,65 +174,74 @@ module _ (s : System) (sizes : Sizes) (code : Code) (until : ℕ) (turns : List 
     r_agent : r.agent ≡ agent
     r_agent = All-head (λ (q : Action). q.agent ≡ agent) r before (subst (All (λ (q : Action). q.agent ≡ agent)) is (of_agent agent (history s dates agent) (AreRegular.each (lawful.actions dates agent))))
 
-    pub others_same : (other : ℕ) → (other ≡ agent → ⊥) → All (AreSameFor turns now) (history s dates other)
+    own_now : now agent ≡ mine
+    own_now = own_given s.unit (processor_at s.unit r.agent) agent (Some (record { agent = r.agent; number = r.number })) turns (ap (processor_at s.unit) (sym r_agent)) n
+
+    pub others_same : (other : ℕ) → (other ≡ agent → ⊥) → All (AreSameFor (turns other) (now other)) (history s dates other)
     others_same other differs =
-        All-weaker (λ (q : Action). q.agent ≡ other) (AreSameFor turns now)
-        (λ q e. missed_all (Some (record { agent = r.agent; number = r.number })) turns q (other_agent q.agent q.number (record { agent = r.agent; number = r.number }) (λ same. differs (sym e ∙ sym same ∙ r_agent))) n)
+        All-weaker (λ (q : Action). q.agent ≡ other) (AreSameFor (turns other) (now other))
+        (λ q e. missed_on s.unit (processor_at s.unit r.agent) other (Some (record { agent = r.agent; number = r.number })) turns q (other_agent q.agent q.number (record { agent = r.agent; number = r.number }) (λ same. differs (sym e ∙ sym same ∙ r_agent))) n)
         (history s dates other) (of_agent other (history s dates other) (AreRegular.each (lawful.actions dates other)))
 
-    module _ (machine : AgentMachine) (charge : Charged) (waits : Option ℕ) (figure : Figure) (seat : Seat) (ended : List ℤ) (one : OneStands s code now until date agent (r ∷ before) charge machine waits figure seat ended)
+    module _ (machine : AgentMachine) (charge : Charged) (waits : Option ℕ) (figure : Figure) (seat : Seat) (ended : List ℤ) (one_is : OneStands s code mine until date agent (r ∷ before) charge machine waits figure seat ended)
         (all : length ended ≡ length shared.ended.items) (others : (variable : ℕ) (v : VarDecl) → slice_get s.unit.variables variable ≡ Some v → v.owner ≢ Some agent → slice_get ended variable ≡ slice_get shared.ended.items variable)
-        (outbox : Outboxed) (taken : List ℕ) (box : BoxStands s code now date agent (r ∷ before) outbox.sends taken) (size : (old : Outboxed) → slice_get shared.outboxes.items agent ≡ Some old → outbox.size ≡ old.size)
+        (outbox : Outboxed) (taken : List ℕ) (box_is : BoxStands s code mine date agent (r ∷ before) outbox.sends taken) (size : (old : Outboxed) → slice_get shared.outboxes.items agent ≡ Some old → outbox.size ≡ old.size)
         (count : length taken ≡ length shared.taken.items) (untaken : (stream : ℕ) (decl : StreamDecl) → slice_get s.unit.streams stream ≡ Some decl → decl.receiver ≢ agent → slice_get taken stream ≡ slice_get shared.taken.items stream) where
+      one : OneStands s code (now agent) until date agent (r ∷ before) charge machine waits figure seat ended
+      one = subst (λ ts. OneStands s code ts until date agent (r ∷ before) charge machine waits figure seat ended) (sym own_now) one_is
+
+      box : BoxStands s code (now agent) date agent (r ∷ before) outbox.sends taken
+      box = subst (λ ts. BoxStands s code ts date agent (r ∷ before) outbox.sends taken) (sym own_now) box_is
+
       -- what was taken of a stream that another agent receives
       same_taken : (stream n : ℕ) → slice_get taken stream ≡ Some n → ((stream_of s stream).receiver ≡ agent → ⊥) → slice_get shared.taken.items stream ≡ Some n
       same_taken stream n at differs =
           let known : stream < length s.unit.streams = omega (arith, slice_get_within taken stream n at, count, p.shares.taking) in
           sym (untaken stream (stream_of s stream) (slice_get-get_or s.unit.streams stream no_stream known) differs) ∙ at
 
-      taken_given : (stream n : ℕ) → slice_get taken stream ≡ Some n → KeepsTakes (dates - 1) now stream (history s dates (stream_of s stream).receiver) n
+      taken_given : (stream n : ℕ) → slice_get taken stream ≡ Some n → KeepsTakes (dates - 1) (now (stream_of s stream).receiver) stream (history s dates (stream_of s stream).receiver) n
       taken_given stream n at = elim (cases_eq (stream_of s stream).receiver agent) [
         | inl same ↦
-            subst (λ a. KeepsTakes (dates - 1) now stream (history s dates a) n) (sym same) (subst (λ actions. KeepsTakes (dates - 1) now stream actions n) (sym is) (subst (λ d. KeepsTakes d now stream (r ∷ before) n) (sym last) (box.took stream n at same)))
+            subst (λ a. KeepsTakes (dates - 1) (now a) stream (history s dates a) n) (sym same) (subst (λ actions. KeepsTakes (dates - 1) (now agent) stream actions n) (sym is) (subst (λ d. KeepsTakes d (now agent) stream (r ∷ before) n) (sym last) (box.took stream n at same)))
         | inr differs ↦
-            takes_kept turns now (dates - 1) stream (history s dates (stream_of s stream).receiver) n (others_same (stream_of s stream).receiver differs) (p.shares.taken stream n (same_taken stream n at differs))
+            takes_kept (turns (stream_of s stream).receiver) (now (stream_of s stream).receiver) (dates - 1) stream (history s dates (stream_of s stream).receiver) n (others_same (stream_of s stream).receiver differs) (p.shares.taken stream n (same_taken stream n at differs))
       ]
 
-      outboxes_given : (other : ℕ) (x : Outboxed) → slice_get (slice_set shared.outboxes.items agent outbox) other ≡ Some x → OutboxStands sizes (dates - 1) now other (history s dates other) x
+      outboxes_given : (other : ℕ) (x : Outboxed) → slice_get (slice_set shared.outboxes.items agent outbox) other ≡ Some x → OutboxStands sizes (dates - 1) (now other) other (history s dates other) x
       outboxes_given other x at = elim (cases_eq other agent) [
         | inl same ↦
             (let here : slice_get (slice_set shared.outboxes.items agent outbox) agent ≡ Some x = sym (ap (slice_get (slice_set shared.outboxes.items agent outbox)) same) ∙ at in
             let x_is : x ≡ outbox = get_set_same shared.outboxes.items agent outbox x here in
             let old = found shared.outboxes.items agent (omega (arith, slice_get_within (slice_set shared.outboxes.items agent outbox) agent x here, length-set shared.outboxes.items agent outbox)) in
-            subst (λ a. OutboxStands sizes (dates - 1) now a (history s dates a) x) (sym same) (subst (OutboxStands sizes (dates - 1) now agent (history s dates agent)) (sym x_is) (record {
+            subst (λ a. OutboxStands sizes (dates - 1) (now a) a (history s dates a) x) (sym same) (subst (OutboxStands sizes (dates - 1) (now agent) agent (history s dates agent)) (sym x_is) (record {
               size = size old.0 old.1 ∙ (p.shares.outboxes agent old.0 old.1).size;
-              sends = subst (λ actions. KeepsSends (dates - 1) now actions outbox.sends) (sym is) (subst (λ d. KeepsSends d now (r ∷ before) outbox.sends) (sym last) box.sent);
+              sends = subst (λ actions. KeepsSends (dates - 1) (now agent) actions outbox.sends) (sym is) (subst (λ d. KeepsSends d (now agent) (r ∷ before) outbox.sends) (sym last) box.sent);
             })))
         | inr differs ↦
             (let its = p.shares.outboxes other x (sym (get_set_other shared.outboxes.items agent other outbox differs) ∙ at) in
-            record { size = its.size; sends = sends_kept turns now (dates - 1) (history s dates other) x.sends (others_same other differs) its.sends })
+            record { size = its.size; sends = sends_kept (turns other) (now other) (dates - 1) (history s dates other) x.sends (others_same other differs) its.sends })
       ]
 
-      doing_given : (other : ℕ) (x : Outboxed) → slice_get (slice_set shared.outboxes.items agent outbox) other ≡ Some x → DeedsStand s code now (history s dates other) x.sends taken
+      doing_given : (other : ℕ) (x : Outboxed) → slice_get (slice_set shared.outboxes.items agent outbox) other ≡ Some x → DeedsStand s code (now other) (history s dates other) x.sends taken
       doing_given other x at = elim (cases_eq other agent) [
         | inl same ↦
             (let x_is : x ≡ outbox = get_set_same shared.outboxes.items agent outbox x (sym (ap (slice_get (slice_set shared.outboxes.items agent outbox)) same) ∙ at) in
-            subst (λ a. DeedsStand s code now (history s dates a) x.sends taken) (sym same) (subst (λ actions. DeedsStand s code now actions x.sends taken) (sym is) (subst (λ (o : Outboxed). DeedsStand s code now (r ∷ before) o.sends taken) (sym x_is) box.doing)))
+            subst (λ a. DeedsStand s code (now a) (history s dates a) x.sends taken) (sym same) (subst (λ actions. DeedsStand s code (now agent) actions x.sends taken) (sym is) (subst (λ (o : Outboxed). DeedsStand s code (now agent) (r ∷ before) o.sends taken) (sym x_is) box.doing)))
         | inr differs ↦
-            deeds_untaken s code now other (history s dates other) x.sends shared.taken.items taken (of_agent other (history s dates other) (AreRegular.each (lawful.actions dates other)))
+            deeds_untaken s code (now other) other (history s dates other) x.sends shared.taken.items taken (of_agent other (history s dates other) (AreRegular.each (lawful.actions dates other)))
             (λ stream n here own. same_taken stream n here (λ e. differs (sym own ∙ e)))
-            (deeds_kept turns now s code (history s dates other) x.sends shared.taken.items (others_same other differs) (p.doing other x (sym (get_set_other shared.outboxes.items agent other outbox differs) ∙ at)))
+            (deeds_kept (turns other) (now other) s code (history s dates other) x.sends shared.taken.items (others_same other differs) (p.doing other x (sym (get_set_other shared.outboxes.items agent other outbox differs) ∙ at)))
       ]
 
-      seats_given : (other : ℕ) (x : Seat) → slice_get (slice_set shared.seats.items agent seat) other ≡ Some x → IsSeated (s.opening.silent other) s.opening.dates (dates - 1) now (history s dates other) x
+      seats_given : (other : ℕ) (x : Seat) → slice_get (slice_set shared.seats.items agent seat) other ≡ Some x → IsSeated (s.opening.silent other) s.opening.dates (dates - 1) (now other) (history s dates other) x
       seats_given other x at = elim (cases_eq other agent) [
         | inl same ↦
             (let x_is : x ≡ seat = get_set_same shared.seats.items agent seat x (sym (ap (slice_get (slice_set shared.seats.items agent seat)) same) ∙ at) in
-            let own : IsSeated (s.opening.silent agent) s.opening.dates date now (r ∷ before) x = last_seated (s.opening.silent agent) s.opening.dates date now r before x (subst (SeatStands date now (r ∷ before)) (sym x_is) one.seated) in
-            subst (λ a. IsSeated (s.opening.silent a) s.opening.dates (dates - 1) now (history s dates a) x) (sym same)
-            (subst (λ actions. IsSeated (s.opening.silent agent) s.opening.dates (dates - 1) now actions x) (sym is)
-            (subst (λ d. IsSeated (s.opening.silent agent) s.opening.dates d now (r ∷ before) x) (sym last) own)))
-        | inr differs ↦ seated_kept (s.opening.silent other) s.opening.dates turns now (dates - 1) (history s dates other) x (others_same other differs) (p.shares.seats other x (sym (get_set_other shared.seats.items agent other seat differs) ∙ at))
+            let own : IsSeated (s.opening.silent agent) s.opening.dates date (now agent) (r ∷ before) x = last_seated (s.opening.silent agent) s.opening.dates date (now agent) r before x (subst (SeatStands date (now agent) (r ∷ before)) (sym x_is) one.seated) in
+            subst (λ a. IsSeated (s.opening.silent a) s.opening.dates (dates - 1) (now a) (history s dates a) x) (sym same)
+            (subst (λ actions. IsSeated (s.opening.silent agent) s.opening.dates (dates - 1) (now agent) actions x) (sym is)
+            (subst (λ d. IsSeated (s.opening.silent agent) s.opening.dates d (now agent) (r ∷ before) x) (sym last) own)))
+        | inr differs ↦ seated_kept (s.opening.silent other) s.opening.dates (turns other) (now other) (dates - 1) (history s dates other) x (others_same other differs) (p.shares.seats other x (sym (get_set_other shared.seats.items agent other seat differs) ∙ at))
       ]
 
       -- who moves, where the seat was told
@@ -224,19 +249,19 @@ module _ (s : System) (sizes : Sizes) (code : Code) (until : ℕ) (turns : List 
       movers_told after told =
           let known : agent < length s.unit.agents = IsRegular.known (All-head (IsRegular s agent) r before (subst (All (IsRegular s agent)) is (AreRegular.each (lawful.actions dates agent)))) in
           let old = found shared.seats.items agent (omega (arith, known, p.shares.seated)) in
-          let was : SeatStands date turns (r ∷ before) old.0 = seated_last (s.opening.silent agent) s.opening.dates date turns r before old.0
-          (subst (λ actions. IsSeated (s.opening.silent agent) s.opening.dates date turns actions old.0) is (subst (λ d. IsSeated (s.opening.silent agent) s.opening.dates d turns (history s dates agent) old.0) last (p.shares.seats agent old.0 old.1))) in
-          movers_given s dates shared.seats.items agent old.0 seat shared.movers after old.1 (λ waits. never_waits (is_silent date (r ∷ [])) (is_pending now r) (is_done r.verdict) (sym one.seated.phase ∙ waits))
-          (λ rests. was.phase ∙ silent_by (is_silent date (r ∷ [])) (is_pending turns r) (is_done r.verdict) (silent_from (is_silent date (r ∷ [])) (is_pending now r) (is_done r.verdict) (sym one.seated.phase ∙ rests)))
+          let was : SeatStands date (turns agent) (r ∷ before) old.0 = seated_last (s.opening.silent agent) s.opening.dates date (turns agent) r before old.0
+          (subst (λ actions. IsSeated (s.opening.silent agent) s.opening.dates date (turns agent) actions old.0) is (subst (λ d. IsSeated (s.opening.silent agent) s.opening.dates d (turns agent) (history s dates agent) old.0) last (p.shares.seats agent old.0 old.1))) in
+          movers_given s dates shared.seats.items agent old.0 seat shared.movers after old.1 (λ waits. never_waits (is_silent date (r ∷ [])) (is_pending (now agent) r) (is_done r.verdict) (sym one.seated.phase ∙ waits))
+          (λ rests. was.phase ∙ silent_by (is_silent date (r ∷ [])) (is_pending (turns agent) r) (is_done r.verdict) (silent_from (is_silent date (r ∷ [])) (is_pending (now agent) r) (is_done r.verdict) (sym one.seated.phase ∙ rests)))
           (one.seated.deadline ∙ sym was.deadline) told p.shares.movers
 
-      ended_given : (variable owner : ℕ) (value : ℤ) → slice_get ended variable ≡ Some value → (variable_of s variable).owner ≡ Some owner → KeepsCopy (dates - 1) now variable (history s dates owner) value
+      ended_given : (variable owner : ℕ) (value : ℤ) → slice_get ended variable ≡ Some value → (variable_of s variable).owner ≡ Some owner → KeepsCopy (dates - 1) (now owner) variable (history s dates owner) value
       ended_given variable owner value at owned = elim (cases_eq owner agent) [
         | inl same ↦
-            subst (λ a. KeepsCopy (dates - 1) now variable (history s dates a) value) (sym same) (subst (λ actions. KeepsCopy (dates - 1) now variable actions value) (sym is) (subst (λ d. KeepsCopy d now variable (r ∷ before) value) (sym last)
+            subst (λ a. KeepsCopy (dates - 1) (now a) variable (history s dates a) value) (sym same) (subst (λ actions. KeepsCopy (dates - 1) (now agent) variable actions value) (sym is) (subst (λ d. KeepsCopy d (now agent) variable (r ∷ before) value) (sym last)
             (one.kept variable value at (owned ∙ ap (λ n. Some n) same))))
         | inr differs ↦
-            copy_kept turns now (dates - 1) variable (history s dates owner) value (others_same owner differs)
+            copy_kept (turns owner) (now owner) (dates - 1) variable (history s dates owner) value (others_same owner differs)
             (p.shares.ended variable owner value (sym (others variable (variable_of s variable) (variable_known s variable owner owned) (λ e. differs (let e' : Some owner ≡ Some agent = sym owned ∙ e in let same : owner ≡ agent = cc in same))) ∙ at) owned)
       ]
 
@@ -265,18 +290,18 @@ module _ (s : System) (sizes : Sizes) (code : Code) (until : ℕ) (turns : List 
       -- the agent's own, and those of another agent
       pub agents_given : (ready' : List (Option ℕ)) → ((w : Option ℕ) → slice_get ready' agent ≡ Some w → w ≡ waits) → ((other : ℕ) → (other ≡ agent → ⊥) → slice_get ready' other ≡ slice_get ready other)
           → (other : ℕ) (m : AgentMachine) (c : Charged) (w : Option ℕ) (f : Figure) → slice_get (slice_set machines agent machine) other ≡ Some m → slice_get (slice_set charges agent charge) other ≡ Some c → slice_get ready' other ≡ Some w → slice_get (slice_set figures agent figure) other ≡ Some f
-          → AgentStands s code now until other (history s dates other) c m w f
+          → AgentStands s code (now other) until other (history s dates other) c m w f
       agents_given ready' own rest other m c w f at_m at_c at_w at_f = elim (cases_eq other agent) [
         | inl same ↦
             (let m_is : m ≡ machine = get_set_same machines agent machine m (sym (ap (slice_get (slice_set machines agent machine)) same) ∙ at_m) in
             let c_is : c ≡ charge = get_set_same charges agent charge c (sym (ap (slice_get (slice_set charges agent charge)) same) ∙ at_c) in
             let f_is : f ≡ figure = get_set_same figures agent figure f (sym (ap (slice_get (slice_set figures agent figure)) same) ∙ at_f) in
             let w_is : w ≡ waits = own w (sym (ap (slice_get ready') same) ∙ at_w) in
-            subst (λ a. AgentStands s code now until a (history s dates a) c m w f) (sym same) (subst (λ actions. AgentStands s code now until agent actions c m w f) (sym is)
-            (subst (λ z. AgentStands s code now until agent (r ∷ before) z m w f) (sym c_is) (subst (λ z. AgentStands s code now until agent (r ∷ before) charge z w f) (sym m_is)
-            (subst (λ z. AgentStands s code now until agent (r ∷ before) charge machine z f) (sym w_is) (subst (λ z. AgentStands s code now until agent (r ∷ before) charge machine waits z) (sym f_is) one.stands))))))
+            subst (λ a. AgentStands s code (now a) until a (history s dates a) c m w f) (sym same) (subst (λ actions. AgentStands s code (now agent) until agent actions c m w f) (sym is)
+            (subst (λ z. AgentStands s code (now agent) until agent (r ∷ before) z m w f) (sym c_is) (subst (λ z. AgentStands s code (now agent) until agent (r ∷ before) charge z w f) (sym m_is)
+            (subst (λ z. AgentStands s code (now agent) until agent (r ∷ before) charge machine z f) (sym w_is) (subst (λ z. AgentStands s code (now agent) until agent (r ∷ before) charge machine waits z) (sym f_is) one.stands))))))
         | inr differs ↦
-            agent_kept turns now s code until other (history s dates other) c m w f (others_same other differs)
+            agent_kept (turns other) (now other) s code until other (history s dates other) c m w f (others_same other differs)
             (p.agents other m c w f (sym (get_set_other machines agent other machine differs) ∙ at_m) (sym (get_set_other charges agent other charge differs) ∙ at_c) (sym (rest other differs) ∙ at_w) (sym (get_set_other figures agent other figure differs) ∙ at_f))
       ]
 
@@ -289,5 +314,5 @@ module _ (s : System) (sizes : Sizes) (code : Code) (until : ℕ) (turns : List 
         waiting = as_many ∙ p.waiting;
         figured = length-set figures agent figure ∙ p.figured;
         agents = agents_given ready' own rest;
-        doing = λ other x at. subst (λ ns. DeedsStand s code now (history s dates other) x.sends ns) (sym taken_is) (doing_given other x (sym (ap (λ xs. slice_get xs other) outboxes_are) ∙ at));
+        doing = λ other x at. subst (λ ns. DeedsStand s code (now other) (history s dates other) x.sends ns) (sym taken_is) (doing_given other x (sym (ap (λ xs. slice_get xs other) outboxes_are) ∙ at));
       }

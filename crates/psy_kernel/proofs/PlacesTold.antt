@@ -20,15 +20,15 @@ use Rattle.psy_kernel.proofs.Publications.{value_told}
 use Rattle.psy_kernel.proofs.Stops.{seat_told}
 use Rattle.psy_kernel.proofs.ToldPlaces.{told_more, told_stop, told_value}
 
-module _ (s : System) (sizes : Sizes) (turns : List (Option Turn)) (date : ℕ) (shared : Shared) (stands : SharedStands s sizes turns (date + 1) shared) (place : ℕ) (result : Bool) (old new : List ℕ) where
+module _ (s : System) (sizes : Sizes) (turns : ℕ → List (Option Turn)) (date : ℕ) (shared : Shared) (stands : SharedStands s sizes turns (date + 1) shared) (place : ℕ) (result : Bool) (old new : List ℕ) where
   last : date + 1 - 1 ≡ date
   last = omega arith
 
-  loud_told : (seat : Seat) (name : List ℕ) → AreRegular s (date + 1) place (history s (date + 1) place) → place < length s.unit.agents → SeatStands date turns (history s (date + 1) place) seat
+  loud_told : (seat : Seat) (name : List ℕ) → AreRegular s (date + 1) place (history s (date + 1) place) → place < length s.unit.agents → SeatStands date (turns place) (history s (date + 1) place) seat
       → name ≡ (agent_at s.unit place).name → TellsStop seat name date result old new → IsToldBy s date (told_by s date place) result old new
   loud_told seat name regular within seated named told =
       let tells : TellsStop seat (agent_at s.unit place).name date result old new = subst (λ n. TellsStop seat n date result old new) named told in
-      subst (λ es. IsToldBy s date es result old new) (sym (told_stop s date place within)) (seat_told s date (date + 1) place turns seat old new result (history s (date + 1) place) seated regular tells)
+      subst (λ es. IsToldBy s date es result old new) (sym (told_stop s date place within)) (seat_told s date (date + 1) place (turns place) seat old new result (history s (date + 1) place) seated regular tells)
 
   -- A silent agent without actions fell silent at a date that was done before, and tells nothing.
   quiet_told : s.opening.dates ≤ date → (seat : Seat) (name : List ℕ) → IsQuiet s.opening.dates seat → (result : Bool) → TellsStop seat name date result old new → IsToldBy s date [] result old new
@@ -39,14 +39,14 @@ module _ (s : System) (sizes : Sizes) (turns : List (Option Turn)) (date : ℕ) 
       → slice_get shared.seats.items place ≡ Some seat → name ≡ (agent_at s.unit place).name → TellsStop seat name date result old new → IsToldBy s date (told_by s date place) result old new
   agent_told later none seat name regular within at named told = by (s.opening.silent place) refl
     where
-      seated : IsSeated (s.opening.silent place) s.opening.dates date turns (history s (date + 1) place) seat
-      seated = subst (λ d. IsSeated (s.opening.silent place) s.opening.dates d turns (history s (date + 1) place) seat) last (stands.seats place seat at)
+      seated : IsSeated (s.opening.silent place) s.opening.dates date (turns place) (history s (date + 1) place) seat
+      seated = subst (λ d. IsSeated (s.opening.silent place) s.opening.dates d (turns place) (history s (date + 1) place) seat) last (stands.seats place seat at)
 
       by : (quiet : Bool) → s.opening.silent place ≡ quiet → IsToldBy s date (told_by s date place) result old new
       by true quiet =
-          let rests : IsQuiet s.opening.dates seat = subst (λ rs. IsSeated true s.opening.dates date turns rs seat) (none quiet) (subst (λ q. IsSeated q s.opening.dates date turns (history s (date + 1) place) seat) quiet seated) in
+          let rests : IsQuiet s.opening.dates seat = subst (λ rs. IsSeated true s.opening.dates date (turns place) rs seat) (none quiet) (subst (λ q. IsSeated q s.opening.dates date (turns place) (history s (date + 1) place) seat) quiet seated) in
           subst (λ es. IsToldBy s date es result old new) (sym (told_stop s date place within ∙ ap (stops_of date) (none quiet))) (quiet_told later seat name rests result told)
-      by false loud = loud_told seat name regular within (subst (λ q. IsSeated q s.opening.dates date turns (history s (date + 1) place) seat) loud seated) named told
+      by false loud = loud_told seat name regular within (subst (λ q. IsSeated q s.opening.dates date (turns place) (history s (date + 1) place) seat) loud seated) named told
 
   pub variable_told : s.opening.dates ≤ date → (v : VarDecl) (clock : Clock) (value : ℤ) → length s.unit.agents ≤ place → v ≡ variable_of s (place - length s.unit.agents) → clock ≡ publishing s (place - length s.unit.agents)
       → slice_get shared.committed.items (place - length s.unit.agents) ≡ Some value → TellsValue v clock value date result old new → IsToldBy s date (told_by s date place) result old new

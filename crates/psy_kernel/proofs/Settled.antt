@@ -2,13 +2,13 @@
 use Rattle.std.proofs.Common.{◌≡◌, ℕ, suc, ◌+◌, ◌*◌, ◌<◌, ◌≤◌, Bool, true, false, if◌then◌else◌, nat_le, ◌==◌, List, [], ◌∷◌, All, Option, Some, None, refl, ap, subst, arith}
 use Rattle.std.specs.List.{Contains}
 use Rattle.std.proofs.lemmas.Bool.{eqb-true, leb-true}
-use Rattle.std.proofs.lemmas.List.Elements.{All-cons, All-head, All-tail, All-weaker, All-contains_itself}
+use Rattle.std.proofs.lemmas.List.Elements.{All-cons, All-contains, All-contains_itself, All-head, All-tail, All-weaker}
 use Rattle.psy_history.specs.Actions.{Action, History, Next, System, next_of}
 use Rattle.psy_history.specs.History.{action_of, history, with_start}
 use Rattle.psy_history.specs.Schedule.{Turn, is_pending}
 use Rattle.psy_history.specs.Summary.{due_by}
 use Rattle.psy_history.specs.Regular.{IsLawful, IsRegular}
-use Rattle.psy_history.specs.Scheduled.{IsFinished, turns_of}
+use Rattle.psy_history.specs.Scheduled.{IsFinished, turns_by}
 use Rattle.psy_kernel.specs.Standing.{settled}
 
 -- An action that is due by a date is finished.
@@ -43,12 +43,14 @@ started_settled s h turns date agent actions (Some n) each all = by (n.start == 
 -- All that is due by a date is finished when the cycles before it are done.
 pub date_settled : (s : System) (order : ℕ → List ℕ) (until agent : ℕ) → IsLawful s
     → ((r : Action) → Contains (history s until agent) r → r.deadline ≤ until → IsFinished s order (until * s.unit.quantum) r)
-    → All (IsSettled (turns_of s order (until * s.unit.quantum)) until) (history s (until + 1) agent)
+    → All (IsSettled (turns_by s order (until * s.unit.quantum) agent) until) (history s (until + 1) agent)
 date_settled s order until agent lawful finished =
-    let turns = turns_of s order (until * s.unit.quantum) in
+    let turns = turns_by s order (until * s.unit.quantum) agent in
     let is : suc until ≡ until + 1 = omega arith in
     let before : All (IsSettled turns until) (history s until agent) =
-    All-weaker (Contains (history s until agent)) (IsSettled turns until) finished (history s until agent) (All-contains_itself (history s until agent)) in
+    All-weaker (Contains (history s until agent)) (IsSettled turns until)
+    (λ r c due. subst (λ a. is_pending (turns_by s order (until * s.unit.quantum) a) r ≡ false) (IsRegular.agent_is (All-contains (IsRegular s agent) (history s until agent) r (lawful.actions until agent).each c)) (finished r c due))
+    (history s until agent) (All-contains_itself (history s until agent)) in
     let each : All (IsRegular s agent) (history s (suc until) agent) = (lawful.actions (suc until) agent).each in
     subst (λ n. All (IsSettled turns until) (history s n agent)) is
     (started_settled s (history s until) turns until agent (history s until agent) (next_of s agent (history s until agent)) each before)

@@ -24,7 +24,7 @@ use Rattle.psy_kernel.proofs.ToldStreams.{end_of, message_more, stream_over}
 abbrev pub of_date : ℕ → List Message → List Message
 of_date date = filter (λ (m : Message). m.visible == date)
 
-module _ (s : System) (sizes : Sizes) (turns : List (Option Turn)) (date : ℕ) (shared : Shared) (stands : SharedStands s sizes turns (date + 1) shared) (stream : ℕ)
+module _ (s : System) (sizes : Sizes) (turns : ℕ → List (Option Turn)) (date : ℕ) (shared : Shared) (stands : SharedStands s sizes turns (date + 1) shared) (stream : ℕ)
     (shows : of_date date (messages s (history s (date + 1)) stream) ≡ of_date date (queue_of s (date + 1) stream)) where
   abbrev event_of : Message → Event
   event_of m = Show stream m.value

@@ -12,7 +12,7 @@ use Rattle.psy_history.specs.History.{history}
 use Rattle.psy_history.specs.Schedule.{Turn}
 use Rattle.psy_history.specs.Summary.{due_by, due_count, least_slack, most_held, reach}
 use Rattle.psy_history.specs.Regular.{IsLawful}
-use Rattle.psy_history.specs.Scheduled.{IsFinished, IsSupplied, turns_of}
+use Rattle.psy_history.specs.Scheduled.{IsFinished, IsSupplied, turns_by}
 use Rattle.psy_dates.specs.Standing.{dates_done}
 use Rattle.psy_kernel.specs.declared.kernel.Figure.{Figure}
 use Rattle.psy_kernel.specs.declared.kernel.Kernel.TheInside.{Inside}
@@ -49,8 +49,8 @@ module _ (k : Inside) (w : KernelStands k) (over : stage_of (progress_of k) ≡ 
   abbrev until : ℕ
   until = k.plan.until
 
-  abbrev turns : List (Option Turn)
-  turns = turns_of s (order (progress_of k)) (until * s.unit.quantum)
+  abbrev turns : ℕ → List (Option Turn)
+  turns agent = turns_by s (order (progress_of k)) (until * s.unit.quantum) agent
 
   done : dates_done k.shared.date ≡ until + 1
   done = over_dates (progress_of k) over
@@ -66,7 +66,7 @@ module _ (k : Inside) (w : KernelStands k) (over : stage_of (progress_of k) ≡ 
   reach_told : (variable : ℕ) → variable < length s.unit.variables → get_or k.reaches.items variable None ≡ reach s turns (history s (until + 1)) variable
   reach_told variable l =
       w.reached variable (get_or k.reaches.items variable None) (slice_get-get_or k.reaches.items variable None (omega (arith, l, w.reaching)))
-      ∙ ap (λ c. reach s (turns_of s (order (progress_of k)) c) (history s (dates_done k.shared.date)) variable) all_cycles
+      ∙ ap (λ c. reach s (turns_by s (order (progress_of k)) c) (history s (dates_done k.shared.date)) variable) all_cycles
       ∙ ap (λ n. reach s turns (history s n) variable) done
 
   variable_told : (variable : ℕ) → variable < length s.unit.variables → reach_line k.plan k.reaches.items variable ≡ variable_end s turns k.plan.sizes until variable
@@ -89,9 +89,9 @@ module _ (k : Inside) (w : KernelStands k) (over : stage_of (progress_of k) ≡ 
     abbrev actions : ℕ → List Action
     actions agent = history s (until + 1) agent
 
-    all_settled : (agent : ℕ) → settled turns until (actions agent) ≡ due_by until (actions agent)
+    all_settled : (agent : ℕ) → settled (turns agent) until (actions agent) ≡ due_by until (actions agent)
     all_settled agent =
-        settled_all turns until (actions agent) (date_settled s (order (progress_of k)) until agent lawful (λ r. due agent r (supplied (progress_of k) w.plan w.script lawful)))
+        settled_all (turns agent) until (actions agent) (date_settled s (order (progress_of k)) until agent lawful (λ r. due agent r (supplied (progress_of k) w.plan w.script lawful)))
 
     figure_told : (agent : ℕ) (figure : Figure) → agent < length s.unit.agents → slice_get k.figures.items agent ≡ Some figure
         → agent_line (agent_at s.unit agent).name figure.count figure.slack ≡ agent_end s turns until agent
@@ -100,15 +100,15 @@ module _ (k : Inside) (w : KernelStands k) (over : stage_of (progress_of k) ≡ 
         let charge = some_at k.charges.items agent (omega (arith, l, w.charges)) in
         let waits = some_at k.ready agent (omega (arith, l, w.waiting)) in
         let stands = w.agents agent machine.0 charge.0 waits.0 figure machine.1 charge.1 waits.1 at in
-        let count : figure.count ≡ due_count s agent (settled turns until (actions agent)) =
-        stands.counted ∙ ap (λ c. due_count s agent (settled (turns_of s (order (progress_of k)) c) until (history s (dates_done k.shared.date) agent))) all_cycles
-        ∙ ap (λ n. due_count s agent (settled turns until (history s n agent))) done in
-        let least : figure.slack ≡ least_slack s turns agent (settled turns until (actions agent)) =
-        stands.slacked ∙ ap (λ c. least_slack s (turns_of s (order (progress_of k)) c) agent (settled (turns_of s (order (progress_of k)) c) until (history s (dates_done k.shared.date) agent))) all_cycles
-        ∙ ap (λ n. least_slack s turns agent (settled turns until (history s n agent))) done in
+        let count : figure.count ≡ due_count s agent (settled (turns agent) until (actions agent)) =
+        stands.counted ∙ ap (λ c. due_count s agent (settled (turns_by s (order (progress_of k)) c agent) until (history s (dates_done k.shared.date) agent))) all_cycles
+        ∙ ap (λ n. due_count s agent (settled (turns agent) until (history s n agent))) done in
+        let least : figure.slack ≡ least_slack s (turns agent) agent (settled (turns agent) until (actions agent)) =
+        stands.slacked ∙ ap (λ c. least_slack s (turns_by s (order (progress_of k)) c agent) agent (settled (turns_by s (order (progress_of k)) c agent) until (history s (dates_done k.shared.date) agent))) all_cycles
+        ∙ ap (λ n. least_slack s (turns agent) agent (settled (turns agent) until (history s n agent))) done in
         let name = (agent_at s.unit agent).name in
         ap (λ n. agent_line name n figure.slack) (count ∙ ap (due_count s agent) (all_settled agent))
-        ∙ ap (agent_line name (due_count s agent (due_by until (actions agent)))) (least ∙ ap (least_slack s turns agent) (all_settled agent))
+        ∙ ap (agent_line name (due_count s agent (due_by until (actions agent)))) (least ∙ ap (least_slack s (turns agent) agent) (all_settled agent))
 
     agent_told : (agent : ℕ) → agent < length s.unit.agents → figure_line k.plan.unit k.figures.items agent ≡ agent_end s turns until agent
     agent_told agent l =

@@ -17,7 +17,8 @@ use Rattle.psy_dates.specs.Plans.{IsPlan, IsSoundFor, opened_of}
 use Rattle.psy_dates.specs.Standing.{KeepsCopy, KeepsSends, KeepsTakes, QueueStands, RingStands, SeatStands}
 use Rattle.psy_history.specs.Compiled.{AreInputs}
 use Rattle.psy_history.specs.Rings.{age_at}
-use Rattle.psy_history.specs.Scheduled.{turns_of}
+use Rattle.psy_history.specs.Processors.{processor_at}
+use Rattle.psy_history.specs.Scheduled.{gone_to, turns_by}
 use Rattle.psy_machine.specs.Stepping.{AgentMachine}
 use Rattle.psy_history.specs.Actions.{Action, Opening, System, Done, stream_of, timing, variable_of}
 use Rattle.psy_base.specs.Extremes.{greater, lesser}
@@ -118,17 +119,17 @@ abbrev pub AreQueuesOf : System → Sizes → ℕ → List Queued → Type 0
 AreQueuesOf s sizes dates queues = (length queues ≡ length s.unit.streams)
     × ((stream : ℕ) (queue : Queued) → slice_get queues stream ≡ Some queue → QueueStands s sizes dates stream queue)
 
--- What the action that gets the next cycle sees by rings, queues and an outbox of these sizes, once it has sent and taken so much, and how
--- far back it looks with that cycle, behind the last of so many dates
-pub record LooksBack (s : System) (sizes : Sizes) (code : Code) (turns : List (Option Turn)) (date : ℕ) (r : Action) : Type 0 where
+-- What the action that gets the next cycle of its processor sees by rings, queues and an outbox of these sizes, once it has sent and taken so
+-- much, and how far back it looks with that cycle, behind the last of so many dates; by agent, the cycles done went to these turns
+pub record LooksBack (s : System) (sizes : Sizes) (code : Code) (turns : ℕ → List (Option Turn)) (date : ℕ) (r : Action) : Type 0 where
   pub acts : (rings : List (List ℤ)) (queues : List Queued) (taken : List ℕ) (outbox : Outboxed) → AreRingsOf s sizes (date + 1) rings
       → AreQueuesOf s sizes (date + 1) queues
       → length taken ≡ length s.unit.streams → outbox.size ≡ get_or sizes.outboxes r.agent 0
-      → HasDone s code r (charge_after s r (units r.agent r.number turns)).paid outbox.sends taken
-      → ActsIn s code r (units r.agent r.number turns) (sight_in s.unit rings queues r.agent r.start date) taken outbox
-  pub near : (look : Option (ℕ × ℕ)) → IsLookIn s code r (units r.agent r.number turns) look → IsNear s r.start date look
-  pub reached : (variable : ℕ) (look : Option (ℕ × ℕ)) → IsLookIn s code r (units r.agent r.number turns) look
-      → reach s (turn_of (Some r) ∷ turns) (history s (date + 1)) variable
+      → HasDone s code r (charge_after s r (units r.agent r.number (turns r.agent))).paid outbox.sends taken
+      → ActsIn s code r (units r.agent r.number (turns r.agent)) (sight_in s.unit rings queues r.agent r.start date) taken outbox
+  pub near : (look : Option (ℕ × ℕ)) → IsLookIn s code r (units r.agent r.number (turns r.agent)) look → IsNear s r.start date look
+  pub reached : (variable : ℕ) (look : Option (ℕ × ℕ)) → IsLookIn s code r (units r.agent r.number (turns r.agent)) look
+      → reach s (gone_to s.unit (processor_at s.unit r.agent) (turn_of (Some r)) turns) (history s (date + 1)) variable
       ≡ reach_by s variable r.start date look (reach s turns (history s (date + 1)) variable)
 
 -- The actions before an agent's last one are finished or stopped.
@@ -151,6 +152,6 @@ pub record IsCycleOf (plan : Plan) (opening : Opening) (inputs : List (List ℤ)
 abbrev pub run_of : Plan → Opening → List (List ℤ) → Script → System
 run_of plan opening inputs script = opened_of plan opening inputs (stalls_of script)
 
--- What its first so many cycles went to
-abbrev pub run_turns : Plan → Opening → List (List ℤ) → Script → ℕ → List (Option Turn)
-run_turns plan opening inputs script cycles = turns_of (run_of plan opening inputs script) (order_of plan.unit script) cycles
+-- By agent, what the first so many cycles of its processor went to
+abbrev pub run_turns : Plan → Opening → List (List ℤ) → Script → ℕ → ℕ → List (Option Turn)
+run_turns plan opening inputs script cycles agent = turns_by (run_of plan opening inputs script) (order_of plan.unit script) cycles agent

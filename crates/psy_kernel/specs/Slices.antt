@@ -4,18 +4,18 @@ use Rattle.std.specs.List.{Contains}
 use Rattle.psy_history.specs.Actions.{Action}
 use Rattle.psy_history.specs.History.{history}
 use Rattle.psy_history.specs.Schedule.{Turn, is_pending}
-use Rattle.psy_history.specs.Scheduled.{turns_of}
+use Rattle.psy_history.specs.Scheduled.{turns_by}
 use Rattle.psy_history.specs.declared.told.Order.{Order}
 use Rattle.psy_kernel.specs.Progress.{Progress, after_cycle, order, system}
 
--- What the first so many cycles of a run go to, the last one first
-abbrev pub turns_by : Progress → ℕ → List (Option Turn)
-turns_by p cycles = turns_of (system p) (order p) cycles
+-- By agent, what the first so many cycles of its processor go to in a run, the last one first
+abbrev pub turns_at : Progress → ℕ → ℕ → List (Option Turn)
+turns_at p cycles agent = turns_by (system p) (order p) cycles agent
 
 -- With the last of so many cycles an action finishes or is stopped: before that cycle it was pending, and behind it it isn't.
 abbrev pub IsOverBy : Progress → ℕ → Type 0
-IsOverBy p cycles = (agent : ℕ) × (r : Action) × Contains (history (system p) p.dates agent) r × (is_pending (turns_by p (cycles - 1)) r ≡ true)
-    × (is_pending (turns_by p cycles) r ≡ false)
+IsOverBy p cycles = (agent : ℕ) × (r : Action) × Contains (history (system p) p.dates agent) r
+    × (is_pending (turns_at p (cycles - 1) agent) r ≡ true) × (is_pending (turns_at p cycles agent) r ≡ false)
 
 -- With the cycle behind so many an order comes into force.
 abbrev pub IsOrderedAt : Progress → ℕ → Type 0

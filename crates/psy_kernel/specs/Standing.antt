@@ -16,7 +16,7 @@ use Rattle.psy_history.specs.Schedule.{Turn, is_pending, units}
 use Rattle.psy_history.specs.Summary.{due_by, due_count, least_slack, most_held, reach}
 use Rattle.psy_history.specs.Compiled.{AreInputs}
 use Rattle.psy_history.specs.Regular.{begun_by}
-use Rattle.psy_history.specs.Scheduled.{turns_of}
+use Rattle.psy_history.specs.Scheduled.{turns_by}
 use Rattle.psy_dates.specs.Outboxes.{Outboxed}
 use Rattle.psy_dates.specs.Plans.{IsPlan, IsSoundFor}
 use Rattle.psy_dates.specs.Standing.{SharedStands, dates_done}
@@ -163,25 +163,25 @@ pub record KernelStands (k : Inside) : Type 0 where
   pub sound : IsSoundFor k.plan (beginning (progress_of k)) k.shared.inputs.lists (stalls_of k.script)
   pub behind : (beginning (progress_of k)).dates ≤ dates_done k.shared.date
   pub in_tick : InTick k.plan.unit.quantum k.plan.until (dates_done k.shared.date) k.cycles
-  pub shared : SharedStands (system (progress_of k)) k.plan.sizes (turns_of (system (progress_of k)) (order (progress_of k)) k.cycles)
+  pub shared : SharedStands (system (progress_of k)) k.plan.sizes (turns_by (system (progress_of k)) (order (progress_of k)) k.cycles)
       (dates_done k.shared.date) k.shared
   pub machined : length k.machines.items ≡ length k.plan.unit.agents
   pub charges : length k.charges.items ≡ length k.plan.unit.agents
   pub reaching : length k.reaches.items ≡ length k.plan.unit.variables
   pub reached : (variable : ℕ) (n : Option ℕ) → slice_get k.reaches.items variable ≡ Some n
-      → n ≡ reach (system (progress_of k)) (turns_of (system (progress_of k)) (order (progress_of k)) k.cycles)
+      → n ≡ reach (system (progress_of k)) (turns_by (system (progress_of k)) (order (progress_of k)) k.cycles)
       (history (system (progress_of k)) (dates_done k.shared.date)) variable
   pub holding : length k.helds.items ≡ length k.plan.unit.streams
   pub held : (stream n : ℕ) → slice_get k.helds.items stream ≡ Some n → n ≡ most_held_in (system (progress_of k)) (dates_done k.shared.date) stream
   pub doing : (agent : ℕ) (outbox : Outboxed) → slice_get k.shared.outboxes.items agent ≡ Some outbox
-      → DeedsStand (system (progress_of k)) k.plan.code (turns_of (system (progress_of k)) (order (progress_of k)) k.cycles)
+      → DeedsStand (system (progress_of k)) k.plan.code (turns_by (system (progress_of k)) (order (progress_of k)) k.cycles agent)
       (history (system (progress_of k)) (dates_done k.shared.date) agent) outbox.sends k.shared.taken.items
   pub waiting : length k.ready ≡ length k.plan.unit.agents
   pub figured : length k.figures.items ≡ length k.plan.unit.agents
   pub agents : (agent : ℕ) (machine : AgentMachine) (charge : Charged) (waits : Option ℕ) (figure : Figure)
       → slice_get k.machines.items agent ≡ Some machine → slice_get k.charges.items agent ≡ Some charge → slice_get k.ready agent ≡ Some waits
       → slice_get k.figures.items agent ≡ Some figure
-      → AgentStands (system (progress_of k)) k.plan.code (turns_of (system (progress_of k)) (order (progress_of k)) k.cycles) k.plan.until agent
+      → AgentStands (system (progress_of k)) k.plan.code (turns_by (system (progress_of k)) (order (progress_of k)) k.cycles agent) k.plan.until agent
       (history (system (progress_of k)) (dates_done k.shared.date) agent) charge machine waits figure
   pub all : k.declared.items ≡ range_with_len 0 (length k.plan.unit.agents)
   pub orders : AreInForce k.script.orders k.passed k.cycles

@@ -10,11 +10,14 @@ use Rattle.psy_dates.specs.declared.seat.Seat.{Seat}
 use Rattle.psy_dates.specs.Outboxes.{Outboxed}
 use Rattle.psy_dates.specs.Plans.{opened_of}
 use Rattle.psy_history.specs.Actions.{Action, Opening, System}
+use Rattle.psy_history.specs.Processors.{processor_at}
 use Rattle.psy_history.specs.Schedule.{Turn, is_pending, turn_of, work}
+use Rattle.psy_history.specs.Scheduled.{gone_to}
 use Rattle.psy_machine.specs.declared.machine.Step.{Step}
 use Rattle.psy_machine.specs.declared.machine.Step.TheVariants as step
 use Rattle.psy_machine.specs.Stepping.{AgentMachine}
 use Rattle.psy_queue.specs.Order.{Queued}
+use Rattle.psy_tree.specs.declared.unit.Unit.{Unit as Whole}
 use Rattle.psy_kernel.specs.declared.kernel.Figure.{Figure}
 use Rattle.psy_kernel.specs.declared.kernel.advance.Gone.{Gone}
 use Rattle.psy_kernel.specs.declared.kernel.advance.Gone.TheVariants as gone
@@ -29,6 +32,11 @@ use Rattle.psy_kernel.specs.Standing.{HasDone, IsRunning, charge_after}
 abbrev pub given_to : Option Turn → ℕ → List (Option Turn) → List (Option Turn)
 given_to turn zero turns = turns
 given_to turn (suc n) turns = turn ∷ given_to turn n turns
+
+-- By agent, what the cycles of its processor went to, where these many more of this processor in a row go to one turn
+abbrev pub given_on : Whole → ℕ → Option Turn → ℕ → (ℕ → List (Option Turn)) → ℕ → List (Option Turn)
+given_on unit processor turn zero turns = turns
+given_on unit processor turn (suc n) turns = gone_to unit processor turn (given_on unit processor turn n turns)
 
 -- One cycle or more of an action that had so many leave what the last of them leaves.
 abbrev pub AfterCycles : System → Code → Action → ℕ → ℕ → Gone → Charged → AgentMachine → Type 0
@@ -82,14 +90,15 @@ gone_by charge (step.Trapped kind) = gone.Trapped kind
 -- ---- in a run of a plan
 
 -- What the agent has whose action gets the next cycle, and what the action sees with it and with each of the next so many that it gets
-pub record MayLast (plan : Plan) (opening : Opening) (inputs : List (List ℤ)) (stalls : ℕ → List Stall) (turns : List (Option Turn))
+pub record MayLast (plan : Plan) (opening : Opening) (inputs : List (List ℤ)) (stalls : ℕ → List Stall) (turns : ℕ → List (Option Turn))
     (date cycle agent most : ℕ) (r : Action) (before : List Action) (charge : Charged) (machine : AgentMachine) (waits : Option ℕ) (figure : Figure)
     (seat : Seat) (ended : List ℤ) (rings : List (List ℤ)) (queues : List Queued) (taken : List ℕ) (outbox : Outboxed) : Type 0 where
-  pub given : IsGiven plan opening inputs stalls turns date cycle agent r before charge machine waits figure seat ended
+  pub given : IsGiven plan opening inputs stalls (turns agent) date cycle agent r before charge machine waits figure seat ended
       (sight_in plan.unit rings queues agent seat.start date) taken outbox
   pub ringed : AreRingsOf (opened_of plan opening inputs stalls) plan.sizes (date + 1) rings
   pub queued : AreQueuesOf (opened_of plan opening inputs stalls) plan.sizes (date + 1) queues
   pub counted : length taken ≡ length plan.unit.streams
   pub sized : outbox.size ≡ get_or plan.sizes.outboxes r.agent 0
-  pub looks : (k : ℕ) → k < most → is_pending (given_to (turn_of (Some r)) k turns) r ≡ true
-      → LooksBack (opened_of plan opening inputs stalls) plan.sizes plan.code (given_to (turn_of (Some r)) k turns) date r
+  pub looks : (k : ℕ) → k < most → is_pending (given_to (turn_of (Some r)) k (turns agent)) r ≡ true
+      → LooksBack (opened_of plan opening inputs stalls) plan.sizes plan.code
+      (given_on plan.unit (processor_at plan.unit r.agent) (turn_of (Some r)) k turns) date r

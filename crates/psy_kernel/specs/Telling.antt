@@ -28,7 +28,7 @@ use Rattle.psy_kernel.specs.Texts.{event_line}
 -- ---- lines of a date
 
 -- What is shared stands for a history of a plan that begins soundly, behind a date that wasn't done before.
-pub record StandsBehind (plan : Plan) (opening : Opening) (stalls : ℕ → List Stall) (turns : List (Option Turn)) (date : ℕ) (shared : Shared) : Type 0 where
+pub record StandsBehind (plan : Plan) (opening : Opening) (stalls : ℕ → List Stall) (turns : ℕ → List (Option Turn)) (date : ℕ) (shared : Shared) : Type 0 where
   pub sound : IsSoundFor plan opening shared.inputs.lists stalls
   pub later : opening.dates ≤ date
   pub stands : SharedStands (opened_of plan opening shared.inputs.lists stalls) plan.sizes turns (date + 1) shared

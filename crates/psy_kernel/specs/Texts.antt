@@ -8,7 +8,7 @@ use Rattle.psy_history.specs.History.{history}
 use Rattle.psy_history.specs.Lines.{Event, Stop, Publish, Show, events}
 use Rattle.psy_history.specs.Schedule.{Turn}
 use Rattle.psy_history.specs.Summary.{dates_from, due_by, due_count, least_slack, most_held, reach}
-use Rattle.psy_history.specs.Scheduled.{turns_of}
+use Rattle.psy_history.specs.Scheduled.{turns_by}
 use Rattle.psy_base.specs.declared.sizes.Sizes.{Sizes}
 
 -- The line that tells an event of a date
@@ -23,13 +23,13 @@ abbrev pub lines_of : System → ℕ → List (List ℕ)
 lines_of s date = map (event_line s date) (events s date)
 
 -- An agent's line: how many of its actions are due by the last date, and the least slack among them, with what its opening has
-abbrev pub agent_end : System → List (Option Turn) → ℕ → ℕ → List ℕ
+abbrev pub agent_end : System → (ℕ → List (Option Turn)) → ℕ → ℕ → List ℕ
 agent_end s turns until agent =
     let due = due_by until (history s (until + 1) agent) in
-    agent_line (agent_at s.unit agent).name (due_count s agent due) (least_slack s turns agent due)
+    agent_line (agent_at s.unit agent).name (due_count s agent due) (least_slack s (turns agent) agent due)
 
 -- A variable's line: the size of its ring, and how far back it was reached for
-abbrev pub variable_end : System → List (Option Turn) → Sizes → ℕ → ℕ → List ℕ
+abbrev pub variable_end : System → (ℕ → List (Option Turn)) → Sizes → ℕ → ℕ → List ℕ
 variable_end s turns sizes until variable = variable_line (variable_of s variable).name (get_or sizes.rings variable 0)
     (reach s turns (history s (until + 1)) variable)
 
@@ -37,8 +37,8 @@ variable_end s turns sizes until variable = variable_line (variable_of s variabl
 abbrev pub stream_end : System → Sizes → ℕ → ℕ → List ℕ
 stream_end s sizes until stream = stream_line (stream_of s stream).name (get_or sizes.queues stream 0) (most_held s until stream)
 
--- The lines of the summary, where the cycles up to the last date went to these turns
-abbrev pub summary_by : System → List (Option Turn) → Sizes → ℕ → List (List ℕ)
+-- The lines of the summary, where by agent the cycles of its processor up to the last date went to these turns
+abbrev pub summary_by : System → (ℕ → List (Option Turn)) → Sizes → ℕ → List (List ℕ)
 summary_by s turns sizes until =
     end_line until
     ∷ (map (agent_end s turns until) (range_with_len 0 (length s.unit.agents))
@@ -47,7 +47,7 @@ summary_by s turns sizes until =
 
 -- The lines of the summary
 abbrev pub summary_of : System → (ℕ → List ℕ) → Sizes → ℕ → List (List ℕ)
-summary_of s order sizes until = summary_by s (turns_of s order (until * s.unit.quantum)) sizes until
+summary_of s order sizes until = summary_by s (turns_by s order (until * s.unit.quantum)) sizes until
 
 -- Lines one behind the other
 abbrev pub text_of : List (List ℕ) → List ℕ

@@ -10,12 +10,13 @@ use Rattle.psy_history.specs.History.{action_of, history, with_start}
 use Rattle.psy_meaning.specs.KnownWays.{OfText}
 use Rattle.psy_meaning.specs.QueueSizes.{IsQueueSize}
 use Rattle.psy_meaning.specs.RingSizes.{IsRingSize}
+use Rattle.psy_history.specs.Processors.{processor_at}
 use Rattle.psy_history.specs.Schedule.{Turn, finish, units}
 use Rattle.psy_history.specs.Summary.{most_held, reach}
 use Rattle.psy_history.specs.Compiled.{coded}
 use Rattle.psy_history.specs.Likeness.{AreLike, IsLike}
 use Rattle.psy_history.specs.Regular.{IsLawful, IsRegular}
-use Rattle.psy_history.specs.Scheduled.{IsFinished, IsSupplied, turns_of}
+use Rattle.psy_history.specs.Scheduled.{IsFinished, IsSupplied, turns_by, turns_of}
 use Rattle.psy_dates.specs.declared.plan.Plan.{Plan}
 use Rattle.psy_history.specs.declared.told.Script.{Script}
 use Rattle.psy_history.specs.Scripts.{IsScript, order_of, stalls_of}
@@ -72,9 +73,9 @@ module _ (plan : Plan) (inputs : List (List ℤ)) (script : Script) (is : IsStat
   abbrev ties : ℕ → List ℕ
   ties = order_of plan.unit script
 
-  -- what the cycles up to the last date go to
-  abbrev cycles_of : System → List (Option Turn)
-  cycles_of s = turns_of s ties (plan.until * plan.unit.quantum)
+  -- by agent, what the cycles of its processor up to the last date go to
+  abbrev cycles_of : System → ℕ → List (Option Turn)
+  cycles_of s agent = turns_by s ties (plan.until * plan.unit.quantum) agent
 
   -- the processor can supply what the run demands
   supplied : IsLawful by_code → IsSupplied by_code ties plan.until
@@ -91,15 +92,19 @@ module _ (plan : Plan) (inputs : List (List ℤ)) (script : Script) (is : IsStat
   pub record RunLaws : Type 0 where
     pub lawful : IsLawful by_code
     pub actions : (dates agent : ℕ) → AreLike (history by_code dates agent) (history by_meaning dates agent)
-    pub schedule : (cycles : ℕ) → turns_of by_code ties cycles ≡ turns_of by_meaning ties cycles
+    pub schedule : (cycles processor : ℕ) → turns_of by_code ties cycles processor ≡ turns_of by_meaning ties cycles processor
     pub reaches : (variable : ℕ) → reach by_code (cycles_of by_code) (history by_code (plan.until + 1)) variable ≡ reach by_meaning (cycles_of by_meaning) (history by_meaning (plan.until + 1)) variable
     pub held : (stream : ℕ) → most_held by_code plan.until stream ≡ most_held by_meaning plan.until stream
-    pub finishes : (agent : ℕ) (r : Action) → IsSupplied by_code ties plan.until → Contains (history by_code plan.until agent) r → r.deadline ≤ plan.until → finish r.agent r.number (cycles_of by_code) ≤ r.deadline * plan.unit.quantum
+    pub finishes : (agent : ℕ) (r : Action) → IsSupplied by_code ties plan.until → Contains (history by_code plan.until agent) r → r.deadline ≤ plan.until → finish r.agent r.number (cycles_of by_code r.agent) ≤ r.deadline * plan.unit.quantum
     pub worked : (agent : ℕ) (r : Action) → IsSupplied by_code ties plan.until → Contains (history by_code (plan.until + 1) agent) r → r.deadline ≤ plan.until → IsFinished by_code ties (r.deadline * plan.unit.quantum) r
     pub reached : (variable size n : ℕ) → IsSupplied by_code ties plan.until → IsRingSize plan.unit (OfText plan.unit) plan.nexts variable size → reach by_code (cycles_of by_code) (history by_code (plan.until + 1)) variable ≡ Some n → n < size
     pub most : (stream size : ℕ) → stream < length plan.unit.streams → IsQueueSize plan.unit (OfText plan.unit) plan.nexts stream size → size ≤ QUEUE → most_held by_code plan.until stream ≤ size
 
   module _ (law : RunLaws) where
+    -- the cycles of an action's processor, by both
+    schedule_like : (cycles : ℕ) (r q : Action) → r.agent ≡ q.agent → turns_by by_code ties cycles r.agent ≡ turns_by by_meaning ties cycles q.agent
+    schedule_like cycles r q same = law.schedule cycles (processor_at plan.unit r.agent) ∙ ap (turns_by by_meaning ties cycles) same
+
     -- each action that is due by the last date has had its work by its deadline
     finished : (agent : ℕ) (q : Action) → Contains (history by_meaning (plan.until + 1) agent) q → q.deadline ≤ plan.until → IsFinished by_meaning ties (q.deadline * plan.unit.quantum) q
     finished agent q there due =
@@ -107,21 +112,22 @@ module _ (plan : Plan) (inputs : List (List ℤ)) (script : Script) (is : IsStat
         let r = found.0 in
         let like = found.2 in
         let kept = law.worked agent r (supplied law.lawful) found.1 (subst (λ d. d ≤ plan.until) (sym like.deadline) due) in
-        let turns = law.schedule (r.deadline * plan.unit.quantum) in
+        let turns = schedule_like (r.deadline * plan.unit.quantum) r q like.agent in
         let same : IsFinished by_meaning ties (r.deadline * plan.unit.quantum) q = (λ i. nat_lt (units (sym like.agent i) (sym like.number i) (sym turns i)) (sym like.work i)) ∙ kept in
         subst (λ d. IsFinished by_meaning ties (d * plan.unit.quantum) q) like.deadline same
 
     -- each action that is due by the last date ends in time
-    in_time : (agent : ℕ) (q : Action) → Contains (history by_meaning (plan.until + 1) agent) q → q.deadline ≤ plan.until → finish q.agent q.number (cycles_of by_meaning) ≤ q.deadline * plan.unit.quantum
+    in_time : (agent : ℕ) (q : Action) → Contains (history by_meaning (plan.until + 1) agent) q → q.deadline ≤ plan.until → finish q.agent q.number (cycles_of by_meaning q.agent) ≤ q.deadline * plan.unit.quantum
     in_time agent q there due =
         let found = like_one (history by_code (plan.until + 1) agent) (history by_meaning (plan.until + 1) agent) q (law.actions (plan.until + 1) agent) there in
         let r = found.0 in
         let like = found.2 in
         let due' : r.deadline ≤ plan.until = subst (λ d. d ≤ plan.until) (sym like.deadline) due in
         let kept = law.finishes agent r (supplied law.lawful) (started_before by_code law.lawful plan.until agent r found.1 due') due' in
-        let same : finish r.agent r.number (cycles_of by_code) ≡ finish q.agent q.number (cycles_of by_meaning) = λ i. finish (like.agent i) (like.number i) (law.schedule (plan.until * plan.unit.quantum) i) in
+        let turns = schedule_like (plan.until * plan.unit.quantum) r q like.agent in
+        let same : finish r.agent r.number (cycles_of by_code r.agent) ≡ finish q.agent q.number (cycles_of by_meaning q.agent) = λ i. finish (like.agent i) (like.number i) (turns i) in
         let late : r.deadline * plan.unit.quantum ≡ q.deadline * plan.unit.quantum = ap (λ d. d * plan.unit.quantum) like.deadline in
-        subst (λ d. finish q.agent q.number (cycles_of by_meaning) ≤ d) late (subst (λ n. n ≤ r.deadline * plan.unit.quantum) same kept)
+        subst (λ d. finish q.agent q.number (cycles_of by_meaning q.agent) ≤ d) late (subst (λ n. n ≤ r.deadline * plan.unit.quantum) same kept)
 
     -- no ring is reached for beyond its size
     rings : (variable n : ℕ) → variable < length plan.unit.variables → reach by_meaning (cycles_of by_meaning) (history by_meaning (plan.until + 1)) variable ≡ Some n → n < get_or plan.sizes.rings variable 0

@@ -10,7 +10,7 @@ use Rattle.psy_dates.specs.declared.plan.Plan.{Plan}
 use Rattle.psy_dates.specs.Beginnings.{beginning_of}
 use Rattle.psy_dates.specs.Plans.{opened_of}
 use Rattle.psy_history.specs.Compiled.{AreInputs, IsCompiled, coded, stated}
-use Rattle.psy_history.specs.Scheduled.{turns_of}
+use Rattle.psy_history.specs.Scheduled.{turns_by}
 use Rattle.psy_history.specs.declared.told.Script.{Script}
 use Rattle.psy_kernel.specs.Progress.{Progress, booted, order, system}
 use Rattle.psy_history.specs.Scripts.{IsScript, order_of, stalls_of}
@@ -43,7 +43,7 @@ SameCounts a b = (dates until agent : ℕ) → length (due_by until (history a d
 
 -- The same least slacks
 abbrev pub SameSlacks : System → System → Type 0
-SameSlacks a b = (order : ℕ → List ℕ) (dates cycles until agent : ℕ) → slack a.unit.quantum (turns_of a order cycles) (due_by until (history a dates agent)) ≡ slack b.unit.quantum (turns_of b order cycles) (due_by until (history b dates agent))
+SameSlacks a b = (order : ℕ → List ℕ) (dates cycles until agent : ℕ) → slack a.unit.quantum (turns_by a order cycles agent) (due_by until (history a dates agent)) ≡ slack b.unit.quantum (turns_by b order cycles agent) (due_by until (history b dates agent))
 
 -- As many messages held
 abbrev pub SameHeld : System → System → Type 0
@@ -51,7 +51,7 @@ SameHeld a b = (until stream : ℕ) → most_held a until stream ≡ most_held b
 
 -- And reach as far back
 abbrev pub SameReaches : System → System → Type 0
-SameReaches a b = (order : ℕ → List ℕ) (dates cycles variable : ℕ) → reach a (turns_of a order cycles) (history a dates) variable ≡ reach b (turns_of b order cycles) (history b dates) variable
+SameReaches a b = (order : ℕ → List ℕ) (dates cycles variable : ℕ) → reach a (turns_by a order cycles) (history a dates) variable ≡ reach b (turns_by b order cycles) (history b dates) variable
 
 -- All of that
 pub record AreAlike (a b : System) : Type 0 where
@@ -82,10 +82,10 @@ module _ (unit : Whole) (code : Code) (nexts : List (List (List ℕ))) (stalls :
     same_lines : (date : ℕ) → text_of (lines_of (coded unit code nexts stalls inputs) date) ≡ text_of (lines_of (stated unit nexts stalls inputs) date)
     same_lines date = ap (λ told. text_of (map (event_line (stated unit nexts stalls inputs) date) told)) (alike.lines date)
 
-    same_agent : (agent : ℕ) → agent_end (coded unit code nexts stalls inputs) (turns_of (coded unit code nexts stalls inputs) ties (until * unit.quantum)) until agent ≡ agent_end (stated unit nexts stalls inputs) (turns_of (stated unit nexts stalls inputs) ties (until * unit.quantum)) until agent
+    same_agent : (agent : ℕ) → agent_end (coded unit code nexts stalls inputs) (turns_by (coded unit code nexts stalls inputs) ties (until * unit.quantum)) until agent ≡ agent_end (stated unit nexts stalls inputs) (turns_by (stated unit nexts stalls inputs) ties (until * unit.quantum)) until agent
     same_agent agent = λ i. agent_line (agent_at unit agent).name (alike.counts (until + 1) until agent i) (alike.slacks ties (until + 1) (until * unit.quantum) until agent i)
 
-    same_variable : (variable : ℕ) → variable_end (coded unit code nexts stalls inputs) (turns_of (coded unit code nexts stalls inputs) ties (until * unit.quantum)) sizes until variable ≡ variable_end (stated unit nexts stalls inputs) (turns_of (stated unit nexts stalls inputs) ties (until * unit.quantum)) sizes until variable
+    same_variable : (variable : ℕ) → variable_end (coded unit code nexts stalls inputs) (turns_by (coded unit code nexts stalls inputs) ties (until * unit.quantum)) sizes until variable ≡ variable_end (stated unit nexts stalls inputs) (turns_by (stated unit nexts stalls inputs) ties (until * unit.quantum)) sizes until variable
     same_variable variable = ap (λ far. variable_line (variable_of (stated unit nexts stalls inputs) variable).name (get_or sizes.rings variable 0) far) (alike.reaches ties (until + 1) (until * unit.quantum) variable)
 
     same_stream : (stream : ℕ) → stream_end (coded unit code nexts stalls inputs) sizes until stream ≡ stream_end (stated unit nexts stalls inputs) sizes until stream

@@ -7,7 +7,10 @@ use Rattle.psy_dates.specs.Plans.{IsFeasibleFor, system_of}
 use Rattle.psy_demand.specs.Criterion.{edges_of}
 use Rattle.psy_graph.specs.declared.graph.Graph.{Graph}
 use Rattle.psy_graph.specs.Graphs.{AreGraphs, IsTimingOf, spot_of}
+use Rattle.psy_base.specs.declared.edge.Edge.{Edge}
 use Rattle.psy_history.specs.Compiled.{AreEdgesOf, AreInputs}
+use Rattle.psy_history.specs.Processors.{edges_for, processors}
+use Rattle.psy_meaning.specs.Demand.{IsFeasible}
 use Rattle.psy_meaning.specs.Flow.{AreAllNexts}
 use Rattle.psy_meaning.specs.Alike.{AllFit}
 use Rattle.psy_tree.specs.Parts.{agent_at}
@@ -31,6 +34,11 @@ timing_at unit nexts follow number less =
     ap (λ a. timing_of unit a (get_or nexts number [])) (get_or_from_slice_get unit.agents number agent.0 _ agent.1) ∙ ap (timing_of unit agent.0) (get_or_from_slice_get nexts number list.0 [] list.1) in
     (agent.0, list.0, agent.1, follow.each number agent.0 list.0 agent.1 list.1, same)
 
+-- One processor supplies what all agents may demand.
+abbrev pub Alone : Type 0
+Alone = (unit : Whole) (graphs : List (List Edge)) (quantum until : ℕ) → IsFeasible graphs quantum until
+    → (processor : ℕ) → processor < processors unit → IsFeasible (edges_for unit processor graphs) quantum until
+
 module _ (one : (unit : Whole) (number : ℕ) (timing other : Timing) → IsTimingOf unit number timing → IsTimingOf unit number other → timing ≡ other) where
   pub are_edges : (plan : Plan) (graphs : List Graph) → AreAllNexts plan.unit plan.nexts → AreGraphs plan.unit graphs → AreEdgesOf (system_of plan [] (λ agent. [])) (edges_of graphs)
   are_edges plan graphs follow are = record {
@@ -43,11 +51,11 @@ module _ (one : (unit : Whole) (number : ℕ) (timing other : Timing) → IsTimi
         (map spot_of graph.0.nodes, subst (λ t. IsGraph t (map spot_of graph.0.nodes) edges) same (subst (λ e. IsGraph has.0 (map spot_of graph.0.nodes) e) graph.2 has.2.drawn));
   }
 
-  pub is_feasible_for : (plan : Plan) → AreAllNexts plan.unit plan.nexts → (supply : Supply) → IsSupply plan.unit plan.until supply → IsFeasibleFor plan
-  is_feasible_for plan follow supply is = record {
+  pub is_feasible_for : Alone → (plan : Plan) → AreAllNexts plan.unit plan.nexts → (supply : Supply) → IsSupply plan.unit plan.until supply → IsFeasibleFor plan
+  is_feasible_for alone plan follow supply is = record {
     graphs = edges_of supply.graphs;
     drawn = are_edges plan supply.graphs follow is.drawn;
-    feasible = is.feasible;
+    feasible = alone plan.unit (edges_of supply.graphs) plan.unit.quantum plan.until is.feasible;
   }
 
 -- ---- no inputs

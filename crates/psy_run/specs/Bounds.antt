@@ -7,7 +7,7 @@ use Rattle.psy_history.specs.Actions.{Action, System}
 use Rattle.psy_history.specs.History.{history}
 use Rattle.psy_history.specs.Schedule.{finish}
 use Rattle.psy_history.specs.Summary.{most_held, reach}
-use Rattle.psy_history.specs.Scheduled.{IsFinished, turns_of}
+use Rattle.psy_history.specs.Scheduled.{IsFinished, turns_by}
 use Rattle.psy_history.specs.declared.told.Script.{Script}
 use Rattle.psy_history.specs.Scripts.{order_of}
 use Rattle.psy_graph.specs.declared.graph.Graph.{Graph}
@@ -26,10 +26,10 @@ pub record KeepsBounds (s : System) (order : ℕ → List ℕ) (sizes : Sizes) (
       → IsFinished s order (r.deadline * s.unit.quantum) r
   -- and the cycle behind its last one is no later, so that its slack is a true difference
   pub in_time : (agent : ℕ) (r : Action) → Contains (history s (until + 1) agent) r → r.deadline ≤ until
-      → finish r.agent r.number (turns_of s order (until * s.unit.quantum)) ≤ r.deadline * s.unit.quantum
+      → finish r.agent r.number (turns_by s order (until * s.unit.quantum) r.agent) ≤ r.deadline * s.unit.quantum
   -- no ring was reached for beyond its size
   pub rings : (variable n : ℕ) → variable < length s.unit.variables
-      → reach s (turns_of s order (until * s.unit.quantum)) (history s (until + 1)) variable ≡ Some n → n < get_or sizes.rings variable 0
+      → reach s (turns_by s order (until * s.unit.quantum)) (history s (until + 1)) variable ≡ Some n → n < get_or sizes.rings variable 0
   -- and no queue held more than its size
   pub queues : (stream : ℕ) → stream < length s.unit.streams → most_held s until stream ≤ get_or sizes.queues stream 0
 

@@ -34,7 +34,8 @@ use psy_flow::laws::{costs, listed, nexts, one_list};
 use psy_gen::laws::alike as generated;
 use psy_graph::laws::one_graph;
 use psy_history::laws::{
-    alike, compiled, isolation as histories, on_time, queue_sizes, regular, ring_sizes,
+    alike, compiled, isolation as histories, on_time, one_processor, queue_sizes, regular,
+    ring_sizes,
 };
 use psy_make::laws::short;
 use psy_meaning::laws::{of_text, sound};
@@ -115,6 +116,7 @@ pub fn bounded()
     short();
     generated();
     one_graph();
+    one_processor();
     lawful();
     bounds();
     extents();

@@ -12,6 +12,7 @@ use crate::laws::{extents, fits};
 use crate::supply::Supplied;
 use psy_dates::Plan;
 use psy_graph::laws::one_graph;
+use psy_history::laws::one_processor;
 use psy_tree::Unit;
 
 /// The plan of a program that can be run, and whose demand the processor can supply up to a date.
@@ -27,6 +28,7 @@ pub fn plan_of(unit: Unit, supply: Supplied, until: u32) -> Plan
     ensures its_until { result.until ≡ until }
 {
     one_graph();
+    one_processor();
     extents();
     fits();
     let ways = supply.ways;

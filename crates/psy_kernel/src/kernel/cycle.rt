@@ -13,11 +13,14 @@ ghost use Rattle.psy_history.specs.Regular.{IsLawful};
 ghost use Rattle.psy_history.specs.Actions.{Action, History, Opening, System};
 ghost use Rattle.psy_tree.specs.Parts.{agent_at};
 ghost use Rattle.psy_history.specs.History.{history};
+ghost use Rattle.psy_history.specs.Processors.{processor_at};
 ghost use Rattle.psy_history.specs.Schedule.{Turn, is_pending};
+ghost use Rattle.psy_history.specs.Scheduled.{gone_to};
 ghost use Rattle.psy_history.specs.Summary.{reach};
 ghost use Rattle.psy_base.specs.Extremes.{greater};
 ghost use Rattle.psy_meaning.specs.Timing.{end_date, timing_of};
 ghost use Rattle.psy_ready.specs.Choice.{ListsEach};
+ghost use Rattle.psy_tree.specs.declared.unit.Unit.{Unit as Whole};
 ghost use Rattle.psy_tree.specs.declared.unit.VarDecl.{VarDecl};
 ghost use Rattle.psy_kernel.specs.Cycles.{AreOver, GetsCycle, IsCycleOf, IsNear, LooksBack, MayEnd, figured};
 ghost use Rattle.psy_kernel.specs.Cycles.{order_by, reach_by, run_of, run_turns};
@@ -36,7 +39,7 @@ use psy_code::CopyInit;
 use psy_dates::{Phase, Plan, Seat};
 use psy_history::Order;
 use psy_history::laws::{
-    deeds, fitting, on_time, openings, queues, reaches, regular, ring_sizes, rings,
+    deeds, fitting, on_time, one_processor, openings, queues, reaches, regular, ring_sizes, rings,
 };
 use psy_machine::Machine;
 use psy_ready::Ready;
@@ -207,21 +210,27 @@ fn last_date(date: Option<u64>) -> u64
 
 /// In a run up to a date, from wherever it begins, of each agent's actions the last alone may be pending; and where it is, it can get the next
 /// cycle, sees by the rings and the queues what it saw at its start, and looks no further back than the rings hold. A cycle that nobody gets
-/// reaches for none.
+/// reaches for none. There is one processor so far.
 fn gets(until: u32)
     ensures most { until ≤ 4294967295 }
     ensures over { (plan : Plan) (opening : Opening) (inputs : List (List ℤ)) (script : Script) (date cycle agent : ℕ)
         → IsCycleOf plan opening inputs script date cycle
-        → AreOver (run_turns plan opening inputs script cycle) (history (run_of plan opening inputs script) (date + 1) agent) }
+        → AreOver (run_turns plan opening inputs script cycle agent) (history (run_of plan opening inputs script) (date + 1) agent) }
     ensures gets { (plan : Plan) (opening : Opening) (inputs : List (List ℤ)) (script : Script) (date cycle agent : ℕ) (r : Action) (before : List Action)
         → IsCycleOf plan opening inputs script date cycle
-        → history (run_of plan opening inputs script) (date + 1) agent ≡ r ∷ before → is_pending (run_turns plan opening inputs script cycle) r ≡ true
-        → GetsCycle (run_of plan opening inputs script) plan.code (run_turns plan opening inputs script cycle) plan.until date cycle agent r before }
+        → history (run_of plan opening inputs script) (date + 1) agent ≡ r ∷ before
+        → is_pending (run_turns plan opening inputs script cycle agent) r ≡ true
+        → GetsCycle (run_of plan opening inputs script) plan.code (run_turns plan opening inputs script cycle agent) plan.until date cycle agent r before }
     ensures looks { (plan : Plan) (opening : Opening) (inputs : List (List ℤ)) (script : Script) (date cycle agent : ℕ) (r : Action) (before : List Action)
         → IsCycleOf plan opening inputs script date cycle
-        → history (run_of plan opening inputs script) (date + 1) agent ≡ r ∷ before → is_pending (run_turns plan opening inputs script cycle) r ≡ true
+        → history (run_of plan opening inputs script) (date + 1) agent ≡ r ∷ before
+        → is_pending (run_turns plan opening inputs script cycle agent) r ≡ true
         → LooksBack (run_of plan opening inputs script) plan.sizes plan.code (run_turns plan opening inputs script cycle) date r }
-    ensures idle { (s : System) (turns : List (Option Turn)) (h : History) (variable : ℕ) → reach s (None ∷ turns) h variable ≡ reach s turns h variable }
+    ensures idle { (s : System) (turns : ℕ → List (Option Turn)) (h : History) (processor variable : ℕ)
+        → reach s (gone_to s.unit processor None turns) h variable ≡ reach s turns h variable }
+    ensures same { (s : System) (turns others : ℕ → List (Option Turn)) (h : History) (variable : ℕ) → ((agent : ℕ) → turns agent ≡ others agent)
+        → reach s turns h variable ≡ reach s others h variable }
+    ensures one { (unit : Whole) (agent : ℕ) → processor_at unit agent ≡ 0 }
     ensures lawful { (plan : Plan) (opening : Opening) (inputs : List (List ℤ)) (script : Script) → IsPlan plan
         → AreInputs plan.unit inputs → IsSoundFor plan opening inputs (stalls_of script)
         → IsLawful (run_of plan opening inputs script) }
@@ -229,6 +238,7 @@ fn gets(until: u32)
     fitting();
     openings();
     regular();
+    one_processor();
     on_time();
     rings();
     ring_sizes();

@@ -119,7 +119,7 @@ fn tell_place(plan: &Plan, shared: &Shared, date: u64, place: usize, line: &mut 
     requires calendar { CalendarStands plan.now.unit.clocks (date + 1) shared.now.calendar }
     requires early { date ≤ 2 ^ 40 }
     requires within { place < length plan.now.unit.agents + length plan.now.unit.variables }
-    ensures told { (opening : Opening) (stalls : ℕ → List Stall) (turns : List (Option Turn))
+    ensures told { (opening : Opening) (stalls : ℕ → List Stall) (turns : ℕ → List (Option Turn))
         → StandsBehind plan.now opening stalls turns date shared.now
         → IsToldBy (opened_of plan.now opening shared.now.inputs.lists stalls) date
         (told_by (opened_of plan.now opening shared.now.inputs.lists stalls) date place) result line.old line.new }
@@ -168,7 +168,7 @@ fn may_tell(plan: &Plan, shared: &Shared, date: u64, place: usize) -> usize
     requires movers { NamesAll (falls_in (date + 1) shared.now.seats.items) (length plan.now.unit.agents) 0 shared.now.movers.moved.agents }
     requires within { place ≤ length plan.now.unit.agents + length plan.now.unit.variables }
     ensures within { (place ≤ result) × (result ≤ length plan.now.unit.agents + length plan.now.unit.variables) }
-    ensures told { (opening : Opening) (stalls : ℕ → List Stall) (turns : List (Option Turn))
+    ensures told { (opening : Opening) (stalls : ℕ → List Stall) (turns : ℕ → List (Option Turn))
         → StandsBehind plan.now opening stalls turns date shared.now
         → told_from (opened_of plan.now opening shared.now.inputs.lists stalls) date result 0
         ≡ told_from (opened_of plan.now opening shared.now.inputs.lists stalls) date place 0 }
@@ -193,7 +193,7 @@ fn tell_next(plan: &Plan, shared: &Shared, date: u64, place: usize, line: &mut L
     requires calendar { CalendarStands plan.now.unit.clocks (date + 1) shared.now.calendar }
     requires early { date ≤ 2 ^ 40 }
     requires within { place ≤ length plan.now.unit.agents + length plan.now.unit.variables }
-    ensures told { (opening : Opening) (stalls : ℕ → List Stall) (turns : List (Option Turn))
+    ensures told { (opening : Opening) (stalls : ℕ → List Stall) (turns : ℕ → List (Option Turn))
         → StandsBehind plan.now opening stalls turns date shared.now
         → IsNextTold (opened_of plan.now opening shared.now.inputs.lists stalls) date
         (length plan.now.unit.agents + length plan.now.unit.variables) place 0 result line.old line.new }
@@ -233,7 +233,7 @@ fn tell_stream(
     requires inputs { AreInputs plan.now.unit shared.now.inputs.lists }
     requires queued { length shared.now.queues.items ≡ length plan.now.unit.streams }
     requires within { stream < length plan.now.unit.streams }
-    ensures told { (opening : Opening) (stalls : ℕ → List Stall) (turns : List (Option Turn))
+    ensures told { (opening : Opening) (stalls : ℕ → List Stall) (turns : ℕ → List (Option Turn))
         → StandsBehind plan.now opening stalls turns date shared.now
         → IsShownBy (opened_of plan.now opening shared.now.inputs.lists stalls) date stream shown result line.old line.new }
     ensures room { IsTrue result → shown + 1 < 2 ^ 32 }
@@ -265,7 +265,7 @@ fn tell_shown(
     requires queued { length shared.now.queues.items ≡ length plan.now.unit.streams }
     requires behind { length plan.now.unit.agents + length plan.now.unit.variables ≤ place }
     requires within { place ≤ length plan.now.unit.agents + length plan.now.unit.variables + length plan.now.unit.streams }
-    ensures told { (opening : Opening) (stalls : ℕ → List Stall) (turns : List (Option Turn))
+    ensures told { (opening : Opening) (stalls : ℕ → List Stall) (turns : ℕ → List (Option Turn))
         → StandsBehind plan.now opening stalls turns date shared.now
         → IsNextTold (opened_of plan.now opening shared.now.inputs.lists stalls) date
         (length plan.now.unit.agents + length plan.now.unit.variables + length plan.now.unit.streams) place shown result line.old line.new }
@@ -306,7 +306,7 @@ fn tell_from(
     requires early { date ≤ 2 ^ 40 }
     requires within { place ≤ length plan.now.unit.agents + length plan.now.unit.variables + length plan.now.unit.streams }
     requires unshown { place < length plan.now.unit.agents + length plan.now.unit.variables → shown ≡ 0 }
-    ensures told { (opening : Opening) (stalls : ℕ → List Stall) (turns : List (Option Turn))
+    ensures told { (opening : Opening) (stalls : ℕ → List Stall) (turns : ℕ → List (Option Turn))
         → StandsBehind plan.now opening stalls turns date shared.now
         → IsNextTold (opened_of plan.now opening shared.now.inputs.lists stalls) date
         (length plan.now.unit.agents + length plan.now.unit.variables + length plan.now.unit.streams) place shown result line.old line.new }

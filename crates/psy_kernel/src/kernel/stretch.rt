@@ -6,6 +6,7 @@ ghost use Rattle.psy_budget.specs.declared.charge.Stall.{Stall};
 ghost use Rattle.psy_dates.specs.Plans.{IsPlan, opened_of};
 ghost use Rattle.psy_history.specs.Actions.{Action, Opening};
 ghost use Rattle.psy_history.specs.History.{history};
+ghost use Rattle.psy_history.specs.Processors.{processor_at};
 ghost use Rattle.psy_history.specs.Schedule.{Turn, is_pending, turn_of, work};
 ghost use Rattle.psy_history.specs.Summary.{reach};
 ghost use Rattle.psy_machine.specs.Stepping.{IsOf};
@@ -16,7 +17,7 @@ ghost use Rattle.psy_kernel.specs.declared.kernel.advance.Gone.TheVariants as go
 ghost use Rattle.psy_kernel.specs.Cycles.{BoxStands, OneStands};
 ghost use Rattle.psy_kernel.specs.Seeing.{is_mine};
 ghost use Rattle.psy_kernel.specs.Standing.{charge_after};
-ghost use Rattle.psy_kernel.specs.Stretches.{AfterCycles, AllPay, AreReaches, HasDoneIn, IsOnWay, MayGoOn, MayLast, given_to, gone_by};
+ghost use Rattle.psy_kernel.specs.Stretches.{AfterCycles, AllPay, AreReaches, HasDoneIn, IsOnWay, MayGoOn, MayLast, given_on, given_to, gone_by};
 
 use super::Figure;
 use super::advance::{Gone, going};
@@ -233,41 +234,47 @@ pub(super) fn go_on(
     requires some { 1 ≤ most }
     requires inside { (date < plan.now.until) × (cycle + most ≤ (date + 1) * plan.now.unit.quantum) }
     requires reaching { length reaches.old.items ≡ length plan.now.unit.variables }
-    requires given { (opening : Opening) × (inputs : List (List ℤ)) × (stalls : ℕ → List Stall) × (turns : List (Option Turn)) × (r : Action)
+    requires given { (opening : Opening) × (inputs : List (List ℤ)) × (stalls : ℕ → List Stall) × (turns : ℕ → List (Option Turn)) × (r : Action)
         × (before : List Action) × (waits : Option ℕ)
         × MayLast plan.now opening inputs stalls turns date cycle agent most r before charge.old machine.old waits figure.old seat.old ended.old.items
         rings.now queues.now taken.old.items outbox.old }
     ensures count { (1 ≤ result.cycles) × (result.cycles ≤ most) }
     ensures whole { result.goes ≡ true → result.cycles ≡ most }
-    ensures pending { (opening : Opening) (inputs : List (List ℤ)) (stalls : ℕ → List Stall) (turns : List (Option Turn)) (r : Action) (before : List Action)
+    ensures pending { (opening : Opening) (inputs : List (List ℤ)) (stalls : ℕ → List Stall) (turns : ℕ → List (Option Turn)) (r : Action)
+        (before : List Action)
         (waits : Option ℕ)
         → MayLast plan.now opening inputs stalls turns date cycle agent most r before charge.old machine.old waits figure.old seat.old ended.old.items
         rings.now queues.now taken.old.items outbox.old
-        → (k : ℕ) → k < result.cycles → is_pending (given_to (turn_of (Some r)) k turns) r ≡ true }
-    ensures goes { (opening : Opening) (inputs : List (List ℤ)) (stalls : ℕ → List Stall) (turns : List (Option Turn)) (r : Action) (before : List Action)
+        → (k : ℕ) → k < result.cycles → is_pending (given_to (turn_of (Some r)) k (turns agent)) r ≡ true }
+    ensures goes { (opening : Opening) (inputs : List (List ℤ)) (stalls : ℕ → List Stall) (turns : ℕ → List (Option Turn)) (r : Action)
+        (before : List Action)
         (waits : Option ℕ)
         → MayLast plan.now opening inputs stalls turns date cycle agent most r before charge.old machine.old waits figure.old seat.old ended.old.items
         rings.now queues.now taken.old.items outbox.old
-        → is_pending (given_to (turn_of (Some r)) result.cycles turns) r ≡ result.goes }
-    ensures has { (opening : Opening) (inputs : List (List ℤ)) (stalls : ℕ → List Stall) (turns : List (Option Turn)) (r : Action) (before : List Action)
+        → is_pending (given_to (turn_of (Some r)) result.cycles (turns agent)) r ≡ result.goes }
+    ensures has { (opening : Opening) (inputs : List (List ℤ)) (stalls : ℕ → List Stall) (turns : ℕ → List (Option Turn)) (r : Action)
+        (before : List Action)
         (waits : Option ℕ)
         → MayLast plan.now opening inputs stalls turns date cycle agent most r before charge.old machine.old waits figure.old seat.old ended.old.items
         rings.now queues.now taken.old.items outbox.old
-        → OneStands (opened_of plan.now opening inputs stalls) plan.now.code (given_to (turn_of (Some r)) result.cycles turns) plan.now.until date agent
-        (r ∷ before) charge.new machine.new (if result.goes then waits else None) figure.new seat.new ended.new.items }
-    ensures boxed { (opening : Opening) (inputs : List (List ℤ)) (stalls : ℕ → List Stall) (turns : List (Option Turn)) (r : Action) (before : List Action)
+        → OneStands (opened_of plan.now opening inputs stalls) plan.now.code (given_to (turn_of (Some r)) result.cycles (turns agent))
+        plan.now.until date agent (r ∷ before) charge.new machine.new (if result.goes then waits else None) figure.new seat.new ended.new.items }
+    ensures boxed { (opening : Opening) (inputs : List (List ℤ)) (stalls : ℕ → List Stall) (turns : ℕ → List (Option Turn)) (r : Action)
+        (before : List Action)
         (waits : Option ℕ)
         → MayLast plan.now opening inputs stalls turns date cycle agent most r before charge.old machine.old waits figure.old seat.old ended.old.items
         rings.now queues.now taken.old.items outbox.old
-        → BoxStands (opened_of plan.now opening inputs stalls) plan.now.code (given_to (turn_of (Some r)) result.cycles turns) date agent (r ∷ before)
-        outbox.new.sends taken.new.items }
-    ensures reached { (opening : Opening) (inputs : List (List ℤ)) (stalls : ℕ → List Stall) (turns : List (Option Turn)) (r : Action) (before : List Action)
+        → BoxStands (opened_of plan.now opening inputs stalls) plan.now.code (given_to (turn_of (Some r)) result.cycles (turns agent))
+        date agent (r ∷ before) outbox.new.sends taken.new.items }
+    ensures reached { (opening : Opening) (inputs : List (List ℤ)) (stalls : ℕ → List Stall) (turns : ℕ → List (Option Turn)) (r : Action)
+        (before : List Action)
         (waits : Option ℕ)
         → MayLast plan.now opening inputs stalls turns date cycle agent most r before charge.old machine.old waits figure.old seat.old ended.old.items
         rings.now queues.now taken.old.items outbox.old
         → (variable : ℕ) → slice_get reaches.old.items variable
         ≡ Some (reach (opened_of plan.now opening inputs stalls) turns (history (opened_of plan.now opening inputs stalls) (date + 1)) variable)
-        → slice_get reaches.new.items variable ≡ Some (reach (opened_of plan.now opening inputs stalls) (given_to (turn_of (Some r)) result.cycles turns)
+        → slice_get reaches.new.items variable ≡ Some (reach (opened_of plan.now opening inputs stalls)
+        (given_on plan.now.unit (processor_at plan.now.unit r.agent) (turn_of (Some r)) result.cycles turns)
         (history (opened_of plan.now opening inputs stalls) (date + 1)) variable) }
     ensures reaching { length reaches.new.items ≡ length reaches.old.items }
     ensures size { outbox.new.size ≡ outbox.old.size }

@@ -8,7 +8,7 @@ use Rattle.psy_queue.specs.Order.{Queued}
 use Rattle.psy_meaning.specs.Kept.{IsSentOf}
 use Rattle.psy_tree.specs.Parts.{stream_at}
 use Rattle.psy_meaning.specs.Timing.{first_date}
-use Rattle.psy_history.specs.Scheduled.{turns_of}
+use Rattle.psy_history.specs.Scheduled.{turns_by}
 use Rattle.psy_meaning.specs.KnownWays.{Listed}
 use Rattle.psy_clock.specs.Dates.{IsClock}
 use Rattle.psy_dates.specs.Calendars.{AreNext, CalendarStands}
@@ -41,7 +41,7 @@ move_all-requires-clause-numbered c =
     let run = goes_well_from plan c.requires.plan c.fitting.ensures c.openings.ensures.run opening inputs stalls c.requires.inputs sound in
     let lawful = c.regular.ensures.lawful s (Listed c.requires.plan.ways) plan.code run in
     let begun = are_begun s (Listed c.requires.plan.ways) plan.code c.args.date (sound c.requires.plan) behind (c.openings.ensures.none s (Listed c.requires.plan.ways) plan.code run) (c.openings.ensures.silent s (Listed c.requires.plan.ways) plan.code run) (c.openings.ensures.waits s (Listed c.requires.plan.ways) plan.code run) in
-    let numbered : All IsNumbered seats = λ k d l. seat_numbered s lawful c.args.date k (turns_of s order (c.args.date * plan.unit.quantum)) (get_or seats k d) (begun.numbers k) early (stands.seats k (get_or seats k d) (slice_get-get_or seats k d l)) in
+    let numbered : All IsNumbered seats = λ k d l. seat_numbered s lawful c.args.date k (turns_by s order (c.args.date * plan.unit.quantum) k) (get_or seats k d) (begun.numbers k) early (stands.seats k (get_or seats k d) (slice_get-get_or seats k d l)) in
     subst (All IsNumbered) (sym c.deref_mut-7.ensures.value) numbered
 
 pub settle_all-requires-clause-held : goal.settle_all-requires-clause-held
@@ -56,7 +56,7 @@ settle_all-requires-clause-held c stream queue at ends =
     let begun = are_begun s (Listed c.requires.plan.ways) plan.code c.args.date (sound c.requires.plan) behind (c.openings.ensures.none s (Listed c.requires.plan.ways) plan.code run) (c.openings.ensures.silent s (Listed c.requires.plan.ways) plan.code run) (c.openings.ensures.waits s (Listed c.requires.plan.ways) plan.code run) in
     let laws = stream_laws plan c.requires.plan opening inputs stalls run c.regular.ensures.sends c.queues.ensures.next c.queues.ensures.look c.queue_sizes.ensures.held in
     subst (λ xs. get_or xs stream 0 ≤ length queue.messages) (sym c.deref-5.ensures.value)
-    (holds_taken plan opening inputs stalls c.requires.plan.fits.bare lawful laws c.args.date begun (turns_of s order (c.args.date * plan.unit.quantum)) old c.requires.due stands stream queue
+    (holds_taken plan opening inputs stalls c.requires.plan.fits.bare lawful laws c.args.date begun (turns_by s order (c.args.date * plan.unit.quantum)) old c.requires.due stands stream queue
     (ap (λ xs. slice_get xs stream) (sym c.deref_mut-2.ensures.value) ∙ at) (ap (λ xs. ends_at c.args.date (slice_get xs (stream_at plan.unit stream).receiver)) (sym c.deref-4.ensures.value) ∙ ends))
 
 pub enter_all-requires-clause-sent : goal.enter_all-requires-clause-sent
@@ -71,7 +71,7 @@ enter_all-requires-clause-sent c agent ends =
     let begun = are_begun s (Listed c.requires.plan.ways) plan.code c.args.date (sound c.requires.plan) behind (c.openings.ensures.none s (Listed c.requires.plan.ways) plan.code run) (c.openings.ensures.silent s (Listed c.requires.plan.ways) plan.code run) (c.openings.ensures.waits s (Listed c.requires.plan.ways) plan.code run) in
     let laws = stream_laws plan c.requires.plan opening inputs stalls run c.regular.ensures.sends c.queues.ensures.next c.queues.ensures.look c.queue_sizes.ensures.held in
     subst (λ xs. All (IsSentOf plan.unit) (sends_of xs agent)) (sym c.deref-7.ensures.value)
-    (sends_of_unit plan opening inputs stalls c.requires.plan.fits.bare lawful laws c.args.date begun (turns_of s order (c.args.date * plan.unit.quantum)) old c.requires.due stands agent
+    (sends_of_unit plan opening inputs stalls c.requires.plan.fits.bare lawful laws c.args.date begun (turns_by s order (c.args.date * plan.unit.quantum)) old c.requires.due stands agent
     (ap (λ xs. ends_at c.args.date (slice_get xs agent)) (sym c.deref-6.ensures.value) ∙ ends))
 
 pub enter_all-requires-clause-room : goal.enter_all-requires-clause-room
@@ -91,7 +91,7 @@ enter_all-requires-clause-room c =
     subst (HaveRoom (sent c.deref-6.result.now c.deref-7.result.now)) (sym (c.deref_mut-3.ensures.value ∙ now))
     (subst (λ seats. HaveRoom (sent seats c.deref-7.result.now) c.settle_all.new.queues) (sym c.deref-6.ensures.value)
     (subst (λ outboxes. HaveRoom (sent old.seats.items outboxes) c.settle_all.new.queues) (sym c.deref-7.ensures.value)
-    (has_room plan opening inputs stalls c.requires.plan.fits.bare lawful laws date begun (turns_of s order (date * plan.unit.quantum)) old c.requires.due stands c.settle_all.new.queues (c.settle_all.auto.queues ∙ ap length c.deref_mut-2.ensures.value)
+    (has_room plan opening inputs stalls c.requires.plan.fits.bare lawful laws date begun (turns_by s order (date * plan.unit.quantum)) old c.requires.due stands c.settle_all.new.queues (c.settle_all.auto.queues ∙ ap length c.deref_mut-2.ensures.value)
     (λ stream queue at. c.settle_all.ensures stream queue (ap (λ xs. slice_get xs stream) c.deref_mut-2.ensures.value ∙ at)
     ∙ ap (λ xs. Some (settled_then date (first_date (timing_in plan (stream_at plan.unit stream).receiver)) (get_or xs (stream_at plan.unit stream).receiver nowhere) (get_or c.deref-5.result.now stream 0) queue)) c.deref-4.ensures.value
     ∙ ap (λ xs. Some (settled_then date (first_date (timing_in plan (stream_at plan.unit stream).receiver)) (get_or old.seats.items (stream_at plan.unit stream).receiver nowhere) (get_or xs stream 0) queue)) c.deref-5.ensures.value))))
@@ -258,7 +258,7 @@ returns-clause-stands c opening stalls order sound behind stands =
     let laws = stream_laws plan c.requires.plan opening inputs stalls run c.regular.ensures.sends c.queues.ensures.next c.queues.ensures.look c.queue_sizes.ensures.held in
     let cycles = date * plan.unit.quantum in
     let upto : cycles ≤ date * plan.unit.quantum = omega arith in
-    shared_moves plan opening inputs stalls bare lawful laws date begun (turns_of s order cycles) (λ variable clock size. c.rings.ensures.next s date variable size lawful clock) (λ agent number new. c.given.ensures.unstarted s order date cycles agent number lawful bare.quantum.0 upto new) old (new_of c) c.requires.due stands (moved_by c)
+    shared_moves plan opening inputs stalls bare lawful laws date begun (turns_by s order cycles) (λ variable clock size. c.rings.ensures.next s date variable size lawful clock) (λ agent number new. c.given.ensures.unstarted s order date cycles agent number lawful bare.quantum.0 upto new) old (new_of c) c.requires.due stands (moved_by c)
 
 pub returns-clause-begun : goal.returns-clause-begun
 returns-clause-begun c agent begins =
@@ -271,7 +271,7 @@ returns-clause-begun c agent begins =
     let lawful = c.regular.ensures.lawful s (Listed c.requires.plan.ways) plan.code run in
     let begun = are_begun s (Listed c.requires.plan.ways) plan.code c.args.date (sound c.requires.plan) behind (c.openings.ensures.none s (Listed c.requires.plan.ways) plan.code run) (c.openings.ensures.silent s (Listed c.requires.plan.ways) plan.code run) (c.openings.ensures.waits s (Listed c.requires.plan.ways) plan.code run) in
     let laws = stream_laws plan c.requires.plan opening inputs stalls run c.regular.ensures.sends c.queues.ensures.next c.queues.ensures.look c.queue_sizes.ensures.held in
-    let turns = turns_of s order (c.args.date * plan.unit.quantum) in
+    let turns = turns_by s order (c.args.date * plan.unit.quantum) in
     let moved = moved_by c in
     let new = new_of c in (
       box_begun plan opening inputs stalls c.requires.plan.fits.bare lawful laws c.args.date begun turns old c.requires.due stands new.seats.items moved.seated moved.seats new.outboxes.items moved.outboxes agent begins,
@@ -289,7 +289,7 @@ returns-clause-going c agent goes =
     let lawful = c.regular.ensures.lawful s (Listed c.requires.plan.ways) plan.code run in
     let begun = are_begun s (Listed c.requires.plan.ways) plan.code c.args.date (sound c.requires.plan) behind (c.openings.ensures.none s (Listed c.requires.plan.ways) plan.code run) (c.openings.ensures.silent s (Listed c.requires.plan.ways) plan.code run) (c.openings.ensures.waits s (Listed c.requires.plan.ways) plan.code run) in
     let laws = stream_laws plan c.requires.plan opening inputs stalls run c.regular.ensures.sends c.queues.ensures.next c.queues.ensures.look c.queue_sizes.ensures.held in
-    let turns = turns_of s order (c.args.date * plan.unit.quantum) in
+    let turns = turns_by s order (c.args.date * plan.unit.quantum) in
     let moved = moved_by c in
     let new = new_of c in (
       box_goes plan opening inputs stalls c.requires.plan.fits.bare lawful laws c.args.date begun turns old c.requires.due stands new.seats.items moved.seated moved.seats new.outboxes.items moved.outboxes agent goes,
@@ -311,4 +311,4 @@ returns-clause-moved c =
     let laws = stream_laws plan c.requires.plan opening inputs stalls run c.regular.ensures.sends c.queues.ensures.next c.queues.ensures.look c.queue_sizes.ensures.held in
     let cycles = date * plan.unit.quantum in
     let upto : cycles ≤ date * plan.unit.quantum = omega arith in
-    starts_known plan opening inputs stalls bare lawful laws date begun (turns_of s order cycles) (λ variable clock size. c.rings.ensures.next s date variable size lawful clock) (λ agent number new. c.given.ensures.unstarted s order date cycles agent number lawful bare.quantum.0 upto new) old (new_of c) c.requires.due stands (moved_by c)
+    starts_known plan opening inputs stalls bare lawful laws date begun (turns_by s order cycles) (λ variable clock size. c.rings.ensures.next s date variable size lawful clock) (λ agent number new. c.given.ensures.unstarted s order date cycles agent number lawful bare.quantum.0 upto new) old (new_of c) c.requires.due stands (moved_by c)

@@ -2,14 +2,16 @@
 use Rattle.std.proofs.Common.{ap, ◌∙◌}
 use Rattle.psy_history.specs.History.{history}
 use Rattle.psy_meaning.specs.Sound.{IsSoundUnit}
-use Rattle.psy_history.specs.Summary.{due_by, reach, slack}
+use Rattle.psy_history.specs.Summary.{due_by, slack}
 use Rattle.psy_history.specs.Compiled.{coded, stated}
-use Rattle.psy_history.specs.Scheduled.{turns_of}
+use Rattle.psy_history.specs.Processors.{processor_at, served}
+use Rattle.psy_history.specs.Scheduled.{turns_by}
 use Rattle.psy_history.proofs.LikeActions.{length_like}
 use Rattle.psy_history.proofs.LikeHistories.{histories_like}
 use Rattle.psy_history.proofs.LikeReaches.{reach_same}
 use Rattle.psy_history.proofs.LikeLines.{events_same, most_held_same}
 use Rattle.psy_history.proofs.LikeSchedules.{due_like, slack_same, turns_same}
+use Rattle.psy_history.proofs.Reached.{reach_alike}
 use Rattle.psy_history.proofs.RunActions.{AreRunLaws}
 use Rattle.psy_history.proofs.Stores.{AreStoreLaws}
 use Rattle.psy_history.proofs.laws.alike.Goals as goal
@@ -35,8 +37,8 @@ pub returns-clause-lines : goal.returns-clause-lines
 returns-clause-lines c unit code nexts stalls inputs compiled are date = events_same unit code nexts stalls inputs (returns-clause-actions c unit code nexts stalls inputs compiled are) date
 
 pub returns-clause-schedule : goal.returns-clause-schedule
-returns-clause-schedule c unit code nexts stalls inputs compiled are order cycles =
-    turns_same order unit.quantum (history (coded unit code nexts stalls inputs)) (history (stated unit nexts stalls inputs)) (returns-clause-actions c unit code nexts stalls inputs compiled are) cycles
+returns-clause-schedule c unit code nexts stalls inputs compiled are order cycles processor =
+    turns_same (λ cycle. served unit processor (order cycle)) unit.quantum (history (coded unit code nexts stalls inputs)) (history (stated unit nexts stalls inputs)) (returns-clause-actions c unit code nexts stalls inputs compiled are) cycles
 
 pub returns-clause-counts : goal.returns-clause-counts
 returns-clause-counts c unit code nexts stalls inputs compiled are dates until agent =
@@ -48,14 +50,16 @@ pub returns-clause-slacks : goal.returns-clause-slacks
 returns-clause-slacks c unit code nexts stalls inputs compiled are order dates cycles until agent =
     let these = history (coded unit code nexts stalls inputs) dates agent in
     let those = history (stated unit nexts stalls inputs) dates agent in
-    ap (λ done. slack unit.quantum done (due_by until these)) (returns-clause-schedule c unit code nexts stalls inputs compiled are order cycles)
-    ∙ slack_same unit.quantum (turns_of (stated unit nexts stalls inputs) order cycles) (due_by until these) (due_by until those) (due_like until these those (returns-clause-actions c unit code nexts stalls inputs compiled are dates agent))
+    ap (λ done. slack unit.quantum done (due_by until these)) (returns-clause-schedule c unit code nexts stalls inputs compiled are order cycles (processor_at unit agent))
+    ∙ slack_same unit.quantum (turns_by (stated unit nexts stalls inputs) order cycles agent) (due_by until these) (due_by until those) (due_like until these those (returns-clause-actions c unit code nexts stalls inputs compiled are dates agent))
 
 pub returns-clause-held : goal.returns-clause-held
 returns-clause-held c unit code nexts stalls inputs compiled are until stream = most_held_same unit code nexts stalls inputs (returns-clause-actions c unit code nexts stalls inputs compiled are) until stream
 
 pub returns-clause-reaches : goal.returns-clause-reaches
 returns-clause-reaches c unit code nexts stalls inputs compiled are order dates cycles variable =
-    let same = returns-clause-schedule c unit code nexts stalls inputs compiled are order cycles in
-    ap (λ done. reach (coded unit code nexts stalls inputs) done (history (coded unit code nexts stalls inputs) dates) variable) same
+    let these = coded unit code nexts stalls inputs in
+    let those = stated unit nexts stalls inputs in
+    reach_alike these (turns_by these order cycles) (turns_by those order cycles) (history these dates) variable
+    (λ agent. returns-clause-schedule c unit code nexts stalls inputs compiled are order cycles (processor_at unit agent))
     ∙ reach_same unit code nexts stalls inputs (history (coded unit code nexts stalls inputs) dates) order cycles dates variable (returns-clause-actions c unit code nexts stalls inputs compiled are dates)

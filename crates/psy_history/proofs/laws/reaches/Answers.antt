@@ -4,7 +4,7 @@ use Rattle.std.proofs.lemmas.List.Elements.{All-contains}
 use Rattle.psy_code.specs.Execution.{call_of}
 use Rattle.psy_history.specs.History.{history}
 use Rattle.psy_history.specs.Regular.{Runs}
-use Rattle.psy_history.proofs.Reached.{reach_date, reach_none, reach_stalled}
+use Rattle.psy_history.proofs.Reached.{reach_alike, reach_date, reach_idle, reach_none, reach_stalled}
 use Rattle.psy_history.proofs.Reaches.{reach_paid}
 use Rattle.psy_history.proofs.laws.reaches.Goals as goal
 
@@ -12,7 +12,10 @@ pub returns-clause-none : goal.returns-clause-none
 returns-clause-none c s h variable = reach_none s h variable
 
 pub returns-clause-idle : goal.returns-clause-idle
-returns-clause-idle c s turns h variable = refl
+returns-clause-idle c s turns h processor variable = reach_idle s turns h variable processor
+
+pub returns-clause-same : goal.returns-clause-same
+returns-clause-same c s turns others h variable same = reach_alike s turns others h variable same
 
 pub returns-clause-stalled : goal.returns-clause-stalled
 returns-clause-stalled c s turns dates agent variable r lawful there none = reach_stalled s turns (history s dates) variable r none

@@ -8,6 +8,7 @@ returns c words files = answering_bounded (record {
   short = c.short.ensures;
   alike = λ unit is. c.alike.ensures unit (c.sound.ensures.unit is.text.0 unit is.text.1);
   timing = c.one_graph.ensures.timing;
+  alone = c.one_processor.ensures.feasible;
   inputs = c.lawful.ensures.inputs;
   script = c.lawful.ensures.script;
   keeps = c.bounds.ensures;

@@ -14,6 +14,6 @@ returns-clause-plan c =
     let stated : IsStatedPlan plan = record {
       compiled = record { text = c.requires.text; alike = c.requires.alike; followed = is.followed };
       buffers = is.sized;
-      supplied = is_feasible_for c.one_graph.ensures.timing plan is.followed _ is;
+      supplied = is_feasible_for c.one_graph.ensures.timing c.one_processor.ensures.feasible plan is.followed _ is;
     } in
     record { stated = stated; fits = c.fits.ensures plan supply.ways stated c.requires.ways }

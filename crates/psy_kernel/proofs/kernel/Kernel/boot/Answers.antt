@@ -49,8 +49,8 @@ invariant_of-result c =
       behind = omega arith;
       before = λ last first. absurd (cc);
       in_tick = subst (λ d. InTick unit.quantum plan.until d 0) dates refl;
-      shared = subst (λ i. SharedStands (s i) plan.sizes [] (dates_done shared.date) shared) lists
-          (subst (λ d. SharedStands (s c.args.inputs.lists) plan.sizes [] d shared) dates first);
+      shared = subst (λ i. SharedStands (s i) plan.sizes (λ agent. []) (dates_done shared.date) shared) lists
+          (subst (λ d. SharedStands (s c.args.inputs.lists) plan.sizes (λ agent. []) d shared) dates first);
       machined = machines.count ∙ c.requires.plan.fits.parts.agents;
       charges = ap length charges ∙ length-map-range_with_len (first_charge script) 0 count ∙ counted;
       reaching = ap length reached ∙ length-replicate c.len.result never ∙ c.len.ensures;

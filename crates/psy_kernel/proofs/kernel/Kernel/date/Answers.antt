@@ -6,7 +6,7 @@ use Rattle.psy_history.specs.Actions.{System}
 use Rattle.psy_history.specs.History.{history}
 use Rattle.psy_history.specs.Summary.{reach}
 use Rattle.psy_history.specs.Compiled.{AreInputs}
-use Rattle.psy_history.specs.Scheduled.{turns_of}
+use Rattle.psy_history.specs.Scheduled.{turns_by}
 use Rattle.psy_dates.specs.Plans.{IsSoundFor, opened_of}
 use Rattle.psy_dates.specs.Standing.{SharedStands, dates_done}
 use Rattle.psy_kernel.specs.declared.stage.Stage.TheVariants.{CycleDue}
@@ -108,28 +108,28 @@ invariant_of-self c =
       behind = omega (arith, later k date due, dates);
       before = λ last first done. absurd (omega (arith, later k date due, dates, first, done));
       in_tick = subst (λ d. InTick unit.quantum k.plan.until d k.cycles) dates (tick k date due);
-      shared = subst (λ i. SharedStands (s i) k.plan.sizes (turns_of (s i) order k.cycles) (dates_done shared.date) shared) lists
-          (subst (λ d. SharedStands (its k date due) k.plan.sizes (turns_of (its k date due) order k.cycles) d shared) (sym done.date) (after k date due shared done));
+      shared = subst (λ i. SharedStands (s i) k.plan.sizes (turns_by (s i) order k.cycles) (dates_done shared.date) shared) lists
+          (subst (λ d. SharedStands (its k date due) k.plan.sizes (turns_by (its k date due) order k.cycles) d shared) (sym done.date) (after k date due shared done));
       machined = h.machined;
       charges = same_seats.count ∙ h.charges;
       reaching = h.reaching;
       reached = λ variable n en.
-          subst (λ i. n ≡ reach (s i) (turns_of (s i) order k.cycles) (history (s i) (dates_done shared.date)) variable) lists
-          (subst (λ d. n ≡ reach (its k date due) (turns_of (its k date due) order k.cycles) (history (its k date due) d) variable) (sym done.date)
+          subst (λ i. n ≡ reach (s i) (turns_by (s i) order k.cycles) (history (s i) (dates_done shared.date)) variable) lists
+          (subst (λ d. n ≡ reach (its k date due) (turns_by (its k date due) order k.cycles) (history (its k date due) d) variable) (sym done.date)
           (same_reach k date due c.reaches.ensures.date variable n en));
       holding = same_helds.count ∙ h.holding;
       held = λ stream n en.
           subst (λ i. n ≡ most_held_in (s i) (dates_done shared.date) stream) lists
           (subst (λ d. n ≡ most_held_in (its k date due) d stream) (sym done.date) (helds k date due shared done c.hold_all.new.helds.items same_helds stream n en));
       doing = λ agent outbox eo.
-          subst (λ i. DeedsStand (s i) k.plan.code (turns_of (s i) order k.cycles) (history (s i) (dates_done shared.date) agent) outbox.sends shared.taken.items) lists
-          (subst (λ d. DeedsStand (its k date due) k.plan.code (turns_of (its k date due) order k.cycles) (history (its k date due) d agent) outbox.sends shared.taken.items) dates
+          subst (λ i. DeedsStand (s i) k.plan.code (turns_by (s i) order k.cycles agent) (history (s i) (dates_done shared.date) agent) outbox.sends shared.taken.items) lists
+          (subst (λ d. DeedsStand (its k date due) k.plan.code (turns_by (its k date due) order k.cycles agent) (history (its k date due) d agent) outbox.sends shared.taken.items) dates
           (deeds k date due shared done c.at_date.ensures.begun c.at_date.ensures.going agent outbox eo));
       waiting = same_ready.count ∙ h.waiting;
       figured = h.figured;
       agents = λ agent machine charge waits figure em ec ew ef.
-          subst (λ i. AgentStands (s i) k.plan.code (turns_of (s i) order k.cycles) k.plan.until agent (history (s i) (dates_done shared.date) agent) charge machine waits figure) lists
-          (subst (λ d. AgentStands (its k date due) k.plan.code (turns_of (its k date due) order k.cycles) k.plan.until agent (history (its k date due) d agent) charge machine waits figure) dates
+          subst (λ i. AgentStands (s i) k.plan.code (turns_by (s i) order k.cycles agent) k.plan.until agent (history (s i) (dates_done shared.date) agent) charge machine waits figure) lists
+          (subst (λ d. AgentStands (its k date due) k.plan.code (turns_by (its k date due) order k.cycles agent) k.plan.until agent (history (its k date due) d agent) charge machine waits figure) dates
           (agents k date due shared done c.start_all.new.charges.items c.start_all.new.ready same_seats same_ready agent machine charge waits figure em ec ew ef));
       all = h.all;
       orders = h.orders;

@@ -92,14 +92,14 @@ pub passed_by-passed-requires-clause-ahead : goal.passed_by-passed-requires-clau
 passed_by-passed-requires-clause-ahead c =
     let k : Inside = c.self.inside in
     let is : KernelStands k = c.self.invariant in
-    let d : IsDue k = due_by k is c.args.self.now c.self.view_is c.requires.due c.gets.ensures.most c.gets.ensures.lawful c.gets.ensures.over c.gets.ensures.gets c.gets.ensures.looks c.gets.ensures.idle in
+    let d : IsDue k = due_by k is c.args.self.now c.self.view_is c.requires.due c.gets.ensures.most c.gets.ensures.lawful c.gets.ensures.over c.gets.ensures.gets c.gets.ensures.looks c.gets.ensures.idle c.gets.ensures.same c.gets.ensures.one in
     λ o at. ahead_of k is d c.args.self.now c.self.view_is c.args.most c.requires.ahead o (ap (λ orders. slice_get orders k.passed) (sym c.as_slice-orders.ensures) ∙ at)
 
 pub invariant_of-self : goal.invariant_of-self
 invariant_of-self c =
     let k : Inside = c.self.inside in
     let is : KernelStands k = c.self.invariant in
-    let d : IsDue k = due_by k is c.args.self.now c.self.view_is c.requires.due c.gets.ensures.most c.gets.ensures.lawful c.gets.ensures.over c.gets.ensures.gets c.gets.ensures.looks c.gets.ensures.idle in
+    let d : IsDue k = due_by k is c.args.self.now c.self.view_is c.requires.due c.gets.ensures.most c.gets.ensures.lawful c.gets.ensures.over c.gets.ensures.gets c.gets.ensures.looks c.gets.ensures.idle c.gets.ensures.same c.gets.ensures.one in
     let high = high_of k is d c.args.self.now c.self.view_is c.args.most c.requires.inside in
     let ahead = ahead_of k is d c.args.self.now c.self.view_is c.args.most c.requires.ahead in
     let order : List ℕ = order_of k.plan.unit k.script k.cycles in
@@ -120,7 +120,7 @@ pub go_on-lasted-requires-clause-inside : goal.go_on-lasted-requires-clause-insi
 go_on-lasted-requires-clause-inside c =
     let k : Inside = c.self.inside in
     let is : KernelStands k = c.self.invariant in
-    let d : IsDue k = due_by k is c.args.self.now c.self.view_is c.requires.due c.gets.ensures.most c.gets.ensures.lawful c.gets.ensures.over c.gets.ensures.gets c.gets.ensures.looks c.gets.ensures.idle in
+    let d : IsDue k = due_by k is c.args.self.now c.self.view_is c.requires.due c.gets.ensures.most c.gets.ensures.lawful c.gets.ensures.over c.gets.ensures.gets c.gets.ensures.looks c.gets.ensures.idle c.gets.ensures.same c.gets.ensures.one in
     let high = high_of k is d c.args.self.now c.self.view_is c.args.most c.requires.inside in
     let ahead = ahead_of k is d c.args.self.now c.self.view_is c.args.most c.requires.ahead in
     let order : List ℕ = order_of k.plan.unit k.script k.cycles in
@@ -139,7 +139,7 @@ pub go_on-lasted-requires-clause-given : goal.go_on-lasted-requires-clause-given
 go_on-lasted-requires-clause-given c =
     let k : Inside = c.self.inside in
     let is : KernelStands k = c.self.invariant in
-    let d : IsDue k = due_by k is c.args.self.now c.self.view_is c.requires.due c.gets.ensures.most c.gets.ensures.lawful c.gets.ensures.over c.gets.ensures.gets c.gets.ensures.looks c.gets.ensures.idle in
+    let d : IsDue k = due_by k is c.args.self.now c.self.view_is c.requires.due c.gets.ensures.most c.gets.ensures.lawful c.gets.ensures.over c.gets.ensures.gets c.gets.ensures.looks c.gets.ensures.idle c.gets.ensures.same c.gets.ensures.one in
     let high = high_of k is d c.args.self.now c.self.view_is c.args.most c.requires.inside in
     let ahead = ahead_of k is d c.args.self.now c.self.view_is c.args.most c.requires.ahead in
     let order : List ℕ = order_of k.plan.unit k.script k.cycles in
@@ -158,7 +158,7 @@ pub overflow_add-next-in-Some : goal.overflow_add-next-in-Some
 overflow_add-next-in-Some c =
     let k : Inside = c.self.inside in
     let is : KernelStands k = c.self.invariant in
-    let d : IsDue k = due_by k is c.args.self.now c.self.view_is c.requires.due c.gets.ensures.most c.gets.ensures.lawful c.gets.ensures.over c.gets.ensures.gets c.gets.ensures.looks c.gets.ensures.idle in
+    let d : IsDue k = due_by k is c.args.self.now c.self.view_is c.requires.due c.gets.ensures.most c.gets.ensures.lawful c.gets.ensures.over c.gets.ensures.gets c.gets.ensures.looks c.gets.ensures.idle c.gets.ensures.same c.gets.ensures.one in
     let high = high_of k is d c.args.self.now c.self.view_is c.args.most c.requires.inside in
     let ahead = ahead_of k is d c.args.self.now c.self.view_is c.args.most c.requires.ahead in
     let count = c.go_on-lasted.ensures.count in
@@ -173,7 +173,7 @@ pub passed_by-passed-requires-in-Some-clause-ahead : goal.passed_by-passed-requi
 passed_by-passed-requires-in-Some-clause-ahead c =
     let k : Inside = c.self.inside in
     let is : KernelStands k = c.self.invariant in
-    let d : IsDue k = due_by k is c.args.self.now c.self.view_is c.requires.due c.gets.ensures.most c.gets.ensures.lawful c.gets.ensures.over c.gets.ensures.gets c.gets.ensures.looks c.gets.ensures.idle in
+    let d : IsDue k = due_by k is c.args.self.now c.self.view_is c.requires.due c.gets.ensures.most c.gets.ensures.lawful c.gets.ensures.over c.gets.ensures.gets c.gets.ensures.looks c.gets.ensures.idle c.gets.ensures.same c.gets.ensures.one in
     let count = c.go_on-lasted.ensures.count in
     λ o at. (let whole = ahead_of k is d c.args.self.now c.self.view_is c.args.most c.requires.ahead o (ap (λ orders. slice_get orders k.passed) (sym c.as_slice-orders.ensures) ∙ at) in omega (arith, whole, count.1))
 
@@ -181,7 +181,7 @@ pub invariant_of-self-then-not-lasted : goal.invariant_of-self-then-not-lasted
 invariant_of-self-then-not-lasted c =
     let k : Inside = c.self.inside in
     let is : KernelStands k = c.self.invariant in
-    let d : IsDue k = due_by k is c.args.self.now c.self.view_is c.requires.due c.gets.ensures.most c.gets.ensures.lawful c.gets.ensures.over c.gets.ensures.gets c.gets.ensures.looks c.gets.ensures.idle in
+    let d : IsDue k = due_by k is c.args.self.now c.self.view_is c.requires.due c.gets.ensures.most c.gets.ensures.lawful c.gets.ensures.over c.gets.ensures.gets c.gets.ensures.looks c.gets.ensures.idle c.gets.ensures.same c.gets.ensures.one in
     let high = high_of k is d c.args.self.now c.self.view_is c.args.most c.requires.inside in
     let ahead = ahead_of k is d c.args.self.now c.self.view_is c.args.most c.requires.ahead in
     let order : List ℕ = order_of k.plan.unit k.script k.cycles in
@@ -201,7 +201,7 @@ invariant_of-self-then-not-lasted c =
     let waits : Option ℕ = pending_deadline k.ready agent in
     let pends = lasted.pending (opening_in k) k.shared.inputs.lists (stalls_of k.script) (turns_in k k.cycles) r before waits may in
     let goes = lasted.goes (opening_in k) k.shared.inputs.lists (stalls_of k.script) (turns_in k k.cycles) r before waits may in
-    let turns : (j : ℕ) → j ≤ n → turns_in k (k.cycles + j) ≡ given_to (turn_of (Some r)) j (turns_in k k.cycles) =
+    let turns : (j : ℕ) → j ≤ n → (other : ℕ) → turns_in k (k.cycles + j) other ≡ given_to (turn_of (Some r)) j (turns_in k k.cycles other) =
     λ j less. row k is d agent pick r before t.2 c.args.most high ahead j (omega (arith, less, lasted.count.1)) (λ i below. pends i (omega (arith, below, less))) in
     let passed : ℕ = c.passed_by-passed-in-Some.result in
     let come : AreInForce k.script.orders passed (k.cycles + n) = subst (λ orders. AreInForce orders passed (k.cycles + n)) c.as_slice-orders.ensures c.passed_by-passed-in-Some.ensures.in_force in
@@ -219,14 +219,14 @@ invariant_of-self-then-not-lasted c =
     let outboxes : Vec Outboxed Global = with_item k.shared.outboxes agent outbox in
     let counts : Vec ℕ Global = c.go_on-lasted.new.taken in
     let reaches : Vec (Option ℕ) Global = c.go_on-lasted.new.reaches in
-    let box : BoxStands (run_in k) k.plan.code (given_to (turn_of (Some r)) n (turns_in k k.cycles)) d.date agent (r ∷ before) outbox.sends counts.items =
-    subst (λ m. BoxStands (run_in k) k.plan.code (given_to (turn_of (Some r)) n (turns_in k k.cycles)) m agent (r ∷ before) outbox.sends counts.items) (on_date k is d agent pick r before t.2 date date_is)
+    let box : BoxStands (run_in k) k.plan.code (given_to (turn_of (Some r)) n (turns_in k k.cycles agent)) d.date agent (r ∷ before) outbox.sends counts.items =
+    subst (λ m. BoxStands (run_in k) k.plan.code (given_to (turn_of (Some r)) n (turns_in k k.cycles agent)) m agent (r ∷ before) outbox.sends counts.items) (on_date k is d agent pick r before t.2 date date_is)
     (lasted.boxed (opening_in k) k.shared.inputs.lists (stalls_of k.script) (turns_in k k.cycles) r before waits may) in
     let size = same_size k is d agent pick date date_is c.index_mut-in-Some-4.result.now outbox c.index_mut-in-Some-4.ensures.value lasted.size in
     let reached = reached_given k is d agent pick r before t.2 n (turns n (omega arith)) date date_is reaches.items lasted.reaching (lasted.reached (opening_in k) k.shared.inputs.lists (stalls_of k.script) (turns_in k k.cycles) r before waits may) in
-    let one : OneStands (run_in k) k.plan.code (given_to (turn_of (Some r)) n (turns_in k k.cycles)) k.plan.until d.date agent (r ∷ before) charge machine None figure seat copies.items =
-    subst (λ m. OneStands (run_in k) k.plan.code (given_to (turn_of (Some r)) n (turns_in k k.cycles)) k.plan.until m agent (r ∷ before) charge machine None figure seat copies.items) (on_date k is d agent pick r before t.2 date date_is)
-    (subst (λ on. OneStands (run_in k) k.plan.code (given_to (turn_of (Some r)) n (turns_in k k.cycles)) k.plan.until date agent (r ∷ before) charge machine (if on then waits else None) figure seat copies.items) (is_off c.go_on-lasted.result.goes c.if-not-lasted.true) has_then) in
+    let one : OneStands (run_in k) k.plan.code (given_to (turn_of (Some r)) n (turns_in k k.cycles agent)) k.plan.until d.date agent (r ∷ before) charge machine None figure seat copies.items =
+    subst (λ m. OneStands (run_in k) k.plan.code (given_to (turn_of (Some r)) n (turns_in k k.cycles agent)) k.plan.until m agent (r ∷ before) charge machine None figure seat copies.items) (on_date k is d agent pick r before t.2 date date_is)
+    (subst (λ on. OneStands (run_in k) k.plan.code (given_to (turn_of (Some r)) n (turns_in k k.cycles agent)) k.plan.until date agent (r ∷ before) charge machine (if on then waits else None) figure seat copies.items) (is_off c.go_on-lasted.result.goes c.if-not-lasted.true) has_then) in
     let told : IsTold seat k.shared.movers c.tell.new.self =
     subst (λ (x : Seat). IsTold x k.shared.movers c.tell.new.self) (read_seat k is d agent pick date date_is seat c.index.result.now c.index.ensures)
     (record { moved = c.tell.ensures.moved; earlier = c.tell.ensures.earlier; before = c.tell.ensures.before; kept = c.tell.ensures.kept; stopped = c.tell.ensures.stopped }) in
@@ -242,7 +242,7 @@ pub invariant_of-self-else-not-lasted : goal.invariant_of-self-else-not-lasted
 invariant_of-self-else-not-lasted c =
     let k : Inside = c.self.inside in
     let is : KernelStands k = c.self.invariant in
-    let d : IsDue k = due_by k is c.args.self.now c.self.view_is c.requires.due c.gets.ensures.most c.gets.ensures.lawful c.gets.ensures.over c.gets.ensures.gets c.gets.ensures.looks c.gets.ensures.idle in
+    let d : IsDue k = due_by k is c.args.self.now c.self.view_is c.requires.due c.gets.ensures.most c.gets.ensures.lawful c.gets.ensures.over c.gets.ensures.gets c.gets.ensures.looks c.gets.ensures.idle c.gets.ensures.same c.gets.ensures.one in
     let high = high_of k is d c.args.self.now c.self.view_is c.args.most c.requires.inside in
     let ahead = ahead_of k is d c.args.self.now c.self.view_is c.args.most c.requires.ahead in
     let order : List ℕ = order_of k.plan.unit k.script k.cycles in
@@ -262,7 +262,7 @@ invariant_of-self-else-not-lasted c =
     let waits : Option ℕ = pending_deadline k.ready agent in
     let pends = lasted.pending (opening_in k) k.shared.inputs.lists (stalls_of k.script) (turns_in k k.cycles) r before waits may in
     let goes = lasted.goes (opening_in k) k.shared.inputs.lists (stalls_of k.script) (turns_in k k.cycles) r before waits may in
-    let turns : (j : ℕ) → j ≤ n → turns_in k (k.cycles + j) ≡ given_to (turn_of (Some r)) j (turns_in k k.cycles) =
+    let turns : (j : ℕ) → j ≤ n → (other : ℕ) → turns_in k (k.cycles + j) other ≡ given_to (turn_of (Some r)) j (turns_in k k.cycles other) =
     λ j less. row k is d agent pick r before t.2 c.args.most high ahead j (omega (arith, less, lasted.count.1)) (λ i below. pends i (omega (arith, below, less))) in
     let passed : ℕ = c.passed_by-passed-in-Some.result in
     let come : AreInForce k.script.orders passed (k.cycles + n) = subst (λ orders. AreInForce orders passed (k.cycles + n)) c.as_slice-orders.ensures c.passed_by-passed-in-Some.ensures.in_force in
@@ -280,14 +280,14 @@ invariant_of-self-else-not-lasted c =
     let outboxes : Vec Outboxed Global = with_item k.shared.outboxes agent outbox in
     let counts : Vec ℕ Global = c.go_on-lasted.new.taken in
     let reaches : Vec (Option ℕ) Global = c.go_on-lasted.new.reaches in
-    let box : BoxStands (run_in k) k.plan.code (given_to (turn_of (Some r)) n (turns_in k k.cycles)) d.date agent (r ∷ before) outbox.sends counts.items =
-    subst (λ m. BoxStands (run_in k) k.plan.code (given_to (turn_of (Some r)) n (turns_in k k.cycles)) m agent (r ∷ before) outbox.sends counts.items) (on_date k is d agent pick r before t.2 date date_is)
+    let box : BoxStands (run_in k) k.plan.code (given_to (turn_of (Some r)) n (turns_in k k.cycles agent)) d.date agent (r ∷ before) outbox.sends counts.items =
+    subst (λ m. BoxStands (run_in k) k.plan.code (given_to (turn_of (Some r)) n (turns_in k k.cycles agent)) m agent (r ∷ before) outbox.sends counts.items) (on_date k is d agent pick r before t.2 date date_is)
     (lasted.boxed (opening_in k) k.shared.inputs.lists (stalls_of k.script) (turns_in k k.cycles) r before waits may) in
     let size = same_size k is d agent pick date date_is c.index_mut-in-Some-4.result.now outbox c.index_mut-in-Some-4.ensures.value lasted.size in
     let reached = reached_given k is d agent pick r before t.2 n (turns n (omega arith)) date date_is reaches.items lasted.reaching (lasted.reached (opening_in k) k.shared.inputs.lists (stalls_of k.script) (turns_in k k.cycles) r before waits may) in
-    let one : OneStands (run_in k) k.plan.code (given_to (turn_of (Some r)) n (turns_in k k.cycles)) k.plan.until d.date agent (r ∷ before) charge machine waits figure seat copies.items =
-    subst (λ m. OneStands (run_in k) k.plan.code (given_to (turn_of (Some r)) n (turns_in k k.cycles)) k.plan.until m agent (r ∷ before) charge machine waits figure seat copies.items) (on_date k is d agent pick r before t.2 date date_is)
-    (subst (λ on. OneStands (run_in k) k.plan.code (given_to (turn_of (Some r)) n (turns_in k k.cycles)) k.plan.until date agent (r ∷ before) charge machine (if on then waits else None) figure seat copies.items) (is_on c.go_on-lasted.result.goes c.if-not-lasted.false) has_then) in
+    let one : OneStands (run_in k) k.plan.code (given_to (turn_of (Some r)) n (turns_in k k.cycles agent)) k.plan.until d.date agent (r ∷ before) charge machine waits figure seat copies.items =
+    subst (λ m. OneStands (run_in k) k.plan.code (given_to (turn_of (Some r)) n (turns_in k k.cycles agent)) k.plan.until m agent (r ∷ before) charge machine waits figure seat copies.items) (on_date k is d agent pick r before t.2 date date_is)
+    (subst (λ on. OneStands (run_in k) k.plan.code (given_to (turn_of (Some r)) n (turns_in k k.cycles agent)) k.plan.until date agent (r ∷ before) charge machine (if on then waits else None) figure seat copies.items) (is_on c.go_on-lasted.result.goes c.if-not-lasted.false) has_then) in
     let told : IsTold seat k.shared.movers c.tell.new.self =
     subst (λ (x : Seat). IsTold x k.shared.movers c.tell.new.self) (read_seat k is d agent pick date date_is seat c.index.result.now c.index.ensures)
     (record { moved = c.tell.ensures.moved; earlier = c.tell.ensures.earlier; before = c.tell.ensures.before; kept = c.tell.ensures.kept; stopped = c.tell.ensures.stopped }) in
@@ -301,7 +301,7 @@ pub returns-in-None-clause-steady : goal.returns-in-None-clause-steady
 returns-in-None-clause-steady c =
     let k : Inside = c.self.inside in
     let is : KernelStands k = c.self.invariant in
-    let d : IsDue k = due_by k is c.args.self.now c.self.view_is c.requires.due c.gets.ensures.most c.gets.ensures.lawful c.gets.ensures.over c.gets.ensures.gets c.gets.ensures.looks c.gets.ensures.idle in
+    let d : IsDue k = due_by k is c.args.self.now c.self.view_is c.requires.due c.gets.ensures.most c.gets.ensures.lawful c.gets.ensures.over c.gets.ensures.gets c.gets.ensures.looks c.gets.ensures.idle c.gets.ensures.same c.gets.ensures.one in
     let high = high_of k is d c.args.self.now c.self.view_is c.args.most c.requires.inside in
     let ahead = ahead_of k is d c.args.self.now c.self.view_is c.args.most c.requires.ahead in
     let order : List ℕ = order_of k.plan.unit k.script k.cycles in
@@ -315,7 +315,7 @@ pub returns-then-not-lasted-clause-steady : goal.returns-then-not-lasted-clause-
 returns-then-not-lasted-clause-steady c =
     let k : Inside = c.self.inside in
     let is : KernelStands k = c.self.invariant in
-    let d : IsDue k = due_by k is c.args.self.now c.self.view_is c.requires.due c.gets.ensures.most c.gets.ensures.lawful c.gets.ensures.over c.gets.ensures.gets c.gets.ensures.looks c.gets.ensures.idle in
+    let d : IsDue k = due_by k is c.args.self.now c.self.view_is c.requires.due c.gets.ensures.most c.gets.ensures.lawful c.gets.ensures.over c.gets.ensures.gets c.gets.ensures.looks c.gets.ensures.idle c.gets.ensures.same c.gets.ensures.one in
     let high = high_of k is d c.args.self.now c.self.view_is c.args.most c.requires.inside in
     let ahead = ahead_of k is d c.args.self.now c.self.view_is c.args.most c.requires.ahead in
     let order : List ℕ = order_of k.plan.unit k.script k.cycles in
@@ -335,7 +335,7 @@ returns-then-not-lasted-clause-steady c =
     let waits : Option ℕ = pending_deadline k.ready agent in
     let pends = lasted.pending (opening_in k) k.shared.inputs.lists (stalls_of k.script) (turns_in k k.cycles) r before waits may in
     let goes = lasted.goes (opening_in k) k.shared.inputs.lists (stalls_of k.script) (turns_in k k.cycles) r before waits may in
-    let turns : (j : ℕ) → j ≤ n → turns_in k (k.cycles + j) ≡ given_to (turn_of (Some r)) j (turns_in k k.cycles) =
+    let turns : (j : ℕ) → j ≤ n → (other : ℕ) → turns_in k (k.cycles + j) other ≡ given_to (turn_of (Some r)) j (turns_in k k.cycles other) =
     λ j less. row k is d agent pick r before t.2 c.args.most high ahead j (omega (arith, less, lasted.count.1)) (λ i below. pends i (omega (arith, below, less))) in
     subst (λ (q : Progress). (between : ℕ) → q.cycles < between → between < k.cycles + n → IsOverBy q between → ⊥) c.self.view_is (given_steady k is d agent pick r before t.2 n lasted.count.0 turns pends)
 
@@ -343,7 +343,7 @@ pub returns-then-not-lasted-clause-over : goal.returns-then-not-lasted-clause-ov
 returns-then-not-lasted-clause-over c =
     let k : Inside = c.self.inside in
     let is : KernelStands k = c.self.invariant in
-    let d : IsDue k = due_by k is c.args.self.now c.self.view_is c.requires.due c.gets.ensures.most c.gets.ensures.lawful c.gets.ensures.over c.gets.ensures.gets c.gets.ensures.looks c.gets.ensures.idle in
+    let d : IsDue k = due_by k is c.args.self.now c.self.view_is c.requires.due c.gets.ensures.most c.gets.ensures.lawful c.gets.ensures.over c.gets.ensures.gets c.gets.ensures.looks c.gets.ensures.idle c.gets.ensures.same c.gets.ensures.one in
     let high = high_of k is d c.args.self.now c.self.view_is c.args.most c.requires.inside in
     let ahead = ahead_of k is d c.args.self.now c.self.view_is c.args.most c.requires.ahead in
     let order : List ℕ = order_of k.plan.unit k.script k.cycles in
@@ -363,7 +363,7 @@ returns-then-not-lasted-clause-over c =
     let waits : Option ℕ = pending_deadline k.ready agent in
     let pends = lasted.pending (opening_in k) k.shared.inputs.lists (stalls_of k.script) (turns_in k k.cycles) r before waits may in
     let goes = lasted.goes (opening_in k) k.shared.inputs.lists (stalls_of k.script) (turns_in k k.cycles) r before waits may in
-    let turns : (j : ℕ) → j ≤ n → turns_in k (k.cycles + j) ≡ given_to (turn_of (Some r)) j (turns_in k k.cycles) =
+    let turns : (j : ℕ) → j ≤ n → (other : ℕ) → turns_in k (k.cycles + j) other ≡ given_to (turn_of (Some r)) j (turns_in k k.cycles other) =
     λ j less. row k is d agent pick r before t.2 c.args.most high ahead j (omega (arith, less, lasted.count.1)) (λ i below. pends i (omega (arith, below, less))) in
     λ less. subst (λ (q : Progress). IsOverBy q (k.cycles + n)) c.self.view_is (over_by k is d agent pick r before t.2 n lasted.count.0 turns pends c.go_on-lasted.result.goes goes (is_off c.go_on-lasted.result.goes c.if-not-lasted.true))
 
@@ -371,7 +371,7 @@ pub returns-else-not-lasted-clause-steady : goal.returns-else-not-lasted-clause-
 returns-else-not-lasted-clause-steady c =
     let k : Inside = c.self.inside in
     let is : KernelStands k = c.self.invariant in
-    let d : IsDue k = due_by k is c.args.self.now c.self.view_is c.requires.due c.gets.ensures.most c.gets.ensures.lawful c.gets.ensures.over c.gets.ensures.gets c.gets.ensures.looks c.gets.ensures.idle in
+    let d : IsDue k = due_by k is c.args.self.now c.self.view_is c.requires.due c.gets.ensures.most c.gets.ensures.lawful c.gets.ensures.over c.gets.ensures.gets c.gets.ensures.looks c.gets.ensures.idle c.gets.ensures.same c.gets.ensures.one in
     let high = high_of k is d c.args.self.now c.self.view_is c.args.most c.requires.inside in
     let ahead = ahead_of k is d c.args.self.now c.self.view_is c.args.most c.requires.ahead in
     let order : List ℕ = order_of k.plan.unit k.script k.cycles in
@@ -391,6 +391,6 @@ returns-else-not-lasted-clause-steady c =
     let waits : Option ℕ = pending_deadline k.ready agent in
     let pends = lasted.pending (opening_in k) k.shared.inputs.lists (stalls_of k.script) (turns_in k k.cycles) r before waits may in
     let goes = lasted.goes (opening_in k) k.shared.inputs.lists (stalls_of k.script) (turns_in k k.cycles) r before waits may in
-    let turns : (j : ℕ) → j ≤ n → turns_in k (k.cycles + j) ≡ given_to (turn_of (Some r)) j (turns_in k k.cycles) =
+    let turns : (j : ℕ) → j ≤ n → (other : ℕ) → turns_in k (k.cycles + j) other ≡ given_to (turn_of (Some r)) j (turns_in k k.cycles other) =
     λ j less. row k is d agent pick r before t.2 c.args.most high ahead j (omega (arith, less, lasted.count.1)) (λ i below. pends i (omega (arith, below, less))) in
     subst (λ (q : Progress). (between : ℕ) → q.cycles < between → between < k.cycles + n → IsOverBy q between → ⊥) c.self.view_is (given_steady k is d agent pick r before t.2 n lasted.count.0 turns pends)

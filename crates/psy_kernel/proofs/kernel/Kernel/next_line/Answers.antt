@@ -1,7 +1,7 @@
 -- What is left of the proof of `kernel::Kernel::next_line`.
 use Rattle.std.proofs.Common.{◌≡◌, ◌+◌, ◌*◌, ◌≤◌, ℕ, length, get_or, slice_get, Some, refl, ap, subst, arith}
 use Rattle.psy_dates.proofs.lemmas.Fits.{goes_well_from, queue_size, small_queue}
-use Rattle.psy_history.specs.Scheduled.{turns_of}
+use Rattle.psy_history.specs.Scheduled.{turns_by}
 use Rattle.psy_meaning.specs.KnownWays.{Listed}
 use Rattle.psy_kernel.specs.Progress.{Progress, after_line, beginning, lines_told, order, system}
 use Rattle.psy_history.specs.Scripts.{stalls_of}
@@ -46,7 +46,7 @@ overflow_add-self c =
     let run = goes_well_from k.plan w.plan c.fitting.ensures c.openings.ensures.run (beginning (progress_of k)) lists (stalls_of k.script) w.inputs w.sound in
     let few : k.given ≤ k.place + k.place + k.place * 131072 + 131072 =
     given_few k w date c.in-Some.is later (c.regular.ensures.lawful s ways k.plan.code run)
-    (λ stream within. shown_few s k.plan.sizes (turns_of s (order (progress_of k)) k.cycles) date k.shared (stands_now k w date c.in-Some.is later).stands stream
+    (λ stream within. shown_few s k.plan.sizes (turns_by s (order (progress_of k)) k.cycles) date k.shared (stands_now k w date c.in-Some.is later).stands stream
     (c.queues.ensures.shows s ways k.plan.code run date stream within)
     (c.queue_sizes.ensures.held s ways k.plan.code run (date + 1) stream (get_or k.plan.sizes.queues stream 0) within (queue_size k.plan w.plan stream within) (small_queue k.plan w.plan stream within))
     (small_queue k.plan w.plan stream within) ((w.sound w.plan).messages stream).few within) in
@@ -60,7 +60,7 @@ invariant_of-self c =
     let date = c.in-Some.date in
     let later : (beginning (progress_of k)).dates ≤ date = date_later k w date c.in-Some.is (λ e. c.if-self-end.false (omega (arith, e, c.len.ensures, c.len-2.ensures, c.len-3.ensures))) in
     let s = system (progress_of k) in
-    let turns = turns_of s (order (progress_of k)) k.cycles in
+    let turns = turns_by s (order (progress_of k)) k.cycles in
     let mark = c.in-Some-tell_from.mark in
     let told = c.in-Some-tell_from.ensures.told (beginning (progress_of k)) (stalls_of k.script) turns (stands_now k w date c.in-Some.is later) in
     stands_at k mark.place mark.shown (k.given + 1) w told.0 told.1 (given_more k w date c.in-Some.is later mark c.args.line.now c.tell_from.new.line told) (not_before k w date c.in-Some.is later mark.place)
@@ -72,7 +72,7 @@ invariant_of-self-in-None c =
     let date = c.in-Some.date in
     let later : (beginning (progress_of k)).dates ≤ date = date_later k w date c.in-Some.is (λ e. c.if-self-end.false (omega (arith, e, c.len.ensures, c.len-2.ensures, c.len-3.ensures))) in
     let s = system (progress_of k) in
-    let turns = turns_of s (order (progress_of k)) k.cycles in
+    let turns = turns_by s (order (progress_of k)) k.cycles in
     let unit = k.plan.unit in
     let end : ℕ = length unit.agents + length unit.variables + length unit.streams in
     let told = c.in-None.ensures.told (beginning (progress_of k)) (stalls_of k.script) turns (stands_now k w date c.in-Some.is later) in
@@ -87,7 +87,7 @@ returns-in-Some-tell_from-clause-some c =
     let date = c.in-Some.date in
     let later : (beginning (progress_of k)).dates ≤ date = date_later k w date c.in-Some.is (λ e. c.if-self-end.false (omega (arith, e, c.len.ensures, c.len-2.ensures, c.len-3.ensures))) in
     let s = system (progress_of k) in
-    let turns = turns_of s (order (progress_of k)) k.cycles in
+    let turns = turns_by s (order (progress_of k)) k.cycles in
     let told = c.in-Some-tell_from.ensures.told (beginning (progress_of k)) (stalls_of k.script) turns (stands_now k w date c.in-Some.is later) in
     let next : slice_get (lines_told (progress_of k)) k.given ≡ Some c.tell_from.new.line = next_given k w date c.in-Some.is later c.in-Some-tell_from.mark c.args.line.now c.tell_from.new.line told in
     λ _. (subst (λ (p : Progress). slice_get (lines_told p) p.given ≡ Some c.tell_from.new.line) c.self.view_is next, ap after_line c.self.view_is)
@@ -99,7 +99,7 @@ returns-in-None-clause-none c =
     let date = c.in-Some.date in
     let later : (beginning (progress_of k)).dates ≤ date = date_later k w date c.in-Some.is (λ e. c.if-self-end.false (omega (arith, e, c.len.ensures, c.len-2.ensures, c.len-3.ensures))) in
     let s = system (progress_of k) in
-    let turns = turns_of s (order (progress_of k)) k.cycles in
+    let turns = turns_by s (order (progress_of k)) k.cycles in
     let told = c.in-None.ensures.told (beginning (progress_of k)) (stalls_of k.script) turns (stands_now k w date c.in-Some.is later) in
     let all : k.given ≡ length (lines_told (progress_of k)) = all_given k w date c.in-Some.is later c.args.line.now c.tell_from.new.line told in
     λ _. (subst (λ (p : Progress). p.given ≡ length (lines_told p)) c.self.view_is all, c.self.view_is, told.1)

@@ -29,8 +29,8 @@ supply_of c plan opening inputs script date cycle h =
     known.supplied plan opening inputs (stalls_of script) h.of_plan script h.of_script (c.regular.ensures.lawful (run_of plan opening inputs script) (Listed h.of_plan.ways) plan.code (run_is c plan opening inputs script h.of_plan h.of_inputs h.sound))
 
 gets_by : (c : goal.After-deeds) (plan : Plan) (opening : Opening) (inputs : List (List ℤ)) (script : Script) (date cycle agent : ℕ) (r : Action) (before : List Action) → IsCycleOf plan opening inputs script date cycle
-    → history (run_of plan opening inputs script) (date + 1) agent ≡ r ∷ before → is_pending (run_turns plan opening inputs script cycle) r ≡ true
-    → GetsCycle (run_of plan opening inputs script) plan.code (run_turns plan opening inputs script cycle) plan.until date cycle agent r before
+    → history (run_of plan opening inputs script) (date + 1) agent ≡ r ∷ before → is_pending (run_turns plan opening inputs script cycle agent) r ≡ true
+    → GetsCycle (run_of plan opening inputs script) plan.code (run_turns plan opening inputs script cycle agent) plan.until date cycle agent r before
 gets_by c plan opening inputs script date cycle agent r before h is pending =
     let run = run_is c plan opening inputs script h.of_plan h.of_inputs h.sound in
     known.gets plan opening inputs (stalls_of script) h.of_plan script h.of_script (supply_of c plan opening inputs script date cycle h) date cycle h.before h.low h.high c.on_time.ensures.due run.points (h.sound h.of_plan).counts h.most agent r before is
@@ -62,6 +62,12 @@ returns-clause-looks c = λ plan opening inputs script date cycle agent r before
 
 pub returns-clause-idle : goal.returns-clause-idle
 returns-clause-idle c = c.reaches.ensures.idle
+
+pub returns-clause-same : goal.returns-clause-same
+returns-clause-same c = c.reaches.ensures.same
+
+pub returns-clause-one : goal.returns-clause-one
+returns-clause-one c = c.one_processor.ensures.agents
 
 pub returns-clause-lawful : goal.returns-clause-lawful
 returns-clause-lawful c = λ plan opening inputs script of_plan of_inputs sound. c.regular.ensures.lawful (run_of plan opening inputs script) (Listed of_plan.ways) plan.code (run_is c plan opening inputs script of_plan of_inputs sound)

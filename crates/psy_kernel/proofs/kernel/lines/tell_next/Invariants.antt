@@ -12,7 +12,7 @@ abbrev pub invariant-walking : goal.invariant-walking
 invariant-walking l = record {
   within : l.at ≤ l.places;
   line : l.line ≡ l.fn.line;
-  told : (opening : Opening) (stalls : ℕ → List Stall) (turns : List (Option Turn)) → StandsBehind l.plan opening stalls turns l.date l.shared
+  told : (opening : Opening) (stalls : ℕ → List Stall) (turns : ℕ → List (Option Turn)) → StandsBehind l.plan opening stalls turns l.date l.shared
       → told_from (opened_of l.plan opening l.shared.inputs.lists stalls) l.date l.at 0 ≡ told_from (opened_of l.plan opening l.shared.inputs.lists stalls) l.date l.fn.place 0;
 }
 

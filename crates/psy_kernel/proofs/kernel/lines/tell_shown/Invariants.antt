@@ -13,7 +13,7 @@ invariant-streams l = record {
   past : l.places ≤ l.next;
   within : l.next ≤ l.end;
   line : l.line ≡ l.fn.line;
-  told : (opening : Opening) (stalls : ℕ → List Stall) (turns : List (Option Turn)) → StandsBehind l.plan opening stalls turns l.date l.shared
+  told : (opening : Opening) (stalls : ℕ → List Stall) (turns : ℕ → List (Option Turn)) → StandsBehind l.plan opening stalls turns l.date l.shared
       → told_from (opened_of l.plan opening l.shared.inputs.lists stalls) l.date l.next l.behind ≡ told_from (opened_of l.plan opening l.shared.inputs.lists stalls) l.date l.fn.place l.fn.shown;
 }
 

@@ -43,28 +43,28 @@ stretch-done-requires-clause-early c =
 pub stretch-done-requires-clause-given : goal.stretch-done-requires-clause-given
 stretch-done-requires-clause-given c =
     let w = c.requires.given in
-    (w.0, w.1, w.2, w.4, units w.4.agent w.4.number w.3, (may_see w.7 c.new-scene.result (scene_of c.args.plan.now.unit c.args.rings.now c.args.queues.now c.args.agent c.args.seat.now.start c.args.date c.as_slice.result.now c.as_slice-2.result.now c.as_slice-3.result.now c.as_slice.ensures c.as_slice-2.ensures c.as_slice-3.ensures c.new-scene.result c.new-scene.ensures)), charged_at w.7, had_less w.7)
+    (w.0, w.1, w.2, w.4, units w.4.agent w.4.number (w.3 c.args.agent), (may_see w.7 c.new-scene.result (scene_of c.args.plan.now.unit c.args.rings.now c.args.queues.now c.args.agent c.args.seat.now.start c.args.date c.as_slice.result.now c.as_slice-2.result.now c.as_slice-3.result.now c.as_slice.ensures c.as_slice-2.ensures c.as_slice-3.ensures c.new-scene.result c.new-scene.ensures)), charged_at w.7, had_less w.7)
 
 pub returns-in-Going-clause-has : goal.returns-in-Going-clause-has
 returns-in-Going-clause-has c = λ opening inputs stalls turns r before waits given.
-    going_has given c.requires.inside c.stretch-done.result.cycles c.stretch-done.ensures.count c.stretch-done.new.charge c.stretch-done.new.machine c.stretch-done.ensures.of (came (opened_of c.args.plan.now opening inputs stalls) c.args.plan.now.code r (units r.agent r.number turns) c.stretch-done.result.cycles c.stretch-done.new.charge c.stretch-done.new.machine c.stretch-done.result.gone gone.Going c.in-Going.is (c.stretch-done.ensures.after opening inputs stalls r (units r.agent r.number turns) (may_see given c.new-scene.result (scene_of c.args.plan.now.unit c.args.rings.now c.args.queues.now c.args.agent c.args.seat.now.start c.args.date c.as_slice.result.now c.as_slice-2.result.now c.as_slice-3.result.now c.as_slice.ensures c.as_slice-2.ensures c.as_slice-3.ensures c.new-scene.result c.new-scene.ensures)) (charged_at given) (had_less given)))
+    going_has given c.requires.inside c.stretch-done.result.cycles c.stretch-done.ensures.count c.stretch-done.new.charge c.stretch-done.new.machine c.stretch-done.ensures.of (came (opened_of c.args.plan.now opening inputs stalls) c.args.plan.now.code r (units r.agent r.number (turns c.args.agent)) c.stretch-done.result.cycles c.stretch-done.new.charge c.stretch-done.new.machine c.stretch-done.result.gone gone.Going c.in-Going.is (c.stretch-done.ensures.after opening inputs stalls r (units r.agent r.number (turns c.args.agent)) (may_see given c.new-scene.result (scene_of c.args.plan.now.unit c.args.rings.now c.args.queues.now c.args.agent c.args.seat.now.start c.args.date c.as_slice.result.now c.as_slice-2.result.now c.as_slice-3.result.now c.as_slice.ensures c.as_slice-2.ensures c.as_slice-3.ensures c.new-scene.result c.new-scene.ensures)) (charged_at given) (had_less given)))
 
 pub returns-in-Going-clause-goes : goal.returns-in-Going-clause-goes
 returns-in-Going-clause-goes c = λ opening inputs stalls turns r before waits given.
-    on_then given c.requires.inside c.stretch-done.result.cycles c.stretch-done.ensures.count c.stretch-done.new.charge c.stretch-done.new.machine c.stretch-done.ensures.of (came (opened_of c.args.plan.now opening inputs stalls) c.args.plan.now.code r (units r.agent r.number turns) c.stretch-done.result.cycles c.stretch-done.new.charge c.stretch-done.new.machine c.stretch-done.result.gone gone.Going c.in-Going.is (c.stretch-done.ensures.after opening inputs stalls r (units r.agent r.number turns) (may_see given c.new-scene.result (scene_of c.args.plan.now.unit c.args.rings.now c.args.queues.now c.args.agent c.args.seat.now.start c.args.date c.as_slice.result.now c.as_slice-2.result.now c.as_slice-3.result.now c.as_slice.ensures c.as_slice-2.ensures c.as_slice-3.ensures c.new-scene.result c.new-scene.ensures)) (charged_at given) (had_less given)))
+    on_then given c.requires.inside c.stretch-done.result.cycles c.stretch-done.ensures.count c.stretch-done.new.charge c.stretch-done.new.machine c.stretch-done.ensures.of (came (opened_of c.args.plan.now opening inputs stalls) c.args.plan.now.code r (units r.agent r.number (turns c.args.agent)) c.stretch-done.result.cycles c.stretch-done.new.charge c.stretch-done.new.machine c.stretch-done.result.gone gone.Going c.in-Going.is (c.stretch-done.ensures.after opening inputs stalls r (units r.agent r.number (turns c.args.agent)) (may_see given c.new-scene.result (scene_of c.args.plan.now.unit c.args.rings.now c.args.queues.now c.args.agent c.args.seat.now.start c.args.date c.as_slice.result.now c.as_slice-2.result.now c.as_slice-3.result.now c.as_slice.ensures c.as_slice-2.ensures c.as_slice-3.ensures c.new-scene.result c.new-scene.ensures)) (charged_at given) (had_less given)))
 
 pub returns-in-Going-clause-pending : goal.returns-in-Going-clause-pending
 returns-in-Going-clause-pending c = λ opening inputs stalls turns r before waits given.
-    pending_then given c.requires.inside c.stretch-done.result.cycles c.stretch-done.ensures.count c.stretch-done.new.charge c.stretch-done.new.machine c.stretch-done.ensures.of c.stretch-done.result.gone (c.stretch-done.ensures.after opening inputs stalls r (units r.agent r.number turns) (may_see given c.new-scene.result (scene_of c.args.plan.now.unit c.args.rings.now c.args.queues.now c.args.agent c.args.seat.now.start c.args.date c.as_slice.result.now c.as_slice-2.result.now c.as_slice-3.result.now c.as_slice.ensures c.as_slice-2.ensures c.as_slice-3.ensures c.new-scene.result c.new-scene.ensures)) (charged_at given) (had_less given))
+    pending_then given c.requires.inside c.stretch-done.result.cycles c.stretch-done.ensures.count c.stretch-done.new.charge c.stretch-done.new.machine c.stretch-done.ensures.of c.stretch-done.result.gone (c.stretch-done.ensures.after opening inputs stalls r (units r.agent r.number (turns c.args.agent)) (may_see given c.new-scene.result (scene_of c.args.plan.now.unit c.args.rings.now c.args.queues.now c.args.agent c.args.seat.now.start c.args.date c.as_slice.result.now c.as_slice-2.result.now c.as_slice-3.result.now c.as_slice.ensures c.as_slice-2.ensures c.as_slice-3.ensures c.new-scene.result c.new-scene.ensures)) (charged_at given) (had_less given))
 
 pub returns-in-Going-clause-reached : goal.returns-in-Going-clause-reached
 returns-in-Going-clause-reached c = λ opening inputs stalls turns r before waits given.
-    reached_then given c.requires.inside c.stretch-done.result.cycles c.stretch-done.ensures.count c.args.reaches.now.items c.stretch-done.new.reaches.items (c.stretch-done.ensures.reached opening inputs stalls r (units r.agent r.number turns) (may_see given c.new-scene.result (scene_of c.args.plan.now.unit c.args.rings.now c.args.queues.now c.args.agent c.args.seat.now.start c.args.date c.as_slice.result.now c.as_slice-2.result.now c.as_slice-3.result.now c.as_slice.ensures c.as_slice-2.ensures c.as_slice-3.ensures c.new-scene.result c.new-scene.ensures)) (charged_at given) (had_less given))
+    reached_then given c.requires.inside c.stretch-done.result.cycles c.stretch-done.ensures.count c.args.reaches.now.items c.stretch-done.new.reaches.items (c.stretch-done.ensures.reached opening inputs stalls r (units r.agent r.number (turns c.args.agent)) (may_see given c.new-scene.result (scene_of c.args.plan.now.unit c.args.rings.now c.args.queues.now c.args.agent c.args.seat.now.start c.args.date c.as_slice.result.now c.as_slice-2.result.now c.as_slice-3.result.now c.as_slice.ensures c.as_slice-2.ensures c.as_slice-3.ensures c.new-scene.result c.new-scene.ensures)) (charged_at given) (had_less given))
 
 pub returns-in-Going-clause-boxed : goal.returns-in-Going-clause-boxed
 returns-in-Going-clause-boxed c = λ opening inputs stalls turns r before waits given.
     same_box _ _ _ _ _ _ c.stretch-done.new.eyes.outbox.now.sends _ c.stretch-done.new.eyes.taken.now.items _ (search rules) (search rules)
-    (boxed_then given c.requires.inside c.stretch-done.result.cycles c.stretch-done.ensures.count c.stretch-done.new.charge c.stretch-done.new.machine c.stretch-done.ensures.of c.stretch-done.result.gone (c.stretch-done.ensures.after opening inputs stalls r (units r.agent r.number turns) (may_see given c.new-scene.result (scene_of c.args.plan.now.unit c.args.rings.now c.args.queues.now c.args.agent c.args.seat.now.start c.args.date c.as_slice.result.now c.as_slice-2.result.now c.as_slice-3.result.now c.as_slice.ensures c.as_slice-2.ensures c.as_slice-3.ensures c.new-scene.result c.new-scene.ensures)) (charged_at given) (had_less given)) c.stretch-done.new.eyes.outbox.now.sends c.stretch-done.new.eyes.taken.now.items (c.stretch-done.ensures.did opening inputs stalls r (units r.agent r.number turns) (may_see given c.new-scene.result (scene_of c.args.plan.now.unit c.args.rings.now c.args.queues.now c.args.agent c.args.seat.now.start c.args.date c.as_slice.result.now c.as_slice-2.result.now c.as_slice-3.result.now c.as_slice.ensures c.as_slice-2.ensures c.as_slice-3.ensures c.new-scene.result c.new-scene.ensures)) (charged_at given) (had_less given)))
+    (boxed_then given c.requires.inside c.stretch-done.result.cycles c.stretch-done.ensures.count c.stretch-done.new.charge c.stretch-done.new.machine c.stretch-done.ensures.of c.stretch-done.result.gone (c.stretch-done.ensures.after opening inputs stalls r (units r.agent r.number (turns c.args.agent)) (may_see given c.new-scene.result (scene_of c.args.plan.now.unit c.args.rings.now c.args.queues.now c.args.agent c.args.seat.now.start c.args.date c.as_slice.result.now c.as_slice-2.result.now c.as_slice-3.result.now c.as_slice.ensures c.as_slice-2.ensures c.as_slice-3.ensures c.new-scene.result c.new-scene.ensures)) (charged_at given) (had_less given)) c.stretch-done.new.eyes.outbox.now.sends c.stretch-done.new.eyes.taken.now.items (c.stretch-done.ensures.did opening inputs stalls r (units r.agent r.number (turns c.args.agent)) (may_see given c.new-scene.result (scene_of c.args.plan.now.unit c.args.rings.now c.args.queues.now c.args.agent c.args.seat.now.start c.args.date c.as_slice.result.now c.as_slice-2.result.now c.as_slice-3.result.now c.as_slice.ensures c.as_slice-2.ensures c.as_slice-3.ensures c.new-scene.result c.new-scene.ensures)) (charged_at given) (had_less given)))
 
 pub returns-in-Going-clause-untaken : goal.returns-in-Going-clause-untaken
 returns-in-Going-clause-untaken c = λ stream decl at other. same_count c.stretch-done.new.eyes.taken.now.items _ stream _ (search rules)
@@ -73,12 +73,12 @@ returns-in-Going-clause-untaken c = λ stream decl at other. same_count c.stretc
 pub end_of-seat-requires-clause-may : goal.end_of-seat-requires-clause-may
 end_of-seat-requires-clause-may c =
     let w = c.requires.given in
-    end_may w.7 c.requires.inside c.stretch-done.result.cycles c.stretch-done.ensures.count c.stretch-done.new.charge c.stretch-done.new.machine c.stretch-done.ensures.of c.in-Ended.point (came (opened_of c.args.plan.now w.0 w.1 w.2) c.args.plan.now.code w.4 (units w.4.agent w.4.number w.3) c.stretch-done.result.cycles c.stretch-done.new.charge c.stretch-done.new.machine c.stretch-done.result.gone (gone.Ended c.in-Ended.point) c.in-Ended.is (c.stretch-done.ensures.after w.0 w.1 w.2 w.4 (units w.4.agent w.4.number w.3) (may_see w.7 c.new-scene.result (scene_of c.args.plan.now.unit c.args.rings.now c.args.queues.now c.args.agent c.args.seat.now.start c.args.date c.as_slice.result.now c.as_slice-2.result.now c.as_slice-3.result.now c.as_slice.ensures c.as_slice-2.ensures c.as_slice-3.ensures c.new-scene.result c.new-scene.ensures)) (charged_at w.7) (had_less w.7)))
+    end_may w.7 c.requires.inside c.stretch-done.result.cycles c.stretch-done.ensures.count c.stretch-done.new.charge c.stretch-done.new.machine c.stretch-done.ensures.of c.in-Ended.point (came (opened_of c.args.plan.now w.0 w.1 w.2) c.args.plan.now.code w.4 (units w.4.agent w.4.number (w.3 c.args.agent)) c.stretch-done.result.cycles c.stretch-done.new.charge c.stretch-done.new.machine c.stretch-done.result.gone (gone.Ended c.in-Ended.point) c.in-Ended.is (c.stretch-done.ensures.after w.0 w.1 w.2 w.4 (units w.4.agent w.4.number (w.3 c.args.agent)) (may_see w.7 c.new-scene.result (scene_of c.args.plan.now.unit c.args.rings.now c.args.queues.now c.args.agent c.args.seat.now.start c.args.date c.as_slice.result.now c.as_slice-2.result.now c.as_slice-3.result.now c.as_slice.ensures c.as_slice-2.ensures c.as_slice-3.ensures c.new-scene.result c.new-scene.ensures)) (charged_at w.7) (had_less w.7)))
 
 pub keep_copies-requires-clause-copies : goal.keep_copies-requires-clause-copies
 keep_copies-requires-clause-copies c =
     let w = c.requires.given in
-    λ variable v at owned. copies_may w.7 c.requires.inside c.stretch-done.result.cycles c.stretch-done.ensures.count c.stretch-done.new.charge c.stretch-done.new.machine c.stretch-done.ensures.of c.in-Ended.point (came (opened_of c.args.plan.now w.0 w.1 w.2) c.args.plan.now.code w.4 (units w.4.agent w.4.number w.3) c.stretch-done.result.cycles c.stretch-done.new.charge c.stretch-done.new.machine c.stretch-done.result.gone (gone.Ended c.in-Ended.point) c.in-Ended.is (c.stretch-done.ensures.after w.0 w.1 w.2 w.4 (units w.4.agent w.4.number w.3) (may_see w.7 c.new-scene.result (scene_of c.args.plan.now.unit c.args.rings.now c.args.queues.now c.args.agent c.args.seat.now.start c.args.date c.as_slice.result.now c.as_slice-2.result.now c.as_slice-3.result.now c.as_slice.ensures c.as_slice-2.ensures c.as_slice-3.ensures c.new-scene.result c.new-scene.ensures)) (charged_at w.7) (had_less w.7))) variable v at owned
+    λ variable v at owned. copies_may w.7 c.requires.inside c.stretch-done.result.cycles c.stretch-done.ensures.count c.stretch-done.new.charge c.stretch-done.new.machine c.stretch-done.ensures.of c.in-Ended.point (came (opened_of c.args.plan.now w.0 w.1 w.2) c.args.plan.now.code w.4 (units w.4.agent w.4.number (w.3 c.args.agent)) c.stretch-done.result.cycles c.stretch-done.new.charge c.stretch-done.new.machine c.stretch-done.result.gone (gone.Ended c.in-Ended.point) c.in-Ended.is (c.stretch-done.ensures.after w.0 w.1 w.2 w.4 (units w.4.agent w.4.number (w.3 c.args.agent)) (may_see w.7 c.new-scene.result (scene_of c.args.plan.now.unit c.args.rings.now c.args.queues.now c.args.agent c.args.seat.now.start c.args.date c.as_slice.result.now c.as_slice-2.result.now c.as_slice-3.result.now c.as_slice.ensures c.as_slice-2.ensures c.as_slice-3.ensures c.new-scene.result c.new-scene.ensures)) (charged_at w.7) (had_less w.7))) variable v at owned
 
 pub figured-requires-clause-count : goal.figured-requires-clause-count
 figured-requires-clause-count c = count_fits c.requires.given.7
@@ -97,12 +97,12 @@ pub returns-clause-has : goal.returns-clause-has
 returns-clause-has c = λ opening inputs stalls turns r before waits given.
     elim c.match-done.branch [
       | in-Ended b ↦
-          subst (λ e. OneStands (opened_of c.args.plan.now opening inputs stalls) c.args.plan.now.code (given_to (turn_of (Some r)) c.stretch-done.result.cycles turns) c.args.plan.now.until c.args.date c.args.agent (r ∷ before) c.stretch-done.new.charge c.stretch-done.new.machine None c.figured.result c.match-done.seat e)
+          subst (λ e. OneStands (opened_of c.args.plan.now opening inputs stalls) c.args.plan.now.code (given_to (turn_of (Some r)) c.stretch-done.result.cycles (turns c.args.agent)) c.args.plan.now.until c.args.date c.args.agent (r ∷ before) c.stretch-done.new.charge c.stretch-done.new.machine None c.figured.result c.match-done.seat e)
           (sym (ap (λ (e : Vec ℤ Global). e.items) b.ended-is))
-          (ended_has given c.requires.inside c.stretch-done.result.cycles c.stretch-done.ensures.count c.stretch-done.new.charge c.stretch-done.new.machine c.stretch-done.ensures.of c.figured.result c.match-done.seat b.keep_copies.new.ended.items c.figured.ensures b.in-Ended.point b.end_of-seat.result (b.end_of-seat.ensures (get_or c.args.plan.now.nexts c.args.agent [])) (came (opened_of c.args.plan.now opening inputs stalls) c.args.plan.now.code r (units r.agent r.number turns) c.stretch-done.result.cycles c.stretch-done.new.charge c.stretch-done.new.machine c.stretch-done.result.gone (gone.Ended b.in-Ended.point) b.in-Ended.is (c.stretch-done.ensures.after opening inputs stalls r (units r.agent r.number turns) (may_see given c.new-scene.result (scene_of c.args.plan.now.unit c.args.rings.now c.args.queues.now c.args.agent c.args.seat.now.start c.args.date c.as_slice.result.now c.as_slice-2.result.now c.as_slice-3.result.now c.as_slice.ensures c.as_slice-2.ensures c.as_slice-3.ensures c.new-scene.result c.new-scene.ensures)) (charged_at given) (had_less given))) b.seat-is
+          (ended_has given c.requires.inside c.stretch-done.result.cycles c.stretch-done.ensures.count c.stretch-done.new.charge c.stretch-done.new.machine c.stretch-done.ensures.of c.figured.result c.match-done.seat b.keep_copies.new.ended.items c.figured.ensures b.in-Ended.point b.end_of-seat.result (b.end_of-seat.ensures (get_or c.args.plan.now.nexts c.args.agent [])) (came (opened_of c.args.plan.now opening inputs stalls) c.args.plan.now.code r (units r.agent r.number (turns c.args.agent)) c.stretch-done.result.cycles c.stretch-done.new.charge c.stretch-done.new.machine c.stretch-done.result.gone (gone.Ended b.in-Ended.point) b.in-Ended.is (c.stretch-done.ensures.after opening inputs stalls r (units r.agent r.number (turns c.args.agent)) (may_see given c.new-scene.result (scene_of c.args.plan.now.unit c.args.rings.now c.args.queues.now c.args.agent c.args.seat.now.start c.args.date c.as_slice.result.now c.as_slice-2.result.now c.as_slice-3.result.now c.as_slice.ensures c.as_slice-2.ensures c.as_slice-3.ensures c.new-scene.result c.new-scene.ensures)) (charged_at given) (had_less given))) b.seat-is
           (λ variable v value at. b.keep_copies.ensures.own variable v value at))
-      | in-Trapped b ↦ trapped_has given c.requires.inside c.stretch-done.result.cycles c.stretch-done.ensures.count c.stretch-done.new.charge c.stretch-done.new.machine c.stretch-done.ensures.of c.figured.result c.match-done.seat c.match-done.ended.items c.figured.ensures b.in-Trapped.kind (came (opened_of c.args.plan.now opening inputs stalls) c.args.plan.now.code r (units r.agent r.number turns) c.stretch-done.result.cycles c.stretch-done.new.charge c.stretch-done.new.machine c.stretch-done.result.gone (gone.Trapped b.in-Trapped.kind) b.in-Trapped.is (c.stretch-done.ensures.after opening inputs stalls r (units r.agent r.number turns) (may_see given c.new-scene.result (scene_of c.args.plan.now.unit c.args.rings.now c.args.queues.now c.args.agent c.args.seat.now.start c.args.date c.as_slice.result.now c.as_slice-2.result.now c.as_slice-3.result.now c.as_slice.ensures c.as_slice-2.ensures c.as_slice-3.ensures c.new-scene.result c.new-scene.ensures)) (charged_at given) (had_less given))) (b.seat-is ∙ b.stop.ensures) (ap (λ (e : Vec ℤ Global). e.items) b.ended-is)
-      | in-Spent b ↦ spent_has given c.requires.inside c.stretch-done.result.cycles c.stretch-done.ensures.count c.stretch-done.new.charge c.stretch-done.new.machine c.stretch-done.ensures.of c.figured.result c.match-done.seat c.match-done.ended.items c.figured.ensures (came (opened_of c.args.plan.now opening inputs stalls) c.args.plan.now.code r (units r.agent r.number turns) c.stretch-done.result.cycles c.stretch-done.new.charge c.stretch-done.new.machine c.stretch-done.result.gone gone.Spent b.in-Spent.is (c.stretch-done.ensures.after opening inputs stalls r (units r.agent r.number turns) (may_see given c.new-scene.result (scene_of c.args.plan.now.unit c.args.rings.now c.args.queues.now c.args.agent c.args.seat.now.start c.args.date c.as_slice.result.now c.as_slice-2.result.now c.as_slice-3.result.now c.as_slice.ensures c.as_slice-2.ensures c.as_slice-3.ensures c.new-scene.result c.new-scene.ensures)) (charged_at given) (had_less given))) (b.seat-is ∙ b.stop-in-Spent.ensures) (ap (λ (e : Vec ℤ Global). e.items) b.ended-is)
+      | in-Trapped b ↦ trapped_has given c.requires.inside c.stretch-done.result.cycles c.stretch-done.ensures.count c.stretch-done.new.charge c.stretch-done.new.machine c.stretch-done.ensures.of c.figured.result c.match-done.seat c.match-done.ended.items c.figured.ensures b.in-Trapped.kind (came (opened_of c.args.plan.now opening inputs stalls) c.args.plan.now.code r (units r.agent r.number (turns c.args.agent)) c.stretch-done.result.cycles c.stretch-done.new.charge c.stretch-done.new.machine c.stretch-done.result.gone (gone.Trapped b.in-Trapped.kind) b.in-Trapped.is (c.stretch-done.ensures.after opening inputs stalls r (units r.agent r.number (turns c.args.agent)) (may_see given c.new-scene.result (scene_of c.args.plan.now.unit c.args.rings.now c.args.queues.now c.args.agent c.args.seat.now.start c.args.date c.as_slice.result.now c.as_slice-2.result.now c.as_slice-3.result.now c.as_slice.ensures c.as_slice-2.ensures c.as_slice-3.ensures c.new-scene.result c.new-scene.ensures)) (charged_at given) (had_less given))) (b.seat-is ∙ b.stop.ensures) (ap (λ (e : Vec ℤ Global). e.items) b.ended-is)
+      | in-Spent b ↦ spent_has given c.requires.inside c.stretch-done.result.cycles c.stretch-done.ensures.count c.stretch-done.new.charge c.stretch-done.new.machine c.stretch-done.ensures.of c.figured.result c.match-done.seat c.match-done.ended.items c.figured.ensures (came (opened_of c.args.plan.now opening inputs stalls) c.args.plan.now.code r (units r.agent r.number (turns c.args.agent)) c.stretch-done.result.cycles c.stretch-done.new.charge c.stretch-done.new.machine c.stretch-done.result.gone gone.Spent b.in-Spent.is (c.stretch-done.ensures.after opening inputs stalls r (units r.agent r.number (turns c.args.agent)) (may_see given c.new-scene.result (scene_of c.args.plan.now.unit c.args.rings.now c.args.queues.now c.args.agent c.args.seat.now.start c.args.date c.as_slice.result.now c.as_slice-2.result.now c.as_slice-3.result.now c.as_slice.ensures c.as_slice-2.ensures c.as_slice-3.ensures c.new-scene.result c.new-scene.ensures)) (charged_at given) (had_less given))) (b.seat-is ∙ b.stop-in-Spent.ensures) (ap (λ (e : Vec ℤ Global). e.items) b.ended-is)
     ]
 
 pub returns-clause-goes : goal.returns-clause-goes
@@ -111,20 +111,20 @@ returns-clause-goes c = λ opening inputs stalls turns r before waits given.
       | in-Ended b ↦ (let wrong : gone.Ended b.in-Ended.point ≡ gone.Going = sym b.in-Ended.is ∙ e in cc)
       | in-Trapped b ↦ (let wrong : gone.Trapped b.in-Trapped.kind ≡ gone.Going = sym b.in-Trapped.is ∙ e in cc)
       | in-Spent b ↦ (let wrong : gone.Spent ≡ gone.Going = sym b.in-Spent.is ∙ e in cc)
-    ]) (c.stretch-done.ensures.after opening inputs stalls r (units r.agent r.number turns) (may_see given c.new-scene.result (scene_of c.args.plan.now.unit c.args.rings.now c.args.queues.now c.args.agent c.args.seat.now.start c.args.date c.as_slice.result.now c.as_slice-2.result.now c.as_slice-3.result.now c.as_slice.ensures c.as_slice-2.ensures c.as_slice-3.ensures c.new-scene.result c.new-scene.ensures)) (charged_at given) (had_less given))
+    ]) (c.stretch-done.ensures.after opening inputs stalls r (units r.agent r.number (turns c.args.agent)) (may_see given c.new-scene.result (scene_of c.args.plan.now.unit c.args.rings.now c.args.queues.now c.args.agent c.args.seat.now.start c.args.date c.as_slice.result.now c.as_slice-2.result.now c.as_slice-3.result.now c.as_slice.ensures c.as_slice-2.ensures c.as_slice-3.ensures c.new-scene.result c.new-scene.ensures)) (charged_at given) (had_less given))
 
 pub returns-clause-pending : goal.returns-clause-pending
 returns-clause-pending c = λ opening inputs stalls turns r before waits given.
-    pending_then given c.requires.inside c.stretch-done.result.cycles c.stretch-done.ensures.count c.stretch-done.new.charge c.stretch-done.new.machine c.stretch-done.ensures.of c.stretch-done.result.gone (c.stretch-done.ensures.after opening inputs stalls r (units r.agent r.number turns) (may_see given c.new-scene.result (scene_of c.args.plan.now.unit c.args.rings.now c.args.queues.now c.args.agent c.args.seat.now.start c.args.date c.as_slice.result.now c.as_slice-2.result.now c.as_slice-3.result.now c.as_slice.ensures c.as_slice-2.ensures c.as_slice-3.ensures c.new-scene.result c.new-scene.ensures)) (charged_at given) (had_less given))
+    pending_then given c.requires.inside c.stretch-done.result.cycles c.stretch-done.ensures.count c.stretch-done.new.charge c.stretch-done.new.machine c.stretch-done.ensures.of c.stretch-done.result.gone (c.stretch-done.ensures.after opening inputs stalls r (units r.agent r.number (turns c.args.agent)) (may_see given c.new-scene.result (scene_of c.args.plan.now.unit c.args.rings.now c.args.queues.now c.args.agent c.args.seat.now.start c.args.date c.as_slice.result.now c.as_slice-2.result.now c.as_slice-3.result.now c.as_slice.ensures c.as_slice-2.ensures c.as_slice-3.ensures c.new-scene.result c.new-scene.ensures)) (charged_at given) (had_less given))
 
 pub returns-clause-reached : goal.returns-clause-reached
 returns-clause-reached c = λ opening inputs stalls turns r before waits given.
-    reached_then given c.requires.inside c.stretch-done.result.cycles c.stretch-done.ensures.count c.args.reaches.now.items c.stretch-done.new.reaches.items (c.stretch-done.ensures.reached opening inputs stalls r (units r.agent r.number turns) (may_see given c.new-scene.result (scene_of c.args.plan.now.unit c.args.rings.now c.args.queues.now c.args.agent c.args.seat.now.start c.args.date c.as_slice.result.now c.as_slice-2.result.now c.as_slice-3.result.now c.as_slice.ensures c.as_slice-2.ensures c.as_slice-3.ensures c.new-scene.result c.new-scene.ensures)) (charged_at given) (had_less given))
+    reached_then given c.requires.inside c.stretch-done.result.cycles c.stretch-done.ensures.count c.args.reaches.now.items c.stretch-done.new.reaches.items (c.stretch-done.ensures.reached opening inputs stalls r (units r.agent r.number (turns c.args.agent)) (may_see given c.new-scene.result (scene_of c.args.plan.now.unit c.args.rings.now c.args.queues.now c.args.agent c.args.seat.now.start c.args.date c.as_slice.result.now c.as_slice-2.result.now c.as_slice-3.result.now c.as_slice.ensures c.as_slice-2.ensures c.as_slice-3.ensures c.new-scene.result c.new-scene.ensures)) (charged_at given) (had_less given))
 
 pub returns-clause-boxed : goal.returns-clause-boxed
 returns-clause-boxed c = λ opening inputs stalls turns r before waits given.
     same_box _ _ _ _ _ _ c.stretch-done.new.eyes.outbox.now.sends _ c.stretch-done.new.eyes.taken.now.items _ (search rules) (search rules)
-    (boxed_then given c.requires.inside c.stretch-done.result.cycles c.stretch-done.ensures.count c.stretch-done.new.charge c.stretch-done.new.machine c.stretch-done.ensures.of c.stretch-done.result.gone (c.stretch-done.ensures.after opening inputs stalls r (units r.agent r.number turns) (may_see given c.new-scene.result (scene_of c.args.plan.now.unit c.args.rings.now c.args.queues.now c.args.agent c.args.seat.now.start c.args.date c.as_slice.result.now c.as_slice-2.result.now c.as_slice-3.result.now c.as_slice.ensures c.as_slice-2.ensures c.as_slice-3.ensures c.new-scene.result c.new-scene.ensures)) (charged_at given) (had_less given)) c.stretch-done.new.eyes.outbox.now.sends c.stretch-done.new.eyes.taken.now.items (c.stretch-done.ensures.did opening inputs stalls r (units r.agent r.number turns) (may_see given c.new-scene.result (scene_of c.args.plan.now.unit c.args.rings.now c.args.queues.now c.args.agent c.args.seat.now.start c.args.date c.as_slice.result.now c.as_slice-2.result.now c.as_slice-3.result.now c.as_slice.ensures c.as_slice-2.ensures c.as_slice-3.ensures c.new-scene.result c.new-scene.ensures)) (charged_at given) (had_less given)))
+    (boxed_then given c.requires.inside c.stretch-done.result.cycles c.stretch-done.ensures.count c.stretch-done.new.charge c.stretch-done.new.machine c.stretch-done.ensures.of c.stretch-done.result.gone (c.stretch-done.ensures.after opening inputs stalls r (units r.agent r.number (turns c.args.agent)) (may_see given c.new-scene.result (scene_of c.args.plan.now.unit c.args.rings.now c.args.queues.now c.args.agent c.args.seat.now.start c.args.date c.as_slice.result.now c.as_slice-2.result.now c.as_slice-3.result.now c.as_slice.ensures c.as_slice-2.ensures c.as_slice-3.ensures c.new-scene.result c.new-scene.ensures)) (charged_at given) (had_less given)) c.stretch-done.new.eyes.outbox.now.sends c.stretch-done.new.eyes.taken.now.items (c.stretch-done.ensures.did opening inputs stalls r (units r.agent r.number (turns c.args.agent)) (may_see given c.new-scene.result (scene_of c.args.plan.now.unit c.args.rings.now c.args.queues.now c.args.agent c.args.seat.now.start c.args.date c.as_slice.result.now c.as_slice-2.result.now c.as_slice-3.result.now c.as_slice.ensures c.as_slice-2.ensures c.as_slice-3.ensures c.new-scene.result c.new-scene.ensures)) (charged_at given) (had_less given)))
 
 pub returns-clause-untaken : goal.returns-clause-untaken
 returns-clause-untaken c = λ stream decl at other. same_count c.stretch-done.new.eyes.taken.now.items _ stream _ (search rules)
