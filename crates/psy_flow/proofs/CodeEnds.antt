@@ -13,11 +13,11 @@ use Rattle.psy_flow.proofs.MarkedNumbers.{numbered, numbers, numbers_rise}
 
 -- ---- ways and the places that they pass
 
-way_from : (instrs : List Instr) (from place to : ℕ) (places : List ℕ) → IsPassed instrs from place → IsCodeWay instrs to place places → (all : List ℕ) × IsCodeWay instrs to from all
+pub way_from : (instrs : List Instr) (from place to : ℕ) (places : List ℕ) → IsPassed instrs from place → IsCodeWay instrs to place places → (all : List ℕ) × IsCodeWay instrs to from all
 way_from instrs from place to places first way = (places, way)
 way_from instrs from place to places (later before next i passed at on) way = way_from instrs from before to (before ∷ places) passed (goes before place i places at on way)
 
-last_of : (instrs : List Instr) (from to place : ℕ) (places : List ℕ) → IsPassed instrs from place → IsCodeWay instrs to place places → (last : ℕ) × IsPassed instrs from last × (slice_get instrs last ≡ Some (instr.Advance to))
+pub last_of : (instrs : List Instr) (from to place : ℕ) (places : List ℕ) → IsPassed instrs from place → IsCodeWay instrs to place places → (last : ℕ) × IsPassed instrs from last × (slice_get instrs last ≡ Some (instr.Advance to))
 last_of instrs from to place places passed (ends here at) = (place, passed, at)
 last_of instrs from to place places passed (goes here next i rest at on way) = last_of instrs from to next rest (later here next i passed at on) way
 

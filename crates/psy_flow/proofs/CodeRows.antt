@@ -1,10 +1,12 @@
 -- The lists of ways through code, by agent.
-use Rattle.std.proofs.Common.{◌≡◌, ℕ, List, length, Some, ap, ◌∙◌}
+use Rattle.std.proofs.Common.{◌≡◌, ℕ, ◌<◌, List, length, Some, ap, ◌∙◌, arith}
 use Rattle.std.specs.Prelude.{slice_get}
-use Rattle.std.proofs.lemmas.Option.{get_or_from_slice_get}
+use Rattle.std.proofs.lemmas.Option.{get_or_from_slice_get, slice_get-get_or}
+use Rattle.psy_code.specs.declared.code.Code.{Code}
 use Rattle.psy_tree.specs.declared.unit.AgentDecl.{AgentDecl}
 use Rattle.psy_tree.specs.declared.unit.Unit.{Unit as Whole}
 use Rattle.psy_tree.specs.Parts.{agent_at, no_agent}
+use Rattle.psy_meaning.specs.CodeWays.{CanWalk, code_of}
 use Rattle.psy_meaning.specs.ListedWays.{AreByPoint, points_of}
 use Rattle.psy_flow.specs.Listed.{AreOf}
 use Rattle.psy_flow.proofs.WayRows.{counts_same}
@@ -15,3 +17,10 @@ by_number {X} unit Are lists count each = record {
   counts = counts_same lists unit.agents count (λ i list a at also. (each i list at).count ∙ ap (λ (b : AgentDecl). length b.points) (get_or_from_slice_get unit.agents i a no_agent also));
   each = λ number point list one at also. (each number list at).each point one also;
 }
+
+-- An agent has as many points in the code as in its program.
+pub same_points : (unit : Whole) (code : Code) → CanWalk unit code → (agent : ℕ) → agent < length code.agents → length (code_of code agent).points ≡ length (agent_at unit agent).points
+same_points unit code walk agent less =
+    walk.points agent (agent_at unit agent) (code_of code agent)
+    (slice_get-get_or unit.agents agent no_agent (omega (arith, less, walk.agents)))
+    (slice_get-get_or code.agents agent _ less)

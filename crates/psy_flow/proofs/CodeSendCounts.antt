@@ -15,8 +15,7 @@ use Rattle.psy_meaning.specs.Flow.{IsCut}
 use Rattle.psy_flow.specs.CodeLists.{send_of, sends_at, sends_there}
 use Rattle.psy_flow.specs.declared.parts.Part.{Part}
 use Rattle.psy_flow.specs.declared.parts.Part.TheVariants as part
-use Rattle.psy_flow.specs.declared.quests.Quest.TheVariants as quest
-use Rattle.psy_flow.specs.Quests.{HasCount, counted, counts, ends_here, goes_on, part_of}
+use Rattle.psy_flow.specs.Quests.{HasCount, counted, counts, ends_here, goes_on, part_of, quest_of}
 use Rattle.psy_flow.specs.Reach.{marked}
 use Rattle.psy_flow.specs.Walks.{ArePassed}
 use Rattle.psy_flow.specs.Worths.{AreTops}
@@ -29,7 +28,7 @@ module _ (instrs : List Instr) (from to stream budget : ℕ) where
   abbrev Has : ℕ → Type 0
   Has = HasCodeSends instrs from to stream
 
-  pub cut_of_tops : (places row : List ℕ) → AreTops instrs (quest.Sends to stream) places row → Contains places from → (all : List ℕ) × IsCodeWay instrs to from all → IsMostCodeSends instrs from to stream budget (min (get_or row from 0 - 1) SENDS)
+  pub cut_of_tops : (places row : List ℕ) → AreTops instrs (quest_of to stream) places row → Contains places from → (all : List ℕ) × IsCodeWay instrs to from all → IsMostCodeSends instrs from to stream budget (min (get_or row from 0 - 1) SENDS)
   cut_of_tops places row tops inside (all, way) =
       let top = tops.each from inside in
       let n = get_or row from 0 - 1 in
@@ -41,7 +40,7 @@ module _ (instrs : List Instr) (from to stream budget : ℕ) where
       } in
       inl (n, greatest, refl)
 
-  pub endless_sends : IsUnbounded (HasCount instrs (quest.Sends to stream) from) → IsMostCodeSends instrs from to stream budget (min budget SENDS)
+  pub endless_sends : IsUnbounded (HasCount instrs (quest_of to stream) from) → IsMostCodeSends instrs from to stream budget (min budget SENDS)
   endless_sends unbounded = inr ((λ m. let (n, has, less) = unbounded m in (n, sends_way instrs to stream from n has, less)), refl)
 
   unbounded_cut : (n : ℕ) → IsUnbounded Has → IsCut Has SENDS n → ⊥
@@ -60,32 +59,32 @@ module _ (instrs : List Instr) (from to stream budget : ℕ) where
 
 -- ---- sends to a stream stand at places that are passed
 
-sent_part : (i : Instr) (to stream : ℕ) → counts (part_of i) (quest.Sends to stream) ≡ true → send_of (Some i) stream ≡ true
+sent_part : (i : Instr) (to stream : ℕ) → counts (part_of i) (quest_of to stream) ≡ true → send_of (Some i) stream ≡ true
 sent_part (instr.Send own after clock) to stream h = h
 sent_part _ to stream h = absurd (false≢true h)
 
-send_is : (i : Instr) (to stream : ℕ) → counts (part_of i) (quest.Sends to stream) ≡ true → (after clock : ℕ) × (i ≡ instr.Send stream after clock)
+send_is : (i : Instr) (to stream : ℕ) → counts (part_of i) (quest_of to stream) ≡ true → (after clock : ℕ) × (i ≡ instr.Send stream after clock)
 send_is (instr.Send own after clock) to stream h = let same : own ≡ stream = grind (arith, h) in (after, clock, ap (λ s. instr.Send s after clock) same)
 send_is _ to stream h = absurd (false≢true h)
 
 module _ (instrs : List Instr) (to stream : ℕ) where
   -- On a way from a place stands a send to the stream.
   abbrev HasSendOn : ℕ → Type 0
-  HasSendOn place = (there : ℕ) × (i : Instr) × IsPassed instrs place there × (slice_get instrs there ≡ Some i) × (counts (part_of i) (quest.Sends to stream) ≡ true)
+  HasSendOn place = (there : ℕ) × (i : Instr) × IsPassed instrs place there × (slice_get instrs there ≡ Some i) × (counts (part_of i) (quest_of to stream) ≡ true)
 
-  sent_here : (here next m k : ℕ) (i : Instr) → slice_get instrs here ≡ Some i → GoesOn i here next → m ≡ k + counted (part_of i) (quest.Sends to stream) → 1 ≤ m → (1 ≤ k → HasSendOn next) → (b : Bool) → counts (part_of i) (quest.Sends to stream) ≡ b → HasSendOn here
+  sent_here : (here next m k : ℕ) (i : Instr) → slice_get instrs here ≡ Some i → GoesOn i here next → m ≡ k + counted (part_of i) (quest_of to stream) → 1 ≤ m → (1 ≤ k → HasSendOn next) → (b : Bool) → counts (part_of i) (quest_of to stream) ≡ b → HasSendOn here
   sent_here here next m k i at on e some rest true is = (here, i, first, at, is)
   sent_here here next m k i at on e some rest false is =
-      let none = counts_none (part_of i) (quest.Sends to stream) is in
+      let none = counts_none (part_of i) (quest_of to stream) is in
       let (there, j, passed, stands, counts_there) = rest (omega (arith, e, none, some)) in
       (there, j, passed_on instrs here next there (later here next i first at on) passed, stands, counts_there)
 
   -- A way with sends passes one.
-  pub sent_where : (place n : ℕ) → HasCount instrs (quest.Sends to stream) place n → 1 ≤ n → HasSendOn place
+  pub sent_where : (place n : ℕ) → HasCount instrs (quest_of to stream) place n → 1 ≤ n → HasSendOn place
   sent_where place n (ends_here here m i at end e) some = absurd (omega (arith, e, some))
-  sent_where place n (goes_on here next m k i at on has e) some = sent_here here next m k i at on e some (λ more. sent_where next k has more) (counts (part_of i) (quest.Sends to stream)) refl
+  sent_where place n (goes_on here next m k i at on has e) some = sent_here here next m k i at on e some (λ more. sent_where next k has more) (counts (part_of i) (quest_of to stream)) refl
 
-  pub named_stream : (from streams n : ℕ) → ((place s after clock : ℕ) → IsPassed instrs from place → slice_get instrs place ≡ Some (instr.Send s after clock) → s < streams) → HasCount instrs (quest.Sends to stream) from n → 1 ≤ n → stream < streams
+  pub named_stream : (from streams n : ℕ) → ((place s after clock : ℕ) → IsPassed instrs from place → slice_get instrs place ≡ Some (instr.Send s after clock) → s < streams) → HasCount instrs (quest_of to stream) from n → 1 ≤ n → stream < streams
   named_stream from streams n named has some =
       let (there, i, passed, at, is) = sent_where from n has some in
       let (after, clock, same) = send_is i to stream is in
@@ -108,7 +107,7 @@ module _ (instrs : List Instr) (from : ℕ) (places : List ℕ) (are : ArePassed
       let read : slice_get sent stream ≡ Some false = slice_get-get_or sent stream false inside ∙ ap Some not in
       false≢true (same_Some false true (sym read ∙ marks))
 
-  none_sent : (n : ℕ) → HasCount instrs (quest.Sends to stream) from n → n ≡ 0
+  none_sent : (n : ℕ) → HasCount instrs (quest_of to stream) from n → n ≡ 0
   none_sent n has = elim (cases_lt 0 n) [
     | inl some ↦ (
         let (there, i, passed, at, counts_there) = sent_where instrs to stream from n has (omega (arith, some)) in

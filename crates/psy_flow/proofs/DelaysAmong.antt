@@ -15,7 +15,7 @@ use Rattle.psy_meaning.specs.Sendings.{delay_of, joined, sendings_in, sendings_o
 use Rattle.psy_meaning.specs.Ways.{Sending}
 use Rattle.psy_flow.specs.Listed.{delay_among}
 
-most_append : (xs ys : List ℕ) → most_of (xs ++ ys) ≡ max (most_of xs) (most_of ys)
+pub most_append : (xs ys : List ℕ) → most_of (xs ++ ys) ≡ max (most_of xs) (most_of ys)
 most_append [] ys = omega arith
 most_append (n ∷ xs) ys = omega (arith, most_append xs ys)
 

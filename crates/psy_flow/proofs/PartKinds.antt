@@ -8,8 +8,7 @@ use Rattle.psy_meaning.specs.CodeWays.{GoesOn}
 use Rattle.psy_flow.specs.declared.parts.Part.{Part}
 use Rattle.psy_flow.specs.declared.parts.Part.TheVariants as part
 use Rattle.psy_flow.specs.declared.quests.Quest.{Quest}
-use Rattle.psy_flow.specs.declared.quests.Quest.TheVariants as quest
-use Rattle.psy_flow.specs.Quests.{counted, counts, ends, part_of}
+use Rattle.psy_flow.specs.Quests.{counted, counts, ends, part_of, quest_of}
 
 -- The instructions that are this to their ways
 abbrev pub IsPart : Instr → Part → Type 0
@@ -37,13 +36,9 @@ no_way_on (instr.Advance point) quest place next end on = on
 no_way_on _ quest place next end on = absurd (false≢true end)
 
 -- What is an end for some point is that point's `Advance`.
-pub end_is : (i : Instr) (to stream : ℕ) → ends (part_of i) (quest.Sends to stream) ≡ true → i ≡ instr.Advance to
+pub end_is : (i : Instr) (to stream : ℕ) → ends (part_of i) (quest_of to stream) ≡ true → i ≡ instr.Advance to
 end_is (instr.Advance point) to stream end = let same : point ≡ to = grind (arith, end) in ap instr.Advance same
 end_is _ to stream end = absurd (false≢true end)
-
-pub some_end : (i : Instr) → ends (part_of i) quest.Any ≡ true → (point : ℕ) × (i ≡ instr.Advance point)
-some_end (instr.Advance point) end = (point, refl)
-some_end _ end = absurd (false≢true end)
 
 pub counts_one : (p : Part) (quest : Quest) → counts p quest ≡ true → counted p quest ≡ 1
 counts_one p quest is = ap (λ (b : Bool). if b then 1 else 0) is

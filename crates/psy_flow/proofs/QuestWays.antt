@@ -6,16 +6,15 @@ use Rattle.std.proofs.lemmas.List.Sums.{sum_by-cons}
 use Rattle.psy_code.specs.declared.instr.Instr.{Instr}
 use Rattle.psy_code.specs.declared.instr.Instr.TheVariants as instr
 use Rattle.psy_meaning.specs.CodeWays.{HasCodeSends, IsCodeWay, IsPassed, ends, first, goes, is_send_to, later, sends_at}
-use Rattle.psy_flow.specs.declared.quests.Quest.TheVariants as quest
-use Rattle.psy_flow.specs.Quests.{HasCount, counted, counts, ends_here, goes_on, part_of}
-use Rattle.psy_flow.proofs.PartKinds.{end_is, some_end}
+use Rattle.psy_flow.specs.Quests.{HasCount, counted, counts, ends_here, goes_on, part_of, quest_of}
+use Rattle.psy_flow.proofs.PartKinds.{end_is}
 
 -- What is passed from a place that is passed is passed.
 pub passed_on : (instrs : List Instr) (from middle place : ℕ) → IsPassed instrs from middle → IsPassed instrs middle place → IsPassed instrs from place
 passed_on instrs from middle place a first = a
 passed_on instrs from middle place a (later before next i b at on) = later before next i (passed_on instrs from middle before a b) at on
 
--- ---- ways to any end
+-- ---- parts of ways
 
 -- A way to a point goes on from each of its places.
 pub way_rest : (instrs : List Instr) (point from place : ℕ) (places : List ℕ) → IsCodeWay instrs point from places → Contains places place → IsPassed instrs from place × ((rest : List ℕ) × IsCodeWay instrs point place rest)
@@ -36,49 +35,32 @@ pub begins : (instrs : List Instr) (from point : ℕ) (places : List ℕ) → Is
 begins instrs from point places (ends here at) = (0, omega arith, refl)
 begins instrs from point places (goes here next i rest at on way) = (0, omega arith, refl)
 
-nothing_counts : (i : Instr) → counted (part_of i) quest.Any ≡ 0
-nothing_counts (instr.Send stream after clock) = refl
-nothing_counts _ = refl
-
--- Where any end is looked for, nothing is counted.
-pub no_counts : (instrs : List Instr) (place n : ℕ) → HasCount instrs quest.Any place n → n ≡ 0
-no_counts instrs place n (ends_here here m i at end e) = e
-no_counts instrs place n (goes_on here next m k i at on has e) = omega (arith, e, no_counts instrs next k has, nothing_counts i)
-
-pub any_way : (instrs : List Instr) (place n : ℕ) → HasCount instrs quest.Any place n → (point : ℕ) × (places : List ℕ) × IsCodeWay instrs point place places
-any_way instrs place n (ends_here here m i at end e) = let (point, is) = some_end i end in (point, here ∷ [], ends here (at ∙ ap Some is))
-any_way instrs place n (goes_on here next m k i at on has e) = let (point, places, way) = any_way instrs next k has in (point, here ∷ places, goes here next i places at on way)
-
-pub way_any : (instrs : List Instr) (point place : ℕ) (places : List ℕ) → IsCodeWay instrs point place places → HasCount instrs quest.Any place 0
-way_any instrs point place places (ends here at) = ends_here here 0 (instr.Advance point) at refl refl
-way_any instrs point place places (goes here next i rest at on way) = goes_on here next 0 0 i at on (way_any instrs point next rest way) (omega (arith, nothing_counts i))
-
 -- ---- ways to a point, with the sends to a stream
 
-same_sends : (i : Instr) (to stream : ℕ) → is_send_to stream (Some i) ≡ counts (part_of i) (quest.Sends to stream)
+same_sends : (i : Instr) (to stream : ℕ) → is_send_to stream (Some i) ≡ counts (part_of i) (quest_of to stream)
 same_sends (instr.Send own after clock) to stream = refl
 same_sends _ to stream = refl
 
-more_sends : (instrs : List Instr) (to stream place : ℕ) (i : Instr) (places : List ℕ) → slice_get instrs place ≡ Some i → sends_at instrs stream (place ∷ places) ≡ sends_at instrs stream places + counted (part_of i) (quest.Sends to stream)
+more_sends : (instrs : List Instr) (to stream place : ℕ) (i : Instr) (places : List ℕ) → slice_get instrs place ≡ Some i → sends_at instrs stream (place ∷ places) ≡ sends_at instrs stream places + counted (part_of i) (quest_of to stream)
 more_sends instrs to stream place i places at =
-    let same : cond (is_send_to stream (slice_get instrs place)) 1 0 ≡ counted (part_of i) (quest.Sends to stream) = ap (λ b. cond b 1 0) (ap (is_send_to stream) at ∙ same_sends i to stream) in
+    let same : cond (is_send_to stream (slice_get instrs place)) 1 0 ≡ counted (part_of i) (quest_of to stream) = ap (λ b. cond b 1 0) (ap (is_send_to stream) at ∙ same_sends i to stream) in
     omega (arith, sum_by-cons (λ p. cond (is_send_to stream (slice_get instrs p)) 1 0) place places, same)
 
-pub sends_way : (instrs : List Instr) (to stream place n : ℕ) → HasCount instrs (quest.Sends to stream) place n → HasCodeSends instrs place to stream n
+pub sends_way : (instrs : List Instr) (to stream place n : ℕ) → HasCount instrs (quest_of to stream) place n → HasCodeSends instrs place to stream n
 sends_way instrs to stream place n (ends_here here m i at end e) =
     let is : slice_get instrs here ≡ Some (instr.Advance to) = at ∙ ap Some (end_is i to stream end) in
     (here ∷ [], ends here is, more_sends instrs to stream here (instr.Advance to) [] is ∙ sym e)
 sends_way instrs to stream place n (goes_on here next m k i at on has e) =
     let (places, way, sent) = sends_way instrs to stream next k has in
-    (here ∷ places, goes here next i places at on way, more_sends instrs to stream here i places at ∙ ap (λ s. s + counted (part_of i) (quest.Sends to stream)) sent ∙ sym e)
+    (here ∷ places, goes here next i places at on way, more_sends instrs to stream here i places at ∙ ap (λ s. s + counted (part_of i) (quest_of to stream)) sent ∙ sym e)
 
 end_there : (to : ℕ) → nat_eq to to ≡ true
 end_there to = grind arith
 
-pub way_sends : (instrs : List Instr) (to stream place : ℕ) (places : List ℕ) → IsCodeWay instrs to place places → HasCount instrs (quest.Sends to stream) place (sends_at instrs stream places)
+pub way_sends : (instrs : List Instr) (to stream place : ℕ) (places : List ℕ) → IsCodeWay instrs to place places → HasCount instrs (quest_of to stream) place (sends_at instrs stream places)
 way_sends instrs to stream place places (ends here at) = ends_here here (sends_at instrs stream (here ∷ [])) (instr.Advance to) at (end_there to) (more_sends instrs to stream here (instr.Advance to) [] at)
 way_sends instrs to stream place places (goes here next i rest at on way) =
     goes_on here next (sends_at instrs stream (here ∷ rest)) (sends_at instrs stream rest) i at on (way_sends instrs to stream next rest way) (more_sends instrs to stream here i rest at)
 
-pub count_of_sends : (instrs : List Instr) (to stream place n : ℕ) → HasCodeSends instrs place to stream n → HasCount instrs (quest.Sends to stream) place n
-count_of_sends instrs to stream place n (places, way, sent) = subst (HasCount instrs (quest.Sends to stream) place) sent (way_sends instrs to stream place places way)
+pub count_of_sends : (instrs : List Instr) (to stream place n : ℕ) → HasCodeSends instrs place to stream n → HasCount instrs (quest_of to stream) place n
+count_of_sends instrs to stream place n (places, way, sent) = subst (HasCount instrs (quest_of to stream) place) sent (way_sends instrs to stream place places way)

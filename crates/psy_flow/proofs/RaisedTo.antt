@@ -1,24 +1,24 @@
 -- Numbers by stream that are raised to the greatest of some.
 use Rattle.std.proofs.Common.{◌≡◌, ◌⊎◌, ℕ, zero, suc, ◌+◌, ◌-◌, ◌*◌, ◌<◌, ◌≤◌, List, [], ◌∷◌, ◌++◌, length, get_or, take, replicate, Some, refl, sym, ap, subst, ◌∙◌, inl, inr, arith, length-set, get_or-set_other, get_or-set_same}
 use Rattle.std.specs.Prelude.{slice_get, slice_set, ◌≢◌}
-use Rattle.std.proofs.lemmas.Bool.{cases_lt}
 use Rattle.std.proofs.lemmas.List.{length-replicate, take_more}
 use Rattle.std.proofs.lemmas.List.Elements.{Contains-append_left, Contains-push, Contains-push_cases}
-use Rattle.std.proofs.lemmas.Option.{slice_get_within, get_or_from_slice_get}
+use Rattle.std.proofs.lemmas.Option.{slice_get-get_or, slice_get_within, get_or_from_slice_get}
 use Rattle.psy_code.specs.declared.code.Code.{Code}
 use Rattle.psy_code.specs.declared.instr.Instr.{Instr}
 use Rattle.psy_code.specs.declared.instr.Instr.TheVariants as instr
 use Rattle.psy_tree.specs.declared.unit.Unit.{Unit as Whole}
-use Rattle.psy_tree.specs.Parts.{agent_at}
-use Rattle.psy_meaning.specs.CodeWays.{AreCodeDelays, HasCodeDelay, place_of}
+use Rattle.psy_tree.specs.Parts.{agent_at, no_agent}
+use Rattle.psy_meaning.specs.CodeWays.{AreCodeDelays, CanWalk, HasCodeDelay, IsOnWay, IsPassed, place_of}
 use Rattle.psy_meaning.specs.Sendings.{delay_of, period_of}
 use Rattle.psy_flow.specs.declared.parts.Part.{Part}
 use Rattle.psy_flow.specs.declared.parts.Part.TheVariants as part
-use Rattle.psy_flow.specs.CodeLists.{HasAgentDelay, HasDelayAmong, HasDelayThere, HasDelayUpTo, HasPartDelay, HasWayDelay, IsRaisedTo}
-use Rattle.psy_flow.specs.Quests.{any, part_of}
-use Rattle.psy_flow.specs.Walks.{ArePassed}
-use Rattle.psy_flow.specs.Worths.{AreTops}
-use Rattle.psy_flow.proofs.CodeSpots.{on_way, spot_of}
+use Rattle.psy_flow.specs.Bits.{AreEndings, HasBitAt}
+use Rattle.psy_flow.specs.CodeLists.{AreStarts, HasDelayAmong, HasDelayThere, HasPartDelay, IsRaisedTo}
+use Rattle.psy_flow.specs.Quests.{part_of}
+use Rattle.psy_flow.specs.Walks.{AllStayIn, ArePassedFrom}
+use Rattle.psy_flow.proofs.CodeRows.{same_points}
+use Rattle.psy_flow.proofs.QuestWays.{begins, way_front, way_rest}
 use Rattle.psy_flow.proofs.WorthCells.{same_or_not}
 
 -- So many zeros
@@ -89,21 +89,6 @@ part_delay : (unit : Whole) (i : Instr) (s n : ℕ) → HasPartDelay unit (part_
 part_delay unit (instr.Send own after clock) s n (same, is) = (after, clock, ap (λ o. instr.Send o after clock) same, is)
 part_delay unit _ s n h = absurd h
 
-module _ (unit : Whole) (instrs : List Instr) (from : ℕ) (places row : List ℕ) (are : ArePassed instrs from places) (tops : AreTops instrs any places row) where
-  to_way : (s n : ℕ) → HasDelayAmong unit instrs row places s n → HasWayDelay unit instrs from s n
-  to_way s n (place, inside, there) =
-      let (i, at, some, has) = there in
-      let (after, clock, same, is) = part_delay unit i s n has in
-      (after, clock, on_way instrs from places row are tops (instr.Send s after clock) place inside some (at ∙ ap Some same), is)
-
-  of_way : (s n : ℕ) → HasWayDelay unit instrs from s n → HasDelayAmong unit instrs row places s n
-  of_way s n (after, clock, on, is) =
-      let (place, inside, some, at) = spot_of instrs from places row are tops (instr.Send s after clock) on in
-      (place, inside, (instr.Send s after clock, at, some, (refl, is)))
-
-  pub raised_way : (xs ys : List ℕ) → IsRaisedTo (HasDelayAmong unit instrs row places) xs ys → IsRaisedTo (HasWayDelay unit instrs from) xs ys
-  raised_way xs ys a = raised_same (HasDelayAmong unit instrs row places) (HasWayDelay unit instrs from) xs ys to_way of_way a
-
 zero_there : (n s : ℕ) → get_or (zeros_of n) s 0 ≡ 0
 zero_there zero s = refl
 zero_there (suc n) zero = refl
@@ -123,15 +108,15 @@ pub raised_no_part : (unit : Whole) (p : Part) (xs : List ℕ) → ((stream afte
 raised_no_part unit p xs not = raised_none (HasPartDelay unit p) xs (no_delay unit p not)
 
 module _ (unit : Whole) (instrs : List Instr) (row : List ℕ) where
-  pub raised_there : (place : ℕ) (i : Instr) (xs ys : List ℕ) → slice_get instrs place ≡ Some i → 0 < get_or row place 0 → IsRaisedTo (HasPartDelay unit (part_of i)) xs ys → IsRaisedTo (HasDelayThere unit instrs row place) xs ys
+  pub raised_there : (place : ℕ) (i : Instr) (xs ys : List ℕ) → slice_get instrs place ≡ Some i → HasBitAt row place 0 → IsRaisedTo (HasPartDelay unit (part_of i)) xs ys → IsRaisedTo (HasDelayThere unit instrs row place) xs ys
   raised_there place i xs ys at some raised =
       raised_same (HasPartDelay unit (part_of i)) (HasDelayThere unit instrs row place) xs ys
       (λ s n has. (i, at, some, has))
       (λ s n (j, also, full, has). (let same : j ≡ i = same_instr j i (sym also ∙ at) in subst (λ k. HasPartDelay unit (part_of k) s n) same has))
       raised
 
-  pub raised_not_there : (place : ℕ) (xs : List ℕ) → get_or row place 0 ≤ 0 → IsRaisedTo (HasDelayThere unit instrs row place) xs xs
-  raised_not_there place xs none = raised_none (HasDelayThere unit instrs row place) xs (λ s n (j, also, full, has). omega (arith, none, full))
+  pub raised_not_there : (place : ℕ) (xs : List ℕ) → (HasBitAt row place 0 → ⊥) → IsRaisedTo (HasDelayThere unit instrs row place) xs xs
+  raised_not_there place xs none = raised_none (HasDelayThere unit instrs row place) xs (λ s n (j, also, full, has). none full)
 
   pub among_none : (xs : List ℕ) → IsRaisedTo (HasDelayAmong unit instrs row []) xs xs
   among_none xs = raised_none (HasDelayAmong unit instrs row []) xs (λ s n (place, has, there). omega (arith, has.1))
@@ -152,60 +137,45 @@ module _ (unit : Whole) (instrs : List Instr) (row : List ℕ) where
       ])
       (raised_more (HasDelayAmong unit instrs row (take k places)) (HasDelayThere unit instrs row last) xs ys zs a b))
 
--- ---- one point more, one agent more
+-- ---- of a program's code
 
-module _ (unit : Whole) (code : Code) where
-  pub raised_points : (agent points : ℕ) (xs ys zs : List ℕ) → IsRaisedTo (HasAgentDelay unit code agent points) xs ys → IsRaisedTo (HasWayDelay unit code.instrs (place_of code agent points)) ys zs → IsRaisedTo (HasAgentDelay unit code agent (points + 1)) xs zs
-  raised_points agent points xs ys zs a b =
-      raised_same (λ s n. HasAgentDelay unit code agent points s n ⊎ HasWayDelay unit code.instrs (place_of code agent points) s n) (HasAgentDelay unit code agent (points + 1)) xs zs up down
-      (raised_more (HasAgentDelay unit code agent points) (HasWayDelay unit code.instrs (place_of code agent points)) xs ys zs a b)
-    where
-      up : (s n : ℕ) → HasAgentDelay unit code agent points s n ⊎ HasWayDelay unit code.instrs (place_of code agent points) s n → HasAgentDelay unit code agent (points + 1) s n
-      up s n (inl (point, less, has)) = (point, omega (arith, less), has)
-      up s n (inr has) = (points, omega arith, has)
+module _ (unit : Whole) (code : Code) (walk : CanWalk unit code) (endings starts places : List ℕ) (are : AreEndings code.instrs endings) (begun : AreStarts code starts) (passed : ArePassedFrom code.instrs starts places) where
+  to_code : (s n : ℕ) → HasDelayAmong unit code.instrs endings places s n → HasCodeDelay unit code s n
+  to_code s n (place, inside, (i, at, bit, has)) =
+      let (after, clock, same, is) = part_delay unit i s n has in
+      let (start, among, on) = (passed.each place).0 inside in
+      let (agent, less, (point, low, there)) = (begun start).0 among in
+      let (end, rest, way) = (are.each place).0 bit in
+      let (all, through, holds) = way_front code.instrs start place end place rest on way (begins code.instrs place end rest way) in
+      let on_way : IsOnWay code.instrs start (instr.Send s after clock) = (end, place, all, through, holds, at ∙ ap Some same) in
+      (agent, point, after, clock, omega (arith, less, walk.agents), omega (arith, low, same_points unit code walk agent less), subst (λ p. IsOnWay code.instrs p (instr.Send s after clock)) there on_way, is)
 
-      down : (s n : ℕ) → HasAgentDelay unit code agent (points + 1) s n → HasAgentDelay unit code agent points s n ⊎ HasWayDelay unit code.instrs (place_of code agent points) s n
-      down s n (point, less, has) = elim (cases_lt point points) [
-        | inl low ↦ inl (point, low, has)
-        | inr not ↦ (let same : point ≡ points = omega (arith, not, less) in inr (subst (λ p. HasWayDelay unit code.instrs (place_of code agent p) s n) same has))
-      ]
-
-  -- Those of all points of an agent
-  abbrev Own : ℕ → ℕ → ℕ → Type 0
-  Own agent = HasAgentDelay unit code agent (length (agent_at unit agent).points)
-
-  pub raised_agents : (agents : ℕ) (xs ys zs : List ℕ) → IsRaisedTo (HasDelayUpTo unit code agents) xs ys → IsRaisedTo (HasAgentDelay unit code agents (length (agent_at unit agents).points)) ys zs → IsRaisedTo (HasDelayUpTo unit code (agents + 1)) xs zs
-  raised_agents agents xs ys zs a b =
-      raised_same (λ s n. HasDelayUpTo unit code agents s n ⊎ Own agents s n) (HasDelayUpTo unit code (agents + 1)) xs zs up down
-      (raised_more (HasDelayUpTo unit code agents) (Own agents) xs ys zs a b)
-    where
-      up : (s n : ℕ) → HasDelayUpTo unit code agents s n ⊎ Own agents s n → HasDelayUpTo unit code (agents + 1) s n
-      up s n (inl (agent, less, has)) = (agent, omega (arith, less), has)
-      up s n (inr has) = (agents, omega arith, has)
-
-      down : (s n : ℕ) → HasDelayUpTo unit code (agents + 1) s n → HasDelayUpTo unit code agents s n ⊎ Own agents s n
-      down s n (agent, less, has) = elim (cases_lt agent agents) [
-        | inl low ↦ inl (agent, low, has)
-        | inr not ↦ (let same : agent ≡ agents = omega (arith, not, less) in inr (subst (λ a. Own a s n) same has))
-      ]
+  of_code : (s n : ℕ) → HasCodeDelay unit code s n → HasDelayAmong unit code.instrs endings places s n
+  of_code s n (agent, point, after, clock, less, low, (end, place, all, way, holds, at), is) =
+      let start = place_of code agent point in
+      let own : agent < length code.agents = omega (arith, less, walk.agents) in
+      let (on, behind) = way_rest code.instrs end start place all way holds in
+      let among = (begun start).1 (agent, own, (point, omega (arith, low, same_points unit code walk agent own), refl)) in
+      (place, (passed.each place).1 (start, among, on), (instr.Send s after clock, at, (are.each place).1 (end, behind.0, behind.1), (refl, is)))
 
   -- From zeros on, those of all agents
-  pub delays_are : (xs : List ℕ) → IsRaisedTo (HasDelayUpTo unit code (length unit.agents)) (replicate (length unit.streams) 0) xs → AreCodeDelays unit code xs
+  pub delays_are : (xs : List ℕ) → IsRaisedTo (HasDelayAmong unit code.instrs endings places) (replicate (length unit.streams) 0) xs → AreCodeDelays unit code xs
   delays_are xs raised = record {
     count = raised.count ∙ length-replicate (length unit.streams) 0;
     each = λ stream delay at. record {
       one = elim (raised.one stream) [
         | inl same ↦ inl (omega (arith, get_or_from_slice_get xs stream delay 0 at, same, zero_there (length unit.streams) stream))
-        | inr has ↦ inr (subst (HasCodeDelay unit code stream) (get_or_from_slice_get xs stream delay 0 at) (of_all stream (get_or xs stream 0) has))
+        | inr has ↦ inr (subst (HasCodeDelay unit code stream) (get_or_from_slice_get xs stream delay 0 at) (to_code stream (get_or xs stream 0) has))
       ];
       all = λ n has. (
           let less = slice_get_within xs stream delay at in
-          omega (arith, get_or_from_slice_get xs stream delay 0 at, raised.most stream n (omega (arith, less, raised.count)) (to_all stream n has)));
+          omega (arith, get_or_from_slice_get xs stream delay 0 at, raised.most stream n (omega (arith, less, raised.count)) (of_code stream n has)));
     };
   }
-    where
-      of_all : (s n : ℕ) → HasDelayUpTo unit code (length unit.agents) s n → HasCodeDelay unit code s n
-      of_all s n (agent, less, (point, low, (after, clock, on, is))) = (agent, point, after, clock, less, low, on, is)
 
-      to_all : (s n : ℕ) → HasCodeDelay unit code s n → HasDelayUpTo unit code (length unit.agents) s n
-      to_all s n (agent, point, after, clock, less, low, on, is) = (agent, less, (point, low, (after, clock, on, is)))
+-- Each place that ways from the points pass lies in the code.
+pub starts_stay : (unit : Whole) (code : Code) (walk : CanWalk unit code) (starts : List ℕ) → AreStarts code starts → AllStayIn code.instrs starts
+starts_stay unit code walk starts begun place (start, among, on) =
+    let (agent, less, (point, low, there)) = (begun start).0 among in
+    walk.inside agent point place (agent_at unit agent) (slice_get-get_or unit.agents agent no_agent (omega (arith, less, walk.agents)))
+    (omega (arith, low, same_points unit code walk agent less)) (subst (λ p. IsPassed code.instrs p place) there on)

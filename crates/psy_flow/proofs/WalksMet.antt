@@ -8,7 +8,7 @@ use Rattle.std.proofs.lemmas.List.Elements.{Contains-append_left, Contains-get_o
 use Rattle.std.proofs.lemmas.Option.{none-some, same_Some, slice_get_within}
 use Rattle.psy_code.specs.declared.instr.Instr.{Instr}
 use Rattle.psy_meaning.specs.CodeWays.{GoesOn, IsPassed, first, later}
-use Rattle.psy_flow.specs.Walks.{AreMet, ArePassed, IsGrown, IsMarked, MayFollow, StaysIn, onward_of, unmarked}
+use Rattle.psy_flow.specs.Walks.{AllStayIn, AreMet, ArePassed, ArePassedFrom, IsGrown, IsMarked, IsPassedFrom, MayFollow, StaysIn, onward_of, unmarked}
 use Rattle.psy_flow.proofs.Onwards.{IsOneOf, goes_if, one_of}
 
 -- ---- marks
@@ -77,8 +77,8 @@ grown_has a b p (more, is) has = subst (λ xs. Contains xs p) (sym is) (Contains
 
 -- ---- places met
 
-module _ (instrs : List Instr) (from : ℕ) where
-  pub met_none : AreMet instrs from (replicate (length instrs) false) []
+module _ (instrs : List Instr) (starts : List ℕ) where
+  pub met_none : AreMet instrs starts (replicate (length instrs) false) []
   met_none = record {
     count = length_none (length instrs);
     room = omega (arith, unmarked_all (length instrs));
@@ -87,7 +87,7 @@ module _ (instrs : List Instr) (from : ℕ) where
     passed = λ place c. absurd (omega (arith, c.1));
   }
 
-  pub met_more : (marks : List Bool) (places : List ℕ) (place : ℕ) → AreMet instrs from marks places → slice_get marks place ≡ Some false → IsPassed instrs from place → AreMet instrs from (slice_set marks place true) (places ++ place ∷ [])
+  pub met_more : (marks : List Bool) (places : List ℕ) (place : ℕ) → AreMet instrs starts marks places → slice_get marks place ≡ Some false → IsPassedFrom instrs starts place → AreMet instrs starts (slice_set marks place true) (places ++ place ∷ [])
   met_more marks places place met new passed = record {
     count = omega (arith, met.count, length-marked marks place);
     room = omega (arith, met.room, unmarked_set marks place new, length-append places (place ∷ []));
@@ -101,7 +101,7 @@ module _ (instrs : List Instr) (from : ℕ) where
     ];
     passed = λ q c. elim (Contains-push_cases places place q c) [
       | inl before ↦ met.passed q before
-      | inr e ↦ subst (IsPassed instrs from) e passed
+      | inr e ↦ subst (IsPassedFrom instrs starts) e passed
     ];
   }
 
@@ -136,13 +136,31 @@ module _ (instrs : List Instr) (from : ℕ) where
       let here : get_or places k 0 ≡ place = get_or_default places k 0 place less ∙ is in
       subst (MayFollow instrs places) here (done k less less)
 
-  met_all : (marks : List Bool) (places : List ℕ) → AreMet instrs from marks places → Contains places from → Done places (length places) → (place : ℕ) → IsPassed instrs from place → Contains places place
-  met_all marks places met begun done place first = begun
-  met_all marks places met begun done place (later before next i passed at goes) = all_followed places done before (met_all marks places met begun done before passed) place i at goes
+  met_from : (places : List ℕ) → Done places (length places) → (start : ℕ) → Contains places start → (place : ℕ) → IsPassed instrs start place → Contains places place
+  met_from places done start begun place first = begun
+  met_from places done start begun place (later before next i passed at goes) = all_followed places done before (met_from places done start begun before passed) place i at goes
 
-  pub passed_all : (marks : List Bool) (places : List ℕ) → AreMet instrs from marks places → Contains places from → Done places (length places) → ArePassed instrs from places
+  pub passed_all : (marks : List Bool) (places : List ℕ) → AreMet instrs starts marks places → ((start : ℕ) → Contains starts start → Contains places start) → Done places (length places) → ArePassedFrom instrs starts places
   passed_all marks places met begun done = record {
-    each = λ place. ((λ c. met.passed place c), (λ passed. met_all marks places met begun done place passed));
+    each = λ place. ((λ c. met.passed place c), (λ (start, has, passed). met_from places done start (begun start has) place passed));
+  }
+
+-- ---- from one place
+
+one_start : (from start : ℕ) → Contains (from ∷ []) start → from ≡ start
+one_start from start (zero, less, is) = is
+one_start from start (suc k, less, is) = absurd (omega (arith, less))
+
+module _ (instrs : List Instr) (from : ℕ) where
+  passed_one : (place : ℕ) → IsPassedFrom instrs (from ∷ []) place → IsPassed instrs from place
+  passed_one place (start, has, passed) = subst (λ s. IsPassed instrs s place) (sym (one_start from start has)) passed
+
+  pub stay_from : StaysIn instrs from → AllStayIn instrs (from ∷ [])
+  stay_from inside place passed = inside place (passed_one place passed)
+
+  pub passed_from_one : (places : List ℕ) → ArePassedFrom instrs (from ∷ []) places → ArePassed instrs from places
+  passed_from_one places are = record {
+    each = λ place. ((λ c. passed_one place ((are.each place).0 c)), (λ passed. (are.each place).1 (from, (0, omega arith, refl), passed)));
   }
 
 -- ---- marks taken away
@@ -195,9 +213,9 @@ left_none before marks places done all kept =
 -- ---- after one instruction
 
 -- Where a way may go on after an instruction that is passed, it passes.
-pub onward_passed : (instrs : List Instr) (from place : ℕ) (i : Instr) → StaysIn instrs from → IsPassed instrs from place → slice_get instrs place ≡ Some i → (next : ℕ) → IsOneOf next i place → IsPassed instrs from next × (next < length instrs)
-onward_passed instrs from place i inside passed at next one =
-    let on : IsPassed instrs from next = later place next i passed at (goes_if i place next one) in (on, inside next on)
+pub onward_passed : (instrs : List Instr) (starts : List ℕ) (place : ℕ) (i : Instr) → AllStayIn instrs starts → IsPassedFrom instrs starts place → slice_get instrs place ≡ Some i → (next : ℕ) → IsOneOf next i place → IsPassedFrom instrs starts next × (next < length instrs)
+onward_passed instrs starts place i inside (start, has, passed) at next one =
+    let on : IsPassedFrom instrs starts next = (start, has, later place next i passed at (goes_if i place next one)) in (on, inside next on)
 
 pub followed : (instrs : List Instr) (place : ℕ) (i : Instr) (places : List ℕ) → slice_get instrs place ≡ Some i → ((p : ℕ) → Some p ≡ (onward_of i place).next → Contains places p) → ((p : ℕ) → Some p ≡ (onward_of i place).jump → Contains places p) → MayFollow instrs places place
 followed instrs place i places at nexts jumps next j also goes =

@@ -1,37 +1,21 @@
--- What is listed of the ways through code from a point, once it is known which of the places that they pass lie before an end.
-use Rattle.std.specs.Prelude.{◌≡◌, ◌⊎◌, ℕ, ◌<◌, ◌≤◌, Bool, false, ◌&&◌, nat_lt, nat_eq, List, get_or, length, Option, None, Some, slice_get}
+-- What is listed of the ways through a program's code, by agent and point, and by stream.
+use Rattle.std.specs.Prelude.{◌≡◌, ◌⊎◌, ◌↔◌, ℕ, ◌<◌, ◌≤◌, Bool, false, nat_eq, List, map, get_or, length, Option, None, Some, slice_get}
 use Rattle.std.specs.List.{Contains}
+use Rattle.psy_base.specs.Extremes.{most_of}
 use Rattle.psy_code.specs.declared.code.Code.{Code}
 use Rattle.psy_code.specs.declared.instr.Instr.{Instr}
-use Rattle.psy_code.specs.declared.instr.Instr.TheVariants as instr
 use Rattle.psy_tree.specs.declared.unit.Unit.{Unit as Whole}
-use Rattle.psy_tree.specs.Parts.{agent_at}
-use Rattle.psy_meaning.specs.CodeWays.{AreCodeDelays, AreCodeLooks, AreCodeNexts, IsOnWay, place_of}
+use Rattle.psy_meaning.specs.CodeWays.{AreCodeDelays, AreCodeLooks, AreCodeNexts, code_of, place_of}
+use Rattle.psy_meaning.specs.Flow.{Rises}
 use Rattle.psy_meaning.specs.ListedWays.{AreByPoint, points_of}
 use Rattle.psy_meaning.specs.Sendings.{delay_of}
-use Rattle.psy_flow.specs.declared.listed.AgentPaths.{AgentPaths}
+use Rattle.psy_flow.specs.declared.kinds.Sought.{Sought}
 use Rattle.psy_flow.specs.declared.paths.Paths.{Paths}
-use Rattle.psy_flow.specs.declared.paths.PathsFrom.{PathsFrom}
 use Rattle.psy_flow.specs.declared.parts.Part.{Part}
 use Rattle.psy_flow.specs.declared.parts.Part.TheVariants as part
-use Rattle.psy_flow.specs.Listed.{AreOf}
+use Rattle.psy_flow.specs.Bits.{HasBitAt, HasNumber, IsFoundFrom}
+use Rattle.psy_flow.specs.Listed.{AreNumbers}
 use Rattle.psy_flow.specs.Quests.{part_of}
-
--- ---- looks
-
--- It looks at the variable.
-abbrev pub looks_at : Part → ℕ → Bool
-looks_at (part.Look own) variable = nat_eq own variable
-looks_at _ variable = false
-
--- There is an instruction, and it does.
-abbrev pub look_of : Option Instr → ℕ → Bool
-look_of None variable = false
-look_of (Some i) variable = looks_at (part_of i) variable
-
--- The instruction at the place does, and a way from there ends.
-abbrev pub looks_there : List Instr → List ℕ → ℕ → ℕ → Bool
-looks_there instrs row variable place = nat_lt 0 (get_or row place 0) && look_of (slice_get instrs place) variable
 
 -- ---- streams
 
@@ -58,25 +42,12 @@ HasPartDelay unit _ stream delay = ⊥
 
 -- The instruction at the place does, and a way from there ends.
 abbrev pub HasDelayThere : Whole → List Instr → List ℕ → ℕ → ℕ → ℕ → Type 0
-HasDelayThere unit instrs row place stream delay = (i : Instr) × (slice_get instrs place ≡ Some i)
-    × (0 < get_or row place 0) × HasPartDelay unit (part_of i) stream delay
+HasDelayThere unit instrs endings place stream delay = (i : Instr) × (slice_get instrs place ≡ Some i)
+    × HasBitAt endings place 0 × HasPartDelay unit (part_of i) stream delay
 
 -- The instruction at one of the places does.
 abbrev pub HasDelayAmong : Whole → List Instr → List ℕ → List ℕ → ℕ → ℕ → Type 0
-HasDelayAmong unit instrs row places stream delay = (place : ℕ) × Contains places place × HasDelayThere unit instrs row place stream delay
-
--- A send on a way from a place has this delay.
-abbrev pub HasWayDelay : Whole → List Instr → ℕ → ℕ → ℕ → Type 0
-HasWayDelay unit instrs from stream delay = (after clock : ℕ) × IsOnWay instrs from (instr.Send stream after clock)
-    × (delay ≡ delay_of unit (record { stream = stream; after = after; clock = clock }))
-
--- A send on a way from one of the first so many points of an agent has this delay.
-abbrev pub HasAgentDelay : Whole → Code → ℕ → ℕ → ℕ → ℕ → Type 0
-HasAgentDelay unit code agent points stream delay = (point : ℕ) × (point < points) × HasWayDelay unit code.instrs (place_of code agent point) stream delay
-
--- A send on a way from a point of one of the first so many agents has this delay.
-abbrev pub HasDelayUpTo : Whole → Code → ℕ → ℕ → ℕ → Type 0
-HasDelayUpTo unit code agents stream delay = (agent : ℕ) × (agent < agents) × HasAgentDelay unit code agent (length (agent_at unit agent).points) stream delay
+HasDelayAmong unit instrs endings places stream delay = (place : ℕ) × Contains places place × HasDelayThere unit instrs endings place stream delay
 
 -- By stream, the greater of what was there and of what these have
 pub record IsRaisedTo (Has : ℕ → ℕ → Type 0) (before after : List ℕ) : Type 0 where
@@ -85,17 +56,50 @@ pub record IsRaisedTo (Has : ℕ → ℕ → Type 0) (before after : List ℕ) :
   pub most : (stream n : ℕ) → stream < length before → Has stream n → n ≤ get_or after stream 0
   pub one : (stream : ℕ) → (get_or after stream 0 ≡ get_or before stream 0) ⊎ Has stream (get_or after stream 0)
 
--- ---- by point of an agent
+-- ---- numbers by agent and point
 
--- The paths from a place
-pub record ArePathsFrom (instrs : List Instr) (from : ℕ) (paths : PathsFrom) : Type 0 where
-  pub nexts : AreCodeNexts instrs from paths.nexts
-  pub looks : AreCodeLooks instrs from paths.looks
+-- By point of an agent, the numbers that rows have at its place
+pub record AreAgentNumbers (rows : List (List ℕ)) (code : Code) (agent : ℕ) (lists : List (List ℕ)) : Type 0 where
+  pub count : length lists ≡ length (code_of code agent).points
+  pub each : (point : ℕ) (numbers : List ℕ) → slice_get lists point ≡ Some numbers → AreNumbers (HasNumber rows (place_of code agent point)) numbers
 
--- By point of an agent, its paths
-pub record AreAgentPaths (unit : Whole) (code : Code) (number : ℕ) (paths : AgentPaths) : Type 0 where
-  pub nexts : AreOf (agent_at unit number) (λ point. AreCodeNexts code.instrs (place_of code number point)) paths.nexts
-  pub looks : AreOf (agent_at unit number) (λ point. AreCodeLooks code.instrs (place_of code number point)) paths.looks
+-- The same by agent
+pub record AreAllNumbers (rows : List (List ℕ)) (code : Code) (lists : List (List (List ℕ))) : Type 0 where
+  pub count : length lists ≡ length code.agents
+  pub each : (agent : ℕ) (own : List (List ℕ)) → slice_get lists agent ≡ Some own → AreAgentNumbers rows code agent own
+
+-- By point of an agent, the numbers below a bound that are found on the ways from there
+pub record AreAgentFound (code : Code) (sought : Sought) (count agent : ℕ) (lists : List (List ℕ)) : Type 0 where
+  pub points : length lists ≡ length (code_of code agent).points
+  pub each : (point : ℕ) (numbers : List ℕ) → slice_get lists point ≡ Some numbers → Rises numbers
+      × ((number : ℕ) → Contains numbers number → IsFoundFrom code.instrs sought (place_of code agent point) number)
+      × ((number : ℕ) → number < count → IsFoundFrom code.instrs sought (place_of code agent point) number → Contains numbers number)
+
+-- The same by agent
+pub record AreFoundLists (code : Code) (sought : Sought) (count : ℕ) (lists : List (List (List ℕ))) : Type 0 where
+  pub agents : length lists ≡ length code.agents
+  pub each : (agent : ℕ) (own : List (List ℕ)) → slice_get lists agent ≡ Some own → AreAgentFound code sought count agent own
+
+-- How many points the agent with the most of them has
+abbrev pub most_points : Whole → ℕ
+most_points unit = most_of (map (λ a. length a.points) unit.agents)
+
+-- ---- where ways begin
+
+-- The place is that of a point of an agent.
+abbrev pub IsPointPlace : Code → ℕ → ℕ → Type 0
+IsPointPlace code agent place = (point : ℕ) × (point < length (code_of code agent).points) × (place ≡ place_of code agent point)
+
+-- The places of all points of the first so many agents, and of the first so many of the next one
+abbrev pub AreStartsUpTo : Code → ℕ → ℕ → List ℕ → Type 0
+AreStartsUpTo code agents points starts = (place : ℕ) → Contains starts place
+    ↔ (((agent : ℕ) × (agent < agents) × IsPointPlace code agent place) ⊎ ((point : ℕ) × (point < points) × (place ≡ place_of code agents point)))
+
+-- The places of all points of all agents
+abbrev pub AreStarts : Code → List ℕ → Type 0
+AreStarts code starts = (place : ℕ) → Contains starts place ↔ ((agent : ℕ) × (agent < length code.agents) × IsPointPlace code agent place)
+
+-- ---- of a program
 
 -- The ways of a program's code without what they send
 pub record AreCodePaths (unit : Whole) (code : Code) (paths : Paths) : Type 0 where

@@ -1,6 +1,7 @@
 -- The definitions of this crate, by subject.
 pub mod Agents
 pub mod Behind
+pub mod Bits
 pub mod CodeLists
 pub mod Costs
 pub mod Counted

@@ -6,11 +6,23 @@ use Rattle.psy_base.specs.declared.ways.SendWay.{SendWay}
 use Rattle.psy_tree.specs.declared.unit.AgentDecl.{AgentDecl}
 use Rattle.psy_tree.specs.declared.unit.FunctionDecl.{FunctionDecl}
 use Rattle.psy_tree.specs.declared.unit.Unit.{Unit as Whole}
-use Rattle.psy_meaning.specs.Flow.{AreNexts, MayLook}
+use Rattle.psy_meaning.specs.Flow.{AreNexts, MayLook, Rises}
 use Rattle.psy_meaning.specs.ListedWays.{AreLooks, IsWayBefore}
 use Rattle.psy_meaning.specs.Sendings.{delay_of}
 use Rattle.psy_meaning.specs.Ways.{Sending}
 use Rattle.psy_flow.specs.declared.listed.AgentPaths.{AgentPaths}
+
+-- ---- numbers
+
+-- Those of the first so many numbers that have something, rising
+pub record AreBelow (Has : ℕ → Type 0) (below : ℕ) (numbers : List ℕ) : Type 0 where
+  pub rise : AllPairs (λ a b. a < b) numbers
+  pub each : (number : ℕ) → Contains numbers number ↔ ((number < below) × Has number)
+
+-- All numbers that have it, rising
+pub record AreNumbers (Has : ℕ → Type 0) (numbers : List ℕ) : Type 0 where
+  pub rise : Rises numbers
+  pub each : (number : ℕ) → Contains numbers number ↔ Has number
 
 -- ---- looks
 
@@ -19,9 +31,8 @@ abbrev pub if_so : Bool → ℕ → List ℕ
 if_so so n = if so then n ∷ [] else []
 
 -- Those of the first so many variables at which a way looks
-pub record AreLooksBelow (functions : List FunctionDecl) (agent : AgentDecl) (point below : ℕ) (variables : List ℕ) : Type 0 where
-  pub rise : AllPairs (λ a b. a < b) variables
-  pub each : (variable : ℕ) → Contains variables variable ↔ ((variable < below) × MayLook functions agent point variable)
+abbrev pub AreLooksBelow : List FunctionDecl → AgentDecl → ℕ → ℕ → List ℕ → Type 0
+AreLooksBelow functions agent point = AreBelow (MayLook functions agent point)
 
 -- ---- sends
 

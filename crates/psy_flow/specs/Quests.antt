@@ -6,7 +6,6 @@ use Rattle.psy_meaning.specs.CodeWays.{GoesOn}
 use Rattle.psy_flow.specs.declared.parts.Part.{Part}
 use Rattle.psy_flow.specs.declared.parts.Part.TheVariants as part
 use Rattle.psy_flow.specs.declared.quests.Quest.{Quest}
-use Rattle.psy_flow.specs.declared.quests.Quest.TheVariants as quest
 
 -- What an instruction is to the ways on which it stands
 abbrev pub part_of : Instr → Part
@@ -15,20 +14,18 @@ part_of (instr.Past variable back) = part.Look variable
 part_of (instr.Send stream after clock) = part.Sent stream after clock
 part_of _ = part.Other
 
--- Any end, and nothing is counted.
-abbrev pub any : Quest
-any = quest.Any
+-- Ways that end at the point, and the sends to the stream on them
+abbrev pub quest_of : ℕ → ℕ → Quest
+quest_of to stream = record { to = to; stream = stream }
 
 -- It is an end that is looked for.
 abbrev pub ends : Part → Quest → Bool
-ends (part.End point) quest.Any = true
-ends (part.End point) (quest.Sends to stream) = nat_eq point to
+ends (part.End point) quest = nat_eq point quest.to
 ends _ quest = false
 
 -- It is counted.
 abbrev pub counts : Part → Quest → Bool
-counts (part.Sent own after clock) quest.Any = false
-counts (part.Sent own after clock) (quest.Sends to stream) = nat_eq own stream
+counts (part.Sent own after clock) quest = nat_eq own quest.stream
 counts _ quest = false
 
 -- How much it counts

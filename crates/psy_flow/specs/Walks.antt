@@ -30,13 +30,21 @@ unmarked (false ∷ marks) = suc (unmarked marks)
 abbrev pub StaysIn : List Instr → ℕ → Type 0
 StaysIn instrs from = (place : ℕ) → IsPassed instrs from place → place < length instrs
 
--- Marked and listed are the same places, of those that ways from there pass.
-pub record AreMet (instrs : List Instr) (from : ℕ) (marks : List Bool) (places : List ℕ) : Type 0 where
+-- A way from one of these places, whether it ends or not, comes to that one.
+abbrev pub IsPassedFrom : List Instr → List ℕ → ℕ → Type 0
+IsPassedFrom instrs starts place = (start : ℕ) × Contains starts start × IsPassed instrs start place
+
+-- Each place that ways from these places pass lies in the code.
+abbrev pub AllStayIn : List Instr → List ℕ → Type 0
+AllStayIn instrs starts = (place : ℕ) → IsPassedFrom instrs starts place → place < length instrs
+
+-- Marked and listed are the same places, of those that ways from these places pass.
+pub record AreMet (instrs : List Instr) (starts : List ℕ) (marks : List Bool) (places : List ℕ) : Type 0 where
   pub count : length marks ≡ length instrs
   pub room : unmarked marks + length places ≡ length instrs
   pub listed : (place : ℕ) → IsMarked marks place → Contains places place
   pub marked : (place : ℕ) → Contains places place → IsMarked marks place
-  pub passed : (place : ℕ) → Contains places place → IsPassed instrs from place
+  pub passed : (place : ℕ) → Contains places place → IsPassedFrom instrs starts place
 
 -- More places stand behind those before.
 abbrev pub IsGrown : List ℕ → List ℕ → Type 0
@@ -49,6 +57,10 @@ MayFollow instrs places place = (next : ℕ) (i : Instr) → slice_get instrs pl
 -- All places that ways from there pass
 pub record ArePassed (instrs : List Instr) (from : ℕ) (places : List ℕ) : Type 0 where
   pub each : (place : ℕ) → Contains places place ↔ IsPassed instrs from place
+
+-- All places that ways from these places pass
+pub record ArePassedFrom (instrs : List Instr) (starts places : List ℕ) : Type 0 where
+  pub each : (place : ℕ) → Contains places place ↔ IsPassedFrom instrs starts place
 
 -- ---- ends
 

@@ -2,11 +2,9 @@
 
 ghost use Rattle.std.specs.Prelude.{◌≡◌, ◌<◌, length};
 ghost use Rattle.std.specs.List.{All};
-ghost use Rattle.psy_flow.specs.CodeLists.{HasDelayAmong, HasDelayThere, HasPartDelay, HasWayDelay, IsRaisedTo};
-ghost use Rattle.psy_flow.specs.Quests.{any};
-ghost use Rattle.psy_flow.specs.Walks.{ArePassed, StaysIn};
-ghost use Rattle.psy_flow.specs.Worths.{AreTops};
+ghost use Rattle.psy_flow.specs.CodeLists.{HasDelayAmong, HasDelayThere, HasPartDelay, IsRaisedTo};
 
+use crate::bits::has_bit;
 use crate::delays::delay;
 use crate::parts::{Part, part_of};
 use psy_base::Items;
@@ -37,47 +35,29 @@ fn raise_by_part(delays: &mut Items<u64>, unit: &Unit, part: Part)
 }
 
 // The same by the instruction at a place, where a way from there ends.
-fn raise_at(delays: &mut Items<u64>, unit: &Unit, instrs: &[Instr], row: &[u64], place: usize)
+fn raise_at(delays: &mut Items<u64>, unit: &Unit, instrs: &[Instr], endings: &[u64], place: usize)
     requires place { place < length instrs.now }
-    requires count { length row.now ≡ length instrs.now }
-    ensures { IsRaisedTo (HasDelayThere unit.now instrs.now row.now place) delays.old delays.new }
+    requires count { length endings.now ≡ length instrs.now }
+    ensures { IsRaisedTo (HasDelayThere unit.now instrs.now endings.now place) delays.old delays.new }
 {
-    if row[place] > 0 {
+    if has_bit(endings[place], 0) {
         raise_by_part(delays, unit, part_of(&instrs[place]));
     }
 }
 
-fn raise_among(
+/// By stream, the greater of what is there and of the delays of the sends at these places, where ways from there end.
+pub fn raise_among(
     delays: &mut Items<u64>,
     unit: &Unit,
     instrs: &[Instr],
-    row: &[u64],
+    endings: &[u64],
     places: &[usize],
 )
     requires inside { All (λ place. place < length instrs.now) places.now }
-    requires count { length row.now ≡ length instrs.now }
-    ensures { IsRaisedTo (HasDelayAmong unit.now instrs.now row.now places.now) delays.old delays.new }
+    requires count { length endings.now ≡ length instrs.now }
+    ensures { IsRaisedTo (HasDelayAmong unit.now instrs.now endings.now places.now) delays.old delays.new }
 {
     'places: for place in places {
-        raise_at(delays, unit, instrs, row, *place);
+        raise_at(delays, unit, instrs, endings, *place);
     }
-}
-
-/// By stream, the greater of what is there and of the delays of the sends on the ways through code from a place. The places are those that ways
-/// from there pass, and the row says from which of them a way ends.
-pub fn raise_delays(
-    delays: &mut Items<u64>,
-    unit: &Unit,
-    instrs: &[Instr],
-    from: usize,
-    places: &[usize],
-    row: &[u64],
-)
-    requires inside { StaysIn instrs.now from }
-    requires passed { ArePassed instrs.now from places.now }
-    requires count { length row.now ≡ length instrs.now }
-    requires tops { AreTops instrs.now any places.now row.now }
-    ensures { IsRaisedTo (HasWayDelay unit.now instrs.now from) delays.old delays.new }
-{
-    raise_among(delays, unit, instrs, row, places);
 }

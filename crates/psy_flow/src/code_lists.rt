@@ -11,17 +11,38 @@ ghost use Rattle.psy_meaning.specs.CodeWays.{AreCodeSends, AreCodeWays, CanWalk,
 ghost use Rattle.psy_meaning.specs.ListedWays.{AreByPoint, points_of};
 ghost use Rattle.psy_meaning.specs.Units.{IsOfText};
 ghost use Rattle.psy_flow.specs.Listed.{AreOf};
-ghost use Rattle.psy_flow.specs.Walks.{StaysIn};
+ghost use Rattle.psy_flow.specs.Walks.{ArePassed, StaysIn};
 
 use crate::code_sends::code_sends;
 use crate::ends::ends_among;
 use crate::next::no_marks;
-use crate::paths::{code_paths, passed_backwards, place_at, zeros};
+use crate::paths::{code_paths, zeros};
+use crate::point_lists::place_at;
 use crate::pushes::push;
+use crate::walks::passed_by_marks;
 use psy_base::{Items, Memory, SendWay, Ways};
 use psy_code::{Code, Instr};
 use psy_tree::{AgentDecl, Unit};
 use std::alloc::Global;
+
+// The places that ways from a place pass, from the last to the first. The marks are left as they were, none of them set.
+fn passed_backwards(
+    alloc: Global,
+    instrs: &[Instr],
+    from: usize,
+    marks: &mut Items<bool>,
+) -> Result<Items<usize>, Memory>
+    requires inside { StaysIn instrs.now from }
+    requires clear { marks.old ≡ replicate (length instrs.now) false }
+    ensures places { IfOk result (ArePassed instrs.now from) }
+    ensures clear { OnOk result (marks.new ≡ replicate (length instrs.now) false) }
+{
+    let places = passed_by_marks(alloc, instrs, &[from], marks)?;
+    let mut ordered = Vec::from_slice(alloc, places.as_slice())?;
+    ordered.sort_unstable();
+    ordered.reverse();
+    Ok(Items::from_vec(ordered))
+}
 
 // The sends on the ways from a place of an agent's code, where its actions have this budget.
 fn sends_from(

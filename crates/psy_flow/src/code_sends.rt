@@ -68,7 +68,7 @@ fn most_code_sends(
     ensures count { length row.new ≡ length instrs.now }
     ensures most { IsMostCodeSends instrs.now from to stream budget result }
 {
-    if !settle(Quest::Sends { to, stream }, instrs, from, places, row) {
+    if !settle(Quest { to, stream }, instrs, from, places, row) {
         return u64::from(budget).min(limits::SENDS);
     }
     cell(row.as_slice(), Some(from))

@@ -4,10 +4,10 @@
 #![tactic(auto)]
 
 mod backwards;
+mod bits;
 mod calls;
 mod code_delays;
 mod code_lists;
-mod code_looks;
 mod code_sends;
 mod costs;
 mod counts;
@@ -16,13 +16,18 @@ mod depths;
 mod ends;
 mod expressions;
 mod flow;
+mod found;
+mod gather;
 mod gauge;
+mod kinds;
 pub mod laws;
 mod listed;
 mod looking;
 mod next;
+mod numbers;
 mod parts;
 mod paths;
+mod point_lists;
 mod points;
 mod pushes;
 mod quests;
@@ -30,6 +35,7 @@ mod reach;
 mod sending;
 mod settling;
 mod stack;
+mod starts;
 mod statements;
 mod texts;
 mod tops;

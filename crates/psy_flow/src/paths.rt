@@ -1,31 +1,24 @@
 //! Where the ways of a program's code end, at what they look, and how long its messages take, as lists.
 //!
-//! From each point one walk meets the places that it reaches, which are sorted; the ends, the looks and the delays are then read from these
-//! places, once it is known from which of them a way ends. No table has more than one cell for each instruction of the code.
+//! Nothing is walked point by point: what stands on the ways from a place goes back along them as bits, for all places of the code at once, and
+//! each point reads its own from its place. No table has more than four cells for each instruction of the code.
 
-ghost use Rattle.std.specs.Prelude.{◌≡◌, ◌<◌, ◌≤◌, ℕ, false, length, replicate, Some, IfOk, OnOk, slice_get};
+ghost use Rattle.std.specs.Prelude.{◌≡◌, ◌<◌, ◌≤◌, ℕ, length, replicate, IfOk};
 ghost use Rattle.psy_base.specs.declared.limits.TheConstants.{POINTS};
-ghost use Rattle.psy_code.specs.declared.instr.Instr.{Instr as Instruction};
-ghost use Rattle.psy_tree.specs.Parts.{agent_at};
-ghost use Rattle.psy_meaning.specs.CodeWays.{CanWalk, IsPassed, NamesThere, code_of, place_of};
+ghost use Rattle.psy_meaning.specs.CodeWays.{AreCodeDelays, CanWalk};
 ghost use Rattle.psy_meaning.specs.Units.{IsOfText};
-ghost use Rattle.psy_flow.specs.CodeLists.{AreAgentPaths, AreCodePaths, ArePathsFrom, HasAgentDelay, HasWayDelay, IsRaisedTo};
-ghost use Rattle.psy_flow.specs.Quests.{any};
-ghost use Rattle.psy_flow.specs.Walks.{ArePassed, StaysIn};
-ghost use Rattle.psy_flow.specs.Worths.{AreTops};
+ghost use Rattle.psy_flow.specs.Bits.{AreEndings, IsFoundFrom};
+ghost use Rattle.psy_flow.specs.CodeLists.{AreCodePaths, AreFoundLists, most_points};
 
-use crate::code_delays::raise_delays;
-use crate::code_looks::code_looks;
-use crate::ends::ends_among;
-use crate::listed::AgentPaths;
-use crate::next::no_marks;
-use crate::pushes::push;
-use crate::quests::Quest;
-use crate::settling::settle;
-use crate::walks::passed_by_marks;
+use crate::code_delays::raise_among;
+use crate::found::{endings, found_rows};
+use crate::kinds::Sought;
+use crate::point_lists::all_numbers;
+use crate::starts::starts;
+use crate::walks::passed_from;
 use psy_base::{Items, Memory};
-use psy_code::{Code, Instr};
-use psy_tree::{AgentDecl, Unit};
+use psy_code::Code;
+use psy_tree::Unit;
 use std::alloc::Global;
 
 /// What the ways of a program's code are without what they send.
@@ -39,138 +32,31 @@ pub struct Paths {
     pub delays: Items<u64>,
 }
 
-/// The paths from one point.
-#[derive(Debug, Drop)]
-pub struct PathsFrom {
-    /// Where they end.
-    pub nexts: Items<u32>,
-    /// At what they look.
-    pub looks: Items<u32>,
-}
-
-/// The places that ways from a place pass, from the last to the first. The marks are left as they were, none of them
-/// set. The only error is want of memory.
-pub fn passed_backwards(
+// The points or variables on the ways from each point of each agent, where there are none but the first so many.
+fn found_lists(
     alloc: Global,
-    instrs: &[Instr],
-    from: usize,
-    marks: &mut Items<bool>,
-) -> Result<Items<usize>, Memory>
-    requires inside { StaysIn instrs.now from }
-    requires clear { marks.old ≡ replicate (length instrs.now) false }
-    ensures places { IfOk result (ArePassed instrs.now from) }
-    ensures clear { OnOk result (marks.new ≡ replicate (length instrs.now) false) }
-{
-    let places = passed_by_marks(alloc, instrs, from, marks)?;
-    let mut ordered = Vec::from_slice(alloc, places.as_slice())?;
-    ordered.sort_unstable();
-    ordered.reverse();
-    Ok(Items::from_vec(ordered))
-}
-
-// From which of the places a way ends.
-fn settle_ends(instrs: &[Instr], from: usize, places: &[usize], row: &mut Items<u64>)
-    requires inside { StaysIn instrs.now from }
-    requires passed { ArePassed instrs.now from places.now }
-    requires count { length row.old ≡ length instrs.now }
-    ensures count { length row.new ≡ length instrs.now }
-    ensures tops { AreTops instrs.now any places.now row.new }
-{
-    settle(Quest::Any, instrs, from, places, row);
-}
-
-// The paths from a place of an agent's code; their delays are added to those of others.
-fn paths_from(
-    alloc: Global,
-    unit: &Unit,
-    instrs: &[Instr],
-    agent: &AgentDecl,
-    from: usize,
-    marks: &mut Items<bool>,
-    row: &mut Items<u64>,
-    delays: &mut Items<u64>,
-) -> Result<PathsFrom, Memory>
-    requires inside { StaysIn instrs.now from }
-    requires named { (place : ℕ) (i : Instruction) → IsPassed instrs.now from place → slice_get instrs.now place ≡ Some i
-        → NamesThere unit.now agent.now i }
-    requires points { length agent.now.points ≤ POINTS }
-    requires variables { length unit.now.variables ≤ POINTS }
-    requires clear { marks.old ≡ replicate (length instrs.now) false }
-    requires count { length row.old ≡ length instrs.now }
-    ensures clear { OnOk result (marks.new ≡ replicate (length instrs.now) false) }
-    ensures count { length row.new ≡ length instrs.now }
-    ensures paths { IfOk result (ArePathsFrom instrs.now from) }
-    ensures delays { OnOk result (IsRaisedTo (HasWayDelay unit.now instrs.now from) delays.old delays.new) }
-{
-    let places = passed_backwards(alloc, instrs, from, marks)?;
-    let nexts = ends_among(alloc, instrs, from, places.as_slice(), agent.points.len())?;
-    settle_ends(instrs, from, places.as_slice(), row);
-    let looks = code_looks(
-        alloc,
-        instrs,
-        from,
-        places.as_slice(),
-        row.as_slice(),
-        unit.variables.len(),
-    )?;
-    raise_delays(
-        delays,
-        unit,
-        instrs,
-        from,
-        places.as_slice(),
-        row.as_slice(),
-    );
-    Ok(PathsFrom { nexts, looks })
-}
-
-/// Where a point of an agent stands in the code.
-pub fn place_at(code: &Code, agent: usize, point: usize) -> usize
-    requires agent { agent < length code.now.agents }
-    requires point { point < length (code_of code.now agent).points }
-    ensures { result ≡ place_of code.now agent point }
-{
-    code.agents.as_slice()[agent].points.as_slice()[point] as usize
-}
-
-// The paths of an agent of this number; their delays are added to those of other agents.
-fn paths_of(
-    alloc: Global,
-    unit: &Unit,
     code: &Code,
-    number: usize,
-    marks: &mut Items<bool>,
-    row: &mut Items<u64>,
-    delays: &mut Items<u64>,
-) -> Result<AgentPaths, Memory>
-    requires text { IsOfText unit.now }
-    requires walk { CanWalk unit.now code.now }
-    requires number { number < length unit.now.agents }
-    requires clear { marks.old ≡ replicate (length code.now.instrs) false }
-    requires count { length row.old ≡ length code.now.instrs }
-    ensures clear { OnOk result (marks.new ≡ replicate (length code.now.instrs) false) }
-    ensures count { length row.new ≡ length code.now.instrs }
-    ensures paths { IfOk result (AreAgentPaths unit.now code.now number) }
-    ensures delays { OnOk result (IsRaisedTo (HasAgentDelay unit.now code.now number (length (agent_at unit.now number).points)) delays.old delays.new) }
+    endings: &[u64],
+    sought: Sought,
+    count: usize,
+) -> Result<Items<Items<Items<u32>>>, Memory>
+    requires endings { AreEndings code.now.instrs endings.now }
+    requires few { count ≤ POINTS }
+    ensures { IfOk result (AreFoundLists code.now sought count) }
 {
-    let agent = &unit.agents.as_slice()[number];
-    let mut nexts = Items::new(alloc);
-    let mut looks = Items::new(alloc);
-    'points: for point in 0..agent.points.len() {
-        let paths = paths_from(
-            alloc,
-            unit,
-            code.instrs.as_slice(),
-            agent,
-            place_at(code, number, point),
-            marks,
-            row,
-            delays,
-        )?;
-        push(&mut nexts, paths.nexts)?;
-        push(&mut looks, paths.looks)?;
+    let rows = found_rows(alloc, code.instrs.as_slice(), endings, sought, count)?;
+    all_numbers(alloc, code, rows.as_slice())
+}
+
+// How many points the agent with the most of them has.
+fn most_points(unit: &Unit) -> usize
+    ensures { result ≡ most_points unit.now }
+{
+    let mut most = 0usize;
+    'agents: for agent in unit.agents.as_slice() {
+        most = most.max(agent.points.len());
     }
-    Ok(AgentPaths { nexts, looks })
+    most
 }
 
 /// So many zeros. The only error is want of memory.
@@ -178,6 +64,30 @@ pub fn zeros(alloc: Global, count: usize) -> Result<Items<u64>, Memory>
     ensures { IfOk result (λ list. list ≡ replicate count 0) }
 {
     Ok(Items::from_vec(vec![in alloc; 0; count]?))
+}
+
+// By stream, the greatest delay of the sends to it.
+fn code_delays(
+    alloc: Global,
+    unit: &Unit,
+    code: &Code,
+    endings: &[u64],
+) -> Result<Items<u64>, Memory>
+    requires walk { CanWalk unit.now code.now }
+    requires endings { AreEndings code.now.instrs endings.now }
+    ensures { IfOk result (AreCodeDelays unit.now code.now) }
+{
+    let starts = starts(alloc, code)?;
+    let places = passed_from(alloc, code.instrs.as_slice(), starts.as_slice())?;
+    let mut delays = zeros(alloc, unit.streams.len())?;
+    raise_among(
+        &mut delays,
+        unit,
+        code.instrs.as_slice(),
+        endings,
+        places.as_slice(),
+    );
+    Ok(delays)
 }
 
 /// The ways of a program's actions by its code, whatever the values, without what they send: from each point of each agent the points where
@@ -188,16 +98,22 @@ pub fn code_paths(alloc: Global, unit: &Unit, code: &Code) -> Result<Paths, Memo
     requires walk { CanWalk unit.now code.now }
     ensures { IfOk result (AreCodePaths unit.now code.now) }
 {
-    let mut marks = no_marks(alloc, code.instrs.len())?;
-    let mut row = zeros(alloc, code.instrs.len())?;
-    let mut delays = zeros(alloc, unit.streams.len())?;
-    let mut nexts = Items::new(alloc);
-    let mut looks = Items::new(alloc);
-    'agents: for number in 0..unit.agents.len() {
-        let own = paths_of(alloc, unit, code, number, &mut marks, &mut row, &mut delays)?;
-        push(&mut nexts, own.nexts)?;
-        push(&mut looks, own.looks)?;
-    }
+    let endings = endings(alloc, code.instrs.as_slice())?;
+    let nexts = found_lists(
+        alloc,
+        code,
+        endings.as_slice(),
+        Sought::Ends,
+        most_points(unit),
+    )?;
+    let looks = found_lists(
+        alloc,
+        code,
+        endings.as_slice(),
+        Sought::Looks,
+        unit.variables.len(),
+    )?;
+    let delays = code_delays(alloc, unit, code, endings.as_slice())?;
     Ok(Paths {
         nexts,
         looks,

@@ -7,13 +7,13 @@ ghost use Rattle.psy_flow.specs.Quests.{counts, counted, ends, is_counted_at};
 use crate::parts::{Part, part_of};
 use psy_code::Instr;
 
-/// Which ends of ways are looked for, and what is counted on the ways there.
+/// What is looked for: ways that end at a point, and the sends to a stream on them, which are counted.
 #[derive(Clone, Copy, Debug)]
-pub enum Quest {
-    /// Any end, and nothing is counted.
-    Any,
-    /// The end at a point, and the sends to a stream.
-    Sends { to: u32, stream: u32 },
+pub struct Quest {
+    /// The point.
+    pub to: u32,
+    /// The stream.
+    pub stream: u32,
 }
 
 impl Quest {
@@ -22,10 +22,7 @@ impl Quest {
         ensures { result ≡ ends part self }
     {
         match part {
-            Part::End(point) => match self {
-                Quest::Any => true,
-                Quest::Sends { to, .. } => point == to,
-            },
+            Part::End(point) => point == self.to,
             _ => false,
         }
     }
@@ -35,10 +32,7 @@ impl Quest {
         ensures { result ≡ counts part self }
     {
         match part {
-            Part::Sent { stream: own, .. } => match self {
-                Quest::Any => false,
-                Quest::Sends { stream, .. } => own == stream,
-            },
+            Part::Sent { stream, .. } => stream == self.stream,
             _ => false,
         }
     }

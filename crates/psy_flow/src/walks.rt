@@ -3,8 +3,7 @@
 ghost use Rattle.std.specs.Prelude.{◌≡◌, ◌<◌, ℕ, false, length, replicate, Some, IfOk, OnOk, slice_get, slice_index_or};
 ghost use Rattle.std.specs.List.{All, Contains};
 ghost use Rattle.psy_code.specs.declared.instr.Instr.{Instr as Instruction};
-ghost use Rattle.psy_meaning.specs.CodeWays.{IsPassed};
-ghost use Rattle.psy_flow.specs.Walks.{AreMet, ArePassed, IsGrown, IsMarked, MayFollow, StaysIn, onward_of};
+ghost use Rattle.psy_flow.specs.Walks.{AreMet, ArePassed, ArePassedFrom, IsGrown, IsMarked, IsPassedFrom, MayFollow, AllStayIn, StaysIn, onward_of};
 
 use crate::next::no_marks;
 use psy_base::{Items, Memory};
@@ -54,15 +53,15 @@ pub fn goes_on_at(instrs: &[Instr], place: usize) -> Onward
 // Marks a place and lists it, unless it is marked.
 fn meet(
     instrs: &[Instr],
-    from: usize,
+    starts: &[usize],
     marks: &mut Items<bool>,
     places: &mut Items<usize>,
     place: usize,
 ) -> Result<(), Memory>
-    requires met { AreMet instrs.now from marks.old places.old }
-    requires passed { IsPassed instrs.now from place }
+    requires met { AreMet instrs.now starts.now marks.old places.old }
+    requires passed { IsPassedFrom instrs.now starts.now place }
     requires inside { place < length instrs.now }
-    ensures met { OnOk result (AreMet instrs.now from marks.new places.new) }
+    ensures met { OnOk result (AreMet instrs.now starts.now marks.new places.new) }
     ensures there { OnOk result (Contains places.new place) }
     ensures grown { OnOk result (IsGrown places.old places.new) }
 {
@@ -78,21 +77,21 @@ fn meet(
 // The same for a place where a way may go on, if there is one.
 fn meet_some(
     instrs: &[Instr],
-    from: usize,
+    starts: &[usize],
     marks: &mut Items<bool>,
     places: &mut Items<usize>,
     place: Option<usize>,
 ) -> Result<(), Memory>
-    requires met { AreMet instrs.now from marks.old places.old }
-    requires passed { (p : ℕ) → Some p ≡ place → IsPassed instrs.now from p × (p < length instrs.now) }
-    ensures met { OnOk result (AreMet instrs.now from marks.new places.new) }
+    requires met { AreMet instrs.now starts.now marks.old places.old }
+    requires passed { (p : ℕ) → Some p ≡ place → IsPassedFrom instrs.now starts.now p × (p < length instrs.now) }
+    ensures met { OnOk result (AreMet instrs.now starts.now marks.new places.new) }
     ensures there { OnOk result ((p : ℕ) → Some p ≡ place → Contains places.new p) }
     ensures grown { OnOk result (IsGrown places.old places.new) }
 {
     match place {
         None => Ok(()),
         Some(place) => {
-            meet(instrs, from, marks, places, place)?;
+            meet(instrs, starts, marks, places, place)?;
             Ok(())
         }
     }
@@ -101,22 +100,40 @@ fn meet_some(
 // Meets the places where ways go on from the one of this number.
 fn follow(
     instrs: &[Instr],
-    from: usize,
+    starts: &[usize],
     marks: &mut Items<bool>,
     places: &mut Items<usize>,
     at: usize,
 ) -> Result<(), Memory>
-    requires inside { StaysIn instrs.now from }
-    requires met { AreMet instrs.now from marks.old places.old }
+    requires inside { AllStayIn instrs.now starts.now }
+    requires met { AreMet instrs.now starts.now marks.old places.old }
     requires at { at < length places.old }
-    ensures met { OnOk result (AreMet instrs.now from marks.new places.new) }
+    ensures met { OnOk result (AreMet instrs.now starts.now marks.new places.new) }
     ensures followed { OnOk result (MayFollow instrs.now places.new (slice_index_or places.old at 0)) }
     ensures grown { OnOk result (IsGrown places.old places.new) }
 {
     let place = places.as_slice()[at];
     let to = goes_on_at(instrs, place);
-    meet_some(instrs, from, marks, places, to.next)?;
-    meet_some(instrs, from, marks, places, to.jump)?;
+    meet_some(instrs, starts, marks, places, to.next)?;
+    meet_some(instrs, starts, marks, places, to.jump)?;
+    Ok(())
+}
+
+// Meets the places where ways begin.
+fn meet_starts(
+    instrs: &[Instr],
+    starts: &[usize],
+    marks: &mut Items<bool>,
+    places: &mut Items<usize>,
+) -> Result<(), Memory>
+    requires inside { AllStayIn instrs.now starts.now }
+    requires met { AreMet instrs.now starts.now marks.old places.old }
+    ensures met { OnOk result (AreMet instrs.now starts.now marks.new places.new) }
+    ensures begun { OnOk result ((start : ℕ) → Contains starts.now start → Contains places.new start) }
+{
+    'starts: for start in starts {
+        meet(instrs, starts, marks, places, *start)?;
+    }
     Ok(())
 }
 
@@ -131,28 +148,41 @@ fn unmark(marks: &mut Items<bool>, places: &[usize])
     }
 }
 
-/// The places that ways from a place pass, each once, in time and memory by their number: the marks, one for each instruction and none of them
-/// set, are left so. The only error is want of memory.
+/// The places that ways from some places pass, each once, in time and memory by their number: the marks, one for each instruction and none of
+/// them set, are left so. The only error is want of memory.
 pub fn passed_by_marks(
     alloc: Global,
     instrs: &[Instr],
-    from: usize,
+    starts: &[usize],
     marks: &mut Items<bool>,
 ) -> Result<Items<usize>, Memory>
-    requires inside { StaysIn instrs.now from }
+    requires inside { AllStayIn instrs.now starts.now }
     requires clear { marks.old ≡ replicate (length instrs.now) false }
-    ensures places { IfOk result (ArePassed instrs.now from) }
+    ensures places { IfOk result (ArePassedFrom instrs.now starts.now) }
     ensures clear { OnOk result (marks.new ≡ replicate (length instrs.now) false) }
 {
     let mut places = Items::new(alloc);
-    meet(instrs, from, marks, &mut places, from)?;
+    meet_starts(instrs, starts, marks, &mut places)?;
     let mut at = 0;
     'places: while at < places.len() {
-        follow(instrs, from, marks, &mut places, at)?;
+        follow(instrs, starts, marks, &mut places, at)?;
         at += 1;
     }
     unmark(marks, places.as_slice());
     Ok(places)
+}
+
+/// The places that ways from some places pass, each once. The only error is want of memory.
+pub fn passed_from(
+    alloc: Global,
+    instrs: &[Instr],
+    starts: &[usize],
+) -> Result<Items<usize>, Memory>
+    requires inside { AllStayIn instrs.now starts.now }
+    ensures { IfOk result (ArePassedFrom instrs.now starts.now) }
+{
+    let mut marks = no_marks(alloc, instrs.len())?;
+    passed_by_marks(alloc, instrs, starts, &mut marks)
 }
 
 /// The places that ways from a place pass, each once. The only error is want of memory.
@@ -160,6 +190,5 @@ pub fn passed(alloc: Global, instrs: &[Instr], from: usize) -> Result<Items<usiz
     requires inside { StaysIn instrs.now from }
     ensures { IfOk result (ArePassed instrs.now from) }
 {
-    let mut marks = no_marks(alloc, instrs.len())?;
-    passed_by_marks(alloc, instrs, from, &mut marks)
+    passed_from(alloc, instrs, &[from])
 }

@@ -2,11 +2,12 @@
 use Rattle.std.proofs.Common.{◌≡◌, ◌+◌, ◌∙◌, [], false, length, sym, ap, subst, arith}
 use Rattle.std.specs.Prelude.{replicate}
 use Rattle.std.proofs.lemmas.List.{length-replicate}
+use Rattle.psy_meaning.specs.Flow.{MayLook}
 use Rattle.psy_meaning.specs.ListedWays.{AreLooks}
 use Rattle.psy_flow.specs.Listed.{AreLooksBelow, AreOf}
 use Rattle.psy_flow.specs.Texts.{looks_in, marked_at}
 use Rattle.psy_flow.proofs.Longer.{empty_are, same_are, written_back}
-use Rattle.psy_flow.proofs.LooksBelow.{looks_all, looks_none}
+use Rattle.psy_flow.proofs.NumbersBelow.{all_below, none_below}
 use Rattle.psy_flow.proofs.TextMarks.{length-marked_at, unmarked}
 use Rattle.psy_flow.proofs.looking.looks_by_point.Goals as goal
 
@@ -16,7 +17,7 @@ variables-init c =
     let empty : c.in_ok-lists.lists.items ≡ replicate (length agent.points) [] = c.in_ok-lists.ensures ∙ ap (λ n. replicate n []) c.len.ensures in
     record {
       count = ap length empty ∙ length-replicate (length agent.points) [];
-      looks = λ unit number its. empty_are agent (λ point. AreLooksBelow unit.functions agent point 0) c.in_ok-lists.lists.items empty (looks_none unit.functions agent);
+      looks = λ unit number its. empty_are agent (λ point. AreLooksBelow unit.functions agent point 0) c.in_ok-lists.lists.items empty (λ point. none_below (MayLook unit.functions agent point));
     }
 
 pub bounds-as_slice-variable : goal.bounds-as_slice-variable
@@ -52,6 +53,8 @@ returns c unit number its same =
     let all : c.variables.variable ≡ c.args.variables = omega (arith, c.variables-test.false, c.variables.auto.variable-end) in
     subst (AreOf agent (AreLooks unit.functions agent)) (sym c.from_vec.ensures)
     (same_are agent (λ point. AreLooksBelow unit.functions agent point c.variables.variable) (AreLooks unit.functions agent) c.variables.lists.items
-    (λ point list less was. looks_all unit.functions agent point c.variables.variable list was
-    (λ variable may. omega (arith, c.named.ensures.looks unit number agent point variable its may, same, all)))
+    (λ point list less was.
+    let are = all_below (MayLook unit.functions agent point) c.variables.variable list was
+    (λ variable may. omega (arith, c.named.ensures.looks unit number agent point variable its may, same, all)) in
+    record { rise = are.rise; each = are.each })
     (c.variables.invariant.looks unit number its))

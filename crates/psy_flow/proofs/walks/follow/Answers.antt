@@ -1,8 +1,7 @@
 -- What is left of the proof of `walks::follow`.
 use Rattle.std.proofs.Common.{◌≡◌, ℕ, get_or, sym, ap, subst, ◌∙◌, inl, inr}
 use Rattle.std.proofs.lemmas.List.Elements.{Contains-get_or}
-use Rattle.psy_meaning.specs.CodeWays.{IsPassed}
-use Rattle.psy_flow.specs.Walks.{MayFollow}
+use Rattle.psy_flow.specs.Walks.{IsPassedFrom, MayFollow}
 use Rattle.psy_flow.proofs.Lists.{there}
 use Rattle.psy_flow.proofs.WalksMet.{followed, grown_has, grown_on, onward_passed}
 use Rattle.psy_flow.proofs.walks.follow.Goals as goal
@@ -12,7 +11,7 @@ goes_on_at-to-requires c =
     let places = c.args.places.now in
     let place : ℕ = get_or c.as_slice.result.now c.args.at 0 in
     let read : place ≡ get_or places c.args.at 0 = ap (λ ps. get_or ps c.args.at 0) c.as_slice.ensures in
-    let passed : IsPassed c.args.instrs.now c.args.from place = subst (IsPassed c.args.instrs.now c.args.from) (sym read) (c.requires.met.passed (get_or places c.args.at 0) (Contains-get_or places c.args.at 0 c.requires.at)) in
+    let passed : IsPassedFrom c.args.instrs.now c.args.starts.now place = subst (IsPassedFrom c.args.instrs.now c.args.starts.now) (sym read) (c.requires.met.passed (get_or places c.args.at 0) (Contains-get_or places c.args.at 0 c.requires.at)) in
     c.requires.inside place passed
 
 pub meet_some-requires-clause-passed : goal.meet_some-requires-clause-passed
@@ -21,9 +20,9 @@ meet_some-requires-clause-passed c p e =
     let places = c.args.places.now in
     let place : ℕ = get_or c.as_slice.result.now c.args.at 0 in
     let read : place ≡ get_or places c.args.at 0 = ap (λ ps. get_or ps c.args.at 0) c.as_slice.ensures in
-    let passed : IsPassed instrs c.args.from place = subst (IsPassed instrs c.args.from) (sym read) (c.requires.met.passed (get_or places c.args.at 0) (Contains-get_or places c.args.at 0 c.requires.at)) in
+    let passed : IsPassedFrom instrs c.args.starts.now place = subst (IsPassedFrom instrs c.args.starts.now) (sym read) (c.requires.met.passed (get_or places c.args.at 0) (Contains-get_or places c.args.at 0 c.requires.at)) in
     let (i, here) = there instrs place (c.requires.inside place passed) in
-    onward_passed instrs c.args.from place i c.requires.inside passed here p (inl (e ∙ ap (λ o. o.next) (c.goes_on_at-to.ensures i here)))
+    onward_passed instrs c.args.starts.now place i c.requires.inside passed here p (inl (e ∙ ap (λ o. o.next) (c.goes_on_at-to.ensures i here)))
 
 pub meet_some-requires-2-clause-passed : goal.meet_some-requires-2-clause-passed
 meet_some-requires-2-clause-passed c p e =
@@ -31,9 +30,9 @@ meet_some-requires-2-clause-passed c p e =
     let places = c.args.places.now in
     let place : ℕ = get_or c.as_slice.result.now c.args.at 0 in
     let read : place ≡ get_or places c.args.at 0 = ap (λ ps. get_or ps c.args.at 0) c.as_slice.ensures in
-    let passed : IsPassed instrs c.args.from place = subst (IsPassed instrs c.args.from) (sym read) (c.requires.met.passed (get_or places c.args.at 0) (Contains-get_or places c.args.at 0 c.requires.at)) in
+    let passed : IsPassedFrom instrs c.args.starts.now place = subst (IsPassedFrom instrs c.args.starts.now) (sym read) (c.requires.met.passed (get_or places c.args.at 0) (Contains-get_or places c.args.at 0 c.requires.at)) in
     let (i, here) = there instrs place (c.requires.inside place passed) in
-    onward_passed instrs c.args.from place i c.requires.inside passed here p (inr (e ∙ ap (λ o. o.jump) (c.goes_on_at-to.ensures i here)))
+    onward_passed instrs c.args.starts.now place i c.requires.inside passed here p (inr (e ∙ ap (λ o. o.jump) (c.goes_on_at-to.ensures i here)))
 
 pub returns-clause-followed : goal.returns-clause-followed
 returns-clause-followed c =
@@ -41,7 +40,7 @@ returns-clause-followed c =
     let places = c.args.places.now in
     let place : ℕ = get_or c.as_slice.result.now c.args.at 0 in
     let read : place ≡ get_or places c.args.at 0 = ap (λ ps. get_or ps c.args.at 0) c.as_slice.ensures in
-    let passed : IsPassed instrs c.args.from place = subst (IsPassed instrs c.args.from) (sym read) (c.requires.met.passed (get_or places c.args.at 0) (Contains-get_or places c.args.at 0 c.requires.at)) in
+    let passed : IsPassedFrom instrs c.args.starts.now place = subst (IsPassedFrom instrs c.args.starts.now) (sym read) (c.requires.met.passed (get_or places c.args.at 0) (Contains-get_or places c.args.at 0 c.requires.at)) in
     let (i, here) = there instrs place (c.requires.inside place passed) in
     subst (MayFollow instrs c.meet_some-2.new.places) read (followed instrs place i c.meet_some-2.new.places here
     (λ p e. grown_has c.meet_some.new.places c.meet_some-2.new.places p c.in_ok-meet_some-2.ensures.grown (c.in_ok-meet_some.ensures.there p (e ∙ sym (ap (λ o. o.next) (c.goes_on_at-to.ensures i here)))))

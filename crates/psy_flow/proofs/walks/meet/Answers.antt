@@ -22,14 +22,14 @@ returns-then-seen-clause-grown c = grown_none c.args.places.now
 pub returns-clause-met : goal.returns-clause-met
 returns-clause-met c =
     let instrs = c.args.instrs.now in
-    let from = c.args.from in
+    let starts = c.args.starts.now in
     let marks = c.args.marks.now in
     let places = c.args.places.now in
     let place = c.args.place in
     let less : place < length marks = omega (arith, c.requires.inside, c.requires.met.count) in
     let new : slice_get marks place ≡ Some false = slice_get-get_or marks place false less ∙ ap Some (ap (λ ms. get_or ms place false) (sym c.as_slice.ensures) ∙ c.if-seen.false) in
-    subst (λ ms. AreMet instrs from ms c.push.new.self) (sym c.set.ensures)
-    (subst (AreMet instrs from (slice_set marks place true)) (sym c.in_ok-push.ensures.ok) (met_more instrs from marks places place c.requires.met new c.requires.passed))
+    subst (λ ms. AreMet instrs starts ms c.push.new.self) (sym c.set.ensures)
+    (subst (AreMet instrs starts (slice_set marks place true)) (sym c.in_ok-push.ensures.ok) (met_more instrs starts marks places place c.requires.met new c.requires.passed))
 
 pub returns-clause-there : goal.returns-clause-there
 returns-clause-there c = subst (λ ps. Contains ps c.args.place) (sym c.in_ok-push.ensures.ok) (Contains-push c.args.places.now c.args.place)

@@ -3,16 +3,15 @@ use Rattle.std.proofs.Common.{◌≡◌, ◌<◌, false, get_or, length, sym, ap
 use Rattle.std.specs.Prelude.{replicate}
 use Rattle.std.specs.List.{All, Contains}
 use Rattle.std.proofs.lemmas.List.Elements.{Contains-get_or}
-use Rattle.psy_meaning.specs.CodeWays.{first}
 use Rattle.psy_flow.specs.Walks.{AreMet}
 use Rattle.psy_flow.proofs.WalksMet.{Done, done_none, done_more, grown_has, grown_length, met_none, passed_all}
 use Rattle.psy_flow.proofs.walks.passed_by_marks.Goals as goal
 
 pub places-init : goal.places-init
 places-init c = record {
-  met = c.in_ok-meet.ensures.met;
-  begun = c.in_ok-meet.ensures.there;
-  done = done_none c.args.instrs.now c.args.from _;
+  met = c.in_ok-meet_starts.ensures.met;
+  begun = c.in_ok-meet_starts.ensures.begun;
+  done = done_none c.args.instrs.now c.args.starts.now _;
   at = omega arith;
 }
 
@@ -23,22 +22,17 @@ places-preserved c =
     let less : c.places.at < length c.places.places = omega (arith, c.places-test.true, c.len.ensures) in
     record {
       met = after.met;
-      begun = grown_has c.places.places _ c.args.from after.grown kept.begun;
-      done = done_more c.args.instrs.now c.args.from c.places.places _ c.places.at kept.done less after.grown after.followed;
+      begun = λ start has. grown_has c.places.places _ start after.grown (kept.begun start has);
+      done = done_more c.args.instrs.now c.args.starts.now c.places.places _ c.places.at kept.done less after.grown after.followed;
       at = omega (arith, less, grown_length c.places.places _ after.grown);
     }
 
-pub meet-requires-clause-met : goal.meet-requires-clause-met
-meet-requires-clause-met c =
+pub meet_starts-requires-clause-met : goal.meet_starts-requires-clause-met
+meet_starts-requires-clause-met c =
     let instrs = c.args.instrs.now in
+    let starts = c.args.starts.now in
     let marks : c.args.marks.now ≡ replicate (length instrs) false = c.requires.clear in
-    subst (λ ms. AreMet instrs c.args.from ms c.new-places.result) (sym marks) (subst (AreMet instrs c.args.from (replicate (length instrs) false)) (sym c.new-places.ensures) (met_none instrs c.args.from))
-
-pub meet-requires-clause-passed : goal.meet-requires-clause-passed
-meet-requires-clause-passed c = first
-
-pub meet-requires-clause-inside : goal.meet-requires-clause-inside
-meet-requires-clause-inside c = c.requires.inside c.args.from first
+    subst (λ ms. AreMet instrs starts ms c.new-places.result) (sym marks) (subst (AreMet instrs starts (replicate (length instrs) false)) (sym c.new-places.ensures) (met_none instrs starts))
 
 pub unmark-requires-clause-inside : goal.unmark-requires-clause-inside
 unmark-requires-clause-inside c =
@@ -54,7 +48,7 @@ pub returns-clause-places : goal.returns-clause-places
 returns-clause-places c =
     let places = c.places.places in
     let all : c.places.at ≡ length places = omega (arith, c.places.invariant.at, c.places-test.false, c.len.ensures) in
-    passed_all c.args.instrs.now c.args.from c.places.marks places c.places.invariant.met c.places.invariant.begun (subst (Done c.args.instrs.now c.args.from places) all c.places.invariant.done)
+    passed_all c.args.instrs.now c.args.starts.now c.places.marks places c.places.invariant.met c.places.invariant.begun (subst (Done c.args.instrs.now c.args.starts.now places) all c.places.invariant.done)
 
 pub returns-clause-clear : goal.returns-clause-clear
 returns-clause-clear c = c.unmark.ensures ∙ ap (λ n. replicate n false) c.places.invariant.met.count

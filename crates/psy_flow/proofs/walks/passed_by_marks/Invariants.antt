@@ -1,5 +1,5 @@
 -- What each loop of `walks::passed_by_marks` keeps.
-use Rattle.std.proofs.Common.{◌-◌, ◌≤◌, length}
+use Rattle.std.proofs.Common.{ℕ, ◌-◌, ◌≤◌, length}
 use Rattle.std.specs.List.{Contains}
 use Rattle.psy_flow.specs.Walks.{AreMet}
 use Rattle.psy_flow.proofs.WalksMet.{Done}
@@ -7,9 +7,9 @@ use Rattle.psy_flow.proofs.walks.passed_by_marks.Given as goal
 
 abbrev pub invariant-places : goal.invariant-places
 invariant-places l = record {
-  met : AreMet l.instrs l.from l.marks l.places;
-  begun : Contains l.places l.from;
-  done : Done l.instrs l.from l.places l.at;
+  met : AreMet l.instrs l.starts l.marks l.places;
+  begun : (start : ℕ) → Contains l.starts start → Contains l.places start;
+  done : Done l.instrs l.starts l.places l.at;
   at : l.at ≤ length l.places;
 }
 
