@@ -34,10 +34,18 @@ input_meant name tokens = meant (codes "an input ") (near_declared Input name to
 abbrev pub agent_meant : List ℕ → List Token → List ℕ
 agent_meant name tokens = meant (codes "an agent ") (near_declared Agent name tokens)
 
+-- The program declares no agent of this name.
+unfoldable pub no_agent : List ℕ → List ℕ
+no_agent name = codes "hint: the program has no agent " ++ quoted name ++ codes "\n"
+
+-- What is told of a name of an order that is no agent: that; and the agent that may be meant by it
+abbrev pub stranger_told : List ℕ → List Token → List ℕ
+stranger_told name tokens = no_agent name ++ agent_meant name tokens
+
 -- The same of the first name that is no agent
-abbrev pub first_meant : Option (List ℕ) → List Token → List ℕ
-first_meant None tokens = []
-first_meant (Some name) tokens = agent_meant name tokens
+abbrev pub first_stranger : Option (List ℕ) → List Token → List ℕ
+first_stranger None tokens = []
+first_stranger (Some name) tokens = stranger_told name tokens
 
 -- The first of some names that is no agent
 abbrev pub first_unknown : List (List ℕ) → List Token → Option (List ℕ)
@@ -51,7 +59,7 @@ inputs_beside (name ∷ values) tokens = input_meant name tokens
 -- What is told of a stall of nobody, or of an order that names somebody else
 abbrev pub names_beside : List (List ℕ) → List Token → List ℕ
 names_beside (word ∷ agent ∷ names) tokens =
-    if bytes_eq word (codes "stall") then agent_meant agent tokens else first_meant (first_unknown names tokens) tokens
+    if bytes_eq word (codes "stall") then agent_meant agent tokens else first_stranger (first_unknown names tokens) tokens
 names_beside words tokens = []
 
 -- What is told of a line that may be an order which leaves agents out

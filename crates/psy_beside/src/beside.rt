@@ -2,8 +2,8 @@
 ghost use Rattle.std.specs.Prelude.{◌≡◌, ◌++◌, IfOk, OnOk, Some, bytes_eq, codes, map};
 ghost use Rattle.std.specs.List.{list_any};
 ghost use Rattle.std.specs.Option.{option_copied};
-ghost use Rattle.psy_beside.specs.Besides.{agent_meant, beside_hint, first_meant, first_unknown, input_meant, inputs_beside, left_out, left_out_here, meant};
-ghost use Rattle.psy_beside.specs.Besides.{names_beside, order_beside, script_beside};
+ghost use Rattle.psy_beside.specs.Besides.{agent_meant, beside_hint, first_stranger, first_unknown, input_meant, inputs_beside, left_out, left_out_here, meant};
+ghost use Rattle.psy_beside.specs.Besides.{names_beside, no_agent, order_beside, script_beside, stranger_told};
 ghost use Rattle.psy_slip.specs.Told.{quoted};
 
 use crate::declared::{declared, is_declared, near_declared};
@@ -190,24 +190,42 @@ fn add_names_beside(out: &mut Vec<u8>, words: &[&[u8]], tokens: &[Token]) -> Res
             if *word == b"stall".as_slice() {
                 add_agent_meant(out, agent, tokens)
             } else {
-                add_first_meant(out, first_unknown(names, tokens), tokens)
+                add_first_stranger(out, first_unknown(names, tokens), tokens)
             }
         }
         _ => Ok(()),
     }
 }
 
-fn add_first_meant(
+fn add_first_stranger(
     out: &mut Vec<u8>,
     name: Option<&[u8]>,
     tokens: &[Token],
 ) -> Result<(), AllocError>
-    ensures { OnOk result (out.new.items ≡ out.old.items ++ first_meant (option_copied name.entry) tokens.now) }
+    ensures { OnOk result (out.new.items ≡ out.old.items ++ first_stranger (option_copied name.entry) tokens.now) }
 {
     match name {
         None => Ok(()),
-        Some(name) => add_agent_meant(out, name, tokens),
+        Some(name) => add_stranger(out, name, tokens),
     }
+}
+
+// Adds that the program has no agent of this name, and which may be meant.
+fn add_stranger(out: &mut Vec<u8>, name: &[u8], tokens: &[Token]) -> Result<(), AllocError>
+    ensures { OnOk result (out.new.items ≡ out.old.items ++ stranger_told name.now tokens.now) }
+{
+    add_no_agent(out, name)?;
+    add_agent_meant(out, name, tokens)
+}
+
+#[tactic(auto, unfolding(crate::specs::Besides::no_agent))]
+fn add_no_agent(out: &mut Vec<u8>, name: &[u8]) -> Result<(), AllocError>
+    ensures { OnOk result (out.new.items ≡ out.old.items ++ no_agent name.now) }
+{
+    out.extend_from_slice(b"hint: the program has no agent ")?;
+    add_quoted(out, name)?;
+    out.extend_from_slice(b"\n")?;
+    Ok(())
 }
 
 // The first of some names that is no agent.

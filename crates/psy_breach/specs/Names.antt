@@ -8,9 +8,10 @@ use Rattle.psy_tree.specs.Lexemes.{word_spelling}
 use Rattle.psy_breach.specs.declared.declared.How.TheVariants.{Same, Near}
 use Rattle.psy_breach.specs.declared.declared.Reach.TheVariants.{Inside, Every}
 use Rattle.psy_breach.specs.declared.declared.Sort.{Sort}
+use Rattle.psy_breach.specs.declared.declared.Sort.TheVariants as sorts
 use Rattle.psy_breach.specs.declared.role.Role.{Role}
 use Rattle.psy_breach.specs.declared.role.Role.TheVariants.{Clock, Parent, Agent, Target, Messages, Past, Function, Cell, Assigned, Value}
-use Rattle.psy_breach.specs.Declarations.{first_declared, is_local, is_same, last_head, name_of, reached, sort_at}
+use Rattle.psy_breach.specs.Declarations.{first_declared, is_local, is_same, last_head, name_of, reached, sort_at, sort_of}
 use Rattle.psy_breach.specs.Kinds.{before, name_at}
 use Rattle.psy_near.specs.Near.{is_near}
 use Rattle.psy_breach.specs.Roles.{role_of}
@@ -61,15 +62,20 @@ lack_words Cell = codes " is declared nowhere: declare an array before `body`, a
 lack_words Assigned = codes " is declared nowhere: declare a variable before the statements, as in `int n = 0;`"
 lack_words Value = codes " is declared nowhere: declare a variable before the statements, as in `int n = 0;`"
 
--- What is told of a name that is declared inside another agent or function, or nowhere
-abbrev pub elsewhere_told_of : List ℕ → List ℕ → Role → Option (List Token) → List ℕ
-elsewhere_told_of text name role None = quoted name ++ lack_words role
-elsewhere_told_of text name role (Some declaration) =
-    declared_as text name declaration ++ codes ", inside another agent or function: from here it can't be seen"
+-- How to come by what is declared inside another agent or function: in a function by a parameter, in an agent by a temporal variable
+abbrev pub way_here : Option Sort → List ℕ
+way_here (Some sorts.Function) =
+    codes ", inside another agent or function: a function sees its own parameters and variables alone, so hand it the value as an argument"
+way_here _ = codes ", inside another agent or function, and can't be seen here: declare one here, or have the agent publish a temporal variable"
 
--- The same among tokens
-abbrev pub elsewhere_told : List ℕ → List Token → List ℕ → Role → List ℕ
-elsewhere_told text tokens name role = elsewhere_told_of text name role (first_declared Inside Same name tokens)
+-- What is told of a name that is declared inside another agent or function, or nowhere, by what declares the agent or function that names it
+abbrev pub elsewhere_told_of : List ℕ → List ℕ → Role → Option Sort → Option (List Token) → List ℕ
+elsewhere_told_of text name role here None = quoted name ++ lack_words role
+elsewhere_told_of text name role here (Some declaration) = declared_as text name declaration ++ way_here here
+
+-- The same among tokens, behind those before the name
+abbrev pub elsewhere_told : List ℕ → List Token → List Token → List ℕ → Role → List ℕ
+elsewhere_told text tokens front name role = elsewhere_told_of text name role (sort_of (last_head front)) (first_declared Inside Same name tokens)
 
 -- The reserved words that stand where names do, or before them
 abbrev pub NEAR_NAMES : List Word
@@ -89,8 +95,8 @@ word_told_or name other None = other
 word_told_or name other (Some word) = near_word_told name word
 
 -- The same of a name that is nearly none in reach
-abbrev pub unlike_told : List ℕ → List Token → List ℕ → Role → List ℕ
-unlike_told text tokens name role = word_told_or name (elsewhere_told text tokens name role) (near_word name)
+abbrev pub unlike_told : List ℕ → List Token → List Token → List ℕ → Role → List ℕ
+unlike_told text tokens front name role = word_told_or name (elsewhere_told text tokens front name role) (near_word name)
 
 -- A name in reach is nearly the same; or else what is told where none is.
 abbrev pub near_told : List ℕ → List ℕ → Option (List Token) → List ℕ
@@ -100,7 +106,7 @@ near_told text other (Some declaration) = declared_as text (name_of declaration)
 -- The same by what is in reach
 abbrev pub nearly_told : List ℕ → List Token → List Token → List Token → List ℕ
 nearly_told text tokens front back =
-    near_told text (unlike_told text tokens (name_at (slice_get back 0)) (role_of front back))
+    near_told text (unlike_told text tokens front (name_at (slice_get back 0)) (role_of front back))
     (reached Near (name_at (slice_get back 0)) tokens front)
 
 -- The reserved word that a name is in other case

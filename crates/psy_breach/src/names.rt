@@ -4,10 +4,11 @@ ghost use Rattle.std.specs.Option.{option_copied};
 ghost use Rattle.psy_breach.specs.Names.{calls_told, calls_told_of, cased_word, elsewhere_told, first_named};
 ghost use Rattle.psy_breach.specs.Names.{is_inside, is_truth, lack_words, look_way, near_word, near_word_told};
 ghost use Rattle.psy_breach.specs.Names.{nearly_told, owner_told, owner_told_of, receiver_told, receiver_told_of};
-ghost use Rattle.psy_breach.specs.Names.{twice_told, unknown_told, unlike_told, unreached_told, way_to};
+ghost use Rattle.psy_breach.specs.Names.{twice_told, unknown_told, unlike_told, unreached_told, way_here, way_to};
 
 use crate::declared::{
-    How, Reach, first_declared, is_local, is_same, last_head, name_of, reached, sort_at,
+    How, Reach, Sort, first_declared, is_local, is_same, last_head, name_of, reached, sort_at,
+    sort_of,
 };
 use crate::role::{Role, role_of};
 use crate::token::{before, name_at};
@@ -132,7 +133,7 @@ fn add_near(
             declaration,
             b": is that meant?",
         ),
-        None => add_unlike(out, text, tokens, name, role_of(front, back)),
+        None => add_unlike(out, text, tokens, front, name, role_of(front, back)),
     }
 }
 
@@ -141,14 +142,15 @@ fn add_unlike(
     out: &mut Vec<u8>,
     text: &[u8],
     tokens: &[Token],
+    front: &[Token],
     name: &[u8],
     role: Role,
 ) -> Result<(), AllocError>
-    ensures { OnOk result (out.new.items ≡ out.old.items ++ unlike_told text.now tokens.now name.now role) }
+    ensures { OnOk result (out.new.items ≡ out.old.items ++ unlike_told text.now tokens.now front.now name.now role) }
 {
     match near_word(name) {
         Some(word) => add_near_word(out, name, word),
-        None => add_elsewhere(out, text, tokens, name, role),
+        None => add_elsewhere(out, text, tokens, front, name, role),
     }
 }
 
@@ -180,20 +182,30 @@ fn add_elsewhere(
     out: &mut Vec<u8>,
     text: &[u8],
     tokens: &[Token],
+    front: &[Token],
     name: &[u8],
     role: Role,
 ) -> Result<(), AllocError>
-    ensures { OnOk result (out.new.items ≡ out.old.items ++ elsewhere_told text.now tokens.now name.now role) }
+    ensures { OnOk result (out.new.items ≡ out.old.items ++ elsewhere_told text.now tokens.now front.now name.now role) }
 {
     match first_declared(Reach::Inside, How::Same, name, tokens) {
-        Some(declaration) => add_declared_of(
-            out,
-            text,
-            name,
-            declaration,
-            b", inside another agent or function: from here it can't be seen",
-        ),
+        Some(declaration) => {
+            let way = way_here(sort_of(last_head(front)));
+            add_declared_of(out, text, name, declaration, way)
+        }
         None => add_of(out, name, lack_words(role)),
+    }
+}
+
+// How to come by what is declared inside another agent or function.
+fn way_here(here: Option<Sort>) -> &'static [u8]
+    ensures { result.now ≡ way_here here }
+{
+    match here {
+        Some(Sort::Function) =>
+            b", inside another agent or function: a function sees its own parameters and variables alone, so hand it the value as an argument",
+        _ =>
+            b", inside another agent or function, and can't be seen here: declare one here, or have the agent publish a temporal variable",
     }
 }
 

@@ -2,5 +2,6 @@
 mod Alike
 mod Followed
 mod Fronts
+mod OpenBraces
 mod Picked
 mod Renamed

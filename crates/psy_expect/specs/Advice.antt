@@ -1,5 +1,5 @@
 -- What is written of a token with which no program goes on: what may stand there, and a hint.
-use Rattle.std.specs.Prelude.{◌≡◌, ℕ, ◌+◌, ◌<◌, ◌≤◌, ◌==◌, Bool, false, if◌then◌else◌, MatchBool, List, [], ◌++◌, length, map, take, codes}
+use Rattle.std.specs.Prelude.{◌≡◌, ℕ, ◌+◌, ◌<◌, ◌≤◌, ◌==◌, Bool, true, false, if◌then◌else◌, MatchBool, List, [], ◌++◌, length, map, take, codes}
 use Rattle.std.specs.Prelude.{option_to_list, Option, None, Some}
 use denote.Enum.Bare.{sameb}
 use Rattle.psy_base.specs.declared.limits.TheConstants.{FILE_BYTES}
@@ -7,7 +7,7 @@ use Rattle.psy_tree.specs.declared.token.Token.{Token}
 use Rattle.psy_expect.specs.contracts.hint.Hint as hint_kind
 use Rattle.psy_expect.specs.declared.around.Around.{Around}
 use Rattle.psy_expect.specs.declared.hint.Hint.{Hint}
-use Rattle.psy_expect.specs.declared.hint.Hint.TheVariants.{Missing}
+use Rattle.psy_expect.specs.declared.hint.Hint.TheVariants.{Close, FunctionInside, Missing}
 use Rattle.psy_expect.specs.declared.phrase.Phrase.{Phrase}
 use Rattle.psy_expect.specs.declared.terminal.Terminal.{Terminal}
 use Rattle.psy_expect.specs.declared.terminal.TheConstants.{EVERY}
@@ -15,6 +15,7 @@ use Rattle.psy_expect.specs.Terminals.{GoesOn, MayFollow, Picks}
 use Rattle.psy_expect.specs.Mending.{Mends}
 use Rattle.psy_expect.specs.Phrases.{phrases, phrase_words, listed}
 use Rattle.psy_expect.specs.Arounds.{around}
+use Rattle.psy_expect.specs.Braces.{open_brace}
 use Rattle.psy_expect.specs.Hints.{hint_of, hint_words}
 
 -- What is found of a place, by the tokens before it and what stands around it: the terminals that may stand there, those of them that mend it, and whether the
@@ -58,12 +59,24 @@ abbrev pub hint_line : Option Hint → List Phrase → List ℕ
 hint_line None missing = []
 hint_line (Some hint) missing = told_hint hint missing
 
--- What is told of a place with this around it, by what was found
-abbrev pub advice_told : Around → List Terminal → List Terminal → Bool → List ℕ
-advice_told a told mends extra = may_line (phrases told) ++ hint_line (hint_of a told mends extra) (phrases mends)
+-- What is told of a place, by the hint, what may stand there, and what mends it
+abbrev pub advice_told : Option Hint → List Terminal → List Terminal → List ℕ
+advice_told hint told mends = may_line (phrases told) ++ hint_line hint (phrases mends)
 
--- The text is the advice for the place of that number among tokens.
-abbrev pub IsAdvice : List Token → ℕ → List ℕ → Type 0
-IsAdvice tokens at text =
+-- The hint is that a `}` is missing, here or further up.
+abbrev pub is_of_brace : Hint → Bool
+is_of_brace FunctionInside = true
+is_of_brace Close = true
+is_of_brace _ = false
+
+-- The open brace, where the hint tells of one
+abbrev pub brace_told : Option Hint → Option ℕ → Option ℕ
+brace_told None brace = None
+brace_told (Some hint) brace = if is_of_brace hint then brace else None
+
+-- The text is the advice for the place of that number among tokens, and with it the place of the innermost `{` that is open there is told, or none.
+abbrev pub IsAdvice : List Token → ℕ → List ℕ → Option ℕ → Type 0
+IsAdvice tokens at text brace =
     (told : List Terminal) × (mends : List Terminal) × (extra : Bool) × IsTried (take at tokens) (around tokens at) told mends extra
-    × (text ≡ advice_told (around tokens at) told mends extra)
+    × (text ≡ advice_told (hint_of (around tokens at) told mends extra) told mends)
+    × (brace ≡ brace_told (hint_of (around tokens at) told mends extra) (open_brace (take at tokens)))

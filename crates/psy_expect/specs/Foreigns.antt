@@ -3,7 +3,7 @@ use Rattle.std.specs.Prelude.{ℕ, Bool, false, ◌||◌, List, [], ◌∷◌, c
 use Rattle.std.specs.Str.{bytes_eq, str_eq_ignore_ascii_case}
 use Rattle.psy_tree.specs.Lexemes.{word_spelling}
 use Rattle.psy_expect.specs.declared.foreign.Foreign.{Foreign}
-use Rattle.psy_expect.specs.declared.foreign.Foreign.TheVariants.{For, Loop, Jump, Switch, TypeWord, Modifier}
+use Rattle.psy_expect.specs.declared.foreign.Foreign.TheVariants.{For, Loop, Jump, Switch, TypeWord, Constant, Enumeration, Modifier}
 use Rattle.psy_expect.specs.declared.foreign.Foreign.TheVariants.{Void, Function, ElseIf, Then, Times, Logical, Wait, Print}
 use Rattle.psy_expect.specs.declared.terminal.Terminal.{Terminal}
 use Rattle.psy_expect.specs.declared.terminal.Terminal.TheVariants.{Word}
@@ -26,14 +26,16 @@ is_print name =
 abbrev pub is_spelled : Foreign → List ℕ → Bool
 is_spelled For name = bytes_eq name (codes "for") || bytes_eq name (codes "foreach")
 is_spelled Loop name =
-    bytes_eq name (codes "do") || (bytes_eq name (codes "loop") || (bytes_eq name (codes "repeat") || bytes_eq name (codes "until")))
+    bytes_eq name (codes "do") || (bytes_eq name (codes "loop") || (bytes_eq name (codes "forever")
+    || (bytes_eq name (codes "repeat") || bytes_eq name (codes "until"))))
 is_spelled Jump name =
     bytes_eq name (codes "break") || (bytes_eq name (codes "continue") || (bytes_eq name (codes "exit") || bytes_eq name (codes "goto")))
 is_spelled Switch name = bytes_eq name (codes "switch") || (bytes_eq name (codes "case") || bytes_eq name (codes "default"))
 is_spelled TypeWord name = is_type name
+is_spelled Constant name = bytes_eq name (codes "const") || bytes_eq name (codes "constexpr")
+is_spelled Enumeration name = bytes_eq name (codes "enum")
 is_spelled Modifier name =
-    bytes_eq name (codes "const") || (bytes_eq name (codes "static") || (bytes_eq name (codes "volatile")
-    || (bytes_eq name (codes "let") || bytes_eq name (codes "var"))))
+    bytes_eq name (codes "static") || (bytes_eq name (codes "volatile") || (bytes_eq name (codes "let") || bytes_eq name (codes "var")))
 is_spelled Void name = bytes_eq name (codes "void")
 is_spelled Function name =
     bytes_eq name (codes "function") || (bytes_eq name (codes "def") || (bytes_eq name (codes "fn") || bytes_eq name (codes "func")))
@@ -48,7 +50,8 @@ is_spelled Print name = is_print name
 
 -- All of them
 abbrev pub FOREIGN : List Foreign
-FOREIGN = For ∷ Loop ∷ Jump ∷ Switch ∷ TypeWord ∷ Modifier ∷ Void ∷ Function ∷ ElseIf ∷ Then ∷ Times ∷ Logical ∷ Wait ∷ Print ∷ []
+FOREIGN =
+    For ∷ Loop ∷ Jump ∷ Switch ∷ TypeWord ∷ Constant ∷ Enumeration ∷ Modifier ∷ Void ∷ Function ∷ ElseIf ∷ Then ∷ Times ∷ Logical ∷ Wait ∷ Print ∷ []
 
 -- What word of another language a name is
 abbrev pub foreign_of : List ℕ → Option Foreign

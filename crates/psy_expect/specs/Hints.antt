@@ -17,9 +17,10 @@ use Rattle.psy_expect.specs.declared.hint.Hint.TheVariants.{Back, Close, ElseAlo
 use Rattle.psy_expect.specs.declared.hint.Hint.TheVariants.{FormTemporal, FormInput, FormStream, FormAgent, FormInt, FormIf, FormWhile, FormSend}
 use Rattle.psy_expect.specs.declared.hint.Hint.TheVariants.{FormAdvance, FormAssign, FunctionInside, Print, NotEqual, NoResult, BodyMissing}
 use Rattle.psy_expect.specs.declared.hint.Hint.TheVariants.{Ended, BodyEnded, SecondTick, SecondBody, InsideAgent, NoSemicolon, LookName, Cast, ReservedCall}
+use Rattle.psy_expect.specs.declared.hint.Hint.TheVariants.{Constant, Repeats, Cells, Dimension, FunctionArray, Period, FirstTemporal, FirstInput, Depth}
 use Rattle.psy_expect.specs.declared.terminal.Terminal.{Terminal}
 use Rattle.psy_expect.specs.declared.terminal.Terminal.TheVariants.{Word, Name, Number, Sign}
-use Rattle.psy_expect.specs.declared.group.Group.TheVariants.{Operator}
+use Rattle.psy_expect.specs.declared.group.Group.TheVariants.{Statement, Expression, Operator}
 use Rattle.psy_expect.specs.Phrases.{same, has, members}
 
 -- It is there, and this terminal
@@ -31,11 +32,6 @@ is None u = false
 abbrev pub is_among : Option Terminal → List Terminal → Bool
 is_among (Some t) us = has us t
 is_among None us = false
-
--- It is there, and may stand
-abbrev pub is_told : Option Terminal → List Terminal → Bool
-is_told (Some t) told = has told t
-is_told None told = false
 
 -- It is there, and a reserved word
 abbrev pub is_reserved : Option Terminal → Bool
@@ -96,10 +92,6 @@ CONDITIONS = Word words.If ∷ Word words.While ∷ []
 abbrev pub CLOSINGS : List Terminal
 CLOSINGS = Sign signs.CloseRound ∷ Sign signs.CloseSquare ∷ Sign signs.CloseBrace ∷ []
 
--- What begins a statement
-abbrev pub STATEMENTS : List Terminal
-STATEMENTS = Word words.Advance ∷ Word words.If ∷ Word words.Return ∷ Word words.Send ∷ Word words.While ∷ Name ∷ []
-
 -- The sign stands here and directly behind it, or here and directly before it, as one more of its kind
 abbrev pub is_twice : Around → Terminal → Bool
 is_twice a t = is a.here t && ((is a.behind t && a.is_joined_behind) || (is a.before t && a.is_joined_before))
@@ -108,10 +100,9 @@ is_twice a t = is a.here t && ((is a.behind t && a.is_joined_behind) || (is a.be
 abbrev pub TYPES : List Terminal
 TYPES = Word words.Int ∷ Word words.Int8 ∷ Word words.Int16 ∷ Word words.Int32 ∷ Word words.Int64 ∷ []
 
--- What begins a value that isn't a name alone
-abbrev pub NAMELESS : List Terminal
-NAMELESS =
-    Word words.Past ∷ Word words.Ready ∷ Word words.Take ∷ Number ∷ Sign signs.OpenRound ∷ Sign signs.Minus ∷ Sign signs.Tilde ∷ Sign signs.Bang ∷ []
+-- An expression begins here, and with no name
+abbrev pub is_nameless : Option Terminal → Bool
+is_nameless here = is_among here (members Expression) && not (is here Name)
 
 -- A function begins here among statements or behind a body, or its parameters are here, inside an agent or another function
 abbrev pub is_function_inside : Around → List Terminal → Bool
@@ -137,13 +128,25 @@ is_one_behind told = if has told (Sign signs.Comma) then not (has told (Sign sig
 -- An expression stands in those brackets: in the place of the name, or going on behind it
 abbrev pub is_look : Around → List Terminal → Bool
 is_look a told =
-    (is a.before (Sign signs.OpenRound) && (has told Name && (not (has told (Sign signs.Tilde)) && is_among a.here NAMELESS)))
+    (is a.before (Sign signs.OpenRound) && (has told Name && (not (has told (Sign signs.Tilde)) && is_nameless a.here)))
     || (is a.before Name && (is_one_behind told && (not (has told (Sign signs.Plus))
     && (is_among a.here (members Operator) || (is a.here (Sign signs.OpenSquare) || is a.here (Sign signs.OpenRound))))))
 
 -- A reserved word is called, other than one before a condition
 abbrev pub is_called : Around → Bool
 is_called a = is_reserved a.here && (is a.behind (Sign signs.OpenRound) && not (is_among a.here CONDITIONS))
+
+-- The word is `const` or `static`, or one of their kin
+abbrev pub is_modifier : Option Foreign → Bool
+is_modifier there = is_foreign there foreign.Constant || is_foreign there foreign.Modifier
+
+-- A loop begins here, in the language's word or in another's
+abbrev pub is_loop : Around → Bool
+is_loop a = is a.here (Word words.While) || (is_foreign a.foreign_here foreign.For || is_foreign a.foreign_here foreign.Loop)
+
+-- A declaration ends here, or another piece of the program begins.
+abbrev pub is_end : Option Terminal → Bool
+is_end here = is here (Sign signs.Semicolon) || (is here (Sign signs.CloseBrace) || (is_reserved here || is_nothing here))
 
 -- The rule fits a place with this around it, where these terminals may stand, and the program goes on where one of those is put before it, or where it is
 -- left out
@@ -155,8 +158,11 @@ fits Width a told mends extra =
     (is_among a.here WIDTHS && (has told (Word words.Int) || has told (Word words.If)))
     || ((is_foreign a.foreign_here foreign.TypeWord && has told (Word words.Int))
     || (is_foreign a.foreign_before foreign.TypeWord && has told (Sign signs.Assign)))
+fits Constant a told mends extra =
+    (is_foreign a.foreign_here foreign.Constant && has told (Word words.Agent)) || ((is_foreign a.foreign_here foreign.Enumeration && has told (Word words.Int))
+    || (is_foreign a.foreign_before foreign.Enumeration && has told (Sign signs.Assign)))
 fits Modifier a told mends extra =
-    (is_foreign a.foreign_here foreign.Modifier && has told (Word words.Int)) || (is_foreign a.foreign_before foreign.Modifier && has told (Sign signs.Assign))
+    (is_modifier a.foreign_here && has told (Word words.Int)) || (is_modifier a.foreign_before && has told (Sign signs.Assign))
 fits Void a told mends extra = is_foreign a.foreign_here foreign.Void && has told (Word words.Int)
 fits FunctionWord a told mends extra = is_foreign a.foreign_here foreign.Function && has told (Word words.Int)
 fits NoFor a told mends extra = is_foreign a.foreign_before foreign.For && is a.here (Sign signs.OpenRound)
@@ -167,7 +173,7 @@ fits ElseIf a told mends extra =
     (is_foreign a.foreign_before foreign.ElseIf && has told (Sign signs.Assign))
     || (is a.before (Word words.Else) && (is a.here (Word words.If) && has told (Sign signs.OpenBrace)))
 fits Else a told mends extra = is a.before (Word words.Else) && has told (Sign signs.OpenBrace)
-fits SmallLetters a told mends extra = is_told a.small_here told || (is_among a.small_before BEGINNINGS && has told (Sign signs.Assign))
+fits SmallLetters a told mends extra = is_among a.small_here told || (is_among a.small_before BEGINNINGS && has told (Sign signs.Assign))
 fits Then a told mends extra = is_foreign a.foreign_here foreign.Then && has told (Sign signs.OpenBrace)
 fits Times a told mends extra = is_foreign a.foreign_here foreign.Times && has told (Sign signs.Star)
 fits Logical a told mends extra =
@@ -187,10 +193,16 @@ fits Unlike a told mends extra = is a.here (Sign signs.Greater) && (is a.before 
 fits Power a told mends extra = is a.here (Sign signs.Star) && (is a.before (Sign signs.Star) && a.is_joined_before)
 fits UnaryPlus a told mends extra = is a.here (Sign signs.Plus) && has told (Sign signs.Tilde)
 fits Square a told mends extra = has mends (Sign signs.CloseSquare)
+fits Cells a told mends extra =
+    (is a.starter (Word words.Int) && ((is a.before (Sign signs.CloseSquare) && is a.here (Sign signs.Assign))
+    || (is a.here (Sign signs.CloseSquare) && is a.behind (Sign signs.Assign))))
+    || ((is a.starter (Word words.Int) || is a.starter Name) && (is a.before (Sign signs.Assign) && is a.here (Sign signs.OpenBrace)))
+fits Dimension a told mends extra = is a.before (Sign signs.CloseSquare) && is a.here (Sign signs.OpenSquare)
 fits Global a told mends extra =
     is a.starter (Word words.Int) && (has told (Sign signs.OpenRound) && (is_among a.here ENDINGS && not (has told (Sign signs.Semicolon))))
-fits NoValue a told mends extra = is a.here (Sign signs.Semicolon) && (is a.starter (Word words.Int) && has told (Sign signs.Assign))
-fits NameAlone a told mends extra = is a.here (Sign signs.Semicolon) && (is a.before Name && has told (Sign signs.Assign))
+fits NoValue a told mends extra = is_end a.here && (is a.starter (Word words.Int) && has told (Sign signs.Assign))
+fits NameAlone a told mends extra =
+    is a.here (Sign signs.Semicolon) && (is a.before Name && (is a.starter Name && has told (Sign signs.Assign)))
 fits NoResult a told mends extra = is a.before (Word words.Return) && (is a.here (Sign signs.Semicolon) || is a.here (Sign signs.CloseBrace))
 fits Chain a told mends extra = is a.here (Sign signs.Assign) && (has told (Sign signs.Equal) && has told (Sign signs.Semicolon))
 fits Comparison a told mends extra = is a.here (Sign signs.Assign) && has told (Sign signs.Equal)
@@ -202,13 +214,15 @@ fits Prototype a told mends extra = is a.here (Sign signs.Semicolon) && (is a.st
 fits LeaveOut a told mends extra = extra && (is a.here (Sign signs.Comma) || (is a.here (Word words.Int) && has told Name))
 fits EmptyCondition a told mends extra = is a.here (Sign signs.Semicolon) && (is_among a.starter CONDITIONS && has told (Sign signs.OpenBrace))
 fits BodyMissing a told mends extra = is a.here (Sign signs.CloseBrace) && has told (Word words.Body)
-fits Extra a told mends extra = (is_among a.here CLOSINGS && extra) || (is a.here (Sign signs.CloseBrace) && has told (Word words.Agent))
+fits Extra a told mends extra =
+    (is_among a.here CLOSINGS && (extra && not (is_nothing a.behind))) || (is a.here (Sign signs.CloseBrace) && has told (Word words.Agent))
 fits Braces a told mends extra = is_among a.starter CONDITIONS && has told (Sign signs.OpenBrace)
 fits After a told mends extra = is a.before (Word words.After) && has told Number
 fits NoStatement a told mends extra = is a.here (Sign signs.Semicolon) && has told (Word words.If)
 fits Ended a told mends extra = has_ended a && has told (Word words.Agent)
-fits Outside a told mends extra = is_among a.here STATEMENTS && has told (Word words.Agent)
-fits NoBody a told mends extra = is_among a.here STATEMENTS && has told (Word words.Body)
+fits Outside a told mends extra = is_among a.here (members Statement) && has told (Word words.Agent)
+fits Repeats a told mends extra = is_loop a && has told (Word words.Body)
+fits NoBody a told mends extra = is_among a.here (members Statement) && has told (Word words.Body)
 fits BodyEnded a told mends extra = is_statement a.here && (has told (Sign signs.CloseBrace) && not (has told (Word words.If)))
 fits SecondTick a told mends extra = is a.here (Word words.Tick) && has told (Word words.Agent)
 fits SecondBody a told mends extra = is a.here (Word words.Body) && (has told (Sign signs.CloseBrace) && not (has told (Word words.If)))
@@ -233,6 +247,11 @@ fits NumberAlone a told mends extra =
     || (is_among a.here OPERATORS && (is a.before Number && (not (has told (Sign signs.Plus)) && not (has told (Sign signs.Star)))))
 fits SemicolonAtEnd a told mends extra =
     (is_nothing a.here || (is_reserved a.here || (is a.here Name || is a.here (Sign signs.CloseBrace)))) && has told (Sign signs.Semicolon)
+fits FunctionArray a told mends extra = is a.starter (Word words.Int) && (is a.before Name && is a.here (Sign signs.OpenSquare))
+fits Period a told mends extra = is a.starter (Word words.Clock) && has told (Sign signs.Assign)
+fits FirstTemporal a told mends extra = is a.starter (Word words.Temporal) && has told (Sign signs.Assign)
+fits FirstInput a told mends extra = is a.starter (Word words.Input) && has told (Sign signs.Assign)
+fits Depth a told mends extra = (is a.starter (Word words.Temporal) || is a.starter (Word words.Input)) && has told (Word words.Depth)
 fits FormTick a told mends extra = is a.starter (Word words.Tick) || (has told (Word words.Tick) && not (has told Name))
 fits FormClock a told mends extra = is a.starter (Word words.Clock)
 fits FormTemporal a told mends extra = is a.starter (Word words.Temporal)
@@ -249,13 +268,13 @@ fits FormAssign a told mends extra = is a.starter Name && has told (Sign signs.A
 -- The rules, in their order
 abbrev pub RULES : List Hint
 RULES =
-    FunctionInside ∷ DeclarationInBody ∷ DeclarationBehindBody ∷ Width ∷ Modifier ∷ Void ∷ FunctionWord ∷ NoFor ∷ OtherLoop ∷ Jump ∷ Switch ∷ ElseIf
-    ∷ Else ∷ SmallLetters ∷ Then ∷ Times ∷ Logical ∷ Wait ∷ Print ∷ ValueAlone ∷ TickAsClock ∷ Increment ∷ Compound ∷ LessOrEqual ∷ NotEqual ∷ Unlike
-    ∷ Power ∷ UnaryPlus ∷ Square ∷ Global ∷ NoValue ∷ NameAlone ∷ NoResult ∷ Chain ∷ Comparison ∷ Assignment ∷ OneByOne ∷ Call ∷ Prototype ∷ Brackets
-    ∷ NumberAlone ∷ LeaveOut ∷ EmptyCondition ∷ BodyMissing ∷ Extra ∷ Braces ∷ After ∷ NoStatement ∷ Ended ∷ Outside ∷ NoBody ∷ BodyEnded ∷ SecondTick
-    ∷ SecondBody ∷ InsideAgent ∷ Back ∷ Close ∷ ElseAlone ∷ Semicolon ∷ FormTick ∷ NoSemicolon ∷ Missing ∷ LookName ∷ Cast ∷ ReservedCall ∷ Reserved
-    ∷ SemicolonAtEnd ∷ FormClock ∷ FormTemporal ∷ FormInput ∷ FormStream ∷ FormAgent ∷ FormInt ∷ FormIf ∷ FormWhile ∷ FormSend ∷ FormAdvance
-    ∷ FormAssign ∷ []
+    FunctionInside ∷ DeclarationInBody ∷ DeclarationBehindBody ∷ Width ∷ Constant ∷ Modifier ∷ Void ∷ FunctionWord ∷ NoFor ∷ OtherLoop ∷ Jump ∷ Switch
+    ∷ ElseIf ∷ Else ∷ SmallLetters ∷ Then ∷ Times ∷ Logical ∷ Wait ∷ Print ∷ ValueAlone ∷ TickAsClock ∷ Increment ∷ Compound ∷ LessOrEqual ∷ NotEqual ∷ Unlike
+    ∷ Power ∷ UnaryPlus ∷ Square ∷ Cells ∷ Dimension ∷ Global ∷ NoValue ∷ NameAlone ∷ NoResult ∷ Chain ∷ Comparison ∷ Assignment ∷ OneByOne ∷ Call ∷ Prototype
+    ∷ Brackets ∷ NumberAlone ∷ LeaveOut ∷ EmptyCondition ∷ BodyMissing ∷ Extra ∷ Braces ∷ After ∷ NoStatement ∷ Ended ∷ Outside ∷ Repeats ∷ NoBody ∷ BodyEnded
+    ∷ SecondTick ∷ SecondBody ∷ InsideAgent ∷ Back ∷ Close ∷ ElseAlone ∷ Semicolon ∷ FormTick ∷ NoSemicolon ∷ Missing ∷ LookName ∷ Cast ∷ ReservedCall
+    ∷ Reserved ∷ SemicolonAtEnd ∷ FunctionArray ∷ Period ∷ FirstTemporal ∷ FirstInput ∷ Depth ∷ FormClock ∷ FormTemporal ∷ FormInput ∷ FormStream ∷ FormAgent
+    ∷ FormInt ∷ FormIf ∷ FormWhile ∷ FormSend ∷ FormAdvance ∷ FormAssign ∷ []
 
 -- The first rule that fits
 abbrev pub hint_of : Around → List Terminal → List Terminal → Bool → Option Hint
@@ -267,11 +286,12 @@ hint_words FunctionInside = codes "a function stands outside of agents and of ot
 hint_words DeclarationInBody = codes "variables are declared before the statements: those of an agent before `body`, those of a function at its head"
 hint_words DeclarationBehindBody = codes "behind `body` nothing stands in an agent: variables are declared before it; before a function a `}` is missing"
 hint_words Width = codes "the only type is `int`"
+hint_words Constant = codes "there are no named constants: write the number, or a function that returns it, as in `int limit() { return 5; }`"
 hint_words Modifier = codes "there is no `const`, `static` or the like: leave it out; an agent's variables keep their values from action to action"
 hint_words Void = codes "each function gives a value: write `int f(..) { .. return ..; }`"
 hint_words FunctionWord = codes "a function begins with `int`, as in `int f(int a) { return a; }`"
 hint_words NoFor = codes "there is no `for`: count in a `while (..) max N { .. }`"
-hint_words OtherLoop = codes "the only loop is `while (..) max N { .. }`"
+hint_words OtherLoop = codes "the only loop is `while (..) max N { .. }`; a `body` begins again by itself"
 hint_words Jump = codes "there is no `break` and no `continue`: put what ends a loop into its condition"
 hint_words Switch = codes "there is no `switch`: write `if (..) { .. } else { .. }`"
 hint_words ElseIf = codes "behind `else` stands `{`: `else if` is written `else { if (..) { .. } }`"
@@ -292,7 +312,10 @@ hint_words Unlike = codes "that two values differ is written `!=`"
 hint_words Power = codes "there is no `**`: write a product"
 hint_words UnaryPlus = codes "there is no `+` before a value: leave it out"
 hint_words Square = codes "a `]` is missing before this"
-hint_words Global = codes "a variable stands inside an agent or a function; what agents share is declared as in `temporal v of A on c = 0 depth 1;`"
+hint_words Cells = codes "the cells of an array begin at 0, as in `int a[4];`, and each is assigned by itself, as in `a[0] = 1;`"
+hint_words Dimension = codes "an array has one index: where rows of 4 are meant, write `a[4 * i + j]`"
+hint_words Global =
+    codes "variables stand in agents and functions; agents share `temporal v of A on c = 0 depth 1;`; for a constant write its number, or a function"
 hint_words NoValue = codes "a variable has a first value, as in `int n = 0;`"
 hint_words NameAlone = codes "a name is no statement: assign to it, as in `v = 1;`"
 hint_words NoResult = codes "a function gives a value, which stands behind `return`, as in `return 0;`"
@@ -312,6 +335,7 @@ hint_words NoStatement = codes "there is no empty statement: leave this `;` out"
 hint_words Ended = codes "the agent or the function above ends before this: a `}` further up is one too many"
 hint_words Outside =
     codes "a declaration begins with `clock`, `temporal`, `input`, `stream`, `agent` or `int`; statements stand in the `body` of an agent or in a function"
+hint_words Repeats = codes "the statements of an agent stand in `body { .. }`, which begins again by itself: it needs no loop around it"
 hint_words NoBody = codes "the statements of an agent stand in `body { .. }`"
 hint_words BodyEnded = codes "the `body` of this agent ends before this: a `}` further up is one too many"
 hint_words SecondTick = codes "a program has one `tick`, which is its beginning: leave this one out"
@@ -330,6 +354,11 @@ hint_words Reserved = codes "this word is reserved, and can't be a name: choose 
 hint_words Brackets = codes "what is looked at stands in brackets: `past(v, 0)`, `ready(s)`, `take(s)`"
 hint_words NumberAlone = codes "here stands a number alone, and neither a name nor an expression"
 hint_words SemicolonAtEnd = codes "a `;` is missing before this"
+hint_words FunctionArray = codes "arrays stand in an agent, before its `body`: a function has none"
+hint_words Period = codes "a clock has its period behind its name: `=`, a number, `*`, and `tick` or a clock above, as in `clock c = 10 * tick;`"
+hint_words FirstTemporal = codes "behind its clock a temporal variable has a first value and a depth, as in `temporal v of A on c = 0 depth 1;`"
+hint_words FirstInput = codes "behind its clock an input has a first value and a depth, as in `input x on c = 0 depth 1;`"
+hint_words Depth = codes "behind the first value stands `depth`, with the number of values that `past` can reach, as in `= 0 depth 1;`"
 hint_words FormTick = codes "a program begins as in `tick 100;`, with the cycles of a tick"
 hint_words NoSemicolon = codes "behind `{`, `}` and `;` stands no `;`: leave this one out"
 hint_words FormClock = codes "a clock is declared as in `clock c = 10 * tick;`, or with a shift, as in `clock d = 5 * c + 2;`"

@@ -1,7 +1,7 @@
 //! Which rule of a common slip fits a place.
 ghost use Rattle.std.specs.Prelude.{◌≡◌};
-ghost use Rattle.psy_expect.specs.Hints.{fits, has_ended, is, is_among, is_called, is_foreign, is_function_inside, is_look};
-ghost use Rattle.psy_expect.specs.Hints.{is_nothing, is_one_behind, is_reserved, is_some_few, is_statement, is_told, is_twice};
+ghost use Rattle.psy_expect.specs.Hints.{fits, has_ended, is, is_among, is_called, is_end, is_foreign, is_function_inside, is_look, is_loop};
+ghost use Rattle.psy_expect.specs.Hints.{is_modifier, is_nameless, is_nothing, is_one_behind, is_reserved, is_some_few, is_statement, is_twice};
 
 use crate::around::Around;
 use crate::foreign::Foreign;
@@ -82,32 +82,12 @@ const CLOSINGS: [Terminal; 3] = [
     Terminal::Sign(Sign::CloseBrace),
 ];
 
-const STATEMENTS: [Terminal; 6] = [
-    Terminal::Word(Word::Advance),
-    Terminal::Word(Word::If),
-    Terminal::Word(Word::Return),
-    Terminal::Word(Word::Send),
-    Terminal::Word(Word::While),
-    Terminal::Name,
-];
-
 const TYPES: [Terminal; 5] = [
     Terminal::Word(Word::Int),
     Terminal::Word(Word::Int8),
     Terminal::Word(Word::Int16),
     Terminal::Word(Word::Int32),
     Terminal::Word(Word::Int64),
-];
-
-const NAMELESS: [Terminal; 8] = [
-    Terminal::Word(Word::Past),
-    Terminal::Word(Word::Ready),
-    Terminal::Word(Word::Take),
-    Terminal::Number,
-    Terminal::Sign(Sign::OpenRound),
-    Terminal::Sign(Sign::Minus),
-    Terminal::Sign(Sign::Tilde),
-    Terminal::Sign(Sign::Bang),
 ];
 
 /// Does the rule fit a place with this around it, where these terminals may stand, and the program goes on where one of those is put before it, or where it
@@ -127,10 +107,14 @@ pub fn fits(hint: Hint, a: Around, told: &[Terminal], mends: &[Terminal], is_ext
                 && has(told, Terminal::Word(Word::Int)))
                 || (is_foreign(a.foreign_before, Foreign::TypeWord)
                     && has(told, Terminal::Sign(Sign::Assign)))),
-        Hint::Modifier => (is_foreign(a.foreign_here, Foreign::Modifier)
-            && has(told, Terminal::Word(Word::Int)))
-            || (is_foreign(a.foreign_before, Foreign::Modifier)
-                && has(told, Terminal::Sign(Sign::Assign))),
+        Hint::Constant => (is_foreign(a.foreign_here, Foreign::Constant)
+            && has(told, Terminal::Word(Word::Agent)))
+            || ((is_foreign(a.foreign_here, Foreign::Enumeration)
+                && has(told, Terminal::Word(Word::Int)))
+                || (is_foreign(a.foreign_before, Foreign::Enumeration)
+                    && has(told, Terminal::Sign(Sign::Assign)))),
+        Hint::Modifier => (is_modifier(a.foreign_here) && has(told, Terminal::Word(Word::Int)))
+            || (is_modifier(a.foreign_before) && has(told, Terminal::Sign(Sign::Assign))),
         Hint::Void => is_foreign(a.foreign_here, Foreign::Void)
             && has(told, Terminal::Word(Word::Int)),
         Hint::FunctionWord => is_foreign(a.foreign_here, Foreign::Function)
@@ -150,7 +134,7 @@ pub fn fits(hint: Hint, a: Around, told: &[Terminal], mends: &[Terminal], is_ext
                     && has(told, Terminal::Sign(Sign::OpenBrace)))),
         Hint::Else => is(a.before, Terminal::Word(Word::Else))
             && has(told, Terminal::Sign(Sign::OpenBrace)),
-        Hint::SmallLetters => is_told(a.small_here, told)
+        Hint::SmallLetters => is_among(a.small_here, told)
             || (is_among(a.small_before, &BEGINNINGS) && has(told, Terminal::Sign(Sign::Assign))),
         Hint::Then => is_foreign(a.foreign_here, Foreign::Then)
             && has(told, Terminal::Sign(Sign::OpenBrace)),
@@ -186,14 +170,25 @@ pub fn fits(hint: Hint, a: Around, told: &[Terminal], mends: &[Terminal], is_ext
         Hint::UnaryPlus => is(a.here, Terminal::Sign(Sign::Plus))
             && has(told, Terminal::Sign(Sign::Tilde)),
         Hint::Square => has(mends, Terminal::Sign(Sign::CloseSquare)),
+        Hint::Cells => (is(a.starter, Terminal::Word(Word::Int))
+            && ((is(a.before, Terminal::Sign(Sign::CloseSquare))
+                && is(a.here, Terminal::Sign(Sign::Assign)))
+                || (is(a.here, Terminal::Sign(Sign::CloseSquare))
+                    && is(a.behind, Terminal::Sign(Sign::Assign)))))
+            || ((is(a.starter, Terminal::Word(Word::Int)) || is(a.starter, Terminal::Name))
+                && (is(a.before, Terminal::Sign(Sign::Assign))
+                    && is(a.here, Terminal::Sign(Sign::OpenBrace)))),
+        Hint::Dimension => is(a.before, Terminal::Sign(Sign::CloseSquare))
+            && is(a.here, Terminal::Sign(Sign::OpenSquare)),
         Hint::Global => is(a.starter, Terminal::Word(Word::Int))
             && (has(told, Terminal::Sign(Sign::OpenRound))
                 && (is_among(a.here, &ENDINGS) && !has(told, Terminal::Sign(Sign::Semicolon)))),
-        Hint::NoValue => is(a.here, Terminal::Sign(Sign::Semicolon))
+        Hint::NoValue => is_end(a.here)
             && (is(a.starter, Terminal::Word(Word::Int))
                 && has(told, Terminal::Sign(Sign::Assign))),
         Hint::NameAlone => is(a.here, Terminal::Sign(Sign::Semicolon))
-            && (is(a.before, Terminal::Name) && has(told, Terminal::Sign(Sign::Assign))),
+            && (is(a.before, Terminal::Name)
+                && (is(a.starter, Terminal::Name) && has(told, Terminal::Sign(Sign::Assign)))),
         Hint::NoResult => is(a.before, Terminal::Word(Word::Return))
             && (is(a.here, Terminal::Sign(Sign::Semicolon))
                 || is(a.here, Terminal::Sign(Sign::CloseBrace))),
@@ -221,7 +216,7 @@ pub fn fits(hint: Hint, a: Around, told: &[Terminal], mends: &[Terminal], is_ext
             && (is_among(a.starter, &CONDITIONS) && has(told, Terminal::Sign(Sign::OpenBrace))),
         Hint::BodyMissing => is(a.here, Terminal::Sign(Sign::CloseBrace))
             && has(told, Terminal::Word(Word::Body)),
-        Hint::Extra => (is_among(a.here, &CLOSINGS) && is_extra)
+        Hint::Extra => (is_among(a.here, &CLOSINGS) && (is_extra && !is_nothing(a.behind)))
             || (is(a.here, Terminal::Sign(Sign::CloseBrace))
                 && has(told, Terminal::Word(Word::Agent))),
         Hint::Braces => is_among(a.starter, &CONDITIONS)
@@ -230,8 +225,11 @@ pub fn fits(hint: Hint, a: Around, told: &[Terminal], mends: &[Terminal], is_ext
         Hint::NoStatement => is(a.here, Terminal::Sign(Sign::Semicolon))
             && has(told, Terminal::Word(Word::If)),
         Hint::Ended => has_ended(a) && has(told, Terminal::Word(Word::Agent)),
-        Hint::Outside => is_among(a.here, &STATEMENTS) && has(told, Terminal::Word(Word::Agent)),
-        Hint::NoBody => is_among(a.here, &STATEMENTS) && has(told, Terminal::Word(Word::Body)),
+        Hint::Outside => is_among(a.here, members(Group::Statement))
+            && has(told, Terminal::Word(Word::Agent)),
+        Hint::Repeats => is_loop(a) && has(told, Terminal::Word(Word::Body)),
+        Hint::NoBody => is_among(a.here, members(Group::Statement))
+            && has(told, Terminal::Word(Word::Body)),
         Hint::BodyEnded => is_statement(a.here)
             && (has(told, Terminal::Sign(Sign::CloseBrace))
                 && !has(told, Terminal::Word(Word::If))),
@@ -276,6 +274,17 @@ pub fn fits(hint: Hint, a: Around, told: &[Terminal], mends: &[Terminal], is_ext
             || (is_reserved(a.here)
                 || (is(a.here, Terminal::Name) || is(a.here, Terminal::Sign(Sign::CloseBrace)))))
             && has(told, Terminal::Sign(Sign::Semicolon)),
+        Hint::FunctionArray => is(a.starter, Terminal::Word(Word::Int))
+            && (is(a.before, Terminal::Name) && is(a.here, Terminal::Sign(Sign::OpenSquare))),
+        Hint::Period => is(a.starter, Terminal::Word(Word::Clock))
+            && has(told, Terminal::Sign(Sign::Assign)),
+        Hint::FirstTemporal => is(a.starter, Terminal::Word(Word::Temporal))
+            && has(told, Terminal::Sign(Sign::Assign)),
+        Hint::FirstInput => is(a.starter, Terminal::Word(Word::Input))
+            && has(told, Terminal::Sign(Sign::Assign)),
+        Hint::Depth => (is(a.starter, Terminal::Word(Word::Temporal))
+            || is(a.starter, Terminal::Word(Word::Input)))
+            && has(told, Terminal::Word(Word::Depth)),
         Hint::FormTick => {
             is(a.starter, Terminal::Word(Word::Tick))
                 || (has(told, Terminal::Word(Word::Tick)) && !has(told, Terminal::Name))
@@ -342,7 +351,7 @@ fn is_look(a: Around, told: &[Terminal]) -> bool
 {
     (is(a.before, Terminal::Sign(Sign::OpenRound))
         && (has(told, Terminal::Name)
-            && (!has(told, Terminal::Sign(Sign::Tilde)) && is_among(a.here, &NAMELESS))))
+            && (!has(told, Terminal::Sign(Sign::Tilde)) && is_nameless(a.here))))
         || (is(a.before, Terminal::Name)
             && (is_one_behind(told)
                 && (!has(told, Terminal::Sign(Sign::Plus))
@@ -388,16 +397,6 @@ fn is_among(there: Option<Terminal>, terminals: &[Terminal]) -> bool
     }
 }
 
-// Is it there, and may stand?
-fn is_told(there: Option<Terminal>, told: &[Terminal]) -> bool
-    ensures { result ≡ is_told there told.now }
-{
-    match there {
-        Some(here) => has(told, here),
-        None => false,
-    }
-}
-
 fn is_reserved(there: Option<Terminal>) -> bool
     ensures { result ≡ is_reserved there }
 {
@@ -417,6 +416,36 @@ fn is_foreign(there: Option<Foreign>, foreign: Foreign) -> bool
         Some(here) => here == foreign,
         None => false,
     }
+}
+
+// Does a declaration end here, or another piece of the program begin?
+fn is_end(here: Option<Terminal>) -> bool
+    ensures { result ≡ is_end here }
+{
+    is(here, Terminal::Sign(Sign::Semicolon))
+        || (is(here, Terminal::Sign(Sign::CloseBrace)) || (is_reserved(here) || is_nothing(here)))
+}
+
+// Is it `const` or `static`, or one of their kin?
+fn is_modifier(there: Option<Foreign>) -> bool
+    ensures { result ≡ is_modifier there }
+{
+    is_foreign(there, Foreign::Constant) || is_foreign(there, Foreign::Modifier)
+}
+
+// Does a loop begin here, in the language's word or in another's?
+fn is_loop(a: Around) -> bool
+    ensures { result ≡ is_loop a }
+{
+    is(a.here, Terminal::Word(Word::While))
+        || (is_foreign(a.foreign_here, Foreign::For) || is_foreign(a.foreign_here, Foreign::Loop))
+}
+
+// Does an expression begin here, and with no name?
+fn is_nameless(here: Option<Terminal>) -> bool
+    ensures { result ≡ is_nameless here }
+{
+    is_among(here, members(Group::Expression)) && !is(here, Terminal::Name)
 }
 
 // Are there some, and so few that they are told, or an operator among them?

@@ -18,7 +18,11 @@ pub enum Foreign {
     Switch,
     /// Words for types.
     TypeWord,
-    /// `const`, `static` and their kin.
+    /// `const` and its kin.
+    Constant,
+    /// `enum`
+    Enumeration,
+    /// `static` and its kin.
     Modifier,
     /// `void`
     Void,
@@ -38,12 +42,14 @@ pub enum Foreign {
     Print,
 }
 
-const FOREIGN: [Foreign; 14] = [
+const FOREIGN: [Foreign; 16] = [
     Foreign::For,
     Foreign::Loop,
     Foreign::Jump,
     Foreign::Switch,
     Foreign::TypeWord,
+    Foreign::Constant,
+    Foreign::Enumeration,
     Foreign::Modifier,
     Foreign::Void,
     Foreign::Function,
@@ -73,7 +79,8 @@ fn is_spelled(foreign: Foreign, name: &[u8]) -> bool
         Foreign::Loop => {
             name == b"do".as_slice()
                 || (name == b"loop".as_slice()
-                    || (name == b"repeat".as_slice() || name == b"until".as_slice()))
+                    || (name == b"forever".as_slice()
+                        || (name == b"repeat".as_slice() || name == b"until".as_slice())))
         }
         Foreign::Jump => {
             name == b"break".as_slice()
@@ -85,11 +92,12 @@ fn is_spelled(foreign: Foreign, name: &[u8]) -> bool
                 || (name == b"case".as_slice() || name == b"default".as_slice())
         }
         Foreign::TypeWord => is_type(name),
+        Foreign::Constant => name == b"const".as_slice() || name == b"constexpr".as_slice(),
+        Foreign::Enumeration => name == b"enum".as_slice(),
         Foreign::Modifier => {
-            name == b"const".as_slice()
-                || (name == b"static".as_slice()
-                    || (name == b"volatile".as_slice()
-                        || (name == b"let".as_slice() || name == b"var".as_slice())))
+            name == b"static".as_slice()
+                || (name == b"volatile".as_slice()
+                    || (name == b"let".as_slice() || name == b"var".as_slice()))
         }
         Foreign::Void => name == b"void".as_slice(),
         Foreign::Function => {

@@ -17,6 +17,8 @@ pub enum Hint {
     DeclarationBehindBody,
     /// `int8`, `float` and their kin are no types.
     Width,
+    /// A named constant.
+    Constant,
     /// `const`, `static` and their kin.
     Modifier,
     /// A function without a value.
@@ -67,6 +69,10 @@ pub enum Hint {
     UnaryPlus,
     /// A `]` that is missing.
     Square,
+    /// Values of an array in braces.
+    Cells,
+    /// Two indices.
+    Dimension,
     /// A variable outside agents and functions.
     Global,
     /// A variable without a first value.
@@ -109,6 +115,8 @@ pub enum Hint {
     Ended,
     /// A statement outside agents and functions.
     Outside,
+    /// A loop around a body.
+    Repeats,
     /// A statement of an agent outside its body.
     NoBody,
     /// A statement behind a body.
@@ -139,6 +147,16 @@ pub enum Hint {
     Reserved,
     /// A `;` that is missing where more is wrong.
     SemicolonAtEnd,
+    /// An array of a function.
+    FunctionArray,
+    /// A clock without a period.
+    Period,
+    /// A temporal variable without a first value.
+    FirstTemporal,
+    /// An input without a first value.
+    FirstInput,
+    /// A variable or an input without a depth.
+    Depth,
     /// The form of the first line.
     FormTick,
     /// A `;` behind a bracket or a `;`.
@@ -167,11 +185,12 @@ pub enum Hint {
     FormAssign,
 }
 
-const HINTS: [Hint; 78] = [
+const HINTS: [Hint; 87] = [
     Hint::FunctionInside,
     Hint::DeclarationInBody,
     Hint::DeclarationBehindBody,
     Hint::Width,
+    Hint::Constant,
     Hint::Modifier,
     Hint::Void,
     Hint::FunctionWord,
@@ -197,6 +216,8 @@ const HINTS: [Hint; 78] = [
     Hint::Power,
     Hint::UnaryPlus,
     Hint::Square,
+    Hint::Cells,
+    Hint::Dimension,
     Hint::Global,
     Hint::NoValue,
     Hint::NameAlone,
@@ -218,6 +239,7 @@ const HINTS: [Hint; 78] = [
     Hint::NoStatement,
     Hint::Ended,
     Hint::Outside,
+    Hint::Repeats,
     Hint::NoBody,
     Hint::BodyEnded,
     Hint::SecondTick,
@@ -235,6 +257,11 @@ const HINTS: [Hint; 78] = [
     Hint::ReservedCall,
     Hint::Reserved,
     Hint::SemicolonAtEnd,
+    Hint::FunctionArray,
+    Hint::Period,
+    Hint::FirstTemporal,
+    Hint::FirstInput,
+    Hint::Depth,
     Hint::FormClock,
     Hint::FormTemporal,
     Hint::FormInput,
@@ -276,12 +303,15 @@ pub fn hint_words(hint: Hint) -> &'static [u8]
         Hint::DeclarationBehindBody =>
             b"behind `body` nothing stands in an agent: variables are declared before it; before a function a `}` is missing",
         Hint::Width => b"the only type is `int`",
+        Hint::Constant =>
+            b"there are no named constants: write the number, or a function that returns it, as in `int limit() { return 5; }`",
         Hint::Modifier =>
             b"there is no `const`, `static` or the like: leave it out; an agent's variables keep their values from action to action",
         Hint::Void => b"each function gives a value: write `int f(..) { .. return ..; }`",
         Hint::FunctionWord => b"a function begins with `int`, as in `int f(int a) { return a; }`",
         Hint::NoFor => b"there is no `for`: count in a `while (..) max N { .. }`",
-        Hint::OtherLoop => b"the only loop is `while (..) max N { .. }`",
+        Hint::OtherLoop =>
+            b"the only loop is `while (..) max N { .. }`; a `body` begins again by itself",
         Hint::Jump =>
             b"there is no `break` and no `continue`: put what ends a loop into its condition",
         Hint::Switch => b"there is no `switch`: write `if (..) { .. } else { .. }`",
@@ -305,8 +335,12 @@ pub fn hint_words(hint: Hint) -> &'static [u8]
         Hint::Power => b"there is no `**`: write a product",
         Hint::UnaryPlus => b"there is no `+` before a value: leave it out",
         Hint::Square => b"a `]` is missing before this",
+        Hint::Cells =>
+            b"the cells of an array begin at 0, as in `int a[4];`, and each is assigned by itself, as in `a[0] = 1;`",
+        Hint::Dimension =>
+            b"an array has one index: where rows of 4 are meant, write `a[4 * i + j]`",
         Hint::Global =>
-            b"a variable stands inside an agent or a function; what agents share is declared as in `temporal v of A on c = 0 depth 1;`",
+            b"variables stand in agents and functions; agents share `temporal v of A on c = 0 depth 1;`; for a constant write its number, or a function",
         Hint::NoValue => b"a variable has a first value, as in `int n = 0;`",
         Hint::NameAlone => b"a name is no statement: assign to it, as in `v = 1;`",
         Hint::NoResult =>
@@ -334,6 +368,8 @@ pub fn hint_words(hint: Hint) -> &'static [u8]
             b"the agent or the function above ends before this: a `}` further up is one too many",
         Hint::Outside =>
             b"a declaration begins with `clock`, `temporal`, `input`, `stream`, `agent` or `int`; statements stand in the `body` of an agent or in a function",
+        Hint::Repeats =>
+            b"the statements of an agent stand in `body { .. }`, which begins again by itself: it needs no loop around it",
         Hint::NoBody => b"the statements of an agent stand in `body { .. }`",
         Hint::BodyEnded =>
             b"the `body` of this agent ends before this: a `}` further up is one too many",
@@ -358,6 +394,15 @@ pub fn hint_words(hint: Hint) -> &'static [u8]
             b"what is looked at stands in brackets: `past(v, 0)`, `ready(s)`, `take(s)`",
         Hint::NumberAlone => b"here stands a number alone, and neither a name nor an expression",
         Hint::SemicolonAtEnd => b"a `;` is missing before this",
+        Hint::FunctionArray => b"arrays stand in an agent, before its `body`: a function has none",
+        Hint::Period =>
+            b"a clock has its period behind its name: `=`, a number, `*`, and `tick` or a clock above, as in `clock c = 10 * tick;`",
+        Hint::FirstTemporal =>
+            b"behind its clock a temporal variable has a first value and a depth, as in `temporal v of A on c = 0 depth 1;`",
+        Hint::FirstInput =>
+            b"behind its clock an input has a first value and a depth, as in `input x on c = 0 depth 1;`",
+        Hint::Depth =>
+            b"behind the first value stands `depth`, with the number of values that `past` can reach, as in `= 0 depth 1;`",
         Hint::FormTick => b"a program begins as in `tick 100;`, with the cycles of a tick",
         Hint::NoSemicolon => b"behind `{`, `}` and `;` stands no `;`: leave this one out",
         Hint::FormClock =>

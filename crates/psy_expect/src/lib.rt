@@ -3,6 +3,7 @@
 #![tactic(auto)]
 
 mod around;
+mod brace;
 mod fits;
 mod follow;
 mod foreign;
@@ -20,5 +21,5 @@ pub use foreign::Foreign;
 pub use group::Group;
 pub use hint::Hint;
 pub use phrase::{Phrase, phrases};
-pub use slip::advice;
+pub use slip::{Remark, advice};
 pub use terminal::{EVERY, Terminal};

@@ -1,9 +1,11 @@
 //! What is written of a token with which no program goes on.
 ghost use Rattle.std.specs.Prelude.{◌≡◌, ◌+◌, ◌++◌, ◌≤◌, IfOk, OnOk, length, take};
 ghost use Rattle.psy_base.specs.declared.limits.TheConstants.{FILE_BYTES};
-ghost use Rattle.psy_expect.specs.Advice.{IsAdvice, IsTried, advice_told, hint_line, may_line, may_words, missing_words, told_hint, words_line};
+ghost use Rattle.psy_expect.specs.Advice.{IsAdvice, IsTried, advice_told, brace_told, hint_line, is_of_brace, may_line, may_words, missing_words};
+ghost use Rattle.psy_expect.specs.Advice.{told_hint, words_line};
 
 use crate::around::{Around, stands_around};
+use crate::brace::open_brace;
 use crate::follow::followers;
 use crate::hint::{Hint, hint_of, hint_words};
 use crate::mend::{cut_to, goes_on_behind, menders};
@@ -22,20 +24,56 @@ pub struct Tried {
     pub is_extra: bool,
 }
 
+/// What is told of a place: lines of text, and the place of the innermost `{` that is open there, where the hint is that a `}` is missing.
+#[derive(Drop)]
+pub struct Remark {
+    pub text: Vec<u8>,
+    pub brace: Option<u32>,
+}
+
 /// Advice for the place of that number among tokens: what may stand there, and a hint where a common slip stands there. The only error is
 /// want of memory.
-pub fn advice(alloc: Global, tokens: Items<Token>, at: usize) -> Result<Vec<u8>, Memory>
+pub fn advice(alloc: Global, tokens: Items<Token>, at: usize) -> Result<Remark, Memory>
     requires few { length tokens ≤ FILE_BYTES }
     requires within { at ≤ length tokens }
-    ensures { IfOk result (λ text. IsAdvice tokens at text.items) }
+    ensures { IfOk result (λ remark. IsAdvice tokens at remark.text.items remark.brace) }
 {
     let around = stands_around(tokens.as_slice(), at);
     let mut front = tokens;
     cut_to(&mut front, at);
+    let brace = open_brace(front.as_slice());
     let tried = tried_at(alloc, front, around)?;
-    let mut out = Vec::new(alloc);
-    add_advice(alloc, &mut out, around, &tried)?;
-    Ok(out)
+    let hint = hint_of(
+        around,
+        tried.told.as_slice(),
+        tried.mends.as_slice(),
+        tried.is_extra,
+    );
+    let mut text = Vec::new(alloc);
+    add_advice(alloc, &mut text, hint, &tried)?;
+    Ok(Remark {
+        text,
+        brace: brace_told(hint, brace),
+    })
+}
+
+// The open brace, where the hint tells of one.
+fn brace_told(hint: Option<Hint>, brace: Option<u32>) -> Option<u32>
+    ensures { result ≡ brace_told hint brace }
+{
+    match hint {
+        Some(hint) => { if is_of_brace(hint) { brace } else { None } }
+        None => None,
+    }
+}
+
+fn is_of_brace(hint: Hint) -> bool
+    ensures { result ≡ is_of_brace hint }
+{
+    match hint {
+        Hint::FunctionInside | Hint::Close => true,
+        _ => false,
+    }
 }
 
 // What was tried behind these tokens: behind nearly as many as a text may have bytes nothing is.
@@ -60,19 +98,18 @@ fn tried_at(alloc: Global, front: Items<Token>, around: Around) -> Result<Tried,
     })
 }
 
-fn add_advice(alloc: Global, out: &mut Vec<u8>, around: Around, tried: &Tried) -> Result<(), Memory>
-    ensures { OnOk result (out.new.items ≡ out.old.items ++ advice_told around tried.now.told.items tried.now.mends.items tried.now.is_extra) }
+fn add_advice(
+    alloc: Global,
+    out: &mut Vec<u8>,
+    hint: Option<Hint>,
+    tried: &Tried,
+) -> Result<(), Memory>
+    ensures { OnOk result (out.new.items ≡ out.old.items ++ advice_told hint tried.now.told.items tried.now.mends.items) }
 {
-    let told = tried.told.as_slice();
-    let mends = tried.mends.as_slice();
-    let may = phrases(alloc, told)?;
+    let may = phrases(alloc, tried.told.as_slice())?;
     add_may_line(out, may.as_slice())?;
-    let missing = phrases(alloc, mends)?;
-    add_hint_line(
-        out,
-        hint_of(around, told, mends, tried.is_extra),
-        missing.as_slice(),
-    )?;
+    let missing = phrases(alloc, tried.mends.as_slice())?;
+    add_hint_line(out, hint, missing.as_slice())?;
     Ok(())
 }
 

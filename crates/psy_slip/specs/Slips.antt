@@ -23,6 +23,23 @@ has_comment words = list_any begins_comment words
 abbrev pub comment_told : List ℕ
 comment_told = codes "a comment is a line that begins with `#`"
 
+-- A word holds a comma (44 is `,`), which no name and no number does.
+abbrev pub has_comma : List ℕ → Bool
+has_comma word = list_any (λ b. b == 44) word
+
+-- What is told of a line in which a word holds one
+abbrev pub comma_told : List ℕ
+comma_told = codes "words are separated by blanks: leave each comma out, or write a blank in its place"
+
+-- What is told of a line in which a comment or a comma stands
+abbrev pub sign_told : List (List ℕ) → Option (List ℕ)
+sign_told words = if has_comment words then Some comment_told else if list_any has_comma words then Some comma_told else None
+
+-- The one where it is told, or else the other
+abbrev pub told_or : Option (List ℕ) → List ℕ → List ℕ
+told_or None other = other
+told_or (Some told) other = told
+
 -- A name with no value behind it
 unfoldable pub no_value : List ℕ → List ℕ
 no_value name = codes "behind " ++ quoted name ++ codes " a value is missing"
@@ -38,13 +55,24 @@ abbrev pub listing_slip : List (List ℕ) → List ℕ
 listing_slip [] = []
 listing_slip (name ∷ values) = values_slip name values
 
--- The same, or that a comment stands in it
+-- The same, or that a comment or a comma stands in it
 abbrev pub listing_form : List (List ℕ) → List ℕ
-listing_form words = if has_comment words then comment_told else listing_slip words
+listing_form words = told_or (sign_told words) (listing_slip words)
 
--- The input of a line isn't one of the program, or a comment stands there.
+-- A name is no input of the program; in one with a point (46 is `.`) an agent may be named before it.
+abbrev pub no_input : List ℕ → List ℕ
+no_input name =
+    if list_any (λ b. b == 46) name then codes " is no input of the program: a name stands alone, with no agent and no point before it"
+    else codes " is no input of the program"
+
+-- The same of the first word of a line
+abbrev pub input_slip : List (List ℕ) → List ℕ
+input_slip [] = []
+input_slip (name ∷ values) = quoted name ++ no_input name
+
+-- The same, or that a comment or a comma stands there
 abbrev pub unknown_slip : List (List ℕ) → List ℕ
-unknown_slip words = if has_comment words then comment_told else of_first words (codes " is no input of the program")
+unknown_slip words = told_or (sign_told words) (input_slip words)
 
 -- What is wrong with the form of a stall, by the words behind `stall`: its agent, and three numbers
 unfoldable pub stall_slip : List (List ℕ) → List ℕ
@@ -70,15 +98,19 @@ statement_slip (word ∷ words) =
     else if bytes_eq word (codes "order") then order_slip words
     else quoted word ++ codes " begins no line of a script: `stall` and `order` do"
 
--- The same, or that a comment stands in it
+-- The same, or that a comment or a comma stands in it
 abbrev pub statement_form : List (List ℕ) → List ℕ
-statement_form words = if has_comment words then comment_told else statement_slip words
+statement_form words = told_or (sign_told words) (statement_slip words)
 
 -- The agent of a stall that isn't one; of an order, the names among which one isn't, given the bytes of earlier lines
 abbrev pub agent_slip : List ℕ → List (List ℕ) → List ℕ
 agent_slip earlier (word ∷ agent ∷ words) =
     if bytes_eq word (codes "stall") then quoted agent ++ codes " is no agent of the program" else strangers_told (strangers earlier words)
 agent_slip earlier words = []
+
+-- The same, or that a comment or a comma stands there
+abbrev pub agent_form : List ℕ → List (List ℕ) → List ℕ
+agent_form earlier words = told_or (sign_told words) (agent_slip earlier words)
 
 -- The input of a line has its values from another: from the line of this number, where it is known
 abbrev pub listed_slip : List (List ℕ) → Option ℕ → List ℕ
@@ -108,7 +140,7 @@ inputs_slip number earlier words =
 abbrev pub script_slip : ℕ → List ℕ → List (List ℕ) → List ℕ
 script_slip number earlier words =
     if number == 1 then statement_form words
-    else if number == 2 then agent_slip earlier words
+    else if number == 2 then agent_form earlier words
     else if number == 3 then said_slip words (first_like Script words earlier)
     else if number == 4 then statement_range words
     else []

@@ -1,10 +1,12 @@
 //! What is wrong with a line of inputs or of a script.
-ghost use Rattle.std.specs.Prelude.{◌≡◌, ◌++◌, IfOk, OnOk, find, map, not};
+ghost use Rattle.std.specs.Prelude.{◌≡◌, ◌==◌, ◌++◌, IfOk, OnOk, find, map, not};
+ghost use Rattle.std.specs.List.{list_any};
 ghost use Rattle.std.specs.Option.{option_copied};
 ghost use Rattle.psy_slip.specs.Agents.{strangers, strangers_told};
 ghost use Rattle.psy_slip.specs.Earlier.{first_like};
-ghost use Rattle.psy_slip.specs.Slips.{agent_slip, cycle_slip, inputs_slip, listed_slip, listing_slip, names_slip, no_value, order_slip, said_slip};
-ghost use Rattle.psy_slip.specs.Slips.{begins_comment, has_comment, listing_form, script_slip, slip, slip_line, stall_slip, statement_form, statement_slip};
+ghost use Rattle.psy_slip.specs.Slips.{agent_form, agent_slip, cycle_slip, inputs_slip, listed_slip, listing_slip, names_slip, no_value, order_slip, said_slip};
+ghost use Rattle.psy_slip.specs.Slips.{begins_comment, has_comma, has_comment, input_slip, listing_form, no_input, script_slip, sign_told, slip, slip_line};
+ghost use Rattle.psy_slip.specs.Slips.{stall_slip, statement_form, statement_slip};
 ghost use Rattle.psy_slip.specs.Slips.{unknown_slip, values_slip};
 ghost use Rattle.psy_text.specs.Lines.{begins_with};
 ghost use Rattle.psy_text.specs.Words.{is_number, is_value, words_of};
@@ -16,8 +18,6 @@ use crate::told::{add_count, add_of, add_of_first, add_of_first_at, add_of_word,
 use psy_base::Memory;
 use psy_text::word::{is_number, is_value, words_of};
 use std::alloc::{AllocError, Global};
-
-const COMMENT: &[u8] = b"a comment is a line that begins with `#`";
 
 /// The file in which a line stands.
 #[derive(Clone, Copy, Debug, PartialEq, Eq)]
@@ -97,37 +97,86 @@ fn add_inputs(
     }
 }
 
-// The form of a line of inputs, or a comment in it.
+// The form of a line of inputs, or a comment or a comma in it.
 fn add_listing_form(out: &mut Vec<u8>, words: &[&[u8]]) -> Result<(), AllocError>
     ensures { OnOk result (out.new.items ≡ out.old.items ++ listing_form (map (λ w. w.now) words.now)) }
 {
-    if has_comment(words) {
-        out.extend_from_slice(COMMENT)
-    } else {
-        add_listing(out, words)
+    match sign_told(words) {
+        Some(told) => out.extend_from_slice(told),
+        None => add_listing(out, words),
     }
 }
 
-// A name that is no input, or a comment.
+// A name that is no input, or a comment or a comma.
 fn add_unknown(out: &mut Vec<u8>, words: &[&[u8]]) -> Result<(), AllocError>
     ensures { OnOk result (out.new.items ≡ out.old.items ++ unknown_slip (map (λ w. w.now) words.now)) }
 {
-    if has_comment(words) {
-        out.extend_from_slice(COMMENT)
-    } else {
-        add_of_first(out, words, b" is no input of the program")
+    match sign_told(words) {
+        Some(told) => out.extend_from_slice(told),
+        None => add_input(out, words),
     }
 }
 
-// The form of a line of a script, or a comment in it.
+fn add_input(out: &mut Vec<u8>, words: &[&[u8]]) -> Result<(), AllocError>
+    ensures { OnOk result (out.new.items ≡ out.old.items ++ input_slip (map (λ w. w.now) words.now)) }
+{
+    match words {
+        [] => Ok(()),
+        [name, ..] => add_of(out, name, no_input(name)),
+    }
+}
+
+fn no_input(name: &[u8]) -> &'static [u8]
+    ensures { result.now ≡ no_input name.now }
+{
+    if has_byte(name, b'.') {
+        b" is no input of the program: a name stands alone, with no agent and no point before it"
+    } else {
+        b" is no input of the program"
+    }
+}
+
+// The form of a line of a script, or a comment or a comma in it.
 fn add_statement_form(out: &mut Vec<u8>, words: &[&[u8]]) -> Result<(), AllocError>
     ensures { OnOk result (out.new.items ≡ out.old.items ++ statement_form (map (λ w. w.now) words.now)) }
 {
-    if has_comment(words) {
-        out.extend_from_slice(COMMENT)
-    } else {
-        add_statement(out, words)
+    match sign_told(words) {
+        Some(told) => out.extend_from_slice(told),
+        None => add_statement(out, words),
     }
+}
+
+// What is told of a line in which a comment or a comma stands.
+fn sign_told(words: &[&[u8]]) -> Option<&'static [u8]>
+    ensures { option_copied result ≡ sign_told (map (λ w. w.now) words.now) }
+{
+    if has_comment(words) {
+        Some(b"a comment is a line that begins with `#`")
+    } else if have_comma(words) {
+        Some(b"words are separated by blanks: leave each comma out, or write a blank in its place")
+    } else {
+        None
+    }
+}
+
+// Does one of these words hold a comma?
+fn have_comma(words: &[&[u8]]) -> bool
+    ensures { result ≡ list_any has_comma (map (λ w. w.now) words.now) }
+{
+    let mut rest = words;
+    'each: while let [word, more @ ..] = rest {
+        if has_byte(word, b',') {
+            return true;
+        }
+        rest = more;
+    }
+    false
+}
+
+fn has_byte(word: &[u8], byte: u8) -> bool
+    ensures { result ≡ list_any (λ b. b == byte) word.now }
+{
+    word.iter().any(|b| *b == byte)
 }
 
 // Does a comment begin with one of these words?
@@ -232,7 +281,7 @@ fn add_script(
     if number == 1 {
         Ok(add_statement_form(out, words)?)
     } else if number == 2 {
-        add_agent(alloc, out, earlier, words)
+        add_agent_form(alloc, out, earlier, words)
     } else if number == 3 {
         add_said(alloc, out, earlier, words)
     } else if number == 4 {
@@ -344,6 +393,21 @@ fn add_cycle(out: &mut Vec<u8>, cycle: &[u8], names: &[&[u8]]) -> Result<(), All
         )
     } else {
         add_of(out, cycle, b" is no number: a number is 1 to 12 digits")
+    }
+}
+
+// A name that is no agent, or a comment or a comma.
+fn add_agent_form(
+    alloc: Global,
+    out: &mut Vec<u8>,
+    earlier: &[u8],
+    words: &[&[u8]],
+) -> Result<(), Memory>
+    ensures { OnOk result (out.new.items ≡ out.old.items ++ agent_form earlier.now (map (λ w. w.now) words.now)) }
+{
+    match sign_told(words) {
+        Some(told) => Ok(out.extend_from_slice(told)?),
+        None => add_agent(alloc, out, earlier, words),
     }
 }
 

@@ -23,3 +23,7 @@ IsBeside program text line told =
     (refusal : Refusal) × (sentence : List ℕ) × (place : ℕ) × (tokens : List Token) × Says line refusal sentence
     × IsPlaceOf refusal.what text refusal.at place × TokensOf program tokens
     × (told ≡ beside_of refusal.what refusal.number (words_of (rest_at text place)) tokens)
+
+-- A text can't be cut into tokens.
+abbrev pub HasNoTokens : List ℕ → Type 0
+HasNoTokens text = (tokens : List Token) → TokensOf text tokens → ⊥

@@ -4,8 +4,8 @@ use Rattle.std.specs.Char.{is_ascii_digit}
 use Rattle.std.specs.List.{suffix_len}
 use Rattle.psy_tree.specs.Lexemes.{is_in_word}
 use Rattle.psy_where.specs.declared.byte.ByteSlip.{ByteSlip}
-use Rattle.psy_where.specs.declared.byte.ByteSlip.TheVariants.{Nested, Fraction, Base, Zero, UnitBehind, Point, Directive, Choice, Colon, Quote, NoSign, Unseen}
-use Rattle.psy_where.specs.declared.byte.ByteSlip.TheVariants.{Dash, Beyond}
+use Rattle.psy_where.specs.declared.byte.ByteSlip.TheVariants.{Nested, Fraction, Base, Zero, UnitBehind, Part, Point, Directive, Choice, Colon}
+use Rattle.psy_where.specs.declared.byte.ByteSlip.TheVariants.{Quote, NoSign, Unseen, Dash, Beyond, Define, Becomes, Label}
 
 -- A comment is closed in these bytes before one is opened.
 abbrev pub closes_first : List ℕ → Bool
@@ -28,13 +28,28 @@ word_back front = drop (length front - suffix_len is_in_word front) front
 abbrev pub is_in_number : List ℕ → Bool
 is_in_number front = is_ascii_digit (first_byte (word_back front))
 
--- What a byte of ASCII is: 46 is `.`, 35 `#`, 63 `?`, 58 `:`, 34 and 39 quotes, and from 33 to 126 they are seen
+-- The bytes before these
+abbrev pub word_front : List ℕ → List ℕ
+word_front front = take (length front - suffix_len is_in_word front) front
+
+-- The bytes end with `default`, or with `case` and a word or a number.
+abbrev pub is_label : List ℕ → Bool
+is_label front =
+    bytes_eq (word_back front) (codes "default") || bytes_eq (drop (length (word_front front) - 5) (word_front front)) (codes "case ")
+
+-- What a `:` is, by the bytes before it, and itself with those behind it
+abbrev pub colon_slip : List ℕ → List ℕ → ByteSlip
+colon_slip front back =
+    if bytes_eq (take 2 back) (codes ":=") then Becomes
+    else if is_label front then Label
+    else Colon
+
+-- What a byte of ASCII is that is no `:`: 46 is `.`, 35 `#`, 63 `?`, 34 and 39 quotes, and from 33 to 126 they are seen
 abbrev pub plain_slip : ℕ → ByteSlip
 plain_slip byte =
     if byte == 46 then Point
     else if byte == 35 then Directive
     else if byte == 63 then Choice
-    else if byte == 58 then Colon
     else if byte == 34 || byte == 39 then Quote
     else if nat_lt 32 byte && nat_lt byte 127 then NoSign
     else Unseen
@@ -47,6 +62,15 @@ number_slip front byte =
     else if (byte == 120 || byte == 88) && bytes_eq (word_back front) (codes "0") then Base
     else if is_in_word byte then UnitBehind
     else plain_slip byte
+
+-- The second byte, or 0 where there is none
+abbrev pub second_byte : List ℕ → ℕ
+second_byte (a ∷ b ∷ more) = b
+second_byte _ = 0
+
+-- A point stands directly between a name and a letter, a digit or `_`.
+abbrev pub is_in_name : List ℕ → List ℕ → Bool
+is_in_name front back = first_byte back == 46 && (is_in_word (first_byte (word_back front)) && is_in_word (second_byte back))
 
 -- The bytes begin with these two, which spell a character in UTF-8.
 abbrev pub begins_2 : ℕ → ℕ → List ℕ → Bool
@@ -71,12 +95,19 @@ is_dash back = begins_3 0xE2 0x80 0x93 back || (begins_3 0xE2 0x80 0x94 back || 
 abbrev pub high_slip : List ℕ → ByteSlip
 high_slip back = if is_unseen back then Unseen else if is_dash back then Dash else Beyond
 
--- What stands at a byte with which no token goes on, by the bytes before it, and itself with those behind it
+-- The bytes begin with `#define`.
+abbrev pub begins_define : List ℕ → Bool
+begins_define back = bytes_eq (take 7 back) (codes "#define")
+
+-- What stands at a byte with which no token goes on, by the bytes before it, and itself with those behind it; 58 is `:`
 abbrev pub slip_of : List ℕ → List ℕ → ByteSlip
 slip_of front back =
     if closes_first back then Nested
     else if nat_le 128 (first_byte back) then high_slip back
+    else if first_byte back == 58 then colon_slip front back
+    else if begins_define back then Define
     else if is_in_number front then number_slip front (first_byte back)
+    else if is_in_name front back then Part
     else plain_slip (first_byte back)
 
 -- What is told of it
@@ -87,10 +118,15 @@ byte_words Base = codes "numbers are decimal: there are no hexadecimal ones"
 byte_words Zero = codes "a number of several digits begins with 1 to 9: leave the zeros before it out"
 byte_words UnitBehind =
     codes "a number is of digits alone, without a unit or `_`: time is counted in ticks; between a number and a word stands a blank"
+byte_words Part = codes "names have no parts, and temporal variables are known to all agents: write the name behind the point alone"
 byte_words Point = codes "there are no fractions, and names have no parts: leave the point out"
 byte_words Directive = codes "a comment is written `/* .. */` or `// ..`, and there are no directives"
+byte_words Define =
+    codes "there are no directives and no named constants: write the number, or a function that returns it, as in `int limit() { return 5; }`"
 byte_words Choice = codes "there is no `? :`: write `if (..) { .. } else { .. }`"
-byte_words Colon = codes "there is no `:`: an assignment is written `=`"
+byte_words Colon = codes "there is no `:`: a statement ends with `;`, and a type stands before its name"
+byte_words Becomes = codes "there is no `:=`: an assignment is written `=`"
+byte_words Label = codes "there is no `switch` and no `case`: write `if (..) { .. } else { .. }`"
 byte_words Quote = codes "there are no texts and no characters: each value is a number"
 byte_words NoSign = codes "this is no sign of the language, and a name has letters, digits and `_` alone"
 byte_words Unseen = codes "a character that isn't seen stands here: write a blank in its place, or nothing"

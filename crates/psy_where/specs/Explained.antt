@@ -1,20 +1,22 @@
 -- What is written for a refusal: where it is, what it means, the line, and a mark below.
 use Rattle.std.specs.Prelude.{◌≡◌, ℕ, ◌+◌, List, ◌++◌, length, take, drop, codes, decimal, Option, None, Some}
 use Rattle.std.specs.List.{prefix_len}
-use Rattle.bstr.specs.Utf8.{lossy_chars}
 use Rattle.psy_show.specs.Lines.{shown, shown_line}
 use Rattle.psy_tree.specs.Lexemes.{is_in_word}
 use Rattle.psy_text.specs.Lines.{without_return}
+use Rattle.psy_text.specs.Words.{words_of}
 use Rattle.psy_where.specs.declared.recall.What.{What}
 use Rattle.psy_where.specs.declared.recall.What.TheVariants.{Inputs, Script}
 use Rattle.psy_where.specs.declared.recall.Refusal.{Refusal}
-use Rattle.psy_where.specs.Places.{line_at, before_at, behind_at}
+use Rattle.psy_where.specs.Places.{line_at, before_at, behind_at, told_column}
 use Rattle.psy_where.specs.Refusals.{Says, IsPlaceOf}
 use Rattle.psy_where.specs.declared.lack.Lack.{Lack}
 use Rattle.psy_where.specs.declared.plain.Plain.{Plain}
 use Rattle.psy_where.specs.Helps.{IsHelp}
 use Rattle.psy_where.specs.Lacks.{IsLack, lack_sentence}
 use Rattle.psy_where.specs.Plains.{plain_of, plain_sentence}
+use Rattle.psy_where.specs.declared.written.Written.{Written}
+use Rattle.psy_where.specs.Writings.{written_of, written_sentence}
 
 -- How many columns of a line, from the place on, are marked: those of a word or a number that begins there, or all of a line of inputs or of a script
 abbrev pub marked : What → List ℕ → Option ℕ
@@ -25,10 +27,6 @@ marked what line = Some (prefix_len is_in_word line)
 -- The line from a place on, without its carriage return
 abbrev pub rest_at : List ℕ → ℕ → List ℕ
 rest_at text place = without_return (behind_at text place)
-
--- The column that is told of a place: how many characters stand before it in its line, counted from 1
-abbrev pub told_column : List ℕ → ℕ → ℕ
-told_column text place = length (lossy_chars (before_at text place)) + 1
 
 -- `NAME:LINE:COLUMN: SENTENCE`, the line around the place, and carets under what is marked
 abbrev pub explanation : List ℕ → List ℕ → What → List ℕ → ℕ → List ℕ
@@ -47,21 +45,25 @@ IsPlaced name text refusal sentence answer =
     × IsHelp text (take place text) (drop place text) (rest_at text place) refusal help
     × (answer ≡ explanation name text refusal.what sentence place ++ help)
 
--- The line is one with which psyc refuses, and this explains it: of a refusal that tells a place in the text of a file of this name, or of another line.
+-- The line is one that psyc writes, and this explains it: of a refusal that tells a place in the text of a file of this name, of another line with which psyc
+-- refuses, or of one that refuses nothing.
 pub data Explains (name text line answer : List ℕ) : Type 0 where
   of_place : (refusal : Refusal) (sentence : List ℕ) → Says line refusal sentence → IsPlaced name text refusal sentence answer → Explains name text line answer
   of_plain : (plain : Plain) → plain_of line ≡ Some plain → answer ≡ sentence_line name (plain_sentence plain) → Explains name text line answer
   of_lack : (lack : Lack) → IsLack line lack → answer ≡ sentence_line name (lack_sentence lack) → Explains name text line answer
+  of_written : (written : Written) → written_of (words_of line) ≡ Some written → answer ≡ sentence_line name (written_sentence written)
+      → Explains name text line answer
 
 -- The line is no refusal that psyc writes of a text.
 abbrev pub IsNoRefusal : List ℕ → Type 0
 IsNoRefusal line = (refusal : Refusal) (sentence : List ℕ) → Says line refusal sentence → ⊥
 
--- The line is none with which psyc refuses.
+-- The line is none that psyc writes.
 pub record IsNone (line : List ℕ) : Type 0 where
   pub refusal : IsNoRefusal line
   pub plain : plain_of line ≡ None
   pub lack : (lack : Lack) → IsLack line lack → ⊥
+  pub written : written_of (words_of line) ≡ None
 
 -- The line is a refusal, but the text has no such place.
 abbrev pub IsBeyond : List ℕ → List ℕ → Type 0

@@ -8,3 +8,4 @@ pub mod Lexing
 pub mod Places
 pub mod Plains
 pub mod Refusals
+pub mod Writings

@@ -1,6 +1,7 @@
 -- Places in a text: line and column of a byte, and what stands there. Lines and columns are counted from 1, and each byte is a column.
 use Rattle.std.specs.Prelude.{◌≡◌, ℕ, ◌+◌, ◌<◌, ◌==◌, List, length, take, drop, reverse, count_by, slice_get, Some, ◌⊎◌}
 use Rattle.std.specs.List.{prefix_len}
+use Rattle.bstr.specs.Utf8.{lossy_chars}
 use Rattle.psy_tree.specs.declared.token.Token.{Token}
 use Rattle.psy_tree.specs.Lexemes.{is_in_line}
 use Rattle.psy_tree.specs.Tokens.{TokensOf}
@@ -24,6 +25,10 @@ column_at text place = length (line_back (take place text)) + 1
 -- The bytes of its line that stand before it
 abbrev pub before_at : List ℕ → ℕ → List ℕ
 before_at text place = line_back (take place text)
+
+-- The column that is told of it: how many characters stand before it in its line, counted from 1
+abbrev pub told_column : List ℕ → ℕ → ℕ
+told_column text place = length (lossy_chars (before_at text place)) + 1
 
 -- The bytes of its line from it on
 abbrev pub behind_at : List ℕ → ℕ → List ℕ

@@ -7,6 +7,7 @@ ghost use Rattle.psy_where.specs.Explained.{Explains, IsNone, IsBeyond, IsPlaced
 ghost use Rattle.psy_where.specs.Lacks.{lack_sentence, supplier};
 ghost use Rattle.psy_where.specs.Plains.{plain_sentence};
 ghost use Rattle.psy_where.specs.Refusals.{IsPlaceOf};
+ghost use Rattle.psy_where.specs.Writings.{written_sentence};
 
 use crate::fault::WhereFault;
 use crate::help::help;
@@ -16,14 +17,16 @@ use crate::place::place;
 use crate::plain::{Plain, plain_sentence, read_plain};
 use crate::recall::{Told, What, read_refusal};
 use crate::spot::spot_at;
+use crate::written::{Written, written_of, written_words};
 use psy_base::Memory;
 use psy_show::{add_line, add_shown, chars_len};
 use psy_text::line::without_return;
+use psy_text::word::words_of;
 use psy_text::write::{add_labelled, add_number};
 use std::alloc::{AllocError, Global};
 
-/// Explains a line with which psyc refused, `line`: of a refusal of a text of at most 262,144 bytes that stands in a file of this name, `NAME:LINE:COLUMN: `
-/// and what it means, the line, a mark under the place, and what may stand there or is missing; of a line that tells no place, `NAME: ` and what it means.
+/// Explains a line that psyc wrote, `line`: of a refusal of a text of at most 262,144 bytes that stands in a file of this name, `NAME:LINE:COLUMN: ` and
+/// what it means, the line, a mark under the place, and what may stand there or is missing; of a line that tells no place, `NAME: ` and what it means.
 pub fn explain(alloc: Global, name: &[u8], text: &[u8], line: &[u8]) -> Result<Vec<u8>, WhereFault>
     requires { length text.now ≤ FILE_BYTES }
     ensures explains { IfOk result (λ answer. Explains name.now text.now line.now answer.items) }
@@ -38,6 +41,10 @@ pub fn explain(alloc: Global, name: &[u8], text: &[u8], line: &[u8]) -> Result<V
     }
     if let Some(lack) = read_lack(line) {
         return Ok(lack_line(alloc, name, lack)?);
+    }
+    let words = words_of(alloc, line)?;
+    if let Some(written) = written_of(words.as_slice()) {
+        return Ok(written_line(alloc, name, written)?);
     }
     Err(WhereFault::NoRefusal)
 }
@@ -76,6 +83,15 @@ fn lack_line(alloc: Global, name: &[u8], lack: Lack) -> Result<Vec<u8>, AllocErr
     sentence.extend_from_slice(
         b": lower a budget, slow a clock down, or give the tick more cycles",
     )?;
+    sentence_line(alloc, name, sentence.as_slice())
+}
+
+// The same for a line that refuses nothing.
+fn written_line(alloc: Global, name: &[u8], written: Written) -> Result<Vec<u8>, AllocError>
+    ensures { IfOk result (λ answer. answer.items ≡ sentence_line name.now (written_sentence written)) }
+{
+    let mut sentence = Vec::from_slice(alloc, b"this line refuses nothing: ")?;
+    sentence.extend_from_slice(written_words(written))?;
     sentence_line(alloc, name, sentence.as_slice())
 }
 

@@ -2,8 +2,8 @@
 ghost use Rattle.std.specs.Prelude.{◌≡◌, ◌≤◌, length};
 ghost use Rattle.std.specs.List.{suffix_len};
 ghost use Rattle.psy_tree.specs.Lexemes.{is_in_word};
-ghost use Rattle.psy_where.specs.Bytes.{byte_words, closes_first, first_byte, high_slip, is_dash, is_in_number, is_unseen, number_slip, plain_slip, slip_of};
-ghost use Rattle.psy_where.specs.Bytes.{word_back};
+ghost use Rattle.psy_where.specs.Bytes.{begins_define, byte_words, closes_first, colon_slip, first_byte, high_slip, is_dash, is_in_name, is_in_number};
+ghost use Rattle.psy_where.specs.Bytes.{is_label, is_unseen, number_slip, plain_slip, second_byte, slip_of, word_back, word_front};
 
 use psy_text::run::is_in_word;
 
@@ -20,14 +20,22 @@ pub enum ByteSlip {
     Zero,
     /// A word directly behind a number.
     UnitBehind,
-    /// A point.
+    /// A point inside a name.
+    Part,
+    /// Another point.
     Point,
     /// `#`
     Directive,
+    /// `#define`
+    Define,
     /// `?`
     Choice,
     /// `:`
     Colon,
+    /// `:=`
+    Becomes,
+    /// `case` or `default` before `:`.
+    Label,
     /// A quote.
     Quote,
     /// Another sign that isn't one of the language.
@@ -48,8 +56,14 @@ pub fn slip_of(front: &[u8], back: &[u8]) -> ByteSlip
         ByteSlip::Nested
     } else if 128 <= first_byte(back) {
         high_slip(back)
+    } else if first_byte(back) == b':' {
+        colon_slip(front, back)
+    } else if begins_define(back) {
+        ByteSlip::Define
     } else if is_in_number(front) {
         number_slip(front, first_byte(back))
+    } else if is_in_name(front, back) {
+        ByteSlip::Part
     } else {
         plain_slip(first_byte(back))
     }
@@ -81,6 +95,23 @@ fn first_byte(bytes: &[u8]) -> u8
     }
 }
 
+fn second_byte(bytes: &[u8]) -> u8
+    ensures { result ≡ second_byte bytes.now }
+{
+    match bytes {
+        [_, byte, ..] => *byte,
+        _ => 0,
+    }
+}
+
+// Does a point stand directly between a name and a letter, a digit or `_`?
+fn is_in_name(front: &[u8], back: &[u8]) -> bool
+    ensures { result ≡ is_in_name front.now back.now }
+{
+    first_byte(back) == b'.'
+        && (is_in_word(first_byte(word_back(front))) && is_in_word(second_byte(back)))
+}
+
 // Do the bytes end with a number?
 fn is_in_number(front: &[u8]) -> bool
     ensures { result ≡ is_in_number front.now }
@@ -100,6 +131,39 @@ fn word_back_len(front: &[u8]) -> usize
     ensures within { result ≤ length front.now }
 {
     front.iter().rev().take_while(|b| is_in_word(**b)).count()
+}
+
+// The bytes before these.
+fn word_front(front: &[u8]) -> &[u8]
+    ensures { result.now ≡ word_front front.now }
+{
+    &front[..front.len() - word_back_len(front)]
+}
+
+// What a `:` is.
+fn colon_slip(front: &[u8], back: &[u8]) -> ByteSlip
+    ensures { result ≡ colon_slip front.now back.now }
+{
+    if back.starts_with(b":=") {
+        ByteSlip::Becomes
+    } else if is_label(front) {
+        ByteSlip::Label
+    } else {
+        ByteSlip::Colon
+    }
+}
+
+// Do the bytes end with `default`, or with `case` and a word or a number?
+fn is_label(front: &[u8]) -> bool
+    ensures { result ≡ is_label front.now }
+{
+    word_back(front) == b"default".as_slice() || word_front(front).ends_with(b"case ")
+}
+
+fn begins_define(back: &[u8]) -> bool
+    ensures { result ≡ begins_define back.now }
+{
+    back.starts_with(b"#define")
 }
 
 // What a byte directly behind a number is.
@@ -129,8 +193,6 @@ fn plain_slip(byte: u8) -> ByteSlip
         ByteSlip::Directive
     } else if byte == b'?' {
         ByteSlip::Choice
-    } else if byte == b':' {
-        ByteSlip::Colon
     } else if byte == b'"' || byte == b'\'' {
         ByteSlip::Quote
     } else if 32 < byte && byte < 127 {
@@ -188,11 +250,19 @@ pub fn byte_words(slip: ByteSlip) -> &'static [u8]
             b"a number of several digits begins with 1 to 9: leave the zeros before it out",
         ByteSlip::UnitBehind =>
             b"a number is of digits alone, without a unit or `_`: time is counted in ticks; between a number and a word stands a blank",
+        ByteSlip::Part =>
+            b"names have no parts, and temporal variables are known to all agents: write the name behind the point alone",
         ByteSlip::Point => b"there are no fractions, and names have no parts: leave the point out",
         ByteSlip::Directive =>
             b"a comment is written `/* .. */` or `// ..`, and there are no directives",
+        ByteSlip::Define =>
+            b"there are no directives and no named constants: write the number, or a function that returns it, as in `int limit() { return 5; }`",
         ByteSlip::Choice => b"there is no `? :`: write `if (..) { .. } else { .. }`",
-        ByteSlip::Colon => b"there is no `:`: an assignment is written `=`",
+        ByteSlip::Colon =>
+            b"there is no `:`: a statement ends with `;`, and a type stands before its name",
+        ByteSlip::Becomes => b"there is no `:=`: an assignment is written `=`",
+        ByteSlip::Label =>
+            b"there is no `switch` and no `case`: write `if (..) { .. } else { .. }`",
         ByteSlip::Quote => b"there are no texts and no characters: each value is a number",
         ByteSlip::NoSign =>
             b"this is no sign of the language, and a name has letters, digits and `_` alone",

@@ -3,16 +3,17 @@ ghost use Rattle.std.specs.Prelude.{◌≡◌, ℕ, ◌≤◌, ◌++◌, IfOk, l
 ghost use Rattle.psy_slip.specs.Looks.{file_hint};
 ghost use Rattle.psy_base.specs.declared.limits.TheConstants.{FILE_BYTES};
 ghost use Rattle.psy_where.specs.declared.fault.WhereFault.{WhereFault};
-ghost use Rattle.psy_where.specs.Helps.{IsAdviceFor, IsBreachOf, IsHelp, IsSyntaxHelp, depth_help, hint_line, lex_words, line_help, nested_help};
+ghost use Rattle.psy_where.specs.Helps.{IsAdviceFor, IsBreachOf, IsHelp, IsSyntaxHelp, brace_help, depth_help, hint_line, lex_words, line_help, nested_help};
 ghost use Rattle.psy_where.specs.Places.{IsTokenPlace};
 ghost use Rattle.psy_where.specs.Refusals.{IsPlaceOf};
 
+use crate::brace::brace_help;
 use crate::byte::{ByteSlip, byte_words, closes_first, slip_of};
 use crate::fault::WhereFault;
 use crate::recall::{Refusal, What};
 use psy_base::Memory;
 use psy_breach::breach_hint;
-use psy_expect::advice;
+use psy_expect::{Remark, advice};
 use psy_slip::{File, file_hint, slip_line};
 use psy_token::lex;
 use std::alloc::{AllocError, Global};
@@ -112,20 +113,19 @@ fn syntax_help(alloc: Global, text: &[u8], back: &[u8], at: usize) -> Result<Vec
     ensures refusal { result ≡ Err WhereFault.NoRefusal → ⊥ }
 {
     match advice_for(alloc, text, at) {
-        Ok(advice) => Ok(with_hints(alloc, advice, back, text)?),
+        Ok(remark) => Ok(with_hints(alloc, remark, back, text)?),
         Err(fault) => Err(fault),
     }
 }
 
-// Advice, and behind it that a comment was closed before these bytes, and what the file looks like.
-fn with_hints(
-    alloc: Global,
-    mut advice: Vec<u8>,
-    back: &[u8],
-    text: &[u8],
-) -> Result<Vec<u8>, Memory>
-    ensures { IfOk result (λ whole. whole.items ≡ advice.items ++ nested_help back.now ++ file_hint File.Program text.now) }
+// Advice, and behind it which brace is open, that a comment was closed before these bytes, and what the file looks like.
+fn with_hints(alloc: Global, remark: Remark, back: &[u8], text: &[u8]) -> Result<Vec<u8>, Memory>
+    requires { length text.now ≤ FILE_BYTES }
+    ensures { IfOk result (λ it. it.items ≡ remark.text.items ++ brace_help text.now remark.brace ++ nested_help back.now ++ file_hint File.Program text.now) }
 {
+    let mut advice = remark.text;
+    let brace = brace_help(alloc, text, remark.brace)?;
+    advice.extend_from_slice(brace.as_slice())?;
     let nested = nested_help(alloc, back)?;
     advice.extend_from_slice(nested.as_slice())?;
     with_hint(alloc, advice, File::Program, text)
@@ -152,9 +152,9 @@ fn with_hint(alloc: Global, mut help: Vec<u8>, file: File, text: &[u8]) -> Resul
 }
 
 // Advice for the token of this number.
-fn advice_for(alloc: Global, text: &[u8], at: usize) -> Result<Vec<u8>, WhereFault>
+fn advice_for(alloc: Global, text: &[u8], at: usize) -> Result<Remark, WhereFault>
     requires { length text.now ≤ FILE_BYTES }
-    ensures advice { IfOk result (λ advice. IsAdviceFor text.now at advice.items) }
+    ensures advice { IfOk result (λ remark. IsAdviceFor text.now at remark.text.items remark.brace) }
     ensures beyond { result ≡ Err WhereFault.Beyond → (place : ℕ) → IsTokenPlace text.now at place → ⊥ }
     ensures refusal { result ≡ Err WhereFault.NoRefusal → ⊥ }
 {

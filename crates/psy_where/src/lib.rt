@@ -1,9 +1,10 @@
-//! Explains a refusal of psyc: where it is in the text, by line and column, what it means, and what may stand there; and each other line with which
-//! psyc refuses.
+//! Explains a refusal of psyc: where it is in the text, by line and column, what it means, and what may stand there; and each other line that
+//! psyc writes.
 //! It may know texts, tokens, the numbers of refusals, advice, what is told of rules, and how a line is shown; no grammar.
 #![tactic(auto)]
 
 mod answer;
+mod brace;
 mod byte;
 mod fault;
 mod help;
@@ -17,6 +18,7 @@ mod recall;
 mod scan;
 mod sentence;
 mod spot;
+mod written;
 
 pub use answer::{explain, plain_told};
 pub use byte::ByteSlip;
@@ -26,3 +28,4 @@ pub use plain::{Plain, read_plain};
 pub use program::beside;
 pub use recall::{Refusal, What};
 pub use spot::{Spot, spot_at};
+pub use written::Written;

@@ -1,7 +1,9 @@
 //! What the program tells of a line of inputs or of a script.
-ghost use Rattle.std.specs.Prelude.{◌≡◌, ◌≤◌, IfOk, length, map};
+ghost use Rattle.std.specs.Prelude.{◌≡◌, ◌⊎◌, ◌≤◌, IfOk, length, map};
 ghost use Rattle.psy_base.specs.declared.limits.TheConstants.{FILE_BYTES};
-ghost use Rattle.psy_where.specs.Besides.{IsBeside, beside_of};
+ghost use Rattle.psy_where.specs.declared.fault.WhereFault.{WhereFault};
+ghost use Rattle.psy_where.specs.Besides.{HasNoTokens, IsBeside, beside_of};
+ghost use Rattle.psy_where.specs.Explained.{IsBeyond, IsNoRefusal};
 
 use crate::fault::WhereFault;
 use crate::place::place;
@@ -18,7 +20,7 @@ use std::alloc::Global;
 
 /// What a program of at most 262,144 bytes tells of the line of inputs or of a script to which `line`, with which psyc refused, points in a text
 /// of at most 262,144 bytes: lines with a name that may be meant, or with the agents that an order leaves out; no bytes where it tells nothing.
-/// A fault is as of `explain`; `Beyond` also where the program has no tokens.
+/// `NoRefusal` only where the line is no refusal of a text; `Beyond` only where the text has no such place, or the program can't be cut into tokens.
 pub fn beside(
     alloc: Global,
     program: &[u8],
@@ -27,7 +29,9 @@ pub fn beside(
 ) -> Result<Vec<u8>, WhereFault>
     requires program { length program.now ≤ FILE_BYTES }
     requires text { length text.now ≤ FILE_BYTES }
-    ensures { IfOk result (λ told. IsBeside program.now text.now line.now told.items) }
+    ensures told { IfOk result (λ told. IsBeside program.now text.now line.now told.items) }
+    ensures refusal { result ≡ Err WhereFault.NoRefusal → IsNoRefusal line.now }
+    ensures beyond { result ≡ Err WhereFault.Beyond → IsBeyond text.now line.now ⊎ HasNoTokens program.now }
 {
     let Some(told) = read_refusal(line) else {
         return Err(WhereFault::NoRefusal);
