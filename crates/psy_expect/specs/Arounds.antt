@@ -53,9 +53,13 @@ is_within token = is_kind_within token.kind
 unfoldable pub starter_at : List Token → Option Terminal
 starter_at front = terminal_at (slice_get front (length front - suffix_len is_within front))
 
--- The last of the tokens before a place
-abbrev pub token_before : List Token → ℕ → Option Token
-token_before tokens at = slice_get (take at tokens) (length (take at tokens) - 1)
+-- The last of some tokens
+abbrev pub last_token : List Token → Option Token
+last_token front = slice_get front (length front - 1)
+
+-- All of them but the last
+abbrev pub but_last : List Token → List Token
+but_last front = take (length front - 1) front
 
 -- The token of so many behind a place
 abbrev pub token_behind : List Token → ℕ → ℕ → Option Token
@@ -69,16 +73,19 @@ foreign_at token = foreign_of (name_at token)
 abbrev pub small_at : Option Token → Option Terminal
 small_at token = small_of (name_at token)
 
--- What stands around a place, by what begins there, and the tokens before it, at it, behind it, and behind that
-unfoldable pub around_of : Option Terminal → Option Token → Option Token → Option Token → Option Token → Around
-around_of starter before here behind further = record {
+-- What stands around a place, by what begins there, and the tokens two before it, before it, at it, behind it, and behind that
+unfoldable pub around_of : Option Terminal → Option Token → Option Token → Option Token → Option Token → Option Token → Around
+around_of starter earlier before here behind further = record {
   starter = starter;
+  earlier = terminal_at earlier;
   before = terminal_at before;
   here = terminal_at here;
   behind = terminal_at behind;
   further = terminal_at further;
+  is_joined_earlier = is_joined earlier before;
   is_joined_before = is_joined before here;
   is_joined_behind = is_joined here behind;
+  foreign_earlier = foreign_at earlier;
   foreign_before = foreign_at before;
   foreign_here = foreign_at here;
   small_before = small_at before;
@@ -88,4 +95,5 @@ around_of starter before here behind further = record {
 -- What stands around a place
 abbrev pub around : List Token → ℕ → Around
 around tokens at =
-    around_of (starter_at (take at tokens)) (token_before tokens at) (token_behind tokens at 0) (token_behind tokens at 1) (token_behind tokens at 2)
+    around_of (starter_at (take at tokens)) (last_token (but_last (take at tokens))) (last_token (take at tokens))
+    (token_behind tokens at 0) (token_behind tokens at 1) (token_behind tokens at 2)

@@ -4,17 +4,35 @@ use Rattle.std.specs.Str.{bytes_eq, str_eq_ignore_ascii_case}
 use Rattle.psy_tree.specs.Lexemes.{word_spelling}
 use Rattle.psy_expect.specs.declared.foreign.Foreign.{Foreign}
 use Rattle.psy_expect.specs.declared.foreign.Foreign.TheVariants.{For, Loop, Jump, Switch, TypeWord, Constant, Enumeration, Modifier}
-use Rattle.psy_expect.specs.declared.foreign.Foreign.TheVariants.{Void, Function, ElseIf, Then, Times, Logical, Wait, Print}
+use Rattle.psy_expect.specs.declared.foreign.Foreign.TheVariants.{Void, Function, ElseIf, Then, Times, Logical, Wait, Print, Structure, External, Size}
 use Rattle.psy_expect.specs.declared.terminal.Terminal.{Terminal}
 use Rattle.psy_expect.specs.declared.terminal.Terminal.TheVariants.{Word}
 use Rattle.psy_expect.specs.declared.terminal.TheConstants.{EVERY}
 
--- Words for types
-abbrev pub is_type : List ℕ → Bool
-is_type name =
+-- Words for types by their kinds
+abbrev pub is_kind_type : List ℕ → Bool
+is_kind_type name =
     bytes_eq name (codes "float") || (bytes_eq name (codes "double") || (bytes_eq name (codes "bool") || (bytes_eq name (codes "boolean")
     || (bytes_eq name (codes "char") || (bytes_eq name (codes "long") || (bytes_eq name (codes "short") || (bytes_eq name (codes "unsigned")
-    || (bytes_eq name (codes "integer") || bytes_eq name (codes "string")))))))))
+    || (bytes_eq name (codes "signed") || (bytes_eq name (codes "integer") || (bytes_eq name (codes "string")
+    || (bytes_eq name (codes "uint") || bytes_eq name (codes "size_t"))))))))))))
+
+-- Words for types of 8 to 64 bits with a sign
+abbrev pub is_signed_type : List ℕ → Bool
+is_signed_type name =
+    bytes_eq name (codes "int8_t") || (bytes_eq name (codes "int16_t") || (bytes_eq name (codes "int32_t") || (bytes_eq name (codes "int64_t")
+    || (bytes_eq name (codes "i8") || (bytes_eq name (codes "i16") || (bytes_eq name (codes "i32") || bytes_eq name (codes "i64")))))))
+
+-- The same without a sign
+abbrev pub is_unsigned_type : List ℕ → Bool
+is_unsigned_type name =
+    bytes_eq name (codes "uint8_t") || (bytes_eq name (codes "uint16_t") || (bytes_eq name (codes "uint32_t") || (bytes_eq name (codes "uint64_t")
+    || (bytes_eq name (codes "uint8") || (bytes_eq name (codes "uint16") || (bytes_eq name (codes "uint32") || (bytes_eq name (codes "uint64")
+    || (bytes_eq name (codes "u8") || (bytes_eq name (codes "u16") || (bytes_eq name (codes "u32") || bytes_eq name (codes "u64")))))))))))
+
+-- Words for types
+abbrev pub is_type : List ℕ → Bool
+is_type name = is_kind_type name || (is_signed_type name || is_unsigned_type name)
 
 -- Words that print
 abbrev pub is_print : List ℕ → Bool
@@ -47,11 +65,17 @@ is_spelled Logical name =
 is_spelled Wait name =
     bytes_eq name (codes "wait") || (bytes_eq name (codes "delay") || (bytes_eq name (codes "sleep") || bytes_eq name (codes "pause")))
 is_spelled Print name = is_print name
+is_spelled Structure name =
+    bytes_eq name (codes "struct") || (bytes_eq name (codes "union") || (bytes_eq name (codes "class") || bytes_eq name (codes "typedef")))
+is_spelled External name =
+    bytes_eq name (codes "extern") || (bytes_eq name (codes "import") || (bytes_eq name (codes "include") || bytes_eq name (codes "using")))
+is_spelled Size name = bytes_eq name (codes "sizeof")
 
 -- All of them
 abbrev pub FOREIGN : List Foreign
 FOREIGN =
-    For ∷ Loop ∷ Jump ∷ Switch ∷ TypeWord ∷ Constant ∷ Enumeration ∷ Modifier ∷ Void ∷ Function ∷ ElseIf ∷ Then ∷ Times ∷ Logical ∷ Wait ∷ Print ∷ []
+    For ∷ Loop ∷ Jump ∷ Switch ∷ TypeWord ∷ Constant ∷ Enumeration ∷ Modifier ∷ Void ∷ Function ∷ ElseIf ∷ Then ∷ Times ∷ Logical ∷ Wait ∷ Print
+    ∷ Structure ∷ External ∷ Size ∷ []
 
 -- What word of another language a name is
 abbrev pub foreign_of : List ℕ → Option Foreign

@@ -17,6 +17,8 @@ use Rattle.psy_expect.specs.declared.hint.Hint.TheVariants.{Back, Close, ElseAlo
 use Rattle.psy_expect.specs.declared.hint.Hint.TheVariants.{FormTemporal, FormInput, FormStream, FormAgent, FormInt, FormIf, FormWhile, FormSend}
 use Rattle.psy_expect.specs.declared.hint.Hint.TheVariants.{FormAdvance, FormAssign, FunctionInside, Print, NotEqual, NoResult, BodyMissing}
 use Rattle.psy_expect.specs.declared.hint.Hint.TheVariants.{Ended, BodyEnded, SecondTick, SecondBody, InsideAgent, NoSemicolon, LookName, Cast, ReservedCall}
+use Rattle.psy_expect.specs.declared.hint.Hint.TheVariants.{NoParameters, Structure, External, IncrementWithin, Arrow, Pointer, Sizeof, MaxAlone}
+use Rattle.psy_expect.specs.declared.hint.Hint.TheVariants.{AdvanceAlone, Signed, Block}
 use Rattle.psy_expect.specs.declared.hint.Hint.TheVariants.{Constant, Repeats, Cells, Dimension, FunctionArray, Period, FirstTemporal, FirstInput, Depth}
 use Rattle.psy_expect.specs.declared.terminal.Terminal.{Terminal}
 use Rattle.psy_expect.specs.declared.terminal.Terminal.TheVariants.{Word, Name, Number, Sign}
@@ -96,6 +98,11 @@ CLOSINGS = Sign signs.CloseRound ∷ Sign signs.CloseSquare ∷ Sign signs.Close
 abbrev pub is_twice : Around → Terminal → Bool
 is_twice a t = is a.here t && ((is a.behind t && a.is_joined_behind) || (is a.before t && a.is_joined_before))
 
+-- What stands before a value, other than an operator
+abbrev pub OPENINGS : List Terminal
+OPENINGS =
+    Sign signs.Assign ∷ Sign signs.OpenRound ∷ Sign signs.OpenSquare ∷ Sign signs.Comma ∷ Word words.Return ∷ Word words.Send ∷ []
+
 -- The words of types
 abbrev pub TYPES : List Terminal
 TYPES = Word words.Int ∷ Word words.Int8 ∷ Word words.Int16 ∷ Word words.Int32 ∷ Word words.Int64 ∷ []
@@ -136,6 +143,56 @@ is_look a told =
 abbrev pub is_called : Around → Bool
 is_called a = is_reserved a.here && (is a.behind (Sign signs.OpenRound) && not (is_among a.here CONDITIONS))
 
+-- A word of this sort stands where a declaration may begin, or began what looks like a statement.
+abbrev pub begins_foreign : Around → List Terminal → Foreign → Bool
+begins_foreign a told f = (is_foreign a.foreign_here f && has told (Word words.Int)) || (is_foreign a.foreign_before f && has told (Sign signs.Assign))
+
+-- Two `-` stand before this, one directly behind the other.
+abbrev pub has_minuses : Around → Bool
+has_minuses a = is a.before (Sign signs.Minus) && (is a.earlier (Sign signs.Minus) && a.is_joined_earlier)
+
+-- `++` is here, or `--` stands before this, where a value is to go on
+abbrev pub is_step_within : Around → List Terminal → Bool
+is_step_within a told = has told (Sign signs.Tilde) && (is_twice a (Sign signs.Plus) || has_minuses a)
+
+-- `->` is here, or its `>`
+abbrev pub is_arrow : Around → Bool
+is_arrow a =
+    (is a.here (Sign signs.Greater) && (is a.before (Sign signs.Minus) && a.is_joined_before))
+    || (is a.here (Sign signs.Minus) && (is a.behind (Sign signs.Greater) && a.is_joined_behind))
+
+-- `*` or `&` stands where a statement may begin, or behind a type, or where a value begins
+abbrev pub is_pointer : Around → List Terminal → Bool
+is_pointer a told =
+    (is a.here (Sign signs.Star) || is a.here (Sign signs.Amp))
+    && (has told (Word words.If) || ((is_among a.before TYPES && has told Name) || (is_among a.before OPENINGS && has told (Sign signs.Tilde))))
+
+-- What stands in the brackets of `sizeof`, or behind it
+abbrev pub is_size : Around → List Terminal → Bool
+is_size a told =
+    (is_foreign a.foreign_earlier foreign.Size && is a.before (Sign signs.OpenRound))
+    || (is_foreign a.foreign_before foreign.Size && has told (Sign signs.Plus))
+
+-- A type stands in brackets where a value may begin
+abbrev pub is_cast : Around → List Terminal → Bool
+is_cast a told =
+    is_among a.here TYPES
+    && (is a.before (Sign signs.OpenRound) && (is a.behind (Sign signs.CloseRound) && (has told (Sign signs.Tilde) && not (has told (Sign signs.CloseRound)))))
+
+-- Behind brackets with another language's word for a type a value begins
+abbrev pub is_cast_by_name : Around → List Terminal → Bool
+is_cast_by_name a told = is_foreign a.foreign_earlier foreign.TypeWord && (is a.before (Sign signs.CloseRound) && has told (Sign signs.Plus))
+
+-- A name, a value or a sign stands where a number may and no name, or an operator behind a number where none may
+abbrev pub is_number_alone : Around → List Terminal → Bool
+is_number_alone a told =
+    (is_among a.here VALUES && (has told Number && not (has told Name)))
+    || (is_among a.here OPERATORS && (is a.before Number && (not (has told (Sign signs.Plus)) && not (has told (Sign signs.Star)))))
+
+-- This terminal stands before the place, or before that which stands there
+abbrev pub is_behind : Around → Terminal → Bool
+is_behind a t = is a.before t || is a.earlier t
+
 -- The word is `const` or `static`, or one of their kin
 abbrev pub is_modifier : Option Foreign → Bool
 is_modifier there = is_foreign there foreign.Constant || is_foreign there foreign.Modifier
@@ -163,8 +220,11 @@ fits Constant a told mends extra =
     || (is_foreign a.foreign_before foreign.Enumeration && has told (Sign signs.Assign)))
 fits Modifier a told mends extra =
     (is_modifier a.foreign_here && has told (Word words.Int)) || (is_modifier a.foreign_before && has told (Sign signs.Assign))
+fits NoParameters a told mends extra = is_foreign a.foreign_here foreign.Void && (has told (Word words.Int) && has told (Sign signs.CloseRound))
 fits Void a told mends extra = is_foreign a.foreign_here foreign.Void && has told (Word words.Int)
 fits FunctionWord a told mends extra = is_foreign a.foreign_here foreign.Function && has told (Word words.Int)
+fits Structure a told mends extra = begins_foreign a told foreign.Structure
+fits External a told mends extra = begins_foreign a told foreign.External
 fits NoFor a told mends extra = is_foreign a.foreign_before foreign.For && is a.here (Sign signs.OpenRound)
 fits OtherLoop a told mends extra = is_foreign a.foreign_before foreign.Loop && has told (Sign signs.Assign)
 fits Jump a told mends extra = is_foreign a.foreign_before foreign.Jump && has told (Sign signs.Assign)
@@ -182,6 +242,7 @@ fits Wait a told mends extra = is_foreign a.foreign_before foreign.Wait && has t
 fits Print a told mends extra = is_foreign a.foreign_before foreign.Print && has told (Sign signs.Assign)
 fits ValueAlone a told mends extra = is_among a.here LOOKS && has told (Word words.If)
 fits TickAsClock a told mends extra = is a.here (Word words.Tick) && is a.before (Word words.On)
+fits IncrementWithin a told mends extra = is_step_within a told
 fits Increment a told mends extra = is_twice a (Sign signs.Plus) || is_twice a (Sign signs.Minus)
 fits Compound a told mends extra = is_among a.here JOINED && (is a.behind (Sign signs.Assign) && (a.is_joined_behind && has told (Sign signs.Assign)))
 fits LessOrEqual a told mends extra =
@@ -191,7 +252,10 @@ fits NotEqual a told mends extra =
     is a.here (Sign signs.Assign) && (is a.behind (Sign signs.Bang) && (a.is_joined_behind && has told (Sign signs.Equal)))
 fits Unlike a told mends extra = is a.here (Sign signs.Greater) && (is a.before (Sign signs.Less) && a.is_joined_before)
 fits Power a told mends extra = is a.here (Sign signs.Star) && (is a.before (Sign signs.Star) && a.is_joined_before)
+fits Arrow a told mends extra = is_arrow a
+fits Pointer a told mends extra = is_pointer a told
 fits UnaryPlus a told mends extra = is a.here (Sign signs.Plus) && has told (Sign signs.Tilde)
+fits Sizeof a told mends extra = is_size a told
 fits Square a told mends extra = has mends (Sign signs.CloseSquare)
 fits Cells a told mends extra =
     (is a.starter (Word words.Int) && ((is a.before (Sign signs.CloseSquare) && is a.here (Sign signs.Assign))
@@ -234,17 +298,17 @@ fits ElseAlone a told mends extra = is a.here (Word words.Else) && has told (Wor
 fits Semicolon a told mends extra = has mends (Sign signs.Semicolon)
 fits NoSemicolon a told mends extra = is a.here (Sign signs.Semicolon) && is_nothing a.starter
 fits Missing a told mends extra = is_some_few mends
+fits Block a told mends extra = is a.here (Sign signs.OpenBrace) && has told (Word words.If)
 fits LookName a told mends extra = is_look a told
-fits Cast a told mends extra =
-    is_among a.here TYPES
-    && (is a.before (Sign signs.OpenRound) && (is a.behind (Sign signs.CloseRound) && (has told (Sign signs.Tilde) && not (has told (Sign signs.CloseRound)))))
+fits Cast a told mends extra = is_cast a told || is_cast_by_name a told
 fits ReservedCall a told mends extra = is_called a && (has told (Sign signs.Tilde) || has told (Word words.If))
 fits Reserved a told mends extra =
     is_reserved a.here && (has told Name && (not (has told (Word words.If)) || (is a.behind (Sign signs.Assign) || is a.behind (Sign signs.OpenSquare))))
 fits Brackets a told mends extra = is_among a.before LOOKS && has told (Sign signs.OpenRound)
-fits NumberAlone a told mends extra =
-    (is_among a.here VALUES && (has told Number && not (has told Name)))
-    || (is_among a.here OPERATORS && (is a.before Number && (not (has told (Sign signs.Plus)) && not (has told (Sign signs.Star)))))
+fits MaxAlone a told mends extra = is_behind a (Word words.Max) && is_number_alone a told
+fits AdvanceAlone a told mends extra = is_behind a (Word words.Advance) && is_number_alone a told
+fits Signed a told mends extra = is a.here (Sign signs.Minus) && is_number_alone a told
+fits NumberAlone a told mends extra = is_number_alone a told
 fits SemicolonAtEnd a told mends extra =
     (is_nothing a.here || (is_reserved a.here || (is a.here Name || is a.here (Sign signs.CloseBrace)))) && has told (Sign signs.Semicolon)
 fits FunctionArray a told mends extra = is a.starter (Word words.Int) && (is a.before Name && is a.here (Sign signs.OpenSquare))
@@ -268,11 +332,12 @@ fits FormAssign a told mends extra = is a.starter Name && has told (Sign signs.A
 -- The rules, in their order
 abbrev pub RULES : List Hint
 RULES =
-    FunctionInside ∷ DeclarationInBody ∷ DeclarationBehindBody ∷ Width ∷ Constant ∷ Modifier ∷ Void ∷ FunctionWord ∷ NoFor ∷ OtherLoop ∷ Jump ∷ Switch
-    ∷ ElseIf ∷ Else ∷ SmallLetters ∷ Then ∷ Times ∷ Logical ∷ Wait ∷ Print ∷ ValueAlone ∷ TickAsClock ∷ Increment ∷ Compound ∷ LessOrEqual ∷ NotEqual ∷ Unlike
-    ∷ Power ∷ UnaryPlus ∷ Square ∷ Cells ∷ Dimension ∷ Global ∷ NoValue ∷ NameAlone ∷ NoResult ∷ Chain ∷ Comparison ∷ Assignment ∷ OneByOne ∷ Call ∷ Prototype
-    ∷ Brackets ∷ NumberAlone ∷ LeaveOut ∷ EmptyCondition ∷ BodyMissing ∷ Extra ∷ Braces ∷ After ∷ NoStatement ∷ Ended ∷ Outside ∷ Repeats ∷ NoBody ∷ BodyEnded
-    ∷ SecondTick ∷ SecondBody ∷ InsideAgent ∷ Back ∷ Close ∷ ElseAlone ∷ Semicolon ∷ FormTick ∷ NoSemicolon ∷ Missing ∷ LookName ∷ Cast ∷ ReservedCall
+    FunctionInside ∷ DeclarationInBody ∷ DeclarationBehindBody ∷ Width ∷ Constant ∷ Modifier ∷ NoParameters ∷ Void ∷ FunctionWord ∷ Structure ∷ External
+    ∷ NoFor ∷ OtherLoop ∷ Jump ∷ Switch ∷ ElseIf ∷ Else ∷ SmallLetters ∷ Then ∷ Times ∷ Logical ∷ Wait ∷ Print ∷ ValueAlone ∷ TickAsClock ∷ IncrementWithin
+    ∷ Increment ∷ Compound ∷ LessOrEqual ∷ NotEqual ∷ Unlike ∷ Power ∷ Arrow ∷ Pointer ∷ UnaryPlus ∷ Sizeof ∷ Cast ∷ Square ∷ Cells ∷ Dimension ∷ Global
+    ∷ NoValue ∷ NameAlone ∷ NoResult ∷ Chain ∷ Comparison ∷ Assignment ∷ OneByOne ∷ Call ∷ Prototype ∷ Brackets ∷ MaxAlone ∷ AdvanceAlone ∷ Signed
+    ∷ NumberAlone ∷ LeaveOut ∷ EmptyCondition ∷ BodyMissing ∷ Extra ∷ Braces ∷ After ∷ NoStatement ∷ Ended ∷ Outside ∷ Repeats ∷ NoBody ∷ BodyEnded
+    ∷ SecondTick ∷ SecondBody ∷ InsideAgent ∷ Back ∷ Close ∷ ElseAlone ∷ Semicolon ∷ FormTick ∷ NoSemicolon ∷ Missing ∷ Block ∷ LookName ∷ ReservedCall
     ∷ Reserved ∷ SemicolonAtEnd ∷ FunctionArray ∷ Period ∷ FirstTemporal ∷ FirstInput ∷ Depth ∷ FormClock ∷ FormTemporal ∷ FormInput ∷ FormStream ∷ FormAgent
     ∷ FormInt ∷ FormIf ∷ FormWhile ∷ FormSend ∷ FormAdvance ∷ FormAssign ∷ []
 
@@ -288,8 +353,11 @@ hint_words DeclarationBehindBody = codes "behind `body` nothing stands in an age
 hint_words Width = codes "the only type is `int`"
 hint_words Constant = codes "there are no named constants: write the number, or a function that returns it, as in `int limit() { return 5; }`"
 hint_words Modifier = codes "there is no `const`, `static` or the like: leave it out; an agent's variables keep their values from action to action"
+hint_words NoParameters = codes "a function without parameters is written with nothing in its brackets, as in `int f() { return 0; }`: leave `void` out"
 hint_words Void = codes "each function gives a value: write `int f(..) { .. return ..; }`"
 hint_words FunctionWord = codes "a function begins with `int`, as in `int f(int a) { return a; }`"
+hint_words Structure = codes "there is no `struct` and no `typedef`: each value is an `int`, and an agent has arrays of them, as in `int a[4];`"
+hint_words External = codes "a program is one file, and takes nothing from others: leave this out, and declare here what it needs"
 hint_words NoFor = codes "there is no `for`: count in a `while (..) max N { .. }`"
 hint_words OtherLoop = codes "the only loop is `while (..) max N { .. }`; a `body` begins again by itself"
 hint_words Jump = codes "there is no `break` and no `continue`: put what ends a loop into its condition"
@@ -304,13 +372,17 @@ hint_words Wait = codes "time passes at `advance`, as in `advance 1 on c;`"
 hint_words Print = codes "there is no `print`: a run writes its temporal variables and messages, so give the value to a temporal variable"
 hint_words ValueAlone = codes "a value is no statement: give it to a variable, as in `n = take(s);`"
 hint_words TickAsClock = codes "`tick` is no clock by itself: declare one, as in `clock each = 1 * tick;`"
+hint_words IncrementWithin = codes "there is no `++` and no `--`: write a statement of its own, as in `v = v - 1;`"
 hint_words Increment = codes "there is no `++` and no `--`: write `v = v + 1;`"
 hint_words Compound = codes "there is no `+=`, nor its kin: write `v = v + ..;`"
 hint_words LessOrEqual = codes "`<=` and `>=` are written with the `=` behind"
 hint_words NotEqual = codes "`!=` is written with the `=` behind"
 hint_words Unlike = codes "that two values differ is written `!=`"
 hint_words Power = codes "there is no `**`: write a product"
+hint_words Arrow = codes "there is no `->`, and names have no parts: write the name alone, or what looks at it, as in `take(s)`"
+hint_words Pointer = codes "there are no pointers and no addresses: a name stands for its value, and a function gives one value, by `return`"
 hint_words UnaryPlus = codes "there is no `+` before a value: leave it out"
+hint_words Sizeof = codes "there is no `sizeof`: write the number of cells with which the array is declared"
 hint_words Square = codes "a `]` is missing before this"
 hint_words Cells = codes "the cells of an array begin at 0, as in `int a[4];`, and each is assigned by itself, as in `a[0] = 1;`"
 hint_words Dimension = codes "an array has one index: where rows of 4 are meant, write `a[4 * i + j]`"
@@ -318,9 +390,9 @@ hint_words Global =
     codes "variables stand in agents and functions; agents share `temporal v of A on c = 0 depth 1;`; for a constant write its number, or a function"
 hint_words NoValue = codes "a variable has a first value, as in `int n = 0;`"
 hint_words NameAlone = codes "a name is no statement: assign to it, as in `v = 1;`"
-hint_words NoResult = codes "a function gives a value, which stands behind `return`, as in `return 0;`"
+hint_words NoResult = codes "a function gives a value, as in `return 0;`; a `body` has no `return`: what an action does ends at its `advance`"
 hint_words Chain = codes "an assignment has no value: write a statement for each variable; a comparison is written `==`"
-hint_words Comparison = codes "a comparison is written `==`"
+hint_words Comparison = codes "a comparison is written `==`; `=` assigns, in a statement of its own before this one, as in `n = take(s);`"
 hint_words Assignment = codes "an assignment is written `=`"
 hint_words OneByOne = codes "a declaration has one name, and a statement one assignment: end it with `;`, and begin another"
 hint_words Call = codes "a call is no statement: give its value to a variable, as in `v = f(..);`"
@@ -346,12 +418,16 @@ hint_words Close = codes "a `}` is missing before this"
 hint_words ElseAlone = codes "an `else` stands directly behind the `}` of its `if`"
 hint_words Semicolon = codes "a `;` is missing before this"
 hint_words Missing = []
+hint_words Block = codes "a block stands behind a condition or `else` alone: leave this `{` and its `}` out"
 hint_words LookName = codes "`past`, `ready` and `take` have a name alone in their brackets, as in `past(v, 0) + 1`"
 hint_words Cast = codes "there are no casts, and each value is an `int`: leave the type and its brackets out"
 hint_words ReservedCall =
     codes "this word is reserved, and no function has it as its name: declare one of another name, as in `int larger(int a, int b) { .. }`"
 hint_words Reserved = codes "this word is reserved, and can't be a name: choose another"
 hint_words Brackets = codes "what is looked at stands in brackets: `past(v, 0)`, `ready(s)`, `take(s)`"
+hint_words MaxAlone = codes "behind `max` stands a number alone, from 1 to 65536: no sign, no name and no expression; a loop may end sooner by its condition"
+hint_words AdvanceAlone = codes "behind `advance` stands a number alone, from 1 to 1024: no sign, no name and no expression"
+hint_words Signed = codes "here stands a number alone, and without a sign: it tells how many, and is never below 0"
 hint_words NumberAlone = codes "here stands a number alone, and neither a name nor an expression"
 hint_words SemicolonAtEnd = codes "a `;` is missing before this"
 hint_words FunctionArray = codes "arrays stand in an agent, before its `body`: a function has none"

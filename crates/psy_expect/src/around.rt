@@ -2,8 +2,8 @@
 ghost use Rattle.std.specs.Prelude.{◌≡◌, ◌≤◌, ◌-◌, length, slice_get};
 ghost use Rattle.std.specs.List.{suffix_len};
 ghost use Rattle.std.specs.Option.{option_copied};
-ghost use Rattle.psy_expect.specs.Arounds.{around, around_of, foreign_at, is_joined, is_sign_within, is_within};
-ghost use Rattle.psy_expect.specs.Arounds.{name_at, name_in, small_at, starter_at, terminal_at};
+ghost use Rattle.psy_expect.specs.Arounds.{around, around_of, but_last, foreign_at, is_joined, is_sign_within, is_within};
+ghost use Rattle.psy_expect.specs.Arounds.{last_token, name_at, name_in, small_at, starter_at, terminal_at};
 
 use crate::foreign::{Foreign, foreign_of, small_of};
 use crate::terminal::{Terminal, terminal_of};
@@ -14,16 +14,22 @@ use psy_tree::{Kind, Sign, Token};
 pub struct Around {
     /// With what the statement, the declaration or the head of a block begins to which the token before the place belongs.
     pub starter: Option<Terminal>,
+    /// What stands before that which stands before the place.
+    pub earlier: Option<Terminal>,
     pub before: Option<Terminal>,
     pub here: Option<Terminal>,
     pub behind: Option<Terminal>,
     /// What stands behind that.
     pub further: Option<Terminal>,
+    /// Does the token before the place begin one byte behind that before it?
+    pub is_joined_earlier: bool,
     /// Does the token here begin one byte behind that before it?
     pub is_joined_before: bool,
     /// Does the token behind it begin one byte behind that here?
     pub is_joined_behind: bool,
-    /// What word of another language the name before the place is.
+    /// What word of another language the name two before the place is.
+    pub foreign_earlier: Option<Foreign>,
+    /// The same of the name before the place.
     pub foreign_before: Option<Foreign>,
     /// The same of the name here.
     pub foreign_here: Option<Foreign>,
@@ -41,6 +47,7 @@ pub fn stands_around(tokens: &[Token], at: usize) -> Around
     let (front, back) = tokens.split_at(at);
     around_of(
         starter_at(front),
+        last_of(but_last(front)),
         last_of(front),
         token_at(back, 0),
         token_at(back, 1),
@@ -52,21 +59,26 @@ pub fn stands_around(tokens: &[Token], at: usize) -> Around
 #[tactic(auto, unfolding(crate::specs::Arounds::around_of))]
 fn around_of(
     starter: Option<Terminal>,
+    earlier: Option<&Token>,
     before: Option<&Token>,
     here: Option<&Token>,
     behind: Option<&Token>,
     further: Option<&Token>,
 ) -> Around
-    ensures { result ≡ around_of starter (option_copied before.entry) (option_copied here.entry) (option_copied behind.entry) (option_copied further.entry) }
+    ensures { result ≡ around_of starter (option_copied earlier.entry) (option_copied before.entry) (option_copied here.entry) (option_copied behind.entry)
+        (option_copied further.entry) }
 {
     Around {
         starter,
+        earlier: terminal_at(earlier),
         before: terminal_at(before),
         here: terminal_at(here),
         behind: terminal_at(behind),
         further: terminal_at(further),
+        is_joined_earlier: is_joined(earlier, before),
         is_joined_before: is_joined(before, here),
         is_joined_behind: is_joined(here, behind),
+        foreign_earlier: foreign_at(earlier),
         foreign_before: foreign_at(before),
         foreign_here: foreign_at(here),
         small_before: small_at(before),
@@ -76,9 +88,17 @@ fn around_of(
 
 // The last of some tokens.
 fn last_of(front: &[Token]) -> Option<&Token>
-    ensures { option_copied result ≡ slice_get front.now (length front.now - 1) }
+    ensures { option_copied result ≡ last_token front.now }
 {
     token_at(front, front.len().saturating_sub(1))
+}
+
+// All of them but the last.
+fn but_last(front: &[Token]) -> &[Token]
+    ensures { result.now ≡ but_last front.now }
+{
+    let (rest, _) = front.split_at(front.len().saturating_sub(1));
+    rest
 }
 
 // What word of another language a name is.

@@ -2,6 +2,8 @@
 ghost use Rattle.std.specs.Prelude.{◌≡◌};
 ghost use Rattle.psy_expect.specs.Hints.{fits, has_ended, is, is_among, is_called, is_end, is_foreign, is_function_inside, is_look, is_loop};
 ghost use Rattle.psy_expect.specs.Hints.{is_modifier, is_nameless, is_nothing, is_one_behind, is_reserved, is_some_few, is_statement, is_twice};
+ghost use Rattle.psy_expect.specs.Hints.{begins_foreign, has_minuses, is_arrow, is_behind, is_cast, is_cast_by_name, is_number_alone};
+ghost use Rattle.psy_expect.specs.Hints.{is_pointer, is_size, is_step_within};
 
 use crate::around::Around;
 use crate::foreign::Foreign;
@@ -82,6 +84,15 @@ const CLOSINGS: [Terminal; 3] = [
     Terminal::Sign(Sign::CloseBrace),
 ];
 
+const OPENINGS: [Terminal; 6] = [
+    Terminal::Sign(Sign::Assign),
+    Terminal::Sign(Sign::OpenRound),
+    Terminal::Sign(Sign::OpenSquare),
+    Terminal::Sign(Sign::Comma),
+    Terminal::Word(Word::Return),
+    Terminal::Word(Word::Send),
+];
+
 const TYPES: [Terminal; 5] = [
     Terminal::Word(Word::Int),
     Terminal::Word(Word::Int8),
@@ -115,10 +126,15 @@ pub fn fits(hint: Hint, a: Around, told: &[Terminal], mends: &[Terminal], is_ext
                     && has(told, Terminal::Sign(Sign::Assign)))),
         Hint::Modifier => (is_modifier(a.foreign_here) && has(told, Terminal::Word(Word::Int)))
             || (is_modifier(a.foreign_before) && has(told, Terminal::Sign(Sign::Assign))),
+        Hint::NoParameters => is_foreign(a.foreign_here, Foreign::Void)
+            && (has(told, Terminal::Word(Word::Int))
+                && has(told, Terminal::Sign(Sign::CloseRound))),
         Hint::Void => is_foreign(a.foreign_here, Foreign::Void)
             && has(told, Terminal::Word(Word::Int)),
         Hint::FunctionWord => is_foreign(a.foreign_here, Foreign::Function)
             && has(told, Terminal::Word(Word::Int)),
+        Hint::Structure => begins_foreign(a, told, Foreign::Structure),
+        Hint::External => begins_foreign(a, told, Foreign::External),
         Hint::NoFor => is_foreign(a.foreign_before, Foreign::For)
             && is(a.here, Terminal::Sign(Sign::OpenRound)),
         Hint::OtherLoop => is_foreign(a.foreign_before, Foreign::Loop)
@@ -151,6 +167,7 @@ pub fn fits(hint: Hint, a: Around, told: &[Terminal], mends: &[Terminal], is_ext
         Hint::ValueAlone => is_among(a.here, &LOOKS) && has(told, Terminal::Word(Word::If)),
         Hint::TickAsClock => is(a.here, Terminal::Word(Word::Tick))
             && is(a.before, Terminal::Word(Word::On)),
+        Hint::IncrementWithin => is_step_within(a, told),
         Hint::Increment => is_twice(a, Terminal::Sign(Sign::Plus))
             || is_twice(a, Terminal::Sign(Sign::Minus)),
         Hint::Compound => is_among(a.here, &JOINED)
@@ -167,8 +184,11 @@ pub fn fits(hint: Hint, a: Around, told: &[Terminal], mends: &[Terminal], is_ext
             && (is(a.before, Terminal::Sign(Sign::Less)) && a.is_joined_before),
         Hint::Power => is(a.here, Terminal::Sign(Sign::Star))
             && (is(a.before, Terminal::Sign(Sign::Star)) && a.is_joined_before),
+        Hint::Arrow => is_arrow(a),
+        Hint::Pointer => is_pointer(a, told),
         Hint::UnaryPlus => is(a.here, Terminal::Sign(Sign::Plus))
             && has(told, Terminal::Sign(Sign::Tilde)),
+        Hint::Sizeof => is_size(a, told),
         Hint::Square => has(mends, Terminal::Sign(Sign::CloseSquare)),
         Hint::Cells => (is(a.starter, Terminal::Word(Word::Int))
             && ((is(a.before, Terminal::Sign(Sign::CloseSquare))
@@ -250,12 +270,10 @@ pub fn fits(hint: Hint, a: Around, told: &[Terminal], mends: &[Terminal], is_ext
         Hint::Semicolon => has(mends, Terminal::Sign(Sign::Semicolon)),
         Hint::NoSemicolon => is(a.here, Terminal::Sign(Sign::Semicolon)) && is_nothing(a.starter),
         Hint::Missing => is_some_few(mends),
+        Hint::Block => is(a.here, Terminal::Sign(Sign::OpenBrace))
+            && has(told, Terminal::Word(Word::If)),
         Hint::LookName => is_look(a, told),
-        Hint::Cast => is_among(a.here, &TYPES)
-            && (is(a.before, Terminal::Sign(Sign::OpenRound))
-                && (is(a.behind, Terminal::Sign(Sign::CloseRound))
-                    && (has(told, Terminal::Sign(Sign::Tilde))
-                        && !has(told, Terminal::Sign(Sign::CloseRound))))),
+        Hint::Cast => is_cast(a, told) || is_cast_by_name(a, told),
         Hint::ReservedCall => is_called(a)
             && (has(told, Terminal::Sign(Sign::Tilde)) || has(told, Terminal::Word(Word::If))),
         Hint::Reserved => is_reserved(a.here)
@@ -264,12 +282,11 @@ pub fn fits(hint: Hint, a: Around, told: &[Terminal], mends: &[Terminal], is_ext
                     || (is(a.behind, Terminal::Sign(Sign::Assign))
                         || is(a.behind, Terminal::Sign(Sign::OpenSquare))))),
         Hint::Brackets => is_among(a.before, &LOOKS) && has(told, Terminal::Sign(Sign::OpenRound)),
-        Hint::NumberAlone => (is_among(a.here, &VALUES)
-            && (has(told, Terminal::Number) && !has(told, Terminal::Name)))
-            || (is_among(a.here, &OPERATORS)
-                && (is(a.before, Terminal::Number)
-                    && (!has(told, Terminal::Sign(Sign::Plus))
-                        && !has(told, Terminal::Sign(Sign::Star))))),
+        Hint::MaxAlone => is_behind(a, Terminal::Word(Word::Max)) && is_number_alone(a, told),
+        Hint::AdvanceAlone => is_behind(a, Terminal::Word(Word::Advance))
+            && is_number_alone(a, told),
+        Hint::Signed => is(a.here, Terminal::Sign(Sign::Minus)) && is_number_alone(a, told),
+        Hint::NumberAlone => is_number_alone(a, told),
         Hint::SemicolonAtEnd => (is_nothing(a.here)
             || (is_reserved(a.here)
                 || (is(a.here, Terminal::Name) || is(a.here, Terminal::Sign(Sign::CloseBrace)))))
@@ -424,6 +441,95 @@ fn is_end(here: Option<Terminal>) -> bool
 {
     is(here, Terminal::Sign(Sign::Semicolon))
         || (is(here, Terminal::Sign(Sign::CloseBrace)) || (is_reserved(here) || is_nothing(here)))
+}
+
+// Does a word of this sort stand where a declaration may begin, or did it begin what looks like a statement?
+fn begins_foreign(a: Around, told: &[Terminal], foreign: Foreign) -> bool
+    ensures { result ≡ begins_foreign a told.now foreign }
+{
+    (is_foreign(a.foreign_here, foreign) && has(told, Terminal::Word(Word::Int)))
+        || (is_foreign(a.foreign_before, foreign) && has(told, Terminal::Sign(Sign::Assign)))
+}
+
+// Do two `-` stand before this, one directly behind the other?
+fn has_minuses(a: Around) -> bool
+    ensures { result ≡ has_minuses a }
+{
+    is(a.before, Terminal::Sign(Sign::Minus))
+        && (is(a.earlier, Terminal::Sign(Sign::Minus)) && a.is_joined_earlier)
+}
+
+// Is `++` here, or does `--` stand before this, where a value is to go on?
+fn is_step_within(a: Around, told: &[Terminal]) -> bool
+    ensures { result ≡ is_step_within a told.now }
+{
+    has(told, Terminal::Sign(Sign::Tilde))
+        && (is_twice(a, Terminal::Sign(Sign::Plus)) || has_minuses(a))
+}
+
+// Is `->` here, or its `>`?
+fn is_arrow(a: Around) -> bool
+    ensures { result ≡ is_arrow a }
+{
+    (is(a.here, Terminal::Sign(Sign::Greater))
+        && (is(a.before, Terminal::Sign(Sign::Minus)) && a.is_joined_before))
+        || (is(a.here, Terminal::Sign(Sign::Minus))
+            && (is(a.behind, Terminal::Sign(Sign::Greater)) && a.is_joined_behind))
+}
+
+// Does `*` or `&` stand where a statement may begin, or behind a type, or where a value begins?
+fn is_pointer(a: Around, told: &[Terminal]) -> bool
+    ensures { result ≡ is_pointer a told.now }
+{
+    (is(a.here, Terminal::Sign(Sign::Star)) || is(a.here, Terminal::Sign(Sign::Amp)))
+        && (has(told, Terminal::Word(Word::If))
+            || ((is_among(a.before, &TYPES) && has(told, Terminal::Name))
+                || (is_among(a.before, &OPENINGS) && has(told, Terminal::Sign(Sign::Tilde)))))
+}
+
+// Does it stand in the brackets of `sizeof`, or behind it?
+fn is_size(a: Around, told: &[Terminal]) -> bool
+    ensures { result ≡ is_size a told.now }
+{
+    (is_foreign(a.foreign_earlier, Foreign::Size) && is(a.before, Terminal::Sign(Sign::OpenRound)))
+        || (is_foreign(a.foreign_before, Foreign::Size) && has(told, Terminal::Sign(Sign::Plus)))
+}
+
+// Does a type stand in brackets where a value may begin?
+fn is_cast(a: Around, told: &[Terminal]) -> bool
+    ensures { result ≡ is_cast a told.now }
+{
+    is_among(a.here, &TYPES)
+        && (is(a.before, Terminal::Sign(Sign::OpenRound))
+            && (is(a.behind, Terminal::Sign(Sign::CloseRound))
+                && (has(told, Terminal::Sign(Sign::Tilde))
+                    && !has(told, Terminal::Sign(Sign::CloseRound)))))
+}
+
+// Does a value begin behind brackets with another language's word for a type?
+fn is_cast_by_name(a: Around, told: &[Terminal]) -> bool
+    ensures { result ≡ is_cast_by_name a told.now }
+{
+    is_foreign(a.foreign_earlier, Foreign::TypeWord)
+        && (is(a.before, Terminal::Sign(Sign::CloseRound)) && has(told, Terminal::Sign(Sign::Plus)))
+}
+
+// Does a name, a value or a sign stand where a number may and no name, or an operator behind a number where none may?
+fn is_number_alone(a: Around, told: &[Terminal]) -> bool
+    ensures { result ≡ is_number_alone a told.now }
+{
+    (is_among(a.here, &VALUES) && (has(told, Terminal::Number) && !has(told, Terminal::Name)))
+        || (is_among(a.here, &OPERATORS)
+            && (is(a.before, Terminal::Number)
+                && (!has(told, Terminal::Sign(Sign::Plus))
+                    && !has(told, Terminal::Sign(Sign::Star)))))
+}
+
+// Does this terminal stand before the place, or before that which stands there?
+fn is_behind(a: Around, terminal: Terminal) -> bool
+    ensures { result ≡ is_behind a terminal }
+{
+    is(a.before, terminal) || is(a.earlier, terminal)
 }
 
 // Is it `const` or `static`, or one of their kin?

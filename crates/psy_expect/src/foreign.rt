@@ -1,6 +1,6 @@
 //! Names that are words of other languages, or reserved words in other case.
 ghost use Rattle.std.specs.Prelude.{◌≡◌};
-ghost use Rattle.psy_expect.specs.Foreigns.{foreign_of, is_in_small, is_print, is_spelled, is_type, small_of};
+ghost use Rattle.psy_expect.specs.Foreigns.{foreign_of, is_in_small, is_kind_type, is_print, is_signed_type, is_spelled, is_type, is_unsigned_type, small_of};
 
 use crate::terminal::{EVERY, Terminal};
 use psy_token::word_spelling;
@@ -40,9 +40,15 @@ pub enum Foreign {
     Wait,
     /// Words that print.
     Print,
+    /// `struct` and its kin.
+    Structure,
+    /// `extern` and its kin.
+    External,
+    /// `sizeof`
+    Size,
 }
 
-const FOREIGN: [Foreign; 16] = [
+const FOREIGN: [Foreign; 19] = [
     Foreign::For,
     Foreign::Loop,
     Foreign::Jump,
@@ -59,6 +65,9 @@ const FOREIGN: [Foreign; 16] = [
     Foreign::Logical,
     Foreign::Wait,
     Foreign::Print,
+    Foreign::Structure,
+    Foreign::External,
+    Foreign::Size,
 ];
 
 /// What word of another language a name is.
@@ -122,11 +131,28 @@ fn is_spelled(foreign: Foreign, name: &[u8]) -> bool
                     || (name == b"sleep".as_slice() || name == b"pause".as_slice()))
         }
         Foreign::Print => is_print(name),
+        Foreign::Structure => {
+            name == b"struct".as_slice()
+                || (name == b"union".as_slice()
+                    || (name == b"class".as_slice() || name == b"typedef".as_slice()))
+        }
+        Foreign::External => {
+            name == b"extern".as_slice()
+                || (name == b"import".as_slice()
+                    || (name == b"include".as_slice() || name == b"using".as_slice()))
+        }
+        Foreign::Size => name == b"sizeof".as_slice(),
     }
 }
 
 fn is_type(name: &[u8]) -> bool
     ensures { result ≡ is_type name.now }
+{
+    is_kind_type(name) || (is_signed_type(name) || is_unsigned_type(name))
+}
+
+fn is_kind_type(name: &[u8]) -> bool
+    ensures { result ≡ is_kind_type name.now }
 {
     name == b"float".as_slice()
         || (name == b"double".as_slice()
@@ -136,8 +162,40 @@ fn is_type(name: &[u8]) -> bool
                         || (name == b"long".as_slice()
                             || (name == b"short".as_slice()
                                 || (name == b"unsigned".as_slice()
-                                    || (name == b"integer".as_slice()
-                                        || name == b"string".as_slice()))))))))
+                                    || (name == b"signed".as_slice()
+                                        || (name == b"integer".as_slice()
+                                            || (name == b"string".as_slice()
+                                                || (name == b"uint".as_slice()
+                                                    || name == b"size_t".as_slice())))))))))))
+}
+
+fn is_signed_type(name: &[u8]) -> bool
+    ensures { result ≡ is_signed_type name.now }
+{
+    name == b"int8_t".as_slice()
+        || (name == b"int16_t".as_slice()
+            || (name == b"int32_t".as_slice()
+                || (name == b"int64_t".as_slice()
+                    || (name == b"i8".as_slice()
+                        || (name == b"i16".as_slice()
+                            || (name == b"i32".as_slice() || name == b"i64".as_slice()))))))
+}
+
+fn is_unsigned_type(name: &[u8]) -> bool
+    ensures { result ≡ is_unsigned_type name.now }
+{
+    name == b"uint8_t".as_slice()
+        || (name == b"uint16_t".as_slice()
+            || (name == b"uint32_t".as_slice()
+                || (name == b"uint64_t".as_slice()
+                    || (name == b"uint8".as_slice()
+                        || (name == b"uint16".as_slice()
+                            || (name == b"uint32".as_slice()
+                                || (name == b"uint64".as_slice()
+                                    || (name == b"u8".as_slice()
+                                        || (name == b"u16".as_slice()
+                                            || (name == b"u32".as_slice()
+                                                || name == b"u64".as_slice()))))))))))
 }
 
 fn is_print(name: &[u8]) -> bool

@@ -21,10 +21,16 @@ pub enum Hint {
     Constant,
     /// `const`, `static` and their kin.
     Modifier,
+    /// `void` in the place of parameters.
+    NoParameters,
     /// A function without a value.
     Void,
     /// A function begins with another word.
     FunctionWord,
+    /// `struct` and its kin.
+    Structure,
+    /// `extern` and its kin.
+    External,
     /// A loop in the manner of C.
     NoFor,
     /// Another loop than `while`.
@@ -53,6 +59,8 @@ pub enum Hint {
     ValueAlone,
     /// `tick` where a clock is named.
     TickAsClock,
+    /// `++` or `--` in a value.
+    IncrementWithin,
     /// `++` or `--`.
     Increment,
     /// `+=` and its kin.
@@ -65,8 +73,14 @@ pub enum Hint {
     Unlike,
     /// `**`.
     Power,
+    /// `->`.
+    Arrow,
+    /// A `*` or a `&` for an address.
+    Pointer,
     /// A plus before an operand.
     UnaryPlus,
+    /// `sizeof`
+    Sizeof,
     /// A `]` that is missing.
     Square,
     /// Values of an array in braces.
@@ -95,6 +109,12 @@ pub enum Hint {
     Prototype,
     /// `past`, `ready` or `take` without brackets.
     Brackets,
+    /// A name or an expression behind `max`.
+    MaxAlone,
+    /// The same behind `advance`.
+    AdvanceAlone,
+    /// A sign before a number that has none.
+    Signed,
     /// A name or an expression where a number stands.
     NumberAlone,
     /// A comma, or a type, that is too much.
@@ -137,6 +157,8 @@ pub enum Hint {
     Semicolon,
     /// Something else that is missing.
     Missing,
+    /// A block by itself.
+    Block,
     /// An expression where `past`, `ready` and `take` want a name.
     LookName,
     /// A type in brackets before a value.
@@ -185,15 +207,18 @@ pub enum Hint {
     FormAssign,
 }
 
-const HINTS: [Hint; 87] = [
+const HINTS: [Hint; 98] = [
     Hint::FunctionInside,
     Hint::DeclarationInBody,
     Hint::DeclarationBehindBody,
     Hint::Width,
     Hint::Constant,
     Hint::Modifier,
+    Hint::NoParameters,
     Hint::Void,
     Hint::FunctionWord,
+    Hint::Structure,
+    Hint::External,
     Hint::NoFor,
     Hint::OtherLoop,
     Hint::Jump,
@@ -208,13 +233,18 @@ const HINTS: [Hint; 87] = [
     Hint::Print,
     Hint::ValueAlone,
     Hint::TickAsClock,
+    Hint::IncrementWithin,
     Hint::Increment,
     Hint::Compound,
     Hint::LessOrEqual,
     Hint::NotEqual,
     Hint::Unlike,
     Hint::Power,
+    Hint::Arrow,
+    Hint::Pointer,
     Hint::UnaryPlus,
+    Hint::Sizeof,
+    Hint::Cast,
     Hint::Square,
     Hint::Cells,
     Hint::Dimension,
@@ -229,6 +259,9 @@ const HINTS: [Hint; 87] = [
     Hint::Call,
     Hint::Prototype,
     Hint::Brackets,
+    Hint::MaxAlone,
+    Hint::AdvanceAlone,
+    Hint::Signed,
     Hint::NumberAlone,
     Hint::LeaveOut,
     Hint::EmptyCondition,
@@ -252,8 +285,8 @@ const HINTS: [Hint; 87] = [
     Hint::FormTick,
     Hint::NoSemicolon,
     Hint::Missing,
+    Hint::Block,
     Hint::LookName,
-    Hint::Cast,
     Hint::ReservedCall,
     Hint::Reserved,
     Hint::SemicolonAtEnd,
@@ -307,8 +340,14 @@ pub fn hint_words(hint: Hint) -> &'static [u8]
             b"there are no named constants: write the number, or a function that returns it, as in `int limit() { return 5; }`",
         Hint::Modifier =>
             b"there is no `const`, `static` or the like: leave it out; an agent's variables keep their values from action to action",
+        Hint::NoParameters =>
+            b"a function without parameters is written with nothing in its brackets, as in `int f() { return 0; }`: leave `void` out",
         Hint::Void => b"each function gives a value: write `int f(..) { .. return ..; }`",
         Hint::FunctionWord => b"a function begins with `int`, as in `int f(int a) { return a; }`",
+        Hint::Structure =>
+            b"there is no `struct` and no `typedef`: each value is an `int`, and an agent has arrays of them, as in `int a[4];`",
+        Hint::External =>
+            b"a program is one file, and takes nothing from others: leave this out, and declare here what it needs",
         Hint::NoFor => b"there is no `for`: count in a `while (..) max N { .. }`",
         Hint::OtherLoop =>
             b"the only loop is `while (..) max N { .. }`; a `body` begins again by itself",
@@ -327,13 +366,21 @@ pub fn hint_words(hint: Hint) -> &'static [u8]
         Hint::ValueAlone => b"a value is no statement: give it to a variable, as in `n = take(s);`",
         Hint::TickAsClock =>
             b"`tick` is no clock by itself: declare one, as in `clock each = 1 * tick;`",
+        Hint::IncrementWithin =>
+            b"there is no `++` and no `--`: write a statement of its own, as in `v = v - 1;`",
         Hint::Increment => b"there is no `++` and no `--`: write `v = v + 1;`",
         Hint::Compound => b"there is no `+=`, nor its kin: write `v = v + ..;`",
         Hint::LessOrEqual => b"`<=` and `>=` are written with the `=` behind",
         Hint::NotEqual => b"`!=` is written with the `=` behind",
         Hint::Unlike => b"that two values differ is written `!=`",
         Hint::Power => b"there is no `**`: write a product",
+        Hint::Arrow =>
+            b"there is no `->`, and names have no parts: write the name alone, or what looks at it, as in `take(s)`",
+        Hint::Pointer =>
+            b"there are no pointers and no addresses: a name stands for its value, and a function gives one value, by `return`",
         Hint::UnaryPlus => b"there is no `+` before a value: leave it out",
+        Hint::Sizeof =>
+            b"there is no `sizeof`: write the number of cells with which the array is declared",
         Hint::Square => b"a `]` is missing before this",
         Hint::Cells =>
             b"the cells of an array begin at 0, as in `int a[4];`, and each is assigned by itself, as in `a[0] = 1;`",
@@ -344,10 +391,11 @@ pub fn hint_words(hint: Hint) -> &'static [u8]
         Hint::NoValue => b"a variable has a first value, as in `int n = 0;`",
         Hint::NameAlone => b"a name is no statement: assign to it, as in `v = 1;`",
         Hint::NoResult =>
-            b"a function gives a value, which stands behind `return`, as in `return 0;`",
+            b"a function gives a value, as in `return 0;`; a `body` has no `return`: what an action does ends at its `advance`",
         Hint::Chain =>
             b"an assignment has no value: write a statement for each variable; a comparison is written `==`",
-        Hint::Comparison => b"a comparison is written `==`",
+        Hint::Comparison =>
+            b"a comparison is written `==`; `=` assigns, in a statement of its own before this one, as in `n = take(s);`",
         Hint::Assignment => b"an assignment is written `=`",
         Hint::OneByOne =>
             b"a declaration has one name, and a statement one assignment: end it with `;`, and begin another",
@@ -383,6 +431,8 @@ pub fn hint_words(hint: Hint) -> &'static [u8]
         Hint::ElseAlone => b"an `else` stands directly behind the `}` of its `if`",
         Hint::Semicolon => b"a `;` is missing before this",
         Hint::Missing => b"",
+        Hint::Block =>
+            b"a block stands behind a condition or `else` alone: leave this `{` and its `}` out",
         Hint::LookName =>
             b"`past`, `ready` and `take` have a name alone in their brackets, as in `past(v, 0) + 1`",
         Hint::Cast =>
@@ -392,6 +442,12 @@ pub fn hint_words(hint: Hint) -> &'static [u8]
         Hint::Reserved => b"this word is reserved, and can't be a name: choose another",
         Hint::Brackets =>
             b"what is looked at stands in brackets: `past(v, 0)`, `ready(s)`, `take(s)`",
+        Hint::MaxAlone =>
+            b"behind `max` stands a number alone, from 1 to 65536: no sign, no name and no expression; a loop may end sooner by its condition",
+        Hint::AdvanceAlone =>
+            b"behind `advance` stands a number alone, from 1 to 1024: no sign, no name and no expression",
+        Hint::Signed =>
+            b"here stands a number alone, and without a sign: it tells how many, and is never below 0",
         Hint::NumberAlone => b"here stands a number alone, and neither a name nor an expression",
         Hint::SemicolonAtEnd => b"a `;` is missing before this",
         Hint::FunctionArray => b"arrays stand in an agent, before its `body`: a function has none",

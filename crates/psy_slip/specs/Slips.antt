@@ -1,5 +1,5 @@
 -- What is wrong with a line of inputs or of a script: the word at fault, and what is missing.
-use Rattle.std.specs.Prelude.{ℕ, Bool, ◌==◌, not, ◌||◌, if◌then◌else◌, List, [], ◌∷◌, ◌++◌, find, drop, length, take, codes, bytes_eq}
+use Rattle.std.specs.Prelude.{ℕ, Bool, false, ◌==◌, not, ◌||◌, if◌then◌else◌, List, [], ◌∷◌, ◌++◌, find, drop, length, take, codes, bytes_eq}
 use Rattle.std.specs.Prelude.{Option, None, Some}
 use Rattle.std.specs.List.{list_any}
 use Rattle.psy_slip.specs.declared.slip.File.{File}
@@ -50,14 +50,39 @@ values_slip name [] = no_value name
 values_slip name (word ∷ more) =
     of_word (find (λ w. not (is_value w)) (word ∷ more)) (codes " is no value: a value is 1 to 12 digits, behind a `-` where it is negative")
 
+-- A date stands before the name, or behind it with a `@` (64) between.
+abbrev pub has_date : List (List ℕ) → Bool
+has_date [] = false
+has_date (word ∷ words) = is_number word || list_any (λ b. b == 64) word
+
+-- What is told of such a line
+abbrev pub date_told : List ℕ
+date_told = codes "inputs have no dates: behind a name stand its values, one for each date of its clock, as in `target 200 300`"
+
+-- A word holds `=` (61) or `:` (58), which no name and no value does.
+abbrev pub has_equal : List ℕ → Bool
+has_equal word = list_any (λ b. b == 61) word || list_any (λ b. b == 58) word
+
+-- What is told of a line in which a word holds one
+abbrev pub equal_told : List ℕ
+equal_told = codes "between a name and its values stand blanks alone: leave each `=` and `:` out, as in `target 200 300`"
+
+-- What is told of a line of inputs in which a date or such a sign stands
+abbrev pub listing_told : List (List ℕ) → Option (List ℕ)
+listing_told words = if has_date words then Some date_told else if list_any has_equal words then Some equal_told else None
+
 -- What is wrong with the form of a line of inputs, by its words
 abbrev pub listing_slip : List (List ℕ) → List ℕ
 listing_slip [] = []
 listing_slip (name ∷ values) = values_slip name values
 
--- The same, or that a comment or a comma stands in it
+-- The same, or that a date or a sign stands in it
+abbrev pub listing_said : List (List ℕ) → List ℕ
+listing_said words = told_or (listing_told words) (listing_slip words)
+
+-- The same, or that a comment or a comma does
 abbrev pub listing_form : List (List ℕ) → List ℕ
-listing_form words = told_or (sign_told words) (listing_slip words)
+listing_form words = told_or (sign_told words) (listing_said words)
 
 -- A name is no input of the program; in one with a point (46 is `.`) an agent may be named before it.
 abbrev pub no_input : List ℕ → List ℕ
@@ -70,9 +95,13 @@ abbrev pub input_slip : List (List ℕ) → List ℕ
 input_slip [] = []
 input_slip (name ∷ values) = quoted name ++ no_input name
 
--- The same, or that a comment or a comma stands there
+-- The same, or that a date or a sign stands there
+abbrev pub input_said : List (List ℕ) → List ℕ
+input_said words = told_or (listing_told words) (input_slip words)
+
+-- The same, or that a comment or a comma does
 abbrev pub unknown_slip : List (List ℕ) → List ℕ
-unknown_slip words = told_or (sign_told words) (input_slip words)
+unknown_slip words = told_or (sign_told words) (input_said words)
 
 -- What is wrong with the form of a stall, by the words behind `stall`: its agent, and three numbers
 unfoldable pub stall_slip : List (List ℕ) → List ℕ

@@ -6,7 +6,7 @@ ghost use Rattle.psy_slip.specs.Agents.{strangers, strangers_told};
 ghost use Rattle.psy_slip.specs.Earlier.{first_like};
 ghost use Rattle.psy_slip.specs.Slips.{agent_form, agent_slip, cycle_slip, inputs_slip, listed_slip, listing_slip, names_slip, no_value, order_slip, said_slip};
 ghost use Rattle.psy_slip.specs.Slips.{begins_comment, has_comma, has_comment, input_slip, listing_form, no_input, script_slip, sign_told, slip, slip_line};
-ghost use Rattle.psy_slip.specs.Slips.{stall_slip, statement_form, statement_slip};
+ghost use Rattle.psy_slip.specs.Slips.{has_date, has_equal, input_said, listing_said, listing_told, stall_slip, statement_form, statement_slip};
 ghost use Rattle.psy_slip.specs.Slips.{unknown_slip, values_slip};
 ghost use Rattle.psy_text.specs.Lines.{begins_with};
 ghost use Rattle.psy_text.specs.Words.{is_number, is_value, words_of};
@@ -97,21 +97,41 @@ fn add_inputs(
     }
 }
 
-// The form of a line of inputs, or a comment or a comma in it.
+// The form of a line of inputs, or a comment, a comma, a date or a sign in it.
 fn add_listing_form(out: &mut Vec<u8>, words: &[&[u8]]) -> Result<(), AllocError>
     ensures { OnOk result (out.new.items ≡ out.old.items ++ listing_form (map (λ w. w.now) words.now)) }
 {
     match sign_told(words) {
         Some(told) => out.extend_from_slice(told),
+        None => add_listing_said(out, words),
+    }
+}
+
+// The form of a line of inputs, or a date or a sign in it.
+fn add_listing_said(out: &mut Vec<u8>, words: &[&[u8]]) -> Result<(), AllocError>
+    ensures { OnOk result (out.new.items ≡ out.old.items ++ listing_said (map (λ w. w.now) words.now)) }
+{
+    match listing_told(words) {
+        Some(told) => out.extend_from_slice(told),
         None => add_listing(out, words),
     }
 }
 
-// A name that is no input, or a comment or a comma.
+// A name that is no input, or a comment, a comma, a date or a sign.
 fn add_unknown(out: &mut Vec<u8>, words: &[&[u8]]) -> Result<(), AllocError>
     ensures { OnOk result (out.new.items ≡ out.old.items ++ unknown_slip (map (λ w. w.now) words.now)) }
 {
     match sign_told(words) {
+        Some(told) => out.extend_from_slice(told),
+        None => add_input_said(out, words),
+    }
+}
+
+// A name that is no input, or a date or a sign.
+fn add_input_said(out: &mut Vec<u8>, words: &[&[u8]]) -> Result<(), AllocError>
+    ensures { OnOk result (out.new.items ≡ out.old.items ++ input_said (map (λ w. w.now) words.now)) }
+{
+    match listing_told(words) {
         Some(told) => out.extend_from_slice(told),
         None => add_input(out, words),
     }
@@ -157,6 +177,53 @@ fn sign_told(words: &[&[u8]]) -> Option<&'static [u8]>
     } else {
         None
     }
+}
+
+// What is told of a line of inputs in which a date stands, or a sign between the name and its values.
+fn listing_told(words: &[&[u8]]) -> Option<&'static [u8]>
+    ensures { option_copied result ≡ listing_told (map (λ w. w.now) words.now) }
+{
+    if has_date(words) {
+        Some(
+            b"inputs have no dates: behind a name stand its values, one for each date of its clock, as in `target 200 300`",
+        )
+    } else if have_equal(words) {
+        Some(
+            b"between a name and its values stand blanks alone: leave each `=` and `:` out, as in `target 200 300`",
+        )
+    } else {
+        None
+    }
+}
+
+// Does a date stand before the name, or behind it with a `@` between?
+fn has_date(words: &[&[u8]]) -> bool
+    ensures { result ≡ has_date (map (λ w. w.now) words.now) }
+{
+    match words {
+        [] => false,
+        [word, ..] => is_number(word) || has_byte(word, b'@'),
+    }
+}
+
+// Does one of these words hold `=` or `:`?
+fn have_equal(words: &[&[u8]]) -> bool
+    ensures { result ≡ list_any has_equal (map (λ w. w.now) words.now) }
+{
+    let mut rest = words;
+    'each: while let [word, more @ ..] = rest {
+        if has_equal(word) {
+            return true;
+        }
+        rest = more;
+    }
+    false
+}
+
+fn has_equal(word: &[u8]) -> bool
+    ensures { result ≡ has_equal word.now }
+{
+    has_byte(word, b'=') || has_byte(word, b':')
 }
 
 // Does one of these words hold a comma?

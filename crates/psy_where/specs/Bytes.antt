@@ -4,7 +4,7 @@ use Rattle.std.specs.Char.{is_ascii_digit}
 use Rattle.std.specs.List.{suffix_len}
 use Rattle.psy_tree.specs.Lexemes.{is_in_word}
 use Rattle.psy_where.specs.declared.byte.ByteSlip.{ByteSlip}
-use Rattle.psy_where.specs.declared.byte.ByteSlip.TheVariants.{Nested, Fraction, Base, Zero, UnitBehind, Part, Point, Directive, Choice, Colon}
+use Rattle.psy_where.specs.declared.byte.ByteSlip.TheVariants.{Nested, Fraction, Base, Zero, UnitBehind, Part, Point, Directive, Include, Choice, Colon}
 use Rattle.psy_where.specs.declared.byte.ByteSlip.TheVariants.{Quote, NoSign, Unseen, Dash, Beyond, Define, Becomes, Label}
 
 -- A comment is closed in these bytes before one is opened.
@@ -99,6 +99,10 @@ high_slip back = if is_unseen back then Unseen else if is_dash back then Dash el
 abbrev pub begins_define : List ℕ → Bool
 begins_define back = bytes_eq (take 7 back) (codes "#define")
 
+-- The bytes begin with `#include`.
+abbrev pub begins_include : List ℕ → Bool
+begins_include back = bytes_eq (take 8 back) (codes "#include")
+
 -- What stands at a byte with which no token goes on, by the bytes before it, and itself with those behind it; 58 is `:`
 abbrev pub slip_of : List ℕ → List ℕ → ByteSlip
 slip_of front back =
@@ -106,6 +110,7 @@ slip_of front back =
     else if nat_le 128 (first_byte back) then high_slip back
     else if first_byte back == 58 then colon_slip front back
     else if begins_define back then Define
+    else if begins_include back then Include
     else if is_in_number front then number_slip front (first_byte back)
     else if is_in_name front back then Part
     else plain_slip (first_byte back)
@@ -121,6 +126,7 @@ byte_words UnitBehind =
 byte_words Part = codes "names have no parts, and temporal variables are known to all agents: write the name behind the point alone"
 byte_words Point = codes "there are no fractions, and names have no parts: leave the point out"
 byte_words Directive = codes "a comment is written `/* .. */` or `// ..`, and there are no directives"
+byte_words Include = codes "there are no directives, and a program is one file: leave this out, and declare here what it needs"
 byte_words Define =
     codes "there are no directives and no named constants: write the number, or a function that returns it, as in `int limit() { return 5; }`"
 byte_words Choice = codes "there is no `? :`: write `if (..) { .. } else { .. }`"

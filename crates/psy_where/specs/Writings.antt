@@ -2,7 +2,7 @@
 use Rattle.std.specs.Prelude.{ℕ, ◌&&◌, if◌then◌else◌, List, [], ◌∷◌, ◌++◌, codes, bytes_eq, Option, None, Some}
 use Rattle.psy_text.specs.Words.{is_number, is_value}
 use Rattle.psy_where.specs.declared.written.Written.{Written}
-use Rattle.psy_where.specs.declared.written.Written.TheVariants.{Value, Message, Overrun, Trap, End, Feasible, VariableSize, StreamSize}
+use Rattle.psy_where.specs.declared.written.Written.TheVariants.{Value, Message, Overrun, Divide, Index, Loop, Take, End, Feasible, VariableSize, StreamSize}
 use Rattle.psy_where.specs.declared.written.Written.TheVariants.{Agent, Variable, Stream, Rate, Edge, Node}
 
 -- `stop AGENT overrun`, or `STREAM msg VALUE`
@@ -12,9 +12,18 @@ of_three_dated one two three =
     else if bytes_eq two (codes "msg") && is_value three then Some Message
     else None
 
--- `stop AGENT trap KIND`, by its first word and its third
-abbrev pub of_four_dated : List ℕ → List ℕ → Option Written
-of_four_dated one three = if bytes_eq one (codes "stop") && bytes_eq three (codes "trap") then Some Trap else None
+-- The kind of a trap
+abbrev pub trap_of : List ℕ → Option Written
+trap_of kind =
+    if bytes_eq kind (codes "divide") then Some Divide
+    else if bytes_eq kind (codes "index") then Some Index
+    else if bytes_eq kind (codes "loop") then Some Loop
+    else if bytes_eq kind (codes "take") then Some Take
+    else None
+
+-- `stop AGENT trap KIND`, but for its second word
+abbrev pub of_four_dated : List ℕ → List ℕ → List ℕ → Option Written
+of_four_dated one three kind = if bytes_eq one (codes "stop") && bytes_eq three (codes "trap") then trap_of kind else None
 
 -- `VARIABLE VALUE`, by its second word
 abbrev pub of_two_dated : List ℕ → Option Written
@@ -23,7 +32,7 @@ of_two_dated two = if is_value two then Some Value else None
 -- What stands behind a date: three words, and what follows them
 abbrev pub behind_three : List ℕ → List ℕ → List ℕ → List (List ℕ) → Option Written
 behind_three one two three [] = of_three_dated one two three
-behind_three one two three (kind ∷ []) = of_four_dated one three
+behind_three one two three (kind ∷ []) = of_four_dated one three kind
 behind_three one two three _ = None
 
 -- The same by two words
@@ -73,8 +82,14 @@ written_words Value = codes "it is the value of a temporal variable at a date"
 written_words Message = codes "it is a message, which can be seen from a date on"
 written_words Overrun =
     codes "an action that was due at this date overran its budget, and its agent is silent from then on: `psyc graph` tells WORST, which is enough"
-written_words Trap =
-    codes "an action that was due at this date trapped, by `divide`, `index`, `loop` or `take`, and its agent is silent from then on"
+written_words Divide =
+    codes "an action that was due at this date trapped at a division by 0, and its agent is silent from then on: test the divisor before `/` and `%`"
+written_words Index =
+    codes "an action that was due at this date trapped at an index outside its array, and its agent is silent from then on: test the index before"
+written_words Loop =
+    codes "an action that was due at this date trapped behind the last turn of a loop, and its agent is silent from then on: a greater `max` helps"
+written_words Take =
+    codes "an action that was due at this date trapped at a `take` without a message, and its agent is silent from then on: ask `ready` before"
 written_words End = codes "the run came to its end at this date"
 written_words Feasible = codes "over each length, up to this date or without an end, the demand is supplied"
 written_words VariableSize = codes "so many values of a variable are kept"

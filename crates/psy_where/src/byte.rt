@@ -2,8 +2,8 @@
 ghost use Rattle.std.specs.Prelude.{◌≡◌, ◌≤◌, length};
 ghost use Rattle.std.specs.List.{suffix_len};
 ghost use Rattle.psy_tree.specs.Lexemes.{is_in_word};
-ghost use Rattle.psy_where.specs.Bytes.{begins_define, byte_words, closes_first, colon_slip, first_byte, high_slip, is_dash, is_in_name, is_in_number};
-ghost use Rattle.psy_where.specs.Bytes.{is_label, is_unseen, number_slip, plain_slip, second_byte, slip_of, word_back, word_front};
+ghost use Rattle.psy_where.specs.Bytes.{begins_define, begins_include, byte_words, closes_first, colon_slip, first_byte, high_slip, is_dash};
+ghost use Rattle.psy_where.specs.Bytes.{is_in_name, is_in_number, is_label, is_unseen, number_slip, plain_slip, second_byte, slip_of, word_back, word_front};
 
 use psy_text::run::is_in_word;
 
@@ -28,6 +28,8 @@ pub enum ByteSlip {
     Directive,
     /// `#define`
     Define,
+    /// `#include`
+    Include,
     /// `?`
     Choice,
     /// `:`
@@ -60,6 +62,8 @@ pub fn slip_of(front: &[u8], back: &[u8]) -> ByteSlip
         colon_slip(front, back)
     } else if begins_define(back) {
         ByteSlip::Define
+    } else if begins_include(back) {
+        ByteSlip::Include
     } else if is_in_number(front) {
         number_slip(front, first_byte(back))
     } else if is_in_name(front, back) {
@@ -166,6 +170,12 @@ fn begins_define(back: &[u8]) -> bool
     back.starts_with(b"#define")
 }
 
+fn begins_include(back: &[u8]) -> bool
+    ensures { result ≡ begins_include back.now }
+{
+    back.starts_with(b"#include")
+}
+
 // What a byte directly behind a number is.
 fn number_slip(front: &[u8], byte: u8) -> ByteSlip
     ensures { result ≡ number_slip front.now byte }
@@ -255,6 +265,8 @@ pub fn byte_words(slip: ByteSlip) -> &'static [u8]
         ByteSlip::Point => b"there are no fractions, and names have no parts: leave the point out",
         ByteSlip::Directive =>
             b"a comment is written `/* .. */` or `// ..`, and there are no directives",
+        ByteSlip::Include =>
+            b"there are no directives, and a program is one file: leave this out, and declare here what it needs",
         ByteSlip::Define =>
             b"there are no directives and no named constants: write the number, or a function that returns it, as in `int limit() { return 5; }`",
         ByteSlip::Choice => b"there is no `? :`: write `if (..) { .. } else { .. }`",

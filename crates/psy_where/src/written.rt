@@ -1,7 +1,7 @@
 //! The lines that psyc writes and that refuse nothing.
 ghost use Rattle.std.specs.Prelude.{◌≡◌, map};
 ghost use Rattle.psy_where.specs.Writings.{behind_three, behind_two, dated_of, headed_of, of_four, of_four_dated, of_three, of_three_dated};
-ghost use Rattle.psy_where.specs.Writings.{of_two, of_two_dated, written_of, written_words};
+ghost use Rattle.psy_where.specs.Writings.{of_two, of_two_dated, trap_of, written_of, written_words};
 
 use psy_text::word::{is_number, is_value};
 
@@ -14,8 +14,14 @@ pub enum Written {
     Message,
     /// `DATE stop AGENT overrun`
     Overrun,
-    /// `DATE stop AGENT trap KIND`
-    Trap,
+    /// `DATE stop AGENT trap divide`
+    Divide,
+    /// `DATE stop AGENT trap index`
+    Index,
+    /// `DATE stop AGENT trap loop`
+    Loop,
+    /// `DATE stop AGENT trap take`
+    Take,
     /// `end UNTIL`
     End,
     /// `feasible ..`
@@ -78,7 +84,7 @@ fn behind_three(one: &[u8], two: &[u8], three: &[u8], behind: &[&[u8]]) -> Optio
 {
     match behind {
         [] => of_three_dated(one, two, three),
-        [_] => of_four_dated(one, three),
+        [kind] => of_four_dated(one, three, kind),
         _ => None,
     }
 }
@@ -105,11 +111,28 @@ fn of_three_dated(one: &[u8], two: &[u8], three: &[u8]) -> Option<Written>
     }
 }
 
-fn of_four_dated(one: &[u8], three: &[u8]) -> Option<Written>
-    ensures { result ≡ of_four_dated one.now three.now }
+fn of_four_dated(one: &[u8], three: &[u8], kind: &[u8]) -> Option<Written>
+    ensures { result ≡ of_four_dated one.now three.now kind.now }
 {
     if one == b"stop".as_slice() && three == b"trap".as_slice() {
-        Some(Written::Trap)
+        trap_of(kind)
+    } else {
+        None
+    }
+}
+
+// The kind of a trap.
+fn trap_of(kind: &[u8]) -> Option<Written>
+    ensures { result ≡ trap_of kind.now }
+{
+    if kind == b"divide".as_slice() {
+        Some(Written::Divide)
+    } else if kind == b"index".as_slice() {
+        Some(Written::Index)
+    } else if kind == b"loop".as_slice() {
+        Some(Written::Loop)
+    } else if kind == b"take".as_slice() {
+        Some(Written::Take)
     } else {
         None
     }
@@ -179,8 +202,14 @@ pub fn written_words(written: Written) -> &'static [u8]
         Written::Message => b"it is a message, which can be seen from a date on",
         Written::Overrun =>
             b"an action that was due at this date overran its budget, and its agent is silent from then on: `psyc graph` tells WORST, which is enough",
-        Written::Trap =>
-            b"an action that was due at this date trapped, by `divide`, `index`, `loop` or `take`, and its agent is silent from then on",
+        Written::Divide =>
+            b"an action that was due at this date trapped at a division by 0, and its agent is silent from then on: test the divisor before `/` and `%`",
+        Written::Index =>
+            b"an action that was due at this date trapped at an index outside its array, and its agent is silent from then on: test the index before",
+        Written::Loop =>
+            b"an action that was due at this date trapped behind the last turn of a loop, and its agent is silent from then on: a greater `max` helps",
+        Written::Take =>
+            b"an action that was due at this date trapped at a `take` without a message, and its agent is silent from then on: ask `ready` before",
         Written::End => b"the run came to its end at this date",
         Written::Feasible =>
             b"over each length, up to this date or without an end, the demand is supplied",
