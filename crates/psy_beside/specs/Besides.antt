@@ -9,6 +9,7 @@ use Rattle.psy_tree.specs.declared.token.Token.{Token}
 use Rattle.psy_tree.specs.declared.token.Word.{Word}
 use Rattle.psy_tree.specs.declared.token.Word.TheVariants.{Agent, Input}
 use Rattle.psy_beside.specs.Declared.{declared, is_declared, near_declared}
+use Rattle.psy_beside.specs.Inputs.{inputs_of, inputs_told, other_told, other_word}
 
 -- The program declares a name that may be meant.
 abbrev pub meant : List ℕ → Option (List ℕ) → List ℕ
@@ -26,9 +27,14 @@ abbrev pub left_out : List (List ℕ) → List Token → List ℕ
 left_out names [] = []
 left_out names (token ∷ more) = left_out_here names (declared Agent (token ∷ more)) ++ left_out names more
 
--- The input that may be meant by a name
+-- The input that may be meant, or else which inputs there are
+abbrev pub meant_or_all : Option (List ℕ) → List Token → List ℕ
+meant_or_all None tokens = inputs_told (inputs_of tokens)
+meant_or_all (Some name) tokens = meant (codes "an input ") (Some name)
+
+-- What is told of a name that is no input: what else it is; and the input that may be meant by it, or else which inputs there are
 abbrev pub input_meant : List ℕ → List Token → List ℕ
-input_meant name tokens = meant (codes "an input ") (near_declared Input name tokens)
+input_meant name tokens = other_told name (other_word name tokens) ++ meant_or_all (near_declared Input name tokens) tokens
 
 -- The agent that may be meant by a name
 abbrev pub agent_meant : List ℕ → List Token → List ℕ

@@ -3,10 +3,11 @@ ghost use Rattle.std.specs.Prelude.{◌≡◌, ◌++◌, IfOk, OnOk, Some, bytes
 ghost use Rattle.std.specs.List.{list_any};
 ghost use Rattle.std.specs.Option.{option_copied};
 ghost use Rattle.psy_beside.specs.Besides.{agent_meant, beside_hint, first_stranger, first_unknown, input_meant, inputs_beside, left_out, left_out_here, meant};
-ghost use Rattle.psy_beside.specs.Besides.{names_beside, no_agent, order_beside, script_beside, stranger_told};
+ghost use Rattle.psy_beside.specs.Besides.{meant_or_all, names_beside, no_agent, order_beside, script_beside, stranger_told};
 ghost use Rattle.psy_slip.specs.Told.{quoted};
 
 use crate::declared::{declared, is_declared, near_declared};
+use crate::inputs::{add_inputs_told, add_other, inputs_of, other_word};
 use psy_base::Memory;
 use psy_slip::File;
 use psy_slip::told::add_quoted;
@@ -14,8 +15,8 @@ use psy_text::word::is_number;
 use psy_tree::{Token, Word};
 use std::alloc::{AllocError, Global};
 
-/// What a program's tokens tell of a line, by its words, in which the fault of this number was found: a name that may be meant, or the agents that an order
-/// leaves out. Nothing where they tell nothing. The only error is want of memory.
+/// What a program's tokens tell of a line, by its words, in which the fault of this number was found: what else a name is, and a name that may be meant or
+/// the inputs that there are; or the agents that an order leaves out. Nothing where they tell nothing. The only error is want of memory.
 pub fn beside_hint(
     alloc: Global,
     file: File,
@@ -26,11 +27,12 @@ pub fn beside_hint(
     ensures { IfOk result (λ hint. hint.items ≡ beside_hint file number (map (λ w. w.now) words.now) tokens.now) }
 {
     let mut out = Vec::new(alloc);
-    add_beside(&mut out, file, number, words, tokens)?;
+    add_beside(alloc, &mut out, file, number, words, tokens)?;
     Ok(out)
 }
 
 fn add_beside(
+    alloc: Global,
     out: &mut Vec<u8>,
     file: File,
     number: u32,
@@ -43,7 +45,7 @@ fn add_beside(
         File::Program => Ok(()),
         File::Inputs => {
             if number == 2 {
-                add_inputs_beside(out, words, tokens)
+                add_inputs_beside(alloc, out, words, tokens)
             } else {
                 Ok(())
             }
@@ -52,19 +54,47 @@ fn add_beside(
     }
 }
 
-fn add_inputs_beside(out: &mut Vec<u8>, words: &[&[u8]], tokens: &[Token]) -> Result<(), AllocError>
+fn add_inputs_beside(
+    alloc: Global,
+    out: &mut Vec<u8>,
+    words: &[&[u8]],
+    tokens: &[Token],
+) -> Result<(), AllocError>
     ensures { OnOk result (out.new.items ≡ out.old.items ++ inputs_beside (map (λ w. w.now) words.now) tokens.now) }
 {
     match words {
         [] => Ok(()),
-        [name, ..] => add_input_meant(out, name, tokens),
+        [name, ..] => add_input_meant(alloc, out, name, tokens),
     }
 }
 
-fn add_input_meant(out: &mut Vec<u8>, name: &[u8], tokens: &[Token]) -> Result<(), AllocError>
+fn add_input_meant(
+    alloc: Global,
+    out: &mut Vec<u8>,
+    name: &[u8],
+    tokens: &[Token],
+) -> Result<(), AllocError>
     ensures { OnOk result (out.new.items ≡ out.old.items ++ input_meant name.now tokens.now) }
 {
-    add_meant(out, b"an input ", near_declared(Word::Input, name, tokens))
+    add_other(out, name, other_word(name, tokens))?;
+    add_meant_or_all(alloc, out, near_declared(Word::Input, name, tokens), tokens)
+}
+
+fn add_meant_or_all(
+    alloc: Global,
+    out: &mut Vec<u8>,
+    name: Option<&[u8]>,
+    tokens: &[Token],
+) -> Result<(), AllocError>
+    ensures { OnOk result (out.new.items ≡ out.old.items ++ meant_or_all (option_copied name.entry) tokens.now) }
+{
+    match name {
+        None => {
+            let names = inputs_of(alloc, tokens)?;
+            add_inputs_told(out, names.as_slice())
+        }
+        Some(name) => add_meant_name(out, b"an input ", name),
+    }
 }
 
 fn add_agent_meant(out: &mut Vec<u8>, name: &[u8], tokens: &[Token]) -> Result<(), AllocError>

@@ -4,5 +4,6 @@
 
 mod beside;
 mod declared;
+mod inputs;
 
 pub use beside::beside_hint;

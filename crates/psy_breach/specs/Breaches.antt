@@ -17,7 +17,7 @@ breach_told text tokens front back rule =
     else if rule == 5 then receiver_told tokens front back
     else if rule == 6 then deep_told tokens front
     else if rule == 7 then endless_told
-    else if rule == 8 then mixed_told back
+    else if rule == 8 then mixed_told front back
     else if rule == 9 then quiet_told
     else if rule == 10 then calls_told text tokens front back
     else if rule == 11 then clock_told back

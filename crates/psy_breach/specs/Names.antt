@@ -1,6 +1,6 @@
 -- What is told of a name that is declared twice, that isn't declared, or that is another agent's.
 use Rattle.std.specs.Prelude.{ℕ, Bool, false, ◌||◌, if◌then◌else◌, List, [], ◌∷◌, ◌++◌, codes, find, slice_get, Option, None, Some}
-use Rattle.std.specs.Str.{str_eq_ignore_ascii_case}
+use Rattle.std.specs.Str.{bytes_eq, str_eq_ignore_ascii_case}
 use Rattle.psy_tree.specs.declared.token.Token.{Token}
 use Rattle.psy_tree.specs.declared.token.Word.{Word}
 use Rattle.psy_tree.specs.declared.token.Word.TheVariants as words
@@ -113,10 +113,31 @@ nearly_told text tokens front back =
 abbrev pub cased_word : List ℕ → Option Word
 cased_word name = find (λ word. str_eq_ignore_ascii_case name (word_spelling word)) NEAR_NAMES
 
+-- What is told of `sizeof`
+abbrev pub size_told : List ℕ
+size_told = codes "there is no `sizeof`: write the number of cells with which the array is declared"
+
+-- An operator's name in other languages, in any case
+abbrev pub is_operator_name : List ℕ → Bool
+is_operator_name name =
+    str_eq_ignore_ascii_case name (codes "and") || (str_eq_ignore_ascii_case name (codes "or")
+    || (str_eq_ignore_ascii_case name (codes "not") || str_eq_ignore_ascii_case name (codes "mod")))
+
+-- It stands where a function is called.
+abbrev pub is_operator : List ℕ → Role → Bool
+is_operator name Function = is_operator_name name
+is_operator name _ = false
+
+-- What is told of it
+abbrev pub operator_told : List ℕ
+operator_told = codes "the operators are written `&&`, `||`, `!` and `%`"
+
 -- What is told of a name that nothing in reach declares
 abbrev pub unreached_told : List ℕ → List Token → List Token → List Token → List ℕ
 unreached_told text tokens front back =
     if is_truth (name_at (slice_get back 0)) then codes "there are no `true` and `false`: write 1 and 0"
+    else if bytes_eq (name_at (slice_get back 0)) (codes "sizeof") then size_told
+    else if is_operator (name_at (slice_get back 0)) (role_of front back) then operator_told
     else word_told_or (name_at (slice_get back 0)) (nearly_told text tokens front back) (cased_word (name_at (slice_get back 0)))
 
 -- A clock is derived from one that stands below; or else what is told where there is none.

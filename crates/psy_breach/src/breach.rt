@@ -64,7 +64,7 @@ fn add_breach(
         7 => out.extend_from_slice(
             b"tell how many turns it takes at most, as in `while (..) max 10 { .. }`, or put an `advance` on each way round it",
         ),
-        8 => out.extend_from_slice(mixed_told(back)),
+        8 => out.extend_from_slice(mixed_told(front, back)),
         9 => out.extend_from_slice(
             b"put one at its end: one in a loop, or under an `if` without an `else` that has one too, isn't on each path",
         ),

@@ -2,7 +2,7 @@
 ghost use Rattle.std.specs.Prelude.{◌≡◌, ◌++◌, OnOk};
 ghost use Rattle.std.specs.Option.{option_copied};
 ghost use Rattle.psy_breach.specs.Names.{calls_told, calls_told_of, cased_word, elsewhere_told, first_named};
-ghost use Rattle.psy_breach.specs.Names.{is_inside, is_truth, lack_words, look_way, near_word, near_word_told};
+ghost use Rattle.psy_breach.specs.Names.{is_inside, is_operator, is_operator_name, is_truth, lack_words, look_way, near_word, near_word_told};
 ghost use Rattle.psy_breach.specs.Names.{nearly_told, owner_told, owner_told_of, receiver_told, receiver_told_of};
 ghost use Rattle.psy_breach.specs.Names.{twice_told, unknown_told, unlike_told, unreached_told, way_here, way_to};
 
@@ -99,10 +99,36 @@ fn add_unreached(
     if is_truth(name) {
         return out.extend_from_slice(b"there are no `true` and `false`: write 1 and 0");
     }
+    if name == b"sizeof".as_slice() {
+        return out.extend_from_slice(
+            b"there is no `sizeof`: write the number of cells with which the array is declared",
+        );
+    }
+    if is_operator(name, role_of(front, back)) {
+        return out.extend_from_slice(b"the operators are written `&&`, `||`, `!` and `%`");
+    }
     match cased_word(name) {
         Some(word) => add_near_word(out, name, word),
         None => add_near(out, text, tokens, front, back),
     }
+}
+
+// Is it an operator's name in other languages, and called as a function?
+fn is_operator(name: &[u8], role: Role) -> bool
+    ensures { result ≡ is_operator name.now role }
+{
+    match role {
+        Role::Function => is_operator_name(name),
+        _ => false,
+    }
+}
+
+fn is_operator_name(name: &[u8]) -> bool
+    ensures { result ≡ is_operator_name name.now }
+{
+    name.eq_ignore_ascii_case(b"and")
+        || (name.eq_ignore_ascii_case(b"or")
+            || (name.eq_ignore_ascii_case(b"not") || name.eq_ignore_ascii_case(b"mod")))
 }
 
 // The reserved word that a name is in other case.

@@ -1,17 +1,20 @@
 -- The lemmas of this crate, by subject.
 mod Carrying
 mod Clean
+mod Crowded
 mod Depths
+mod Different
 mod Failing
 mod Joining
+mod Judging
 mod Keeping
 mod Lanes
 mod Last
 mod NameTables
+mod Pictured
 mod Placing
 mod Positions
 mod Refused
-mod Shown
-mod ShownLanes
+mod Rows
 mod Standing
 mod SummaryNames

@@ -3,6 +3,8 @@ use Rattle.std.proofs.Common.{◌≡◌, Result, Ok, Err, ap}
 use Rattle.std.specs.Prelude.{OnOk}
 use Rattle.psy_draw.specs.declared.fault.DrawFault.{DrawFault}
 use Rattle.psy_draw.specs.declared.fault.DrawFault.TheVariants as fault
+use Rattle.psy_draw.specs.declared.room.RoomFault.{RoomFault}
+use Rattle.psy_draw.specs.declared.room.RoomFault.TheVariants as room
 
 -- The fault of a refusal
 fault_of : {T : Type 0} → Result T DrawFault → DrawFault
@@ -14,7 +16,22 @@ pub fault_is : {T : Type 0} (a b : DrawFault) → ◌≡◌ {A = Result T DrawFa
 unfolding fault_of
 fault_is a b e = ap fault_of e
 
+-- The fault of a plan that isn't laid out
+room_fault_of : {T : Type 0} → Result T RoomFault → RoomFault
+room_fault_of (Err f) = f
+room_fault_of (Ok x) = room.Memory
+
+-- Faults that are one
+pub room_fault_is : {T : Type 0} (a b : RoomFault) → ◌≡◌ {A = Result T RoomFault} (Err a) (Err b) → a ≡ b
+unfolding room_fault_of
+room_fault_is a b e = ap room_fault_of e
+
 -- What holds, holds where there is a value.
 pub on_ok : {T E : Type 0} (P : Type 0) (r : Result T E) → P → OnOk r P
 on_ok P (Ok x) p = p
 on_ok P (Err e) p = tt
+
+-- What holds where there is a value, and what follows from it
+pub if_ok : {T E : Type 0} (P Q : Type 0) (r : Result T E) → (P → Q) → OnOk r P → OnOk r Q
+if_ok P Q (Ok x) more p = more p
+if_ok P Q (Err e) more p = tt

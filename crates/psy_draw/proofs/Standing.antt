@@ -1,5 +1,5 @@
 -- What a column keeps of its values.
-use Rattle.std.proofs.Common.{◌≡◌, ℕ, ◌≤◌, suc, ◌+◌, ◌-◌, ◌^◌, min, ◌⊎◌, ⊎_elim, inl, inr, List, [], ◌∷◌, ◌++◌, length, refl, sym, ap, subst, ◌∙◌, arith, length-append, slice_get, Some}
+use Rattle.std.proofs.Common.{◌≡◌, ℕ, suc, ◌+◌, ◌-◌, ◌^◌, min, ◌⊎◌, ⊎_elim, inl, inr, List, [], ◌∷◌, ◌++◌, length, refl, sym, ap, subst, ◌∙◌, arith, length-append, slice_get, Some}
 use Rattle.std.specs.Prelude.{ℤ, ◌≤ℤ◌}
 use Rattle.std.specs.Int.{int_min, int_max}
 use Rattle.std.specs.Int.RustNames.{int_lt}
@@ -48,31 +48,19 @@ stands_more values v c d h first least greatest last more =
       more = omega arith;
     }
 
--- What a column has near, by its place and its first value
-abbrev Near : (ℕ → ℕ) → ℕ → ℤ → Dated → Type 0
-Near place x first v = (place v.date ≤ x) ⊎ (v.value ≡ first)
-
 -- It stands at the place of its one value.
 pub stands_at_one : (place : ℕ → ℕ) (c : Column) → c.x ≡ place c.date → StandsAt place (dated c.date c.first ∷ []) c
-stands_at_one place c at = record {
-  first = ([], refl);
-  at = at;
-  near = All-cons (Near place c.x c.first) (dated c.date c.first) [] (inr refl) (All-nil (Near place c.x c.first));
-}
+stands_at_one place c at = record { first = ([], refl); at = at }
 
--- One more value is near it.
-pub stands_at_more : (place : ℕ → ℕ) (values : List Dated) (v : Dated) (c d : Column) → StandsAt place values c → d.x ≡ c.x → d.date ≡ c.date → d.first ≡ c.first → (place v.date ≤ c.x) ⊎ (v.value ≡ c.first) → StandsAt place (values ++ v ∷ []) d
-stands_at_more place values v c d h x date first near =
-    let P : ℕ → ℤ → Type 0 = λ at one. All (Near place at one) (values ++ v ∷ []) in
-    let all : P c.x c.first = All-append (Near place c.x c.first) values (v ∷ []) h.near (All-cons (Near place c.x c.first) v [] near (All-nil (Near place c.x c.first))) in
-    record {
-      first = (
-        h.first.0 ++ v ∷ [],
-        ap (λ xs. xs ++ v ∷ []) h.first.1 ∙ ap (λ t. dated t c.first ∷ (h.first.0 ++ v ∷ [])) (sym date) ∙ ap (λ f. dated d.date f ∷ (h.first.0 ++ v ∷ [])) (sym first),
-      );
-      at = x ∙ h.at ∙ ap place (sym date);
-      near = subst (λ one. P d.x one) (sym first) (subst (λ at. P at c.first) (sym x) all);
-    }
+-- And where more come behind that one
+pub stands_at_more : (place : ℕ → ℕ) (values : List Dated) (v : Dated) (c d : Column) → StandsAt place values c → d.x ≡ c.x → d.date ≡ c.date → d.first ≡ c.first → StandsAt place (values ++ v ∷ []) d
+stands_at_more place values v c d h x date first = record {
+  first = (
+    h.first.0 ++ v ∷ [],
+    ap (λ xs. xs ++ v ∷ []) h.first.1 ∙ ap (λ t. dated t c.first ∷ (h.first.0 ++ v ∷ [])) (sym date) ∙ ap (λ f. dated d.date f ∷ (h.first.0 ++ v ∷ [])) (sym first),
+  );
+  at = x ∙ h.at ∙ ap place (sym date);
+}
 
 -- The value of a list that a test of its last one speaks of
 pub last_got : (columns : List Column) (c : Column) → slice_get (columns ++ c ∷ []) (length (columns ++ c ∷ []) - 1) ≡ Some c

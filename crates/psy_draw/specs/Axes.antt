@@ -1,7 +1,17 @@
 -- The axis of dates, and the grid.
-use Rattle.std.specs.Prelude.{◌≡◌, ◌≤◌, ◌+◌, ◌-◌, ◌*◌, ◌/◌, ℕ, List, [], ◌++◌, Option, None, Some, codes, cond, decimal, nat_le}
+use Rattle.std.specs.Prelude.{◌+◌, ◌-◌, ◌*◌, ◌/◌, ℕ, List, [], ◌∷◌, ◌++◌, Option, None, Some, codes, cond, decimal, nat_le}
 use Rattle.std.specs.List.{flat_map, range_with_len}
+use Rattle.psy_draw.specs.declared.axis.TheConstants.{LONGEST_STEP, STEPS}
 use Rattle.psy_draw.specs.Places.{x_of}
+
+-- Of these steps the first by which so many dates are crossed in at most 16, and the longest one where none of them does
+abbrev pub step_among : List ℕ → ℕ → ℕ
+step_among [] dates = LONGEST_STEP
+step_among (step ∷ steps) dates = cond (nat_le dates (16 * step)) step (step_among steps dates)
+
+-- The step from tick to tick of so many dates: of 1, 2 and 5 and what is ten, a hundred, .. times these the least by which they are crossed in at most 16
+abbrev pub step_of : ℕ → ℕ
+step_of dates = step_among STEPS dates
 
 -- The first multiple of a step that isn't before a date
 abbrev pub first_tick : ℕ → ℕ → ℕ
@@ -24,10 +34,10 @@ grid_stroke x top bottom = codes "M" ++ (decimal x ++ (codes " " ++ (decimal top
 abbrev pub grid_line : ℕ → ℕ → ℕ → ℕ → ℕ → ℕ → ℕ → ℕ → List ℕ
 grid_line from to grain step left top bottom number = drawn_tick (λ date. grid_stroke (left + x_of from to grain date) top bottom) (tick_by from to step number)
 
--- The lines of the grid
-abbrev pub grid_text : ℕ → ℕ → ℕ → ℕ → ℕ → ℕ → ℕ → List ℕ
-grid_text from to grain step left top bottom =
-    codes "<path class=\"grid\" d=\"" ++ (flat_map (grid_line from to grain step left top bottom) (range_with_len 0 17) ++ codes "\"/>\n")
+-- The lines of the grid, from one height to another
+abbrev pub grid_text : ℕ → ℕ → ℕ → ℕ → ℕ → ℕ → List ℕ
+grid_text from to grain left top bottom =
+    codes "<path class=\"grid\" d=\"" ++ (flat_map (grid_line from to grain (step_of (to - from)) left top bottom) (range_with_len 0 17) ++ codes "\"/>\n")
 
 -- A date at a place
 abbrev pub date_text : ℕ → ℕ → List ℕ
@@ -44,13 +54,6 @@ axis_head left top =
     ++ (decimal (left - 12) ++ codes "\" y=\"19\">date</text>\n")))))
 
 -- The axis at a place: its head, and the dates of the grid
-abbrev pub axis_text : ℕ → ℕ → ℕ → ℕ → ℕ → ℕ → List ℕ
-axis_text from to grain step left top = axis_head left top ++ (flat_map (axis_date from to grain step) (range_with_len 0 17) ++ codes "</g>\n")
-
--- The grid is added to a text, with a step by which all dates are crossed in at most 16.
-abbrev pub AddsGrid : ℕ → ℕ → ℕ → ℕ → ℕ → ℕ → List ℕ → List ℕ → Type 0
-AddsGrid from to grain left top bottom old new = (step : ℕ) × (to - from ≤ 16 * step) × (new ≡ old ++ grid_text from to grain step left top bottom)
-
--- The axis is added to a text, with such a step.
-abbrev pub AddsAxis : ℕ → ℕ → ℕ → ℕ → ℕ → List ℕ → List ℕ → Type 0
-AddsAxis from to grain left top old new = (step : ℕ) × (to - from ≤ 16 * step) × (new ≡ old ++ axis_text from to grain step left top)
+abbrev pub axis_text : ℕ → ℕ → ℕ → ℕ → ℕ → List ℕ
+axis_text from to grain left top =
+    axis_head left top ++ (flat_map (axis_date from to grain (step_of (to - from))) (range_with_len 0 17) ++ codes "</g>\n")

@@ -1,7 +1,9 @@
 -- What is kept of the values of a column.
-use Rattle.std.specs.Prelude.{◌≡◌, ◌≤◌, ◌≤ℤ◌, ◌⊎◌, ◌^◌, ◌-◌, ℤ, List, [], ◌∷◌, ◌++◌, Bool, All, ℕ, int_le, length, map, max, min, nat_le, slice_get, take_while}
+use Rattle.std.specs.Prelude.{◌≡◌, ◌≤ℤ◌, ◌^◌, ◌-◌, ◌||◌, ℤ, List, [], ◌∷◌, ◌++◌, Bool, true, All, ℕ}
+use Rattle.std.specs.Prelude.{cond, int_le, length, map, max, min, nat_le, slice_get, take_while}
 use Rattle.std.specs.Prelude.{Option, None, Some}
-use Rattle.std.specs.List.{Contains, list_all}
+use Rattle.std.specs.List.{Contains, flat_map, fold, list_all, list_any}
+use Rattle.std.specs.Ordering.{int_eq}
 use Rattle.psy_draw.specs.declared.column.Column.{Column}
 
 -- A value, and its date
@@ -30,19 +32,36 @@ pub record StandsFor (values : List ℤ) (c : Column) : Type 0 where
   -- and it counts those behind the first, as far as 32 bits reach.
   pub more : c.more ≡ min (length values - 1) (2 ^ 32 - 1)
 
--- A column stands where the first of these values does, by the places of dates:
+-- A column stands where the first of these values does, by the places of dates: it keeps that one, and its place.
 pub record StandsAt (place : ℕ → ℕ) (values : List Dated) (c : Column) : Type 0 where
-  -- it keeps that one,
   pub first : (behind : List Dated) × (values ≡ dated c.date c.first ∷ behind)
-  -- and its place;
   pub at : c.x ≡ place c.date
-  -- and no value of a later place is another than that one.
-  pub near : All (λ v. (place v.date ≤ c.x) ⊎ (v.value ≡ c.first)) values
 
--- A column of one value joins this last one: its place isn't later, or it is that one's first value again.
-abbrev pub Joins : Option Column → Column → Type 0
-Joins None one = ⊥
-Joins (Some last) one = (one.x ≤ last.x) ⊎ (one.first ≡ last.first)
+-- A value goes into the column of those before it where its place isn't behind that of the first of them.
+abbrev pub is_there : (ℕ → ℕ) → List Dated → Dated → Bool
+is_there place [] v = true
+is_there place (w ∷ values) v = nat_le (place v.date) (place w.date)
+
+-- One of a variable does so also where all of them are that value.
+abbrev pub is_there_still : (ℕ → ℕ) → List Dated → Dated → Bool
+is_there_still place values v = is_there place values v || list_all (λ w. int_eq w.value v.value) values
+
+-- Values, and those behind them, in pieces, by such a rule: a value that doesn't go into the column of those before it begins another piece
+abbrev pub pieces_from : (List Dated → Dated → Bool) → List Dated → List Dated → List (List Dated)
+pieces_from goes piece [] = piece ∷ []
+pieces_from goes piece (v ∷ values) =
+    cond (goes piece v) (pieces_from goes (piece ++ v ∷ []) values) (piece ∷ pieces_from goes (v ∷ []) values)
+
+-- The values of a lane in pieces, one for each column
+abbrev pub pieces : (List Dated → Dated → Bool) → List Dated → List (List Dated)
+pieces goes [] = []
+pieces goes (v ∷ values) = pieces_from goes (v ∷ []) values
+
+-- Columns stand for these pieces, one by one, each where the first value of its piece does.
+abbrev pub AreOf : (ℕ → ℕ) → List (List Dated) → List Column → Type 0
+AreOf place [] [] = Unit {0}
+AreOf place (piece ∷ more) (c ∷ columns) = StandsFor (map value_of piece) c × StandsAt place piece c × AreOf place more columns
+AreOf place _ _ = ⊥
 
 -- The column has one value alone.
 abbrev pub is_even : Column → Bool
@@ -66,15 +85,35 @@ end_behind (Some last) silent = max last.x silent
 abbrev pub voiced_end : List Column → ℕ → ℕ
 voiced_end columns silent = end_behind (slice_get columns (length columns - 1)) silent
 
--- Columns stand for these values, each for those of one piece of the list and where the first of them does, the pieces in their order.
-abbrev pub Keeps : (ℕ → ℕ) → List Dated → List Column → Type 0
-Keeps place values [] = values ≡ []
-Keeps place values (c ∷ columns) = (group rest : List Dated) × (values ≡ group ++ rest) × StandsFor (map value_of group) c × StandsAt place group c
-    × Keeps place rest columns
+-- Columns stand for these values, by the places of dates and by such a rule.
+unfoldable pub Keeps : (ℕ → ℕ) → (List Dated → Dated → Bool) → List Dated → List Column → Type 0
+Keeps place goes values columns = AreOf place (pieces goes values) columns
 
 -- To columns these values are added.
-abbrev pub AddsValues : (ℕ → ℕ) → List Dated → List Column → List Column → Type 0
-AddsValues place more old new = (values : List Dated) → Keeps place values old → Keeps place (values ++ more) new
+abbrev pub AddsValues : (ℕ → ℕ) → (List Dated → Dated → Bool) → List Dated → List Column → List Column → Type 0
+AddsValues place goes more old new = (values : List Dated) → Keeps place goes values old → Keeps place goes (values ++ more) new
+
+-- Of the last column, where there is one, this tells whether the value of another one goes into it.
+abbrev pub Judges : (ℕ → ℕ) → (List Dated → Dated → Bool) → Bool → Option Column → Column → Type 0
+Judges place goes joins None one = Unit {0}
+Judges place goes joins (Some last) one =
+    (piece : List Dated) → StandsFor (map value_of piece) last → StandsAt place piece last → goes piece (dated one.date one.first) ≡ joins
+
+-- What a column keeps of its values
+abbrev pub kept : Column → List ℤ
+kept c = c.first ∷ c.least ∷ c.greatest ∷ c.last ∷ []
+
+-- These values and another one, where it isn't among them
+abbrev pub with_other : List ℤ → ℤ → List ℤ
+with_other seen v = cond (list_any (λ w. int_eq w v) seen) seen (seen ++ v ∷ [])
+
+-- The different ones of some values
+abbrev pub different : List ℤ → List ℤ
+different values = fold with_other [] values
+
+-- What columns keep are at most eight different values.
+abbrev pub is_few : List Column → Bool
+is_few columns = nat_le (length (different (flat_map kept columns))) 8
 
 -- The columns of a lane up to a place
 abbrev pub up_to : ℕ → List Column → List Column

@@ -1,15 +1,20 @@
 -- The definitions of this crate, by subject.
 pub mod Axes
 pub mod Columns
+pub mod Curves
 pub mod Dates
 pub mod Drawing
 pub mod Folded
+pub mod Frames
 pub mod Graph
 pub mod Groups
 pub mod Heads
+pub mod Inputs
+pub mod Insides
 pub mod Labels
 pub mod Lanes
 pub mod Listing
+pub mod Pictures
 pub mod Places
 pub mod Planning
 pub mod Scales
@@ -17,8 +22,11 @@ pub mod Shapes
 pub mod Showing
 pub mod Silences
 pub mod Sources
+pub mod Spans
 pub mod Spelling
 pub mod Stops
 pub mod Strokes
+pub mod Summaries
 pub mod Tables
+pub mod Titles
 pub mod Told

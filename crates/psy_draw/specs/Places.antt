@@ -13,7 +13,7 @@ window_end window last = min window.to last
 abbrev pub x_of : ℕ → ℕ → ℕ → ℕ → ℕ
 x_of from to grain date = (max (min date to) from - from) * 960 / max (to - from) 1 / grain * grain
 
--- The grain where there are so many lanes, at most: all of them have 40,000 columns, or one each
+-- The grain where there are so many lanes, at most: before the last date all of them have 40,000 columns together, or one each
 abbrev pub grain_of : ℕ → ℕ
 grain_of lanes = div_ceil 960 (min (COLUMNS / max 1 (min lanes COLUMNS)) 960)
 

@@ -1,18 +1,14 @@
 -- Which lanes a picture has.
-use Rattle.std.specs.Prelude.{◌≡◌, ◌++◌, ◌&&◌, ◌==◌, ℕ, List, [], ◌∷◌, Option, None, Some, cond, length, min, nat_le}
-use Rattle.std.specs.List.{count_by, flat_map}
+use Rattle.std.specs.Prelude.{◌≡◌, ◌<◌, ◌⊎◌, ◌++◌, ◌&&◌, ◌==◌, ℕ, true, false, List, [], ◌∷◌, Option, None, Some, cond, length, nat_le}
+use Rattle.std.specs.List.{flat_map}
 use Rattle.psy_arith.specs.declared.operators.Trap.{Trap}
-use Rattle.psy_draw.specs.Columns.{Dated, Keeps}
+use Rattle.psy_draw.specs.Columns.{Dated, Keeps, is_few, is_there, is_there_still}
 use Rattle.psy_draw.specs.declared.column.Column.{Column}
 use Rattle.psy_draw.specs.declared.lane.Lane.{Lane}
 use Rattle.psy_draw.specs.declared.lane.Shape.{Shape}
 use Rattle.psy_draw.specs.declared.lane.Shape.TheVariants as shape
-use Rattle.psy_base.specs.declared.limits.TheConstants.{UNTIL}
-use Rattle.psy_draw.specs.Dates.{last_date}
-use Rattle.psy_draw.specs.declared.window.Window.{Window}
-use Rattle.psy_draw.specs.Drawing.{Stacks}
-use Rattle.psy_draw.specs.Places.{grain_of, window_end, x_of}
-use Rattle.psy_draw.specs.Lanes.{held_values, is_asked, may_have_lane, message_values}
+use Rattle.psy_draw.specs.declared.room.TheConstants.{MOST_LANES}
+use Rattle.psy_draw.specs.Lanes.{held_values, is_asked, message_values}
 use Rattle.psy_draw.specs.Silences.{Silent, silence_at}
 use Rattle.psy_log.specs.declared.note.Note.{Note}
 use Rattle.psy_log.specs.declared.note.Note.TheVariants as note
@@ -44,6 +40,15 @@ abbrev pub value_lane : List Silent → List (List ℕ) → List ℕ → List Da
 value_lane silences names name values =
     cond (length values == 0) [] (cond (is_asked names name) (record { name = name; silent = silence_at silences name; content = Held values } ∷ []) [])
 
+-- The name of a variable that has no value, where it was asked for
+abbrev pub input_name : List (List ℕ) → List ℕ → List Dated → List (List ℕ)
+input_name names name values = cond (length values == 0) (cond (is_asked names name) (name ∷ []) []) []
+
+-- The name of a variable in the summary of a run with these notes, where it has no value in a window
+abbrev pub input_names : ℕ → ℕ → List (List ℕ) → List Note → Note → List (List ℕ)
+input_names from to names notes (note.VariableEnd variable size reach) = input_name names variable.now (held_values from to variable.now notes)
+input_names from to names notes _ = []
+
 -- The lane of a variable in the summary of a run with these notes
 abbrev pub variable_lanes : ℕ → ℕ → List Silent → List (List ℕ) → List Note → Note → List Shown
 variable_lanes from to silences names notes (note.VariableEnd variable size reach) =
@@ -64,18 +69,19 @@ abbrev pub lanes_of : ℕ → ℕ → List Silent → List (List ℕ) → List N
 lanes_of from to silences names notes =
     flat_map (stop_lanes to names) notes ++ (flat_map (variable_lanes from to silences names notes) notes ++ flat_map (stream_lanes from to names notes) notes)
 
--- A shape has what a lane shows, by the places of dates: the stop, or columns that stand for the values.
+-- A shape has what a lane shows, by the places of dates: the stop, or columns that stand for the values; those of a variable are boxes where they keep few
+-- different values, and a line else.
 abbrev pub Has : (ℕ → ℕ) → Shape → Content → Type 0
 Has place (shape.Stop stop) (Stopped date trap) = (stop.date ≡ date) × (stop.trap ≡ trap) × (stop.x ≡ place date)
-Has place (shape.Curve columns) (Held values) = Keeps place values columns.items
-Has place (shape.Boxes columns) (Held values) = Keeps place values columns.items
-Has place (shape.Marks columns) (Sent values) = Keeps place values columns.items
+Has place (shape.Curve columns) (Held values) = Keeps place (is_there_still place) values columns.items × (is_few columns.items ≡ false)
+Has place (shape.Boxes columns) (Held values) = Keeps place (is_there_still place) values columns.items × (is_few columns.items ≡ true)
+Has place (shape.Marks columns) (Sent values) = Keeps place (is_there place) values columns.items
 Has place _ _ = ⊥
 
 -- The shape is that of a variable with these columns.
 abbrev pub IsVariable : List Column → Shape → Type 0
-IsVariable columns (shape.Curve drawn) = drawn.items ≡ columns
-IsVariable columns (shape.Boxes drawn) = drawn.items ≡ columns
+IsVariable columns (shape.Curve drawn) = (drawn.items ≡ columns) × (is_few columns ≡ false)
+IsVariable columns (shape.Boxes drawn) = (drawn.items ≡ columns) × (is_few columns ≡ true)
 IsVariable columns _ = ⊥
 
 -- Lanes are these, in this order, by the places of dates.
@@ -84,23 +90,14 @@ Are place [] [] = Unit {0}
 Are place (s ∷ shown) (lane ∷ lanes) = (lane.name.now ≡ s.name) × (lane.silent ≡ s.silent) × Has place lane.shape s.content × Are place shown lanes
 Are place _ _ = ⊥
 
--- A text shows the lanes of a run in a window, by columns of this grain, one below the other: they stand between what is before them and what is behind.
-pub record ShowsLanes (text : List ℕ) (from to grain : ℕ) (silences : List Silent) (names : List (List ℕ)) (notes : List Note) : Type 0 where
-  pub lanes : List Lane
-  pub are : Are (x_of from to grain) (lanes_of from to silences names notes) lanes
-  pub front : List ℕ
-  pub behind : List ℕ
-  pub drawn : List ℕ
-  pub left : ℕ
-  pub stand : Stacks left 56 lanes drawn
-  pub whole : text ≡ front ++ (drawn ++ behind)
-
--- To planned lanes these are added.
+-- To planned lanes these are added, behind them.
 abbrev pub AddsLanes : (ℕ → ℕ) → List Shown → List Lane → List Lane → Type 0
-AddsLanes place more old new = (shown : List Shown) → Are place shown old → Are place (shown ++ more) new
+AddsLanes place more old new = (added : List Lane) × (new ≡ old ++ added) × Are place more added
 
--- A text shows the lanes of a run in a window.
-abbrev pub ShowsWindow : List ℕ → Window → List Silent → List (List ℕ) → List Note → Type 0
-ShowsWindow text window silences names notes =
-    ShowsLanes text (min window.from UNTIL) (min (window_end window (last_date notes)) UNTIL)
-    (grain_of (count_by (may_have_lane names) notes)) silences names notes
+-- One of two numbers is greater than that of the lanes for which there is room.
+abbrev pub HasMany : ℕ → ℕ → Type 0
+HasMany lanes names = (MOST_LANES < lanes) ⊎ (MOST_LANES < names)
+
+-- There are more lanes, or more names of variables without a value, than there is room for.
+abbrev pub HasManyLanes : List Shown → List (List ℕ) → Type 0
+HasManyLanes shown names = HasMany (length shown) (length names)

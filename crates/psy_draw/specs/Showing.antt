@@ -1,5 +1,5 @@
 -- What a picture shows of a summary.
-use Rattle.std.specs.Prelude.{◌≡◌, ℕ, ◌+◌, List, [], ◌∷◌, ◌++◌, Some, codes, decimal}
+use Rattle.std.specs.Prelude.{ℕ, ◌+◌, List, [], ◌∷◌, ◌++◌, Some, codes, decimal}
 use Rattle.std.specs.List.{flat_map}
 use Rattle.psy_log.specs.declared.note.Note.{Note}
 use Rattle.psy_log.specs.declared.note.Note.TheVariants as note
@@ -7,14 +7,6 @@ use Rattle.psy_log.specs.Forms.{number_or_dash}
 use Rattle.psy_draw.specs.declared.row.Row.{Row}
 use Rattle.psy_draw.specs.declared.table.TheConstants.{ROW_HEIGHT}
 use Rattle.psy_draw.specs.Spelling.{escaped}
-
--- These bytes stand in a text.
-abbrev pub HasPart : List ℕ → List ℕ → Type 0
-HasPart text part = (before after : List ℕ) × (text ≡ before ++ (part ++ after))
-
--- A text goes on behind another.
-abbrev pub Grows : List ℕ → List ℕ → Type 0
-Grows old new = (more : List ℕ) × (new ≡ old ++ more)
 
 -- A row at a height, with the right ends of its numbers
 abbrev pub row_text : ℕ → ℕ → ℕ → Row → List ℕ
@@ -27,10 +19,6 @@ row_text y first second row =
 abbrev pub rows_text : ℕ → ℕ → ℕ → List Row → List ℕ
 rows_text y first second [] = []
 rows_text y first second (row ∷ rows) = row_text (y + ROW_HEIGHT) first second row ++ rows_text (y + ROW_HEIGHT) first second rows
-
--- The rows stand somewhere in a text, one below the other and nothing between them.
-abbrev pub ShowsRows : List ℕ → List Row → Type 0
-ShowsRows text rows = (y first second : ℕ) × HasPart text (rows_text y first second rows)
 
 -- The row of an agent in the summary: its actions, and the least slack among them
 abbrev pub agent_rows : Note → List Row
@@ -46,9 +34,3 @@ variable_rows _ = []
 abbrev pub stream_rows : Note → List Row
 stream_rows (note.StreamEnd stream size held) = record { name = stream; first = size; second = Some held } ∷ []
 stream_rows _ = []
-
--- A text shows the rows of the summary among these notes, kind by kind.
-pub record ShowsSummary (text : List ℕ) (notes : List Note) : Type 0 where
-  pub agents : ShowsRows text (flat_map agent_rows notes)
-  pub variables : ShowsRows text (flat_map variable_rows notes)
-  pub streams : ShowsRows text (flat_map stream_rows notes)

@@ -2,7 +2,7 @@
 
 ghost use Rattle.std.specs.Prelude.{◌≡◌, ◌*◌, ◌<◌, ◌≤◌, ◌++◌, OnOk};
 ghost use Rattle.std.specs.List.{flat_map, range_with_len};
-ghost use Rattle.psy_draw.specs.Axes.{AddsAxis, AddsGrid, axis_date, first_tick, grid_line, tick_by};
+ghost use Rattle.psy_draw.specs.Axes.{axis_date, axis_text, first_tick, grid_line, grid_text, step_of, tick_by};
 ghost use Rattle.psy_base.specs.declared.limits.TheConstants.{UNTIL};
 
 use crate::layout::{Corner, MARGIN};
@@ -43,6 +43,7 @@ const MOST_STEPS: u32 = 16;
 
 // The least step by which so many dates are crossed in at most 16 steps.
 fn step_of(dates: u32) -> u32
+    ensures least { result ≡ step_of dates }
     ensures enough { dates ≤ UNTIL → dates ≤ 16 * result }
     ensures some { 0 < result }
     ensures short { result ≤ 500000 }
@@ -86,7 +87,7 @@ pub fn draw_grid(
     bottom: u32,
 ) -> Result<(), Memory>
     requires { left ≤ 2000 }
-    ensures { OnOk result (AddsGrid scale.now.from scale.now.to scale.now.grain left top bottom page.old page.new) }
+    ensures { OnOk result (page.new ≡ page.old ++ grid_text scale.now.from scale.now.to scale.now.grain left top bottom) }
 {
     page.put(&[Piece::Raw(b"<path class=\"grid\" d=\"")])?;
     let step = step_of(scale.to - scale.from);
@@ -144,7 +145,7 @@ fn put_line(
 
 /// Writes the dates of the grid, and the word `date`.
 pub fn draw_axis(page: &mut Page, scale: &Scale, corner: Corner) -> Result<(), Memory>
-    ensures { OnOk result (AddsAxis scale.now.from scale.now.to scale.now.grain corner.left corner.top page.old page.new) }
+    ensures { OnOk result (page.new ≡ page.old ++ axis_text scale.now.from scale.now.to scale.now.grain corner.left corner.top) }
 {
     page.put(&[
         Piece::Raw(b"<g class=\"axis\" transform=\"translate("),

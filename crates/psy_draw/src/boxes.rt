@@ -3,6 +3,7 @@
 ghost use Rattle.std.specs.Prelude.{◌≡◌, ◌≤◌, ◌++◌, OnOk};
 ghost use Rattle.std.specs.Option.{option_copied};
 ghost use Rattle.psy_draw.specs.Columns.{end_behind, end_by, end_of, voiced_end};
+ghost use Rattle.psy_draw.specs.Insides.{box_label, box_labels, box_text, boxes_inside, boxes_path, boxes_text};
 ghost use Rattle.psy_draw.specs.Strokes.{outline, silent_box};
 
 use crate::column::Column;
@@ -21,12 +22,14 @@ const PADDING: u32 = 4;
 /// Draws a variable that is silent from a place on.
 pub fn draw_boxes(page: &mut Page, columns: &[Column], silent: u32) -> Result<(), Memory>
     requires { silent ≤ 960 }
+    ensures { OnOk result (page.new ≡ page.old ++ boxes_inside columns.now silent) }
 {
     let end = voiced_end(columns, silent);
     put_outlines(page, b"box", true, columns, end)?;
     put_outlines(page, b"box dense", false, columns, end)?;
     put_silent(page, end)?;
-    put_values(page, columns)
+    put_values(page, columns)?;
+    Ok(())
 }
 
 /// Where the part of a lane ends in which its variable isn't silent: where it falls silent, or where its last value begins, if that is behind it.
@@ -74,17 +77,22 @@ fn put_outlines(
     even: bool,
     columns: &[Column],
     end: u32,
-) -> Result<(), Memory> {
+) -> Result<(), Memory>
+    ensures { OnOk result (page.new ≡ page.old ++ boxes_path class.now even columns.now end) }
+{
     page.put(&[
         Piece::Raw(b"<path class=\""),
         Piece::Raw(class),
         Piece::Raw(b"\" d=\""),
     ])?;
     put_boxes(page, even, columns, end)?;
-    page.put(&[Piece::Raw(b"\"/>\n")])
+    page.put(&[Piece::Raw(b"\"/>\n")])?;
+    Ok(())
 }
 
-fn put_boxes(page: &mut Page, even: bool, columns: &[Column], end: u32) -> Result<(), Memory> {
+fn put_boxes(page: &mut Page, even: bool, columns: &[Column], end: u32) -> Result<(), Memory>
+    ensures { OnOk result (page.new ≡ page.old ++ boxes_text even columns.now end) }
+{
     let mut rest = columns;
     while let Some((column, later)) = rest.split_first() {
         put_box(page, even, column, end_by(later, end))?;
@@ -93,7 +101,9 @@ fn put_boxes(page: &mut Page, even: bool, columns: &[Column], end: u32) -> Resul
     Ok(())
 }
 
-fn put_box(page: &mut Page, even: bool, column: &Column, to: u32) -> Result<(), Memory> {
+fn put_box(page: &mut Page, even: bool, column: &Column, to: u32) -> Result<(), Memory>
+    ensures { OnOk result (page.new ≡ page.old ++ box_text even column.now to) }
+{
     if column.is_even() == even {
         put_outline(page, column.x, to)
     } else {
@@ -116,7 +126,9 @@ fn put_outline(page: &mut Page, from: u32, to: u32) -> Result<(), Memory>
 }
 
 // Writes the values, where there is room in their boxes.
-fn put_values(page: &mut Page, columns: &[Column]) -> Result<(), Memory> {
+fn put_values(page: &mut Page, columns: &[Column]) -> Result<(), Memory>
+    ensures { OnOk result (page.new ≡ page.old ++ box_labels columns.now) }
+{
     let mut rest = columns;
     while let Some((column, later)) = rest.split_first() {
         put_value(page, column, end_of(later))?;
@@ -125,7 +137,9 @@ fn put_values(page: &mut Page, columns: &[Column]) -> Result<(), Memory> {
     Ok(())
 }
 
-fn put_value(page: &mut Page, column: &Column, to: u32) -> Result<(), Memory> {
+fn put_value(page: &mut Page, column: &Column, to: u32) -> Result<(), Memory>
+    ensures { OnOk result (page.new ≡ page.old ++ box_label column.now to) }
+{
     let extent = Extent::new(column.x + PADDING, labels::width(column.first));
     if column.is_even() && extent.to + PADDING <= to {
         labels::put_label(page, extent.from, 22, column.first)

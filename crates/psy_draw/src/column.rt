@@ -21,7 +21,8 @@ pub struct Column {
 }
 
 impl Column {
-    ghost use Rattle.std.specs.Prelude.{◌≡◌, ◌⊎◌, ◌++◌, [], ◌∷◌, List, ℕ, ℤ};
+    ghost use Rattle.std.specs.Ordering.{int_eq};
+    ghost use Rattle.std.specs.Prelude.{◌≡◌, ◌&&◌, ◌++◌, [], ◌∷◌, List, ℕ, ℤ};
     ghost use Rattle.psy_draw.specs.Columns.{Dated, StandsAt, StandsFor, is_even};
     ghost use Rattle.psy_draw.specs.Scales.{place_by};
 
@@ -45,8 +46,7 @@ impl Column {
     /// The column of one more value.
     pub fn and(self, value: i32) -> Column
         ensures stands { (values : List ℤ) → StandsFor values self → StandsFor (values ++ value ∷ []) result }
-        ensures place { (place : ℕ → ℕ) (values : List Dated) (v : Dated) → StandsAt place values self → (place v.date ≤ self.x) ⊎ (v.value ≡ self.first)
-            → StandsAt place (values ++ v ∷ []) result }
+        ensures place { (place : ℕ → ℕ) (values : List Dated) (v : Dated) → StandsAt place values self → StandsAt place (values ++ v ∷ []) result }
     {
         Column {
             x: self.x,
@@ -57,6 +57,13 @@ impl Column {
             last: value,
             more: self.more.saturating_add(1),
         }
+    }
+
+    /// All its values are this one.
+    pub fn is_all(&self, value: i32) -> bool
+        ensures { result ≡ (is_even self.now && int_eq value self.now.first) }
+    {
+        self.is_even() && value == self.first
     }
 
     /// All its values are one.

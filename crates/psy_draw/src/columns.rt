@@ -1,8 +1,8 @@
 //! The columns of a lane.
 
-ghost use Rattle.std.specs.Prelude.{◌≡◌, ◌≤◌, ◌-◌, ◌++◌, [], ◌∷◌, true, ℕ, List, OnOk, length, slice_get};
+ghost use Rattle.std.specs.Prelude.{◌≡◌, ◌-◌, ◌++◌, [], ◌∷◌, Bool, ℕ, List, OnOk, length, slice_get};
 ghost use Rattle.std.specs.Option.{option_copied};
-ghost use Rattle.psy_draw.specs.Columns.{AddsValues, Dated, Joins, Keeps, StandsFor, dated};
+ghost use Rattle.psy_draw.specs.Columns.{AddsValues, Dated, Judges, StandsFor, dated, is_there, is_there_still};
 ghost use Rattle.psy_draw.specs.Scales.{place_by};
 
 use crate::column::Column;
@@ -17,7 +17,8 @@ pub fn add_value(
     date: u64,
     value: i32,
 ) -> Result<(), Memory>
-    ensures { OnOk result (AddsValues (place_by scale.now) (dated date value ∷ []) columns.old.items columns.new.items) }
+    ensures { OnOk result (AddsValues (place_by scale.now) (is_there_still (place_by scale.now)) (dated date value ∷ [])
+        columns.old.items columns.new.items) }
 {
     let one = Column::of(scale, date, value);
     let joins = joins_value(columns.last(), &one);
@@ -31,7 +32,8 @@ pub fn add_message(
     date: u64,
     value: i32,
 ) -> Result<(), Memory>
-    ensures { OnOk result (AddsValues (place_by scale.now) (dated date value ∷ []) columns.old.items columns.new.items) }
+    ensures { OnOk result (AddsValues (place_by scale.now) (is_there (place_by scale.now)) (dated date value ∷ [])
+        columns.old.items columns.new.items) }
 {
     let one = Column::of(scale, date, value);
     let joins = joins_place(columns.last(), &one);
@@ -39,16 +41,16 @@ pub fn add_message(
 }
 
 fn joins_value(last: Option<&Column>, one: &Column) -> bool
-    ensures { result ≡ true → Joins (option_copied last.entry) one.now }
+    ensures { (place : ℕ → ℕ) → one.now.x ≡ place one.now.date → Judges place (is_there_still place) result (option_copied last.entry) one.now }
 {
     match last {
-        Some(last) => one.x <= last.x || (last.is_even() && one.first == last.first),
+        Some(last) => one.x <= last.x || last.is_all(one.first),
         None => false,
     }
 }
 
 fn joins_place(last: Option<&Column>, one: &Column) -> bool
-    ensures { result ≡ true → Joins (option_copied last.entry) one.now }
+    ensures { (place : ℕ → ℕ) → one.now.x ≡ place one.now.date → Judges place (is_there place) result (option_copied last.entry) one.now }
 {
     match last {
         Some(last) => one.x <= last.x,
@@ -58,9 +60,9 @@ fn joins_place(last: Option<&Column>, one: &Column) -> bool
 
 // Adds a column of one value, to the last column where there is one that it joins.
 fn add(columns: &mut Vec<Column>, joins: bool, one: Column) -> Result<(), Memory>
-    requires { joins ≡ true → Joins (slice_get columns.now.items (length columns.now.items - 1)) one }
-    ensures { OnOk result ((place : ℕ → ℕ) → one.x ≡ place one.date → StandsFor (one.first ∷ []) one
-        → AddsValues place (dated one.date one.first ∷ []) columns.old.items columns.new.items) }
+    ensures { OnOk result ((place : ℕ → ℕ) (goes : List Dated → Dated → Bool) → one.x ≡ place one.date → StandsFor (one.first ∷ []) one
+        → Judges place goes joins (slice_get columns.old.items (length columns.old.items - 1)) one
+        → AddsValues place goes (dated one.date one.first ∷ []) columns.old.items columns.new.items) }
 {
     match columns.pop() {
         None => columns.push(one)?,

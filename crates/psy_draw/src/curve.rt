@@ -1,7 +1,12 @@
 //! The lane of a variable: a line that steps from value to value.
 
-ghost use Rattle.std.specs.Prelude.{◌≡◌, ◌≤◌, ◌++◌, ◌&&◌, ◌==◌, IfOk, OnOk};
-ghost use Rattle.psy_draw.specs.Places.{y_of};
+ghost use Rattle.std.specs.Prelude.{◌≡◌, ◌≤◌, ◌+◌, ◌++◌, None, IfOk, OnOk};
+ghost use Rattle.std.specs.Fmt.{signed_decimal};
+ghost use Rattle.psy_draw.specs.Curves.{bounds_text, curve_inside, curve_labels, first_other, free_behind, held_to, is_new, label_on};
+ghost use Rattle.psy_draw.specs.Curves.{label_side, line_text, stays, step_end, step_text, steps_end, steps_text, stroke_text, tick_text};
+ghost use Rattle.psy_draw.specs.Curves.{turn_free, turn_text, turns_at, zero_at, zero_number, zero_text};
+ghost use Rattle.psy_draw.specs.Labels.{label_width};
+ghost use Rattle.psy_draw.specs.Spans.{letters_of, y_in};
 ghost use Rattle.psy_draw.specs.Strokes.{silent_line, upright};
 
 use crate::boxes::voiced_end;
@@ -28,7 +33,9 @@ const DEPTH: u32 = 32;
 const ZERO_ROOM: u32 = 10;
 
 /// The letters of the least or the greatest value of some columns, whichever has more; 0 where there is but one value.
-pub fn bound_letters(columns: &[Column]) -> usize {
+pub fn bound_letters(columns: &[Column]) -> usize
+    ensures { result ≡ letters_of columns.now }
+{
     match columns.split_first() {
         None => 0,
         Some((first, rest)) => Span::of(first, rest).letters(),
@@ -38,6 +45,7 @@ pub fn bound_letters(columns: &[Column]) -> usize {
 /// Draws a variable that is silent from a place on.
 pub fn draw_curve(page: &mut Page, columns: &[Column], silent: u32) -> Result<(), Memory>
     requires { silent ≤ 960 }
+    ensures { OnOk result (page.new ≡ page.old ++ curve_inside columns.now silent) }
 {
     if let Some((first, rest)) = columns.split_first() {
         let span = Span::of(first, rest);
@@ -50,17 +58,21 @@ pub fn draw_curve(page: &mut Page, columns: &[Column], silent: u32) -> Result<()
 }
 
 // Writes the greatest and the least value at the left of the line, where they differ.
-fn put_bounds(page: &mut Page, span: Span) -> Result<(), Memory> {
+fn put_bounds(page: &mut Page, span: Span) -> Result<(), Memory>
+    ensures { OnOk result (page.new ≡ page.old ++ bounds_text span) }
+{
     if span.greatest <= span.least {
         return Ok(());
     }
     put_tick(page, TOP, span.greatest)?;
-    put_tick(page, TOP + DEPTH, span.least)
+    put_tick(page, TOP + DEPTH, span.least)?;
+    Ok(())
 }
 
 // Writes a value at the left of the line, behind it a tick.
 fn put_tick(page: &mut Page, y: u32, value: i32) -> Result<(), Memory>
     requires { y ≤ 64 }
+    ensures { OnOk result (page.new ≡ page.old ++ tick_text y value) }
 {
     page.put(&[
         Piece::Raw(b"<path class=\"tick\" d=\"M-4 "),
@@ -74,11 +86,20 @@ fn put_tick(page: &mut Page, y: u32, value: i32) -> Result<(), Memory>
 }
 
 // Draws a line at 0 where some values are less and some greater, with its number where there is room.
-fn put_zero(page: &mut Page, span: Span) -> Result<(), Memory> {
+fn put_zero(page: &mut Page, span: Span) -> Result<(), Memory>
+    ensures { OnOk result (page.new ≡ page.old ++ zero_text span) }
+{
     if span.least >= 0 || span.greatest <= 0 {
         return Ok(());
     }
-    let y = y_of(span, 0);
+    put_zero_at(page, y_of(span, 0))
+}
+
+// Draws that line at a height.
+fn put_zero_at(page: &mut Page, y: u32) -> Result<(), Memory>
+    requires { y ≤ 48 }
+    ensures { OnOk result (page.new ≡ page.old ++ zero_at y) }
+{
     page.put(&[
         Piece::Raw(b"<path class=\"zero\" d=\"M0 "),
         Piece::Number(y),
@@ -86,15 +107,25 @@ fn put_zero(page: &mut Page, span: Span) -> Result<(), Memory> {
         Piece::Number(PLOT_WIDTH),
         Piece::Raw(b"\"/>\n"),
     ])?;
-    if TOP + ZERO_ROOM <= y && y + ZERO_ROOM <= TOP + DEPTH {
-        put_tick(page, y, 0)?;
-    }
+    put_zero_number(page, y)?;
     Ok(())
+}
+
+// Writes its number, where there is room.
+fn put_zero_number(page: &mut Page, y: u32) -> Result<(), Memory>
+    requires { y ≤ 48 }
+    ensures { OnOk result (page.new ≡ page.old ++ zero_number y) }
+{
+    if TOP + ZERO_ROOM <= y && y + ZERO_ROOM <= TOP + DEPTH {
+        put_tick(page, y, 0)
+    } else {
+        Ok(())
+    }
 }
 
 // Where the line is at a value.
 fn y_of(span: Span, value: i32) -> u32
-    ensures place { result ≡ y_of span.least span.greatest value }
+    ensures place { result ≡ y_in span value }
     ensures within { result ≤ 48 }
 {
     TOP + span.depth(value, DEPTH).min(DEPTH)
@@ -107,7 +138,9 @@ fn put_line(
     first: &Column,
     rest: &[Column],
     end: u32,
-) -> Result<(), Memory> {
+) -> Result<(), Memory>
+    ensures { OnOk result (page.new ≡ page.old ++ line_text span first.now rest.now end) }
+{
     let y = y_of(span, first.first);
     page.put(&[
         Piece::Raw(b"<path class=\"line\" d=\"M"),
@@ -118,7 +151,8 @@ fn put_line(
     let y = put_stroke(page, span, first, y)?;
     let y = put_strokes(page, span, rest, y)?;
     page.put(&[Piece::Raw(b"H"), Piece::Number(end), Piece::Raw(b"\"/>\n")])?;
-    put_silent(page, end, y)
+    put_silent(page, end, y)?;
+    Ok(())
 }
 
 fn put_silent(page: &mut Page, from: u32, y: u32) -> Result<(), Memory>
@@ -139,7 +173,9 @@ fn put_silent(page: &mut Page, from: u32, y: u32) -> Result<(), Memory>
 }
 
 // Draws the line over columns from a height on; to the height where it is then.
-fn put_strokes(page: &mut Page, span: Span, columns: &[Column], y: u32) -> Result<u32, Memory> {
+fn put_strokes(page: &mut Page, span: Span, columns: &[Column], y: u32) -> Result<u32, Memory>
+    ensures { IfOk result (λ end. (end ≡ steps_end span columns.now y) × (page.new ≡ page.old ++ steps_text span columns.now y)) }
+{
     let mut rest = columns;
     let mut y = y;
     while let Some((column, later)) = rest.split_first() {
@@ -150,27 +186,33 @@ fn put_strokes(page: &mut Page, span: Span, columns: &[Column], y: u32) -> Resul
 }
 
 // Draws the line over a column from a height on; to the height where it is then.
-fn put_step(page: &mut Page, span: Span, column: &Column, y: u32) -> Result<u32, Memory> {
+fn put_step(page: &mut Page, span: Span, column: &Column, y: u32) -> Result<u32, Memory>
+    ensures { IfOk result (λ end. (end ≡ step_end span column.now y) × (page.new ≡ page.old ++ step_text span column.now y)) }
+{
     if stays(span, column, y) {
         return Ok(y);
     }
     page.put(&[Piece::Raw(b"H"), Piece::Number(column.x)])?;
     let y = put_upright(page, y, y_of(span, column.first))?;
-    put_stroke(page, span, column, y)
+    let y = put_stroke(page, span, column, y)?;
+    Ok(y)
 }
 
 // The line is at this height all through the column.
 fn stays(span: Span, column: &Column, y: u32) -> bool
-    ensures { result ≡ (y_of span.least span.greatest column.now.least == y && y_of span.least span.greatest column.now.greatest == y) }
+    ensures { result ≡ stays span column.now y }
 {
     y_of(span, column.least) == y && y_of(span, column.greatest) == y
 }
 
 // Draws the upright stroke over a column's values, from the first by the least and the greatest to the last.
-fn put_stroke(page: &mut Page, span: Span, column: &Column, y: u32) -> Result<u32, Memory> {
+fn put_stroke(page: &mut Page, span: Span, column: &Column, y: u32) -> Result<u32, Memory>
+    ensures { IfOk result (λ end. (end ≡ y_in span column.now.last) × (page.new ≡ page.old ++ stroke_text span column.now y)) }
+{
     let y = put_upright(page, y, y_of(span, column.least))?;
     let y = put_upright(page, y, y_of(span, column.greatest))?;
-    put_upright(page, y, y_of(span, column.last))
+    let y = put_upright(page, y, y_of(span, column.last))?;
+    Ok(y)
 }
 
 // Draws from one height to another.
@@ -184,27 +226,49 @@ fn put_upright(page: &mut Page, from: u32, to: u32) -> Result<u32, Memory>
 }
 
 // Writes the values at which the line turns or rests, where there is room.
-fn put_labels(page: &mut Page, span: Span, columns: &[Column]) -> Result<(), Memory> {
+fn put_labels(page: &mut Page, span: Span, columns: &[Column]) -> Result<(), Memory>
+    ensures { OnOk result (page.new ≡ page.old ++ curve_labels span None columns.now 0) }
+{
     let mut rest = columns;
     let mut before = None;
     let mut free = 0;
     while let Some((column, later)) = rest.split_first() {
-        if column.is_even() && before != Some(column.last) {
-            free = put_label(
-                page,
-                span,
-                Turn {
-                    before,
-                    column,
-                    later,
-                },
-                free,
-            )?;
-        }
+        free = put_turn(
+            page,
+            span,
+            Turn {
+                before,
+                column,
+                later,
+            },
+            free,
+        )?;
         before = Some(column.last);
         rest = later;
     }
     Ok(())
+}
+
+// Writes a column's value, where the line comes to it there, and there is room from `free` on; from where there is room then.
+fn put_turn(page: &mut Page, span: Span, turn: Turn, free: u32) -> Result<u32, Memory>
+    ensures { IfOk result (λ next. (next ≡ turn_free turn.entry.before turn.entry.column.now turn.entry.later.now free)
+        × (page.new ≡ page.old ++ turn_text span turn.entry.before turn.entry.column.now turn.entry.later.now free)) }
+{
+    if is_new(turn.before, turn.column) {
+        put_label(page, span, turn, free)
+    } else {
+        Ok(free)
+    }
+}
+
+// Does the line come to another value in the column, and has that alone there?
+fn is_new(before: Option<i32>, column: &Column) -> bool
+    ensures { result ≡ is_new before column.now }
+{
+    match before {
+        Some(before) => column.is_even() && before != column.last,
+        None => column.is_even(),
+    }
 }
 
 // A column, the value before it, and the columns behind it.
@@ -217,17 +281,40 @@ struct Turn<'c> {
 
 impl<'c> Turn<'c> {
     // The line rises to the value and falls behind it, or the other way round, or begins or ends there.
-    fn is_extreme(&self) -> bool {
+    fn is_extreme(&self) -> bool
+        ensures { result ≡ turns_at self.now.column.now.last self.now.before (first_other self.now.column.now.last self.now.later.now) }
+    {
         let value = self.column.last;
-        match (self.before, first_other(value, self.later)) {
-            (Some(before), Some(behind)) => (before < value) == (behind < value),
-            _ => true,
+        turns_at(value, self.before, first_other(value, self.later))
+    }
+
+    // As far as this the line holds a value whose label ends there.
+    fn held_to(&self, end: u32) -> u32
+        requires { end ≡ self.now.column.now.x + 3 + label_width (signed_decimal self.now.column.now.last) }
+        ensures { result ≡ held_to self.now.before self.now.column.now self.now.later.now }
+    {
+        if self.is_extreme() {
+            self.column.x + LEAST_HOLD
+        } else {
+            end
         }
     }
 }
 
-// The first other value.
-fn first_other(value: i32, columns: &[Column]) -> Option<i32> {
+// Does the line rise to a value between two others and fall behind it, or the other way round, or begin or end there?
+fn turns_at(value: i32, before: Option<i32>, behind: Option<i32>) -> bool
+    ensures { result ≡ turns_at value before behind }
+{
+    match (before, behind) {
+        (Some(before), Some(behind)) => (before < value) == (behind < value),
+        _ => true,
+    }
+}
+
+// The first other value, where the columns before it have this one alone.
+fn first_other(value: i32, columns: &[Column]) -> Option<i32>
+    ensures { result ≡ first_other value columns.now }
+{
     for column in columns {
         if column.first != value {
             return Some(column.first);
@@ -240,23 +327,33 @@ fn first_other(value: i32, columns: &[Column]) -> Option<i32> {
 }
 
 // Writes a column's value, where there is room from `free` on; from where there is room then.
-fn put_label(page: &mut Page, span: Span, turn: Turn, free: u32) -> Result<u32, Memory> {
-    let Turn { column, later, .. } = turn;
-    let value = column.last;
-    let extent = Extent::new(column.x + 3, labels::width(value));
-    let held = if turn.is_extreme() {
-        column.x + LEAST_HOLD
-    } else {
-        extent.to
-    };
-    if !extent.fits(free) || !labels::holds(value, later, held) {
-        return Ok(free);
-    }
+fn put_label(page: &mut Page, span: Span, turn: Turn, free: u32) -> Result<u32, Memory>
+    ensures { IfOk result (λ next.
+        (next ≡ free_behind turn.entry.column.now (label_side turn.entry.before turn.entry.column.now turn.entry.later.now free) free)
+        × (page.new ≡ page.old ++ label_on span turn.entry.column.now (label_side turn.entry.before turn.entry.column.now turn.entry.later.now free))) }
+{
+    let value = turn.column.last;
+    let extent = Extent::new(turn.column.x + 3, labels::width(value));
     let y = y_of(span, value);
-    match labels::side_of(value, later, extent.to) {
+    match label_side(turn, extent, free) {
         Some(Side::Over) => labels::put_label(page, extent.from, y.saturating_sub(4), value)?,
         Some(Side::Under) => labels::put_label(page, extent.from, y + 11, value)?,
         None => return Ok(free),
     }
     Ok(extent.free())
+}
+
+// On which side of the line a label has its place, from `free` on; none where it has no room.
+fn label_side(turn: Turn, extent: Extent, free: u32) -> Option<Side>
+    requires from { extent.from ≡ turn.column.now.x + 3 }
+    requires to { extent.to ≡ turn.column.now.x + 3 + label_width (signed_decimal turn.column.now.last) }
+    ensures { result ≡ label_side turn.entry.before turn.entry.column.now turn.entry.later.now free }
+{
+    let Turn { column, later, .. } = turn;
+    let value = column.last;
+    if extent.fits(free) && labels::holds(value, later, turn.held_to(extent.to)) {
+        labels::side_of(value, later, extent.to)
+    } else {
+        None
+    }
 }

@@ -1,8 +1,10 @@
 //! Draws a lane.
 
-ghost use Rattle.std.specs.Prelude.{◌≡◌, ◌≤◌, ◌++◌, ℕ, List, OnOk};
-ghost use Rattle.psy_draw.specs.Drawing.{DrawsLane, lane_text};
-ghost use Rattle.psy_draw.specs.Places.{silent_place, x_of};
+ghost use Rattle.std.specs.Prelude.{◌≡◌, ◌≤◌, ◌++◌, IfOk, OnOk};
+ghost use Rattle.psy_draw.specs.Drawing.{drawn_lane, lane_text};
+ghost use Rattle.psy_draw.specs.Insides.{lane_inside, shape_inside, told_inside};
+ghost use Rattle.psy_draw.specs.Places.{silent_place};
+ghost use Rattle.psy_draw.specs.Scales.{place_by};
 
 use crate::boxes::{BOXES_HEIGHT, draw_boxes};
 use crate::curve::{CURVE_HEIGHT, draw_curve};
@@ -26,15 +28,23 @@ pub fn draw_lane(
     lane: &Lane,
     tells: bool,
 ) -> Result<(), Memory>
-    ensures { OnOk result ((text : List ℕ) × (page.new ≡ page.old ++ text) × DrawsLane corner.left corner.top lane.now text) }
+    ensures { OnOk result (page.new ≡ page.old ++ drawn_lane (place_by scale.now) tells corner.left corner.top lane.now) }
+{
+    let inside = inside_of(alloc, scale, lane, tells)?;
+    put_lane(page, corner, lane, inside.bytes())?;
+    Ok(())
+}
+
+// What stands in a lane.
+fn inside_of(alloc: Global, scale: &Scale, lane: &Lane, tells: bool) -> Result<Page, Memory>
+    ensures { IfOk result (λ page. page ≡ lane_inside (place_by scale.now) tells lane.now) }
 {
     let mut inside = Page::new(alloc);
     draw_shape(&mut inside, &lane.shape, silent_place(scale, lane))?;
     if tells {
         tell(&mut inside, &lane.shape)?;
     }
-    put_lane(page, corner, lane, inside.bytes())?;
-    Ok(())
+    Ok(inside)
 }
 
 // Adds a lane with this inside.
@@ -49,7 +59,7 @@ fn put_lane(page: &mut Page, corner: Corner, lane: &Lane, inside: &[u8]) -> Resu
 
 // The place from which on a lane is silent, or the plot's right end.
 fn silent_place(scale: &Scale, lane: &Lane) -> u32
-    ensures place { result ≡ silent_place (x_of scale.now.from scale.now.to scale.now.grain) lane.now.silent }
+    ensures place { result ≡ silent_place (place_by scale.now) lane.now.silent }
     ensures within { result ≤ 960 }
 {
     match lane.silent {
@@ -60,6 +70,7 @@ fn silent_place(scale: &Scale, lane: &Lane) -> u32
 
 fn draw_shape(page: &mut Page, shape: &Shape, silent: u32) -> Result<(), Memory>
     requires { silent ≤ 960 }
+    ensures { OnOk result (page.new ≡ page.old ++ shape_inside shape.now silent) }
 {
     match shape {
         Shape::Stop(stop) => draw_stop(page, stop),
@@ -69,7 +80,9 @@ fn draw_shape(page: &mut Page, shape: &Shape, silent: u32) -> Result<(), Memory>
     }
 }
 
-fn tell(page: &mut Page, shape: &Shape) -> Result<(), Memory> {
+fn tell(page: &mut Page, shape: &Shape) -> Result<(), Memory>
+    ensures { OnOk result (page.new ≡ page.old ++ told_inside shape.now) }
+{
     match shape {
         Shape::Stop(_) => Ok(()),
         Shape::Curve(columns) => tell_values(page, CURVE_HEIGHT, columns.as_slice()),

@@ -1,6 +1,9 @@
 //! Few different values.
 
-ghost use Rattle.std.specs.Prelude.{◌≤◌};
+ghost use Rattle.std.specs.Prelude.{◌≡◌, ◌≤◌, ◌<◌, true, false, fold, length, take};
+ghost use Rattle.std.specs.List.{list_any};
+ghost use Rattle.std.specs.Ordering.{int_eq};
+ghost use Rattle.psy_draw.specs.Columns.{is_few, kept, with_other};
 
 use crate::column::Column;
 
@@ -17,8 +20,11 @@ struct Few {
 
 impl Few {
     // Adds a value, where it isn't there; false where there are too many then.
-    fn add(&mut self, value: i32) -> bool {
-        if self.has(value) {
+    fn add(&mut self, value: i32) -> bool
+        ensures added { result ≡ true → take self.new.count self.new.seen ≡ with_other (take self.old.count self.old.seen) value }
+        ensures many { result ≡ false → 8 < length (with_other (take self.old.count self.old.seen) value) }
+    {
+        if has(&self.seen[..self.count], value) {
             return true;
         }
         if self.count == FEW {
@@ -29,31 +35,49 @@ impl Few {
         true
     }
 
-    fn has(&self, value: i32) -> bool {
-        for (place, seen) in self.seen.iter().enumerate() {
-            if place < self.count && *seen == value {
-                return true;
+    // Adds values, as long as they are few.
+    fn add_all(&mut self, values: &[i32]) -> bool
+        ensures added { result ≡ true → take self.new.count self.new.seen ≡ fold with_other (take self.old.count self.old.seen) values.now }
+        ensures many { result ≡ false → 8 < length (fold with_other (take self.old.count self.old.seen) values.now) }
+    {
+        for value in values {
+            if !self.add(*value) {
+                return false;
             }
         }
-        false
-    }
-
-    fn add_column(&mut self, column: &Column) -> bool {
-        self.add(column.first)
-            && self.add(column.least)
-            && self.add(column.greatest)
-            && self.add(column.last)
+        true
     }
 }
 
+// Is a value among these?
+fn has(seen: &[i32], value: i32) -> bool
+    ensures { result ≡ list_any (λ w. int_eq w value) seen.now }
+{
+    for one in seen {
+        if *one == value {
+            return true;
+        }
+    }
+    false
+}
+
+// What a column keeps of its values.
+fn kept(column: &Column) -> [i32; 4]
+    ensures { result ≡ kept column.now }
+{
+    [column.first, column.least, column.greatest, column.last]
+}
+
 /// Are there at most eight different values in these columns?
-pub fn is_few(columns: &[Column]) -> bool {
+pub fn is_few(columns: &[Column]) -> bool
+    ensures { result ≡ is_few columns.now }
+{
     let mut few = Few {
         seen: [0; FEW],
         count: 0,
     };
     for column in columns {
-        if !few.add_column(column) {
+        if !few.add_all(&kept(column)) {
             return false;
         }
     }

@@ -1,9 +1,10 @@
 //! How large the parts of a picture are.
 
 ghost use Rattle.std.specs.Prelude.{◌≡◌, ◌≤◌, ◌+◌, length, nat_le};
-ghost use Rattle.psy_draw.specs.Drawing.{heights};
+ghost use Rattle.psy_draw.specs.Frames.{bottom_of, inputs_top, left_of, legend_top, longest_bound, picture_height, picture_width, shape_letters, tables_top};
 ghost use Rattle.psy_draw.specs.Heads.{longest_name};
 ghost use Rattle.psy_draw.specs.Places.{width_of};
+ghost use Rattle.psy_draw.specs.Summaries.{tables_height, tables_width};
 ghost use Rattle.psy_draw.specs.declared.room.TheConstants.{MOST_LANES};
 
 use crate::axis::AXIS_HEIGHT;
@@ -53,14 +54,18 @@ impl Frame {
     /// The frame in which these lanes have room.
     pub fn of(lanes: &[Lane], inputs: &Inputs, tables: &Tables) -> Frame
         requires { length lanes.now ≤ MOST_LANES }
-        ensures bottom { result.bottom ≡ 56 + heights lanes.now }
-        ensures inputs { result.bottom + 12 ≤ result.inputs }
-        ensures legend { result.inputs + 12 ≤ result.legend }
-        ensures tables { result.legend + 40 ≤ result.tables }
-        ensures high { result.tables + 12 ≤ result.height }
-        ensures wide { result.left + 1000 ≤ result.width }
-        ensures left { 28 + width_of (longest_name lanes.now) NAME_LETTER ≤ result.left }
+        ensures bottom { result.bottom ≡ bottom_of lanes.now }
+        ensures inputs { result.inputs ≡ inputs_top lanes.now }
+        ensures legend { result.legend ≡ legend_top lanes.now inputs.now.lines }
+        ensures tables { result.tables ≡ tables_top lanes.now inputs.now.lines }
+        ensures high { result.height ≡ picture_height lanes.now inputs.now.lines
+            (tables_height tables.now.agents.rows.items tables.now.variables.rows.items tables.now.streams.rows.items) }
+        ensures wide { result.width ≡ picture_width lanes.now
+            (tables_width tables.now.agents.rows.items tables.now.variables.rows.items tables.now.streams.rows.items) }
+        ensures left { result.left ≡ left_of lanes.now }
         ensures room { result.height ≤ 900000 }
+        ensures below { result.tables ≤ result.height }
+        ensures between { result.legend ≤ result.tables }
     {
         let left = names_width(lanes) + bounds_width(lanes) + MARGIN + 2 * GAP;
         let bottom = bottom_of(lanes);
@@ -101,7 +106,8 @@ fn names_width(lanes: &[Lane]) -> u32
 
 // The width of the longest value at the left of a line.
 fn bounds_width(lanes: &[Lane]) -> u32
-    ensures { result ≤ 732 }
+    ensures wide { result ≡ width_of (longest_bound lanes.now) LABEL_LETTER }
+    ensures narrow { result ≤ 732 }
 {
     let mut longest = 0;
     for lane in lanes {
@@ -110,7 +116,9 @@ fn bounds_width(lanes: &[Lane]) -> u32
     width_of(longest, LABEL_LETTER)
 }
 
-fn bound_letters(lane: &Lane) -> usize {
+fn bound_letters(lane: &Lane) -> usize
+    ensures { result ≡ shape_letters lane.now.shape }
+{
     match &lane.shape {
         Shape::Curve(columns) => curve::bound_letters(columns.as_slice()),
         _ => 0,
@@ -119,7 +127,7 @@ fn bound_letters(lane: &Lane) -> usize {
 
 fn bottom_of(lanes: &[Lane]) -> u32
     requires { length lanes.now ≤ MOST_LANES }
-    ensures high { result ≡ 56 + heights lanes.now }
+    ensures high { result ≡ bottom_of lanes.now }
     ensures low { result ≤ 300000 }
 {
     let mut bottom = LANES_TOP;

@@ -1,8 +1,9 @@
 //! The values beside a line.
 
-ghost use Rattle.std.specs.Prelude.{◌≡◌, ◌≤◌, ◌+◌, ◌-◌, ◌/◌, ◌++◌, ◌&&◌, ◌↔◌, decimal, length, IsTrue, OnOk};
+ghost use Rattle.std.specs.Prelude.{◌≡◌, ◌≤◌, ◌+◌, ◌-◌, ◌/◌, ◌++◌, ◌&&◌, decimal, length, nat_le, IsTrue, OnOk};
 ghost use Rattle.std.specs.Fmt.{signed_decimal};
 ghost use Rattle.psy_draw.specs.Columns.{none_greater, none_less, up_to};
+ghost use Rattle.psy_draw.specs.Curves.{holds, side_by};
 ghost use Rattle.psy_draw.specs.Labels.{label_text};
 ghost use Rattle.psy_draw.specs.Places.{width_of};
 
@@ -50,7 +51,7 @@ impl Extent {
 
     /// There is room: the labels before it end before it, and it ends within the picture.
     pub fn fits(&self, free: u32) -> bool
-        ensures { IsTrue result ↔ (free ≤ self.now.from) × (self.now.to ≤ 1000) }
+        ensures { result ≡ (nat_le free self.now.from && nat_le self.now.to 1000) }
     {
         free <= self.from && self.to <= PLOT_WIDTH + RIGHT_MARGIN
     }
@@ -111,8 +112,7 @@ pub enum Side {
 /// The side of a value's label: over the line where the columns up to the label's end have no greater value, else under it
 /// where they have no smaller one; none where the line would go through the label.
 pub fn side_of(value: i32, columns: &[Column], to: u32) -> Option<Side>
-    ensures over { result ≡ Some Side.Over → IsTrue (none_greater value (up_to to columns.now)) }
-    ensures under { result ≡ Some Side.Under → IsTrue (none_less value (up_to to columns.now)) }
+    ensures { result ≡ side_by value columns.now to }
 {
     if has_none_greater(value, columns, to) {
         Some(Side::Over)
@@ -125,7 +125,7 @@ pub fn side_of(value: i32, columns: &[Column], to: u32) -> Option<Side>
 
 /// All columns up to a place have this value alone.
 pub fn holds(value: i32, columns: &[Column], to: u32) -> bool
-    ensures { result ≡ (none_greater value (up_to to columns.now) && none_less value (up_to to columns.now)) }
+    ensures { result ≡ holds value columns.now to }
 {
     has_none_greater(value, columns, to) && has_none_less(value, columns, to)
 }

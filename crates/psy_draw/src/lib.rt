@@ -23,6 +23,7 @@ mod labels;
 mod lane;
 mod layout;
 mod legend;
+mod line;
 mod listed;
 mod messages;
 mod names;

@@ -1,22 +1,22 @@
 //! The picture of a run.
 
-ghost use Rattle.std.specs.Prelude.{◌≡◌, ◌+◌, ◌++◌, ◌≤◌, ◌<◌, ◌⊎◌, ℕ, List, IfOk, MatchOption, OnOk, vec_len, map, string_bytes, length};
-ghost use Rattle.psy_draw.specs.Drawing.{Stacks};
-ghost use Rattle.psy_draw.specs.Planning.{ShowsWindow};
+ghost use Rattle.std.specs.Prelude.{◌≡◌, ◌+◌, ◌++◌, ◌≤◌, ◌<◌, ℕ, ◌^◌, ◌-◌, IfOk, MatchOption, OnOk, vec_len, map, min, string_bytes, length};
+ghost use Rattle.psy_draw.specs.Drawing.{column_count, stacked, tells_parts};
+ghost use Rattle.psy_draw.specs.Scales.{place_by};
 ghost use Rattle.psy_draw.specs.Silences.{silent_of};
-ghost use Rattle.psy_draw.specs.Sources.{ShowsSource};
-ghost use Rattle.psy_draw.specs.Showing.{Grows, ShowsRows, ShowsSummary};
+ghost use Rattle.psy_draw.specs.Sources.{IsCrowdedBy, IsFileBy, IsInsideBy};
+ghost use Rattle.psy_draw.specs.Pictures.{IsFileOf, dates_text, inputs_group, lower_text, parts_text};
+ghost use Rattle.psy_draw.specs.Summaries.{behind_table, table_width, tables_text, titles_of};
 ghost use Rattle.psy_draw.specs.Listing.{first_unlisted, first_unasked};
 ghost use Rattle.psy_draw.specs.Dates.{last_date};
 ghost use Rattle.psy_draw.specs.Places.{window_end};
-ghost use Rattle.psy_draw.specs.Spelling.{svg_of};
 ghost use Rattle.psy_draw.specs.Tables.{NamesFault, AllListed};
 
 use crate::DrawFault;
 use crate::axis::{AXIS_HEIGHT, draw_axis, draw_grid};
 use crate::dates::last_date;
 use crate::drawing::draw_lane;
-use crate::file::{TOO_LARGE, file_of, too_large};
+use crate::file::{file_of, too_large};
 use crate::frame::{Frame, LANES_TOP, TABLE_GAP, is_high};
 use crate::head::put_head;
 use crate::hover::TELLING_COLUMNS;
@@ -42,11 +42,12 @@ use std::alloc::Global;
 
 /// The picture of the dates of a run in a window, as an SVG file of at most 2,000,000 bytes with this title. Its lanes are those
 /// of the agents that were stopped up to the window's end, of the variables that have a value there and of the streams; of these
-/// those whose names were asked for, or all where none were. All of them together have at most 40,000 columns, none of less than a
-/// pixel: of several values in one column a line goes over the first, the least, the greatest and the last, a box is filled, and
-/// several messages are one mark. Lines and boxes of a variable that is silent are dashed from there on.
-/// Where a file would be longer, or would have more than 4,096 lanes or rows of a table, it is
-/// one that says so. Notes that are no part of a run are skipped.
+/// those whose names were asked for, or all where none were, as it is with the names of the other variables below them. All lanes
+/// together have at most 40,000 columns of at least a pixel, and each one more where a value stands at the last date: of several
+/// values in one column a line goes over the first, the least, the greatest and the last, a box is filled, and several messages are
+/// one mark. Lines and boxes of a variable that is silent are dashed from there on. The tables of the summary stand at the end.
+/// Where a file would be longer, or would have more than 4,096 lanes, names or rows of a table, it is one that says so. Notes that
+/// are no part of a run are skipped.
 pub fn timeline(
     alloc: Global,
     title: &str,
@@ -64,12 +65,8 @@ pub fn timeline(
     ensures empty { result ≡ Err DrawFault.Empty → (first_unlisted notes.now ≡ None) × (first_unasked notes.now (map string_bytes names.now) ≡ None)
         × (window_end window (last_date notes.now) < window.from) }
     ensures dated { OnOk result (window.from ≤ window_end window (last_date notes.now)) }
-    // The lanes of the window are there, those alone, and each once, unless the picture would be too large.
-    ensures lanes { IfOk result (λ svg. (svg.items ≡ svg_of TOO_LARGE.now)
-        ⊎ ShowsWindow svg.items window (map silent_of silences.now) (map string_bytes names.now) notes.now) }
-    ensures whole { IfOk result (λ svg. (inside : List ℕ) × (svg.items ≡ svg_of inside)) }
-    // The rows of the summary are shown, one below the other, unless the picture would be too large.
-    ensures shown { IfOk result (λ svg. (svg.items ≡ svg_of TOO_LARGE.now) ⊎ ShowsSummary svg.items notes.now) }
+    // The file is the whole picture, exactly where that has room; where it hasn't, it says that the picture would be too large.
+    ensures picture { IfOk result (λ svg. IsFileOf title.now window (map silent_of silences.now) (map string_bytes names.now) notes.now svg.items) }
     ensures small { IfOk result (λ svg. vec_len svg ≤ 2000000) }
 {
     let listed = Listed::of(alloc, notes)?;
@@ -105,10 +102,7 @@ fn drawn(
     ensures unknown { (k : ℕ) → result ≡ Err (DrawFault.Unknown k) → ⊥ }
     ensures empty { result ≡ Err DrawFault.Empty → window_end window (last_date notes.now) < window.from }
     ensures dated { OnOk result (window.from ≤ window_end window (last_date notes.now)) }
-    ensures lanes { IfOk result (λ svg. (svg.items ≡ svg_of TOO_LARGE.now)
-        ⊎ ShowsWindow svg.items window (map silent_of silences.now) (map string_bytes names.now) notes.now) }
-    ensures whole { IfOk result (λ svg. (inside : List ℕ) × (svg.items ≡ svg_of inside)) }
-    ensures shown { IfOk result (λ svg. (svg.items ≡ svg_of TOO_LARGE.now) ⊎ ShowsSummary svg.items notes.now) }
+    ensures picture { IfOk result (λ svg. IsFileOf title.now window (map silent_of silences.now) (map string_bytes names.now) notes.now svg.items) }
     ensures small { IfOk result (λ svg. vec_len svg ≤ 2000000) }
 {
     let lanes = lane_count(notes, names);
@@ -129,9 +123,7 @@ fn drawn(
 
 // The file of a picture by a scale.
 fn file_by(alloc: Global, title: &str, source: Source) -> Result<Vec<u8>, Memory>
-    ensures lanes { IfOk result (λ svg. (svg.items ≡ svg_of TOO_LARGE.now) ⊎ ShowsSource svg.items source.entry) }
-    ensures whole { IfOk result (λ svg. (inside : List ℕ) × (svg.items ≡ svg_of inside)) }
-    ensures shown { IfOk result (λ svg. (svg.items ≡ svg_of TOO_LARGE.now) ⊎ ShowsSummary svg.items source.entry.notes.now) }
+    ensures picture { IfOk result (λ svg. IsFileBy title.now source.entry svg.items) }
     ensures small { IfOk result (λ svg. vec_len svg ≤ 2000000) }
 {
     match inside_of(alloc, title, source) {
@@ -143,37 +135,68 @@ fn file_by(alloc: Global, title: &str, source: Source) -> Result<Vec<u8>, Memory
 
 // The inside of the file.
 fn inside_of(alloc: Global, title: &str, source: Source) -> Result<Page, RoomFault>
-    ensures summary { IfOk result (λ page. ShowsSummary page source.entry.notes.now) }
-    ensures lanes { IfOk result (λ page. ShowsSource page source.entry) }
+    ensures inside { IfOk result (λ page. IsInsideBy title.now source.entry page) }
+    ensures room { OnOk result (IsCrowdedBy source.entry → ⊥) }
+    ensures full { result ≡ Err RoomFault.Full → IsCrowdedBy source.entry }
 {
-    let plan = Plan::of(alloc, source)?;
+    let plan = match Plan::of(alloc, source) {
+        Ok(plan) => plan,
+        Err(fault) => return Err(fault),
+    };
     let inputs = Inputs::of(alloc, plan.inputs.as_slice())?;
-    let tables = Tables::of(alloc, source.notes)?;
-    let frame = Frame::of(plan.lanes.as_slice(), &inputs, &tables);
-    let mut page = Page::new(alloc);
-    put_head(&mut page, &frame, source.scale, title)?;
-    put_dates(&mut page, &frame, source.scale)?;
-    put_lanes(
-        alloc,
-        &mut page,
-        source.scale,
-        frame.left,
-        plan.lanes.as_slice(),
-    )?;
-    put_inputs(&mut page, frame.inputs, &inputs)?;
-    put_legend(&mut page, frame.legend)?;
-    put_tables(&mut page, frame.tables, &tables)?;
+    let tables = match Tables::of(alloc, source.notes) {
+        Ok(tables) => tables,
+        Err(fault) => return Err(fault),
+    };
+    let lanes = plan.lanes.as_slice();
+    let page = parts_of(alloc, title, source.scale, lanes, &inputs, &tables)?;
     Ok(page)
 }
 
-fn put_dates(page: &mut Page, frame: &Frame, scale: &Scale) -> Result<(), Memory> {
+// The parts of the picture, one behind the other.
+fn parts_of(
+    alloc: Global,
+    title: &str,
+    scale: &Scale,
+    lanes: &[Lane],
+    inputs: &Inputs,
+    tables: &Tables,
+) -> Result<Page, Memory>
+    requires { length lanes.now ≤ MOST_LANES }
+    ensures { IfOk result (λ page. page ≡ parts_text title.now scale.now.from scale.now.to scale.now.grain lanes.now inputs.now.lines inputs.now.text
+        tables.now.agents.rows.items tables.now.variables.rows.items tables.now.streams.rows.items) }
+{
+    let frame = Frame::of(lanes, inputs, tables);
+    let mut page = Page::new(alloc);
+    put_head(&mut page, &frame, scale, title)?;
+    put_dates(&mut page, &frame, scale)?;
+    put_lanes(alloc, &mut page, scale, frame.left, lanes)?;
+    put_inputs(&mut page, frame.inputs, inputs)?;
+    put_legend(&mut page, frame.legend)?;
+    put_tables(&mut page, frame.tables, tables)?;
+    Ok(page)
+}
+
+fn put_dates(page: &mut Page, frame: &Frame, scale: &Scale) -> Result<(), Memory>
+    ensures { OnOk result (page.new ≡ page.old ++ dates_text scale.now.from scale.now.to scale.now.grain frame.now.left frame.now.bottom) }
+{
     let Frame { left, bottom, .. } = *frame;
     draw_grid(page, scale, left, LANES_TOP, bottom)?;
     let top = LANES_TOP - AXIS_HEIGHT;
     draw_axis(page, scale, Corner { left, top })?;
-    if is_high(bottom) {
-        draw_axis(page, scale, Corner { left, top: bottom })?;
+    put_lower(page, scale, left, bottom)?;
+    Ok(())
+}
+
+// Draws the axis below the lanes, where they are high.
+fn put_lower(page: &mut Page, scale: &Scale, left: u32, bottom: u32) -> Result<(), Memory>
+    requires { 12 ≤ left }
+    ensures { OnOk result (page.new ≡ page.old ++ lower_text scale.now.from scale.now.to scale.now.grain left bottom) }
+{
+    if !is_high(bottom) {
+        return Ok(());
     }
+    draw_axis(page, scale, Corner { left, top: bottom })?;
     Ok(())
 }
 
@@ -187,9 +210,31 @@ fn put_lanes(
 ) -> Result<(), Memory>
     requires room { length lanes.now ≤ MOST_LANES }
     requires beside { 12 ≤ left }
-    ensures { OnOk result ((drawn : List ℕ) × (page.new ≡ page.old ++ drawn) × Stacks left 56 lanes.now drawn) }
+    ensures { OnOk result (page.new ≡ page.old ++ stacked (place_by scale.now) (tells_parts lanes.now) left 56 lanes.now) }
 {
-    let tells = column_count(lanes) <= TELLING_COLUMNS;
+    put_each_lane(
+        alloc,
+        page,
+        scale,
+        left,
+        lanes,
+        column_count(lanes) <= TELLING_COLUMNS,
+    )
+}
+
+// Draws the lanes, one below the other; their parts tell what they are, where that is asked for.
+fn put_each_lane(
+    alloc: Global,
+    page: &mut Page,
+    scale: &Scale,
+    left: u32,
+    lanes: &[Lane],
+    tells: bool,
+) -> Result<(), Memory>
+    requires room { length lanes.now ≤ MOST_LANES }
+    requires beside { 12 ≤ left }
+    ensures { OnOk result (page.new ≡ page.old ++ stacked (place_by scale.now) tells left 56 lanes.now) }
+{
     let mut top = LANES_TOP;
     for lane in lanes {
         draw_lane(alloc, page, scale, Corner { left, top }, lane, tells)?;
@@ -199,7 +244,9 @@ fn put_lanes(
 }
 
 // How many columns the lanes have together, as far as they are counted.
-fn column_count(lanes: &[Lane]) -> usize {
+fn column_count(lanes: &[Lane]) -> usize
+    ensures { result ≡ min (column_count lanes.now) (2 ^ 64 - 1) }
+{
     let mut count = 0usize;
     for lane in lanes {
         count = count.saturating_add(lane.columns());
@@ -208,7 +255,7 @@ fn column_count(lanes: &[Lane]) -> usize {
 }
 
 fn put_inputs(page: &mut Page, top: u32, inputs: &Inputs) -> Result<(), Memory>
-    ensures { OnOk result (Grows page.old page.new) }
+    ensures { OnOk result (page.new ≡ page.old ++ inputs_group top inputs.now.text) }
 {
     page.put(&[
         Piece::Raw(b"<g class=\"notes\" transform=\"translate(0 "),
@@ -222,10 +269,8 @@ fn put_inputs(page: &mut Page, top: u32, inputs: &Inputs) -> Result<(), Memory>
 
 // Draws the tables side by side.
 fn put_tables(page: &mut Page, top: u32, tables: &Tables) -> Result<(), Memory>
-    ensures grows { OnOk result (Grows page.old page.new) }
-    ensures agents { OnOk result (ShowsRows page.new tables.now.agents.rows.items) }
-    ensures variables { OnOk result (ShowsRows page.new tables.now.variables.rows.items) }
-    ensures streams { OnOk result (ShowsRows page.new tables.now.streams.rows.items) }
+    ensures { OnOk result (page.new ≡ page.old
+        ++ tables_text top tables.now.agents.rows.items tables.now.variables.rows.items tables.now.streams.rows.items) }
 {
     let Tables {
         agents,
@@ -243,6 +288,7 @@ fn put_tables(page: &mut Page, top: u32, tables: &Tables) -> Result<(), Memory>
 // Where the next table begins behind one that begins here.
 fn behind(left: u32, table: &Table) -> u32
     requires { left ≤ 900000 }
+    ensures place { result ≡ behind_table left (table_width (titles_of table.now.heads) table.now.rows.items) }
     ensures above { left ≤ result }
     ensures near { result ≤ left + 3000 }
 {

@@ -2,6 +2,7 @@
 
 ghost use Rattle.std.specs.Prelude.{◌≡◌};
 ghost use Rattle.psy_draw.specs.Places.{depth_of};
+ghost use Rattle.psy_draw.specs.Spans.{bound_letters, span_of, span_with};
 
 use crate::column::Column;
 use crate::labels::letters_of;
@@ -15,22 +16,32 @@ pub struct Span {
 
 impl Span {
     /// The least and the greatest value of some columns.
-    pub fn of(first: &Column, rest: &[Column]) -> Span {
+    pub fn of(first: &Column, rest: &[Column]) -> Span
+        ensures { result ≡ span_of first.now rest.now }
+    {
         let mut span = Span {
             least: first.least,
             greatest: first.greatest,
         };
         for column in rest {
-            span = Span {
-                least: span.least.min(column.least),
-                greatest: span.greatest.max(column.greatest),
-            };
+            span = span.with(column);
         }
         span
     }
 
+    fn with(self, column: &Column) -> Span
+        ensures { result ≡ span_with self column.now }
+    {
+        Span {
+            least: self.least.min(column.least),
+            greatest: self.greatest.max(column.greatest),
+        }
+    }
+
     /// The letters of the least or the greatest value, whichever has more; 0 where they are one.
-    pub fn letters(&self) -> usize {
+    pub fn letters(&self) -> usize
+        ensures { result ≡ bound_letters self.now }
+    {
         if self.least == self.greatest {
             return 0;
         }

@@ -2,7 +2,7 @@
 
 ghost use Rattle.std.specs.Prelude.{◌≡◌, ◌≤◌, ◌++◌, OnOk, length};
 ghost use Rattle.psy_draw.specs.Labels.{cause_of};
-ghost use Rattle.psy_draw.specs.Stops.{silence, stop_mark};
+ghost use Rattle.psy_draw.specs.Stops.{beside_mark, beside_text, silence, stop_inside, stop_mark, stop_text, stop_width};
 
 use crate::labels::{Extent, digits_width, letters_width};
 use crate::page::Page;
@@ -42,9 +42,12 @@ impl Stop {
 }
 
 /// Draws a stop: a mark, its cause and date beside it, and a dashed line up to the end.
-pub fn draw_stop(page: &mut Page, stop: &Stop) -> Result<(), Memory> {
+pub fn draw_stop(page: &mut Page, stop: &Stop) -> Result<(), Memory>
+    ensures { OnOk result (page.new ≡ page.old ++ stop_inside stop.now.x stop.now.date stop.now.trap) }
+{
     put_mark(page, stop.x)?;
-    put_cause(page, stop)
+    put_cause(page, stop)?;
+    Ok(())
 }
 
 fn put_mark(page: &mut Page, x: u32) -> Result<(), Memory>
@@ -58,20 +61,38 @@ fn put_mark(page: &mut Page, x: u32) -> Result<(), Memory>
 }
 
 // Writes the cause at the right of the mark and then the dashed line, or at its left where there is no room.
-fn put_cause(page: &mut Page, stop: &Stop) -> Result<(), Memory> {
-    let cause = cause_of(stop.trap);
-    let width = letters_width(cause.len()) + letters_width(4) + digits_width(stop.date);
-    let right = Extent::new(stop.x + BESIDE, width);
+fn put_cause(page: &mut Page, stop: &Stop) -> Result<(), Memory>
+    ensures { OnOk result (page.new ≡ page.old ++ beside_mark stop.now.x stop.now.date stop.now.trap) }
+{
+    let right = Extent::new(stop.x + BESIDE, width_of(stop));
     if right.to <= PLOT_WIDTH {
-        put_text(page, b"start", right.from, stop)?;
-        put_dashes(page, right.to + 5)
+        put_beside(page, b"start", right.from, right.to + 5, stop)
     } else {
-        put_text(page, b"end", stop.x.saturating_sub(BESIDE), stop)?;
-        put_dashes(page, stop.x + BESIDE)
+        let x = stop.x.saturating_sub(BESIDE);
+        put_beside(page, b"end", x, stop.x + BESIDE, stop)
     }
 }
 
-fn put_text(page: &mut Page, anchor: &[u8], x: u32, stop: &Stop) -> Result<(), Memory> {
+// How wide the cause and the date are.
+fn width_of(stop: &Stop) -> u32
+    ensures wide { result ≡ stop_width stop.now.date stop.now.trap }
+    ensures narrow { result ≤ 2196 }
+{
+    letters_width(cause_of(stop.trap).len()) + letters_width(4) + digits_width(stop.date)
+}
+
+// Writes the cause and the date at a place, and the dashed line from another on.
+fn put_beside(page: &mut Page, anchor: &[u8], x: u32, from: u32, stop: &Stop) -> Result<(), Memory>
+    ensures { OnOk result (page.new ≡ page.old ++ beside_text anchor.now x from stop.now.date stop.now.trap) }
+{
+    put_text(page, anchor, x, stop)?;
+    put_dashes(page, from)?;
+    Ok(())
+}
+
+fn put_text(page: &mut Page, anchor: &[u8], x: u32, stop: &Stop) -> Result<(), Memory>
+    ensures { OnOk result (page.new ≡ page.old ++ stop_text anchor.now x stop.now.date stop.now.trap) }
+{
     page.put(&[
         Piece::Raw(b"<text text-anchor=\""),
         Piece::Raw(anchor),

@@ -1,9 +1,13 @@
 //! A table of the summary.
 
-ghost use Rattle.std.specs.Prelude.{◌≡◌, ◌≤◌, ◌++◌, [], ◌∷◌, OnOk, length};
+ghost use Rattle.std.specs.Prelude.{◌≡◌, ◌≤◌, ◌<◌, ◌+◌, ◌++◌, [], ◌∷◌, Err, OnOk, decimal, length, max};
 ghost use Rattle.psy_draw.specs.declared.room.TheConstants.{MOST_ROWS};
 ghost use Rattle.psy_draw.specs.declared.table.TheConstants.{HEADS};
-ghost use Rattle.psy_draw.specs.Showing.{Grows, ShowsRows, rows_text};
+ghost use Rattle.psy_log.specs.Forms.{number_or_dash};
+ghost use Rattle.psy_draw.specs.Places.{width_of};
+ghost use Rattle.psy_draw.specs.Showing.{rows_text};
+ghost use Rattle.psy_draw.specs.Summaries.{first_end, first_letters, full_table, heads_text, name_letters, second_end, second_letters};
+ghost use Rattle.psy_draw.specs.Summaries.{table_head, table_height, table_text, table_width, titles_of};
 
 use crate::labels::digits_of;
 use crate::layout::{Corner, TABLE_LETTER, width_of};
@@ -39,19 +43,38 @@ struct Letters {
     second: usize,
 }
 
+impl Letters {
+    // As many as these and a row have.
+    fn with(self, row: &Row) -> Letters
+        ensures name { result.name ≡ max self.name (length row.now.name.now) }
+        ensures first { result.first ≡ max self.first (length (decimal row.now.first)) }
+        ensures second { result.second ≡ max self.second (length (number_or_dash row.now.second)) }
+    {
+        Letters {
+            name: self.name.max(row.name.len()),
+            first: self.first.max(digits_of(row.first)),
+            second: self.second.max(second_letters(row.second)),
+        }
+    }
+}
+
 /// A table: its heads, its rows, and how many letters its three columns have.
 #[derive(Drop)]
 pub struct Table<'a> {
-    heads: Heads,
+    pub heads: Heads,
     pub rows: Vec<Row<'a>>,
     letters: Letters,
     ghost room: { length rows.items ≤ MOST_ROWS },
+    ghost names: { letters.name ≡ name_letters (titles_of heads) rows.items },
+    ghost firsts: { letters.first ≡ first_letters (titles_of heads) rows.items },
+    ghost seconds: { letters.second ≡ second_letters (titles_of heads) rows.items },
 }
 
 impl<'a> Table<'a> {
     /// A table without rows.
     pub fn new(alloc: Global, heads: Heads) -> Table<'a>
-        ensures { result.rows.items ≡ [] }
+        ensures rows { result.rows.items ≡ [] }
+        ensures heads { titles_of result.heads ≡ titles_of heads }
     {
         Table {
             heads,
@@ -66,24 +89,23 @@ impl<'a> Table<'a> {
 
     /// Adds a row, where it has room.
     pub fn add(&mut self, row: Row<'a>) -> Result<(), RoomFault>
-        ensures { OnOk result (self.new.rows.items ≡ self.old.rows.items ++ row.entry ∷ []) }
+        ensures rows { OnOk result (self.new.rows.items ≡ self.old.rows.items ++ row.entry ∷ []) }
+        ensures heads { titles_of self.new.heads ≡ titles_of self.old.heads }
+        ensures full { result ≡ Err RoomFault.Full → MOST_ROWS < length self.old.rows.items + 1 }
     {
         if MOST_ROWS <= self.rows.len() {
             return Err(RoomFault::Full);
         }
-        let letters = self.letters;
-        self.letters = Letters {
-            name: letters.name.max(row.name.len()),
-            first: letters.first.max(digits_of(row.first)),
-            second: letters.second.max(second_letters(row.second)),
-        };
+        let letters = self.letters.with(&row);
         self.rows.push(row)?;
+        self.letters = letters;
         Ok(())
     }
 
     /// Its width, and 0 where it has no rows.
     pub fn width(&self) -> u32
-        ensures { result ≤ 2500 }
+        ensures wide { result ≡ table_width (titles_of self.now.heads) self.now.rows.items }
+        ensures narrow { result ≤ 2500 }
     {
         if self.rows.is_empty() {
             return 0;
@@ -93,7 +115,8 @@ impl<'a> Table<'a> {
 
     /// Its height, and 0 where it has no rows.
     pub fn height(&self) -> u32
-        ensures { result ≤ 100000 }
+        ensures high { result ≡ table_height self.now.rows.items }
+        ensures low { result ≤ 100000 }
     {
         if self.rows.is_empty() {
             return 0;
@@ -103,7 +126,9 @@ impl<'a> Table<'a> {
 
     // Where the numbers end.
     fn ends(&self) -> Ends
-        ensures { result.second ≤ 2500 }
+        ensures first { result.first ≡ first_end (titles_of self.now.heads) self.now.rows.items }
+        ensures second { result.second ≡ second_end (titles_of self.now.heads) self.now.rows.items }
+        ensures narrow { result.second ≤ 2500 }
     {
         let letters = self.letters;
         let first = width_of(letters.name, TABLE_LETTER)
@@ -115,19 +140,18 @@ impl<'a> Table<'a> {
 
     /// Draws it, or nothing where it has no rows.
     pub fn draw(&self, page: &mut Page, corner: Corner) -> Result<(), Memory>
-        ensures grows { OnOk result (Grows page.old page.new) }
-        ensures rows { OnOk result (ShowsRows page.new self.now.rows.items) }
+        ensures { OnOk result (page.new ≡ page.old ++ table_text corner.left corner.top (titles_of self.now.heads) self.now.rows.items) }
     {
         if self.rows.is_empty() {
             return Ok(());
         }
-        page.put(&[
-            Piece::Raw(b"<g class=\"table\" transform=\"translate("),
-            Piece::Number(corner.left),
-            Piece::Raw(b" "),
-            Piece::Number(corner.top),
-            Piece::Raw(b")\">\n"),
-        ])?;
+        self.put_table(page, corner)
+    }
+
+    fn put_table(&self, page: &mut Page, corner: Corner) -> Result<(), Memory>
+        ensures { OnOk result (page.new ≡ page.old ++ full_table corner.left corner.top (titles_of self.now.heads) self.now.rows.items) }
+    {
+        put_table_head(page, corner)?;
         let ends = self.ends();
         put_heads(page, ends, self.heads)?;
         put_rows(page, ends, self.rows.as_slice())?;
@@ -149,8 +173,20 @@ fn put_rows(page: &mut Page, ends: Ends, rows: &[Row]) -> Result<(), Memory>
     Ok(())
 }
 
+fn put_table_head(page: &mut Page, corner: Corner) -> Result<(), Memory>
+    ensures { OnOk result (page.new ≡ page.old ++ table_head corner.left corner.top) }
+{
+    page.put(&[
+        Piece::Raw(b"<g class=\"table\" transform=\"translate("),
+        Piece::Number(corner.left),
+        Piece::Raw(b" "),
+        Piece::Number(corner.top),
+        Piece::Raw(b")\">\n"),
+    ])
+}
+
 fn put_heads(page: &mut Page, ends: Ends, heads: Heads) -> Result<(), Memory>
-    ensures { OnOk result (Grows page.old page.new) }
+    ensures { OnOk result (page.new ≡ page.old ++ heads_text ends.first ends.second (titles_of heads)) }
 {
     page.put(&[
         Piece::Raw(b"<path class=\"rule\" d=\"M0 17H"),
@@ -169,7 +205,9 @@ fn put_heads(page: &mut Page, ends: Ends, heads: Heads) -> Result<(), Memory>
     ])
 }
 
-fn second_letters(second: Option<u64>) -> usize {
+fn second_letters(second: Option<u64>) -> usize
+    ensures { result ≡ length (number_or_dash second) }
+{
     match second {
         Some(number) => digits_of(number),
         None => 1,

@@ -1,8 +1,9 @@
 //! The tables of the summary.
 
-ghost use Rattle.std.specs.Prelude.{◌≡◌, ◌≤◌, ◌++◌, IfOk, OnOk};
+ghost use Rattle.std.specs.Prelude.{◌≡◌, ◌≤◌, ◌++◌, Err, IfOk, OnOk};
 ghost use Rattle.std.specs.List.{flat_map};
 ghost use Rattle.psy_draw.specs.Showing.{agent_rows, stream_rows, variable_rows};
+ghost use Rattle.psy_draw.specs.Summaries.{HasManyRows, agent_titles, stream_titles, tables_height, tables_width, titles_of, variable_titles};
 
 use crate::frame::TABLE_GAP;
 use crate::layout::MARGIN;
@@ -18,6 +19,9 @@ pub struct Tables<'a> {
     pub agents: Table<'a>,
     pub variables: Table<'a>,
     pub streams: Table<'a>,
+    ghost agent_heads: { titles_of agents.heads ≡ agent_titles },
+    ghost variable_heads: { titles_of variables.heads ≡ variable_titles },
+    ghost stream_heads: { titles_of streams.heads ≡ stream_titles },
 }
 
 impl<'a> Tables<'a> {
@@ -26,6 +30,8 @@ impl<'a> Tables<'a> {
         ensures agents { IfOk result (λ tables. tables.agents.rows.items ≡ flat_map agent_rows notes.now) }
         ensures variables { IfOk result (λ tables. tables.variables.rows.items ≡ flat_map variable_rows notes.now) }
         ensures streams { IfOk result (λ tables. tables.streams.rows.items ≡ flat_map stream_rows notes.now) }
+        ensures full { result ≡ Err RoomFault.Full
+            → HasManyRows (flat_map agent_rows notes.now) (flat_map variable_rows notes.now) (flat_map stream_rows notes.now) }
     {
         let mut tables = Tables {
             agents: Table::new(
@@ -54,7 +60,9 @@ impl<'a> Tables<'a> {
             ),
         };
         for note in notes {
-            tables.add(*note)?;
+            if let Err(fault) = tables.add(*note) {
+                return Err(fault);
+            }
         }
         Ok(tables)
     }
@@ -63,6 +71,8 @@ impl<'a> Tables<'a> {
         ensures agents { OnOk result (self.new.agents.rows.items ≡ self.old.agents.rows.items ++ agent_rows note.entry) }
         ensures variables { OnOk result (self.new.variables.rows.items ≡ self.old.variables.rows.items ++ variable_rows note.entry) }
         ensures streams { OnOk result (self.new.streams.rows.items ≡ self.old.streams.rows.items ++ stream_rows note.entry) }
+        ensures full { result ≡ Err RoomFault.Full → HasManyRows (self.old.agents.rows.items ++ agent_rows note.entry)
+            (self.old.variables.rows.items ++ variable_rows note.entry) (self.old.streams.rows.items ++ stream_rows note.entry) }
     {
         match note {
             Note::AgentEnd {
@@ -94,7 +104,8 @@ impl<'a> Tables<'a> {
 
     /// The width of all of them, side by side.
     pub fn width(&self) -> u32
-        ensures { result ≤ 9000 }
+        ensures wide { result ≡ tables_width self.now.agents.rows.items self.now.variables.rows.items self.now.streams.rows.items }
+        ensures narrow { result ≤ 9000 }
     {
         self.agents.width()
             + self.variables.width()
@@ -105,7 +116,8 @@ impl<'a> Tables<'a> {
 
     /// The height of the highest.
     pub fn height(&self) -> u32
-        ensures { result ≤ 100000 }
+        ensures high { result ≡ tables_height self.now.agents.rows.items self.now.variables.rows.items self.now.streams.rows.items }
+        ensures low { result ≤ 100000 }
     {
         self.agents
             .height()

@@ -2,7 +2,7 @@
 
 ghost use Rattle.std.specs.Prelude.{◌≡◌, ◌++◌, [], ◌∷◌, IfOk, OnOk};
 ghost use Rattle.std.specs.List.{flat_map};
-ghost use Rattle.psy_draw.specs.Columns.{AddsValues, Keeps, dated};
+ghost use Rattle.psy_draw.specs.Columns.{AddsValues, Keeps, dated, is_there, is_there_still};
 ghost use Rattle.psy_draw.specs.Lanes.{held_values, last_alone, message_values, messages_within, values_before, values_within};
 ghost use Rattle.psy_draw.specs.Scales.{place_by};
 ghost use Rattle.psy_draw.specs.Told.{values_of};
@@ -28,7 +28,8 @@ pub fn variable_columns(
     name: &[u8],
     scale: &Scale,
 ) -> Result<Vec<Column>, Memory>
-    ensures { IfOk result (λ columns. Keeps (place_by scale.now) (held_values scale.now.from scale.now.to name.now notes.now) columns.items) }
+    ensures { IfOk result (λ columns. Keeps (place_by scale.now) (is_there_still (place_by scale.now))
+        (held_values scale.now.from scale.now.to name.now notes.now) columns.items) }
 {
     let mut columns = first_columns(alloc, notes, name, scale)?;
     for note in notes {
@@ -38,13 +39,15 @@ pub fn variable_columns(
 }
 
 // The column of the value that a variable has at the first date, where it has one.
+#[tactic(auto, using(crate::proofs::Keeping::keeps_nothing))]
 fn first_columns(
     alloc: Global,
     notes: &[Note],
     name: &[u8],
     scale: &Scale,
 ) -> Result<Vec<Column>, Memory>
-    ensures { IfOk result (λ columns. Keeps (place_by scale.now) (last_alone (flat_map (values_before scale.now.from name.now) notes.now)) columns.items) }
+    ensures { IfOk result (λ columns. Keeps (place_by scale.now) (is_there_still (place_by scale.now))
+        (last_alone (flat_map (values_before scale.now.from name.now) notes.now)) columns.items) }
 {
     let columns = Vec::new(alloc);
     match value_before(notes, name, scale) {
@@ -54,8 +57,8 @@ fn first_columns(
 }
 
 fn with_value(columns: Vec<Column>, scale: &Scale, told: Told) -> Result<Vec<Column>, Memory>
-    ensures { IfOk result (λ new. Keeps (place_by scale.now) [] columns.items
-        → Keeps (place_by scale.now) (dated told.date told.value ∷ []) new.items) }
+    ensures { IfOk result (λ new. Keeps (place_by scale.now) (is_there_still (place_by scale.now)) [] columns.items
+        → Keeps (place_by scale.now) (is_there_still (place_by scale.now)) (dated told.date told.value ∷ []) new.items) }
 {
     let mut columns = columns;
     add_value(&mut columns, scale, told.date, told.value)?;
@@ -105,7 +108,8 @@ fn add_variable(
     name: &[u8],
     scale: &Scale,
 ) -> Result<(), Memory>
-    ensures { OnOk result (AddsValues (place_by scale.now) (values_within scale.now.from scale.now.to name.now note.now) columns.old.items columns.new.items) }
+    ensures { OnOk result (AddsValues (place_by scale.now) (is_there_still (place_by scale.now))
+        (values_within scale.now.from scale.now.to name.now note.now) columns.old.items columns.new.items) }
 {
     match *note {
         Note::Value {
@@ -126,7 +130,8 @@ pub fn stream_columns(
     name: &[u8],
     scale: &Scale,
 ) -> Result<Vec<Column>, Memory>
-    ensures { IfOk result (λ columns. Keeps (place_by scale.now) (message_values scale.now.from scale.now.to name.now notes.now) columns.items) }
+    ensures { IfOk result (λ columns. Keeps (place_by scale.now) (is_there (place_by scale.now))
+        (message_values scale.now.from scale.now.to name.now notes.now) columns.items) }
 {
     let mut columns = Vec::new(alloc);
     for note in notes {
@@ -141,8 +146,8 @@ fn add_message(
     name: &[u8],
     scale: &Scale,
 ) -> Result<(), Memory>
-    ensures { OnOk result (AddsValues (place_by scale.now) (messages_within scale.now.from scale.now.to name.now note.now)
-        columns.old.items columns.new.items) }
+    ensures { OnOk result (AddsValues (place_by scale.now) (is_there (place_by scale.now))
+        (messages_within scale.now.from scale.now.to name.now note.now) columns.old.items columns.new.items) }
 {
     match *note {
         Note::Message {

@@ -1,13 +1,16 @@
 -- What is written of a token with which no program goes on: what may stand there, and a hint.
-use Rattle.std.specs.Prelude.{◌≡◌, ℕ, ◌+◌, ◌<◌, ◌≤◌, ◌==◌, Bool, true, false, if◌then◌else◌, MatchBool, List, [], ◌++◌, length, map, take, codes}
+use Rattle.std.specs.Prelude.{◌≡◌, ℕ, ◌+◌, ◌<◌, ◌≤◌, ◌==◌, Bool, true, false, if◌then◌else◌, MatchBool, List, [], ◌++◌, length, map, take, codes, decimal}
 use Rattle.std.specs.Prelude.{option_to_list, Option, None, Some}
 use denote.Enum.Bare.{sameb}
-use Rattle.psy_base.specs.declared.limits.TheConstants.{FILE_BYTES}
+use Rattle.psy_base.specs.declared.limits.TheConstants.{ADVANCE, FILE_BYTES, TURNS}
 use Rattle.psy_tree.specs.declared.token.Token.{Token}
+use Rattle.psy_tree.specs.declared.token.Word.{Word}
+use Rattle.psy_tree.specs.declared.token.Word.TheVariants as words
+use Rattle.psy_tree.specs.Lexemes.{word_spelling}
 use Rattle.psy_expect.specs.contracts.hint.Hint as hint_kind
 use Rattle.psy_expect.specs.declared.around.Around.{Around}
 use Rattle.psy_expect.specs.declared.hint.Hint.{Hint}
-use Rattle.psy_expect.specs.declared.hint.Hint.TheVariants.{Close, FunctionInside, Missing}
+use Rattle.psy_expect.specs.declared.hint.Hint.TheVariants.{AdvanceAlone, Close, FunctionInside, MaxAlone, Missing}
 use Rattle.psy_expect.specs.declared.phrase.Phrase.{Phrase}
 use Rattle.psy_expect.specs.declared.terminal.Terminal.{Terminal}
 use Rattle.psy_expect.specs.declared.terminal.TheConstants.{EVERY}
@@ -50,9 +53,21 @@ missing_words missing = codes "hint: " ++ listed (map phrase_words missing) ++ c
 abbrev pub words_line : List ℕ → List ℕ
 words_line words = codes "hint: " ++ words ++ codes "\n"
 
--- What is missing, or the words of another hint
+-- `behind `WORD` stands a number alone, from 1 to GREATEST`
+unfoldable pub alone_words : Word → ℕ → List ℕ
+alone_words word greatest = codes "behind `" ++ word_spelling word ++ codes "` stands a number alone, from 1 to " ++ decimal greatest
+
+-- The line that says so, and what else is told
+abbrev pub alone_line : Word → ℕ → List ℕ → List ℕ
+alone_line word greatest more = codes "hint: " ++ alone_words word greatest ++ codes ": no sign, no name and no expression" ++ more ++ codes "\n"
+
+-- What is missing, that a number stands alone and its range, or the words of another hint
 abbrev pub told_hint : Hint → List Phrase → List ℕ
-told_hint hint missing = if sameb hint_kind.the_type hint Missing then missing_words missing else words_line (hint_words hint)
+told_hint hint missing =
+    if sameb hint_kind.the_type hint Missing then missing_words missing
+    else if sameb hint_kind.the_type hint MaxAlone then alone_line words.Max TURNS (codes "; a loop may end sooner by its condition")
+    else if sameb hint_kind.the_type hint AdvanceAlone then alone_line words.Advance ADVANCE []
+    else words_line (hint_words hint)
 
 -- `hint: ..`, where there is one
 abbrev pub hint_line : Option Hint → List Phrase → List ℕ

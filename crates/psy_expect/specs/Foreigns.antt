@@ -40,6 +40,12 @@ is_print name =
     bytes_eq name (codes "print") || (bytes_eq name (codes "printf") || (bytes_eq name (codes "println")
     || (bytes_eq name (codes "puts") || (bytes_eq name (codes "echo") || bytes_eq name (codes "write")))))
 
+-- Words for operators, in small letters or in capitals
+abbrev pub is_operator : List ℕ → Bool
+is_operator name =
+    str_eq_ignore_ascii_case name (codes "and") || (str_eq_ignore_ascii_case name (codes "or") || (str_eq_ignore_ascii_case name (codes "not")
+    || (str_eq_ignore_ascii_case name (codes "mod") || str_eq_ignore_ascii_case name (codes "xor"))))
+
 -- A name is one of the words of which this is told.
 abbrev pub is_spelled : Foreign → List ℕ → Bool
 is_spelled For name = bytes_eq name (codes "for") || bytes_eq name (codes "foreach")
@@ -60,8 +66,7 @@ is_spelled Function name =
 is_spelled ElseIf name = bytes_eq name (codes "elif") || (bytes_eq name (codes "elsif") || bytes_eq name (codes "elseif"))
 is_spelled Then name = bytes_eq name (codes "then")
 is_spelled Times name = bytes_eq name (codes "times")
-is_spelled Logical name =
-    bytes_eq name (codes "and") || (bytes_eq name (codes "or") || (bytes_eq name (codes "not") || bytes_eq name (codes "mod")))
+is_spelled Logical name = is_operator name
 is_spelled Wait name =
     bytes_eq name (codes "wait") || (bytes_eq name (codes "delay") || (bytes_eq name (codes "sleep") || bytes_eq name (codes "pause")))
 is_spelled Print name = is_print name

@@ -18,7 +18,7 @@ use Rattle.psy_expect.specs.declared.hint.Hint.TheVariants.{FormTemporal, FormIn
 use Rattle.psy_expect.specs.declared.hint.Hint.TheVariants.{FormAdvance, FormAssign, FunctionInside, Print, NotEqual, NoResult, BodyMissing}
 use Rattle.psy_expect.specs.declared.hint.Hint.TheVariants.{Ended, BodyEnded, SecondTick, SecondBody, InsideAgent, NoSemicolon, LookName, Cast, ReservedCall}
 use Rattle.psy_expect.specs.declared.hint.Hint.TheVariants.{NoParameters, Structure, External, IncrementWithin, Arrow, Pointer, Sizeof, MaxAlone}
-use Rattle.psy_expect.specs.declared.hint.Hint.TheVariants.{AdvanceAlone, Signed, Block}
+use Rattle.psy_expect.specs.declared.hint.Hint.TheVariants.{Round, AdvanceAlone, Signed, Block, LoopComparison}
 use Rattle.psy_expect.specs.declared.hint.Hint.TheVariants.{Constant, Repeats, Cells, Dimension, FunctionArray, Period, FirstTemporal, FirstInput, Depth}
 use Rattle.psy_expect.specs.declared.terminal.Terminal.{Terminal}
 use Rattle.psy_expect.specs.declared.terminal.Terminal.TheVariants.{Word, Name, Number, Sign}
@@ -189,6 +189,11 @@ is_number_alone a told =
     (is_among a.here VALUES && (has told Number && not (has told Name)))
     || (is_among a.here OPERATORS && (is a.before Number && (not (has told (Sign signs.Plus)) && not (has told (Sign signs.Star)))))
 
+-- An operator stands behind a number, a `)` before it mends, and none stands two behind it, which would end an expression in the place of the number
+abbrev pub is_round_missing : Around → List Terminal → Bool
+is_round_missing a mends =
+    is a.before Number && (is_among a.here (members Operator) && (has mends (Sign signs.CloseRound) && not (is a.further (Sign signs.CloseRound))))
+
 -- This terminal stands before the place, or before that which stands there
 abbrev pub is_behind : Around → Terminal → Bool
 is_behind a t = is a.before t || is a.earlier t
@@ -269,6 +274,7 @@ fits NameAlone a told mends extra =
     is a.here (Sign signs.Semicolon) && (is a.before Name && (is a.starter Name && has told (Sign signs.Assign)))
 fits NoResult a told mends extra = is a.before (Word words.Return) && (is a.here (Sign signs.Semicolon) || is a.here (Sign signs.CloseBrace))
 fits Chain a told mends extra = is a.here (Sign signs.Assign) && (has told (Sign signs.Equal) && has told (Sign signs.Semicolon))
+fits LoopComparison a told mends extra = is a.here (Sign signs.Assign) && (is a.starter (Word words.While) && has told (Sign signs.Equal))
 fits Comparison a told mends extra = is a.here (Sign signs.Assign) && has told (Sign signs.Equal)
 fits Assignment a told mends extra = is a.here (Sign signs.Equal) && has told (Sign signs.Assign)
 fits OneByOne a told mends extra = is a.here (Sign signs.Comma) && (has told (Sign signs.Assign) || has told (Sign signs.Semicolon))
@@ -305,6 +311,7 @@ fits ReservedCall a told mends extra = is_called a && (has told (Sign signs.Tild
 fits Reserved a told mends extra =
     is_reserved a.here && (has told Name && (not (has told (Word words.If)) || (is a.behind (Sign signs.Assign) || is a.behind (Sign signs.OpenSquare))))
 fits Brackets a told mends extra = is_among a.before LOOKS && has told (Sign signs.OpenRound)
+fits Round a told mends extra = is_round_missing a mends
 fits MaxAlone a told mends extra = is_behind a (Word words.Max) && is_number_alone a told
 fits AdvanceAlone a told mends extra = is_behind a (Word words.Advance) && is_number_alone a told
 fits Signed a told mends extra = is a.here (Sign signs.Minus) && is_number_alone a told
@@ -335,17 +342,17 @@ RULES =
     FunctionInside ∷ DeclarationInBody ∷ DeclarationBehindBody ∷ Width ∷ Constant ∷ Modifier ∷ NoParameters ∷ Void ∷ FunctionWord ∷ Structure ∷ External
     ∷ NoFor ∷ OtherLoop ∷ Jump ∷ Switch ∷ ElseIf ∷ Else ∷ SmallLetters ∷ Then ∷ Times ∷ Logical ∷ Wait ∷ Print ∷ ValueAlone ∷ TickAsClock ∷ IncrementWithin
     ∷ Increment ∷ Compound ∷ LessOrEqual ∷ NotEqual ∷ Unlike ∷ Power ∷ Arrow ∷ Pointer ∷ UnaryPlus ∷ Sizeof ∷ Cast ∷ Square ∷ Cells ∷ Dimension ∷ Global
-    ∷ NoValue ∷ NameAlone ∷ NoResult ∷ Chain ∷ Comparison ∷ Assignment ∷ OneByOne ∷ Call ∷ Prototype ∷ Brackets ∷ MaxAlone ∷ AdvanceAlone ∷ Signed
-    ∷ NumberAlone ∷ LeaveOut ∷ EmptyCondition ∷ BodyMissing ∷ Extra ∷ Braces ∷ After ∷ NoStatement ∷ Ended ∷ Outside ∷ Repeats ∷ NoBody ∷ BodyEnded
-    ∷ SecondTick ∷ SecondBody ∷ InsideAgent ∷ Back ∷ Close ∷ ElseAlone ∷ Semicolon ∷ FormTick ∷ NoSemicolon ∷ Missing ∷ Block ∷ LookName ∷ ReservedCall
-    ∷ Reserved ∷ SemicolonAtEnd ∷ FunctionArray ∷ Period ∷ FirstTemporal ∷ FirstInput ∷ Depth ∷ FormClock ∷ FormTemporal ∷ FormInput ∷ FormStream ∷ FormAgent
-    ∷ FormInt ∷ FormIf ∷ FormWhile ∷ FormSend ∷ FormAdvance ∷ FormAssign ∷ []
+    ∷ NoValue ∷ NameAlone ∷ NoResult ∷ Chain ∷ LoopComparison ∷ Comparison ∷ Assignment ∷ OneByOne ∷ Call ∷ Prototype ∷ Brackets ∷ Round ∷ MaxAlone
+    ∷ AdvanceAlone ∷ Signed ∷ NumberAlone ∷ LeaveOut ∷ EmptyCondition ∷ BodyMissing ∷ Extra ∷ Braces ∷ After ∷ NoStatement ∷ Ended ∷ Outside ∷ Repeats
+    ∷ NoBody ∷ BodyEnded ∷ SecondTick ∷ SecondBody ∷ InsideAgent ∷ Back ∷ Close ∷ ElseAlone ∷ Semicolon ∷ FormTick ∷ NoSemicolon ∷ Missing ∷ Block
+    ∷ LookName ∷ ReservedCall ∷ Reserved ∷ SemicolonAtEnd ∷ FunctionArray ∷ Period ∷ FirstTemporal ∷ FirstInput ∷ Depth ∷ FormClock ∷ FormTemporal
+    ∷ FormInput ∷ FormStream ∷ FormAgent ∷ FormInt ∷ FormIf ∷ FormWhile ∷ FormSend ∷ FormAdvance ∷ FormAssign ∷ []
 
 -- The first rule that fits
 abbrev pub hint_of : Around → List Terminal → List Terminal → Bool → Option Hint
 hint_of a told mends extra = find (λ hint. fits hint a told mends extra) RULES
 
--- What is told where a rule fits; nothing of what is missing, which is told by its own words
+-- What is told where a rule fits; nothing of what is missing, or of a number alone with a range, which are told in words of their own
 abbrev pub hint_words : Hint → List ℕ
 hint_words FunctionInside = codes "a function stands outside of agents and of other functions: put it above, or add the `}` that is missing further up"
 hint_words DeclarationInBody = codes "variables are declared before the statements: those of an agent before `body`, those of a function at its head"
@@ -367,7 +374,7 @@ hint_words Else = codes "statements under `else` stand in braces, also where the
 hint_words SmallLetters = codes "reserved words are written in small letters"
 hint_words Then = codes "there is no `then`: behind the condition stands `{`"
 hint_words Times = codes "the sign of a product is `*`, as in `clock c = 10 * tick;`"
-hint_words Logical = codes "the operators are written `&&`, `||`, `!` and `%`"
+hint_words Logical = codes "the operators are written `&&`, `||`, `!` and `%`, and those of bits `&`, `|`, `^` and `~`"
 hint_words Wait = codes "time passes at `advance`, as in `advance 1 on c;`"
 hint_words Print = codes "there is no `print`: a run writes its temporal variables and messages, so give the value to a temporal variable"
 hint_words ValueAlone = codes "a value is no statement: give it to a variable, as in `n = take(s);`"
@@ -379,7 +386,8 @@ hint_words LessOrEqual = codes "`<=` and `>=` are written with the `=` behind"
 hint_words NotEqual = codes "`!=` is written with the `=` behind"
 hint_words Unlike = codes "that two values differ is written `!=`"
 hint_words Power = codes "there is no `**`: write a product"
-hint_words Arrow = codes "there is no `->`, and names have no parts: write the name alone, or what looks at it, as in `take(s)`"
+hint_words Arrow =
+    codes "there is no `->`, and names have no parts: a function may give a part of a value, as in `sender(frame)`, and `take(s)` gives a message"
 hint_words Pointer = codes "there are no pointers and no addresses: a name stands for its value, and a function gives one value, by `return`"
 hint_words UnaryPlus = codes "there is no `+` before a value: leave it out"
 hint_words Sizeof = codes "there is no `sizeof`: write the number of cells with which the array is declared"
@@ -392,6 +400,8 @@ hint_words NoValue = codes "a variable has a first value, as in `int n = 0;`"
 hint_words NameAlone = codes "a name is no statement: assign to it, as in `v = 1;`"
 hint_words NoResult = codes "a function gives a value, as in `return 0;`; a `body` has no `return`: what an action does ends at its `advance`"
 hint_words Chain = codes "an assignment has no value: write a statement for each variable; a comparison is written `==`"
+hint_words LoopComparison =
+    codes "a comparison is written `==`; `=` assigns, in statements of their own: one before the loop, and one at the end of what it repeats"
 hint_words Comparison = codes "a comparison is written `==`; `=` assigns, in a statement of its own before this one, as in `n = take(s);`"
 hint_words Assignment = codes "an assignment is written `=`"
 hint_words OneByOne = codes "a declaration has one name, and a statement one assignment: end it with `;`, and begin another"
@@ -425,8 +435,9 @@ hint_words ReservedCall =
     codes "this word is reserved, and no function has it as its name: declare one of another name, as in `int larger(int a, int b) { .. }`"
 hint_words Reserved = codes "this word is reserved, and can't be a name: choose another"
 hint_words Brackets = codes "what is looked at stands in brackets: `past(v, 0)`, `ready(s)`, `take(s)`"
-hint_words MaxAlone = codes "behind `max` stands a number alone, from 1 to 65536: no sign, no name and no expression; a loop may end sooner by its condition"
-hint_words AdvanceAlone = codes "behind `advance` stands a number alone, from 1 to 1024: no sign, no name and no expression"
+hint_words Round = codes "a `)` is missing before this"
+hint_words MaxAlone = []
+hint_words AdvanceAlone = []
 hint_words Signed = codes "here stands a number alone, and without a sign: it tells how many, and is never below 0"
 hint_words NumberAlone = codes "here stands a number alone, and neither a name nor an expression"
 hint_words SemicolonAtEnd = codes "a `;` is missing before this"

@@ -4,11 +4,14 @@ ghost use Rattle.psy_expect.specs.Braces.{brace_of, open_brace, sign_brace};
 
 use psy_tree::{Kind, Sign, Token};
 
-// What a token does to braces.
+/// What a token does to braces.
 #[derive(Clone, Copy, Debug, PartialEq, Eq)]
-enum Brace {
+pub enum Brace {
+    /// It is a `{`.
     Opens,
+    /// It is a `}`.
     Closes,
+    /// It is another.
     Neither,
 }
 
@@ -35,7 +38,8 @@ pub fn open_brace(front: &[Token]) -> Option<u32>
     None
 }
 
-fn brace_of(kind: &Kind) -> Brace
+/// What a kind of tokens does to braces.
+pub fn brace_of(kind: &Kind) -> Brace
     ensures { result ≡ brace_of kind.now }
 {
     match kind {

@@ -3,7 +3,7 @@ ghost use Rattle.std.specs.Prelude.{◌≡◌};
 ghost use Rattle.psy_expect.specs.Hints.{fits, has_ended, is, is_among, is_called, is_end, is_foreign, is_function_inside, is_look, is_loop};
 ghost use Rattle.psy_expect.specs.Hints.{is_modifier, is_nameless, is_nothing, is_one_behind, is_reserved, is_some_few, is_statement, is_twice};
 ghost use Rattle.psy_expect.specs.Hints.{begins_foreign, has_minuses, is_arrow, is_behind, is_cast, is_cast_by_name, is_number_alone};
-ghost use Rattle.psy_expect.specs.Hints.{is_pointer, is_size, is_step_within};
+ghost use Rattle.psy_expect.specs.Hints.{is_pointer, is_round_missing, is_size, is_step_within};
 
 use crate::around::Around;
 use crate::foreign::Foreign;
@@ -215,6 +215,9 @@ pub fn fits(hint: Hint, a: Around, told: &[Terminal], mends: &[Terminal], is_ext
         Hint::Chain => is(a.here, Terminal::Sign(Sign::Assign))
             && (has(told, Terminal::Sign(Sign::Equal))
                 && has(told, Terminal::Sign(Sign::Semicolon))),
+        Hint::LoopComparison => is(a.here, Terminal::Sign(Sign::Assign))
+            && (is(a.starter, Terminal::Word(Word::While))
+                && has(told, Terminal::Sign(Sign::Equal))),
         Hint::Comparison => is(a.here, Terminal::Sign(Sign::Assign))
             && has(told, Terminal::Sign(Sign::Equal)),
         Hint::Assignment => is(a.here, Terminal::Sign(Sign::Equal))
@@ -282,6 +285,7 @@ pub fn fits(hint: Hint, a: Around, told: &[Terminal], mends: &[Terminal], is_ext
                     || (is(a.behind, Terminal::Sign(Sign::Assign))
                         || is(a.behind, Terminal::Sign(Sign::OpenSquare))))),
         Hint::Brackets => is_among(a.before, &LOOKS) && has(told, Terminal::Sign(Sign::OpenRound)),
+        Hint::Round => is_round_missing(a, mends),
         Hint::MaxAlone => is_behind(a, Terminal::Word(Word::Max)) && is_number_alone(a, told),
         Hint::AdvanceAlone => is_behind(a, Terminal::Word(Word::Advance))
             && is_number_alone(a, told),
@@ -523,6 +527,16 @@ fn is_number_alone(a: Around, told: &[Terminal]) -> bool
             && (is(a.before, Terminal::Number)
                 && (!has(told, Terminal::Sign(Sign::Plus))
                     && !has(told, Terminal::Sign(Sign::Star)))))
+}
+
+// Does an operator stand behind a number, with a `)` missing between them?
+fn is_round_missing(a: Around, mends: &[Terminal]) -> bool
+    ensures { result ≡ is_round_missing a mends.now }
+{
+    is(a.before, Terminal::Number)
+        && (is_among(a.here, members(Group::Operator))
+            && (has(mends, Terminal::Sign(Sign::CloseRound))
+                && !is(a.further, Terminal::Sign(Sign::CloseRound))))
 }
 
 // Does this terminal stand before the place, or before that which stands there?

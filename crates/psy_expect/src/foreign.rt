@@ -1,6 +1,7 @@
 //! Names that are words of other languages, or reserved words in other case.
 ghost use Rattle.std.specs.Prelude.{◌≡◌};
-ghost use Rattle.psy_expect.specs.Foreigns.{foreign_of, is_in_small, is_kind_type, is_print, is_signed_type, is_spelled, is_type, is_unsigned_type, small_of};
+ghost use Rattle.psy_expect.specs.Foreigns.{foreign_of, is_in_small, is_kind_type, is_operator, is_print, is_signed_type, is_spelled};
+ghost use Rattle.psy_expect.specs.Foreigns.{is_type, is_unsigned_type, small_of};
 
 use crate::terminal::{EVERY, Terminal};
 use psy_token::word_spelling;
@@ -120,11 +121,7 @@ fn is_spelled(foreign: Foreign, name: &[u8]) -> bool
         }
         Foreign::Then => name == b"then".as_slice(),
         Foreign::Times => name == b"times".as_slice(),
-        Foreign::Logical => {
-            name == b"and".as_slice()
-                || (name == b"or".as_slice()
-                    || (name == b"not".as_slice() || name == b"mod".as_slice()))
-        }
+        Foreign::Logical => is_operator(name),
         Foreign::Wait => {
             name == b"wait".as_slice()
                 || (name == b"delay".as_slice()
@@ -206,6 +203,15 @@ fn is_print(name: &[u8]) -> bool
             || (name == b"println".as_slice()
                 || (name == b"puts".as_slice()
                     || (name == b"echo".as_slice() || name == b"write".as_slice()))))
+}
+
+fn is_operator(name: &[u8]) -> bool
+    ensures { result ≡ is_operator name.now }
+{
+    name.eq_ignore_ascii_case(b"and")
+        || (name.eq_ignore_ascii_case(b"or")
+            || (name.eq_ignore_ascii_case(b"not")
+                || (name.eq_ignore_ascii_case(b"mod") || name.eq_ignore_ascii_case(b"xor"))))
 }
 
 /// The reserved word that a name would be in small letters.

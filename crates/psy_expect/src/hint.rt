@@ -97,6 +97,8 @@ pub enum Hint {
     NoResult,
     /// An assignment as a value.
     Chain,
+    /// `=` in the condition of a loop.
+    LoopComparison,
     /// `=` where a comparison is meant.
     Comparison,
     /// `==` where an assignment is meant.
@@ -109,6 +111,8 @@ pub enum Hint {
     Prototype,
     /// `past`, `ready` or `take` without brackets.
     Brackets,
+    /// A `)` that is missing behind the number of `past`.
+    Round,
     /// A name or an expression behind `max`.
     MaxAlone,
     /// The same behind `advance`.
@@ -207,7 +211,7 @@ pub enum Hint {
     FormAssign,
 }
 
-const HINTS: [Hint; 98] = [
+const HINTS: [Hint; 100] = [
     Hint::FunctionInside,
     Hint::DeclarationInBody,
     Hint::DeclarationBehindBody,
@@ -253,12 +257,14 @@ const HINTS: [Hint; 98] = [
     Hint::NameAlone,
     Hint::NoResult,
     Hint::Chain,
+    Hint::LoopComparison,
     Hint::Comparison,
     Hint::Assignment,
     Hint::OneByOne,
     Hint::Call,
     Hint::Prototype,
     Hint::Brackets,
+    Hint::Round,
     Hint::MaxAlone,
     Hint::AdvanceAlone,
     Hint::Signed,
@@ -324,7 +330,7 @@ pub fn hint_of(
         .find(|hint| fits(*hint, around, told, mends, is_extra))
 }
 
-/// What is told where the rule fits; nothing of what is missing, which is told by its own words.
+/// What is told where the rule fits; nothing of what is missing, or of a number alone with a range, which are told in words of their own.
 pub fn hint_words(hint: Hint) -> &'static [u8]
     ensures { result.now ≡ hint_words hint }
 {
@@ -359,7 +365,8 @@ pub fn hint_words(hint: Hint) -> &'static [u8]
         Hint::SmallLetters => b"reserved words are written in small letters",
         Hint::Then => b"there is no `then`: behind the condition stands `{`",
         Hint::Times => b"the sign of a product is `*`, as in `clock c = 10 * tick;`",
-        Hint::Logical => b"the operators are written `&&`, `||`, `!` and `%`",
+        Hint::Logical =>
+            b"the operators are written `&&`, `||`, `!` and `%`, and those of bits `&`, `|`, `^` and `~`",
         Hint::Wait => b"time passes at `advance`, as in `advance 1 on c;`",
         Hint::Print =>
             b"there is no `print`: a run writes its temporal variables and messages, so give the value to a temporal variable",
@@ -375,7 +382,7 @@ pub fn hint_words(hint: Hint) -> &'static [u8]
         Hint::Unlike => b"that two values differ is written `!=`",
         Hint::Power => b"there is no `**`: write a product",
         Hint::Arrow =>
-            b"there is no `->`, and names have no parts: write the name alone, or what looks at it, as in `take(s)`",
+            b"there is no `->`, and names have no parts: a function may give a part of a value, as in `sender(frame)`, and `take(s)` gives a message",
         Hint::Pointer =>
             b"there are no pointers and no addresses: a name stands for its value, and a function gives one value, by `return`",
         Hint::UnaryPlus => b"there is no `+` before a value: leave it out",
@@ -394,6 +401,8 @@ pub fn hint_words(hint: Hint) -> &'static [u8]
             b"a function gives a value, as in `return 0;`; a `body` has no `return`: what an action does ends at its `advance`",
         Hint::Chain =>
             b"an assignment has no value: write a statement for each variable; a comparison is written `==`",
+        Hint::LoopComparison =>
+            b"a comparison is written `==`; `=` assigns, in statements of their own: one before the loop, and one at the end of what it repeats",
         Hint::Comparison =>
             b"a comparison is written `==`; `=` assigns, in a statement of its own before this one, as in `n = take(s);`",
         Hint::Assignment => b"an assignment is written `=`",
@@ -442,10 +451,8 @@ pub fn hint_words(hint: Hint) -> &'static [u8]
         Hint::Reserved => b"this word is reserved, and can't be a name: choose another",
         Hint::Brackets =>
             b"what is looked at stands in brackets: `past(v, 0)`, `ready(s)`, `take(s)`",
-        Hint::MaxAlone =>
-            b"behind `max` stands a number alone, from 1 to 65536: no sign, no name and no expression; a loop may end sooner by its condition",
-        Hint::AdvanceAlone =>
-            b"behind `advance` stands a number alone, from 1 to 1024: no sign, no name and no expression",
+        Hint::Round => b"a `)` is missing before this",
+        Hint::MaxAlone | Hint::AdvanceAlone => b"",
         Hint::Signed =>
             b"here stands a number alone, and without a sign: it tells how many, and is never below 0",
         Hint::NumberAlone => b"here stands a number alone, and neither a name nor an expression",

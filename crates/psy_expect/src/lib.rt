@@ -17,6 +17,7 @@ mod terminal;
 mod viable;
 
 pub use around::Around;
+pub use brace::{Brace, brace_of};
 pub use foreign::Foreign;
 pub use group::Group;
 pub use hint::Hint;

@@ -2,7 +2,7 @@
 ghost use Rattle.std.specs.Prelude.{◌≡◌, ◌+◌, ◌++◌, ◌≤◌, IfOk, OnOk, length, take};
 ghost use Rattle.psy_base.specs.declared.limits.TheConstants.{FILE_BYTES};
 ghost use Rattle.psy_expect.specs.Advice.{IsAdvice, IsTried, advice_told, brace_told, hint_line, is_of_brace, may_line, may_words, missing_words};
-ghost use Rattle.psy_expect.specs.Advice.{told_hint, words_line};
+ghost use Rattle.psy_expect.specs.Advice.{alone_line, alone_words, told_hint, words_line};
 
 use crate::around::{Around, stands_around};
 use crate::brace::open_brace;
@@ -11,9 +11,11 @@ use crate::hint::{Hint, hint_of, hint_words};
 use crate::mend::{cut_to, goes_on_behind, menders};
 use crate::phrase::{Phrase, add_listed, phrases};
 use crate::terminal::{EVERY, Terminal};
-use psy_base::limits::FILE_BYTES;
+use psy_base::limits::{ADVANCE, FILE_BYTES, TURNS};
 use psy_base::{Items, Memory};
-use psy_tree::Token;
+use psy_text::write::add_number;
+use psy_token::word_spelling;
+use psy_tree::{Token, Word};
 use std::alloc::{AllocError, Global};
 
 // What was tried at a place: which terminals may stand there, which of those mend it, and whether the token there is one too many.
@@ -150,9 +152,40 @@ fn add_hint(out: &mut Vec<u8>, hint: Hint, missing: &[Phrase]) -> Result<(), All
 {
     if hint == Hint::Missing {
         add_missing(out, missing)
+    } else if hint == Hint::MaxAlone {
+        add_alone(
+            out,
+            Word::Max,
+            TURNS,
+            b"; a loop may end sooner by its condition",
+        )
+    } else if hint == Hint::AdvanceAlone {
+        add_alone(out, Word::Advance, ADVANCE, b"")
     } else {
         add_words(out, hint_words(hint))
     }
+}
+
+// That a number stands alone behind a word, its range, and what else is told.
+fn add_alone(out: &mut Vec<u8>, word: Word, greatest: u32, more: &[u8]) -> Result<(), AllocError>
+    ensures { OnOk result (out.new.items ≡ out.old.items ++ alone_line word greatest more.now) }
+{
+    out.extend_from_slice(b"hint: ")?;
+    add_alone_words(out, word, greatest)?;
+    out.extend_from_slice(b": no sign, no name and no expression")?;
+    out.extend_from_slice(more)?;
+    out.push(b'\n')?;
+    Ok(())
+}
+
+#[tactic(auto, unfolding(crate::specs::Advice::alone_words))]
+fn add_alone_words(out: &mut Vec<u8>, word: Word, greatest: u32) -> Result<(), AllocError>
+    ensures { OnOk result (out.new.items ≡ out.old.items ++ alone_words word greatest) }
+{
+    out.extend_from_slice(b"behind `")?;
+    out.extend_from_slice(word_spelling(word))?;
+    out.extend_from_slice(b"` stands a number alone, from 1 to ")?;
+    add_number(out, u64::from(greatest))
 }
 
 fn add_words(out: &mut Vec<u8>, words: &[u8]) -> Result<(), AllocError>

@@ -48,8 +48,8 @@ impl<'a> Listed<'a> {
         }
     }
 
-    // Whether the name in a dated note, where this is one, is among those of its kind.
-    fn has(&self, note: &Note) -> bool
+    /// Whether the name in a dated note, where this is one, is among those of its kind.
+    pub fn has(&self, note: &Note) -> bool
         ensures { result ≡ is_among self.now note.now }
     {
         match *note {

@@ -3,6 +3,8 @@ mod Apart
 mod Filling
 mod Lines
 mod Nexts
+mod OneLine
 mod Plain
+mod Shapes
 mod Total
 mod Walks

@@ -1,5 +1,5 @@
 -- Two readings of one text go the same way.
-use Rattle.std.proofs.Common.{◌≡◌, ◌≢◌, ⊎_elim, ℕ, suc, List, [], ◌∷◌, ◌++◌, None, length, refl, sym, ap, subst, ◌∙◌, append_assoc, append-nil, arith}
+use Rattle.std.proofs.Common.{◌≡◌, ◌≢◌, ⊎_elim, ℕ, suc, ◌≤◌, List, [], ◌∷◌, ◌++◌, None, length, map, refl, sym, ap, subst, ◌∙◌, append_assoc, append-nil, arith}
 use Rattle.std.specs.Prelude.{Contains, IsTrue, IsFalse}
 use Rattle.psy_log.specs.declared.note.Note.{Note}
 use Rattle.psy_log.specs.Forms.{line_of, says}
@@ -21,13 +21,13 @@ stuck : (from : Stand) (text : List ℕ) (note : Note) (to : Stand) (more : List
 stuck from text note to more cannot steps is = ⊎_elim (λ ended. some_line note more steps.0 (sym ended.0 ∙ is)) (λ none. none.1 note to more steps is) cannot
 
 -- Two notes that may stand at the front of one text lead to one stand
-same_step : (from : Stand) (some other : Note) (to on : Stand) (rest more : List ℕ) → Steps from some to → Steps from other on → line_of some ++ rest ≡ line_of other ++ more → (to ≡ on) × (rest ≡ more)
+same_step : (from : Stand) (some other : Note) (to on : Stand) (rest more : List ℕ) → Steps from some to → Steps from other on → line_of some ++ rest ≡ line_of other ++ more → (to ≡ on) × (rest ≡ more) × (says some ≡ says other)
 same_step from some other to on rest more steps goes is =
     let one = one_note (forms_at from) (all_apart-at from) some other rest more steps.0 goes.0 (forms_by from some to steps.1) (forms_by from other on goes.1) is in
     let next : next_stand from some ≡ next_stand from other = alike from some other one.0 in
     let leads = steps.1 in
     let ends = goes.1 in
-    (cc (next, leads, ends), one.1)
+    (cc (next, leads, ends), one.1, one.0)
 
 -- The lines of notes, one more in front
 front : (note : Note) (notes : List Note) (rest : List ℕ) → text_of (note ∷ notes) ++ rest ≡ line_of note ++ (text_of notes ++ rest)
@@ -84,3 +84,28 @@ Leads-push from (first ∷ notes) between note to leads steps = (leads.0, leads.
 pub text_of-push : (notes : List Note) (note : Note) (rest : List ℕ) → text_of (notes ++ note ∷ []) ++ rest ≡ text_of notes ++ (line_of note ++ rest)
 text_of-push [] note rest = simp append-nil
 text_of-push (first ∷ notes) note rest = simp append_assoc (ap (λ t. line_of first ++ t) (text_of-push notes note rest))
+
+-- What a whole reading has behind a front of another one
+abbrev Behind : List Note → List Note → List ℕ → Stand → Stand → Type 0
+Behind notes fronts rest mid last = (more : List Note) × Leads mid more last × (rest ≡ text_of more) × (map says notes ≡ map says fronts ++ map says more)
+
+behind : (from : Stand) (notes fronts : List Note) (last mid : Stand) (rest : List ℕ) → Leads from notes last → Leads from fronts mid
+    → text_of notes ≡ text_of fronts ++ rest → Behind notes fronts rest mid last
+behind from notes [] last mid rest leads goes is = (notes, subst (λ s. Leads s notes last) goes leads, sym is, refl)
+behind from [] (other ∷ fronts) last mid rest leads goes is = absurd (some_line other (text_of fronts ++ rest) goes.1.0 (is ∙ front other fronts rest))
+behind from (note ∷ notes) (other ∷ fronts) last mid rest leads goes is =
+    let same = same_step from note other leads.0 goes.0 (text_of notes) (text_of fronts ++ rest) leads.1 goes.1 (is ∙ front other fronts rest) in
+    let found = behind leads.0 notes fronts last mid rest leads.2 (subst (λ s. Leads s fronts mid) (sym same.0) goes.2) same.1 in
+    (found.0, found.1, found.2, ap (λ s. s ∷ map says notes) same.2 ∙ ap (λ ss. says other ∷ ss) found.3)
+
+-- Each note has a byte at least
+few_notes : (from to : Stand) (notes : List Note) → Leads from notes to → length notes ≤ length (text_of notes)
+few_notes from to [] leads = omega arith
+few_notes from to (note ∷ notes) leads = omega (arith, length-line note (text_of notes) leads.1.0, few_notes leads.0 to notes leads.2)
+
+pub one_front : (first : Stand) (text : List ℕ) (notes fronts : List Note) (mid : Stand) (rest : List ℕ) → IsText first text notes → Leads first fronts mid → text ≡ text_of fronts ++ rest
+    → (more : List Note) × (rest ≡ text_of more) × (length more ≤ length rest) × (map says notes ≡ map says fronts ++ map says more)
+one_front first text notes fronts mid rest read leads is =
+    let found = behind first notes fronts read.last mid rest read.leads leads (sym read.whole ∙ is) in
+    let few : length found.0 ≤ length (text_of found.0) = few_notes mid read.last found.0 found.1 in
+    (found.0, found.2, subst (λ t. length found.0 ≤ length t) (sym found.2) few, found.3)

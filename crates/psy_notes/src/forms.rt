@@ -2,6 +2,7 @@
 ghost use Rattle.std.specs.Prelude.{◌≡◌, ◌≢◌, ℕ, List, ◌++◌, Contains, IfSome, None};
 ghost use Rattle.psy_log.specs.declared.note.Note.{Note};
 ghost use Rattle.psy_log.specs.Forms.{line_of, says};
+ghost use Rattle.psy_notes.specs.Lines.{IsLineOf};
 ghost use Rattle.psy_notes.specs.Notes.{IsTold};
 
 use crate::filled::read_filled;
@@ -42,6 +43,42 @@ pub const REFUSALS: [Form; 7] = [
     Form::Infeasible,
     Form::InfeasibleOn,
 ];
+
+/// The forms by which a line alone is read: those of a run, of a check, of a graph and of a refusal. Left out is the first line of a graph, since each line
+/// of that form is one of a run too.
+pub const LINES: [Form; 22] = [
+    Form::Value,
+    Form::Message,
+    Form::StopOverrun,
+    Form::StopTrap,
+    Form::End,
+    Form::AgentEnd,
+    Form::VariableEnd,
+    Form::StreamEnd,
+    Form::VariableSize,
+    Form::StreamSize,
+    Form::Rate,
+    Form::Always,
+    Form::Feasible,
+    Form::EdgeOf,
+    Form::Node,
+    Form::Words,
+    Form::Read,
+    Form::Limit,
+    Form::Refused,
+    Form::RefusedAt,
+    Form::Infeasible,
+    Form::InfeasibleOn,
+];
+
+/// The note that a line says, its line feed included. None exactly where it says none.
+pub fn read_line(line: &[u8]) -> Option<Note<'_>>
+    ensures some { IfSome result (λ note. IsLineOf line.now note) }
+    ensures none { result ≡ None → (note : Note) → IsLineOf line.now note → ⊥ }
+{
+    let (note, rest) = read_note(&LINES, line)?;
+    if rest.is_empty() { Some(note) } else { None }
+}
 
 /// The note whose line, of one of these forms, stands at the front of a text, and what follows that line. None exactly where there is none.
 pub fn read_note<'a>(forms: &[Form], text: &'a [u8]) -> Option<(Note<'a>, &'a [u8])>

@@ -7,11 +7,13 @@ mod fault;
 mod filled;
 mod forms;
 pub mod laws;
+mod line_front;
 mod read;
 mod stand;
 mod told;
 
 pub use fault::TextFault;
-pub use forms::{CHECK, GRAPH, REFUSALS, RUN, read_note};
+pub use forms::{CHECK, GRAPH, LINES, REFUSALS, RUN, read_line, read_note};
+pub use line_front::{Front, NOTE_BYTES, read_front};
 pub use read::{read_graph, read_run};
 pub use stand::Stand;

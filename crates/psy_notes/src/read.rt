@@ -30,12 +30,12 @@ pub fn read_graph<'a>(alloc: Global, text: &'a [u8]) -> Result<Vec<Note<'a>>, Te
     read(alloc, text, Stand::GRAPH)
 }
 
-// A note, and the text behind its line.
+/// A note, and the text behind its line.
 #[derive(Drop)]
-struct Step<'a> {
-    note: Note<'a>,
-    stand: Stand,
-    rest: &'a [u8],
+pub(crate) struct Step<'a> {
+    pub note: Note<'a>,
+    pub stand: Stand,
+    pub rest: &'a [u8],
 }
 
 // The notes whose lines a text is from this stand on.
@@ -64,8 +64,8 @@ fn read<'a>(alloc: Global, text: &'a [u8], first: Stand) -> Result<Vec<Note<'a>>
     Ok(notes)
 }
 
-// The note whose line stands at the front of a text and may stand there.
-fn first_step(stand: Stand, text: &[u8]) -> Option<Step<'_>>
+/// The note whose line stands at the front of a text and may stand there.
+pub(crate) fn first_step(stand: Stand, text: &[u8]) -> Option<Step<'_>>
     ensures some { IfSome result (λ step. Steps stand step.note step.stand × (text.now ≡ line_of step.note ++ step.rest.now)) }
     ensures shorter { IfSome result (λ step. length step.rest.now < length text.now) }
     ensures none { result ≡ None → (note : Note) (to : Stand) (more : List ℕ) → Steps stand note to → text.now ≢ line_of note ++ more }

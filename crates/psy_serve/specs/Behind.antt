@@ -5,9 +5,10 @@ use Rattle.psy_door.specs.Files.{Files, WhereTold, bytes_under}
 use Rattle.psy_last.specs.Lasts.{last_line}
 use Rattle.psy_where.specs.Explained.{Explains, sentence_line}
 use Rattle.psy_where.specs.declared.plain.Plain.{Plain}
-use Rattle.psy_where.specs.Plains.{plain_of, plain_sentence}
+use Rattle.psy_where.specs.Plains.{IsPlain, plain_sentence}
 use Rattle.psy_report.specs.Asked.{AreAsked}
 use Rattle.psy_words.specs.Faults.{words_told}
+use Rattle.psy_words.specs.Options.{option_told}
 use Rattle.psy_where.specs.Besides.{IsBeside}
 use Rattle.psy_serve.specs.Speaking.{is_of_words, is_refusal, spoken_of}
 
@@ -35,11 +36,12 @@ pub data IsExplained (words : List (List ℕ)) (files : Option Files) (last : Li
       → IsExplanation name bytes line more → IsToldBeside words files bytes line told → IsExplained words files last (more ++ told)
   of_words : (line more : List ℕ) → last ≡ line ++ codes "\n" → is_of_words line ≡ true → more ≡ words_told words → IsExplained words files last more
 
--- What stands behind a line with its line feed that tells of a file which can't be read: nothing, or what that means, behind the file's name.
+-- What stands behind a line with its line feed that tells of a file which can't be read: nothing, or what that means, behind the file's name; and that
+-- there are no options, where the name begins as one does.
 pub data IsTold (words : List (List ℕ)) (last : List ℕ) : List ℕ → Type 0 where
   untold : IsTold words last []
-  told : (line name more : List ℕ) (plain : Plain) → last ≡ line ++ codes "\n" → spoken_of words line ≡ Some name → plain_of line ≡ Some plain
-      → more ≡ sentence_line name (plain_sentence plain) → IsTold words last more
+  told : (line name more : List ℕ) (plain : Plain) → last ≡ line ++ codes "\n" → spoken_of words line ≡ Some name → IsPlain line plain
+      → more ≡ sentence_line name (plain_sentence plain) ++ option_told words name → IsTold words last more
 
 -- What stands behind a text with which psyc answered the words by this status: where it refused, its last line explained; else nothing.
 abbrev pub IsBehind : List (List ℕ) → Option Files → ℕ → List ℕ → List ℕ → Type 0

@@ -25,8 +25,8 @@ use psy_last::LastLine;
 use psy_log::{WriteFault, write_all_of};
 use psy_report::asked_for;
 use psy_run::psyc;
-use psy_where::{beside, explain, plain_told, read_plain};
-use psy_words::words_told;
+use psy_where::{beside, explain, plain_of, plain_told};
+use psy_words::{option_told, words_told};
 use std::alloc::Global;
 
 // The bytes of a file; none where they can't be had.
@@ -181,7 +181,7 @@ fn explain_last<F: Shelf, S: Sink>(
     }
 }
 
-// What a line with its line feed means that tells of a file which can't be read; none where it tells of none.
+// What a line with its line feed means that tells of a file which can't be read, and what is told of an option; none where it tells of none.
 fn meaning_of_unread(alloc: Global, words: &[String], last: &[u8]) -> Option<Vec<u8>>
     ensures { IfSome result (λ more. IsTold (map string_bytes words.now) last.now more.items) }
 {
@@ -190,11 +190,17 @@ fn meaning_of_unread(alloc: Global, words: &[String], last: &[u8]) -> Option<Vec
         return None;
     }
     let name = spoken_of(words, line)?;
-    let plain = read_plain(line)?;
-    match plain_told(alloc, name.as_bytes(), plain) {
-        Ok(more) => Some(more),
-        Err(_) => None,
-    }
+    let note = psy_notes::read_line(last)?;
+    let plain = plain_of(note)?;
+    let file = name.as_bytes();
+    let Ok(meaning) = plain_told(alloc, file, plain) else {
+        return None;
+    };
+    let Ok(option) = option_told(alloc, words, file) else {
+        return None;
+    };
+    let more = joined(meaning, option.as_slice())?;
+    Some(more)
 }
 
 // The same of the last line that was written; no bytes where there is none.

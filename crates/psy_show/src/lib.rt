@@ -11,4 +11,4 @@ mod text;
 
 pub use front::add_shown_in;
 pub use line::add_line;
-pub use text::{add_shown, chars_len};
+pub use text::{add_shown, chars_len, shown};

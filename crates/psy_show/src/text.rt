@@ -27,6 +27,15 @@ pub fn chars_len(bytes: &[u8]) -> usize
     bytes.chars().count()
 }
 
+/// Bytes as they are shown.
+pub fn shown(alloc: Global, bytes: &[u8]) -> Result<Vec<u8>, AllocError>
+    ensures { IfOk result (λ text. text.items ≡ shown bytes.now) }
+{
+    let mut text = Vec::new(alloc);
+    add_shown(&mut text, bytes)?;
+    Ok(text)
+}
+
 /// Adds bytes as they are shown.
 pub fn add_shown(out: &mut Vec<u8>, bytes: &[u8]) -> Result<(), AllocError>
     ensures { OnOk result (out.new.items ≡ out.old.items ++ shown bytes.now) }

@@ -1,6 +1,8 @@
 -- What a file looks like that may stand in another's place.
-use Rattle.std.specs.Prelude.{ℕ, Bool, false, not, ◌&&◌, ◌||◌, if◌then◌else◌, List, [], ◌∷◌, ◌++◌, codes, bytes_eq, find, take, unwrap_or, Option, None, Some}
-use Rattle.std.specs.List.{list_all}
+use Rattle.std.specs.Prelude.{ℕ, Bool, false, not, ◌&&◌, ◌||◌, nat_le, if◌then◌else◌, List, [], ◌∷◌, ◌++◌, codes, bytes_eq, find, length, take, unwrap_or}
+use Rattle.std.specs.Prelude.{Option, None, Some}
+use Rattle.std.specs.List.{list_all, list_any}
+use Rattle.psy_base.specs.declared.limits.TheConstants.{FILE_BYTES}
 use Rattle.psy_slip.specs.declared.look.Look.{Look}
 use Rattle.psy_slip.specs.declared.look.Look.TheVariants.{Program, Inputs, Script, Log}
 use Rattle.psy_slip.specs.declared.slip.File.{File}
@@ -25,6 +27,17 @@ first_said text = unwrap_or (find says (lines_of text)) []
 abbrev pub begins_program : List ℕ → Bool
 begins_program word = bytes_eq word (codes "tick") || bytes_eq (take 2 word) (codes "/*")
 
+-- A declaration other than `tick` begins with this word.
+abbrev pub begins_declaration : List ℕ → Bool
+begins_declaration word =
+    bytes_eq word (codes "clock") || (bytes_eq word (codes "temporal") || (bytes_eq word (codes "input") || (bytes_eq word (codes "stream")
+    || (bytes_eq word (codes "agent") || bytes_eq word (codes "int")))))
+
+-- Behind a name stands no number, as one does in the lines of agents and streams that psyc writes.
+abbrev pub is_declared : List (List ℕ) → Bool
+is_declared (name ∷ word ∷ more) = not (is_number word)
+is_declared _ = false
+
 -- Values, and at least one
 abbrev pub are_values : List (List ℕ) → Bool
 are_values words = not (is_none_of words) && list_all is_value words
@@ -38,21 +51,29 @@ abbrev pub is_note : List (List ℕ) → Bool
 is_note (name ∷ word ∷ more) = not (is_value name)
 is_note _ = false
 
--- A file looks like one of a sort, by the words of its first line that says something: a program by how it begins, a script by a stall or an order, a log by a
--- number and a name, and inputs by a name with values behind it.
+-- A file looks like one of a sort, by the words of its first line that says something: a program by how it begins or by a declaration, a script by a stall or
+-- an order, a log by a number and a name, and inputs by a name with values behind it.
 abbrev pub is_like : Look → List (List ℕ) → Bool
 is_like look [] = false
-is_like Program (word ∷ words) = begins_program word
+is_like Program (word ∷ words) = begins_program word || (begins_declaration word && is_declared words)
 is_like Script (word ∷ words) = begins_statement word
 is_like Inputs (word ∷ words) = not (begins_program word) && are_values words
 is_like Log (word ∷ words) = is_number word && is_note words
 
--- The first of these sorts that it looks like
-abbrev pub look_in : List (List ℕ) → Option Look
-look_in words =
+-- The line at which a log comes to its summary begins so.
+abbrev pub ends : List ℕ → Bool
+ends line = bytes_eq (take 4 line) (codes "end ")
+
+-- A text has that line.
+abbrev pub has_end : List ℕ → Bool
+has_end text = list_any ends (lines_of text)
+
+-- The first of these sorts that it looks like; a log only where it has such an end
+abbrev pub look_in : Bool → List (List ℕ) → Option Look
+look_in ended words =
     if is_like Program words then Some Program
     else if is_like Script words then Some Script
-    else if is_like Log words then Some Log
+    else if ended && is_like Log words then Some Log
     else if is_like Inputs words then Some Inputs
     else None
 
@@ -74,9 +95,9 @@ abbrev pub unlike : Look → Option Look → List ℕ
 unlike wanted None = []
 unlike wanted (Some look) = codes "hint: this file looks like " ++ called look ++ codes ", not like " ++ called wanted ++ codes "\n"
 
--- The same by the words of its first line that says something, where it doesn't look like one of its sort
-abbrev pub look_told : File → List (List ℕ) → List ℕ
-look_told wanted words = if is_like (look_of wanted) words then [] else unlike (look_of wanted) (look_in words)
+-- The same by the words of its first line that says something, and whether it has the end of a log, where it doesn't look like one of its sort
+abbrev pub look_told : File → Bool → List (List ℕ) → List ℕ
+look_told wanted ended words = if is_like (look_of wanted) words then [] else unlike (look_of wanted) (look_in ended words)
 
 -- A text begins with the three bytes of a byte order mark.
 abbrev pub is_marked : List ℕ → Bool
@@ -88,4 +109,8 @@ mark_told = codes "hint: this file begins with a byte order mark, the bytes EF B
 
 -- What is told of the whole of a file that should be of this sort: that a byte order mark stands in front, or that it looks like one of another sort
 abbrev pub file_hint : File → List ℕ → List ℕ
-file_hint wanted text = if is_marked text then mark_told else look_told wanted (words_of (first_said text))
+file_hint wanted text = if is_marked text then mark_told else look_told wanted (has_end text) (words_of (first_said text))
+
+-- A text looks like a program: it has no more bytes than one may have, and begins so.
+abbrev pub is_program : List ℕ → Bool
+is_program text = nat_le (length text) FILE_BYTES && is_like Program (words_of (first_said text))

@@ -1,7 +1,8 @@
 -- What is wrong with a line of inputs or of a script: the word at fault, and what is missing.
 use Rattle.std.specs.Prelude.{ℕ, Bool, false, ◌==◌, not, ◌||◌, if◌then◌else◌, List, [], ◌∷◌, ◌++◌, find, drop, length, take, codes, bytes_eq}
 use Rattle.std.specs.Prelude.{Option, None, Some}
-use Rattle.std.specs.List.{list_any}
+use Rattle.std.specs.Char.{is_ascii_alphabetic}
+use Rattle.std.specs.List.{list_all, list_any}
 use Rattle.psy_slip.specs.declared.slip.File.{File}
 use Rattle.psy_slip.specs.declared.slip.File.TheVariants.{Program, Inputs, Script}
 use Rattle.psy_slip.specs.Agents.{strangers, strangers_told}
@@ -71,10 +72,24 @@ equal_told = codes "between a name and its values stand blanks alone: leave each
 abbrev pub listing_told : List (List ℕ) → Option (List ℕ)
 listing_told words = if has_date words then Some date_told else if list_any has_equal words then Some equal_told else None
 
+-- A word begins with a letter.
+abbrev pub begins_letter : List ℕ → Bool
+begins_letter [] = false
+begins_letter (b ∷ rest) = is_ascii_alphabetic b
+
+-- The names of columns: two words or more, each of which begins so
+abbrev pub is_head : List (List ℕ) → Bool
+is_head (name ∷ word ∷ more) = list_all begins_letter (name ∷ word ∷ more)
+is_head words = false
+
+-- What is told of such a line
+abbrev pub head_told : List ℕ
+head_told = codes "this looks like the head of a table: inputs have no columns and no dates: each line is a name and its values, as in `target 200 300`"
+
 -- What is wrong with the form of a line of inputs, by its words
 abbrev pub listing_slip : List (List ℕ) → List ℕ
 listing_slip [] = []
-listing_slip (name ∷ values) = values_slip name values
+listing_slip (name ∷ values) = if is_head (name ∷ values) then head_told else values_slip name values
 
 -- The same, or that a date or a sign stands in it
 abbrev pub listing_said : List (List ℕ) → List ℕ

@@ -10,5 +10,5 @@ mod range;
 mod slip;
 pub mod told;
 
-pub use look::{Look, file_hint};
+pub use look::{Look, file_hint, is_program};
 pub use slip::{File, slip_line};

@@ -1,12 +1,13 @@
 //! What a file looks like that may stand in another's place.
 ghost use Rattle.std.specs.Prelude.{◌≡◌, ◌++◌, IfOk, OnOk, map};
 ghost use Rattle.std.specs.List.{list_all};
-ghost use Rattle.psy_slip.specs.Looks.{are_values, begins_program, begins_statement, called, file_hint, first_said, is_like, is_marked, is_note};
-ghost use Rattle.psy_slip.specs.Looks.{is_slashed, look_in, look_of, look_told, says, unlike};
+ghost use Rattle.psy_slip.specs.Looks.{are_values, begins_declaration, begins_program, begins_statement, called, ends, file_hint, first_said};
+ghost use Rattle.psy_slip.specs.Looks.{has_end, is_declared, is_like, is_marked, is_note, is_program, is_slashed, look_in, look_of, look_told, says, unlike};
 ghost use Rattle.psy_text.specs.Words.{is_value, words_of};
 
 use crate::slip::File;
 use psy_base::Memory;
+use psy_base::limits::FILE_BYTES;
 use psy_text::line::{cut_line, is_skipped};
 use psy_text::word::{cut_word, is_number, is_value, words_of};
 use std::alloc::{AllocError, Global};
@@ -34,8 +35,19 @@ pub fn file_hint(alloc: Global, wanted: File, text: &[u8]) -> Result<Vec<u8>, Me
         return Ok(hint);
     }
     let words = words_of(alloc, first_said(text))?;
-    add_look(&mut hint, wanted, words.as_slice())?;
+    add_look(&mut hint, wanted, has_end(text), words.as_slice())?;
     Ok(hint)
+}
+
+/// Does a text look like a program, by its length and its first line that says something? The only error is want of memory.
+pub fn is_program(alloc: Global, text: &[u8]) -> Result<bool, Memory>
+    ensures { IfOk result (λ is. is ≡ is_program text.now) }
+{
+    if text.len() > FILE_BYTES {
+        return Ok(false);
+    }
+    let words = words_of(alloc, first_said(text))?;
+    Ok(is_like(Look::Program, words.as_slice()))
 }
 
 // The first line that says something; an empty one where none does.
@@ -68,19 +80,39 @@ fn is_slashed(line: &[u8]) -> bool
     }
 }
 
+// Has a text the line at which a log comes to its summary?
+fn has_end(text: &[u8]) -> bool
+    ensures { result ≡ has_end text.now }
+{
+    let mut rest = text;
+    'each: while let Some(cut) = cut_line(rest) {
+        if ends(cut.front) {
+            return true;
+        }
+        rest = cut.rest;
+    }
+    false
+}
+
+fn ends(line: &[u8]) -> bool
+    ensures { result ≡ ends line.now }
+{
+    line.starts_with(b"end ")
+}
+
 fn is_marked(text: &[u8]) -> bool
     ensures { result ≡ is_marked text.now }
 {
     text.starts_with(b"\xEF\xBB\xBF")
 }
 
-fn add_look(out: &mut Vec<u8>, wanted: File, words: &[&[u8]]) -> Result<(), AllocError>
-    ensures { OnOk result (out.new.items ≡ out.old.items ++ look_told wanted (map (λ w. w.now) words.now)) }
+fn add_look(out: &mut Vec<u8>, wanted: File, ended: bool, words: &[&[u8]]) -> Result<(), AllocError>
+    ensures { OnOk result (out.new.items ≡ out.old.items ++ look_told wanted ended (map (λ w. w.now) words.now)) }
 {
     if is_like(look_of(wanted), words) {
         return Ok(());
     }
-    add_unlike(out, look_of(wanted), look_in(words))
+    add_unlike(out, look_of(wanted), look_in(ended, words))
 }
 
 // What a file of this sort looks like.
@@ -117,15 +149,15 @@ fn called(look: Look) -> &'static [u8]
     }
 }
 
-// The first of the sorts that a file looks like, by the words of its first line that says something.
-fn look_in(words: &[&[u8]]) -> Option<Look>
-    ensures { result ≡ look_in (map (λ w. w.now) words.now) }
+// The first of the sorts that a file looks like, by the words of its first line that says something, and whether it has the end of a log.
+fn look_in(ended: bool, words: &[&[u8]]) -> Option<Look>
+    ensures { result ≡ look_in ended (map (λ w. w.now) words.now) }
 {
     if is_like(Look::Program, words) {
         Some(Look::Program)
     } else if is_like(Look::Script, words) {
         Some(Look::Script)
-    } else if is_like(Look::Log, words) {
+    } else if ended && is_like(Look::Log, words) {
         Some(Look::Log)
     } else if is_like(Look::Inputs, words) {
         Some(Look::Inputs)
@@ -141,7 +173,7 @@ fn is_like(look: Look, words: &[&[u8]]) -> bool
         return false;
     };
     match look {
-        Look::Program => begins_program(word),
+        Look::Program => begins_program(word) || (begins_declaration(word) && is_declared(more)),
         Look::Script => begins_statement(word),
         Look::Inputs => !begins_program(word) && are_values(more),
         Look::Log => is_number(word) && is_note(more),
@@ -162,6 +194,26 @@ fn begins_program(word: &[u8]) -> bool
     ensures { result ≡ begins_program word.now }
 {
     word == b"tick".as_slice() || word.starts_with(b"/*")
+}
+
+fn begins_declaration(word: &[u8]) -> bool
+    ensures { result ≡ begins_declaration word.now }
+{
+    word == b"clock".as_slice()
+        || (word == b"temporal".as_slice()
+            || (word == b"input".as_slice()
+                || (word == b"stream".as_slice()
+                    || (word == b"agent".as_slice() || word == b"int".as_slice()))))
+}
+
+// Does no number stand behind a name?
+fn is_declared(words: &[&[u8]]) -> bool
+    ensures { result ≡ is_declared (map (λ w. w.now) words.now) }
+{
+    match words {
+        [_, word, ..] => !is_number(word),
+        _ => false,
+    }
 }
 
 fn are_values(words: &[&[u8]]) -> bool

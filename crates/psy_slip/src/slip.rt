@@ -1,13 +1,13 @@
 //! What is wrong with a line of inputs or of a script.
 ghost use Rattle.std.specs.Prelude.{◌≡◌, ◌==◌, ◌++◌, IfOk, OnOk, find, map, not};
-ghost use Rattle.std.specs.List.{list_any};
+ghost use Rattle.std.specs.List.{list_all, list_any};
 ghost use Rattle.std.specs.Option.{option_copied};
 ghost use Rattle.psy_slip.specs.Agents.{strangers, strangers_told};
 ghost use Rattle.psy_slip.specs.Earlier.{first_like};
 ghost use Rattle.psy_slip.specs.Slips.{agent_form, agent_slip, cycle_slip, inputs_slip, listed_slip, listing_slip, names_slip, no_value, order_slip, said_slip};
-ghost use Rattle.psy_slip.specs.Slips.{begins_comment, has_comma, has_comment, input_slip, listing_form, no_input, script_slip, sign_told, slip, slip_line};
-ghost use Rattle.psy_slip.specs.Slips.{has_date, has_equal, input_said, listing_said, listing_told, stall_slip, statement_form, statement_slip};
-ghost use Rattle.psy_slip.specs.Slips.{unknown_slip, values_slip};
+ghost use Rattle.psy_slip.specs.Slips.{begins_comment, begins_letter, has_comma, has_comment, input_slip, listing_form, no_input, script_slip, sign_told, slip};
+ghost use Rattle.psy_slip.specs.Slips.{has_date, has_equal, input_said, is_head, listing_said, listing_told, slip_line, stall_slip};
+ghost use Rattle.psy_slip.specs.Slips.{statement_form, statement_slip, unknown_slip, values_slip};
 ghost use Rattle.psy_text.specs.Lines.{begins_with};
 ghost use Rattle.psy_text.specs.Words.{is_number, is_value, words_of};
 
@@ -295,7 +295,47 @@ fn add_listing(out: &mut Vec<u8>, words: &[&[u8]]) -> Result<(), AllocError>
 {
     match words {
         [] => Ok(()),
-        [name, values @ ..] => add_values(out, name, values),
+        [name, values @ ..] => {
+            if is_head(words) {
+                out.extend_from_slice(
+                    b"this looks like the head of a table: inputs have no columns and no dates: each line is a name and its values, as in `target 200 300`",
+                )
+            } else {
+                add_values(out, name, values)
+            }
+        }
+    }
+}
+
+// Are they the names of columns: two words or more, each of which begins with a letter?
+fn is_head(words: &[&[u8]]) -> bool
+    ensures { result ≡ is_head (map (λ w. w.now) words.now) }
+{
+    match words {
+        [_, _, ..] => all_letters(words),
+        _ => false,
+    }
+}
+
+fn all_letters(words: &[&[u8]]) -> bool
+    ensures { result ≡ list_all begins_letter (map (λ w. w.now) words.now) }
+{
+    let mut rest = words;
+    'each: while let [word, more @ ..] = rest {
+        if !begins_letter(word) {
+            return false;
+        }
+        rest = more;
+    }
+    true
+}
+
+fn begins_letter(word: &[u8]) -> bool
+    ensures { result ≡ begins_letter word.now }
+{
+    match word {
+        [first, ..] => first.is_ascii_alphabetic(),
+        [] => false,
     }
 }
 

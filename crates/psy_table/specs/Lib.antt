@@ -4,3 +4,4 @@ pub mod CellsState
 pub mod Fields
 pub mod Rows
 pub mod Stands
+pub mod Streams

@@ -3,8 +3,8 @@ ghost use Rattle.std.specs.Prelude.{◌≡◌, ◌∷◌, ◌++◌, [], List, If
 ghost use Rattle.psy_arith.specs.declared.operators.Trap.{Trap};
 ghost use Rattle.psy_log.specs.declared.note.Note.{Note};
 ghost use Rattle.psy_log.specs.Forms.{trap_name};
-ghost use Rattle.psy_table.specs.Rows.{Columns, row_text};
-ghost use Rattle.psy_table.specs.Stands.{TableStands, columns_in};
+ghost use Rattle.psy_table.specs.Rows.{Columns};
+ghost use Rattle.psy_table.specs.Stands.{TableStands, columns_in, row_in};
 
 use crate::cells::Cells;
 use itoa::Buffer;
@@ -61,8 +61,7 @@ impl<'a> Table<'a> {
 
     /// Adds the row of a date.
     pub fn add_row(&self, out: &mut Vec<u8>, date: u64) -> Result<(), AllocError>
-        ensures { OnOk result ((columns : Columns) (told today : List Note) → TableStands columns told today self.now
-            → out.new.items ≡ out.old.items ++ row_text columns date told today) }
+        ensures { OnOk result (out.new.items ≡ out.old.items ++ row_in self.now date) }
     {
         add_number(out, date)?;
         self.variables.add_to(out)?;

@@ -32,8 +32,8 @@ pub fn csv(alloc: Global, text: &[u8]) -> Result<Vec<u8>, LogFault>
     Ok(out)
 }
 
-// Adds the names of the columns.
-fn add_heading(alloc: Global, out: &mut Vec<u8>, listed: &Listed) -> Result<(), AllocError>
+/// Adds the names of the columns.
+pub fn add_heading(alloc: Global, out: &mut Vec<u8>, listed: &Listed) -> Result<(), AllocError>
     ensures { OnOk result (out.new.items ≡ out.old.items ++ heading (columns_in listed.now)) }
 {
     out.extend_from_slice(b"date")?;
@@ -116,7 +116,8 @@ fn goes_on(date: u64, notes: &[Note]) -> bool
     }
 }
 
-fn is_that(date: u64, other: Option<u64>) -> bool
+/// Whether there is a date, and it is that.
+pub fn is_that(date: u64, other: Option<u64>) -> bool
     ensures { result ≡ is_that date other }
 {
     match other {
@@ -125,8 +126,8 @@ fn is_that(date: u64, other: Option<u64>) -> bool
     }
 }
 
-// The date of a dated note.
-fn date_of(note: &Note) -> Option<u64>
+/// The date of a dated note.
+pub fn date_of(note: &Note) -> Option<u64>
     ensures { result ≡ date_of note.now }
 {
     match *note {

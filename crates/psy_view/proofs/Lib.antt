@@ -1,5 +1,6 @@
 -- The lemmas of this crate, by subject.
 mod AskedLemmas
+mod ExportLemmas
 mod PairLemmas
 mod PictureLemmas
 mod PlanLemmas

@@ -22,8 +22,6 @@ pub viewed_one : (files : Option Files) (b a : ℕ) (name : List ℕ) (view : On
 viewed_one files b a name (one.Where words) bytes status text is views = viewed_all (bytes ∷ []) status text (is, tt) views
 viewed_one files b a name (one.Timeline selection) bytes status text is views = viewed_all (bytes ∷ []) status text (is, tt) views
 viewed_one files b a name one.Dot bytes status text is views = viewed_all (bytes ∷ []) status text (is, tt) views
-viewed_one files b a name one.Csv bytes status text is views = viewed_all (bytes ∷ []) status text (is, tt) views
-viewed_one files b a name one.Vcd bytes status text is views = viewed_all (bytes ∷ []) status text (is, tt) views
 viewed_one files b a name one.Flow bytes status text is views = viewed_all (bytes ∷ []) status text (is, tt) views
 viewed_one files b a name one.List bytes status text is views = viewed_all (bytes ∷ []) status text (is, tt) views
 viewed_one files b a name (one.Report until) bytes status text is views = viewed_all (bytes ∷ []) status text (is, tt) views
@@ -33,8 +31,6 @@ pub unread_one : (files : Option Files) (b a : ℕ) (name : List ℕ) (view : On
 unread_one files b a name (one.Where words) status text is = stopped_at _ status text (first _ []) is
 unread_one files b a name (one.Timeline selection) status text is = stopped_at _ status text (first _ []) is
 unread_one files b a name one.Dot status text is = stopped_at _ status text (first _ []) is
-unread_one files b a name one.Csv status text is = stopped_at _ status text (first _ []) is
-unread_one files b a name one.Vcd status text is = stopped_at _ status text (first _ []) is
 unread_one files b a name one.Flow status text is = stopped_at _ status text (first _ []) is
 unread_one files b a name one.List status text is = stopped_at _ status text (first _ []) is
 unread_one files b a name (one.Report until) status text is = stopped_at _ status text (first _ []) is

@@ -1,18 +1,22 @@
 -- How the top call ends, clause by clause.
-use Rattle.std.proofs.Common.{◌≡◌, ◌≢◌, ◌∙◌, sym, subst, refl, ℕ, List, [], ◌++◌, Option, ◌⊎◌, inl, inr, arith}
+use Rattle.std.proofs.Common.{◌≡◌, ◌≢◌, ◌∙◌, sym, subst, refl, ℕ, List, [], ◌++◌, Option, None, ◌⊎◌, inl, inr, arith}
 use Rattle.psy_door.specs.Faults.{Rose}
 use Rattle.psy_door.specs.Files.{Files}
 use Rattle.psy_door.specs.Growth.{Grew, GrewByFront}
 use Rattle.psy_draw.specs.declared.window.Window.{Window}
 use Rattle.psy_draw.specs.Silences.{Silent}
+use Rattle.psy_export.specs.Ending.{Says}
+use Rattle.psy_export.specs.Exports.{Exports}
+use Rattle.psy_export.specs.Exports as export
+use Rattle.psy_export.specs.declared.forms.Format.{Format}
 use Rattle.psy_log.specs.declared.note.Note.{Note}
 use Rattle.psy_match.specs.Silences.{silences_in}
 use Rattle.psy_tree.specs.declared.unit.Unit.{Unit as Whole}
-use Rattle.psy_view.specs.Answer.{Answers, no_words, of_itself, viewed, too_long}
+use Rattle.psy_view.specs.Answer.{Answers, IsLimited, no_words, of_itself, viewed, too_long, exported}
 use Rattle.psy_view.specs.Asked.{File, Request, Asks, AskNothing, files_of}
 use Rattle.psy_view.specs.Fetching.{ComeTo, IsUnread, failed, long}
-use Rattle.psy_view.specs.Outcome.{MayAnswer, may_answer, may_miss, Replies, viewed_all, stopped_at, Says}
-use Rattle.psy_view.specs.Refusals.{unread_line}
+use Rattle.psy_view.specs.Outcome.{EndsUnread, IsBegun, MayAnswer, MayBegin, may_answer, may_miss, Replies, unread_first, viewed_all, stopped_at}
+use Rattle.psy_export.specs.Refusals.{unread_line}
 use Rattle.psy_view.specs.Views.{ViewOf, where_told, pictured, pictured_of, unpictured_of, pictured_with, unpictured_with, dotted, no_graph, dotted_of, undotted_of}
 use Rattle.psy_view.specs.Views.{tabled, no_table, dumped, no_dump, compared, expected, IsWhere, explained, no_refusal, beyond, IsFed, with_inputs, no_inputs}
 use Rattle.psy_view.specs.Views.{flows, no_flow, lists, no_listing, reports, no_report, unmeasured}
@@ -22,7 +26,7 @@ use Rattle.psy_view.specs.Views.{IsCompared, same, differs, first_breaks, second
 -- ---- the statuses
 
 -- 0 or 1
-abbrev IsOfView : ℕ → Type 0
+abbrev pub IsOfView : ℕ → Type 0
 IsOfView status = (status ≡ 0) ⊎ (status ≡ 1)
 
 of_shown : (name : List ℕ) (window : Window) (silences : List Silent) (names : List (List ℕ)) (notes : List Note) (status : ℕ) (text : List ℕ)
@@ -86,12 +90,19 @@ of_view _ _ _ _ (unmeasured name bytes until unit refusal text is cause tells) =
 of_view _ _ _ _ (compared name other first second status text is) = of_compared name other first second status text is
 of_view _ _ _ _ (expected name claims log text status told is) = of_expected name claims log text status told is
 
+pub of_export : (files : Option Files) (name : List ℕ) (to : Format) (status : ℕ) (text : List ℕ) → Exports files name to status text → IsOfView status
+of_export files name to _ _ (export.of_log bytes notes is log) = inl refl
+of_export files name to _ _ (export.no_run bytes line is breaks) = inr refl
+of_export files name to _ _ (export.has_unlisted bytes notes line is read first) = inr refl
+of_export files name to _ _ (export.has_many bytes is many) = inr refl
+
 -- A defined answer's: 2 for words of no form, and else a view's
 of_answer : (words : List (List ℕ)) (files : Option Files) (status : ℕ) (text : List ℕ) → Answers words files status text → ((status ≡ 2) × AskNothing words) ⊎ IsOfView status
 of_answer words files _ _ (no_words more nothing behind) = inl (refl, nothing)
 of_answer words files _ _ (of_itself text asks) = inr (inl refl)
 of_answer words files _ _ (viewed request texts status text asks are is) = inr (of_view request texts status text is)
-of_answer words files _ _ (too_long request file asks comes longer) = inr (inr refl)
+of_answer words files _ _ (too_long request file asks limited comes longer) = inr (inr refl)
+of_answer words files _ _ (exported request name to status text asks is longer exports) = inr (of_export files name to status text exports)
 
 -- The miss of a file
 abbrev Misses : List (List ℕ) → Option Files → ℕ → ℕ → List ℕ → Type 0
@@ -119,15 +130,16 @@ never k a b c d words files before after status text may e = elim (of_any words 
 -- ---- replies
 
 of_unread : (words : List (List ℕ)) (files : Option Files) (b a : ℕ) (request : Request) (file : File) (status : ℕ) (text : List ℕ) → Asks words request
-    → ComeTo files (files_of request) file → IsUnread files b a file status text → MayAnswer words files b a status text
-of_unread words files b a request file _ _ asks comes (failed rose) = may_miss request file asks comes rose
-of_unread words files b a request file _ _ asks comes (long is) = may_answer _ _ (too_long request file asks comes is)
+    → IsLimited request → ComeTo files (files_of request) file → IsUnread files b a file status text → MayAnswer words files b a status text
+of_unread words files b a request file _ _ asks limited comes (failed rose) = may_miss request file asks comes rose
+of_unread words files b a request file _ _ asks limited comes (long is) = may_answer _ _ (too_long request file asks limited comes is)
 
 -- What replies to a request may answer words that ask for it
 pub of_reply : (words : List (List ℕ)) (files : Option Files) (b a : ℕ) (request : Request) (status : ℕ) (text : List ℕ) → Asks words request
-    → Replies files b a request status text → MayAnswer words files b a status text
-of_reply words files b a request _ _ asks (viewed_all texts status text are is) = may_answer status text (viewed request texts status text asks are is)
-of_reply words files b a request _ _ asks (stopped_at file status text comes unread) = of_unread words files b a request file status text asks comes unread
+    → IsLimited request → Replies files b a request status text → MayAnswer words files b a status text
+of_reply words files b a request _ _ asks limited (viewed_all texts status text are is) = may_answer status text (viewed request texts status text asks are is)
+of_reply words files b a request _ _ asks limited (stopped_at file status text comes unread) =
+    of_unread words files b a request file status text asks limited comes unread
 
 -- ---- the clauses
 
@@ -155,7 +167,7 @@ ends_answered words files b a old now before after answer status text may says t
 
 pub ends_done : (words : List (List ℕ)) (files : Option Files) (b a : ℕ) (old now : Option (List ℕ)) (before after answer status : ℕ) (text : List ℕ)
     → MayAnswer words files b a status text → Says old now before after answer status text
-    → (Rose b a → ⊥) → (Rose before after → ⊥) → ((written : List ℕ) × Answers words files answer written × Grew old now written) ⊎ (answer ≡ 8)
+    → (Rose b a → ⊥) → (Rose before after → ⊥) → ((written : List ℕ) × Answers words files answer written × Grew old now written) ⊎ ((answer ≡ 8) ⊎ ((answer ≡ 3) × (files ≡ None)))
 ends_done words files b a old now before after answer status text may says read write =
     by_says old now before after answer status text says
     (λ same grew. by_may words files b a status text may (λ is. inl (text, subst (λ s. Answers words files s text) (sym same) is, grew)) (λ miss rose. absurd (read rose)))
@@ -175,7 +187,7 @@ ends_listed words files b a old now before after answer status text may says two
 
 pub ends_read : (words : List (List ℕ)) (files : Option Files) (b a : ℕ) (old now : Option (List ℕ)) (before after answer status : ℕ) (text : List ℕ)
     → MayAnswer words files b a status text → Says old now before after answer status text
-    → answer ≡ 3 → (request : Request) × (file : File) × Asks words request × ComeTo files (files_of request) file × Rose b a × Grew old now (unread_line file.name)
+    → answer ≡ 3 → (request : Request) × (file : File) × Asks words request × ComeTo files (files_of request) file × EndsUnread files b a old now request file
 ends_read words files b a old now before after answer status text may says three =
     by_says old now before after answer status text says
     (λ same grew. elim (of_any words files b a status text may) [
@@ -188,8 +200,7 @@ ends_read words files b a old now before after answer status text may says three
             is.1,
             is.2,
             is.3,
-            is.4,
-            subst (Grew old now) is.5 grew,
+            unread_first is.4 (subst (Grew old now) is.5 grew),
           )
     ])
     (λ cut rose grew. absurd (omega (arith, three, cut)))
@@ -203,12 +214,13 @@ ends_write words files b a old now before after answer status text may says four
 
 pub ends_cut_short : (words : List (List ℕ)) (files : Option Files) (b a : ℕ) (old now : Option (List ℕ)) (before after answer status : ℕ) (text : List ℕ)
     → MayAnswer words files b a status text → Says old now before after answer status text
-    → answer ≡ 4 → (wanted : ℕ) × (whole : List ℕ) × MayAnswer words files b a wanted whole × GrewByFront old now whole
+    → answer ≡ 4 → (whole : List ℕ) × (((wanted : ℕ) × MayAnswer words files b a wanted whole) ⊎ MayBegin words files whole) × GrewByFront old now whole
 ends_cut_short words files b a old now before after answer status text may says four =
-    (status, text, may, (ends_write words files b a old now before after answer status text may says four).1)
+    (text, inl (status, may), (ends_write words files b a old now before after answer status text may says four).1)
 
 pub ends_for_memory : (words : List (List ℕ)) (files : Option Files) (b a : ℕ) (old now : Option (List ℕ)) (before after answer status : ℕ) (text : List ℕ)
-    → MayAnswer words files b a status text → Says old now before after answer status text → answer ≡ 8 → Grew old now []
+    → MayAnswer words files b a status text → Says old now before after answer status text → answer ≡ 8
+    → Grew old now [] ⊎ ((part : List ℕ) × IsBegun words files part × GrewByFront old now part)
 ends_for_memory words files b a old now before after answer status text may says eight =
     by_says old now before after answer status text says
     (λ same grew. absurd (never 8 (λ e. absurd (omega (arith, e))) (λ e. absurd (omega (arith, e))) (λ e. absurd (omega (arith, e))) (λ e. absurd (omega (arith, e))) words files b a status text may (sym same ∙ eight)))

@@ -1,7 +1,10 @@
 -- The defined answer: the status and the text that belong to the words and to the files that are told.
 use Rattle.std.specs.Prelude.{◌≡◌, ◌⊎◌, ℕ, List, [], ◌++◌, Option}
 use Rattle.psy_door.specs.Files.{Files}
-use Rattle.psy_view.specs.Asked.{File, Request, Asks, AskForText, AskNothing, files_of}
+use Rattle.psy_export.specs.Exports.{Exports}
+use Rattle.psy_export.specs.declared.forms.Format.{Format}
+use Rattle.psy_export.specs.declared.forms.Format.TheVariants as format
+use Rattle.psy_view.specs.Asked.{File, Request, Table, Dump, Asks, AskForText, AskNothing, by_psyc, files_of}
 use Rattle.psy_view.specs.Fetching.{AreTexts, ComeTo, IsLong}
 use Rattle.psy_log.specs.Forms.{words_line}
 use Rattle.psy_words.specs.Faults.{words_told}
@@ -12,12 +15,23 @@ use Rattle.psy_view.specs.Views.{ViewOf}
 abbrev pub IsToldBehind : List (List ℕ) → List ℕ → Type 0
 IsToldBehind words more = (more ≡ words_told words) ⊎ (more ≡ [])
 
+-- The request is for the run in the file of this name in that format.
+pub data IsExport : Request → List ℕ → Format → Type 0 where
+  as_table : (name : List ℕ) → IsExport (Table name) name format.Table
+  as_dump : (name : List ℕ) → IsExport (Dump name) name format.Dump
+
+-- It is for no run in another form, so its files may have no more bytes than are read together.
+abbrev pub IsLimited : Request → Type 0
+IsLimited request = (name : List ℕ) (to : Format) → IsExport request name to → ⊥
+
 -- The status and the text that answer the words: help or the version; or those of the view of the files that they name, where files are
--- told, unless one of them has more bytes than it may have
+-- told, unless one of them has more bytes than it may have; a run in another form may have any number
 pub data Answers (words : List (List ℕ)) (files : Option Files) : ℕ → List ℕ → Type 0 where
   no_words : (more : List ℕ) → AskNothing words → IsToldBehind words more → Answers words files 2 (words_line ++ more)
   of_itself : (text : List ℕ) → AskForText words text → Answers words files 0 text
   viewed : (request : Request) (texts : List (List ℕ)) (status : ℕ) (text : List ℕ) → Asks words request
       → AreTexts files (files_of request) texts → ViewOf request texts status text → Answers words files status text
-  too_long : (request : Request) (file : File) → Asks words request → ComeTo files (files_of request) file → IsLong files file
+  too_long : (request : Request) (file : File) → Asks words request → IsLimited request → ComeTo files (files_of request) file → IsLong files file
       → Answers words files 1 (long_line file.name file.most)
+  exported : (request : Request) (name : List ℕ) (to : Format) (status : ℕ) (text : List ℕ) → Asks words request → IsExport request name to
+      → IsLong files (by_psyc name) → Exports files name to status text → Answers words files status text

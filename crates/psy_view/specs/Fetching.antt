@@ -3,7 +3,8 @@ use Rattle.std.specs.Prelude.{◌≡◌, ℕ, ◌<◌, ◌≤◌, List, [], ◌�
 use Rattle.psy_door.specs.Faults.{Rose}
 use Rattle.psy_door.specs.Files.{Files, WhereTold, bytes_under}
 use Rattle.psy_view.specs.Asked.{File}
-use Rattle.psy_view.specs.Refusals.{unread_line, long_line}
+use Rattle.psy_export.specs.Refusals.{unread_line}
+use Rattle.psy_view.specs.Refusals.{long_line}
 use Rattle.psy_view.specs.declared.fetching.Fetched.{Fetched}
 use Rattle.psy_view.specs.declared.fetching.Fetched.TheVariants as fetched
 

@@ -1,12 +1,16 @@
 -- How a call of the top ends. The counts of faults are those of the shelf and of the sink before and after it.
-use Rattle.std.specs.Prelude.{◌≡◌, ◌⊎◌, ℕ, List, Option}
+use Rattle.std.specs.Prelude.{◌≡◌, ◌⊎◌, ℕ, List, [], ◌∷◌, Option, None}
 use Rattle.psy_door.specs.Faults.{Rose}
 use Rattle.psy_door.specs.Files.{Files}
 use Rattle.psy_door.specs.Growth.{Grew, GrewByFront}
-use Rattle.psy_view.specs.Answer.{Answers}
-use Rattle.psy_view.specs.Asked.{File, Request, Asks, files_of}
-use Rattle.psy_view.specs.Fetching.{AreTexts, ComeTo, IsUnread}
-use Rattle.psy_view.specs.Refusals.{unread_line}
+use Rattle.psy_export.specs.Ending.{Ends, IsUnreadable, Says}
+use Rattle.psy_export.specs.Exports.{IsExportFront}
+use Rattle.psy_export.specs.declared.forms.Format.{Format}
+use Rattle.psy_view.specs.Answer.{Answers, IsExport}
+use Rattle.psy_view.specs.Asked.{File, Request, Asks, by_psyc, files_of}
+use Rattle.psy_view.specs.Fetching.{AreTexts, ComeTo, IsLong, IsTextOf, IsUnread}
+use Rattle.psy_view.specs.Reading.{request_of_export}
+use Rattle.psy_export.specs.Refusals.{unread_line}
 use Rattle.psy_view.specs.Views.{ViewOf}
 
 -- The status and the text that reply to a request: those of its view; or the line of the first file that couldn't be read or is too long
@@ -22,6 +26,36 @@ pub data MayAnswer (words : List (List ℕ)) (files : Option Files) (before afte
   may_miss : (request : Request) (file : File) → Asks words request → ComeTo files (files_of request) file → Rose before after
       → MayAnswer words files before after 3 (unread_line file.name)
 
--- The status is that one and the text was added, or a write failed: then it is 4, and a front was added.
-abbrev pub Says : Option (List ℕ) → Option (List ℕ) → ℕ → ℕ → ℕ → ℕ → List ℕ → Type 0
-Says old now before after answer status text = ((answer ≡ status) × Grew old now text) ⊎ ((answer ≡ 4) × Rose before after × GrewByFront old now text)
+-- A text of which a front may stand where the run in a file longer than is read together couldn't be written in another form to its end
+abbrev pub IsBegun : List (List ℕ) → Option Files → List ℕ → Type 0
+IsBegun words files text =
+    (request : Request) × (name : List ℕ) × (to : Format) × Asks words request × IsExport request name to × IsLong files (by_psyc name)
+    × IsExportFront to files name text
+
+-- A text of which a front may stand where a write of it failed: such a text; or the line that says that the file changed since it was read, which happens
+-- to no file that is told
+pub data MayBegin (words : List (List ℕ)) (files : Option Files) : List ℕ → Type 0 where
+  may_change : (request : Request) (name : List ℕ) (to : Format) → Asks words request → IsExport request name to → files ≡ None
+      → MayBegin words files (unread_line name)
+  may_begin : (text : List ℕ) → IsBegun words files text → MayBegin words files text
+
+-- How it ends that the file of a request couldn't be read: the line that says so was written; or the file of a run in another form was read before and
+-- couldn't be read again, or not as it was, and then a front of the run may stand instead
+pub data EndsUnread (files : Option Files) (before after : ℕ) (old now : Option (List ℕ)) (request : Request) (file : File) : Type 0 where
+  unread_first : Rose before after → Grew old now (unread_line file.name) → EndsUnread files before after old now request file
+  unread_again : (to : Format) → IsExport request file.name to → IsLong files file → IsUnreadable files before after → Grew old now (unread_line file.name)
+      → EndsUnread files before after old now request file
+  unread_late : (to : Format) (text : List ℕ) → IsExport request file.name to → IsLong files file → IsUnreadable files before after
+      → IsExportFront to files file.name text → GrewByFront old now text → EndsUnread files before after old now request file
+
+-- How a run in another form ends: as what is told of a file that is read together, or that can't be read; or as an export
+pub data EndsExport (files : Option Files) (name : List ℕ) (to : Format) (before after sink_before sink_after : ℕ) (old now : Option (List ℕ))
+    (answer : ℕ) : Type 0 where
+  of_text : (bytes : List ℕ) (status : ℕ) (text : List ℕ) → IsTextOf files (by_psyc name) bytes → ViewOf (request_of_export name to) (bytes ∷ []) status text
+      → Says old now sink_before sink_after answer status text
+      → EndsExport files name to before after sink_before sink_after old now answer
+  of_none : Rose before after → Says old now sink_before sink_after answer 3 (unread_line name)
+      → EndsExport files name to before after sink_before sink_after old now answer
+  of_long : IsLong files (by_psyc name) → Ends files name to before after sink_before sink_after old now answer
+      → EndsExport files name to before after sink_before sink_after old now answer
+  no_room : answer ≡ 8 → Grew old now [] → EndsExport files name to before after sink_before sink_after old now answer

@@ -2,6 +2,8 @@
 use Rattle.std.specs.Prelude.{◌≡◌, ℕ, List, map, string_bytes}
 use Rattle.psy_base.specs.declared.limits.TheConstants.{FILE_BYTES}
 use Rattle.psy_draw.specs.declared.window.Window.{Window}
+use Rattle.psy_export.specs.declared.forms.Format.{Format}
+use Rattle.psy_export.specs.declared.forms.Format.TheVariants as format
 use Rattle.psy_view.specs.declared.asked.Asked.{Asked as Read}
 use Rattle.psy_view.specs.declared.asked.Asked.TheVariants as read
 use Rattle.psy_view.specs.declared.asked.One.{One}
@@ -22,8 +24,6 @@ abbrev pub request_of_one : List ℕ → One → Request
 request_of_one name (one.Where words) = Where name (line_of_words (map string_bytes words.now))
 request_of_one name (one.Timeline selection) = Timeline name selection.window (names_in selection)
 request_of_one name one.Dot = Dot name
-request_of_one name one.Csv = Table name
-request_of_one name one.Vcd = Dump name
 request_of_one name one.Flow = Flow name
 request_of_one name one.List = Listing name
 request_of_one name (one.Report until) = Report name until
@@ -43,9 +43,15 @@ request_of_two name other two.Expect = Expectation name other
 request_of_two name other two.Dot = DotOf name other
 request_of_two name other (two.Timeline selection) = TimelineOf name other selection.window (names_in selection)
 
+-- The request for the run in the file of this name in a format
+abbrev pub request_of_export : List ℕ → Format → Request
+request_of_export name format.Table = Table name
+request_of_export name format.Dump = Dump name
+
 -- The request that was read from words
 abbrev pub request_of : Read → Request
 request_of (read.One name view) = request_of_one name.now view
+request_of (read.Export name to) = request_of_export name.now to
 request_of (read.Two name other view) = request_of_two name.now other.now view
 request_of (read.Fed name program inputs selection) = TimelineWith name.now program.now inputs.now selection.window (names_in selection)
 

@@ -1,20 +1,17 @@
 -- The lines that are written where a text can't be viewed. Names stand in them as they are shown on a screen.
-use Rattle.std.specs.Prelude.{ℕ, List, ◌++◌, codes, decimal}
+use Rattle.std.specs.Prelude.{ℕ, if◌then◌else◌, List, [], ◌++◌, codes, decimal}
 use Rattle.psy_claims.specs.declared.fault.Slip.{Slip}
 use Rattle.psy_claims.specs.declared.fault.Slip.TheVariants.{Form, Dates, Name}
 use Rattle.psy_show.specs.Lines.{shown}
-
--- The file can't be read
-abbrev pub unread_line : List ℕ → List ℕ
-unread_line name = codes "read " ++ shown name ++ codes "\n"
+use Rattle.psy_slip.specs.Looks.{is_program}
 
 -- It has more bytes than it may have
 abbrev pub long_line : List ℕ → ℕ → List ℕ
 long_line name most = shown name ++ codes ": this file has more than " ++ decimal most ++ codes " bytes\n"
 
--- What stands behind the name is no refusal of a text
+-- What stands behind the name is no line that psyc writes
 abbrev pub no_refusal_line : List ℕ → List ℕ
-no_refusal_line name = shown name ++ codes ": what is told of this file is no line with which psyc refuses\n"
+no_refusal_line name = shown name ++ codes ": what is told of this file is no line that psyc writes\n"
 
 -- The text has no such byte, token or line
 abbrev pub beyond_line : List ℕ → List ℕ
@@ -24,9 +21,17 @@ beyond_line name = shown name ++ codes ": this file has no such place\n"
 abbrev pub broken_line : List ℕ → ℕ → List ℕ → List ℕ
 broken_line name line command = shown name ++ codes ":" ++ decimal line ++ codes ": from this line on this isn't what `psyc " ++ command ++ codes "` writes\n"
 
--- This line of a log has a name that the summary doesn't list
-abbrev pub unlisted_line : List ℕ → ℕ → List ℕ
-unlisted_line name line = shown name ++ codes ":" ++ decimal line ++ codes ": the summary doesn't list this name\n"
+-- A text looks like a program, and what that command of psyc writes of it was asked for
+abbrev pub program_line : List ℕ → List ℕ
+program_line command = codes "hint: this file looks like a program: give what `psyc " ++ command ++ codes "` writes of it\n"
+
+-- The same, where it looks like one
+abbrev pub program_told : List ℕ → List ℕ → List ℕ
+program_told command text = if is_program text then program_line command else []
+
+-- The line of a text that isn't what that command of psyc writes, and behind it what the text looks like
+abbrev pub broken_text : List ℕ → ℕ → List ℕ → List ℕ → List ℕ
+broken_text name line command text = broken_line name line command ++ program_told command text
 
 -- The summary of a log doesn't list this name, for which was asked
 abbrev pub unknown_line : List ℕ → List ℕ → List ℕ

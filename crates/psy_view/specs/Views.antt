@@ -1,5 +1,5 @@
 -- The view of texts that a request asks for: the status, and what is written.
-use Rattle.std.specs.Prelude.{◌≡◌, ℕ, ℤ, ◌-◌, ◌<◌, ◌≤◌, List, [], ◌∷◌, ◌++◌, length, take, codes, Option, None, Some, ◌⊎◌}
+use Rattle.std.specs.Prelude.{◌≡◌, ℕ, ℤ, ◌-◌, ◌<◌, ◌≤◌, List, [], ◌∷◌, ◌++◌, length, take, codes, Option, None, Some}
 use Rattle.std.specs.List.{flat_map, slice_get}
 use Rattle.psy_base.specs.declared.limits.TheConstants.{LINES}
 use Rattle.psy_log.specs.declared.note.Note.{Note}
@@ -23,13 +23,10 @@ use Rattle.psy_draw.specs.Folded.{folded_of}
 use Rattle.psy_draw.specs.Graph.{dot_of}
 use Rattle.psy_draw.specs.Dates.{last_date}
 use Rattle.psy_draw.specs.Listing.{first_unasked, first_unlisted}
+use Rattle.psy_draw.specs.Pictures.{IsFileOf}
 use Rattle.psy_draw.specs.Places.{window_end}
-use Rattle.psy_draw.specs.Planning.{ShowsWindow}
-use Rattle.psy_draw.specs.declared.file.TheConstants.{TOO_LARGE}
 use Rattle.psy_draw.specs.declared.window.Window.{Window}
-use Rattle.psy_draw.specs.Showing.{ShowsSummary}
 use Rattle.psy_draw.specs.Silences.{Silent}
-use Rattle.psy_draw.specs.Spelling.{svg_of}
 use Rattle.psy_match.specs.Belonging.{foreign_in_graph, foreign_in_run}
 use Rattle.psy_match.specs.Feeding.{all_input_values, published_by}
 use Rattle.psy_match.specs.Points.{point_lines}
@@ -50,23 +47,22 @@ use Rattle.psy_report.specs.Asked.{AreAsked}
 use Rattle.psy_report.specs.Measured.{IsUnmeasured}
 use Rattle.psy_report.specs.Reports.{IsReport}
 use Rattle.psy_view.specs.Asked.{Request, Where, Timeline, TimelineOf, TimelineWith, Dot, DotOf, Table, Dump, Flow, Listing, Report, Difference, Expectation}
-use Rattle.psy_view.specs.Refusals.{no_refusal_line, beyond_line, broken_line, unlisted_line, unknown_line, empty_line, foreign_line, wrong_line}
+use Rattle.psy_export.specs.Refusals.{unlisted_line}
+use Rattle.psy_view.specs.Refusals.{no_refusal_line, beyond_line, broken_text, unknown_line, empty_line, foreign_line, wrong_line}
 
 -- A picture of a window and of these names, of a run's notes, whose names the summary lists, as it does those that were asked for, with these
--- silences: an SVG file of at most 2,000,000 bytes, which shows the lanes of the window and each line of the summary, or says that it would be too large
-pub record IsPicture (window : Window) (silences : List Silent) (names : List (List ℕ)) (notes : List Note) (svg : List ℕ) : Type 0 where
+-- silences and the title of this file: an SVG file of at most 2,000,000 bytes, which is the whole picture, or says that it would be too large
+pub record IsPicture (name : List ℕ) (window : Window) (silences : List Silent) (names : List (List ℕ)) (notes : List Note) (svg : List ℕ) : Type 0 where
   pub listed : first_unlisted notes ≡ None
   pub known : first_unasked notes names ≡ None
   pub dated : window.from ≤ window_end window (last_date notes)
-  pub whole : (inside : List ℕ) × (svg ≡ svg_of inside)
-  pub lanes : (svg ≡ svg_of TOO_LARGE.now) ⊎ ShowsWindow svg window silences names notes
-  pub shown : (svg ≡ svg_of TOO_LARGE.now) ⊎ ShowsSummary svg notes
+  pub file : IsFileOf name window silences names notes svg
   pub small : length svg ≤ 2000000
 
 -- What is told of a run with these notes, of which a window and these names are to be drawn: the picture; or that it has a name that its summary doesn't
 -- list, that the summary doesn't list a name that was asked for, or that the window is empty
 pub data IsShown (name : List ℕ) (window : Window) (silences : List Silent) (names : List (List ℕ)) (notes : List Note) : ℕ → List ℕ → Type 0 where
-  drawn : (svg : List ℕ) → IsPicture window silences names notes svg → IsShown name window silences names notes 0 svg
+  drawn : (svg : List ℕ) → IsPicture name window silences names notes svg → IsShown name window silences names notes 0 svg
   unlisted : (line : ℕ) → first_unlisted notes ≡ Some line → IsShown name window silences names notes 1 (unlisted_line name line)
   unknown : (place : ℕ) (asked : List ℕ) → first_unlisted notes ≡ None → first_unasked notes names ≡ Some place → slice_get names place ≡ Some asked
       → IsShown name window silences names notes 1 (unknown_line name asked)
@@ -77,11 +73,11 @@ pub data IsShown (name : List ℕ) (window : Window) (silences : List Silent) (n
 pub data IsDrawn (name : List ℕ) (window : Window) (names : List (List ℕ)) (bytes : List ℕ) : ℕ → List ℕ → Type 0 where
   of_notes : (notes : List Note) (status : ℕ) (text : List ℕ) → IsText run_begins bytes notes → IsShown name window [] names notes status text
       → IsDrawn name window names bytes status text
-  no_run : (line : ℕ) → BreaksAt run_begins bytes line → IsDrawn name window names bytes 1 (broken_line name line (codes "run"))
+  no_run : (line : ℕ) → BreaksAt run_begins bytes line → IsDrawn name window names bytes 1 (broken_text name line (codes "run") bytes)
 
 -- The text isn't what `psyc run` writes, or it has a name that its summary doesn't list; the line that says so, with the name of its file
 pub data IsNoLog (name bytes : List ℕ) : List ℕ → Type 0 where
-  broken : (line : ℕ) → BreaksAt run_begins bytes line → IsNoLog name bytes (broken_line name line (codes "run"))
+  broken : (line : ℕ) → BreaksAt run_begins bytes line → IsNoLog name bytes (broken_text name line (codes "run") bytes)
   has_unlisted : (notes : List Note) (line : ℕ) → IsText run_begins bytes notes → listing.first_unlisted notes ≡ Some line
       → IsNoLog name bytes (unlisted_line name line)
 
@@ -95,9 +91,9 @@ IsFaultOf bytes fault.Memory = Unit {0}
 pub data IsCompared (name other first second : List ℕ) : ℕ → List ℕ → Type 0 where
   same : (notes : List Note) → IsText run_begins first notes → first ≡ second → IsCompared name other first second 0 []
   differs : (text : List ℕ) → Differs first second text → IsCompared name other first second 1 text
-  first_breaks : (line : ℕ) → BreaksAt run_begins first line → IsCompared name other first second 1 (broken_line name line (codes "run"))
+  first_breaks : (line : ℕ) → BreaksAt run_begins first line → IsCompared name other first second 1 (broken_text name line (codes "run") first)
   second_breaks : (notes : List Note) (line : ℕ) → IsText run_begins first notes → BreaksAt run_begins second line
-      → IsCompared name other first second 1 (broken_line other line (codes "run"))
+      → IsCompared name other first second 1 (broken_text other line (codes "run") second)
 
 -- What is told of a log and of assertions: nothing where the run keeps all; the first that it doesn't; or the first line that is wrong
 pub data IsExpected (name claims log text : List ℕ) : ℕ → List ℕ → Type 0 where
@@ -133,7 +129,7 @@ pub record IsPair (begins : Stand) (foreign : Whole → List Note → Option ℕ
 -- Why there is no such pair, and what is told of it: the first bytes aren't what that command of psyc writes, the second are of no program, or what
 -- was written is of another one
 pub data IsUnpaired (begins : Stand) (command : List ℕ) (foreign : Whole → List Note → Option ℕ) (name program bytes text : List ℕ) : List ℕ → Type 0 where
-  breaks : (line : ℕ) → BreaksAt begins bytes line → IsUnpaired begins command foreign name program bytes text (broken_line name line command)
+  breaks : (line : ℕ) → BreaksAt begins bytes line → IsUnpaired begins command foreign name program bytes text (broken_text name line command bytes)
   no_program : (notes : List Note) (refusal : Refusal) (told : List ℕ) → IsText begins bytes notes → IsRefused text refusal
       → IsTold program text (line_of refusal) told → IsUnpaired begins command foreign name program bytes text told
   is_foreign : (notes : List Note) (unit : Whole) (line : ℕ) → IsText begins bytes notes → IsProgram text unit → foreign unit notes ≡ Some line
@@ -189,7 +185,8 @@ pub data ViewOf : Request → List (List ℕ) → ℕ → List ℕ → Type 0 wh
   unpictured_with : (name program inputs : List ℕ) (window : Window) (names : List (List ℕ)) (bytes text fed told : List ℕ)
       → IsRunUnpaired name program bytes text told → ViewOf (TimelineWith name program inputs window names) (bytes ∷ text ∷ fed ∷ []) 1 told
   dotted : (name bytes : List ℕ) (notes : List Note) → IsText graph_begins bytes notes → ViewOf (Dot name) (bytes ∷ []) 0 (dot_of notes)
-  no_graph : (name bytes : List ℕ) (line : ℕ) → BreaksAt graph_begins bytes line → ViewOf (Dot name) (bytes ∷ []) 1 (broken_line name line (codes "graph"))
+  no_graph : (name bytes : List ℕ) (line : ℕ) → BreaksAt graph_begins bytes line
+      → ViewOf (Dot name) (bytes ∷ []) 1 (broken_text name line (codes "graph") bytes)
   dotted_of : (name program bytes text : List ℕ) (notes : List Note) (unit : Whole) (lines : List (List (List ℕ))) → IsGraphPair bytes text notes unit
       → AreLines text lines → ViewOf (DotOf name program) (bytes ∷ text ∷ []) 0 (folded_of lines notes)
   undotted_of : (name program bytes text told : List ℕ) → IsGraphUnpaired name program bytes text told

@@ -4,8 +4,9 @@ ghost use Rattle.psy_view.specs.Reading.{most_of_one, most_of_other};
 
 use psy_base::limits::FILE_BYTES;
 use psy_draw::Window;
+use psy_export::Format;
 
-/// Bytes of a text that psyc wrote.
+/// Bytes of a text that psyc wrote, and that is read whole.
 pub const TEXT_BYTES: usize = 16_777_216;
 
 /// What the words ask for, with the names of the files.
@@ -15,6 +16,11 @@ pub enum Asked<'a> {
     One {
         name: &'a str,
         view: One<'a>,
+    },
+    /// The run in a file in another form.
+    Export {
+        name: &'a str,
+        format: Format,
     },
     /// A view of two files.
     Two {
@@ -47,10 +53,6 @@ pub enum One<'a> {
     Timeline { selection: Selection<'a> },
     /// To draw the graphs in this file.
     Dot,
-    /// To write the run as a table.
-    Csv,
-    /// To write the run as a value change dump.
-    Vcd,
     /// To draw who feeds whom in the program in this file.
     Flow,
     /// To list the instructions of the program's actions.
@@ -79,7 +81,7 @@ impl One<'_> {
     {
         match *self {
             One::Where { .. } | One::Flow | One::List | One::Report { .. } => FILE_BYTES,
-            One::Timeline { .. } | One::Dot | One::Csv | One::Vcd => TEXT_BYTES,
+            One::Timeline { .. } | One::Dot => TEXT_BYTES,
         }
     }
 }

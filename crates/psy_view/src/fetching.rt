@@ -3,10 +3,11 @@ ghost use Rattle.std.specs.Prelude.{◌≡◌, ◌≤◌, IfOk};
 ghost use Rattle.psy_view.specs.Asked.{file_of};
 ghost use Rattle.psy_view.specs.Fetching.{Fetches};
 
-use crate::refusals::{long_line, unread_line};
+use crate::refusals::long_line;
 use crate::view::View;
 use psy_base::Memory;
 use psy_door::{FetchFault, Shelf};
+use psy_export::unread_line;
 use std::alloc::Global;
 
 /// What came of reading a file.

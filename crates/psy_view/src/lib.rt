@@ -4,6 +4,7 @@
 #![tactic(auto)]
 
 mod asked;
+mod export;
 mod fetching;
 mod help;
 mod log;

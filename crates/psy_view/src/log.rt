@@ -5,11 +5,12 @@ ghost use Rattle.psy_listed.specs.Logs.{IsLog};
 ghost use Rattle.psy_view.specs.Asked.{Dump, Table};
 ghost use Rattle.psy_view.specs.Views.{IsCompared, IsExpected, IsFaultOf, IsNoLog, ViewOf};
 
-use crate::refusals::{broken_line, unlisted_line, wrong_line};
+use crate::refusals::{broken_text, wrong_line};
 use crate::view::View;
 use psy_base::Memory;
 use psy_claims::{ClaimFault, expect};
 use psy_differ::{DiffFault, diff};
+use psy_export::unlisted_line;
 use psy_listed::{Log, LogFault, read_log};
 use psy_table::csv;
 use psy_wave::vcd;
@@ -24,7 +25,7 @@ pub fn tabled(alloc: Global, name: &str, bytes: &[u8]) -> Result<View, Memory>
         Ok(text) => Ok(View { status: 0, text }),
         Err(fault) => Ok(View {
             status: 1,
-            text: refusal(alloc, name, fault)?,
+            text: refusal(alloc, name, fault, bytes)?,
         }),
     }
 }
@@ -38,7 +39,7 @@ pub fn dumped(alloc: Global, name: &str, bytes: &[u8]) -> Result<View, Memory>
         Ok(text) => Ok(View { status: 0, text }),
         Err(fault) => Ok(View {
             status: 1,
-            text: refusal(alloc, name, fault)?,
+            text: refusal(alloc, name, fault, bytes)?,
         }),
     }
 }
@@ -62,11 +63,11 @@ pub fn compared(
         Ok(Some(text)) => Ok(View { status: 1, text }),
         Err(DiffFault::First { line }) => Ok(View {
             status: 1,
-            text: broken_line(alloc, name.as_bytes(), line, b"run")?,
+            text: broken_text(alloc, name.as_bytes(), line, b"run", first)?,
         }),
         Err(DiffFault::Second { line }) => Ok(View {
             status: 1,
-            text: broken_line(alloc, other.as_bytes(), line, b"run")?,
+            text: broken_text(alloc, other.as_bytes(), line, b"run", second)?,
         }),
         Err(DiffFault::Memory) => Err(Memory),
     }
@@ -87,7 +88,7 @@ pub fn expected(
         Ok(log) => tried(alloc, claims, &log, text),
         Err(fault) => Ok(View {
             status: 1,
-            text: refusal(alloc, name, fault)?,
+            text: refusal(alloc, name, fault, bytes)?,
         }),
     }
 }
@@ -118,11 +119,11 @@ fn tried(alloc: Global, claims: &str, log: &Log, text: &[u8]) -> Result<View, Me
 
 // The line with which a text that isn't a log is refused.
 #[tactic(auto, using(crate::specs::Views::broken, crate::specs::Views::has_unlisted))]
-fn refusal(alloc: Global, name: &str, fault: LogFault) -> Result<Vec<u8>, Memory>
-    ensures { (bytes : List ℕ) → IsFaultOf bytes fault → IfOk result (λ text. IsNoLog name.now bytes text.items) }
+fn refusal(alloc: Global, name: &str, fault: LogFault, bytes: &[u8]) -> Result<Vec<u8>, Memory>
+    ensures { IsFaultOf bytes.now fault → IfOk result (λ text. IsNoLog name.now bytes.now text.items) }
 {
     match fault {
-        LogFault::Line { line } => Ok(broken_line(alloc, name.as_bytes(), line, b"run")?),
+        LogFault::Line { line } => broken_text(alloc, name.as_bytes(), line, b"run", bytes),
         LogFault::Unlisted { line } => Ok(unlisted_line(alloc, name.as_bytes(), line)?),
         LogFault::Memory => Err(Memory),
     }

@@ -1,10 +1,10 @@
 //! What psyc wrote, beside the program that it is of.
 ghost use Rattle.std.specs.Prelude.{◌≤◌, IfOk, length};
 ghost use Rattle.psy_base.specs.declared.limits.TheConstants.{FILE_BYTES};
-ghost use Rattle.psy_view.specs.Refusals.{broken_line, foreign_line};
+ghost use Rattle.psy_view.specs.Refusals.{broken_text, foreign_line};
 ghost use Rattle.psy_view.specs.Pairing.{IsGraphMatched, IsRunMatched, Says};
 
-use crate::refusals::{broken_line, foreign_line};
+use crate::refusals::{broken_text, foreign_line};
 use crate::told::refused;
 use crate::view::View;
 use psy_base::Memory;
@@ -42,7 +42,7 @@ pub fn run_of<'a>(
 {
     let notes = match read_run(alloc, bytes) {
         Ok(notes) => notes,
-        Err(TextFault::Line { line }) => return broken(alloc, name, line, b"run"),
+        Err(TextFault::Line { line }) => return broken(alloc, name, line, b"run", bytes),
         Err(TextFault::Memory) => return Err(Memory),
     };
     let read = match program_of(alloc, text) {
@@ -75,7 +75,7 @@ pub fn graph_of<'a>(
 {
     let notes = match read_graph(alloc, bytes) {
         Ok(notes) => notes,
-        Err(TextFault::Line { line }) => return broken(alloc, name, line, b"graph"),
+        Err(TextFault::Line { line }) => return broken(alloc, name, line, b"graph", bytes),
         Err(TextFault::Memory) => return Err(Memory),
     };
     let read = match program_of(alloc, text) {
@@ -94,12 +94,18 @@ pub fn graph_of<'a>(
     }
 }
 
-fn broken<'a>(alloc: Global, name: &str, line: usize, command: &[u8]) -> Result<Matched<'a>, Memory>
-    ensures { IfOk result (λ matched. Says matched (broken_line name.now line command.now)) }
+fn broken<'a>(
+    alloc: Global,
+    name: &str,
+    line: usize,
+    command: &[u8],
+    bytes: &[u8],
+) -> Result<Matched<'a>, Memory>
+    ensures { IfOk result (λ matched. Says matched (broken_text name.now line command.now bytes.now)) }
 {
     Ok(Matched::Told(View {
         status: 1,
-        text: broken_line(alloc, name.as_bytes(), line, command)?,
+        text: broken_text(alloc, name.as_bytes(), line, command, bytes)?,
     }))
 }
 

@@ -5,10 +5,11 @@ ghost use Rattle.psy_view.specs.Reading.{names_in};
 ghost use Rattle.psy_view.specs.Views.{IsDrawn, IsShown};
 
 use crate::asked::Selection;
-use crate::refusals::{broken_line, empty_line, unknown_line, unlisted_line};
+use crate::refusals::{broken_text, empty_line, unknown_line};
 use crate::view::View;
 use psy_base::Memory;
 use psy_draw::{DrawFault, Silence, timeline};
+use psy_export::unlisted_line;
 use psy_log::Note;
 use psy_notes::{TextFault, read_run};
 use std::alloc::Global;
@@ -22,7 +23,7 @@ pub fn drawn(alloc: Global, name: &str, selection: Selection, bytes: &[u8]) -> R
         Ok(notes) => shown(alloc, name, selection, notes.as_slice(), &[]),
         Err(TextFault::Line { line }) => Ok(View {
             status: 1,
-            text: broken_line(alloc, name.as_bytes(), line, b"run")?,
+            text: broken_text(alloc, name.as_bytes(), line, b"run", bytes)?,
         }),
         Err(TextFault::Memory) => Err(Memory),
     }

@@ -1,32 +1,16 @@
 //! The lines that are written where a text can't be viewed.
-ghost use Rattle.std.specs.Prelude.{◌≡◌, ◌++◌, IfOk, codes, decimal};
-ghost use Rattle.psy_show.specs.Lines.{shown};
-ghost use Rattle.psy_view.specs.Refusals.{beyond_line, broken_line, empty_line, foreign_line, long_line, no_refusal_line, slip_text};
-ghost use Rattle.psy_view.specs.Refusals.{unknown_line, unlisted_line, unread_line, wrong_line};
+ghost use Rattle.std.specs.Prelude.{◌≡◌, ◌++◌, IfOk, OnOk};
+ghost use Rattle.psy_view.specs.Refusals.{beyond_line, broken_line, broken_text, empty_line, foreign_line, long_line, no_refusal_line, slip_text};
+ghost use Rattle.psy_view.specs.Refusals.{program_line, unknown_line, wrong_line};
 
 use itoa::Buffer;
+use psy_base::Memory;
 use psy_claims::Slip;
 use psy_draw::Window;
-use psy_show::add_shown;
+use psy_show::shown;
+use psy_slip::is_program;
 use psy_text::write::joined;
 use std::alloc::{AllocError, Global};
-
-// A name as it is shown.
-fn shown(alloc: Global, name: &[u8]) -> Result<Vec<u8>, AllocError>
-    ensures { IfOk result (λ text. text.items ≡ shown name.now) }
-{
-    let mut text = Vec::new(alloc);
-    add_shown(&mut text, name)?;
-    Ok(text)
-}
-
-/// `read NAME`
-pub fn unread_line(alloc: Global, name: &[u8]) -> Result<Vec<u8>, AllocError>
-    ensures { IfOk result (λ line. line.items ≡ unread_line name.now) }
-{
-    let name = shown(alloc, name)?;
-    joined(alloc, &[b"read ", name.as_slice(), b"\n"])
-}
 
 /// The file has more bytes than it may have.
 pub fn long_line(alloc: Global, name: &[u8], most: usize) -> Result<Vec<u8>, AllocError>
@@ -46,7 +30,7 @@ pub fn long_line(alloc: Global, name: &[u8], most: usize) -> Result<Vec<u8>, All
     )
 }
 
-/// What stands behind the name is no refusal of a text.
+/// What stands behind the name is no line that psyc writes.
 pub fn no_refusal_line(alloc: Global, name: &[u8]) -> Result<Vec<u8>, AllocError>
     ensures { IfOk result (λ line. line.items ≡ no_refusal_line name.now) }
 {
@@ -55,7 +39,7 @@ pub fn no_refusal_line(alloc: Global, name: &[u8]) -> Result<Vec<u8>, AllocError
         alloc,
         &[
             name.as_slice(),
-            b": what is told of this file is no line with which psyc refuses\n",
+            b": what is told of this file is no line that psyc writes\n",
         ],
     )
 }
@@ -71,8 +55,8 @@ pub fn beyond_line(alloc: Global, name: &[u8]) -> Result<Vec<u8>, AllocError>
     )
 }
 
-/// From this line on the text isn't what that command of psyc writes.
-pub fn broken_line(
+// From this line on the text isn't what that command of psyc writes.
+fn broken_line(
     alloc: Global,
     name: &[u8],
     line: usize,
@@ -96,11 +80,29 @@ pub fn broken_line(
     )
 }
 
-/// This line of a log has a name that the summary doesn't list.
-pub fn unlisted_line(alloc: Global, name: &[u8], line: usize) -> Result<Vec<u8>, AllocError>
-    ensures { IfOk result (λ text. text.items ≡ unlisted_line name.now line) }
+/// The same, and behind it that the text looks like a program, where it does. The only error is want of memory.
+pub fn broken_text(
+    alloc: Global,
+    name: &[u8],
+    line: usize,
+    command: &[u8],
+    text: &[u8],
+) -> Result<Vec<u8>, Memory>
+    ensures { IfOk result (λ told. told.items ≡ broken_text name.now line command.now text.now) }
 {
-    told_at(alloc, name, line, b"the summary doesn't list this name")
+    let mut told = broken_line(alloc, name, line, command)?;
+    if is_program(alloc, text)? {
+        add_program(&mut told, command)?;
+    }
+    Ok(told)
+}
+
+fn add_program(out: &mut Vec<u8>, command: &[u8]) -> Result<(), AllocError>
+    ensures { OnOk result (out.new.items ≡ out.old.items ++ program_line command.now) }
+{
+    out.extend_from_slice(b"hint: this file looks like a program: give what `psyc ")?;
+    out.extend_from_slice(command)?;
+    out.extend_from_slice(b"` writes of it\n")
 }
 
 /// This line of what psyc wrote isn't of the program in that file.
@@ -177,17 +179,13 @@ pub fn wrong_line(
 ) -> Result<Vec<u8>, AllocError>
     ensures { IfOk result (λ text. text.items ≡ wrong_line name.now line slip) }
 {
-    told_at(alloc, name, line, slip_text(slip))
-}
-
-// This is told of a line.
-fn told_at(alloc: Global, name: &[u8], line: usize, told: &[u8]) -> Result<Vec<u8>, AllocError>
-    ensures { IfOk result (λ text. text.items ≡ shown name.now ++ codes ":" ++ decimal line ++ codes ": " ++ told.now ++ codes "\n") }
-{
     let mut digits = Buffer::new();
     let line = digits.format(line as u64).as_bytes();
     let name = shown(alloc, name)?;
-    joined(alloc, &[name.as_slice(), b":", line, b": ", told, b"\n"])
+    joined(
+        alloc,
+        &[name.as_slice(), b":", line, b": ", slip_text(slip), b"\n"],
+    )
 }
 
 // What is wrong with it.

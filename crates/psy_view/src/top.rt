@@ -1,17 +1,18 @@
 //! The top call.
-ghost use Rattle.std.specs.Prelude.{◌≡◌, ◌≢◌, ℕ, ◌≤◌, ◌⊎◌, ◌++◌, List, [], map, string_bytes, IfOk};
+ghost use Rattle.std.specs.Prelude.{◌≡◌, ◌≢◌, ℕ, ◌≤◌, ◌⊎◌, ◌++◌, List, [], None, map, string_bytes, IfOk, MatchOption};
 ghost use Rattle.psy_door.specs.Faults.{Rose};
 ghost use Rattle.psy_door.specs.Growth.{Grew, GrewByFront};
 ghost use Rattle.psy_log.specs.Forms.{words_line};
+ghost use Rattle.psy_export.specs.Ending.{Says};
 ghost use Rattle.psy_words.specs.Faults.{words_told};
-ghost use Rattle.psy_view.specs.Answer.{Answers, IsToldBehind};
+ghost use Rattle.psy_view.specs.Answer.{Answers, IsLimited, IsToldBehind};
 ghost use Rattle.psy_view.specs.Asked.{AskNothing, Asks, File, Request, TimelineWith, files_of};
 ghost use Rattle.psy_view.specs.Fetching.{ComeTo};
-ghost use Rattle.psy_view.specs.Outcome.{MayAnswer, Replies, Says};
-ghost use Rattle.psy_view.specs.Reading.{names_in, request_of, request_of_one, request_of_two};
-ghost use Rattle.psy_view.specs.Refusals.{unread_line};
+ghost use Rattle.psy_view.specs.Outcome.{EndsUnread, IsBegun, MayAnswer, MayBegin, Replies};
+ghost use Rattle.psy_view.specs.Reading.{names_in, request_of, request_of_export, request_of_one, request_of_two};
 
 use crate::asked::{Asked, One, Selection, TEXT_BYTES, Two};
+use crate::export::exported;
 use crate::fetching::{Fetched, fetch};
 use crate::programs::{Names, drawn_with};
 use crate::view::{View, view_of, view_of_both};
@@ -19,21 +20,10 @@ use crate::words::{read_text, read_words};
 use psy_base::Memory;
 use psy_base::limits::FILE_BYTES;
 use psy_door::{Shelf, Sink};
-use psy_log::write_all_of;
+use psy_export::{Format, say};
+use psy_reel::Reel;
 use psy_words::words_told;
 use std::alloc::Global;
-
-// Writes a text and answers with this status.
-fn say<S: Sink>(text: &[u8], status: u8, out: &mut S) -> u8
-    ensures counted { S.faults out.old ≤ S.faults out.new }
-    ensures unfailed { result ≢ 4 → S.faults out.new ≡ S.faults out.old }
-    ensures said { Says (S.held out.old) (S.held out.new) (S.faults out.old) (S.faults out.new) result status text.now }
-{
-    match write_all_of(out, text) {
-        Ok(()) => status,
-        Err(_) => 4,
-    }
-}
 
 // The line that refuses words, and behind it what is wrong with them.
 fn refusal(alloc: Global, words: &[String]) -> Result<Vec<u8>, Memory>
@@ -144,11 +134,13 @@ fn view_of_fed<F: Shelf>(
 
 // What replies to a request.
 fn reply<F: Shelf>(alloc: Global, asked: &Asked, shelf: &mut F) -> Result<View, Memory>
+    requires { IsLimited (request_of asked.now) }
     ensures replies { IfOk result (λ v. Replies (F.files shelf.old) (F.faults shelf.old) (F.faults shelf.new) (request_of asked.now) v.status v.text.items) }
     ensures shelf { (F.faults shelf.old ≤ F.faults shelf.new) × (F.files shelf.new ≡ F.files shelf.old) }
 {
     match asked {
         Asked::One { name, view } => view_of_one(alloc, name, view, shelf),
+        Asked::Export { .. } => unreachable!(),
         Asked::Two { name, other, view } => view_of_two(alloc, name, other, view, shelf),
         Asked::Fed {
             name,
@@ -168,16 +160,33 @@ fn reply<F: Shelf>(alloc: Global, asked: &Asked, shelf: &mut F) -> Result<View, 
     }
 }
 
+// A run in another form, for which words ask.
+#[derive(Clone, Copy)]
+struct Run<'a> {
+    name: &'a str,
+    format: Format,
+}
+
+// The run in another form that is asked for; None exactly where none is.
+fn wanted<'a>(asked: &Asked<'a>) -> Option<Run<'a>>
+    ensures { MatchOption result (IsLimited (request_of asked.now)) (λ run. request_of asked.now ≡ request_of_export run.name.now run.format) }
+{
+    match *asked {
+        Asked::Export { name, format } => Some(Run { name, format }),
+        Asked::One { .. } | Asked::Two { .. } | Asked::Fed { .. } => None,
+    }
+}
+
 /// Does what the words ask for, and answers the status with which the program ends.
-pub fn psyview<F: Shelf, S: Sink>(alloc: Global, words: &[String], shelf: &mut F, out: &mut S) -> u8
+pub fn psyview<F: Reel, S: Sink>(alloc: Global, words: &[String], shelf: &mut F, out: &mut S) -> u8
     // The status and the text are the defined ones, for the files where they are told.
     ensures answered { result ≢ 3 → result ≢ 4 → result ≢ 8 → (text : List ℕ)
         × Answers (map string_bytes words.now) (F.files shelf.old) result text × Grew (S.held out.old) (S.held out.new) text }
 
-    // Where no call failed, the whole text of a defined answer was written, unless memory ran out.
+    // Where no call failed, the whole text of a defined answer was written, unless memory ran out, or a file that isn't told changed while it was read.
     ensures done { (Rose (F.faults shelf.old) (F.faults shelf.new) → ⊥) → (Rose (S.faults out.old) (S.faults out.new) → ⊥)
         → ((text : List ℕ) × Answers (map string_bytes words.now) (F.files shelf.old) result text × Grew (S.held out.old) (S.held out.new) text)
-        ⊎ (result ≡ 8) }
+        ⊎ ((result ≡ 8) ⊎ ((result ≡ 3) × (F.files shelf.old ≡ None))) }
 
     // Words of no listed form are refused whatever the shelf does.
     ensures words { AskNothing (map string_bytes words.now) → (result ≡ 2) ⊎ (result ≡ 4) }
@@ -185,13 +194,15 @@ pub fn psyview<F: Shelf, S: Sink>(alloc: Global, words: &[String], shelf: &mut F
 
     // A file that the words name couldn't be read, and those before it were.
     ensures read { result ≡ 3 → (request : Request) × (file : File) × Asks (map string_bytes words.now) request
-        × ComeTo (F.files shelf.old) (files_of request) file × Rose (F.faults shelf.old) (F.faults shelf.new)
-        × Grew (S.held out.old) (S.held out.new) (unread_line file.name) }
+        × ComeTo (F.files shelf.old) (files_of request) file
+        × EndsUnread (F.files shelf.old) (F.faults shelf.old) (F.faults shelf.new) (S.held out.old) (S.held out.new) request file }
     ensures write { result ≡ 4 → Rose (S.faults out.old) (S.faults out.new) }
-    ensures cut_short { result ≡ 4 → (status : ℕ) × (text : List ℕ)
-        × MayAnswer (map string_bytes words.now) (F.files shelf.old) (F.faults shelf.old) (F.faults shelf.new) status text
+    ensures cut_short { result ≡ 4 → (text : List ℕ)
+        × (((status : ℕ) × MayAnswer (map string_bytes words.now) (F.files shelf.old) (F.faults shelf.old) (F.faults shelf.new) status text)
+        ⊎ MayBegin (map string_bytes words.now) (F.files shelf.old) text)
         × GrewByFront (S.held out.old) (S.held out.new) text }
-    ensures memory { result ≡ 8 → Grew (S.held out.old) (S.held out.new) [] }
+    ensures memory { result ≡ 8 → Grew (S.held out.old) (S.held out.new) []
+        ⊎ ((text : List ℕ) × IsBegun (map string_bytes words.now) (F.files shelf.old) text × GrewByFront (S.held out.old) (S.held out.new) text) }
 
     // A call of the sink that failed is answered by 4: none is made again, and none is passed over.
     ensures unfailed_writes { result ≢ 4 → S.faults out.new ≡ S.faults out.old }
@@ -204,6 +215,9 @@ pub fn psyview<F: Shelf, S: Sink>(alloc: Global, words: &[String], shelf: &mut F
     let Some(asked) = read_words(words) else {
         return refuse(alloc, words, out);
     };
+    if let Some(run) = wanted(&asked) {
+        return exported(alloc, run.name, run.format, shelf, out);
+    }
     match reply(alloc, &asked, shelf) {
         Ok(View { status, text }) => say(text.as_slice(), status, out),
         Err(Memory) => 8,

@@ -7,11 +7,11 @@ ghost use Rattle.psy_view.specs.Reading.{most_of_one, most_of_other, request_of_
 ghost use Rattle.psy_view.specs.Views.{ViewOf};
 
 use crate::asked::{One, Two};
-use crate::log::{compared, dumped, expected, tabled};
+use crate::log::{compared, expected};
 use crate::picture::drawn;
 use crate::plan::{fed, listed, reported};
 use crate::programs::{dotted_of, drawn_of};
-use crate::refusals::broken_line;
+use crate::refusals::broken_text;
 use crate::told::told_of;
 use psy_base::Memory;
 use psy_draw::dot;
@@ -35,8 +35,6 @@ pub fn view_of(alloc: Global, name: &str, view: &One, bytes: &[u8]) -> Result<Vi
         One::Where { words } => explained(alloc, name, words, bytes),
         One::Timeline { selection } => drawn(alloc, name, selection, bytes),
         One::Dot => dotted(alloc, name, bytes),
-        One::Csv => tabled(alloc, name, bytes),
-        One::Vcd => dumped(alloc, name, bytes),
         One::Flow => fed(alloc, name, bytes),
         One::List => listed(alloc, name, bytes),
         One::Report { until } => reported(alloc, name, bytes, until),
@@ -116,7 +114,7 @@ fn dotted(alloc: Global, name: &str, bytes: &[u8]) -> Result<View, Memory>
         Err(TextFault::Line { line }) => {
             Ok(View {
                 status: 1,
-                text: broken_line(alloc, name.as_bytes(), line, b"graph")?,
+                text: broken_text(alloc, name.as_bytes(), line, b"graph", bytes)?,
             })
         }
         Err(TextFault::Memory) => Err(Memory),

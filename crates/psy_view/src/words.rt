@@ -3,12 +3,13 @@ ghost use Rattle.std.specs.Prelude.{◌≡◌, ◌≢◌, ◌<◌, ◌⊎◌, Li
 ghost use Rattle.std.specs.List.{list_all};
 ghost use Rattle.psy_text.specs.Words.{number_of};
 ghost use Rattle.psy_view.specs.Asked.{Asks, AskForText, AskNoView, IsDate, SelectNothing, begins_with_file, is_file, is_name};
-ghost use Rattle.psy_view.specs.Reading.{IsSelected, Selects, request_of, request_of_one, request_of_two};
+ghost use Rattle.psy_view.specs.Reading.{IsSelected, Selects, request_of, request_of_two};
 
 use crate::asked::{Asked, One, Selection, Two};
 use crate::help::{HELP, VERSION};
 use psy_base::limits;
 use psy_draw::Window;
+use psy_export::Format;
 use psy_text::word::{is_number, number};
 
 /// The text that the words ask for: help, which no words ask for too, or the version. None exactly where they ask for none.
@@ -51,27 +52,36 @@ pub fn read_words(words: &[String]) -> Option<Asked<'_>>
 fn of_two<'a>(command: &str, name: &'a str) -> Option<Asked<'a>>
     ensures { MatchOption result (AskNoView (command.now ∷ name.now ∷ [])) (λ asked. Asks (command.now ∷ name.now ∷ []) (request_of asked)) }
 {
-    let view = one_view(command)?;
-    Some(Asked::One { name, view })
-}
-
-// The view of one file that is made by a command with no more words.
-fn one_view(command: &str) -> Option<One<'static>>
-    ensures { MatchOption result ((name : List ℕ) → AskNoView (command.now ∷ name ∷ []))
-        (λ view. (name : List ℕ) → Asks (command.now ∷ name ∷ []) (request_of_one name view)) }
-{
     match command {
-        "timeline" => Some(One::Timeline {
-            selection: Selection {
-                window: Window::WHOLE,
-                names: &[],
+        "timeline" => Some(Asked::One {
+            name,
+            view: One::Timeline {
+                selection: Selection {
+                    window: Window::WHOLE,
+                    names: &[],
+                },
             },
         }),
-        "dot" => Some(One::Dot),
-        "csv" => Some(One::Csv),
-        "vcd" => Some(One::Vcd),
-        "flow" => Some(One::Flow),
-        "list" => Some(One::List),
+        "dot" => Some(Asked::One {
+            name,
+            view: One::Dot,
+        }),
+        "csv" => Some(Asked::Export {
+            name,
+            format: Format::Table,
+        }),
+        "vcd" => Some(Asked::Export {
+            name,
+            format: Format::Dump,
+        }),
+        "flow" => Some(Asked::One {
+            name,
+            view: One::Flow,
+        }),
+        "list" => Some(Asked::One {
+            name,
+            view: One::List,
+        }),
         _ => None,
     }
 }

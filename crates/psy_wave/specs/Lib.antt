@@ -2,4 +2,5 @@
 pub mod Changes
 pub mod Codes
 pub mod Heads
+pub mod Streams
 pub mod Times

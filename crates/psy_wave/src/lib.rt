@@ -1,11 +1,14 @@
-//! Writes a run as a value change dump (IEEE 1364-2005, clause 18), which viewers of waveforms read.
-//! It may know notes of a run, and the names that its summary lists.
+//! Writes a run as a value change dump (IEEE 1364-2005, clause 18), which viewers of waveforms read: one in memory, or a file of any length.
+//! It may know notes of a run, the names that its summary lists, and the passes over long files.
 #![tactic(auto)]
 
 mod change;
 mod header;
 pub mod laws;
 mod line;
+mod long;
+mod teller;
 mod text;
 
+pub use long::write_vcd;
 pub use text::vcd;

@@ -43,8 +43,8 @@ fn add_changes(out: &mut Vec<u8>, listed: &Listed, notes: &[Note]) -> Result<(),
     Ok(())
 }
 
-// Adds a time, where there is one and it isn't the last one.
-fn add_stamp(out: &mut Vec<u8>, last: u64, time: Option<u64>) -> Result<(), AllocError>
+/// Adds a time, where there is one and it isn't the last one.
+pub fn add_stamp(out: &mut Vec<u8>, last: u64, time: Option<u64>) -> Result<(), AllocError>
     ensures { OnOk result (out.new.items ≡ out.old.items ++ stamp last time) }
 {
     match time {
@@ -66,8 +66,8 @@ fn add_time(out: &mut Vec<u8>, last: u64, time: u64) -> Result<(), AllocError>
     Ok(())
 }
 
-// The last time behind a note.
-fn later(last: u64, time: Option<u64>) -> u64
+/// The last time behind a note.
+pub fn later(last: u64, time: Option<u64>) -> u64
     ensures { result ≡ later last time }
 {
     match time {

@@ -1,8 +1,8 @@
 -- The lemmas of this crate, by subject.
 mod Explaining
-mod LackLines
 mod LinesBack
 mod LinesWalked
-mod PlainLines
-mod RefusalLines
+mod NoteLines
+mod OpenPlaces
+mod PairsFound
 mod TokenStarts

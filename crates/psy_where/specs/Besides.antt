@@ -9,7 +9,7 @@ use Rattle.psy_where.specs.declared.recall.What.{What}
 use Rattle.psy_where.specs.declared.recall.What.TheVariants.{Inputs, Script}
 use Rattle.psy_where.specs.declared.recall.Refusal.{Refusal}
 use Rattle.psy_where.specs.Explained.{rest_at}
-use Rattle.psy_where.specs.Refusals.{IsPlaceOf, Says}
+use Rattle.psy_where.specs.Refusals.{IsPlaceOf, IsRefusal}
 
 -- What the program's tokens tell of a line, by its words, of what is refused and by the number of the fault; nothing of a program's own
 abbrev pub beside_of : What → ℕ → List (List ℕ) → List Token → List ℕ
@@ -20,7 +20,7 @@ beside_of what number words tokens = []
 -- The line is a refusal of a place in the text, the program has tokens, and they tell this of the line that stands there.
 abbrev pub IsBeside : List ℕ → List ℕ → List ℕ → List ℕ → Type 0
 IsBeside program text line told =
-    (refusal : Refusal) × (sentence : List ℕ) × (place : ℕ) × (tokens : List Token) × Says line refusal sentence
+    (refusal : Refusal) × (sentence : List ℕ) × (place : ℕ) × (tokens : List Token) × IsRefusal line refusal sentence
     × IsPlaceOf refusal.what text refusal.at place × TokensOf program tokens
     × (told ≡ beside_of refusal.what refusal.number (words_of (rest_at text place)) tokens)
 

@@ -123,7 +123,8 @@ byte_words Base = codes "numbers are decimal: there are no hexadecimal ones"
 byte_words Zero = codes "a number of several digits begins with 1 to 9: leave the zeros before it out"
 byte_words UnitBehind =
     codes "a number is of digits alone, without a unit or `_`: time is counted in ticks; between a number and a word stands a blank"
-byte_words Part = codes "names have no parts, and temporal variables are known to all agents: write the name behind the point alone"
+byte_words Part =
+    codes "names have no parts: a function may give a part of a value, as in `sender(frame)`; all agents know a temporal variable by its name alone"
 byte_words Point = codes "there are no fractions, and names have no parts: leave the point out"
 byte_words Directive = codes "a comment is written `/* .. */` or `// ..`, and there are no directives"
 byte_words Include = codes "there are no directives, and a program is one file: leave this out, and declare here what it needs"

@@ -1,22 +1,21 @@
 -- What is written for a refusal: where it is, what it means, the line, and a mark below.
-use Rattle.std.specs.Prelude.{◌≡◌, ℕ, ◌+◌, List, ◌++◌, length, take, drop, codes, decimal, Option, None, Some}
+use Rattle.std.specs.Prelude.{◌≡◌, ℕ, List, ◌++◌, take, drop, codes, decimal, Option, None, Some}
 use Rattle.std.specs.List.{prefix_len}
 use Rattle.psy_show.specs.Lines.{shown, shown_line}
 use Rattle.psy_tree.specs.Lexemes.{is_in_word}
 use Rattle.psy_text.specs.Lines.{without_return}
-use Rattle.psy_text.specs.Words.{words_of}
 use Rattle.psy_where.specs.declared.recall.What.{What}
 use Rattle.psy_where.specs.declared.recall.What.TheVariants.{Inputs, Script}
 use Rattle.psy_where.specs.declared.recall.Refusal.{Refusal}
 use Rattle.psy_where.specs.Places.{line_at, before_at, behind_at, told_column}
-use Rattle.psy_where.specs.Refusals.{Says, IsPlaceOf}
+use Rattle.psy_where.specs.Refusals.{IsNoRefusal, IsPlaceOf, IsRefusal}
 use Rattle.psy_where.specs.declared.lack.Lack.{Lack}
 use Rattle.psy_where.specs.declared.plain.Plain.{Plain}
 use Rattle.psy_where.specs.Helps.{IsHelp}
 use Rattle.psy_where.specs.Lacks.{IsLack, lack_sentence}
-use Rattle.psy_where.specs.Plains.{plain_of, plain_sentence}
+use Rattle.psy_where.specs.Plains.{IsPlain, plain_sentence}
 use Rattle.psy_where.specs.declared.written.Written.{Written}
-use Rattle.psy_where.specs.Writings.{written_of, written_sentence}
+use Rattle.psy_where.specs.Writings.{IsWritten, written_sentence}
 
 -- How many columns of a line, from the place on, are marked: those of a word or a number that begins there, or all of a line of inputs or of a script
 abbrev pub marked : What → List ℕ → Option ℕ
@@ -48,24 +47,20 @@ IsPlaced name text refusal sentence answer =
 -- The line is one that psyc writes, and this explains it: of a refusal that tells a place in the text of a file of this name, of another line with which psyc
 -- refuses, or of one that refuses nothing.
 pub data Explains (name text line answer : List ℕ) : Type 0 where
-  of_place : (refusal : Refusal) (sentence : List ℕ) → Says line refusal sentence → IsPlaced name text refusal sentence answer → Explains name text line answer
-  of_plain : (plain : Plain) → plain_of line ≡ Some plain → answer ≡ sentence_line name (plain_sentence plain) → Explains name text line answer
-  of_lack : (lack : Lack) → IsLack line lack → answer ≡ sentence_line name (lack_sentence lack) → Explains name text line answer
-  of_written : (written : Written) → written_of (words_of line) ≡ Some written → answer ≡ sentence_line name (written_sentence written)
+  of_place : (refusal : Refusal) (sentence : List ℕ) → IsRefusal line refusal sentence → IsPlaced name text refusal sentence answer
       → Explains name text line answer
+  of_plain : (plain : Plain) → IsPlain line plain → answer ≡ sentence_line name (plain_sentence plain) → Explains name text line answer
+  of_lack : (lack : Lack) → IsLack line lack → answer ≡ sentence_line name (lack_sentence lack) → Explains name text line answer
+  of_written : (written : Written) → IsWritten line written → answer ≡ sentence_line name (written_sentence written) → Explains name text line answer
 
--- The line is no refusal that psyc writes of a text.
-abbrev pub IsNoRefusal : List ℕ → Type 0
-IsNoRefusal line = (refusal : Refusal) (sentence : List ℕ) → Says line refusal sentence → ⊥
-
--- The line is none that psyc writes.
+-- The line says no note that psyc writes, or none of which anything is told.
 pub record IsNone (line : List ℕ) : Type 0 where
   pub refusal : IsNoRefusal line
-  pub plain : plain_of line ≡ None
+  pub plain : (plain : Plain) → IsPlain line plain → ⊥
   pub lack : (lack : Lack) → IsLack line lack → ⊥
-  pub written : written_of (words_of line) ≡ None
+  pub written : (written : Written) → IsWritten line written → ⊥
 
 -- The line is a refusal, but the text has no such place.
 abbrev pub IsBeyond : List ℕ → List ℕ → Type 0
 IsBeyond text line =
-    (refusal : Refusal) × (sentence : List ℕ) × Says line refusal sentence × ((place : ℕ) → IsPlaceOf refusal.what text refusal.at place → ⊥)
+    (refusal : Refusal) × (sentence : List ℕ) × IsRefusal line refusal sentence × ((place : ℕ) → IsPlaceOf refusal.what text refusal.at place → ⊥)

@@ -1,5 +1,5 @@
 -- What is told below the mark of a refusal.
-use Rattle.std.specs.Prelude.{◌≡◌, ℕ, ◌==◌, ◌≤◌, if◌then◌else◌, List, [], ◌++◌, codes, decimal, length, Option, None, Some}
+use Rattle.std.specs.Prelude.{◌≡◌, ℕ, ◌==◌, ◌≤◌, if◌then◌else◌, List, [], ◌++◌, codes, decimal, length, take, Option, None, Some}
 use Rattle.psy_tree.specs.declared.token.Token.{Token}
 use Rattle.psy_tree.specs.Tokens.{TokensOf}
 use Rattle.psy_breach.specs.Breaches.{breach_hint}
@@ -10,14 +10,12 @@ use Rattle.psy_slip.specs.Looks.{file_hint}
 use Rattle.psy_slip.specs.Slips.{slip, slip_line}
 use Rattle.psy_text.specs.Words.{words_of}
 use Rattle.psy_where.specs.declared.byte.ByteSlip.TheVariants.{Nested}
+use Rattle.psy_where.specs.declared.indent.Pair.{Pair}
 use Rattle.psy_where.specs.declared.recall.What.TheVariants.{Lex, Parse, Rule, Inputs, Script}
 use Rattle.psy_where.specs.declared.recall.Refusal.{Refusal}
 use Rattle.psy_where.specs.Places.{line_at, told_column}
 use Rattle.psy_where.specs.Bytes.{byte_words, closes_first, slip_of}
-
--- The text has tokens, and this is the advice for the place of that number among them, with the place of the brace that is told as open.
-abbrev pub IsAdviceFor : List ℕ → ℕ → List ℕ → Option ℕ → Type 0
-IsAdviceFor text at advice brace = (tokens : List Token) × TokensOf text tokens × (at ≤ length tokens) × IsAdvice tokens at advice brace
+use Rattle.psy_where.specs.Indents.{first_pair}
 
 -- The text has tokens, and this is told of the rule of that number, which is broken at the token of that number.
 abbrev pub IsBreachOf : List ℕ → ℕ → ℕ → List ℕ → Type 0
@@ -61,16 +59,32 @@ brace_line text place =
     codes "hint: the innermost `{` that is open here is that of line " ++ decimal (line_at text place)
     ++ codes ", column " ++ decimal (told_column text place) ++ codes "\n"
 
--- That line, where there is such a brace
-abbrev pub brace_help : List ℕ → Option ℕ → List ℕ
-brace_help text None = []
-brace_help text (Some place) = brace_line text place
+-- `hint: ..` with the lines of a `}` and of the `{` that it closes
+unfoldable pub pair_line : List ℕ → Pair → List ℕ
+pair_line text pair =
+    codes "hint: the `}` of line " ++ decimal (line_at text pair.closing) ++ codes " closes the `{` of line " ++ decimal (line_at text pair.opening)
+    ++ codes ", which begins at another column: is one missing before it?\n"
 
--- What is told of a token with which no program goes on: advice, which brace is open, that a comment was closed before it, and what the file looks like
+-- That line, where there is such a `}`
+abbrev pub pair_help : List ℕ → Option Pair → List ℕ
+pair_help text None = []
+pair_help text (Some pair) = pair_line text pair
+
+-- Which brace is open, where one is told, and the first `}` whose line begins at another column than that of its `{`
+abbrev pub brace_help : List ℕ → Option ℕ → Option Pair → List ℕ
+brace_help text None pair = []
+brace_help text (Some place) pair = brace_line text place ++ pair_help text pair
+
+-- The text has tokens, and this is the advice for the place of that number among them, and what is told of braces.
+abbrev pub IsAdviceFor : List ℕ → ℕ → List ℕ → Type 0
+IsAdviceFor text at help =
+    (tokens : List Token) × (advice : List ℕ) × (brace : Option ℕ) × TokensOf text tokens × (at ≤ length tokens) × IsAdvice tokens at advice brace
+    × (help ≡ advice ++ brace_help text brace (first_pair text [] (take at tokens)))
+
+-- What is told of a token with which no program goes on: advice, that a comment was closed before it, and what the file looks like
 abbrev pub IsSyntaxHelp : List ℕ → List ℕ → ℕ → List ℕ → Type 0
 IsSyntaxHelp text back at help =
-    (advice : List ℕ) × (brace : Option ℕ) × IsAdviceFor text at advice brace
-    × (help ≡ advice ++ brace_help text brace ++ nested_help back ++ file_hint files.Program text)
+    (advice : List ℕ) × IsAdviceFor text at advice × (help ≡ advice ++ nested_help back ++ file_hint files.Program text)
 
 -- What stands below the mark, given the bytes before the place, those from it on, and those of them that are of its line: what is told of a token with which
 -- no program goes on, of bytes that can't be cut into tokens, of a rule that is broken, of a text that is nested too deep, or of a line of inputs or of a

@@ -1,20 +1,27 @@
--- A demand that can't be supplied, as psyc writes it, and what it means.
-use Rattle.std.specs.Prelude.{◌≡◌, ℕ, ◌<◌, ◌^◌, List, ◌++◌, codes, decimal, Option, None, Some}
-use Rattle.psy_log.specs.Forms.{infeasible_line}
+-- A demand that can't be supplied, and what it means.
+use Rattle.std.specs.Prelude.{◌≡◌, ℕ, List, ◌++◌, codes, decimal, Option, None, Some}
+use Rattle.psy_log.specs.declared.form.Form.{Form}
+use Rattle.psy_log.specs.declared.form.Form.TheVariants as form
+use Rattle.psy_log.specs.declared.note.Note.{Note}
+use Rattle.psy_log.specs.Forms.{says}
+use Rattle.psy_log.specs.Table.{Said}
+use Rattle.psy_notes.specs.Reading.{long_at, short_at}
 use Rattle.psy_where.specs.declared.lack.Lack.{Lack}
+use Rattle.psy_where.specs.Notes.{IsNoteOf}
 
--- There is no number, or one of 64 bits.
-abbrev pub IsSmall : Option ℕ → Type 0
-IsSmall None = Unit {0}
-IsSmall (Some number) = number < 2 ^ 64
+-- The three numbers that are said, of that processor
+abbrev pub lack_on : List Said → Option ℕ → Lack
+lack_on said processor = record { length = long_at said 0; demand = long_at said 1; supply = long_at said 2; processor = processor }
 
--- The line says this, in numbers of 64 bits
-pub record IsLack (line : List ℕ) (lack : Lack) : Type 0 where
-  pub written : line ++ codes "\n" ≡ infeasible_line lack.length lack.demand lack.supply lack.processor
-  pub length : lack.length < 2 ^ 64
-  pub demand : lack.demand < 2 ^ 64
-  pub supply : lack.supply < 2 ^ 64
-  pub processor : IsSmall lack.processor
+-- What is said in a line of this form, where it tells of such a demand
+abbrev pub lack_in : Form → List Said → Option Lack
+lack_in form.Infeasible said = Some (lack_on said None)
+lack_in form.InfeasibleOn said = Some (lack_on said (Some (short_at said 3)))
+lack_in _ said = None
+
+-- The line says this.
+abbrev pub IsLack : List ℕ → Lack → Type 0
+IsLack line lack = (note : Note) × IsNoteOf line note × (lack_in (says note).0 (says note).1 ≡ Some lack)
 
 -- Who supplies: the processor, or the one that is named
 abbrev pub supplier : Option ℕ → List ℕ

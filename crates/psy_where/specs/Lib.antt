@@ -3,8 +3,11 @@ pub mod Besides
 pub mod Bytes
 pub mod Explained
 pub mod Helps
+pub mod Indents
 pub mod Lacks
 pub mod Lexing
+pub mod Limits
+pub mod Notes
 pub mod Places
 pub mod Plains
 pub mod Refusals

@@ -1,18 +1,26 @@
--- The refusals that tell a place in a text, as psyc writes them, and what each means.
-use Rattle.std.specs.Prelude.{◌≡◌, ◌==◌, ℕ, ◌^◌, ◌<◌, if◌then◌else◌, List, ◌++◌, codes, length, Option, None, Some}
-use Rattle.psy_log.specs.Forms.{refused_line}
+-- The refusals that tell a place in a text, and what each means.
+use Rattle.std.specs.Prelude.{◌≡◌, ◌==◌, ℕ, ◌<◌, if◌then◌else◌, List, codes, bytes_eq, length, Option, None, Some}
+use Rattle.psy_log.specs.declared.form.Form.{Form}
+use Rattle.psy_log.specs.declared.form.Form.TheVariants as form
+use Rattle.psy_log.specs.declared.note.Note.{Note}
+use Rattle.psy_log.specs.Forms.{says}
+use Rattle.psy_log.specs.Table.{Said}
+use Rattle.psy_notes.specs.Reading.{name_at, short_at}
 use Rattle.psy_where.specs.declared.recall.What.{What}
 use Rattle.psy_where.specs.declared.recall.What.TheVariants.{Lex, Parse, Rule, Inputs, Script}
 use Rattle.psy_where.specs.declared.recall.Refusal.{Refusal}
+use Rattle.psy_where.specs.Notes.{IsNoteOf}
 use Rattle.psy_where.specs.Places.{IsTokenPlace, IsLinePlace}
 
--- The word for what is refused
-abbrev pub word_of : What → List ℕ
-word_of Lex = codes "lex"
-word_of Parse = codes "parse"
-word_of Rule = codes "rule"
-word_of Inputs = codes "inputs"
-word_of Script = codes "script"
+-- What has this word
+abbrev pub what_of : List ℕ → Option What
+what_of word =
+    if bytes_eq word (codes "lex") then Some Lex
+    else if bytes_eq word (codes "parse") then Some Parse
+    else if bytes_eq word (codes "rule") then Some Rule
+    else if bytes_eq word (codes "inputs") then Some Inputs
+    else if bytes_eq word (codes "script") then Some Script
+    else None
 
 -- What a refusal of each number means
 abbrev pub sentence_of : What → ℕ → Option (List ℕ)
@@ -53,11 +61,28 @@ sentence_of Script number =
     else if number == 4 then Some (codes "a number is out of its range")
     else None
 
--- The line is this refusal, and it is one that psyc writes
-pub record Says (line : List ℕ) (refusal : Refusal) (sentence : List ℕ) : Type 0 where
-  pub written : line ++ codes "\n" ≡ refused_line (word_of refusal.what) refusal.number (Some refusal.at)
+-- The refusal of what has a word, where something has
+abbrev pub refused : Option What → ℕ → ℕ → Option Refusal
+refused None number at = None
+refused (Some what) number at = Some (record { what = what; number = number; at = at })
+
+-- The refusal that is said in a line of this form
+abbrev pub refusal_in : Form → List Said → Option Refusal
+refusal_in form.RefusedAt said = refused (what_of (name_at said 0)) (short_at said 1) (short_at said 2)
+refusal_in _ said = None
+
+-- What is said in a line of a form is this refusal, and it is one that psyc writes.
+pub record Refuses (saying : Form × List Said) (refusal : Refusal) (sentence : List ℕ) : Type 0 where
+  pub said : refusal_in saying.0 saying.1 ≡ Some refusal
   pub means : sentence_of refusal.what refusal.number ≡ Some sentence
-  pub small : refusal.at < 2 ^ 32
+
+-- The line says this.
+abbrev pub IsRefusal : List ℕ → Refusal → List ℕ → Type 0
+IsRefusal line refusal sentence = (note : Note) × IsNoteOf line note × Refuses (says note) refusal sentence
+
+-- The line is no refusal that psyc writes of a text.
+abbrev pub IsNoRefusal : List ℕ → Type 0
+IsNoRefusal line = (refusal : Refusal) (sentence : List ℕ) → IsRefusal line refusal sentence → ⊥
 
 -- The place in the text of which a refusal of this kind tells the number: a byte, a token, or a line.
 abbrev pub IsPlaceOf : What → List ℕ → ℕ → ℕ → Type 0

@@ -1,80 +1,48 @@
--- The lines that psyc writes and that refuse nothing, as their words tell them apart, and what each means.
-use Rattle.std.specs.Prelude.{ℕ, ◌&&◌, if◌then◌else◌, List, [], ◌∷◌, ◌++◌, codes, bytes_eq, Option, None, Some}
-use Rattle.psy_text.specs.Words.{is_number, is_value}
+-- The lines that psyc writes and that refuse nothing, and what each means.
+use Rattle.std.specs.Prelude.{◌≡◌, List, ℕ, ◌++◌, codes, Option, None, Some}
+use Rattle.psy_arith.specs.declared.operators.Trap.{Trap}
+use Rattle.psy_arith.specs.declared.operators.Trap.TheVariants as trap
+use Rattle.psy_log.specs.declared.form.Form.{Form}
+use Rattle.psy_log.specs.declared.form.Form.TheVariants as form
+use Rattle.psy_log.specs.declared.note.Note.{Note}
+use Rattle.psy_log.specs.Forms.{says}
+use Rattle.psy_log.specs.Table.{Said}
+use Rattle.psy_notes.specs.Reading.{kind_at}
 use Rattle.psy_where.specs.declared.written.Written.{Written}
 use Rattle.psy_where.specs.declared.written.Written.TheVariants.{Value, Message, Overrun, Divide, Index, Loop, Take, End, Feasible, VariableSize, StreamSize}
 use Rattle.psy_where.specs.declared.written.Written.TheVariants.{Agent, Variable, Stream, Rate, Edge, Node}
+use Rattle.psy_where.specs.Notes.{IsNoteOf}
 
--- `stop AGENT overrun`, or `STREAM msg VALUE`
-abbrev pub of_three_dated : List ℕ → List ℕ → List ℕ → Option Written
-of_three_dated one two three =
-    if bytes_eq one (codes "stop") && bytes_eq three (codes "overrun") then Some Overrun
-    else if bytes_eq two (codes "msg") && is_value three then Some Message
-    else None
+-- What a stop says, by its trap
+abbrev pub trapped : Trap → Written
+trapped trap.Divide = Divide
+trapped trap.Index = Index
+trapped trap.Loop = Loop
+trapped trap.Take = Take
 
--- The kind of a trap
-abbrev pub trap_of : List ℕ → Option Written
-trap_of kind =
-    if bytes_eq kind (codes "divide") then Some Divide
-    else if bytes_eq kind (codes "index") then Some Index
-    else if bytes_eq kind (codes "loop") then Some Loop
-    else if bytes_eq kind (codes "take") then Some Take
-    else None
+-- What is said in a line of this form, where it refuses nothing
+abbrev pub written_in : Form → List Said → Option Written
+written_in form.StopTrap said = Some (trapped (kind_at said 2))
+written_in form.StopOverrun said = Some Overrun
+written_in form.Value said = Some Value
+written_in form.Message said = Some Message
+written_in form.End said = Some End
+written_in form.AgentEnd said = Some Agent
+written_in form.VariableEnd said = Some Variable
+written_in form.StreamEnd said = Some Stream
+written_in form.VariableSize said = Some VariableSize
+written_in form.StreamSize said = Some StreamSize
+written_in form.Rate said = Some Rate
+written_in form.Always said = Some Feasible
+written_in form.Feasible said = Some Feasible
+written_in form.AgentGraph said = Some Agent
+written_in form.Node said = Some Node
+written_in form.EdgeOf said = Some Edge
+written_in _ said = None
 
--- `stop AGENT trap KIND`, but for its second word
-abbrev pub of_four_dated : List ℕ → List ℕ → List ℕ → Option Written
-of_four_dated one three kind = if bytes_eq one (codes "stop") && bytes_eq three (codes "trap") then trap_of kind else None
-
--- `VARIABLE VALUE`, by its second word
-abbrev pub of_two_dated : List ℕ → Option Written
-of_two_dated two = if is_value two then Some Value else None
-
--- What stands behind a date: three words, and what follows them
-abbrev pub behind_three : List ℕ → List ℕ → List ℕ → List (List ℕ) → Option Written
-behind_three one two three [] = of_three_dated one two three
-behind_three one two three (kind ∷ []) = of_four_dated one three kind
-behind_three one two three _ = None
-
--- The same by two words
-abbrev pub behind_two : List ℕ → List ℕ → List (List ℕ) → Option Written
-behind_two one two [] = of_two_dated two
-behind_two one two (three ∷ more) = behind_three one two three more
-
--- The same by all of them
-abbrev pub dated_of : List (List ℕ) → Option Written
-dated_of (one ∷ two ∷ more) = behind_two one two more
-dated_of _ = None
-
--- `end UNTIL`, `feasible UNTIL` or `feasible always`
-abbrev pub of_two : List ℕ → Option Written
-of_two word = if bytes_eq word (codes "end") then Some End else if bytes_eq word (codes "feasible") then Some Feasible else None
-
--- `variable NAME SIZE` or `stream NAME SIZE`
-abbrev pub of_three : List ℕ → Option Written
-of_three word = if bytes_eq word (codes "variable") then Some VariableSize else if bytes_eq word (codes "stream") then Some StreamSize else None
-
--- `agent AGENT COUNT SLACK` or `agent AGENT NODES EDGES`, `variable NAME SIZE REACH`, `stream NAME SIZE HELD`, `rate AGENT RATE INTERCEPT`, `edge FROM TO LEN`
-abbrev pub of_four : List ℕ → Option Written
-of_four word =
-    if bytes_eq word (codes "agent") then Some Agent
-    else if bytes_eq word (codes "variable") then Some Variable
-    else if bytes_eq word (codes "stream") then Some Stream
-    else if bytes_eq word (codes "rate") then Some Rate
-    else if bytes_eq word (codes "edge") then Some Edge
-    else None
-
--- A word, and how many stand behind it: one of those, or `node NUMBER POINT PHASE BUDGET WORST DUE`
-abbrev pub headed_of : List ℕ → List (List ℕ) → Option Written
-headed_of word (a ∷ []) = of_two word
-headed_of word (a ∷ b ∷ []) = of_three word
-headed_of word (a ∷ b ∷ c ∷ []) = of_four word
-headed_of word (a ∷ b ∷ c ∷ d ∷ e ∷ f ∷ []) = if bytes_eq word (codes "node") then Some Node else None
-headed_of word _ = None
-
--- What a line of these words is, where it is one that refuses nothing
-abbrev pub written_of : List (List ℕ) → Option Written
-written_of [] = None
-written_of (word ∷ words) = if is_number word then dated_of words else headed_of word words
+-- The line says this.
+abbrev pub IsWritten : List ℕ → Written → Type 0
+IsWritten line written = (note : Note) × IsNoteOf line note × (written_in (says note).0 (says note).1 ≡ Some written)
 
 -- What it means
 abbrev pub written_words : Written → List ℕ

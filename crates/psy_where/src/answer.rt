@@ -11,17 +11,19 @@ ghost use Rattle.psy_where.specs.Writings.{written_sentence};
 
 use crate::fault::WhereFault;
 use crate::help::help;
-use crate::lack::{Lack, read_lack};
+use crate::lack::{Lack, lack_of};
 use crate::mark::marked;
 use crate::place::place;
-use crate::plain::{Plain, plain_sentence, read_plain};
-use crate::recall::{Told, What, read_refusal};
+use crate::plain::{Plain, plain_of, plain_sentence};
+use crate::recall::{Told, What, told_of};
 use crate::spot::spot_at;
+use crate::with_feed::with_feed;
 use crate::written::{Written, written_of, written_words};
 use psy_base::Memory;
+use psy_notes::laws::one_line;
+use psy_notes::read_line;
 use psy_show::{add_line, add_shown, chars_len};
 use psy_text::line::without_return;
-use psy_text::word::words_of;
 use psy_text::write::{add_labelled, add_number};
 use std::alloc::{AllocError, Global};
 
@@ -33,17 +35,21 @@ pub fn explain(alloc: Global, name: &[u8], text: &[u8], line: &[u8]) -> Result<V
     ensures refusal { result ≡ Err WhereFault.NoRefusal → IsNone line.now }
     ensures beyond { result ≡ Err WhereFault.Beyond → IsBeyond text.now line.now }
 {
-    if let Some(told) = read_refusal(line) {
+    one_line();
+    let whole = with_feed(alloc, line)?;
+    let Some(note) = read_line(whole.as_slice()) else {
+        return Err(WhereFault::NoRefusal);
+    };
+    if let Some(told) = told_of(note) {
         return placed(alloc, name, text, told);
     }
-    if let Some(plain) = read_plain(line) {
+    if let Some(plain) = plain_of(note) {
         return Ok(sentence_line(alloc, name, plain_sentence(plain))?);
     }
-    if let Some(lack) = read_lack(line) {
+    if let Some(lack) = lack_of(note) {
         return Ok(lack_line(alloc, name, lack)?);
     }
-    let words = words_of(alloc, line)?;
-    if let Some(written) = written_of(words.as_slice()) {
+    if let Some(written) = written_of(note) {
         return Ok(written_line(alloc, name, written)?);
     }
     Err(WhereFault::NoRefusal)
@@ -95,14 +101,14 @@ fn written_line(alloc: Global, name: &[u8], written: Written) -> Result<Vec<u8>,
     sentence_line(alloc, name, sentence.as_slice())
 }
 
-fn add_supplier(out: &mut Vec<u8>, processor: Option<u64>) -> Result<(), AllocError>
+fn add_supplier(out: &mut Vec<u8>, processor: Option<u32>) -> Result<(), AllocError>
     ensures { OnOk result (out.new.items ≡ out.old.items ++ supplier processor) }
 {
     match processor {
         None => out.extend_from_slice(b"the processor"),
         Some(number) => {
             out.extend_from_slice(b"processor ")?;
-            add_number(out, number)
+            add_number(out, u64::from(number))
         }
     }
 }

@@ -261,7 +261,7 @@ pub fn byte_words(slip: ByteSlip) -> &'static [u8]
         ByteSlip::UnitBehind =>
             b"a number is of digits alone, without a unit or `_`: time is counted in ticks; between a number and a word stands a blank",
         ByteSlip::Part =>
-            b"names have no parts, and temporal variables are known to all agents: write the name behind the point alone",
+            b"names have no parts: a function may give a part of a value, as in `sender(frame)`; all agents know a temporal variable by its name alone",
         ByteSlip::Point => b"there are no fractions, and names have no parts: leave the point out",
         ByteSlip::Directive =>
             b"a comment is written `/* .. */` or `// ..`, and there are no directives",

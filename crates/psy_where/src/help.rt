@@ -10,6 +10,7 @@ ghost use Rattle.psy_where.specs.Refusals.{IsPlaceOf};
 use crate::brace::brace_help;
 use crate::byte::{ByteSlip, byte_words, closes_first, slip_of};
 use crate::fault::WhereFault;
+use crate::indent::{Pair, first_pair};
 use crate::recall::{Refusal, What};
 use psy_base::Memory;
 use psy_breach::breach_hint;
@@ -113,19 +114,20 @@ fn syntax_help(alloc: Global, text: &[u8], back: &[u8], at: usize) -> Result<Vec
     ensures refusal { result ≡ Err WhereFault.NoRefusal → ⊥ }
 {
     match advice_for(alloc, text, at) {
-        Ok(remark) => Ok(with_hints(alloc, remark, back, text)?),
+        Ok(advice) => Ok(with_hints(alloc, advice, back, text)?),
         Err(fault) => Err(fault),
     }
 }
 
-// Advice, and behind it which brace is open, that a comment was closed before these bytes, and what the file looks like.
-fn with_hints(alloc: Global, remark: Remark, back: &[u8], text: &[u8]) -> Result<Vec<u8>, Memory>
-    requires { length text.now ≤ FILE_BYTES }
-    ensures { IfOk result (λ it. it.items ≡ remark.text.items ++ brace_help text.now remark.brace ++ nested_help back.now ++ file_hint File.Program text.now) }
+// Advice, and behind it that a comment was closed before these bytes, and what the file looks like.
+fn with_hints(
+    alloc: Global,
+    mut advice: Vec<u8>,
+    back: &[u8],
+    text: &[u8],
+) -> Result<Vec<u8>, Memory>
+    ensures { IfOk result (λ help. help.items ≡ advice.items ++ nested_help back.now ++ file_hint File.Program text.now) }
 {
-    let mut advice = remark.text;
-    let brace = brace_help(alloc, text, remark.brace)?;
-    advice.extend_from_slice(brace.as_slice())?;
     let nested = nested_help(alloc, back)?;
     advice.extend_from_slice(nested.as_slice())?;
     with_hint(alloc, advice, File::Program, text)
@@ -151,10 +153,10 @@ fn with_hint(alloc: Global, mut help: Vec<u8>, file: File, text: &[u8]) -> Resul
     Ok(help)
 }
 
-// Advice for the token of this number.
-fn advice_for(alloc: Global, text: &[u8], at: usize) -> Result<Remark, WhereFault>
+// Advice for the token of this number, and what is told of braces.
+fn advice_for(alloc: Global, text: &[u8], at: usize) -> Result<Vec<u8>, WhereFault>
     requires { length text.now ≤ FILE_BYTES }
-    ensures advice { IfOk result (λ remark. IsAdviceFor text.now at remark.text.items remark.brace) }
+    ensures advice { IfOk result (λ help. IsAdviceFor text.now at help.items) }
     ensures beyond { result ≡ Err WhereFault.Beyond → (place : ℕ) → IsTokenPlace text.now at place → ⊥ }
     ensures refusal { result ≡ Err WhereFault.NoRefusal → ⊥ }
 {
@@ -162,7 +164,25 @@ fn advice_for(alloc: Global, text: &[u8], at: usize) -> Result<Remark, WhereFaul
     if tokens.len() < at {
         return Err(WhereFault::Beyond);
     }
-    Ok(advice(alloc, tokens, at)?)
+    let pair = first_pair(alloc, text, tokens.as_slice(), at)?;
+    let remark = advice(alloc, tokens, at)?;
+    Ok(with_braces(alloc, remark, text, pair)?)
+}
+
+// Advice, and behind it what is told of braces.
+fn with_braces(
+    alloc: Global,
+    remark: Remark,
+    text: &[u8],
+    pair: Option<Pair>,
+) -> Result<Vec<u8>, AllocError>
+    requires { length text.now ≤ FILE_BYTES }
+    ensures { IfOk result (λ help. help.items ≡ remark.text.items ++ brace_help text.now remark.brace pair) }
+{
+    let mut help = remark.text;
+    let braces = brace_help(alloc, text, remark.brace, pair)?;
+    help.extend_from_slice(braces.as_slice())?;
+    Ok(help)
 }
 
 // What is told of the rule of this number, which is broken at the token of that number.

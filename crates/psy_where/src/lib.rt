@@ -1,6 +1,6 @@
 //! Explains a refusal of psyc: where it is in the text, by line and column, what it means, and what may stand there; and each other line that
 //! psyc writes.
-//! It may know texts, tokens, the numbers of refusals, advice, what is told of rules, and how a line is shown; no grammar.
+//! It may know texts, tokens, the notes of lines, the numbers of refusals, advice, what is told of rules, and how a line is shown; no grammar.
 #![tactic(auto)]
 
 mod answer;
@@ -8,8 +8,9 @@ mod brace;
 mod byte;
 mod fault;
 mod help;
+mod indent;
 mod lack;
-pub mod laws;
+mod limit;
 mod mark;
 mod place;
 mod plain;
@@ -18,13 +19,16 @@ mod recall;
 mod scan;
 mod sentence;
 mod spot;
+mod with_feed;
 mod written;
 
 pub use answer::{explain, plain_told};
 pub use byte::ByteSlip;
 pub use fault::WhereFault;
+pub use indent::Pair;
 pub use lack::Lack;
-pub use plain::{Plain, read_plain};
+pub use limit::Limit;
+pub use plain::{Plain, plain_of};
 pub use program::beside;
 pub use recall::{Refusal, What};
 pub use spot::{Spot, spot_at};

@@ -3,7 +3,8 @@ ghost use Rattle.std.specs.Prelude.{◌≡◌, ◌⊎◌, ◌≤◌, IfOk, lengt
 ghost use Rattle.psy_base.specs.declared.limits.TheConstants.{FILE_BYTES};
 ghost use Rattle.psy_where.specs.declared.fault.WhereFault.{WhereFault};
 ghost use Rattle.psy_where.specs.Besides.{HasNoTokens, IsBeside, beside_of};
-ghost use Rattle.psy_where.specs.Explained.{IsBeyond, IsNoRefusal};
+ghost use Rattle.psy_where.specs.Explained.{IsBeyond};
+ghost use Rattle.psy_where.specs.Refusals.{IsNoRefusal};
 
 use crate::fault::WhereFault;
 use crate::place::place;
@@ -33,10 +34,10 @@ pub fn beside(
     ensures refusal { result ≡ Err WhereFault.NoRefusal → IsNoRefusal line.now }
     ensures beyond { result ≡ Err WhereFault.Beyond → IsBeyond text.now line.now ⊎ HasNoTokens program.now }
 {
-    let Some(told) = read_refusal(line) else {
-        return Err(WhereFault::NoRefusal);
+    let refusal = match read_refusal(alloc, line) {
+        Ok(told) => told.refusal,
+        Err(fault) => return Err(fault),
     };
-    let refusal = told.refusal;
     let place = place(alloc, refusal.what, text, refusal.at)?;
     let tokens = lex(alloc, program)?;
     let said = without_return(spot_at(text, place).behind);

@@ -1,14 +1,17 @@
-//! Refusals, as psyc writes them.
-ghost use Rattle.std.specs.Prelude.{◌≡◌, ◌++◌, ◌<◌, ◌^◌, List, ℕ, IfSome, Some, codes, decimal};
-ghost use Rattle.std.specs.Char.{is_ascii_digit};
-ghost use Rattle.psy_text.specs.Fronts.{Cuts};
-ghost use Rattle.psy_log.specs.Forms.{at_place};
-ghost use Rattle.psy_where.specs.Refusals.{Says, word_of};
-ghost use Rattle.psy_where.specs.Explained.{IsNoRefusal};
+//! Refusals that tell a place in a text.
+ghost use Rattle.std.specs.Prelude.{◌≡◌, List, ℕ, IfOk, IfSome};
+ghost use Rattle.psy_log.specs.Forms.{says};
+ghost use Rattle.psy_where.specs.declared.fault.WhereFault.{WhereFault};
+ghost use Rattle.psy_where.specs.declared.recall.Refusal.{Refusal as refusal_of};
+ghost use Rattle.psy_where.specs.Refusals.{IsNoRefusal, IsRefusal, Refuses, refusal_in, what_of};
 
+use crate::fault::WhereFault;
 use crate::sentence::sentence;
-use psy_text::front::short;
-use psy_text::laws::one_number;
+use crate::with_feed::with_feed;
+use psy_log::Note;
+use psy_notes::laws::one_line;
+use psy_notes::read_line;
+use std::alloc::Global;
 
 /// What psyc refused: the tokens, the grammar or the rules of a program, or a line of inputs or of a script.
 #[derive(Clone, Copy, Debug, PartialEq, Eq)]
@@ -35,58 +38,65 @@ pub struct Told {
     pub sentence: &'static [u8],
 }
 
-/// The refusal that a line is, `refused WHAT NUMBER at PLACE`. None exactly where it is none.
-pub fn read_refusal(line: &[u8]) -> Option<Told>
-    ensures some { IfSome result (λ told. Says line.now told.refusal told.sentence.now) }
-    ensures none { result ≡ None → IsNoRefusal line.now }
+/// The refusal that a line is. `NoRefusal` only where it is none; the only other error is want of memory.
+pub fn read_refusal(alloc: Global, line: &[u8]) -> Result<Told, WhereFault>
+    ensures told { IfOk result (λ told. IsRefusal line.now told.refusal told.sentence.now) }
+    ensures refusal { result ≡ Err WhereFault.NoRefusal → IsNoRefusal line.now }
+    ensures beyond { result ≡ Err WhereFault.Beyond → ⊥ }
 {
-    let (what, rest) = read_what(line.strip_prefix(b"refused ")?)?;
-    let (number, rest) = read_number(rest)?;
-    let sentence = sentence(what, number)?;
-    let at = read_place(rest)?;
-    Some(Told {
-        refusal: Refusal { what, number, at },
-        sentence,
-    })
+    one_line();
+    let whole = with_feed(alloc, line)?;
+    let Some(note) = read_line(whole.as_slice()) else {
+        return Err(WhereFault::NoRefusal);
+    };
+    let Some(told) = told_of(note) else {
+        return Err(WhereFault::NoRefusal);
+    };
+    Ok(told)
 }
 
-// What a refusal is of, and what follows the word and a space.
-fn read_what(text: &[u8]) -> Option<(What, &[u8])>
-    ensures some { IfSome result (λ r. text.now ≡ word_of r.0 ++ codes " " ++ r.1.now) }
-    ensures none { result ≡ None → (what : What) (rest : List ℕ) → text.now ≡ word_of what ++ codes " " ++ rest → ⊥ }
+/// The refusal that a note tells, where psyc writes one of that number. None exactly where it tells none.
+pub fn told_of(note: Note<'_>) -> Option<Told>
+    ensures some { IfSome result (λ told. Refuses (says note.entry) told.refusal told.sentence.now) }
+    ensures none { result ≡ None → (refusal : refusal_of) (sentence : List ℕ) → Refuses (says note.entry) refusal sentence → ⊥ }
 {
-    if let Some(rest) = text.strip_prefix(b"lex ") {
-        return Some((What::Lex, rest));
-    }
-    if let Some(rest) = text.strip_prefix(b"parse ") {
-        return Some((What::Parse, rest));
-    }
-    if let Some(rest) = text.strip_prefix(b"rule ") {
-        return Some((What::Rule, rest));
-    }
-    if let Some(rest) = text.strip_prefix(b"inputs ") {
-        return Some((What::Inputs, rest));
-    }
-    Some((What::Script, text.strip_prefix(b"script ")?))
+    let refusal = refusal_of(note)?;
+    let sentence = sentence(refusal.what, refusal.number)?;
+    Some(Told { refusal, sentence })
 }
 
-// The number at the front of a text, and what follows it: the only one that stands there.
-fn read_number(text: &[u8]) -> Option<(u32, &[u8])>
-    ensures some { IfSome result (λ r. Cuts is_ascii_digit text.now (decimal r.0) r.1.now) }
-    ensures once { IfSome result (λ r. (number : ℕ) (rest : List ℕ) → number < 2 ^ 32 → Cuts is_ascii_digit text.now (decimal number) rest
-        → (number ≡ r.0) × (rest ≡ r.1.now)) }
-    ensures none { result ≡ None → (number : ℕ) (rest : List ℕ) → number < 2 ^ 32 → Cuts is_ascii_digit text.now (decimal number) rest → ⊥ }
+// The refusal that a note tells, of any number.
+fn refusal_of(note: Note<'_>) -> Option<Refusal>
+    ensures { result ≡ refusal_in (says note.entry).0 (says note.entry).1 }
 {
-    one_number();
-    let (number, rest) = short(text)?;
-    Some((number, rest))
+    match note {
+        Note::Refused {
+            what,
+            number,
+            at: Some(at),
+        } => {
+            let what = what_of(what)?;
+            Some(Refusal { what, number, at })
+        }
+        _ => None,
+    }
 }
 
-// The place behind a refusal's number, to the end of the line.
-fn read_place(rest: &[u8]) -> Option<u32>
-    ensures some { IfSome result (λ at. rest.now ≡ at_place (Some at)) }
-    ensures none { result ≡ None → (at : ℕ) → at < 2 ^ 32 → rest.now ≡ at_place (Some at) → ⊥ }
+// What has this word.
+fn what_of(word: &[u8]) -> Option<What>
+    ensures { result ≡ what_of word.now }
 {
-    let (at, rest) = read_number(rest.strip_prefix(b" at ")?)?;
-    if rest.is_empty() { Some(at) } else { None }
+    if word == b"lex".as_slice() {
+        Some(What::Lex)
+    } else if word == b"parse".as_slice() {
+        Some(What::Parse)
+    } else if word == b"rule".as_slice() {
+        Some(What::Rule)
+    } else if word == b"inputs".as_slice() {
+        Some(What::Inputs)
+    } else if word == b"script".as_slice() {
+        Some(What::Script)
+    } else {
+        None
+    }
 }

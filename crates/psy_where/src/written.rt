@@ -1,195 +1,82 @@
 //! The lines that psyc writes and that refuse nothing.
-ghost use Rattle.std.specs.Prelude.{◌≡◌, map};
-ghost use Rattle.psy_where.specs.Writings.{behind_three, behind_two, dated_of, headed_of, of_four, of_four_dated, of_three, of_three_dated};
-ghost use Rattle.psy_where.specs.Writings.{of_two, of_two_dated, trap_of, written_of, written_words};
+ghost use Rattle.std.specs.Prelude.{◌≡◌};
+ghost use Rattle.psy_log.specs.Forms.{says};
+ghost use Rattle.psy_where.specs.Writings.{trapped, written_in, written_words};
 
-use psy_text::word::{is_number, is_value};
+use psy_arith::Trap;
+use psy_log::Note;
 
 /// A line that psyc writes and that refuses nothing.
 #[derive(Clone, Copy, Debug, PartialEq, Eq)]
 pub enum Written {
-    /// `DATE VARIABLE VALUE`
+    /// A value of a temporal variable.
     Value,
-    /// `DATE STREAM msg VALUE`
+    /// A message.
     Message,
-    /// `DATE stop AGENT overrun`
+    /// An agent is silent, since its budget was spent.
     Overrun,
-    /// `DATE stop AGENT trap divide`
+    /// An agent is silent, since it divided by 0.
     Divide,
-    /// `DATE stop AGENT trap index`
+    /// An agent is silent, since an index was outside its array.
     Index,
-    /// `DATE stop AGENT trap loop`
+    /// An agent is silent, since a loop went past its last turn.
     Loop,
-    /// `DATE stop AGENT trap take`
+    /// An agent is silent, since it took a message where there was none.
     Take,
-    /// `end UNTIL`
+    /// The end of a run.
     End,
-    /// `feasible ..`
+    /// The demand is met.
     Feasible,
-    /// `variable NAME SIZE`
+    /// The size of a ring.
     VariableSize,
-    /// `stream NAME SIZE`
+    /// The size of a queue.
     StreamSize,
-    /// `agent AGENT COUNT SLACK` of a run, or `agent AGENT NODES EDGES` of a graph
+    /// What is told of an agent, of a run or of a graph.
     Agent,
-    /// `variable NAME SIZE REACH`
+    /// What is told of a variable.
     Variable,
-    /// `stream NAME SIZE HELD`
+    /// What is told of a stream.
     Stream,
-    /// `rate AGENT RATE INTERCEPT`
+    /// An agent's rate.
     Rate,
-    /// `edge FROM TO LEN`
+    /// An edge of a graph.
     Edge,
-    /// `node NUMBER POINT PHASE BUDGET WORST DUE`
+    /// A node of a graph.
     Node,
 }
 
-/// What a line of these words is, where it is one that refuses nothing.
-pub fn written_of(words: &[&[u8]]) -> Option<Written>
-    ensures { result ≡ written_of (map (λ w. w.now) words.now) }
+/// What a note is, where it refuses nothing.
+pub fn written_of(note: Note<'_>) -> Option<Written>
+    ensures { result ≡ written_in (says note.entry).0 (says note.entry).1 }
 {
-    match words {
-        [] => None,
-        [word, behind @ ..] => {
-            if is_number(word) {
-                dated_of(behind)
-            } else {
-                headed_of(word, behind)
-            }
-        }
-    }
-}
-
-// What stands behind a date.
-fn dated_of(words: &[&[u8]]) -> Option<Written>
-    ensures { result ≡ dated_of (map (λ w. w.now) words.now) }
-{
-    match words {
-        [one, two, behind @ ..] => behind_two(one, two, behind),
+    match note {
+        Note::StopOverrun { .. } => Some(Written::Overrun),
+        Note::StopTrap { kind, .. } => Some(trapped(kind)),
+        Note::Value { .. } => Some(Written::Value),
+        Note::Message { .. } => Some(Written::Message),
+        Note::End { .. } => Some(Written::End),
+        Note::AgentEnd { .. } | Note::AgentGraph { .. } => Some(Written::Agent),
+        Note::VariableEnd { .. } => Some(Written::Variable),
+        Note::StreamEnd { .. } => Some(Written::Stream),
+        Note::VariableSize { .. } => Some(Written::VariableSize),
+        Note::StreamSize { .. } => Some(Written::StreamSize),
+        Note::Rate { .. } => Some(Written::Rate),
+        Note::Always | Note::Feasible { .. } => Some(Written::Feasible),
+        Note::Node { .. } => Some(Written::Node),
+        Note::EdgeOf { .. } => Some(Written::Edge),
         _ => None,
     }
 }
 
-fn behind_two(one: &[u8], two: &[u8], behind: &[&[u8]]) -> Option<Written>
-    ensures { result ≡ behind_two one.now two.now (map (λ w. w.now) behind.now) }
+// What a stop says, by its trap.
+fn trapped(kind: Trap) -> Written
+    ensures { result ≡ trapped kind }
 {
-    match behind {
-        [] => of_two_dated(two),
-        [three, more @ ..] => behind_three(one, two, three, more),
-    }
-}
-
-fn behind_three(one: &[u8], two: &[u8], three: &[u8], behind: &[&[u8]]) -> Option<Written>
-    ensures { result ≡ behind_three one.now two.now three.now (map (λ w. w.now) behind.now) }
-{
-    match behind {
-        [] => of_three_dated(one, two, three),
-        [kind] => of_four_dated(one, three, kind),
-        _ => None,
-    }
-}
-
-fn of_two_dated(two: &[u8]) -> Option<Written>
-    ensures { result ≡ of_two_dated two.now }
-{
-    if is_value(two) {
-        Some(Written::Value)
-    } else {
-        None
-    }
-}
-
-fn of_three_dated(one: &[u8], two: &[u8], three: &[u8]) -> Option<Written>
-    ensures { result ≡ of_three_dated one.now two.now three.now }
-{
-    if one == b"stop".as_slice() && three == b"overrun".as_slice() {
-        Some(Written::Overrun)
-    } else if two == b"msg".as_slice() && is_value(three) {
-        Some(Written::Message)
-    } else {
-        None
-    }
-}
-
-fn of_four_dated(one: &[u8], three: &[u8], kind: &[u8]) -> Option<Written>
-    ensures { result ≡ of_four_dated one.now three.now kind.now }
-{
-    if one == b"stop".as_slice() && three == b"trap".as_slice() {
-        trap_of(kind)
-    } else {
-        None
-    }
-}
-
-// The kind of a trap.
-fn trap_of(kind: &[u8]) -> Option<Written>
-    ensures { result ≡ trap_of kind.now }
-{
-    if kind == b"divide".as_slice() {
-        Some(Written::Divide)
-    } else if kind == b"index".as_slice() {
-        Some(Written::Index)
-    } else if kind == b"loop".as_slice() {
-        Some(Written::Loop)
-    } else if kind == b"take".as_slice() {
-        Some(Written::Take)
-    } else {
-        None
-    }
-}
-
-// What begins with a word, by the words behind it.
-fn headed_of(word: &[u8], behind: &[&[u8]]) -> Option<Written>
-    ensures { result ≡ headed_of word.now (map (λ w. w.now) behind.now) }
-{
-    match behind {
-        [_] => of_two(word),
-        [_, _] => of_three(word),
-        [_, _, _] => of_four(word),
-        [_, _, _, _, _, _] if word == b"node".as_slice() => Some(Written::Node),
-        _ => None,
-    }
-}
-
-fn of_two(word: &[u8]) -> Option<Written>
-    ensures { result ≡ of_two word.now }
-{
-    if word == b"end".as_slice() {
-        Some(Written::End)
-    } else if word == b"feasible".as_slice() {
-        Some(Written::Feasible)
-    } else {
-        None
-    }
-}
-
-fn of_three(word: &[u8]) -> Option<Written>
-    ensures { result ≡ of_three word.now }
-{
-    if word == b"variable".as_slice() {
-        Some(Written::VariableSize)
-    } else if word == b"stream".as_slice() {
-        Some(Written::StreamSize)
-    } else {
-        None
-    }
-}
-
-fn of_four(word: &[u8]) -> Option<Written>
-    ensures { result ≡ of_four word.now }
-{
-    if word == b"agent".as_slice() {
-        Some(Written::Agent)
-    } else if word == b"variable".as_slice() {
-        Some(Written::Variable)
-    } else if word == b"stream".as_slice() {
-        Some(Written::Stream)
-    } else if word == b"rate".as_slice() {
-        Some(Written::Rate)
-    } else if word == b"edge".as_slice() {
-        Some(Written::Edge)
-    } else {
-        None
+    match kind {
+        Trap::Divide => Written::Divide,
+        Trap::Index => Written::Index,
+        Trap::Loop => Written::Loop,
+        Trap::Take => Written::Take,
     }
 }
 

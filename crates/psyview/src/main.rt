@@ -5,6 +5,7 @@
 use psy_base::Memory;
 use psy_door::{FileShelf, StdSink};
 use psy_last::LastLine;
+use psy_reel::FileReel;
 use psy_serve::serve;
 use psy_view::psyview;
 use std::alloc::Global;
@@ -47,7 +48,7 @@ fn served(rt: &HostRuntime, words: &[String]) -> u8 {
 
 // A view of a text.
 fn viewed(rt: &HostRuntime, words: &[String]) -> u8 {
-    let mut shelf = FileShelf::new(rt);
+    let mut shelf = FileReel::new(rt);
     let mut out = StdSink::new(rt.stdout());
     psyview(rt.alloc(), words, &mut shelf, &mut out)
 }

@@ -4,11 +4,15 @@
 use psy_base::Memory;
 use psy_cases::{Answer, Asked, Command, run_list};
 use psy_door::{FileShelf, ShelfMap, SinkVec, StdSink};
+use psy_pieces::ShelfReel;
 use psy_view::psyview;
 use std::alloc::Global;
 use std::env;
 use std::process::ExitCode;
 use std::rt::Env;
+
+// So many bytes of a file come together, where it is read piece by piece.
+const PIECE_BYTES: usize = 1_000;
 
 /// The command over forms in memory.
 #[derive(Drop)]
@@ -16,7 +20,8 @@ struct Psyview;
 
 impl Command for Psyview {
     fn answer(&mut self, alloc: Global, asked: Asked<'_>) -> Result<Answer, Memory> {
-        let mut shelf = ShelfMap::new(asked.files, asked.unread);
+        let shelf = ShelfMap::new(asked.files, asked.unread);
+        let mut shelf = ShelfReel::new(alloc, shelf, PIECE_BYTES, Vec::new(alloc));
         let mut out = SinkVec::new(alloc, asked.room, asked.most.max(1), asked.fails)?;
         let status = psyview(alloc, asked.words, &mut shelf, &mut out);
         Ok(Answer {

@@ -1,11 +1,13 @@
 -- What is left of the proof of `axis::draw_axis`.
-use Rattle.std.proofs.Common.{arith}
+use Rattle.std.proofs.Common.{◌≡◌, ◌++◌, ◌-◌, ℕ, subst}
+use Rattle.std.specs.List.{flat_map, range_with_len}
+use Rattle.psy_draw.specs.Axes.{axis_date, step_of}
 use Rattle.psy_draw.proofs.Joining.{three}
 use Rattle.psy_draw.proofs.axis.draw_axis.Goals as goal
 
 pub returns : goal.returns
-returns c = (
-  c.step_of-step.result,
-  c.step_of-step.ensures.enough (omega (arith, c.args.scale.now.dated)),
-  three _ _ _ c.args.page.now c.put.new.self c.put_dates.new.page c.put-2.new.self c.in_ok-put.ensures c.in_ok-put_dates.ensures c.in_ok-put-2.ensures,
-)
+returns c =
+    let scale = c.args.scale.now in
+    let P : ℕ → Type 0 = λ s. c.put_dates.new.page ≡ c.put.new.self ++ flat_map (axis_date scale.from scale.to scale.grain s) (range_with_len 0 17) in
+    let drawn : P (step_of (scale.to - scale.from)) = subst P c.step_of-step.ensures.least c.in_ok-put_dates.ensures in
+    three _ _ _ c.args.page.now c.put.new.self c.put_dates.new.page c.put-2.new.self c.in_ok-put.ensures drawn c.in_ok-put-2.ensures

@@ -1,7 +1,7 @@
 -- What each loop of `messages::put_marks` keeps.
 use Rattle.std.proofs.Common.{◌≡◌, ◌++◌, take}
 use Rattle.std.specs.List.{flat_map}
-use Rattle.psy_draw.specs.Drawing.{mark_text}
+use Rattle.psy_draw.specs.Insides.{mark_text}
 use Rattle.psy_draw.proofs.messages.put_marks.Given as goal
 
 -- The marks so far

@@ -1,23 +1,55 @@
 -- What is left of the proof of `picture::inside_of`.
-use Rattle.std.proofs.Common.{sym, subst}
-use Rattle.psy_draw.specs.Planning.{Are}
-use Rattle.psy_draw.specs.Sources.{lanes_in, names_in, place_in, silences_in}
-use Rattle.psy_draw.proofs.Shown.{grown, grows_on, summary_shown}
-use Rattle.psy_draw.proofs.ShownLanes.{lanes_shown}
+use Rattle.std.proofs.Common.{◌≡◌, Bor, ℕ, List, length, map, sym, ap, subst, ◌∙◌, arith}
+use Rattle.psy_draw.specs.declared.lane.Lane.{Lane}
+use Rattle.psy_draw.specs.declared.row.Row.{Row}
+use Rattle.psy_draw.specs.Inputs.{input_lines, input_text}
+use Rattle.psy_draw.specs.Pictures.{parts_text}
+use Rattle.std.specs.List.{flat_map}
+use Rattle.psy_draw.specs.Showing.{agent_rows, variable_rows}
+use Rattle.std.proofs.lemmas.List.{length-map}
+use Rattle.psy_draw.proofs.Crowded.{no_crowd}
+use Rattle.psy_draw.proofs.Lanes.{are_length}
 use Rattle.psy_draw.proofs.picture.inside_of.Goals as goal
 
-pub returns-clause-summary : goal.returns-clause-summary
-returns-clause-summary c =
-    let tables = c.in_ok-tables.tables in
-    let are = c.in_ok-tables.ensures in
-    let show = c.in_ok-put_tables.ensures in
-    summary_shown c.put_tables.new.page c.args.source.notes.now tables.agents.rows.items tables.variables.rows.items tables.streams.rows.items
-    are.agents are.variables are.streams show.agents show.variables show.streams
+pub returns-clause-inside : goal.returns-clause-inside
+returns-clause-inside c =
+    let scale = c.args.source.scale.now in
+    let notes = c.args.source.notes.now in
+    let plan = c.in-Ok.plan in
+    let inputs = c.in_ok-inputs.inputs in
+    let tables = c.in-Ok-of.tables in
+    let are = c.in-Ok-of.ensures in
+    let told = λ (names : List (Bor (List ℕ))). map (λ n. n.now) names in
+    let names = told plan.inputs.items in
+    let lines = c.in_ok-inputs.ensures.lines ∙ ap (λ ns. input_lines (told ns)) c.as_slice.ensures.value in
+    let text = c.in_ok-inputs.ensures.text ∙ ap (λ ns. input_text (told ns)) c.as_slice.ensures.value in
+    let P : List Lane → ℕ → List ℕ → List Row → List Row → List Row → Type 0 = λ lanes n t a v s. c.in_ok-page.page ≡ parts_text c.args.title.now scale.from scale.to scale.grain lanes n t a v s in
+    let agents = tables.agents.rows.items in
+    let variables = tables.variables.rows.items in
+    let streams = tables.streams.rows.items in
+    let drawn : P plan.lanes.items inputs.lines inputs.text agents variables streams =
+    subst (λ lanes. P lanes inputs.lines inputs.text agents variables streams) c.as_slice-lanes.ensures.value c.in_ok-page.ensures in
+    let named : P plan.lanes.items (input_lines names) (input_text names) agents variables streams =
+    subst (λ t. P plan.lanes.items (input_lines names) t agents variables streams) text (subst (λ n. P plan.lanes.items n inputs.text agents variables streams) lines drawn) in
+    record {
+      lanes = plan.lanes.items;
+      are = c.in-Ok.ensures.lanes;
+      inputs = names;
+      named = c.in-Ok.ensures.inputs;
+      whole = subst (P plan.lanes.items (input_lines names) (input_text names) (flat_map agent_rows notes) (flat_map variable_rows notes)) are.streams
+          (subst (λ v. P plan.lanes.items (input_lines names) (input_text names) (flat_map agent_rows notes) v streams) are.variables
+          (subst (λ a. P plan.lanes.items (input_lines names) (input_text names) a variables streams) are.agents named));
+    }
 
-pub returns-clause-lanes : goal.returns-clause-lanes
-returns-clause-lanes c =
-    lanes_shown c.args.source.scale.now.from c.args.source.scale.now.to c.args.source.scale.now.grain (silences_in c.args.source) (names_in c.args.source) c.args.source.notes.now c.as_slice-3.result.now c.of-frame.result.left
-    c.put_dates.new.page c.put_lanes.new.page c.put_tables.new.page (subst (Are (place_in c.args.source) (lanes_in c.args.source)) (sym c.as_slice-3.ensures.value) c.in_ok-plan.ensures) c.in_ok-put_lanes.ensures
-    (grows_on c.put_lanes.new.page c.put_legend.new.page c.put_tables.new.page
-    (grows_on c.put_lanes.new.page c.put_inputs.new.page c.put_legend.new.page c.in_ok-put_inputs.ensures (grown c.put_inputs.new.page c.put_legend.new.page _ c.in_ok-put_legend.ensures))
-    c.in_ok-put_tables.ensures.grows)
+pub returns-clause-room : goal.returns-clause-room
+returns-clause-room c =
+    let plan = c.in-Ok.plan in
+    let tables = c.in-Ok-of.tables in
+    let are = c.in-Ok-of.ensures in
+    let lanes = are_length _ _ _ c.in-Ok.ensures.lanes in
+    let names = sym (length-map plan.inputs.items (λ n. n.now)) ∙ ap length c.in-Ok.ensures.inputs in
+    let agents = ap length are.agents in
+    let variables = ap length are.variables in
+    let streams = ap length are.streams in
+    no_crowd _ _ _ _ _ (omega (arith, lanes, plan.room)) (omega (arith, names, plan.few)) (omega (arith, agents, tables.agents.room)) (omega (arith, variables, tables.variables.room))
+    (omega (arith, streams, tables.streams.room))

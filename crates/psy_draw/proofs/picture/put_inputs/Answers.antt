@@ -1,6 +1,9 @@
 -- What is left of the proof of `picture::put_inputs`.
-use Rattle.psy_draw.proofs.Shown.{grown}
+use Rattle.std.proofs.Common.{◌≡◌, ◌++◌, ℕ, List, subst}
+use Rattle.psy_draw.specs.Pictures.{inputs_group}
 use Rattle.psy_draw.proofs.picture.put_inputs.Goals as goal
 
 pub returns : goal.returns
-returns c = grown c.args.page.now c.put.new.self _ c.in_ok-put.ensures
+returns c =
+    let P : List ℕ → Type 0 = λ text. c.put.new.self ≡ c.args.page.now ++ inputs_group c.args.top text in
+    subst P c.bytes.ensures c.in_ok-put.ensures

@@ -12,9 +12,7 @@ returns-in-Ok c =
       listed = c.in-Ok.ensures.listed;
       known = c.in-Ok.ensures.known;
       dated = c.in-Ok.ensures.dated;
-      lanes = c.in-Ok.ensures.lanes;
-      whole = c.in-Ok.ensures.whole;
-      shown = c.in-Ok.ensures.shown;
+      file = c.in-Ok.ensures.picture;
       small = small;
     })
 

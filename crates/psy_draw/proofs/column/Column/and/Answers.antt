@@ -20,6 +20,6 @@ returns-clause-stands c = λ values h.
     (clean c.args.value value) c.saturating_add.ensures
 
 pub returns-clause-place : goal.returns-clause-place
-returns-clause-place c = λ place values v h near.
+returns-clause-place c = λ place values v h.
     let first : SFits w32 c.args.self.first = search rules in
-    stands_at_more place values v c.args.self _ h refl refl (clean c.args.self.first first) near
+    stands_at_more place values v c.args.self _ h refl refl (clean c.args.self.first first)

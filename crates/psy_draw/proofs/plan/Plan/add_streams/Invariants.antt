@@ -1,12 +1,13 @@
 -- What each loop of `plan::Plan::add_streams` keeps.
-use Rattle.std.proofs.Common.{List, ◌++◌, map, take}
-use Rattle.std.specs.Prelude.{string_bytes}
+use Rattle.std.proofs.Common.{◌≡◌, map, take}
 use Rattle.std.specs.List.{flat_map}
-use Rattle.psy_draw.specs.Planning.{Are, Shown, stream_lanes}
-use Rattle.psy_draw.specs.Sources.{place_in}
+use Rattle.psy_draw.specs.Planning.{AddsLanes}
+use Rattle.psy_draw.specs.Sources.{place_in, streams_of}
 use Rattle.psy_draw.proofs.plan.Plan.add_streams.Given as goal
 
 -- The lanes so far
 abbrev pub invariant-loop-note : goal.invariant-loop-note
-invariant-loop-note l = (shown : List Shown) → Are (place_in l.source) shown l.initial.self.lanes.items
-    → Are (place_in l.source) (shown ++ flat_map (stream_lanes l.source.scale.now.from l.source.scale.now.to (map string_bytes l.source.names.now) l.source.notes.now) (take l.note-index l.source.notes.now)) l.self.lanes.items
+invariant-loop-note l = record {
+  lanes : AddsLanes (place_in l.source) (flat_map (streams_of l.source) (take l.note-index l.source.notes.now)) l.initial.self.lanes.items l.self.lanes.items;
+  inputs : map (λ n. n.now) l.self.inputs.items ≡ map (λ n. n.now) l.initial.self.inputs.items;
+}

@@ -1,0 +1,18 @@
+-- The file of a window.
+use Rattle.std.proofs.Common.{◌≡◌, ℕ, List, min, subst}
+use Rattle.std.specs.List.{count_by}
+use Rattle.psy_base.specs.declared.limits.TheConstants.{UNTIL}
+use Rattle.psy_draw.specs.declared.window.Window.{Window}
+use Rattle.psy_draw.specs.Dates.{last_date}
+use Rattle.psy_draw.specs.Lanes.{may_have_lane}
+use Rattle.psy_draw.specs.Pictures.{IsFile, IsFileOf}
+use Rattle.psy_draw.specs.Places.{grain_of, window_end}
+use Rattle.psy_draw.specs.Silences.{Silent}
+use Rattle.psy_log.specs.declared.note.Note.{Note}
+
+-- A file by a scale is that of the window of which the scale is.
+pub file_of_window : (name : List ℕ) (window : Window) (silences : List Silent) (names : List (List ℕ)) (notes : List Note) (from to grain : ℕ) (svg : List ℕ) → from ≡ min window.from UNTIL → to ≡ min (window_end window (last_date notes)) UNTIL
+    → grain ≡ grain_of (count_by (may_have_lane names) notes) → IsFile name from to grain silences names notes svg → IsFileOf name window silences names notes svg
+file_of_window name window silences names notes from to grain svg p q r file =
+    let P : ℕ → ℕ → ℕ → Type 0 = λ a b d. IsFile name a b d silences names notes svg in
+    subst (P (min window.from UNTIL) (min (window_end window (last_date notes)) UNTIL)) r (subst (λ n. P (min window.from UNTIL) n grain) q (subst (λ n. P n to grain) p file))

@@ -1,0 +1,14 @@
+//! Writes the run in a file in another form, as a table or as a value change dump, however long it is.
+//! It may know the two forms, the passes over long files, and how names are shown.
+#![tactic(auto)]
+
+mod exporting;
+mod forms;
+pub mod laws;
+mod refusals;
+mod saying;
+
+pub use exporting::export;
+pub use forms::Format;
+pub use refusals::{unlisted_line, unread_line};
+pub use saying::say;

@@ -1,0 +1,45 @@
+-- Names that a summary lists, as notes come.
+use Rattle.std.specs.Prelude.{◌≡◌, ◌⊎◌, ℕ, ◌+◌, ◌-◌, ◌^◌, Bool, true, false, not, List, [], Option, None, Some, min}
+use Rattle.std.specs.List.{position}
+use Rattle.psy_log.specs.declared.note.Note.{Note}
+use Rattle.psy_notes.specs.Stands.{run_begins}
+use Rattle.psy_notes.specs.Texts.{IsText, text_of}
+use Rattle.psy_listed.specs.declared.listed.Listed.{Listed}
+use Rattle.psy_listed.specs.Listing.{agents_in, streams_in, variables_in}
+use Rattle.psy_listed.specs.Tables.{is_among}
+use Rattle.psy_scan.specs.Runs.{tail_of}
+use Rattle.psy_passes.specs.declared.names.NameCheck.{NameCheck}
+use Rattle.psy_passes.specs.declared.strict.Strict.{Strict}
+
+-- These are the lines of a run's end and summary.
+abbrev pub IsTail : List ℕ → Type 0
+IsTail tail = (notes : List Note) × IsText run_begins (text_of notes) notes × (tail ≡ tail_of notes)
+
+-- These are the names that the summary of each run lists whose end and summary have these lines.
+abbrev pub AreNamesOf : Listed → List ℕ → Type 0
+AreNamesOf listed tail = (notes : List Note) → IsText run_begins (text_of notes) notes → tail ≡ tail_of notes
+    → (listed.agents ≡ agents_in notes) × (listed.variables ≡ variables_in notes) × (listed.streams ≡ streams_in notes)
+
+-- The place of the first of these notes with a name that isn't among those listed
+abbrev pub first_other : Listed → List Note → Option ℕ
+first_other listed notes = position (λ note. not (is_among listed note)) notes
+
+-- The number of the first such note, with one more note of this number
+abbrev pub with_next : Option ℕ → Bool → ℕ → Option ℕ
+with_next (Some first) among number = Some first
+with_next None true number = None
+with_next None false number = Some number
+
+-- What a note is for the search of such a note
+abbrev pub Looks : NameCheck → Note → List ℕ → NameCheck → Type 0
+Looks old note piece new =
+    (piece ≡ []) × (new.listed.now ≡ old.listed.now) × (new.notes ≡ min (old.notes + 1) (2 ^ 64 - 1))
+    × (new.unlisted ≡ with_next old.unlisted (is_among old.listed.now note) new.notes)
+
+-- Of a note whose name is listed another tells
+abbrev pub TellsListed : {T : Type 0} → (T → Note → List ℕ → T → Type 0) → Strict T → Note → List ℕ → Strict T → Type 0
+TellsListed tells old note piece new = (is_among old.listed note ≡ true) × (new.listed ≡ old.listed) × tells old.inner note piece new.inner
+
+-- Of one whose name isn't nothing is told, nor of one of which the other tells nothing.
+abbrev pub RefusesOther : {T : Type 0} → (T → Note → Type 0) → Strict T → Note → Type 0
+RefusesOther refuses old note = (is_among old.listed note ≡ false) ⊎ refuses old.inner note

@@ -1,0 +1,19 @@
+//! Nothing is told of notes.
+ghost use Rattle.std.specs.Prelude.{◌≡◌, [], ⊤};
+
+use psy_log::Note;
+use psy_scan::{Tell, TellFault};
+
+/// Tells nothing of any note.
+#[derive(Drop)]
+pub struct Silent;
+
+impl Tell for Silent {
+    ghost tells = { λ _ _ piece _. piece ≡ [] };
+
+    ghost refuses = { λ _ _. ⊥ };
+
+    fn tell(&mut self, _text: &mut Vec<u8>, _note: &Note<'_>) -> Result<(), TellFault> {
+        Ok(())
+    }
+}

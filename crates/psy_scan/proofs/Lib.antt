@@ -1,0 +1,4 @@
+-- The lemmas of this crate, by subject.
+pub mod lemmas
+mod Ends
+mod Kept

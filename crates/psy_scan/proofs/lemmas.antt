@@ -1,0 +1,3 @@
+-- The lemmas that crates above may use.
+pub mod Growth
+pub mod Notes

@@ -1,6 +1,0 @@
--- What is left of the proof of `refusals::told_at`.
-use Rattle.std.proofs.lemmas.List.{append_assoc}
-use Rattle.psy_view.proofs.refusals.told_at.Goals as goal
-
-pub returns : goal.returns
-returns c = rw (← c.format.ensures.text, ← c.as_bytes-line.ensures.value, ← c.in_ok-name.ensures, ← c.as_slice.ensures.value) (simp append_assoc c.joined.ensures)
