@@ -28,6 +28,10 @@ pub many_rows : (a b c d e f : List Row) → length a ≤ length d → length b 
 many_rows a b c d e f p q r many =
     ⊎_elim (λ h. inl (omega (arith, p, h))) (λ rest. inr (⊎_elim (λ h. inl (omega (arith, q, h))) (λ h. inr (omega (arith, r, h))) rest)) many
 
+-- The same rows
+pub many_rows_are : (a b c d e f : List Row) → a ≡ d → b ≡ e → c ≡ f → HasManyRows a b c → HasManyRows d e f
+many_rows_are a b c d e f p q r many = subst (HasManyRows d e) r (subst (λ s. HasManyRows d s c) q (subst (λ s. HasManyRows s b c) p many))
+
 -- A greater number
 pub beyond : (most a b : ℕ) → a ≤ b → most < a → most < b
 beyond most a b p many = omega (arith, p, many)
@@ -39,10 +43,6 @@ lanes_within place f xs i d old now within adds =
     let added = adds_length place (flat_map f (take i xs)) old now adds in
     let all = length-flat_map-take f xs i d within in
     omega (arith, added, all)
-
--- As many elements have as many images.
-pub same_length : {B A : Type 0} (h : B → A) (a b : List B) → map h a ≡ map h b → length a ≡ length b
-same_length h a b e = sym (length-map a h) ∙ ap length e ∙ length-map b h
 
 -- Names so far, and those of one more element, are no more than all.
 pub names_within : {X B A : Type 0} (h : B → A) (g : X → List A) (xs : List X) (i : ℕ) (d : X) (old now : List B) → i < length xs → map h now ≡ map h old ++ flat_map g (take i xs)

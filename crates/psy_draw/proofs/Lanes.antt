@@ -1,5 +1,5 @@
 -- Lanes that are planned, and lanes that are drawn.
-use Rattle.std.proofs.Common.{◌≡◌, ℕ, suc, ◌+◌, ◌<◌, ◌==◌, Bool, true, false, cond, List, [], ◌∷◌, ◌++◌, length, min, drop, take, get_or, refl, sym, ap, subst, ◌∙◌, append_assoc, append-nil, length-append, arith}
+use Rattle.std.proofs.Common.{◌≡◌, ℕ, suc, ◌+◌, ◌<◌, ◌≤◌, ◌==◌, ⊎_elim, Bool, true, false, cond, List, [], ◌∷◌, ◌++◌, length, min, drop, take, get_or, refl, sym, ap, subst, ◌∙◌, append_assoc, append-nil, length-append, arith}
 use Rattle.std.proofs.lemmas.Grind.{common_steps}
 use Rattle.std.proofs.lemmas.List.{drop_more, take_more}
 use Rattle.psy_draw.specs.Columns.{Dated, Keeps, is_few, is_there_still, pieces_from}
@@ -8,6 +8,9 @@ use Rattle.psy_draw.specs.declared.lane.Lane.{Lane}
 use Rattle.psy_draw.specs.declared.lane.Shape.{Shape}
 use Rattle.psy_draw.specs.declared.lane.Shape.TheVariants as shape
 use Rattle.psy_draw.specs.Drawing.{column_count, drawn_lane, heights, stacked}
+use Rattle.psy_draw.specs.declared.room.TheConstants.{MOST_LANES}
+use Rattle.psy_draw.specs.declared.stopped.Stopped.{Stopped}
+use Rattle.psy_draw.specs.Gathering.{AddsStops, AreStops, Pushes}
 use Rattle.psy_draw.specs.Planning.{AddsLanes, Are, Has, Held, IsVariable, Shown}
 use Rattle.psy_draw.specs.Shapes.{columns_of, height_of}
 use Rattle.psy_draw.proofs.Keeping.{first_piece, some_of_none}
@@ -35,16 +38,16 @@ pub adds_both : (place : ℕ → ℕ) (a b : List Shown) (old between new : List
 adds_both place a b old between new p q =
     (p.0 ++ q.0, q.1 ∙ ap (λ t. t ++ q.0) p.1 ∙ append_assoc old p.0 q.0, are_both place a b p.0 q.0 p.2 q.2)
 
+-- Lanes behind others
+pub adds_behind : (place : ℕ → ℕ) (a b : List Shown) (old new : List Lane) → Are place a old → AddsLanes place b old new → Are place (a ++ b) new
+adds_behind place a b old new are p = subst (Are place (a ++ b)) (sym p.1) (are_both place a b old p.0 are p.2)
+
 -- How many there are then
 pub adds_length : (place : ℕ → ℕ) (more : List Shown) (old new : List Lane) → AddsLanes place more old new → length new ≡ length old + length more
 adds_length place more old new p =
     let added = are_length place more p.0 p.2 in
     let both = ap length p.1 ∙ length-append old p.0 in
     omega (arith, added, both)
-
--- Lanes that were added to none are these.
-pub adds_all : (place : ℕ → ℕ) (shown : List Shown) (lanes : List Lane) → AddsLanes place shown [] lanes → Are place shown lanes
-adds_all place shown lanes p = subst (Are place shown) (sym p.1) p.2
 
 -- One more height
 pub heights_more : (lanes : List Lane) (lane : Lane) → heights (lanes ++ lane ∷ []) ≡ heights lanes + height_of lane.shape
@@ -126,3 +129,24 @@ unfolding Keeps
 keeps_none place goes [] columns keeps none = refl
 keeps_none place goes (v ∷ values) [] keeps none = absurd (some_of_none place (pieces_from goes (v ∷ []) values) (first_piece goes (v ∷ []) values) keeps)
 keeps_none place goes (v ∷ values) (c ∷ columns) keeps none = absurd (true_false (sym none ∙ more_than_none (length (c ∷ columns)) (length columns) refl))
+
+-- One more stop, as far as there is room
+pub pushed : (place : ℕ → ℕ) (b : Bool) (s : Shown) (lane : Lane) (old new : Stopped) → b ≡ true → Pushes lane old new → lane.name.now ≡ s.name → lane.silent ≡ s.silent
+    → Has place lane.shape s.content → AddsStops place (cond b (s ∷ []) []) old new
+pushed place b s lane old new asked pushes name silent has shown are =
+    subst (λ t. AreStops place (shown ++ cond t (s ∷ []) []) new.lanes.items new.full) (sym asked)
+    (⊎_elim
+    (λ one. subst (λ ls. AreStops place (shown ++ s ∷ []) ls new.full) (sym one.0) (subst (AreStops place (shown ++ s ∷ []) (old.lanes.items ++ lane ∷ [])) (sym one.1)
+    (onto old.full old.lanes.items are)))
+    (λ none. subst (AreStops place (shown ++ s ∷ []) new.lanes.items) (sym none.2) (past old.full old.lanes.items none.0 are)) pushes)
+  where
+    longer : length (shown ++ s ∷ []) ≡ length shown + 1
+    longer = length-append shown (s ∷ [])
+
+    onto : (full : Bool) (lanes : List Lane) → AreStops place shown lanes full → AreStops place (shown ++ s ∷ []) (lanes ++ lane ∷ []) full
+    onto true lanes many = omega (arith, many, longer)
+    onto false lanes all = are_both place shown (s ∷ []) lanes (lane ∷ []) all (name, silent, has, tt)
+
+    past : (full : Bool) (lanes : List Lane) → MOST_LANES ≤ length lanes → AreStops place shown lanes full → MOST_LANES < length (shown ++ s ∷ [])
+    past true lanes room many = omega (arith, many, longer)
+    past false lanes room all = let many = are_length place shown lanes all in omega (arith, room, many, longer)

@@ -1,31 +1,40 @@
 -- The last of some values.
-use Rattle.std.proofs.Common.{◌≡◌, ℕ, ◌+◌, ◌<◌, List, [], ◌∷◌, ◌++◌, Option, None, Some, length, take, get_or, refl, sym, ap, ◌∙◌}
+use Rattle.std.proofs.Common.{◌≡◌, ℕ, Bool, true, false, cond, List, [], ◌∷◌, ◌++◌, Option, None, Some, bytes_eq, refl, sym, ap, ◌∙◌, append-nil}
 use Rattle.std.specs.List.{flat_map}
-use Rattle.std.proofs.lemmas.List.{flat_map_more, take_more}
-use Rattle.psy_draw.specs.Columns.{Dated}
-use Rattle.psy_draw.specs.declared.values.Told.{Told}
-use Rattle.psy_draw.specs.Lanes.{last_alone}
-use Rattle.psy_draw.specs.Told.{values_of}
+use Rattle.psy_log.specs.declared.note.Note.{Note}
+use Rattle.psy_draw.specs.Columns.{Dated, dated}
+use Rattle.psy_draw.specs.declared.values.Said.{Said}
+use Rattle.psy_draw.specs.Gathering.{first_values}
+use Rattle.psy_draw.specs.Lanes.{last_alone, values_before}
+use Rattle.psy_draw.specs.Told.{said_of}
+use Rattle.psy_draw.proofs.Fed.{tells_more}
 
 -- The last of some values and one more is that one.
-pub last_is : (values : List Dated) (v : Dated) → last_alone (values ++ v ∷ []) ≡ v ∷ []
+last_is : (values : List Dated) (v : Dated) → last_alone (values ++ v ∷ []) ≡ v ∷ []
 last_is [] v = refl
 last_is (a ∷ []) v = refl
 last_is (a ∷ b ∷ values) v = last_is (b ∷ values) v
 
--- A value stays the last where there is no more.
-pub last_stays : (last : Option Told) → last_alone (values_of last ++ []) ≡ values_of last
-last_stays None = refl
-last_stays (Some told) = refl
+-- Of one that may stay out
+last_or : (b : Bool) (v : Dated) (values : List Dated) → cond b (v ∷ []) (last_alone values) ≡ last_alone (values ++ cond b (v ∷ []) [])
+last_or true v values = sym (last_is values v)
+last_or false v values = ap last_alone (sym (append-nil values))
 
--- Of some values but the last may be left out where more follow.
-last_of_last : (values more : List Dated) → last_alone (last_alone values ++ more) ≡ last_alone (values ++ more)
-last_of_last [] more = refl
-last_of_last (a ∷ []) more = refl
-last_of_last (a ∷ b ∷ values) more = last_of_last (b ∷ values) more
+-- With one more note
+first_more : (from : ℕ) (notes : List Note) (n : Note) (name : List ℕ) (more : List Dated) → more ≡ values_before from name n
+    → last_alone (flat_map (values_before from name) notes ++ more) ≡ first_values from (notes ++ n ∷ []) name
+first_more from notes n name more is =
+    ap (λ vs. last_alone (flat_map (values_before from name) notes ++ vs)) is ∙ ap last_alone (sym (tells_more (values_before from name) notes n))
 
--- The last after one more element
-pub last_more : {X : Type 0} (f : X → List Dated) (xs : List X) (i : ℕ) (d : X) (old new : List Dated) → i < length xs → old ≡ last_alone (flat_map f (take i xs)) → new ≡ last_alone (old ++ f (get_or xs i d)) → new ≡ last_alone (flat_map f (take (i + 1) xs))
-last_more f xs i d old new within before now =
-    now ∙ ap (λ o. last_alone (o ++ f (get_or xs i d))) before ∙ last_of_last (flat_map f (take i xs)) (f (get_or xs i d))
-    ∙ ap last_alone (flat_map_more f [] (take i xs) (get_or xs i d) ∙ ap (flat_map f) (sym (take_more xs i d within)))
+-- A note that tells a value
+pub first_said : (from : ℕ) (notes : List Note) (n : Note) (name : List ℕ) (result : Option Said) (said : Said) → result ≡ Some said → said_of name result ≡ values_before from name n
+    → cond (bytes_eq said.name.now name) (dated said.told.date said.told.value ∷ []) (first_values from notes name) ≡ first_values from (notes ++ n ∷ []) name
+first_said from notes n name result said is tells =
+    last_or (bytes_eq said.name.now name) (dated said.told.date said.told.value) (flat_map (values_before from name) notes)
+    ∙ first_more from notes n name (said_of name (Some said)) (sym (ap (said_of name) is) ∙ tells)
+
+-- And one that tells none
+pub first_unsaid : (from : ℕ) (notes : List Note) (n : Note) (name : List ℕ) (result : Option Said) → result ≡ None → said_of name result ≡ values_before from name n
+    → first_values from notes name ≡ first_values from (notes ++ n ∷ []) name
+first_unsaid from notes n name result is tells =
+    ap last_alone (sym (append-nil (flat_map (values_before from name) notes))) ∙ first_more from notes n name [] (sym (ap (said_of name) is) ∙ tells)

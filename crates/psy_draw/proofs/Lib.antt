@@ -4,7 +4,9 @@ mod Clean
 mod Crowded
 mod Depths
 mod Different
+mod Eachs
 mod Failing
+mod Fed
 mod Joining
 mod Judging
 mod Keeping
@@ -18,3 +20,4 @@ mod Refused
 mod Rows
 mod Standing
 mod SummaryNames
+mod Undated

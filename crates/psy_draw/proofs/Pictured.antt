@@ -1,8 +1,10 @@
 -- The file of a window.
-use Rattle.std.proofs.Common.{◌≡◌, ℕ, List, min, subst}
+use Rattle.std.proofs.Common.{◌≡◌, ℕ, ◌-◌, ◌/◌, ◌^◌, List, max, min, ap, subst, arith}
+use Rattle.std.specs.Int.{div_ceil}
 use Rattle.std.specs.List.{count_by}
 use Rattle.psy_base.specs.declared.limits.TheConstants.{UNTIL}
 use Rattle.psy_draw.specs.declared.window.Window.{Window}
+use Rattle.psy_draw.specs.declared.scale.TheConstants.{COLUMNS}
 use Rattle.psy_draw.specs.Dates.{last_date}
 use Rattle.psy_draw.specs.Lanes.{may_have_lane}
 use Rattle.psy_draw.specs.Pictures.{IsFile, IsFileOf}
@@ -16,3 +18,9 @@ pub file_of_window : (name : List ℕ) (window : Window) (silences : List Silent
 file_of_window name window silences names notes from to grain svg p q r file =
     let P : ℕ → ℕ → ℕ → Type 0 = λ a b d. IsFile name a b d silences names notes svg in
     subst (P (min window.from UNTIL) (min (window_end window (last_date notes)) UNTIL)) r (subst (λ n. P (min window.from UNTIL) n grain) q (subst (λ n. P n to grain) p file))
+
+-- A count that is past all that are counted makes no other grain.
+pub same_grain : (n : ℕ) → grain_of (min n (2 ^ 64 - 1)) ≡ grain_of n
+same_grain n =
+    let bounded : min (min n (2 ^ 64 - 1)) COLUMNS ≡ min n COLUMNS = omega arith in
+    ap (λ k. div_ceil 960 (min (COLUMNS / max 1 k) 960)) bounded

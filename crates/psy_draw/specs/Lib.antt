@@ -1,11 +1,13 @@
 -- The definitions of this crate, by subject.
 pub mod Axes
+pub mod ByName
 pub mod Columns
 pub mod Curves
 pub mod Dates
 pub mod Drawing
 pub mod Folded
 pub mod Frames
+pub mod Gathering
 pub mod Graph
 pub mod Groups
 pub mod Heads

@@ -1,12 +1,15 @@
 -- What a picture is drawn of, and the lanes that it has.
-use Rattle.std.specs.Prelude.{ℕ, List, Option, map, string_bytes}
+use Rattle.std.specs.Prelude.{◌≡◌, ◌++◌, ℕ, List, map, string_bytes}
 use Rattle.std.specs.List.{flat_map}
-use Rattle.psy_arith.specs.declared.operators.Trap.{Trap}
 use Rattle.psy_draw.specs.declared.source.Source.{Source}
+use Rattle.psy_draw.specs.declared.stopped.Stopped.{Stopped}
+use Rattle.psy_draw.specs.Columns.{is_there, is_there_still}
+use Rattle.psy_draw.specs.Gathering.{AreColumns, AreStops, asks_stream, asks_variable, undated}
 use Rattle.psy_draw.specs.Lanes.{held_values, message_values}
+use Rattle.psy_draw.specs.Listing.{Lists}
 use Rattle.psy_draw.specs.Pictures.{IsCrowded, IsFile, IsInside}
 use Rattle.psy_draw.specs.Planning.{Shown, input_name, input_names, lanes_of}
-use Rattle.psy_draw.specs.Planning.{message_lane, stop_lane, stop_lanes, stream_lanes, value_lane, variable_lanes}
+use Rattle.psy_draw.specs.Planning.{message_lane, stop_lanes, stream_lanes, value_lane, variable_lanes}
 use Rattle.psy_draw.specs.Scales.{place_by}
 use Rattle.psy_draw.specs.Silences.{Silent, silent_of}
 use Rattle.psy_log.specs.declared.note.Note.{Note}
@@ -23,56 +26,75 @@ silences_in source = map silent_of source.silences.now
 abbrev pub place_in : Source → ℕ → ℕ
 place_in source = place_by source.scale.now
 
--- The lanes
-abbrev pub lanes_in : Source → List Shown
-lanes_in source = lanes_of source.scale.now.from source.scale.now.to (silences_in source) (names_in source) source.notes.now
+-- The columns stand for the values of a run with these notes.
+pub record Draws (source : Source) (notes : List Note) : Type 0 where
+  pub variables : AreColumns (place_in source) (is_there_still (place_in source))
+      (λ name. held_values source.scale.now.from source.scale.now.to name notes) source.variables.now
+  pub streams : AreColumns (place_in source) (is_there (place_in source))
+      (λ name. message_values source.scale.now.from source.scale.now.to name notes) source.streams.now
+
+-- There are columns for each name in the summary that was asked for.
+pub record HasNames (source : Source) : Type 0 where
+  pub variables : Lists (asks_variable (names_in source)) source.summary.now source.variables.now.names
+  pub streams : Lists (asks_stream (names_in source)) source.summary.now source.streams.now.names
+
+-- The lanes of a run with these notes
+abbrev pub lanes_in : Source → List Note → List Shown
+lanes_in source notes = lanes_of source.scale.now.from source.scale.now.to (silences_in source) (names_in source) notes
 
 -- The lane that a note tells of a stopped agent
 abbrev pub stops_of : Source → Note → List Shown
 stops_of source note = stop_lanes source.scale.now.to (names_in source) note
 
 -- The lane that a note tells of a variable
-abbrev pub variables_of : Source → Note → List Shown
-variables_of source note = variable_lanes source.scale.now.from source.scale.now.to (silences_in source) (names_in source) source.notes.now note
+abbrev pub variables_of : Source → List Note → Note → List Shown
+variables_of source notes note = variable_lanes source.scale.now.from source.scale.now.to (silences_in source) (names_in source) notes note
 
 -- The lane that a note tells of a stream
-abbrev pub streams_of : Source → Note → List Shown
-streams_of source note = stream_lanes source.scale.now.from source.scale.now.to (names_in source) source.notes.now note
+abbrev pub streams_of : Source → List Note → Note → List Shown
+streams_of source notes note = stream_lanes source.scale.now.from source.scale.now.to (names_in source) notes note
 
 -- The name that a note tells of a variable without a value
-abbrev pub inputs_of : Source → Note → List (List ℕ)
-inputs_of source note = input_names source.scale.now.from source.scale.now.to (names_in source) source.notes.now note
+abbrev pub inputs_of : Source → List Note → Note → List (List ℕ)
+inputs_of source notes note = input_names source.scale.now.from source.scale.now.to (names_in source) notes note
 
--- All of them
-abbrev pub inputs_in : Source → List (List ℕ)
-inputs_in source = flat_map (inputs_of source) source.notes.now
+-- The lanes by the summary, behind those of stops
+abbrev pub planned : Source → List Shown → List Note → List Shown
+planned source stops notes =
+    stops ++ (flat_map (variables_of source notes) source.summary.now ++ flat_map (streams_of source notes) source.summary.now)
+
+-- All names of variables without a value
+abbrev pub inputs_in : Source → List Note → List (List ℕ)
+inputs_in source notes = flat_map (inputs_of source notes) source.summary.now
 
 -- The name of a variable, where it has no value
-abbrev pub input_in : Source → List ℕ → List (List ℕ)
-input_in source name = input_name (names_in source) name (held_values source.scale.now.from source.scale.now.to name source.notes.now)
-
--- The lane of a stop
-abbrev pub stop_in : Source → ℕ → List ℕ → Option Trap → List Shown
-stop_in source date agent trap = stop_lane source.scale.now.to (names_in source) date agent trap
+abbrev pub input_in : Source → List Note → List ℕ → List (List ℕ)
+input_in source notes name = input_name (names_in source) name (held_values source.scale.now.from source.scale.now.to name notes)
 
 -- The lane of a variable
-abbrev pub values_in : Source → List ℕ → List Shown
-values_in source name = value_lane (silences_in source) (names_in source) name (held_values source.scale.now.from source.scale.now.to name source.notes.now)
+abbrev pub values_in : Source → List Note → List ℕ → List Shown
+values_in source notes name = value_lane (silences_in source) (names_in source) name (held_values source.scale.now.from source.scale.now.to name notes)
 
 -- The lane of a stream
-abbrev pub messages_in : Source → List ℕ → List Shown
-messages_in source name = message_lane (names_in source) name (message_values source.scale.now.from source.scale.now.to name source.notes.now)
+abbrev pub messages_in : Source → List Note → List ℕ → List Shown
+messages_in source notes name = message_lane (names_in source) name (message_values source.scale.now.from source.scale.now.to name notes)
+
+-- The lanes of stops and the columns are those of a run with these notes, whose summary this is.
+pub record IsOf (source : Source) (stopped : Stopped) (notes : List Note) : Type 0 where
+  pub draws : Draws source notes
+  pub stops : AreStops (place_in source) (flat_map (stops_of source) notes) stopped.lanes.items stopped.full
+  pub summary : undated notes ≡ undated source.summary.now
 
 -- A picture of it would have too many lanes, names or rows.
-abbrev pub IsCrowdedBy : Source → Type 0
-IsCrowdedBy source = IsCrowded source.scale.now.from source.scale.now.to (silences_in source) (names_in source) source.notes.now
+abbrev pub IsCrowdedBy : Source → List Note → Type 0
+IsCrowdedBy source notes = IsCrowded source.scale.now.from source.scale.now.to (silences_in source) (names_in source) notes
 
 -- A text is the inside of the file of the picture.
-abbrev pub IsInsideBy : List ℕ → Source → List ℕ → Type 0
-IsInsideBy name source text =
-    IsInside name source.scale.now.from source.scale.now.to source.scale.now.grain (silences_in source) (names_in source) source.notes.now text
+abbrev pub IsInsideBy : List ℕ → Source → List Note → List ℕ → Type 0
+IsInsideBy name source notes text =
+    IsInside name source.scale.now.from source.scale.now.to source.scale.now.grain (silences_in source) (names_in source) notes text
 
 -- A file is that of the picture, or says that it would be too large.
-abbrev pub IsFileBy : List ℕ → Source → List ℕ → Type 0
-IsFileBy name source svg =
-    IsFile name source.scale.now.from source.scale.now.to source.scale.now.grain (silences_in source) (names_in source) source.notes.now svg
+abbrev pub IsFileBy : List ℕ → Source → List Note → List ℕ → Type 0
+IsFileBy name source notes svg =
+    IsFile name source.scale.now.from source.scale.now.to source.scale.now.grain (silences_in source) (names_in source) notes svg

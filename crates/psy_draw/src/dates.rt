@@ -16,8 +16,8 @@ pub fn last_date(notes: &[Note]) -> u64
     last
 }
 
-// The date of a note, and 0 where it has none.
-fn date_of(note: &Note) -> u64
+/// The date of a note, and 0 where it has none.
+pub fn date_of(note: &Note) -> u64
     ensures { result ≡ date_of note.now }
 {
     match *note {

@@ -2,6 +2,7 @@
 //! Graphviz. It may know notes of a run and of a graph.
 #![tactic(auto)]
 
+mod asked;
 mod axis;
 mod boxes;
 mod choice;
@@ -13,8 +14,10 @@ mod drawing;
 mod fault;
 mod few;
 mod file;
+mod firsts;
 mod folded;
 mod frame;
+mod gathering;
 mod graph;
 mod head;
 mod hover;
@@ -29,6 +32,7 @@ mod messages;
 mod names;
 mod node;
 mod nodes;
+mod outset;
 mod page;
 mod picture;
 mod piece;
@@ -36,9 +40,11 @@ mod plan;
 mod room;
 mod row;
 mod scale;
+mod series;
 mod silence;
 mod source;
 mod span;
+mod stopped;
 mod stops;
 mod style;
 mod table;

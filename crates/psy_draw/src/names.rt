@@ -1,7 +1,7 @@
 //! Tables of names.
 
-ghost use Rattle.std.specs.Prelude.{◌≡◌, ◌||◌, ℕ, List, [], OnOk, bytes_eq};
-ghost use Rattle.std.specs.List.{list_any};
+ghost use Rattle.std.specs.Prelude.{◌≡◌, ◌||◌, ℕ, List, [], false, MatchOption, OnOk, bytes_eq, is_some, length, slice_index_or};
+ghost use Rattle.std.specs.List.{list_any, position};
 
 use indexmap::IndexSet;
 use psy_base::Memory;
@@ -38,6 +38,41 @@ impl<'a> Names<'a> {
     {
         self.table.insert(name)?;
         Ok(())
+    }
+
+    /// How many there are.
+    pub fn len(&self) -> usize
+        ensures { result ≡ length self.now }
+    {
+        self.table.len()
+    }
+
+    /// The place of a name among them, counted from 0; none exactly where it isn't there.
+    pub fn place(&self, name: &[u8]) -> Option<usize>
+        ensures place { result ≡ position (bytes_eq name.now) self.now }
+        ensures found { is_some result ≡ list_any (bytes_eq name.now) self.now }
+    {
+        self.table.get_index_of(name)
+    }
+
+    /// The name that is there and is that one; none exactly where there is none.
+    pub fn find(&self, name: &[u8]) -> Option<&'a [u8]>
+        ensures { MatchOption result (list_any (bytes_eq name.now) self.now ≡ false) (λ found. found.now ≡ name.now) }
+    {
+        match self.place(name) {
+            Some(place) => Some(self.name(place)),
+            None => None,
+        }
+    }
+
+    // The name at a place, and no bytes where there is none.
+    fn name(&self, place: usize) -> &'a [u8]
+        ensures { result.now ≡ slice_index_or self.now place [] }
+    {
+        match self.table.get_index(place) {
+            Some(name) => *name,
+            None => b"",
+        }
     }
 
     /// Is the name there?

@@ -1,23 +1,27 @@
 //! The picture of a run.
 
-ghost use Rattle.std.specs.Prelude.{◌≡◌, ◌+◌, ◌++◌, ◌≤◌, ◌<◌, ℕ, ◌^◌, ◌-◌, IfOk, MatchOption, OnOk, vec_len, map, min, string_bytes, length};
+ghost use Rattle.std.specs.Prelude.{◌≡◌, ◌+◌, ◌++◌, ◌≤◌, ◌<◌, ℕ, true, List, ◌^◌, ◌-◌, IfOk, MatchOption, OnOk, vec_len, map, min, string_bytes, length};
+ghost use Rattle.std.specs.List.{list_all};
+ghost use Rattle.psy_log.specs.declared.note.Note.{Note};
 ghost use Rattle.psy_draw.specs.Drawing.{column_count, stacked, tells_parts};
 ghost use Rattle.psy_draw.specs.Scales.{place_by};
 ghost use Rattle.psy_draw.specs.Silences.{silent_of};
-ghost use Rattle.psy_draw.specs.Sources.{IsCrowdedBy, IsFileBy, IsInsideBy};
-ghost use Rattle.psy_draw.specs.Pictures.{IsFileOf, dates_text, inputs_group, lower_text, parts_text};
+ghost use Rattle.psy_draw.specs.Sources.{HasNames, IsCrowdedBy, IsFileBy, IsInsideBy, IsOf};
+ghost use Rattle.psy_draw.specs.Gathering.{AreFirst, asks_variable, first_values, is_known};
+ghost use Rattle.psy_draw.specs.Pictures.{IsFile, IsFileOf, dates_text, inputs_group, lower_text, parts_text};
 ghost use Rattle.psy_draw.specs.Summaries.{behind_table, table_width, tables_text, titles_of};
-ghost use Rattle.psy_draw.specs.Listing.{first_unlisted, first_unasked};
+ghost use Rattle.psy_draw.specs.Listing.{Lists, first_unlisted, first_unasked};
 ghost use Rattle.psy_draw.specs.Dates.{last_date};
 ghost use Rattle.psy_draw.specs.Places.{window_end};
 ghost use Rattle.psy_draw.specs.Tables.{NamesFault, AllListed};
 
 use crate::DrawFault;
 use crate::axis::{AXIS_HEIGHT, draw_axis, draw_grid};
-use crate::dates::last_date;
 use crate::drawing::draw_lane;
 use crate::file::{file_of, too_large};
+use crate::firsts::Firsts;
 use crate::frame::{Frame, LANES_TOP, TABLE_GAP, is_high};
+use crate::gathering::Gathering;
 use crate::head::put_head;
 use crate::hover::TELLING_COLUMNS;
 use crate::inputs::Inputs;
@@ -25,13 +29,16 @@ use crate::lane::Lane;
 use crate::layout::{Corner, MARGIN};
 use crate::legend::put_legend;
 use crate::listed::Listed;
+use crate::names::Names;
+use crate::outset::Outset;
 use crate::page::Page;
 use crate::piece::Piece;
-use crate::plan::{Plan, lane_count};
+use crate::plan::Plan;
 use crate::room::{MOST_LANES, RoomFault};
-use crate::scale::Scale;
+use crate::scale::{Scale, first_date};
 use crate::silence::Silence;
 use crate::source::Source;
+use crate::stopped::{Stopped, Stops};
 use crate::table::Table;
 use crate::tables::Tables;
 use crate::unlisted::{first_unknown, first_unlisted};
@@ -39,6 +46,14 @@ use crate::window::Window;
 use psy_base::Memory;
 use psy_log::Note;
 use std::alloc::Global;
+
+// What was asked for: the agents of the summary, the names, and from when on variables are silent.
+#[derive(Clone, Copy)]
+struct Asked<'a, 's> {
+    agents: &'s Names<'a>,
+    names: &'s [String],
+    silences: &'s [Silence<'s>],
+}
 
 /// The picture of the dates of a run in a window, as an SVG file of at most 2,000,000 bytes with this title. Its lanes are those
 /// of the agents that were stopped up to the window's end, of the variables that have a value there and of the streams; of these
@@ -72,7 +87,17 @@ pub fn timeline(
     let listed = Listed::of(alloc, notes)?;
     match names_fault(notes, names, &listed) {
         Some(fault) => Err(fault),
-        None => drawn(alloc, title, notes, window, names, silences),
+        None => drawn(
+            alloc,
+            title,
+            notes,
+            window,
+            Asked {
+                agents: &listed.agents,
+                names,
+                silences,
+            },
+        ),
     }
 }
 
@@ -89,44 +114,88 @@ fn names_fault(notes: &[Note], names: &[String], listed: &Listed) -> Option<Draw
     }
 }
 
-// The picture, where all names are listed.
-fn drawn(
+// The picture, where all names are listed: one walk over the notes tells what must be known before their values are drawn, and a second one fills all lanes.
+fn drawn<'a>(
     alloc: Global,
     title: &str,
-    notes: &[Note],
+    notes: &[Note<'a>],
     window: Window,
-    names: &[String],
-    silences: &[Silence],
+    asked: Asked<'a, '_>,
 ) -> Result<Vec<u8>, DrawFault>
+    requires { list_all (is_known asked.agents.now) notes.now ≡ true }
     ensures unlisted { (n : ℕ) → result ≡ Err (DrawFault.Unlisted n) → ⊥ }
     ensures unknown { (k : ℕ) → result ≡ Err (DrawFault.Unknown k) → ⊥ }
     ensures empty { result ≡ Err DrawFault.Empty → window_end window (last_date notes.now) < window.from }
     ensures dated { OnOk result (window.from ≤ window_end window (last_date notes.now)) }
-    ensures picture { IfOk result (λ svg. IsFileOf title.now window (map silent_of silences.now) (map string_bytes names.now) notes.now svg.items) }
+    ensures picture { IfOk result (λ svg. IsFileOf title.now window (map silent_of asked.entry.silences.now) (map string_bytes asked.entry.names.now)
+        notes.now svg.items) }
     ensures small { IfOk result (λ svg. vec_len svg ≤ 2000000) }
 {
-    let lanes = lane_count(notes, names);
-    match Scale::new(window, last_date(notes), lanes) {
-        Some(scale) => Ok(file_by(
-            alloc,
-            title,
-            Source {
-                notes,
-                silences,
-                names,
-                scale: &scale,
-            },
-        )?),
+    let mut outset = Outset::of(alloc, notes, asked.names)?;
+    outset.add_all(notes, asked.names, first_date(window));
+    match Scale::new(window, outset.last, outset.lanes) {
+        Some(scale) => Ok(filled(alloc, title, notes, outset.firsts, &scale, asked)?),
         None => Err(DrawFault::Empty),
     }
 }
 
-// The file of a picture by a scale.
-fn file_by(alloc: Global, title: &str, source: Source) -> Result<Vec<u8>, Memory>
-    ensures picture { IfOk result (λ svg. IsFileBy title.now source.entry svg.items) }
+// The picture by a scale, of variables with these values at the first date.
+fn filled<'a>(
+    alloc: Global,
+    title: &str,
+    notes: &[Note<'a>],
+    firsts: Firsts<'a>,
+    scale: &Scale,
+    asked: Asked<'a, '_>,
+) -> Result<Vec<u8>, Memory>
+    requires known { list_all (is_known asked.agents.now) notes.now ≡ true }
+    requires names { Lists (asks_variable (map string_bytes asked.names.now)) notes.now firsts.names }
+    requires firsts { AreFirst (first_values scale.now.from notes.now) firsts }
+    ensures picture { IfOk result (λ svg. IsFile title.now scale.now.from scale.now.to scale.now.grain (map silent_of asked.entry.silences.now)
+        (map string_bytes asked.entry.names.now) notes.now svg.items) }
     ensures small { IfOk result (λ svg. vec_len svg ≤ 2000000) }
 {
-    match inside_of(alloc, title, source) {
+    let Asked {
+        agents,
+        names,
+        silences,
+    } = asked;
+    let mut gathering = Gathering::of(alloc, notes, firsts, names, scale)?;
+    let by = Stops {
+        agents,
+        names,
+        scale,
+    };
+    gathering.add_all(by, notes)?;
+    let Gathering {
+        stopped,
+        variables,
+        streams,
+    } = gathering;
+    let source = Source {
+        summary: notes,
+        variables: &variables,
+        streams: &streams,
+        silences,
+        names,
+        scale,
+    };
+    let file = file_by(alloc, title, source, stopped)?;
+    Ok(file)
+}
+
+// The file of a picture by a scale.
+fn file_by<'a>(
+    alloc: Global,
+    title: &str,
+    source: Source<'a, '_>,
+    stopped: Stopped<'a>,
+) -> Result<Vec<u8>, Memory>
+    requires { HasNames source }
+    ensures picture { IfOk result (λ svg. (notes : List Note) → IsOf source.entry stopped.entry notes → IsFileBy title.now source.entry notes svg.items) }
+    ensures small { IfOk result (λ svg. vec_len svg ≤ 2000000) }
+{
+    match inside_of(alloc, title, source, stopped) {
         Ok(inside) => Ok(file_of(alloc, &inside)?),
         Err(RoomFault::Full) => Ok(too_large(alloc)?),
         Err(RoomFault::Memory) => Err(Memory),
@@ -134,17 +203,23 @@ fn file_by(alloc: Global, title: &str, source: Source) -> Result<Vec<u8>, Memory
 }
 
 // The inside of the file.
-fn inside_of(alloc: Global, title: &str, source: Source) -> Result<Page, RoomFault>
-    ensures inside { IfOk result (λ page. IsInsideBy title.now source.entry page) }
-    ensures room { OnOk result (IsCrowdedBy source.entry → ⊥) }
-    ensures full { result ≡ Err RoomFault.Full → IsCrowdedBy source.entry }
+fn inside_of<'a>(
+    alloc: Global,
+    title: &str,
+    source: Source<'a, '_>,
+    stopped: Stopped<'a>,
+) -> Result<Page, RoomFault>
+    requires { HasNames source }
+    ensures inside { IfOk result (λ page. (notes : List Note) → IsOf source.entry stopped.entry notes → IsInsideBy title.now source.entry notes page) }
+    ensures room { OnOk result ((notes : List Note) → IsOf source.entry stopped.entry notes → IsCrowdedBy source.entry notes → ⊥) }
+    ensures full { result ≡ Err RoomFault.Full → (notes : List Note) → IsOf source.entry stopped.entry notes → IsCrowdedBy source.entry notes }
 {
-    let plan = match Plan::of(alloc, source) {
+    let plan = match Plan::of(alloc, source, stopped) {
         Ok(plan) => plan,
         Err(fault) => return Err(fault),
     };
     let inputs = Inputs::of(alloc, plan.inputs.as_slice())?;
-    let tables = match Tables::of(alloc, source.notes) {
+    let tables = match Tables::of(alloc, source.summary) {
         Ok(tables) => tables,
         Err(fault) => return Err(fault),
     };

@@ -41,7 +41,7 @@ impl Scale {
             return None;
         }
         Some(Scale {
-            from: bounded_date(window.from),
+            from: first_date(window),
             to: bounded_date(to),
             grain: grain_of(lanes),
         })
@@ -65,6 +65,13 @@ impl Scale {
         let x = (date.max(self.from) - self.from) * PLOT_WIDTH / (self.to - self.from).max(1);
         x / self.grain * self.grain
     }
+}
+
+/// The first date of a window, or the last date of any run where it is past that.
+pub fn first_date(window: Window) -> u32
+    ensures { result ≡ min window.from UNTIL }
+{
+    bounded_date(window.from)
 }
 
 // The width of a column where there are so many lanes.

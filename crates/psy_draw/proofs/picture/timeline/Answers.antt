@@ -2,6 +2,7 @@
 use Rattle.std.proofs.Common.{map, sym, subst, ◌∙◌}
 use Rattle.std.specs.Prelude.{string_bytes}
 use Rattle.psy_draw.specs.Tables.{NamesFault}
+use Rattle.psy_draw.proofs.Fed.{all_known}
 use Rattle.psy_draw.proofs.Refused.{fault_is, on_ok}
 use Rattle.psy_draw.proofs.SummaryNames.{failing_unlisted, outside_unasked}
 use Rattle.psy_draw.proofs.picture.timeline.Goals as goal
@@ -45,3 +46,6 @@ returns-clause-empty c = λ e.
       sym (outside_unasked listed c.args.notes.now names are.agents are.variables are.streams) ∙ c.in-None.ensures.1,
       c.drawn.ensures.empty e,
     )
+
+pub drawn-requires : goal.drawn-requires
+drawn-requires c = all_known c.in_ok-listed.listed c.args.notes.now c.in-None.ensures.0

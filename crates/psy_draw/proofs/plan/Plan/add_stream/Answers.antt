@@ -1,4 +1,9 @@
 -- What is left of the proof of `plan::Plan::add_stream`.
+use Rattle.std.proofs.Common.{ap, ◌∙◌}
+use Rattle.psy_draw.specs.Gathering.{asks_stream}
+use Rattle.psy_draw.specs.Sources.{names_in}
+use Rattle.psy_draw.proofs.Eachs.{itself}
+use Rattle.psy_draw.proofs.Fed.{both}
 use Rattle.psy_draw.proofs.plan.Plan.add_stream.Goals as goal
 
 pub returns-in-StreamEnd-clause-lanes : goal.returns-in-StreamEnd-clause-lanes
@@ -6,3 +11,8 @@ returns-in-StreamEnd-clause-lanes c = rw c.in-StreamEnd.is c.add_messages.ensure
 
 pub returns-in-StreamEnd-clause-full : goal.returns-in-StreamEnd-clause-full
 returns-in-StreamEnd-clause-full c = rw c.in-StreamEnd.is c.add_messages.ensures.full
+
+pub add_messages-requires : goal.add_messages-requires
+add_messages-requires c = λ asked.
+    let name = c.in-StreamEnd.stream.now in
+    c.requires name (ap (asks_stream (names_in c.args.source) name) c.in-StreamEnd.is ∙ both _ _ (itself name) asked)

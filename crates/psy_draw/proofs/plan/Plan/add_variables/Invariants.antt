@@ -1,13 +1,15 @@
 -- What each loop of `plan::Plan::add_variables` keeps.
-use Rattle.std.proofs.Common.{◌≡◌, ◌++◌, map, take}
+use Rattle.std.proofs.Common.{◌≡◌, ◌++◌, List, map, take}
 use Rattle.std.specs.List.{flat_map}
+use Rattle.psy_log.specs.declared.note.Note.{Note}
 use Rattle.psy_draw.specs.Planning.{AddsLanes}
-use Rattle.psy_draw.specs.Sources.{inputs_of, place_in, variables_of}
+use Rattle.psy_draw.specs.Sources.{Draws, inputs_of, place_in, variables_of}
 use Rattle.psy_draw.proofs.plan.Plan.add_variables.Given as goal
 
 -- The lanes so far, and the names without a value
 abbrev pub invariant-loop-note : goal.invariant-loop-note
 invariant-loop-note l = record {
-  lanes : AddsLanes (place_in l.source) (flat_map (variables_of l.source) (take l.note-index l.source.notes.now)) l.initial.self.lanes.items l.self.lanes.items;
-  inputs : map (λ n. n.now) l.self.inputs.items ≡ map (λ n. n.now) l.initial.self.inputs.items ++ flat_map (inputs_of l.source) (take l.note-index l.source.notes.now);
+  lanes : (notes : List Note) → Draws l.source notes
+      → AddsLanes (place_in l.source) (flat_map (variables_of l.source notes) (take l.note-index l.source.summary.now)) l.initial.self.lanes.items l.self.lanes.items;
+  inputs : (notes : List Note) → Draws l.source notes → map (λ n. n.now) l.self.inputs.items ≡ map (λ n. n.now) l.initial.self.inputs.items ++ flat_map (inputs_of l.source notes) (take l.note-index l.source.summary.now);
 }
