@@ -1,6 +1,6 @@
 -- What is told of numbers: of one out of its range, of one that reaches back too far, and of those of a clock.
-use Rattle.std.specs.Prelude.{ℕ, ◌==◌, nat_le, if◌then◌else◌, List, [], ◌∷◌, ◌++◌, codes, decimal, slice_get, Option, None, Some}
-use Rattle.psy_base.specs.declared.limits.TheConstants.{ADVANCE, AFTER, BUDGET, CELLS, DEPTH, KEEP, PERIOD, QUANTUM, TURNS}
+use Rattle.std.specs.Prelude.{ℕ, ◌-◌, ◌==◌, nat_le, if◌then◌else◌, List, [], ◌∷◌, ◌++◌, codes, decimal, slice_get, Option, None, Some}
+use Rattle.psy_base.specs.declared.limits.TheConstants.{ADVANCE, AFTER, BUDGET, CELLS, DEPTH, KEEP, PERIOD, PROCESSORS, QUANTUM, TURNS}
 use Rattle.psy_tree.specs.declared.token.Kind.{Kind}
 use Rattle.psy_tree.specs.declared.token.Kind.TheVariants as kinds
 use Rattle.psy_tree.specs.declared.token.Sign.TheVariants as signs
@@ -19,6 +19,7 @@ use Rattle.psy_breach.specs.Told.{counted, quoted}
 -- The range of the numbers behind a word
 abbrev pub word_range : Word → Option Bounds
 word_range words.Tick = Some (record { least = 1; greatest = QUANTUM })
+word_range words.Processor = Some (record { least = 0; greatest = PROCESSORS - 1 })
 word_range words.Budget = Some (record { least = 1; greatest = BUDGET })
 word_range words.Max = Some (record { least = 1; greatest = TURNS })
 word_range words.Depth = Some (record { least = 1; greatest = DEPTH })

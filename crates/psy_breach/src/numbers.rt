@@ -8,7 +8,9 @@ ghost use Rattle.psy_breach.specs.Numbers.{range_told, range_words, shift_of, sh
 use crate::declared::{How, reached};
 use crate::token::{before, is_sign, is_word, name_at, number_at};
 use crate::told::{add_counted, add_quoted};
-use psy_base::limits::{ADVANCE, AFTER, BUDGET, CELLS, DEPTH, KEEP, PERIOD, QUANTUM, TURNS};
+use psy_base::limits::{
+    ADVANCE, AFTER, BUDGET, CELLS, DEPTH, KEEP, PERIOD, PROCESSORS, QUANTUM, TURNS,
+};
 use psy_text::write::add_number;
 use psy_token::word_spelling;
 use psy_tree::{Kind, Sign, Token, Word};
@@ -29,6 +31,10 @@ fn word_range(word: Word) -> Option<Bounds>
         Word::Tick => Some(Bounds {
             least: 1,
             greatest: QUANTUM,
+        }),
+        Word::Processor => Some(Bounds {
+            least: 0,
+            greatest: PROCESSORS - 1,
         }),
         Word::Budget => Some(Bounds {
             least: 1,

@@ -15,6 +15,7 @@ use Rattle.psy_dates.specs.declared.plan.Plan.{Plan}
 use Rattle.psy_dates.specs.Plans.{IsFeasibleFor, IsPlan}
 use Rattle.psy_history.specs.Actions.{timing}
 use Rattle.psy_history.specs.Fitting.{undisturbed}
+use Rattle.psy_history.specs.Processors.{processors}
 use Rattle.psy_meaning.specs.BufferSizes.{AreSizes}
 use Rattle.psy_meaning.specs.Demand.{Suffices}
 use Rattle.psy_meaning.specs.Graph.{IsGraph, Spot}
@@ -90,11 +91,16 @@ module _ (quantum budget : ℕ) where
         let demand = by / 10 * budget in
         (demand, (demand, 0, greatest_due budget by, refl, omega arith), supplied budget quantum by enough)
 
+    -- Its agent is of the first processor, so there is no other.
+    only : processors (unit_of quantum budget) ≡ 1
+    unfolding processors
+    only = refl
+
     feasible : (until : ℕ) → IsFeasibleFor (plan_of quantum budget until)
     feasible until = record {
       graphs = laps_of budget ∷ [];
       drawn = record { count = refl; each = drawn };
-      feasible = alone (unit_of quantum budget) (laps_of budget ∷ []) quantum until (λ length some within. suffices length);
+      feasible = alone (unit_of quantum budget) (laps_of budget ∷ []) quantum until only (λ length some within. suffices length);
     }
 
     pub is_plan : (until : ℕ) → Within 1 QUANTUM quantum → Within 1 BUDGET budget → IsPlan (plan_of quantum budget until)

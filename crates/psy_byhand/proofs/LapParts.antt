@@ -22,6 +22,7 @@ module _ (unit : Whole) (some : 0 < length unit.clocks) where
   bare_agent byte budget begins granted = record {
     name = is_name byte begins;
     clock = some;
+    processor = omega arith;
     budget = granted;
     slots = All-nil IsBareSlot;
     names = omega arith;

@@ -11,9 +11,9 @@ use Rattle.psy_history.specs.Processors.{edges_for, processors}
 use Rattle.psy_meaning.specs.Demand.{IsFeasible}
 use Rattle.psy_byhand.proofs.LapGraph.{lap, laps_of}
 
--- One processor supplies what all agents may demand.
+-- A program's only processor supplies what all agents may demand.
 abbrev pub Alone : Type 0
-Alone = (unit : Whole) (graphs : List (List Edge)) (quantum until : ℕ) → IsFeasible graphs quantum until
+Alone = (unit : Whole) (graphs : List (List Edge)) (quantum until : ℕ) → processors unit ≡ 1 → IsFeasible graphs quantum until
     → (processor : ℕ) → processor < processors unit → IsFeasible (edges_for unit processor graphs) quantum until
 
 module _ (weight : ℕ) where

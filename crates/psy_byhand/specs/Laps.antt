@@ -13,9 +13,9 @@ tenth = record { period = 10; first = 0 }
 abbrev pub points_of : ℕ → List Point
 points_of budget = record { count = 0; clock = 0; budget = budget } ∷ record { count = 1; clock = 0; budget = budget } ∷ []
 
--- The agent whose name is this letter, and whose actions may take so many cycles
+-- The agent of the first processor whose name is this letter, and whose actions may take so many cycles
 abbrev pub agent_of : ℕ → ℕ → AgentDecl
-agent_of letter budget = record { name = letter ∷ []; clock = 0; budget = budget; slots = []; points = points_of budget; stmts = [] }
+agent_of letter budget = record { name = letter ∷ []; clock = 0; processor = 0; budget = budget; slots = []; points = points_of budget; stmts = [] }
 
 -- Both its points are followed by the `advance`.
 abbrev pub onwards : List (List ℕ)

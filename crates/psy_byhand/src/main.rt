@@ -42,6 +42,7 @@ fn run<S: Sink>(alloc: Global, plan: Plan, out: &mut S) -> Option<()>
     let script = Script {
         stalls: Items::new(alloc),
         orders: Items::new(alloc),
+        rounds: Items::new(alloc),
     };
     let Ok(mut kernel) = Kernel::boot(alloc, plan, inputs, script) else {
         return None;

@@ -59,7 +59,7 @@ pub fn variable(alloc: Global, owner: u32) -> Result<VarDecl, Memory>
     })
 }
 
-/// The agent whose name is this letter. Its actions last from date to date of the clock, and may take so many cycles.
+/// The agent of the first processor whose name is this letter. Its actions last from date to date of the clock, and may take so many cycles.
 pub fn agent(alloc: Global, letter: u8, budget: u32) -> Result<AgentDecl, Memory>
     ensures { IfOk result (λ a. a ≡ agent_of letter budget) }
 {
@@ -76,6 +76,7 @@ pub fn agent(alloc: Global, letter: u8, budget: u32) -> Result<AgentDecl, Memory
     Ok(AgentDecl {
         name: name(alloc, letter)?,
         clock: 0,
+        processor: 0,
         budget,
         slots: Items::new(alloc),
         points: Items::from_slice(alloc, &[head, advance])?,

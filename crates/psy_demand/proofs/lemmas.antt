@@ -1,2 +1,3 @@
 -- Lemmas that crates above may cite, by subject.
 pub mod Eaches
+pub mod OnProcessors

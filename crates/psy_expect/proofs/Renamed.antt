@@ -116,7 +116,10 @@ module _ (names : ℕ → List ℕ → List ℕ) (values : ℕ → ℕ → ℕ) 
   declaration (grammar.Declaration.function {name = x} p m b) =
       let r = params p in let s = many_of_function m in let t = block b in (items.Function (name x) r.0 s.0 t.0, grammar.Declaration.function r.1 s.1 t.1)
   declaration (grammar.Declaration.agent {name = x} {clock = c} {budget = budget} {body = body} m b) =
-      let r = many_of_agent m in let s = block b in (items.Agent (name x) (name c) (lit budget) r.0 body s.0, grammar.Declaration.agent r.1 s.1)
+      let r = many_of_agent m in let s = block b in (items.Agent (name x) (name c) None (lit budget) r.0 body s.0, grammar.Declaration.agent r.1 s.1)
+  declaration (grammar.Declaration.agent_on_processor {name = x} {clock = c} {processor = processor} {budget = budget} {body = body} m b) =
+      let r = many_of_agent m in let s = block b in
+      (items.Agent (name x) (name c) (Some (lit processor)) (lit budget) r.0 body s.0, grammar.Declaration.agent_on_processor r.1 s.1)
 
   program : {ts : List Numbered} {xs : List Item} → Program ts xs → (ys : List Item) × Program (swaps ts) ys
   program grammar.Program.end = ([], grammar.Program.end)

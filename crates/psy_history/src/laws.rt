@@ -5,7 +5,7 @@ ghost use Rattle.std.specs.Prelude.{false, map, nat_le, slice_get, take, true, F
 ghost use Rattle.std.specs.Int.{w32};
 ghost use Rattle.std.specs.List.{All, Contains, count_by};
 ghost use Rattle.psy_base.specs.declared.edge.Edge.{Edge};
-ghost use Rattle.psy_base.specs.declared.limits.TheConstants.{QUEUE};
+ghost use Rattle.psy_base.specs.declared.limits.TheConstants.{PROCESSORS, QUEUE};
 ghost use Rattle.psy_base.specs.declared.message.Message.{Message};
 ghost use Rattle.psy_base.specs.declared.ways.Ways.{Ways as WayLists};
 ghost use Rattle.psy_budget.specs.declared.charge.Stall.{Stall};
@@ -17,6 +17,7 @@ ghost use Rattle.psy_code.specs.Execution.{RunState, Running, call_of, run_code}
 ghost use Rattle.psy_code.specs.Views.{Send, messages_of, past_of};
 ghost use Rattle.psy_tree.specs.declared.unit.StreamDecl.{StreamDecl};
 ghost use Rattle.psy_tree.specs.declared.unit.Unit.{Unit as Whole};
+ghost use Rattle.psy_tree.specs.Parts.{homes};
 ghost use Rattle.psy_tree.specs.declared.unit.VarDecl.{VarDecl};
 ghost use Rattle.psy_history.specs.Actions.{Action, Done, History, Opening, System, first_action, publishing};
 ghost use Rattle.psy_history.specs.Executors.{agent_code_at};
@@ -25,7 +26,7 @@ ghost use Rattle.psy_history.specs.History.{history};
 ghost use Rattle.psy_history.specs.Lines.{events, is_date, publications, stops_of};
 ghost use Rattle.psy_history.specs.Processors.{edges_for, processor_at, processors, served};
 ghost use Rattle.psy_history.specs.Schedule.{Turn, finish, turn_of, units, work};
-ghost use Rattle.psy_meaning.specs.Units.{IsOfText};
+ghost use Rattle.psy_meaning.specs.Units.{IsBare, IsOfText};
 ghost use Rattle.psy_history.specs.Summary.{due_by, most_held, reach, slack};
 ghost use Rattle.psy_history.specs.Visible.{messages, published};
 ghost use Rattle.psy_history.specs.Asked.{IsBoundedBy};
@@ -40,7 +41,7 @@ ghost use Rattle.psy_history.specs.Rings.{age_at, reach_with, ring_of};
 ghost use Rattle.psy_history.specs.Runs.{IsRun};
 ghost use Rattle.psy_history.specs.Scheduled.{IsFinished, IsSupplied, gone_to, turns_by, turns_of};
 ghost use Rattle.psy_history.specs.Ways.{IsSentBy};
-ghost use Rattle.psy_meaning.specs.Demand.{IsFeasible};
+ghost use Rattle.psy_meaning.specs.Demand.{IsFeasible, edges_on};
 ghost use Rattle.psy_meaning.specs.KnownWays.{Listed, Looks, OfText, Ways};
 ghost use Rattle.psy_meaning.specs.QueueSizes.{AreQueues, HasSendsTo, IsQueueSize};
 ghost use Rattle.psy_meaning.specs.RingSizes.{IsRingSize};
@@ -152,18 +153,20 @@ pub fn alike()
     compiled();
 }
 
-/// Each agent is of a processor that the program has.
+/// Each agent is of a processor that the program has, and a program whose declarations keep their ranges has no more than there may be. What the
+/// agents of a processor may demand is told by the numbers of their processors alone.
 pub fn one_of_them()
-    ensures { (unit : Whole) (agent : ℕ) → processor_at unit agent < processors unit }
+    ensures one { (unit : Whole) (agent : ℕ) → processor_at unit agent < processors unit }
+    ensures few { (unit : Whole) → IsBare unit → processors unit ≤ PROCESSORS }
+    ensures homes { (unit : Whole) (processor : ℕ) (graphs : List (List Edge)) → edges_for unit processor graphs ≡ edges_on (homes unit) processor graphs }
 {}
 
-/// A program has one processor so far, which all agents are of: it serves all of an order, and its demand is that of all graphs.
+/// Where a program has one processor, all agents are of it: it serves all of an order, and its demand is that of all graphs.
 pub fn one_processor()
-    ensures agents { (unit : Whole) (agent : ℕ) → processor_at unit agent ≡ 0 }
-    ensures all { (unit : Whole) → processors unit ≡ 1 }
-    ensures orders { (unit : Whole) (order : List ℕ) → served unit 0 order ≡ order }
-    ensures edges { (unit : Whole) (graphs : List (List Edge)) → edges_for unit 0 graphs ≡ graphs }
-    ensures feasible { (unit : Whole) (graphs : List (List Edge)) (quantum until : ℕ) → IsFeasible graphs quantum until
+    ensures agents { (unit : Whole) (agent : ℕ) → processors unit ≡ 1 → processor_at unit agent ≡ 0 }
+    ensures orders { (unit : Whole) (order : List ℕ) → processors unit ≡ 1 → served unit 0 order ≡ order }
+    ensures edges { (unit : Whole) (graphs : List (List Edge)) → processors unit ≡ 1 → edges_for unit 0 graphs ≡ graphs }
+    ensures feasible { (unit : Whole) (graphs : List (List Edge)) (quantum until : ℕ) → processors unit ≡ 1 → IsFeasible graphs quantum until
         → (processor : ℕ) → processor < processors unit → IsFeasible (edges_for unit processor graphs) quantum until }
 {}
 

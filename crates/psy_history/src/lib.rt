@@ -6,7 +6,9 @@
 #![tactic(auto)]
 
 pub mod laws;
+mod processors;
 mod told;
 
+pub use processors::{homes_of, processor_of, processors_of};
 pub use psy_budget::Stall;
-pub use told::{Inputs, Order, Script};
+pub use told::{Inputs, Order, Round, Script};

@@ -1,4 +1,4 @@
-//! What a run is told from outside: the values of inputs, execution times and ties.
+//! What a run is told from outside: the values of inputs, execution times, ties and rounds.
 use psy_base::Items;
 use psy_budget::Stall;
 
@@ -15,9 +15,17 @@ pub struct Order {
     pub agents: Items<u32>,
 }
 
-/// The stalls before instructions, rising by agent, action and instruction; and the orders, rising by cycle.
+/// From a cycle on, until a later one's round, the processors do their units of a cycle in this round, which lists each processor once.
+#[derive(Debug, Drop)]
+pub struct Round {
+    pub cycle: u64,
+    pub processors: Items<u32>,
+}
+
+/// The stalls before instructions, rising by agent, action and instruction; the orders, and the rounds, rising by cycle.
 #[derive(Debug, Drop)]
 pub struct Script {
     pub stalls: Items<Stall>,
     pub orders: Items<Order>,
+    pub rounds: Items<Round>,
 }

@@ -16,7 +16,6 @@ use Rattle.psy_history.specs.Schedule.{Turn, is_pending}
 use Rattle.psy_history.specs.Scheduled.{gone_to}
 use Rattle.psy_history.specs.Summary.{reach}
 use Rattle.psy_ready.specs.Choice.{ListsEach}
-use Rattle.psy_tree.specs.declared.unit.Unit.{Unit as Whole}
 use Rattle.psy_kernel.specs.Cycles.{AreOver, GetsCycle, IsCycleOf, LooksBack, order_by, run_of, run_turns}
 use Rattle.psy_kernel.specs.declared.kernel.Kernel.TheInside.{Inside}
 use Rattle.psy_history.specs.declared.told.Order.{Order}
@@ -197,7 +196,7 @@ module _ (k : Inside) (is : KernelStands k) where
       → LooksBack (run_of plan opening inputs script) plan.sizes plan.code (run_turns plan opening inputs script cycle) date r)
       → ((s : System) (turns : ℕ → List (Option Turn)) (h : History) (processor variable : ℕ) → reach s (gone_to s.unit processor None turns) h variable ≡ reach s turns h variable)
       → ((s : System) (turns others : ℕ → List (Option Turn)) (h : History) (variable : ℕ) → ((agent : ℕ) → turns agent ≡ others agent) → reach s turns h variable ≡ reach s others h variable)
-      → ((unit : Whole) (agent : ℕ) → processor_at unit agent ≡ 0)
+      → ((plan : Plan) (agent : ℕ) → IsPlan plan → processor_at plan.unit agent ≡ 0)
       → IsDue k
   due_by p e due most lawful over gets looks idle same one =
       let w = inside_of k is (subst (λ q. stage_of q ≡ CycleDue q.cycles) (sym e) due) in
@@ -212,7 +211,7 @@ module _ (k : Inside) (is : KernelStands k) where
         looks = λ at agent r before. looks k.plan (opening_in k) k.shared.inputs.lists k.script w.0 at agent r before;
         idle = idle (run_in k);
         same = same (run_in k);
-        one = one k.plan.unit;
+        one = λ agent. one k.plan agent is.plan;
         small = small_cycles w.0 cycle;
       }
 

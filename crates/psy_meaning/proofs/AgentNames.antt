@@ -87,7 +87,7 @@ past_of items _ back known deep = cc
 
 -- ---- the scope of an agent
 
-module _ (raw : Raw) (fault : NoFault raw) (k : ℕ) (name clock : Name) (budget : Lit) (locals : List Local) (body : ℕ) (stmts : List RawStmt) (agent : AgentDecl) (own : slice_get raw.items k ≡ Some (item.Agent name clock budget locals body stmts)) (slots : agent.slots ≡ map slot_of locals) (cells : Each (Fine (inside_of raw.items k)) (cells_places locals)) where
+module _ (raw : Raw) (fault : NoFault raw) (k : ℕ) (name clock : Name) (processor : Option Lit) (budget : Lit) (locals : List Local) (body : ℕ) (stmts : List RawStmt) (agent : AgentDecl) (own : slice_get raw.items k ≡ Some (item.Agent name clock processor budget locals body stmts)) (slots : agent.slots ≡ map slot_of locals) (cells : Each (Fine (inside_of raw.items k)) (cells_places locals)) where
   abbrev site : Site
   site = inside_of raw.items k
 

@@ -1,10 +1,11 @@
 -- The unit of a program without a fault keeps what is asked of its declarations.
 use Rattle.std.proofs.Common.{◌≡◌, ℕ, suc, ◌+◌, ◌<◌, List, [], ◌∷◌, ◌++◌, map, length, Option, Some, None, refl, sym, ap, ◌∙◌, subst, inl, inr, arith}
-use Rattle.std.specs.Prelude.{slice_get}
+use Rattle.std.specs.Prelude.{◌-◌, slice_get}
 use Rattle.std.specs.List.{All}
 use Rattle.std.proofs.lemmas.Option.{slice_get_within}
 use Rattle.std.proofs.lemmas.List.{length-append, length-map}
 use Rattle.std.proofs.lemmas.List.Elements.{All-nil, All-append, All-cons, All-head, All-tail}
+use Rattle.psy_base.specs.declared.limits.TheConstants.{PROCESSORS}
 use Rattle.psy_tree.specs.declared.raw.Name.{Name}
 use Rattle.psy_tree.specs.declared.raw.Lit.{Lit}
 use Rattle.psy_tree.specs.declared.raw.Local.{Local}
@@ -17,10 +18,10 @@ use Rattle.psy_tree.specs.declared.unit.Unit.{Unit as Whole}
 use Rattle.psy_tree.specs.declared.unit.Point.{Point}
 use Rattle.psy_tree.specs.declared.unit.AgentDecl.{AgentDecl}
 use Rattle.psy_tree.specs.Scope.{Site, item_name, slots_of, scalar, local_slot}
-use Rattle.psy_tree.specs.Places.{Place, Uses, Ranges, HasBody, budget_places, head_places, slot_places, cells_places, stmts_places}
+use Rattle.psy_tree.specs.Places.{Place, Uses, Ranges, HasBody, budget_places, processor_places, head_places, slot_places, cells_places, stmts_places}
 use Rattle.psy_tree.specs.Paths.{quiet_list}
 use Rattle.psy_tree.specs.Rules.{NoFault, is_clock, is_agent, is_function, is_stream}
-use Rattle.psy_tree.specs.Stands.{Stands, unit_of, counting, is_variable, clock_names, variables, streams, functions, agents, agent_with, slot_of, local_value, agent_budget, head_point, global_number, budget_of, inside_of, stmts_of, each_from}
+use Rattle.psy_tree.specs.Stands.{Stands, unit_of, counting, is_variable, clock_names, variables, streams, functions, agents, agent_with, named_processor, slot_of, local_value, agent_budget, head_point, global_number, budget_of, inside_of, stmts_of, each_from}
 use Rattle.psy_meaning.specs.Units.{Within, IsName, IsBareVariable, IsBareStream, IsBareFunction, IsBareSlot, IsBarePoint, HasHead, IsBareAgent, IsBare}
 use Rattle.psy_tree.proofs.lemmas.Among.{Among, among_left, among_right}
 use Rattle.psy_tree.proofs.lemmas.Limits.{NonePasses, few_clocks, few_agents, few_variables, few_streams, few_functions, names_of, points_within}
@@ -141,20 +142,25 @@ module _ (raw : Raw) (none : NoFault raw) (few : NonePasses raw.items) (names : 
       by None h = subst (λ o. Within 1 1000000 (agent_budget o)) (sym own) its
       by (Some b) h = in_range (inside_of raw.items k) b 1 1000000 (h (Ranges b 1 1000000) (inl refl))
 
+  processor_number : (k : ℕ) (i : Item) (processor : Option Lit) → slice_get raw.items k ≡ Some i → ((p : Place) → Among p (processor_places processor) → Among p (head_places i)) → named_processor processor < PROCESSORS
+  processor_number k i None own there = omega arith
+  processor_number k i (Some n) own there = omega (arith, (number k i n 0 (PROCESSORS - 1) own (there (Ranges n 0 (PROCESSORS - 1)) (inl refl))).1)
+
   agent : (k : ℕ) (i : Item) → slice_get raw.items k ≡ Some i → All (IsBareAgent (unit_of raw)) (agents raw.items k i)
-  agent k (item.Agent name clock budget locals body stmts) own =
-      let i : Item = item.Agent name clock budget locals body stmts in
+  agent k (item.Agent name clock processor budget locals body stmts) own =
+      let i : Item = item.Agent name clock processor budget locals body stmts in
       let site : Site = inside_of raw.items k in
       let head : Point = head_point (global_number is_clock raw.items clock) budget.value in
-      let its : Within 1 1000000 budget.value = number k i budget 1 1000000 own (inr (inr (inl refl))) in
+      let its : Within 1 1000000 budget.value = number k i budget 1 1000000 own (inr (inr (among_right (Ranges budget 1 1000000) (processor_places processor) (Ranges budget 1 1000000 ∷ []) (inl refl)))) in
       let behind : List Place = stmts_places stmts ++ HasBody body (quiet_list stmts) ∷ [] in
       let inside : AllFine site (cells_places locals ++ behind) = λ p there. fine_inside raw none k i p own (among_right p (slot_places 0 (slots_of i)) (cells_places locals ++ behind) there) in
       let fines : AllFine site (stmts_places stmts) = λ p there. inside p (among_right p (cells_places locals) behind (among_left p (stmts_places stmts) (HasBody body (quiet_list stmts) ∷ []) there)) in
       let acts : Adds (IsBarePoint (unit_of raw)) (head ∷ []) (stmts_of site stmts (head ∷ [])).1 = stmts_add site (IsBarePoint (unit_of raw)) (point k (Some i) own its) stmts fines (head ∷ []) in
-      let a : AgentDecl = agent_with raw.items name clock budget locals (stmts_of site stmts (head ∷ [])) in
+      let a : AgentDecl = agent_with raw.items name clock processor budget locals (stmts_of site stmts (head ∷ [])) in
       one (IsBareAgent (unit_of raw)) a (record {
         name = named k i own;
         clock = clock_number k i clock own (inr (inl refl));
+        processor = processor_number k i processor own (λ p there. inr (inr (among_left p (processor_places processor) (Ranges budget 1 1000000 ∷ []) there)));
         budget = its;
         slots = slots_bare site locals (All-tail IsName name.text _ (All-flat_map IsName names_in raw.items k i names own)) (λ p there. inside p (among_left p (cells_places locals) behind there));
         names = omega (arith, names_of raw.items few k i own, length-map locals local_slot, length-map locals slot_of);

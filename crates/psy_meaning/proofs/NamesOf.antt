@@ -32,7 +32,7 @@ names_itself (item.Temporal name owner clock init depth) = inl refl
 names_itself (item.Input name clock init depth) = inl refl
 names_itself (item.Stream name receiver keep clock) = inl refl
 names_itself (item.Function name params locals stmts) = inl refl
-names_itself (item.Agent name clock budget locals body stmts) = inl refl
+names_itself (item.Agent name clock processor budget locals body stmts) = inl refl
 
 module _ (raw : Raw) (none : NoFault raw) where
   -- The later of two declarations has another name.
@@ -133,7 +133,7 @@ function_named items k (item.Function name params locals stmts) f e = sym (ap (�
 function_named items k _ f e = nothing f e
 
 agent_named : (items : List Item) (k : ℕ) (i : Item) (a : AgentDecl) → agents items k i ≡ a ∷ [] → a.name ≡ (item_name i).text
-agent_named items k (item.Agent name clock budget locals body stmts) a e = sym (ap (λ (b : AgentDecl). b.name) (only _ a e))
+agent_named items k (item.Agent name clock processor budget locals body stmts) a e = sym (ap (λ (b : AgentDecl). b.name) (only _ a e))
 agent_named items k _ a e = nothing a e
 
 abbrev from_functions : Option Item → Bool

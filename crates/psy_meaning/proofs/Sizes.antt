@@ -86,6 +86,8 @@ declaration_few items k (grammar.Declaration.function p m b) =
     omega (arith, length-Behind (behind_params p), length-Behind (behind_locals (agent_locals m)), block_few (inside_of items k) b [])
 declaration_few items k (grammar.Declaration.agent {clock = clock} {budget = budget} m b) =
     omega (arith, length-Behind (behind_locals m), block_few (inside_of items k) b (head_point (global_number is_clock items clock) budget.value ∷ []))
+declaration_few items k (grammar.Declaration.agent_on_processor {clock = clock} {budget = budget} m b) =
+    omega (arith, length-Behind (behind_locals m), block_few (inside_of items k) b (head_point (global_number is_clock items clock) budget.value ∷ []))
 
 total-append : {X : Type 0} (f : X → ℕ) (xs ys : List X) → total (map f (xs ++ ys)) ≡ total (map f xs) + total (map f ys)
 total-append f [] ys = omega arith

@@ -1,5 +1,5 @@
 -- The unit of a program without a fault is sound.
-use Rattle.std.proofs.Common.{◌≡◌, ℕ, suc, ◌+◌, Bool, List, [], ◌∷◌, ◌++◌, map, take, length, Some, refl, sym, ap, subst, ◌∙◌, arith, append-nil}
+use Rattle.std.proofs.Common.{◌≡◌, ℕ, suc, ◌+◌, Bool, List, [], ◌∷◌, ◌++◌, map, take, length, Option, Some, refl, sym, ap, subst, ◌∙◌, arith, append-nil}
 use Rattle.std.specs.Prelude.{slice_get}
 use Rattle.std.specs.List.{range_with_len}
 use Rattle.std.proofs.lemmas.List.{length-map}
@@ -75,13 +75,13 @@ module _ (raw : Raw) (fault : NoFault raw) where
 
   -- ---- agents
 
-  agent_sound : (k : ℕ) (name clock : Name) (budget : Lit) (locals : List Local) (body : ℕ) (stmts : List RawStmt) → slice_get raw.items k ≡ Some (item.Agent name clock budget locals body stmts)
-      → IsSoundAgent (unit_of raw) (counting is_agent (take k raw.items)) (agent_with raw.items name clock budget locals (stmts_of (inside_of raw.items k) stmts (head_point (global_number is_clock raw.items clock) budget.value ∷ [])))
-  agent_sound k name clock budget locals body stmts own =
-      let i = item.Agent name clock budget locals body stmts in
+  agent_sound : (k : ℕ) (name clock : Name) (processor : Option Lit) (budget : Lit) (locals : List Local) (body : ℕ) (stmts : List RawStmt) → slice_get raw.items k ≡ Some (item.Agent name clock processor budget locals body stmts)
+      → IsSoundAgent (unit_of raw) (counting is_agent (take k raw.items)) (agent_with raw.items name clock processor budget locals (stmts_of (inside_of raw.items k) stmts (head_point (global_number is_clock raw.items clock) budget.value ∷ [])))
+  agent_sound k name clock processor budget locals body stmts own =
+      let i = item.Agent name clock processor budget locals body stmts in
       let site = inside_of raw.items k in
       let head = head_point (global_number is_clock raw.items clock) budget.value in
-      let agent = agent_with raw.items name clock budget locals (stmts_of site stmts (head ∷ [])) in
+      let agent = agent_with raw.items name clock processor budget locals (stmts_of site stmts (head ∷ [])) in
       let last = HasBody body (raw_quiet_list stmts) ∷ [] in
       let inside = each-among (Fine site) (inside_places i) (λ p there. fine_inside raw fault k i p own there) in
       let behind = each-second (Fine site) (slot_places 0 (slots_of i)) (body_places i) inside in
@@ -91,7 +91,7 @@ module _ (raw : Raw) (fault : NoFault raw) where
       let count = points_of site stmts (head ∷ []) in
       let order = numbers_of site stmts (head ∷ []) in
       let many = ap length order ∙ length-range_with_len 1 (advances_list stmts) in
-      let suits = agent_suits raw fault k name clock budget locals body stmts agent own refl cells in
+      let suits = agent_suits raw fault k name clock processor budget locals body stmts agent own refl cells in
       record {
         stmts = sound_stmts site (agent_scope (unit_of raw) (counting is_agent (take k raw.items)) agent) suits stmts (each-first (Fine site) (stmts_places stmts) last below) (head ∷ []) (omega (arith, count));
         ends = quiet_of site stmts (head ∷ []) ∙ ends kind.NoAdvance;
@@ -101,7 +101,7 @@ module _ (raw : Raw) (fault : NoFault raw) where
       }
 
   agent_of : (k : ℕ) (i : Item) (agent : AgentDecl) → slice_get raw.items k ≡ Some i → agents raw.items k i ≡ agent ∷ [] → IsSoundAgent (unit_of raw) (counting is_agent (take k raw.items)) agent
-  agent_of k (item.Agent name clock budget locals body stmts) agent own gives = subst (IsSoundAgent (unit_of raw) (counting is_agent (take k raw.items))) (only _ agent gives) (agent_sound k name clock budget locals body stmts own)
+  agent_of k (item.Agent name clock processor budget locals body stmts) agent own gives = subst (IsSoundAgent (unit_of raw) (counting is_agent (take k raw.items))) (only _ agent gives) (agent_sound k name clock processor budget locals body stmts own)
   agent_of k _ agent own gives = cc
 
   all_agents : (number : ℕ) (agent : AgentDecl) → slice_get (unit_of raw).agents number ≡ Some agent → IsSoundAgent (unit_of raw) number agent

@@ -91,6 +91,8 @@ declaration_named {i = i} (grammar.Declaration.function {params = params} {local
     (locals_named (agent_locals m) (behind (behind_one (behind_params p)) lawful.1.1.1)))
 declaration_named {i = i} (grammar.Declaration.agent m b) lawful =
     item_named i lawful.1.0 (locals_named m lawful.1.1.1.1.1.1.1)
+declaration_named {i = i} (grammar.Declaration.agent_on_processor m b) lawful =
+    item_named i lawful.1.0 (locals_named m lawful.1.1.1.1.1.1.1.1.1)
 
 program_named : {ts : List Numbered} {is : List Item} → Program ts is → Lawful ts → All IsName (flat_map names_in is)
 program_named grammar.Program.end lawful = All-nil IsName

@@ -1,7 +1,7 @@
 -- What is asked of a unit by those who read it.
 use Rattle.std.specs.Prelude.{◌≡◌, ℕ, ◌+◌, ◌<◌, ◌≤◌, List, [], ◌∷◌, ◌++◌, map, length, Option, Some, None, slice_get, ⊤}
 use Rattle.std.specs.List.{All}
-use Rattle.psy_base.specs.declared.limits.TheConstants.{ADVANCE, AGENTS, BUDGET, CELLS, CLOCKS, DEPTH, FUNCTIONS, KEEP, NAMES, POINTS, QUANTUM}
+use Rattle.psy_base.specs.declared.limits.TheConstants.{ADVANCE, AGENTS, BUDGET, CELLS, CLOCKS, DEPTH, FUNCTIONS, KEEP, NAMES, POINTS, PROCESSORS, QUANTUM}
 use Rattle.psy_base.specs.declared.limits.TheConstants.{STREAMS, UNIT_SIZE, VARIABLES, WORD_BYTES}
 use Rattle.psy_clock.specs.Dates.{IsClock}
 use Rattle.psy_tree.specs.declared.raw.Raw.{Raw}
@@ -68,6 +68,7 @@ HasHead a (head ∷ rest) lawful = (head ≡ record { count = 0; clock = a.clock
 pub record IsBareAgent (unit : Whole) (a : AgentDecl) : Type 0 where
   pub name : IsName a.name
   pub clock : a.clock < length unit.clocks
+  pub processor : a.processor < PROCESSORS
   pub budget : Within 1 BUDGET a.budget
   pub slots : All IsBareSlot a.slots
   pub names : length a.slots ≤ NAMES

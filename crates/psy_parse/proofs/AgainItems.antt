@@ -12,7 +12,7 @@ use Rattle.psy_tree.specs.declared.raw.Local.{Local}
 use Rattle.psy_tree.specs.declared.raw.Item.{Item}
 use Rattle.psy_tree.specs.Grammar.{Numbered, numbered, named, numeral, word, sign, Start, FunctionLocal, AgentLocal, Many, Further, Params, Parent, Shift, Declaration, Program, Spells}
 use Rattle.psy_tree.specs.Grammar as grammar
-use Rattle.psy_parse.specs.Reading.{name_at, number_at, after_number, after_word, after_sign, word_at, sign_at, start_at, array_at, scalar_at, local_at, locals_at, param_at, further_at, params_at, parent_at, shift_at, clock_at, temporal_at, input_at, stream_at, function_at, agent_at, declaration_at, program_at, is_end, quantum_at, text_at}
+use Rattle.psy_parse.specs.Reading.{name_at, number_at, after_number, after_word, after_sign, word_at, sign_at, start_at, array_at, scalar_at, local_at, locals_at, param_at, further_at, params_at, parent_at, shift_at, optional_at, clock_at, temporal_at, input_at, stream_at, function_at, agent_at, declaration_at, program_at, is_end, quantum_at, text_at}
 use Rattle.psy_parse.proofs.Numbers.{length_of_numbered}
 use Rattle.psy_parse.proofs.AgainStmts.{shorter_block, block_begins, block_again}
 
@@ -118,9 +118,10 @@ shorter_declaration (grammar.Declaration.input h) = omega (arith, shorter_start 
 shorter_declaration grammar.Declaration.stream = omega arith
 shorter_declaration (grammar.Declaration.function p m b) = omega (arith, shorter_params p, shorter_locals false m, shorter_block b)
 shorter_declaration (grammar.Declaration.agent m b) = omega (arith, shorter_locals true m, shorter_block b)
+shorter_declaration (grammar.Declaration.agent_on_processor m b) = omega (arith, shorter_locals true m, shorter_block b)
 
 declaration_again : (n : ℕ) {ts rest : List Numbered} {x : Item} → Declaration ts x rest → length ts ≤ n → declaration_at n ts ≡ Ok (x, rest)
-unfolding declaration_at clock_at temporal_at input_at stream_at function_at agent_at name_at number_at after_number word_at after_word sign_at after_sign
+unfolding declaration_at clock_at temporal_at input_at stream_at function_at agent_at optional_at name_at number_at after_number word_at after_word sign_at after_sign
 declaration_again n (grammar.Declaration.clock p s) le = rw (parent_again p, shift_again s) refl
 declaration_again n (grammar.Declaration.temporal h) le = rw (start_again h) refl
 declaration_again n (grammar.Declaration.input h) le = rw (start_again h) refl
@@ -128,6 +129,8 @@ declaration_again n grammar.Declaration.stream le = refl
 declaration_again n (grammar.Declaration.function p m b) le =
     rw (params_again n p (omega arith), locals_again false n [] m (omega (arith, shorter_params p)) (block_begins b).no_int, block_again n [] b (omega (arith, shorter_params p, shorter_locals false m))) refl
 declaration_again n (grammar.Declaration.agent m b) le =
+    rw (locals_again true n [] m (omega arith) refl, block_again n [] b (omega (arith, shorter_locals true m))) refl
+declaration_again n (grammar.Declaration.agent_on_processor m b) le =
     rw (locals_again true n [] m (omega arith) refl, block_again n [] b (omega (arith, shorter_locals true m))) refl
 
 nothing_begins : {ts rest : List Numbered} {x : Item} → Declaration ts x rest → is_end ts ≡ false
@@ -138,6 +141,7 @@ nothing_begins (grammar.Declaration.input h) = refl
 nothing_begins grammar.Declaration.stream = refl
 nothing_begins (grammar.Declaration.function p m b) = refl
 nothing_begins (grammar.Declaration.agent m b) = refl
+nothing_begins (grammar.Declaration.agent_on_processor m b) = refl
 
 program_again : (n : ℕ) (front : List Item) {ts : List Numbered} {xs : List Item} → Program ts xs → length ts < n → program_at n front ts ≡ Ok (front ++ xs)
 unfolding program_at

@@ -1,19 +1,21 @@
 -- Each step of a declaration and of a program that is read.
-use Rattle.std.proofs.Common.{◌≡◌, ℕ, zero, suc, ◌≤◌, List, [], ◌∷◌, ◌++◌, Result, Ok, Err, Bool, true, false, cond, refl, sym, ap, ◌∙◌, arith}
+use Rattle.std.proofs.Common.{◌≡◌, ℕ, zero, suc, ◌≤◌, List, [], ◌∷◌, ◌++◌, Option, Result, Ok, Err, Bool, true, false, cond, refl, sym, ap, ◌∙◌, arith}
 use Rattle.psy_tree.specs.declared.token.Kind.TheVariants as kinds
 use Rattle.psy_tree.specs.declared.token.Word.TheVariants as words
 use Rattle.psy_tree.specs.declared.token.Sign.TheVariants as signs
 use Rattle.psy_tree.specs.declared.raw.Name.{Name}
 use Rattle.psy_tree.specs.declared.raw.Lit.{Lit}
 use Rattle.psy_tree.specs.declared.raw.Local.{Local}
+use Rattle.psy_tree.specs.declared.raw.RawStmt.{RawStmt}
 use Rattle.psy_tree.specs.declared.raw.Raw.{Raw}
 use Rattle.psy_tree.specs.declared.raw.Item.{Item}
-use Rattle.psy_tree.specs.Grammar.{Numbered, named, numeral, word, sign, Start, FunctionLocal, AgentLocal, Many, Further, Params, Parent, Shift, Declaration, Program}
+use Rattle.psy_tree.specs.declared.raw.Item.TheVariants.{Agent}
+use Rattle.psy_tree.specs.Grammar.{Numbered, named, numeral, word, sign, Start, FunctionLocal, AgentLocal, Many, Further, Params, Parent, Shift, Block, Declaration, Program}
 use Rattle.psy_tree.specs.Grammar as grammar
 use Rattle.psy_parse.specs.Reading.{◌>>=◌, Reads, stuck, name_at, start_at, array_at, scalar_at, local_at, locals_at, param_at, further_at, params_at, parent_at, shift_at, clock_at, temporal_at, input_at, stream_at, function_at, agent_at, declaration_at, program_at, is_end, quantum_at, text_at}
 use Rattle.psy_parse.proofs.Steps.{Front, through, Anything, Whatever, Ends, Step, Part, Listed, listed, nothing_listed, one_listed, IsText, text, done_step, stuck_step, out_of_turns, same_step, bind_step, last_step, end_step}
 use Rattle.psy_parse.proofs.Heads.{sign_step, word_step, number_step, name_step, given_sign, given_word}
-use Rattle.psy_parse.proofs.StmtSteps.{block_part}
+use Rattle.psy_parse.proofs.StmtSteps.{Optional, without, with_number, optional_part, block_part}
 
 start_part : (enough : ℕ) → Part (Whatever Start) Anything 1 enough start_at start_at
 unfolding start_at
@@ -126,6 +128,13 @@ shift_part enough pre ends ts =
     given_sign _ _ _ _ _ (λ _. number_step _ _ (λ k. sign_step _ _ _ (λ _. done_step ends (omega arith) (λ us _. tt) (λ rest. grammar.Shift.shifted))))
     (sign_step _ _ _ (λ _. done_step ends (omega arith) (λ us _. tt) (λ rest. grammar.Shift.without)))
 
+agent_of : {name clock : Name} {processor : Option Lit} {budget : Lit} {locals : List Local} {stmts : List RawStmt} {n a b c body d e : ℕ} {ts us vs rest : List Numbered}
+    → Optional words.Processor us processor (word b words.Budget ∷ numeral budget ∷ sign c signs.OpenBrace ∷ ts)
+    → Many AgentLocal ts locals (word body words.Body ∷ sign d signs.OpenBrace ∷ vs) → Block vs stmts (sign e signs.CloseBrace ∷ rest)
+    → Declaration (word n words.Agent ∷ named name ∷ word a words.On ∷ named clock ∷ us) (Agent name clock processor budget locals body stmts) rest
+agent_of without locals stmts = grammar.Declaration.agent locals stmts
+agent_of with_number locals stmts = grammar.Declaration.agent_on_processor locals stmts
+
 module _ (n m : ℕ) (le : n ≤ m) (pre : Front) (ends : Ends pre (Whatever Declaration)) (ts : List Numbered) (other : Reads Item) where
   clock_steps : (k : ℕ) → Step pre (Whatever Declaration) Anything ts other 1 (suc n) (λ us. word k words.Clock ∷ us) 1 Anything clock_at clock_at
   unfolding clock_at
@@ -161,9 +170,9 @@ module _ (n m : ℕ) (le : n ≤ m) (pre : Front) (ends : Ends pre (Whatever Dec
   agent_steps : (k : ℕ) → Step pre (Whatever Declaration) Anything ts other 1 (suc n) (λ us. word k words.Agent ∷ us) 1 Anything (agent_at n) (agent_at m)
   unfolding agent_at
   agent_steps k =
-      name_step _ _ (λ name. word_step _ _ _ (λ _. name_step _ _ (λ clock. word_step _ _ _ (λ _. number_step _ _ (λ budget. sign_step _ _ _ (λ _. bind_step _ _ (locals_parts true n m le []) (omega arith) (λ _ locals l.
-      word_step _ _ _ (λ body. sign_step _ _ _ (λ _. bind_step _ _ (block_part n m le) (omega arith) (λ _ stmts s. sign_step _ _ _ (λ _.
-      done_step ends (omega arith) (λ us _. tt) (λ rest. grammar.Declaration.agent (all_locals true l _) (s _)))))))))))))
+      name_step _ _ (λ name. word_step _ _ _ (λ _. name_step _ _ (λ clock. bind_step _ _ (optional_part words.Processor n) (omega arith) (λ _ processor p. word_step _ _ _ (λ _. number_step _ _ (λ budget. sign_step _ _ _ (λ _.
+      bind_step _ _ (locals_parts true n m le []) (omega arith) (λ _ locals l. word_step _ _ _ (λ body. sign_step _ _ _ (λ _. bind_step _ _ (block_part n m le) (omega arith) (λ _ stmts s. sign_step _ _ _ (λ _.
+      done_step ends (omega arith) (λ us _. tt) (λ rest. agent_of (p _) (all_locals true l _) (s _))))))))))))))
 
 declaration_part : (n m : ℕ) → n ≤ m → Part (Whatever Declaration) Anything 1 (suc n) (declaration_at n) (declaration_at m)
 unfolding declaration_at

@@ -17,11 +17,11 @@ use Rattle.psy_parse.proofs.Heads.{sign_step, word_step, number_step, name_step,
 use Rattle.psy_parse.proofs.ExprSteps.{Ended, expr_parts}
 
 -- A number behind a word, or neither
-data Optional (w : Word) : List Numbered → Option Lit → List Numbered → Type 0 where
+pub data Optional (w : Word) : List Numbered → Option Lit → List Numbered → Type 0 where
   without : {rest : List Numbered} → Optional w rest None rest
   with_number : {n : ℕ} {k : Lit} {rest : List Numbered} → Optional w (word n w ∷ numeral k ∷ rest) (Some k) rest
 
-optional_part : (w : Word) (enough : ℕ) → Part (Whatever (Optional w)) Anything 0 enough (optional_at w) (optional_at w)
+pub optional_part : (w : Word) (enough : ℕ) → Part (Whatever (Optional w)) Anything 0 enough (optional_at w) (optional_at w)
 unfolding optional_at
 optional_part w enough pre ends ts =
     given_word _ _ _ _ _ (λ _. number_step _ _ (λ k. done_step ends (omega arith) (λ us _. tt) (λ rest. with_number)))

@@ -420,13 +420,14 @@ function_at n ts = do
   stmts ← block_at n [] locals.1
   Ok (Function name.0 params.0 locals.0 stmts.0, stmts.1)
 
--- `agent NAME on CLOCK budget N { LOCALS body { STATEMENTS } }` behind its first word
+-- `agent NAME on CLOCK processor N budget M { LOCALS body { STATEMENTS } }` behind its first word; `processor N` may be missing
 unfoldable pub agent_at : ℕ → Reads Item
 agent_at n ts = do
   name ← name_at ts
   a ← word_at words.On name.1
   clock ← name_at a.1
-  b ← word_at words.Budget clock.1
+  processor ← optional_at words.Processor clock.1
+  b ← word_at words.Budget processor.1
   budget ← number_at b.1
   us ← sign_at signs.OpenBrace budget.1
   locals ← locals_at true n [] us
@@ -434,7 +435,7 @@ agent_at n ts = do
   vs ← sign_at signs.OpenBrace body.1
   stmts ← block_at n [] vs
   ws ← sign_at signs.CloseBrace stmts.1
-  Ok (Agent name.0 clock.0 budget.0 locals.0 body.0 stmts.0, ws)
+  Ok (Agent name.0 clock.0 processor.0 budget.0 locals.0 body.0 stmts.0, ws)
 
 -- A declaration, by its first word
 unfoldable pub declaration_at : ℕ → Reads Item

@@ -6,7 +6,9 @@ ghost use Rattle.psy_parse.specs.Reading.{program_at, quantum_at, text_at};
 
 use crate::cursor::Cursor;
 use crate::fault::Failure;
-use crate::reader::{after_sign, after_word, at_end, name, number, sign, stuck, word};
+use crate::reader::{
+    after_sign, after_word, at_end, name, number, optional_number, sign, stuck, word,
+};
 use crate::stmt::block;
 use psy_base::Items;
 use psy_tree::{Init, Item, Lit, Local, Name, Raw, Sign, Word};
@@ -223,6 +225,7 @@ fn agent<'a>(alloc: Global, depth: usize, cursor: Cursor<'a>) -> Result<(Item, C
     let (agent, rest) = name(alloc, cursor)?;
     let (_, rest) = word(rest, Word::On)?;
     let (clock, rest) = name(alloc, rest)?;
+    let (processor, rest) = optional_number(rest, Word::Processor)?;
     let (_, rest) = word(rest, Word::Budget)?;
     let (budget, rest) = number(rest)?;
     let rest = sign(rest, Sign::OpenBrace)?;
@@ -234,6 +237,7 @@ fn agent<'a>(alloc: Global, depth: usize, cursor: Cursor<'a>) -> Result<(Item, C
     let item = Item::Agent {
         name: agent,
         clock,
+        processor,
         budget,
         locals,
         body_token,

@@ -5,7 +5,9 @@ mod Demands
 mod Excesses
 mod Existence
 mod Goings
+mod GroupHorizons
 mod LeastCovers
+mod LinesOn
 mod Passed
 mod Potentials
 mod Steps

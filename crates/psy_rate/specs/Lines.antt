@@ -1,8 +1,10 @@
 -- The line above the demand of a graph: its rate, by the closed paths, and its intercept, by all paths (the greatest cycle
 -- ratio: Dantzig, Blattner, Rao 1967; the linear bound of a demand: Stigge, Ekberg, Guan, Yi 2011). Numbers are natural, so
 -- what would be subtracted stands on the other side.
-use Rattle.std.specs.Prelude.{◌≡◌, ℕ, ◌+◌, ◌*◌, ◌≤◌, List, [], ◌∷◌, ⊤}
+use Rattle.std.specs.Prelude.{◌≡◌, ℕ, ◌+◌, ◌*◌, ◌≤◌, ◌==◌, if◌then◌else◌, List, [], ◌∷◌, get_or, length, map, ⊤}
+use Rattle.std.specs.List.{range_with_len}
 use Rattle.psy_base.specs.declared.edge.Edge.{Edge}
+use Rattle.psy_base.specs.declared.limits.TheConstants.{PROCESSORS}
 use Rattle.psy_base.specs.Paths.{IsPathFrom, IsPath, weight_of, length_of}
 use Rattle.psy_rate.specs.declared.line.Rate.{Rate}
 use Rattle.psy_rate.specs.declared.line.TheConstants.{SCALE}
@@ -55,3 +57,16 @@ AreAll [] [] = ⊤
 AreAll [] (lines ∷ others) = ⊥
 AreAll (graphs ∷ groups) [] = ⊥
 AreAll (graphs ∷ groups) (lines ∷ others) = AreRates graphs lines × AreAll groups others
+
+-- The line of an agent that asks for nothing
+abbrev pub no_line : Rate
+no_line = record { rate = 0; intercept = 0 }
+
+-- By agent, its line where its processor is this one, and that of nothing where it is another
+abbrev pub lines_on : List ℕ → ℕ → List Rate → List Rate
+lines_on homes processor lines =
+    map (λ agent. if get_or homes agent 0 == processor then get_or lines agent no_line else no_line) (range_with_len 0 (length lines))
+
+-- By processor, the lines of its agents
+abbrev pub lines_by : List ℕ → List Rate → List (List Rate)
+lines_by homes lines = map (λ processor. lines_on homes processor lines) (range_with_len 0 PROCESSORS)

@@ -3,9 +3,9 @@
 ghost use Rattle.std.specs.Prelude.{◌≡◌, ◌⊎◌, ℕ, ◌+◌, ◌*◌, ◌≤◌, List, All, length};
 ghost use Rattle.psy_base.specs.declared.edge.Edge.{Edge};
 ghost use Rattle.psy_base.specs.declared.limits.TheConstants.{EDGES};
-ghost use Rattle.psy_meaning.specs.Demand.{IsDemand};
+ghost use Rattle.psy_meaning.specs.Demand.{IsDemand, edges_on};
 ghost use Rattle.psy_rate.specs.declared.line.Rate.{Rate};
-ghost use Rattle.psy_rate.specs.Lines.{IsRateOf, AreRates, AreAll};
+ghost use Rattle.psy_rate.specs.Lines.{IsRateOf, AreRates, AreAll, lines_on};
 ghost use Rattle.psy_rate.specs.Horizons.{rate_of, intercept_of, Covers, IsHorizonOf, IsHorizon, AreFeasible, HaveDemands};
 ghost use Rattle.psy_window.specs.Windows.{IsEdge};
 
@@ -20,16 +20,22 @@ pub fn always()
         → IsHorizon quantum lines horizon → AreFeasible groups quantum horizon → (top : ℕ) → AreFeasible groups quantum top }
 {}
 
-/// The graph of an agent has one line.
+/// The graph of an agent has one line, and so have the graphs of a processor's agents.
 pub fn rates()
     ensures some { (graph : List Edge) (nodes : ℕ) → All (IsEdge nodes) graph → length graph ≤ EDGES → (line : Rate) × IsRateOf graph line }
     ensures one { (graph : List Edge) (line other : Rate) → IsRateOf graph line → IsRateOf graph other → line ≡ other }
+    ensures on { (homes : List ℕ) (processor : ℕ) (graphs : List (List Edge)) (lines : List Rate) → AreRates graphs lines
+        → AreRates (edges_on homes processor graphs) (lines_on homes processor lines) }
 {}
 
-/// The lines of a group have one horizon, or none.
+/// The lines of a group have one horizon, or none; and groups have one, where each of them has, or none.
 pub fn horizons()
     ensures some { (quantum : ℕ) (lines : List Rate) → ((length : ℕ) × IsHorizonOf quantum lines length)
         ⊎ ((length : ℕ) → Covers quantum lines length → ⊥) }
     ensures one { (quantum : ℕ) (lines : List Rate) (length other : ℕ) → IsHorizonOf quantum lines length → IsHorizonOf quantum lines other
+        → length ≡ other }
+    ensures groups { (quantum : ℕ) (groups : List (List Rate)) → ((length : ℕ) × IsHorizon quantum groups length)
+        ⊎ ((length : ℕ) → IsHorizon quantum groups length → ⊥) }
+    ensures only { (quantum : ℕ) (groups : List (List Rate)) (length other : ℕ) → IsHorizon quantum groups length → IsHorizon quantum groups other
         → length ≡ other }
 {}

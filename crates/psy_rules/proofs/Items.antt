@@ -38,7 +38,7 @@ heads_split (item.Temporal name owner clock init depth) = refl
 heads_split (item.Input name clock init depth) = refl
 heads_split (item.Stream name receiver keep clock) = refl
 heads_split (item.Function name params locals stmts) = refl
-heads_split (item.Agent name clock budget locals body stmts) = refl
+heads_split (item.Agent name clock processor budget locals body stmts) = refl
 
 slot_places_by_name : (k : ℕ) (ss : List SlotName) → slot_places k ss ≡ name_places k (slot_names ss)
 slot_places_by_name k [] = refl

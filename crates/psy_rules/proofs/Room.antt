@@ -13,5 +13,5 @@ use Rattle.psy_tree.specs.Scope.{item_stmts}
 
 pub room_of : (raw : Raw) → NoFault raw → NonePasses raw.items → (k : ℕ) (i : Item) → slice_get raw.items k ≡ Some i → advances_list (item_stmts i) ≤ POINTS
 room_of raw sound few k (item.Function name params locals stmts) own = omega (arith, function_quiet raw k name params locals stmts sound own)
-room_of raw sound few k (item.Agent name clock budget locals body stmts) own = omega (arith, points_within raw.items few k (item.Agent name clock budget locals body stmts) own)
+room_of raw sound few k (item.Agent name clock processor budget locals body stmts) own = omega (arith, points_within raw.items few k (item.Agent name clock processor budget locals body stmts) own)
 room_of raw sound few k _ own = omega arith

@@ -26,7 +26,7 @@ slots_split (item.Temporal name owner clock init depth) = refl
 slots_split (item.Input name clock init depth) = refl
 slots_split (item.Stream name receiver keep clock) = refl
 slots_split (item.Function name params locals stmts) = refl
-slots_split (item.Agent name clock budget locals body stmts) = refl
+slots_split (item.Agent name clock processor budget locals body stmts) = refl
 
 abbrev pub array_of : SlotName → Bool
 array_of s = s.array

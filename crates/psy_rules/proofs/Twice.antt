@@ -123,7 +123,7 @@ fault_same site table known i h k own = go i ∙ ap (clock_at_fault site) (sym o
     go (item.Input name clock init depth) = refl
     go (item.Stream name receiver keep clock) = refl
     go (item.Function name params locals stmts) = refl
-    go (item.Agent name clock budget locals body stmts) = refl
+    go (item.Agent name clock processor budget locals body stmts) = refl
 
 pub clock_same : (items : List Item) (table : List Entry) (known : List (Option Clock)) (i : Item) → StandsFor table (item_entries 0 items) → clock_of table known i ≡ sound items known i
 clock_same items table known (item.Clock name by parent shift) h =
@@ -133,7 +133,7 @@ clock_same items table known (item.Temporal name owner clock init depth) h = ref
 clock_same items table known (item.Input name clock init depth) h = refl
 clock_same items table known (item.Stream name receiver keep clock) h = refl
 clock_same items table known (item.Function name params locals stmts) h = refl
-clock_same items table known (item.Agent name clock budget locals body stmts) h = refl
+clock_same items table known (item.Agent name clock processor budget locals body stmts) h = refl
 
 -- ---- loops
 

@@ -305,6 +305,16 @@ fn head(alloc: Global, clock: u32, budget: Lit) -> Result<Items<Point>, Memory>
     Ok(points)
 }
 
+/// The processor that an agent names, the first where it names none.
+fn named_processor(processor: Option<Lit>) -> u32
+    ensures { result ≡ stands.named_processor processor }
+{
+    match processor {
+        Some(processor) => processor.value,
+        None => 0,
+    }
+}
+
 fn agent(
     alloc: Global,
     program: &Program<'_>,
@@ -319,6 +329,7 @@ fn agent(
         Item::Agent {
             name,
             clock,
+            processor,
             budget,
             locals,
             stmts,
@@ -338,6 +349,7 @@ fn agent(
             Ok(Some(AgentDecl {
                 name: copy(alloc, &name.text)?,
                 clock,
+                processor: named_processor(*processor),
                 budget: budget.value,
                 slots: slots(alloc, locals.as_slice())?,
                 points,

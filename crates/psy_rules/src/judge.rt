@@ -25,7 +25,7 @@ use crate::uses::{judge_range, judge_use};
 use crate::walk::walk_stmts;
 use psy_base::{Memory, limits};
 use psy_clock::Clock;
-use psy_tree::{Asks, Found, Item, Local, Name, Raw, RuleKind};
+use psy_tree::{Asks, Found, Item, Lit, Local, Name, Raw, RuleKind};
 use std::alloc::Global;
 
 /// A declaration of number less than `limit`.
@@ -69,6 +69,7 @@ fn judge_clock(
 }
 
 /// Notes what is wrong with a declaration's head, its name aside.
+#[tactic(auto, using(crate::proofs::Judging::judged_all_append))]
 fn judge_head(scope: &Scope<'_>, known: &[Option<Clock>], item: &Item, least: &mut Least)
     requires scope { IsScope scope.now }
     requires known { known.now ≡ rules.sound_clocks scope.now.items.now scope.now.at }
@@ -106,8 +107,14 @@ fn judge_head(scope: &Scope<'_>, known: &[Option<Clock>], item: &Item, least: &m
             judge_use(scope, clock, Asks::Clock, least);
         }
         Item::Function { .. } => {}
-        Item::Agent { clock, budget, .. } => {
+        Item::Agent {
+            clock,
+            processor,
+            budget,
+            ..
+        } => {
             judge_use(scope, clock, Asks::Clock, least);
+            judge_processor(*processor, least);
             judge_range(*budget, 1, limits::BUDGET, least);
         }
     }
@@ -119,6 +126,14 @@ fn judge_parent(scope: &Scope<'_>, parent: &Option<Name>, least: &mut Least)
 {
     if let Some(parent) = parent {
         judge_use(scope, parent, Asks::Parent, least);
+    }
+}
+
+fn judge_processor(processor: Option<Lit>, least: &mut Least)
+    ensures { (site : Site) → least.new.fault ≡ judged_all site (places.processor_places processor) least.old.fault }
+{
+    if let Some(processor) = processor {
+        judge_range(processor, 0, limits::PROCESSORS - 1, least);
     }
 }
 

@@ -27,7 +27,7 @@ use Rattle.psy_run.proofs.Courses.{gives_then}
 use Rattle.psy_run.proofs.MeaningText.{Keeps, is_no_script}
 use Rattle.psy_run.proofs.OneAnswer.{compiled, translated}
 use Rattle.psy_run.proofs.OneStep.{TextsHold}
-use Rattle.psy_run.proofs.PlanLemmas.{Alone, are_no_inputs, is_feasible_for}
+use Rattle.psy_run.proofs.PlanLemmas.{Apart, are_no_inputs, is_feasible_for}
 use Rattle.psy_run.proofs.SupplyLemmas.{AllMet, supply_is}
 use Rattle.psy_run.proofs.TopLemmas.{AllBounded, status_some}
 
@@ -39,7 +39,7 @@ pub record RunsHold : Type 0 where
   pub short : (seed : ℕ) → length (made_text seed) ≤ FILE_BYTES
   pub alike : (unit : Whole) → IsOfText unit → ActsAlike unit (code_of unit)
   pub timing : (unit : Whole) (number : ℕ) (timing other : Timing) → IsTimingOf unit number timing → IsTimingOf unit number other → timing ≡ other
-  pub alone : Alone
+  pub apart : Apart
   pub inputs : (unit : Whole) (text : List ℕ) (lists : List (List ℤ)) → AreListsOf unit text lists → AreInputs unit lists
   pub script : (unit : Whole) (text : List ℕ) (said : Said) → IsScriptOf unit text said → IsScript unit said
   pub keeps : Keeps
@@ -55,7 +55,7 @@ module _ (hold : RunsHold) where
       let planned : IsStatedPlan plan = record {
         compiled = record { text = text; alike = hold.alike unit text; followed = is.followed };
         buffers = is.sized;
-        supplied = is_feasible_for hold.timing hold.alone plan is.followed supply is;
+        supplied = is_feasible_for hold.timing hold.apart plan text.bare is.followed supply is;
       } in
       hold.keeps plan lists said planned are script
 

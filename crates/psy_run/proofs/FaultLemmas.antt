@@ -1,5 +1,5 @@
 -- Which calls of shelf and sink failed, where a command stopped.
-use Rattle.std.proofs.Common.{◌≡◌, ◌≢◌, ◌∙◌, sym, ap, subst, refl, ℕ, List, Option, inl, inr, Result, Ok, Err, IfErr}
+use Rattle.std.proofs.Common.{◌≡◌, ◌≢◌, ◌∙◌, sym, subst, refl, ℕ, List, Option, inl, inr, Result, Ok, Err, IfErr}
 use Rattle.std.specs.Result.{IsErrAnd}
 use Rattle.psy_log.specs.Forms.{read_line}
 use Rattle.psy_run.specs.declared.refusal.File.{File}

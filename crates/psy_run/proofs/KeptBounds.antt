@@ -77,7 +77,7 @@ module _ (plan : Plan) (inputs : List (List ℤ)) (script : Script) (is : IsStat
   abbrev cycles_of : System → ℕ → List (Option Turn)
   cycles_of s agent = turns_by s ties (plan.until * plan.unit.quantum) agent
 
-  -- the processor can supply what the run demands
+  -- each processor can supply what the run demands of it
   supplied : IsLawful by_code → IsSupplied by_code ties plan.until
   supplied lawful = record {
     lawful = lawful;

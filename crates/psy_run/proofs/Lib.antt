@@ -5,6 +5,7 @@ mod AskingForms
 mod Courses
 mod CutLemmas
 mod Decisions
+mod ExtentLemmas
 mod FittingPlans
 mod GrowthLemmas
 mod KeptBounds
@@ -16,6 +17,7 @@ mod OneAnswer
 mod OneStep
 mod OwnLemmas
 mod PlanLemmas
+mod ProcessorDemands
 mod RefusalLemmas
 mod RowLemmas
 mod SomeAnswer

@@ -1,5 +1,5 @@
 -- The text of a run is the same by the code and by the statements; what a run leaves; and that it keeps its bounds.
-use Rattle.std.proofs.Common.{◌≡◌, refl, sym, ap, subst, ◌∙◌, ℕ, ◌+◌, ◌*◌, List, ◌∷◌, ◌++◌, length, get_or, map, Option, None, Some, ℤ, arith}
+use Rattle.std.proofs.Common.{◌≡◌, refl, sym, ap, subst, ◌∙◌, ℕ, ◌+◌, ◌*◌, List, [], ◌∷◌, ◌++◌, length, get_or, map, Option, None, Some, ℤ, arith}
 use Rattle.std.specs.List.{flat_map, range_with_len}
 use Rattle.std.proofs.Math.Path.{fun_ext}
 use Rattle.psy_budget.specs.declared.charge.Stall.{Stall}
@@ -11,8 +11,9 @@ use Rattle.psy_dates.specs.Beginnings.{beginning_of}
 use Rattle.psy_dates.specs.Plans.{opened_of}
 use Rattle.psy_history.specs.Compiled.{AreInputs, IsCompiled, coded, stated}
 use Rattle.psy_history.specs.Scheduled.{turns_by}
+use Rattle.psy_history.specs.declared.told.Order.{Order}
 use Rattle.psy_history.specs.declared.told.Script.{Script}
-use Rattle.psy_kernel.specs.Progress.{Progress, booted, order, system}
+use Rattle.psy_kernel.specs.Progress.{Progress, order, system}
 use Rattle.psy_history.specs.Scripts.{IsScript, order_of, stalls_of}
 use Rattle.psy_kernel.specs.Texts.{agent_end, event_line, lines_of, run_text, stream_end, summary_of, text_of, variable_end}
 use Rattle.psy_log.specs.Forms.{agent_line, end_line, stream_line, variable_line}
@@ -97,6 +98,15 @@ module _ (unit : Whole) (code : Code) (nexts : List (List (List ℕ))) (stalls :
     same_text : run_text (coded unit code nexts stalls inputs) ties sizes until ≡ run_text (stated unit nexts stalls inputs) ties sizes until
     same_text = λ i. flat_map (fun_ext same_lines i) (range_with_len 0 (until + 1)) ++ text_of (same_summary i)
 
+-- ---- rounds
+
+-- The text of a run asks a script for its stalls and its orders alone.
+pub same_but_rounds : (unit : Whole) (nexts : List (List (List ℕ))) (sizes : Sizes) (until : ℕ) (inputs : List (List ℤ)) (script other : Script) → script.stalls ≡ other.stalls → script.orders ≡ other.orders
+    → service.text_of (service.Ran unit nexts sizes until inputs script) ≡ service.text_of (service.Ran unit nexts sizes until inputs other)
+same_but_rounds unit nexts sizes until inputs script other stalls orders =
+    let said : List Stall → List Order → Script = λ these those. record { stalls = these; orders = those; rounds = [] } in
+    λ i. run_text (meaning_of unit nexts inputs (said (stalls i) (orders i))) (order_of unit (said (stalls i) (orders i))) sizes until
+
 -- ---- what is left
 
 -- The kernel of a run at its end
@@ -171,6 +181,8 @@ is_no_script unit = record {
   stalls_rise = λ i j d less none. absurd (omega (arith, none));
   orders = λ k d none. absurd (omega (arith, none));
   orders_rise = λ i j d less none. absurd (omega (arith, none));
+  rounds = λ k d none. absurd (omega (arith, none));
+  rounds_rise = λ i j d less none. absurd (omega (arith, none));
 }
 
 -- What is served keeps its bounds

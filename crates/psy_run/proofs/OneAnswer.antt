@@ -40,7 +40,7 @@ module _ (agree : StepsAgree) (files : Files) where
       one_then _ _ (one_following agree unit) (λ nexts follow.
       one_then _ _ (one_sizing agree unit graphs nexts of drawn follow) (λ sizes sized.
       one_then _ _ (one_rating agree graphs) (λ lines rated.
-      one_then _ _ (one_extending unit lines until) (λ extent looked.
+      one_then _ _ (one_extending agree unit lines until) (λ extent looked.
       one_then _ _ (one_windowing graphs (length_of extent)) (λ few held.
       one_then _ _ (one_demanding unit graphs (length_of extent)) (λ done feasible.
       one_pure (record { graphs = graphs; nexts = nexts; sizes = sizes; lines = lines; extent = extent }))))))))

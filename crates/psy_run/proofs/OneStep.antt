@@ -12,6 +12,7 @@ use Rattle.psy_tree.specs.declared.raw.Raw.{Raw}
 use Rattle.psy_tree.specs.declared.rules.Count.{Count}
 use Rattle.psy_tree.specs.declared.rules.RuleKind.{RuleKind}
 use Rattle.psy_tree.specs.declared.token.Token.{Token}
+use Rattle.psy_tree.specs.Parts.{homes}
 use Rattle.psy_tree.specs.declared.unit.AgentDecl.{AgentDecl}
 use Rattle.psy_tree.specs.declared.unit.Unit.{Unit as Whole}
 use Rattle.psy_tree.specs.Deep as deep
@@ -28,7 +29,6 @@ use Rattle.psy_meaning.specs.KnownWays.{OfText}
 use Rattle.psy_meaning.specs.Flow.{AreAllNexts, IsCut, HasCost}
 use Rattle.psy_meaning.specs.Timing.{Timing, timing_of}
 use Rattle.psy_meaning.specs.Units.{IsOfText}
-use Rattle.psy_meaning.proofs.lemmas.Demands.{feasible-no-overload, overload-one}
 use Rattle.psy_graph.specs.declared.fault.GraphFault.{GraphFault}
 use Rattle.psy_graph.specs.declared.graph.Graph.{Graph}
 use Rattle.psy_graph.specs.Graphs.{AreGraphs, IsCause, IsTimingOf}
@@ -36,7 +36,7 @@ use Rattle.psy_sizes.specs.declared.fault.SizeFault.{SizeFault}
 use Rattle.psy_sizes.specs.Faults.{CanCount, IsFaultBy}
 use Rattle.psy_make.specs.Text.{made_text}
 use Rattle.psy_rate.specs.declared.line.Rate.{Rate}
-use Rattle.psy_rate.specs.Lines.{IsRateOf, AreRates}
+use Rattle.psy_rate.specs.Lines.{IsRateOf, AreRates, lines_by}
 use Rattle.psy_script.specs.declared.fault.LineKind.{LineKind}
 use Rattle.psy_script.specs.Faults.{Judge, Fault, IsLawful, IsFirst, HasManyLines}
 use Rattle.psy_script.specs.Inputs.{AreListsOf, inputs_judge}
@@ -52,6 +52,8 @@ use Rattle.psy_run.specs.Extents.{IsExtent}
 use Rattle.psy_run.specs.Courses.{step}
 use Rattle.psy_run.specs.Steps.{reading, lexing, parsing, resolving, graphing, sizing, costing, rating, extending, windowing, demanding, stating, directing, pacing}
 use Rattle.psy_run.proofs.Courses.{IsOne, one_unless}
+use Rattle.psy_run.proofs.ProcessorDemands.{feasible_none, overload_one}
+use Rattle.psy_run.proofs.ExtentLemmas.{OneHorizon}
 use Rattle.psy_run.proofs.RefusalLemmas.{lexical_is, unparsed_is, unlawful_is, undrawn_by, undrawn_is, unsized_by, unsized_is, overloaded_is}
 
 -- Each program of a text that is short enough to be read is one of a text.
@@ -85,6 +87,7 @@ pub record StepsAgree : Type 0 where
   pub size_fault : (unit : Whole) (graphs : List Graph) (nexts : List (List (List ℕ))) (fault other : SizeFault) → IsOfText unit → AreGraphs unit graphs → AreAllNexts unit nexts → IsFaultBy unit (OfText unit) nexts fault → IsFaultBy unit (OfText unit) nexts other → fault ≡ other
   pub cost : (unit : Whole) (number : ℕ) (agent : AgentDecl) (point cost other : ℕ) → IsAgentOf unit number agent → IsCut (HasCost unit.functions agent point) COST cost → IsCut (HasCost unit.functions agent point) COST other → cost ≡ other
   pub line : (graph : List Edge) (line other : Rate) → IsRateOf graph line → IsRateOf graph other → line ≡ other
+  pub horizon : OneHorizon
 
 -- ---- lists
 
@@ -231,19 +234,15 @@ one_rating agree graphs = record {
   apart = λ x r p q. q;
 }
 
-one_extent : (quantum until : ℕ) (lines : List Rate) (extent other : Extent) → IsExtent quantum lines until extent → IsExtent quantum lines until other → extent ≡ other
-one_extent quantum until lines (Horizon length) (Horizon less) (is, within) (is', within') =
-    let most = is.least less is'.covers in
-    let least = is'.least length is.covers in
-    let same : length ≡ less = omega (arith, most, least) in
-    ap Horizon same
-one_extent quantum until lines (Horizon length) (LastDate date) (is, within) (same, none) = let behind = none length is in absurd (omega (arith, within, behind))
-one_extent quantum until lines (LastDate date) (Horizon length) (same, none) (is, within) = let behind = none length is in absurd (omega (arith, within, behind))
-one_extent quantum until lines (LastDate date) (LastDate other) (same, none) (same', none') = ap LastDate (same ∙ sym same')
+one_extent : OneHorizon → (quantum until : ℕ) (homes : List ℕ) (lines : List Rate) (extent other : Extent) → IsExtent quantum homes lines until extent → IsExtent quantum homes lines until other → extent ≡ other
+one_extent one quantum until homes lines (Horizon length) (Horizon less) (is, within) (is', within') = ap Horizon (one quantum (lines_by homes lines) length less is is')
+one_extent one quantum until homes lines (Horizon length) (LastDate date) (is, within) (same, none) = let behind = none length is in absurd (omega (arith, within, behind))
+one_extent one quantum until homes lines (LastDate date) (Horizon length) (same, none) (is, within) = let behind = none length is in absurd (omega (arith, within, behind))
+one_extent one quantum until homes lines (LastDate date) (LastDate other) (same, none) (same', none') = ap LastDate (same ∙ sym same')
 
-pub one_extending : (unit : Whole) (lines : List Rate) (until : ℕ) → IsOne (extending unit lines until)
-one_extending unit lines until = record {
-  gift = one_extent unit.quantum until lines;
+pub one_extending : StepsAgree → (unit : Whole) (lines : List Rate) (until : ℕ) → IsOne (extending unit lines until)
+one_extending agree unit lines until = record {
+  gift = one_extent agree.horizon unit.quantum until (homes unit) lines;
   stop = λ r s p q. absurd p;
   apart = λ x r p q. q;
 }
@@ -258,11 +257,11 @@ pub one_demanding : (unit : Whole) (graphs : List Graph) (until : ℕ) → IsOne
 one_demanding unit graphs until = record {
   gift = λ x y p q. refl;
   stop = λ r s p q.
-      let (within, demand, is, over) = overloaded_is unit graphs until r p in
-      let (other, more, is', over') = overloaded_is unit graphs until s q in
-      let same = overload-one (edges_of graphs) unit.quantum until within other demand more over over' in
-      is ∙ (λ i. Infeasible (same.0 i) (same.1 i) (unit.quantum * same.0 i)) ∙ sym is';
-  apart = λ x r p q. let (within, demand, is, over) = overloaded_is unit graphs until r q in feasible-no-overload (edges_of graphs) unit.quantum until within demand p over;
+      let (within, processor, demand, is, over) = overloaded_is unit graphs until r p in
+      let (other, another, more, is', over') = overloaded_is unit graphs until s q in
+      let same = overload_one (homes unit) (edges_of graphs) unit.quantum until within other processor another demand more over over' in
+      is ∙ (λ i. Infeasible (same.0 i) (same.2 i) (unit.quantum * same.0 i) (same.1 i)) ∙ sym is';
+  apart = λ x r p q. let (within, processor, demand, is, over) = overloaded_is unit graphs until r q in feasible_none (homes unit) (edges_of graphs) unit.quantum until within processor demand p over;
 }
 
 -- ---- its inputs and its script

@@ -1,5 +1,5 @@
 -- What makes a plan of a program, and what is known of inputs that have no lists.
-use Rattle.std.proofs.Common.{◌≡◌, ◌∙◌, sym, ap, subst, ℕ, zero, suc, ◌<◌, List, [], ◌∷◌, map, length, get_or, slice_get, Some, ℤ, arith}
+use Rattle.std.proofs.Common.{◌≡◌, ◌∙◌, sym, ap, subst, ℕ, zero, suc, ◌<◌, ◌≤◌, List, [], ◌∷◌, map, length, get_or, slice_get, Some, ℤ, arith}
 use Rattle.std.proofs.lemmas.List.{length-map}
 use Rattle.std.proofs.lemmas.Option.{slice_get_within, slice_get-get_or, get_or_from_slice_get}
 use Rattle.psy_dates.specs.declared.plan.Plan.{Plan}
@@ -8,12 +8,14 @@ use Rattle.psy_demand.specs.Criterion.{edges_of}
 use Rattle.psy_graph.specs.declared.graph.Graph.{Graph}
 use Rattle.psy_graph.specs.Graphs.{AreGraphs, IsTimingOf, spot_of}
 use Rattle.psy_base.specs.declared.edge.Edge.{Edge}
+use Rattle.psy_base.specs.declared.limits.TheConstants.{PROCESSORS}
 use Rattle.psy_history.specs.Compiled.{AreEdgesOf, AreInputs}
 use Rattle.psy_history.specs.Processors.{edges_for, processors}
-use Rattle.psy_meaning.specs.Demand.{IsFeasible}
+use Rattle.psy_meaning.specs.Demand.{AreFeasible, IsFeasible, edges_on}
 use Rattle.psy_meaning.specs.Flow.{AreAllNexts}
 use Rattle.psy_meaning.specs.Alike.{AllFit}
-use Rattle.psy_tree.specs.Parts.{agent_at}
+use Rattle.psy_meaning.specs.Units.{IsBare}
+use Rattle.psy_tree.specs.Parts.{agent_at, homes}
 use Rattle.psy_meaning.specs.Graph.{IsGraph}
 use Rattle.psy_meaning.specs.Timing.{Timing, timing_of}
 use Rattle.psy_tree.specs.declared.unit.Unit.{Unit as Whole}
@@ -34,10 +36,15 @@ timing_at unit nexts follow number less =
     ap (λ a. timing_of unit a (get_or nexts number [])) (get_or_from_slice_get unit.agents number agent.0 _ agent.1) ∙ ap (timing_of unit agent.0) (get_or_from_slice_get nexts number list.0 [] list.1) in
     (agent.0, list.0, agent.1, follow.each number agent.0 list.0 agent.1 list.1, same)
 
--- One processor supplies what all agents may demand.
-abbrev pub Alone : Type 0
-Alone = (unit : Whole) (graphs : List (List Edge)) (quantum until : ℕ) → IsFeasible graphs quantum until
+-- Where each processor can supply what the agents with its number may demand, those that a program has can.
+abbrev pub Apart : Type 0
+Apart = (unit : Whole) (graphs : List (List Edge)) (quantum until : ℕ) → IsBare unit → AreFeasible (homes unit) graphs quantum until
     → (processor : ℕ) → processor < processors unit → IsFeasible (edges_for unit processor graphs) quantum until
+
+-- A program has no more processors than there may be, and what their agents may demand is told by the agents' numbers.
+pub each_apart : ((unit : Whole) → IsBare unit → processors unit ≤ PROCESSORS) → ((unit : Whole) (processor : ℕ) (graphs : List (List Edge)) → edges_for unit processor graphs ≡ edges_on (homes unit) processor graphs) → Apart
+each_apart few same unit graphs quantum until bare feasible processor less =
+    subst (λ gs. IsFeasible gs quantum until) (sym (same unit processor graphs)) (feasible processor (omega (arith, few unit bare, less)))
 
 module _ (one : (unit : Whole) (number : ℕ) (timing other : Timing) → IsTimingOf unit number timing → IsTimingOf unit number other → timing ≡ other) where
   pub are_edges : (plan : Plan) (graphs : List Graph) → AreAllNexts plan.unit plan.nexts → AreGraphs plan.unit graphs → AreEdgesOf (system_of plan [] (λ agent. [])) (edges_of graphs)
@@ -51,11 +58,11 @@ module _ (one : (unit : Whole) (number : ℕ) (timing other : Timing) → IsTimi
         (map spot_of graph.0.nodes, subst (λ t. IsGraph t (map spot_of graph.0.nodes) edges) same (subst (λ e. IsGraph has.0 (map spot_of graph.0.nodes) e) graph.2 has.2.drawn));
   }
 
-  pub is_feasible_for : Alone → (plan : Plan) → AreAllNexts plan.unit plan.nexts → (supply : Supply) → IsSupply plan.unit plan.until supply → IsFeasibleFor plan
-  is_feasible_for alone plan follow supply is = record {
+  pub is_feasible_for : Apart → (plan : Plan) → IsBare plan.unit → AreAllNexts plan.unit plan.nexts → (supply : Supply) → IsSupply plan.unit plan.until supply → IsFeasibleFor plan
+  is_feasible_for apart plan bare follow supply is = record {
     graphs = edges_of supply.graphs;
     drawn = are_edges plan supply.graphs follow is.drawn;
-    feasible = alone plan.unit (edges_of supply.graphs) plan.unit.quantum plan.until is.feasible;
+    feasible = apart plan.unit (edges_of supply.graphs) plan.unit.quantum plan.until bare is.feasible;
   }
 
 -- ---- no inputs

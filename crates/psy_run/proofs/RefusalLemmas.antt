@@ -7,11 +7,12 @@ use Rattle.psy_tree.specs.declared.rules.RuleKind.{RuleKind}
 use Rattle.psy_tree.specs.declared.token.Token.{Token}
 use Rattle.psy_tree.specs.declared.unit.Unit.{Unit as Whole}
 use Rattle.psy_tree.specs.Deep as deep
+use Rattle.psy_tree.specs.Parts.{homes}
 use Rattle.psy_tree.specs.Faults.{FirstFault}
 use Rattle.psy_tree.specs.Rules.{LeastFault, NoFault}
 use Rattle.psy_tree.specs.Stands.{first_passed}
 use Rattle.psy_parse.specs.Fault.{AtFault}
-use Rattle.psy_meaning.specs.Demand.{IsOverload}
+use Rattle.psy_meaning.specs.Demand.{IsOverloadOn}
 use Rattle.psy_meaning.specs.KnownWays.{OfText}
 use Rattle.psy_graph.specs.declared.fault.GraphFault.{GraphFault}
 use Rattle.psy_graph.specs.declared.fault.GraphFault.TheVariants as fault
@@ -74,7 +75,8 @@ unsized_is unit nexts Queue it = (size.LargeQueue it.0, refl, it.1)
 unsized_is unit nexts Cells it = (size.Cells it.0, refl, it.1)
 unsized_is unit nexts _ never = absurd never
 
--- A demand that isn't met passes the supply over a least length
-pub overloaded_is : (unit : Whole) (graphs : List Graph) (until : ℕ) (refusal : Refusal) → IsOverloaded unit graphs until refusal → (within : ℕ) × (demand : ℕ) × (refusal ≡ Infeasible within demand (unit.quantum * within)) × IsOverload (edges_of graphs) unit.quantum until within demand
-overloaded_is unit graphs until (Infeasible length demand supply) it = (length, demand, ap (Infeasible length demand) it.1, it.0)
+-- A demand that isn't met passes the supply over a least length, on a least processor
+pub overloaded_is : (unit : Whole) (graphs : List Graph) (until : ℕ) (refusal : Refusal) → IsOverloaded unit graphs until refusal
+    → (within : ℕ) × (processor : ℕ) × (demand : ℕ) × (refusal ≡ Infeasible within demand (unit.quantum * within) processor) × IsOverloadOn (homes unit) (edges_of graphs) unit.quantum until within processor demand
+overloaded_is unit graphs until (Infeasible length demand supply processor) it = (length, processor, demand, ap (λ s. Infeasible length demand s processor) it.1, it.0)
 overloaded_is unit graphs until _ never = absurd never

@@ -13,6 +13,7 @@ use Rattle.psy_tree.specs.declared.raw.Raw.{Raw}
 use Rattle.psy_tree.specs.declared.rules.Count.{Count}
 use Rattle.psy_tree.specs.declared.rules.RuleKind.{RuleKind}
 use Rattle.psy_tree.specs.declared.token.Token.{Token}
+use Rattle.psy_tree.specs.Parts.{homes}
 use Rattle.psy_tree.specs.declared.unit.AgentDecl.{AgentDecl}
 use Rattle.psy_tree.specs.declared.unit.Unit.{Unit as Whole}
 use Rattle.psy_tree.specs.Deep as deep
@@ -28,7 +29,6 @@ use Rattle.psy_meaning.specs.BufferSizes.{AreSizes}
 use Rattle.psy_meaning.specs.KnownWays.{OfText}
 use Rattle.psy_meaning.specs.Flow.{AreAllNexts, AreNexts, IsCut, HasCost}
 use Rattle.psy_meaning.specs.Units.{IsOfText}
-use Rattle.psy_meaning.proofs.lemmas.Demands.{feasible-or-overload}
 use Rattle.psy_window.specs.declared.span.Span.{Span}
 use Rattle.psy_window.specs.Windows.{IsEdge, Fits}
 use Rattle.psy_graph.specs.declared.fault.GraphFault.{GraphFault}
@@ -51,13 +51,15 @@ use Rattle.psy_run.specs.Answer.{following}
 use Rattle.psy_run.specs.Courses.{step}
 use Rattle.psy_run.specs.declared.extent.Extent.TheVariants.{Horizon, LastDate}
 use Rattle.psy_rate.specs.declared.line.Rate.{Rate}
-use Rattle.psy_rate.specs.Horizons.{Covers, IsHorizonOf}
-use Rattle.psy_rate.specs.Lines.{IsRateOf, AreRates}
+use Rattle.psy_rate.specs.Horizons.{IsHorizon}
+use Rattle.psy_rate.specs.Lines.{IsRateOf, AreRates, lines_by}
 use Rattle.psy_run.specs.Steps.{reading, lexing, parsing, resolving, graphing, IsUndrawn, IsUnsized, sizing, costing, rating, extending, windowing, demanding, stating, directing, pacing}
 use Rattle.psy_run.proofs.Courses.{IsSome, some_unless}
 use Rattle.psy_run.proofs.Decisions.{most_or_more, all_or_any, list_of}
 use Rattle.psy_run.proofs.OneStep.{IsUntold, TextsHold}
-use Rattle.psy_run.proofs.SupplyLemmas.{edges_fit, some_demand, no_horizon, nearer_is}
+use Rattle.psy_run.proofs.ProcessorDemands.{feasible_or_overload}
+use Rattle.psy_run.proofs.ExtentLemmas.{OneHorizon, no_horizon, nearer_is}
+use Rattle.psy_run.proofs.SupplyLemmas.{edges_fit, some_demand}
 
 -- What the laws of the steps say of some end.
 pub record StepsEnd : Type 0 where
@@ -76,7 +78,8 @@ pub record StepsEnd : Type 0 where
       → ((sizes : Sizes) × AreSizes unit (OfText unit) nexts sizes × CanCount unit (OfText unit) nexts) ⊎ ((fault : SizeFault) × IsFaultBy unit (OfText unit) nexts fault)
   pub greatest : (graph : List Edge) (nodes : ℕ) (span : Span) (within : ℕ) → All (IsEdge nodes) graph → (n : ℕ) × IsGreatestWeight graph (Fits span within) n
   pub line : (graph : List Edge) (nodes : ℕ) → All (IsEdge nodes) graph → length graph ≤ EDGES → (line : Rate) × IsRateOf graph line
-  pub horizon : (quantum : ℕ) (lines : List Rate) → ((length : ℕ) × IsHorizonOf quantum lines length) ⊎ ((length : ℕ) → Covers quantum lines length → ⊥)
+  pub horizon : (quantum : ℕ) (groups : List (List Rate)) → ((length : ℕ) × IsHorizon quantum groups length) ⊎ ((length : ℕ) → IsHorizon quantum groups length → ⊥)
+  pub one_horizon : OneHorizon
 
 -- ---- the file
 
@@ -190,19 +193,19 @@ module _ (ends : StepsEnd) where
       let (nodes, fit, few) = edges_fit ends.edges unit graphs of are number edges at in ends.line edges nodes fit few))
 
   pub some_extending : (unit : Whole) (lines : List Rate) (until : ℕ) → IsSome (extending unit lines until)
-  some_extending unit lines until = elim (ends.horizon unit.quantum lines) [
+  some_extending unit lines until = elim (ends.horizon unit.quantum (lines_by (homes unit) lines)) [
     | inl (horizon, is) ↦ elim (most_or_more horizon until) [
       | inl within ↦ inl (Horizon horizon, (is, within))
-      | inr behind ↦ inl (LastDate until, nearer_is unit.quantum until horizon lines (LastDate until) is (refl, behind))
+      | inr behind ↦ inl (LastDate until, nearer_is ends.one_horizon unit.quantum until horizon (homes unit) lines (LastDate until) is (refl, behind))
     ]
-    | inr none ↦ inl (LastDate until, no_horizon unit.quantum until lines none)
+    | inr none ↦ inl (LastDate until, no_horizon unit.quantum until (homes unit) lines none)
   ]
 
   pub some_demanding : (unit : Whole) (graphs : List Graph) (until : ℕ) → IsOfText unit → AreGraphs unit graphs → IsSome (demanding unit graphs until)
   some_demanding unit graphs until of are =
-      elim (feasible-or-overload (edges_of graphs) unit.quantum until (λ within above below. some_demand ends.edges unit graphs of are ends.greatest within)) [
+      elim (feasible_or_overload (homes unit) (edges_of graphs) unit.quantum (some_demand ends.edges unit graphs of are ends.greatest) until) [
         | inl feasible ↦ inl (tt, feasible)
-        | inr over ↦ inr (Infeasible over.0 over.1 (unit.quantum * over.0), (over.2, refl))
+        | inr over ↦ inr (Infeasible over.0 over.2 (unit.quantum * over.0) over.1, (over.3, refl))
       ]
 
 -- ---- its inputs and its script

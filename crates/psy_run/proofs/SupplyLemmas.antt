@@ -1,13 +1,16 @@
 -- What the steps on action graphs come to: the graphs, the sizes, the lines, the demand.
-use Rattle.std.proofs.Common.{◌≡◌, ◌∙◌, ◌⊎◌, inl, inr, refl, sym, subst, ℕ, zero, suc, ◌+◌, ◌*◌, ◌^◌, ◌<◌, ◌≤◌, List, [], ◌∷◌, length, get_or, slice_get, Some, All, Any, arith, Result, Ok, Err}
+use Rattle.std.proofs.Common.{◌≡◌, ◌∙◌, ◌⊎◌, inl, inr, refl, sym, subst, ℕ, zero, suc, ◌+◌, ◌*◌, ◌^◌, ◌<◌, ◌≤◌, List, [], ◌∷◌, length, map, get_or, slice_get, Some, All, Any, arith, Result, Ok, Err}
 use Rattle.std.specs.Prelude.{◌↔◌}
+use Rattle.std.specs.List.{range_with_len}
 use Rattle.std.specs.Result.{IsErrOf}
-use Rattle.std.proofs.lemmas.List.Elements.{All-nil, All-cons, All-head}
+use Rattle.std.proofs.lemmas.List.{length-map}
+use Rattle.std.proofs.lemmas.List.Elements.{All-map, All-nil, All-weaker}
 use Rattle.std.proofs.lemmas.Option.{slice_get-get_or, slice_get_within, get_or_from_slice_get}
 use Rattle.psy_base.specs.declared.edge.Edge.{Edge}
-use Rattle.psy_base.specs.declared.limits.TheConstants.{EDGES, WINDOW_CELLS}
+use Rattle.psy_base.specs.declared.limits.TheConstants.{EDGES, PROCESSORS, WINDOW_CELLS}
 use Rattle.psy_base.specs.declared.sizes.Sizes.{Sizes}
 use Rattle.psy_base.specs.Paths.{FitsDueLast, IsGreatestWeight}
+use Rattle.psy_tree.specs.Parts.{homes}
 use Rattle.psy_tree.specs.declared.unit.Unit.{Unit as Whole}
 use Rattle.psy_demand.specs.Criterion.{HasCells, PassesCells, edges_of}
 use Rattle.psy_graph.specs.declared.fault.GraphFault.{GraphFault}
@@ -16,13 +19,12 @@ use Rattle.psy_graph.specs.declared.graph.Graph.{Graph}
 use Rattle.psy_graph.specs.Graphs.{AreGraphs, IsCause, IsSmall}
 use Rattle.psy_meaning.specs.BufferSizes.{AreSizes}
 use Rattle.psy_meaning.specs.KnownWays.{OfText}
-use Rattle.psy_meaning.specs.Demand.{IsDemand, IsFeasible, IsOverload, Suffices}
-use Rattle.psy_meaning.specs.Units.{IsOfText}
+use Rattle.psy_meaning.specs.Demand.{AreFeasible, IsDemand, IsOverloadOn, Suffices, edges_on}
+use Rattle.psy_meaning.specs.Units.{IsBare, IsBareAgent, IsOfText}
 use Rattle.psy_meaning.specs.Flow.{AreAllNexts}
-use Rattle.psy_meaning.proofs.lemmas.Demands.{demand-some, feasible-or-overload, feasible-no-overload, overload-one}
 use Rattle.psy_rate.specs.declared.line.Rate.{Rate}
-use Rattle.psy_rate.specs.Horizons.{Covers, IsHorizonOf, IsHorizon, AreFeasible, HaveDemands}
-use Rattle.psy_rate.specs.Lines.{AreRates, AreAll}
+use Rattle.psy_rate.specs.Horizons.{IsHorizon, AreFeasible as GroupsFeasible, HaveDemands}
+use Rattle.psy_rate.specs.Lines.{AreRates, AreAll, lines_by, lines_on}
 use Rattle.psy_sizes.specs.declared.fault.SizeFault.{SizeFault}
 use Rattle.psy_sizes.specs.declared.fault.SizeFault.TheVariants as size
 use Rattle.psy_sizes.specs.Faults.{IsFaultBy}
@@ -35,17 +37,17 @@ use Rattle.psy_run.specs.declared.extent.Extent.{Extent}
 use Rattle.psy_run.specs.declared.extent.Extent.TheVariants.{Horizon, LastDate}
 use Rattle.psy_run.specs.declared.refusal.Refusal.TheVariants.{Nodes, Edges, Ring, Queue, Cells, Infeasible}
 use Rattle.psy_run.specs.declared.refusal.Stop.{Stop}
-use Rattle.psy_run.specs.declared.refusal.Stop.TheVariants as stop
 use Rattle.psy_run.specs.Answer.{Supply, supplying}
 use Rattle.psy_run.specs.Bounds.{IsMet}
 use Rattle.psy_run.specs.Courses.{in_row}
-use Rattle.psy_run.specs.Extents.{IsExtent, IsNearer, length_of as top_of}
+use Rattle.psy_run.specs.Extents.{IsExtent, length_of as top_of}
 use Rattle.psy_run.specs.Outcome.{Halts}
 use Rattle.psy_run.specs.Steps.{graphing, sizing, windowing, demanding, IsUndrawn, IsUnsized}
 use Rattle.psy_run.specs.Supplies.{meeting}
 use Rattle.psy_run.specs.Tables.{IsLine, AreLines}
 use Rattle.psy_run.proofs.Courses.{halts_apart, halts_first, halts_later}
 use Rattle.psy_run.proofs.Decisions.{all_or_any, most_or_more}
+use Rattle.psy_run.proofs.ProcessorDemands.{by_each, by_one, demand_on, feasible_none, feasible_or_overload, overload_further, overload_one}
 use Rattle.psy_run.proofs.RowLemmas.{there}
 
 -- ---- faults by ways
@@ -83,6 +85,16 @@ unsized_queue unit nexts f stream is (inr cause) = (stream, subst (IsFaultBy uni
 pub small_graphs : (unit : Whole) (graphs : List Graph) → AreGraphs unit graphs → All IsSmall graphs
 small_graphs unit graphs are k d less = (are.each k (get_or graphs k d) (slice_get-get_or graphs k d less)).3
 
+-- ---- the processors of agents
+
+-- Each agent with a graph has its processor, one that there may be.
+pub homes_of_graphs : (unit : Whole) (graphs : List Graph) → AreGraphs unit graphs → length (homes unit) ≡ length graphs
+homes_of_graphs unit graphs are = length-map unit.agents (λ agent. agent.processor) ∙ sym are.count
+
+pub homes_known : (unit : Whole) → IsBare unit → All (λ home. home < PROCESSORS) (homes unit)
+homes_known unit bare = All-map (λ home. home < PROCESSORS) (λ agent. agent.processor) unit.agents
+    (All-weaker (IsBareAgent unit) (λ agent. agent.processor < PROCESSORS) (λ agent is. is.processor) unit.agents bare.agents)
+
 -- ---- lines
 
 pub are_rates : (graphs : List Graph) (lines : List Rate) → AreLines graphs lines → AreRates (edges_of graphs) lines
@@ -103,17 +115,6 @@ module _ (graphs : List Graph) (lines : List Rate) (are : AreLines graphs lines)
 
   pub all_intercepts_small : All (λ line. line.intercept < 2 ^ 50) lines
   all_intercepts_small k d less = (line_at k d less).1.intercept
-
--- ---- up to which length the demand is looked at
-
--- Without a horizon it is looked at up to the last date.
-pub no_horizon : (quantum until : ℕ) (lines : List Rate) → ((length : ℕ) → Covers quantum lines length → ⊥) → IsExtent quantum lines until (LastDate until)
-no_horizon quantum until lines none = (refl, λ length is. absurd (none length is.covers))
-
--- With one, up to which of both comes first
-pub nearer_is : (quantum until horizon : ℕ) (lines : List Rate) (extent : Extent) → IsHorizonOf quantum lines horizon → IsNearer horizon until extent → IsExtent quantum lines until extent
-nearer_is quantum until horizon lines (Horizon length) is (same, within) = (subst (IsHorizonOf quantum lines) (sym same) is, omega (arith, same, within))
-nearer_is quantum until horizon lines (LastDate date) is (same, behind) = (same, λ length other. let least : horizon ≤ length = is.least length other.covers in omega (arith, behind, least))
 
 -- ---- demand
 
@@ -147,59 +148,64 @@ module _ (edges : (unit : Whole) (graphs : List Graph) → IsOfText unit → Are
     pub some_weight : (within number : ℕ) (list : List Edge) → slice_get (edges_of graphs) number ≡ Some list → (n : ℕ) × IsGreatestWeight list (FitsDueLast within) n
     some_weight within number list at = let (nodes, fit, few) = edges_fit number list at in greatest list nodes DueLast within fit
 
-    -- so the demand over each length is there
-    pub some_demand : (within : ℕ) → (demand : ℕ) × IsDemand (edges_of graphs) within demand
-    some_demand within = demand-some (edges_of graphs) within (some_weight within)
+    -- so the demand on each processor over each length is there
+    pub some_demand : (processor within : ℕ) → (demand : ℕ) × IsDemand (edges_on (homes unit) processor (edges_of graphs)) within demand
+    some_demand processor within = demand_on (homes unit) processor (edges_of graphs) within (greatest [] 0 DueLast within (All-nil (IsEdge 0)))
+        (λ k d less. some_weight within k (get_or (edges_of graphs) k d) (slice_get-get_or (edges_of graphs) k d less))
 
 -- ---- other lengths
 
 -- What the laws say of lines and demands
 pub record LinesHold : Type 0 where
-  pub every : (groups : List (List (List Edge))) (lines : List (List Rate)) (quantum horizon : ℕ) → HaveDemands groups → AreAll groups lines → IsHorizon quantum lines horizon → AreFeasible groups quantum horizon
-      → (top : ℕ) → AreFeasible groups quantum top
+  pub every : (groups : List (List (List Edge))) (lines : List (List Rate)) (quantum horizon : ℕ) → HaveDemands groups → AreAll groups lines → IsHorizon quantum lines horizon → GroupsFeasible groups quantum horizon
+      → (top : ℕ) → GroupsFeasible groups quantum top
+  pub on : (homes : List ℕ) (processor : ℕ) (graphs : List (List Edge)) (lines : List Rate) → AreRates graphs lines → AreRates (edges_on homes processor graphs) (lines_on homes processor lines)
   pub edges : (unit : Whole) (graphs : List Graph) → IsOfText unit → AreGraphs unit graphs → All (λ graph. All (IsEdge (length graph.nodes)) graph.edges) graphs
   pub greatest : (graph : List Edge) (nodes : ℕ) (span : Span) (within : ℕ) → All (IsEdge nodes) graph → (n : ℕ) × IsGreatestWeight graph (Fits span within) n
 
--- The one item of a list
-one_item : {X : Type 0} (P : X → Type 0) (x : X) → P x → All P (x ∷ [])
-one_item P x is = All-cons P x [] is (All-nil P)
-
 module _ (hold : LinesHold) (unit : Whole) (graphs : List Graph) (lines : List Rate) (until : ℕ) (text : IsOfText unit) (drawn : AreGraphs unit graphs) (rated : AreRates (edges_of graphs) lines) where
-  demands : (within : ℕ) → (demand : ℕ) × IsDemand (edges_of graphs) within demand
+  demands : (processor within : ℕ) → (demand : ℕ) × IsDemand (edges_on (homes unit) processor (edges_of graphs)) within demand
   demands = some_demand hold.edges unit graphs text drawn hold.greatest
 
+  -- The edges on a processor
+  abbrev own : ℕ → List (List Edge)
+  own processor = edges_on (homes unit) processor (edges_of graphs)
+
+  -- The lines on each are those of its graphs.
+  rated_on : (processors : List ℕ) → AreAll (map own processors) (map (λ processor. lines_on (homes unit) processor lines) processors)
+  rated_on [] = tt
+  rated_on (processor ∷ processors) = (hold.on (homes unit) processor (edges_of graphs) lines rated, rated_on processors)
+
   -- Where the demand is supplied up to the horizon, it is over every length.
-  always_met : (horizon : ℕ) → IsHorizonOf unit.quantum lines horizon → IsFeasible (edges_of graphs) unit.quantum horizon → (top : ℕ) → IsFeasible (edges_of graphs) unit.quantum top
-  always_met horizon is feasible top within some most =
-      let own : (own : ℕ) × IsHorizonOf unit.quantum lines own × (own ≤ horizon) = (horizon, is, omega arith) in
-      let horizons : IsHorizon unit.quantum (lines ∷ []) horizon = record {
-        each = one_item (λ ls. (own : ℕ) × IsHorizonOf unit.quantum ls own × (own ≤ horizon)) lines own;
-        one = inr (lines, (0, omega arith, refl), is);
-      } in
-      let have = one_item (λ gs. (length : ℕ) → (demand : ℕ) × IsDemand gs length demand) (edges_of graphs) demands in
-      All-head (λ gs. Suffices gs unit.quantum within) (edges_of graphs) []
-      (hold.every (edges_of graphs ∷ []) (lines ∷ []) unit.quantum horizon have (rated, tt) horizons
-      (λ length above below. one_item (λ gs. Suffices gs unit.quantum length) (edges_of graphs) (feasible length above below)) top within some most)
+  always_met : (horizon : ℕ) → IsHorizon unit.quantum (lines_by (homes unit) lines) horizon → AreFeasible (homes unit) (edges_of graphs) unit.quantum horizon → (top : ℕ) → AreFeasible (homes unit) (edges_of graphs) unit.quantum top
+  always_met horizon is feasible top processor known within some most =
+      let have : HaveDemands (map own (range_with_len 0 PROCESSORS)) = by_each (λ gs. (length : ℕ) → (demand : ℕ) × IsDemand gs length demand) own PROCESSORS (λ p less. demands p) in
+      by_one (λ gs. Suffices gs unit.quantum within) own PROCESSORS processor known
+      (hold.every (map own (range_with_len 0 PROCESSORS)) (lines_by (homes unit) lines) unit.quantum horizon have (rated_on (range_with_len 0 PROCESSORS)) is
+      (λ length above below. by_each (λ gs. Suffices gs unit.quantum length) own PROCESSORS (λ p less. feasible p less length above below)) top within some most)
 
   -- What is supplied up to the length that is looked at is supplied up to the last date, and the verdict is true.
-  pub looked_met : (extent : Extent) → IsExtent unit.quantum lines until extent → IsFeasible (edges_of graphs) unit.quantum (top_of extent) → IsFeasible (edges_of graphs) unit.quantum until × IsMet unit graphs extent
+  pub looked_met : (extent : Extent) → IsExtent unit.quantum (homes unit) lines until extent → AreFeasible (homes unit) (edges_of graphs) unit.quantum (top_of extent) → AreFeasible (homes unit) (edges_of graphs) unit.quantum until × IsMet unit graphs extent
   looked_met (Horizon horizon) (is, within) feasible = (always_met horizon is feasible until, always_met horizon is feasible)
-  looked_met (LastDate date) (same, none) feasible = (subst (IsFeasible (edges_of graphs) unit.quantum) same feasible, feasible)
+  looked_met (LastDate date) (same, none) feasible = (subst (AreFeasible (homes unit) (edges_of graphs) unit.quantum) same feasible, feasible)
 
-  -- The least length over which it isn't is the same up to both.
-  pub looked_overload : (within demand : ℕ) (extent : Extent) → IsExtent unit.quantum lines until extent → IsOverload (edges_of graphs) unit.quantum (top_of extent) within demand → IsOverload (edges_of graphs) unit.quantum until within demand
-  looked_overload within demand (Horizon horizon) (is, near) over =
-      record { some = over.some; within = omega (arith, over.within, near); is_demand = over.is_demand; passes = over.passes; least = over.least }
-  looked_overload within demand (LastDate date) (same, none) over = subst (λ top. IsOverload (edges_of graphs) unit.quantum top within demand) same over
+  -- The least length over which it isn't is the same up to both, and so is the least processor.
+  pub looked_overload : (within processor demand : ℕ) (extent : Extent) → IsExtent unit.quantum (homes unit) lines until extent → IsOverloadOn (homes unit) (edges_of graphs) unit.quantum (top_of extent) within processor demand
+      → IsOverloadOn (homes unit) (edges_of graphs) unit.quantum until within processor demand
+  looked_overload within processor demand (Horizon horizon) (is, near) over = overload_further (homes unit) (edges_of graphs) unit.quantum horizon until within processor demand near over
+  looked_overload within processor demand (LastDate date) (same, none) over = subst (λ top. IsOverloadOn (homes unit) (edges_of graphs) unit.quantum top within processor demand) same over
 
-  pub overload_looked : (within demand : ℕ) (extent : Extent) → IsExtent unit.quantum lines until extent → IsOverload (edges_of graphs) unit.quantum until within demand → IsOverload (edges_of graphs) unit.quantum (top_of extent) within demand
-  overload_looked within demand (LastDate date) (same, none) over = subst (λ top. IsOverload (edges_of graphs) unit.quantum top within demand) (sym same) over
-  overload_looked within demand (Horizon horizon) (is, near) over =
-      elim (feasible-or-overload (edges_of graphs) unit.quantum horizon (λ length above below. demands length)) [
-        | inl feasible ↦ absurd (feasible-no-overload (edges_of graphs) unit.quantum until within demand (always_met horizon is feasible until) over)
-        | inr (least, passed, first) ↦ (
-            let same = overload-one (edges_of graphs) unit.quantum until least within passed demand (looked_overload least passed (Horizon horizon) (is, near) first) over in
-            subst (λ length. IsOverload (edges_of graphs) unit.quantum horizon length demand) same.0 (subst (IsOverload (edges_of graphs) unit.quantum horizon least) same.1 first))
+  pub overload_looked : (within processor demand : ℕ) (extent : Extent) → IsExtent unit.quantum (homes unit) lines until extent → IsOverloadOn (homes unit) (edges_of graphs) unit.quantum until within processor demand
+      → IsOverloadOn (homes unit) (edges_of graphs) unit.quantum (top_of extent) within processor demand
+  overload_looked within processor demand (LastDate date) (same, none) over = subst (λ top. IsOverloadOn (homes unit) (edges_of graphs) unit.quantum top within processor demand) (sym same) over
+  overload_looked within processor demand (Horizon horizon) (is, near) over =
+      elim (feasible_or_overload (homes unit) (edges_of graphs) unit.quantum demands horizon) [
+        | inl feasible ↦ absurd (feasible_none (homes unit) (edges_of graphs) unit.quantum until within processor demand (always_met horizon is feasible until) over)
+        | inr (least, lowest, passed, first) ↦ (
+            let (length, its, same) = overload_one (homes unit) (edges_of graphs) unit.quantum until least within lowest processor passed demand (looked_overload least lowest passed (Horizon horizon) (is, near) first) over in
+            subst (λ n. IsOverloadOn (homes unit) (edges_of graphs) unit.quantum horizon n processor demand) length
+            (subst (λ p. IsOverloadOn (homes unit) (edges_of graphs) unit.quantum horizon least p demand) its
+            (subst (IsOverloadOn (homes unit) (edges_of graphs) unit.quantum horizon least lowest) same first)))
       ]
 
 -- ---- the chain
@@ -212,7 +218,7 @@ module _ (unit : Whole) (until : ℕ) (failed : List ℕ) (before after : ℕ) (
     pub supply_unsized : Halts (sizing unit nexts) failed before after s → Halts (supplying unit until) failed before after s
     supply_unsized halts = halts_later _ _ failed before after graphs s are (halts_later _ _ failed before after nexts s follow (halts_first _ _ failed before after s halts))
 
-    module _ (sizes : Sizes) (lines : List Rate) (extent : Extent) (sized : (sizing unit nexts).gives sizes) (rated : AreRates (edges_of graphs) lines) (looked : IsExtent unit.quantum lines until extent) where
+    module _ (sizes : Sizes) (lines : List Rate) (extent : Extent) (sized : (sizing unit nexts).gives sizes) (rated : AreRates (edges_of graphs) lines) (looked : IsExtent unit.quantum (homes unit) lines until extent) where
       supply_unwindowed : Halts (windowing graphs (top_of extent)) failed before after s → Halts (supplying unit until) failed before after s
       supply_unwindowed halts =
           halts_later _ _ failed before after graphs s are (halts_later _ _ failed before after nexts s follow (halts_later _ _ failed before after sizes s sized
@@ -231,7 +237,7 @@ module _ (unit : Whole) (until : ℕ) (failed : List ℕ) (before after : ℕ) (
       ]
 
 pub supply_gives : (unit : Whole) (until top : ℕ) (supply : Supply) (done : Unit {0}) → AreGraphs unit supply.graphs → AreAllNexts unit supply.nexts → (sizing unit supply.nexts).gives supply.sizes → AreRates (edges_of supply.graphs) supply.lines
-    → IsExtent unit.quantum supply.lines until supply.extent → top ≡ top_of supply.extent → (meeting unit supply.graphs top).gives done → (supplying unit until).gives supply
+    → IsExtent unit.quantum (homes unit) supply.lines until supply.extent → top ≡ top_of supply.extent → (meeting unit supply.graphs top).gives done → (supplying unit until).gives supply
 unfolding in_row
 supply_gives unit until top supply done are follow sized rated looked same (had, cells, feasible) = (
   supply.graphs,
@@ -248,7 +254,7 @@ supply_gives unit until top supply done are follow sized rated looked same (had,
         (
           supply.extent,
           looked,
-          (had, subst (λ t. All (HasCells t) supply.graphs) same cells, (done, subst (IsFeasible (edges_of supply.graphs) unit.quantum) same feasible, refl)),
+          (had, subst (λ t. All (HasCells t) supply.graphs) same cells, (done, subst (AreFeasible (homes unit) (edges_of supply.graphs) unit.quantum) same feasible, refl)),
         ),
       ),
     ),
@@ -257,8 +263,8 @@ supply_gives unit until top supply done are follow sized rated looked same (had,
 
 -- What is supplied up to the length that is looked at is supplied up to the last date, and the verdict is true.
 abbrev pub AllMet : Type 0
-AllMet = (unit : Whole) (graphs : List Graph) (lines : List Rate) (until : ℕ) (extent : Extent) → IsOfText unit → AreGraphs unit graphs → AreRates (edges_of graphs) lines → IsExtent unit.quantum lines until extent
-    → IsFeasible (edges_of graphs) unit.quantum (top_of extent) → IsFeasible (edges_of graphs) unit.quantum until × IsMet unit graphs extent
+AllMet = (unit : Whole) (graphs : List Graph) (lines : List Rate) (until : ℕ) (extent : Extent) → IsOfText unit → AreGraphs unit graphs → AreRates (edges_of graphs) lines → IsExtent unit.quantum (homes unit) lines until extent
+    → AreFeasible (homes unit) (edges_of graphs) unit.quantum (top_of extent) → AreFeasible (homes unit) (edges_of graphs) unit.quantum until × IsMet unit graphs extent
 
 -- What a program has that is supplied
 pub record IsSupply (unit : Whole) (until : ℕ) (supply : Supply) : Type 0 where
@@ -266,7 +272,7 @@ pub record IsSupply (unit : Whole) (until : ℕ) (supply : Supply) : Type 0 wher
   pub followed : AreAllNexts unit supply.nexts
   pub sized : AreSizes unit (OfText unit) supply.nexts supply.sizes
   pub rated : AreRates (edges_of supply.graphs) supply.lines
-  pub feasible : IsFeasible (edges_of supply.graphs) unit.quantum until
+  pub feasible : AreFeasible (homes unit) (edges_of supply.graphs) unit.quantum until
   pub met : IsMet unit supply.graphs supply.extent
 
 pub supply_is : AllMet → (unit : Whole) (until : ℕ) (supply : Supply) → IsOfText unit → (supplying unit until).gives supply → IsSupply unit until supply
@@ -275,17 +281,17 @@ supply_is all_met unit until supply text (graphs, drawn, (nexts, followed, (size
     let both = all_met unit graphs lines until extent text drawn rated looked feasible in
     subst (IsSupply unit until) (sym same) (record { drawn = drawn; followed = followed; sized = sized.0; rated = rated; feasible = both.0; met = both.1 })
 
--- Where the supply stops for the demand, the line tells the least length up to the last date over which it isn't supplied.
-pub supply_infeasible : LinesHold → (unit : Whole) (until length demand supply : ℕ) → IsOfText unit → (supplying unit until).stops (Infeasible length demand supply)
-    → (graphs : List Graph) × AreGraphs unit graphs × IsOverload (edges_of graphs) unit.quantum until length demand × (supply ≡ unit.quantum * length)
+-- Where the supply stops for the demand, the line tells the least length up to the last date over which it isn't supplied, and the least processor.
+pub supply_infeasible : LinesHold → (unit : Whole) (until length demand supply processor : ℕ) → IsOfText unit → (supplying unit until).stops (Infeasible length demand supply processor)
+    → (graphs : List Graph) × AreGraphs unit graphs × IsOverloadOn (homes unit) (edges_of graphs) unit.quantum until length processor demand × (supply ≡ unit.quantum * length)
 unfolding in_row
-supply_infeasible hold unit until within demand supply text (inr (graphs, drawn, inr (nexts, followed, inr (sizes, sized, inr (lines, rated, inr (extent, looked, inr (few, held, inl (over, is)))))))) =
-    (graphs, drawn, looked_overload hold unit graphs lines until text drawn rated within demand extent looked over, is)
-supply_infeasible hold unit until within demand supply text (inl never) = absurd never
-supply_infeasible hold unit until within demand supply text (inr (graphs, drawn, inl never)) = absurd never
-supply_infeasible hold unit until within demand supply text (inr (graphs, drawn, inr (nexts, followed, inl never))) = absurd never
-supply_infeasible hold unit until within demand supply text (inr (graphs, drawn, inr (nexts, followed, inr (sizes, sized, inl never)))) = absurd never
-supply_infeasible hold unit until within demand supply text (inr (graphs, drawn, inr (nexts, followed, inr (sizes, sized, inr (lines, rated, inl never))))) = absurd never
-supply_infeasible hold unit until within demand supply text (inr (graphs, drawn, inr (nexts, followed, inr (sizes, sized, inr (lines, rated, inr (extent, looked, inl (cells, passes))))))) =
-    let no : Infeasible within demand supply ≡ Cells = cells in absurd cc
-supply_infeasible hold unit until within demand supply text (inr (graphs, drawn, inr (nexts, followed, inr (sizes, sized, inr (lines, rated, inr (extent, looked, inr (few, held, inr (done, fits, never)))))))) = absurd never
+supply_infeasible hold unit until within demand supply processor text (inr (graphs, drawn, inr (nexts, followed, inr (sizes, sized, inr (lines, rated, inr (extent, looked, inr (few, held, inl (over, is)))))))) =
+    (graphs, drawn, looked_overload hold unit graphs lines until text drawn rated within processor demand extent looked over, is)
+supply_infeasible hold unit until within demand supply processor text (inl never) = absurd never
+supply_infeasible hold unit until within demand supply processor text (inr (graphs, drawn, inl never)) = absurd never
+supply_infeasible hold unit until within demand supply processor text (inr (graphs, drawn, inr (nexts, followed, inl never))) = absurd never
+supply_infeasible hold unit until within demand supply processor text (inr (graphs, drawn, inr (nexts, followed, inr (sizes, sized, inl never)))) = absurd never
+supply_infeasible hold unit until within demand supply processor text (inr (graphs, drawn, inr (nexts, followed, inr (sizes, sized, inr (lines, rated, inl never))))) = absurd never
+supply_infeasible hold unit until within demand supply processor text (inr (graphs, drawn, inr (nexts, followed, inr (sizes, sized, inr (lines, rated, inr (extent, looked, inl (cells, passes))))))) =
+    let no : Infeasible within demand supply processor ≡ Cells = cells in absurd cc
+supply_infeasible hold unit until within demand supply processor text (inr (graphs, drawn, inr (nexts, followed, inr (sizes, sized, inr (lines, rated, inr (extent, looked, inr (few, held, inr (done, fits, never)))))))) = absurd never

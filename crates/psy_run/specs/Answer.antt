@@ -38,8 +38,8 @@ compiling files name = do
 abbrev pub following : Whole → Course (List (List (List ℕ)))
 following unit = step (AreAllNexts unit) (λ refusal. ⊥)
 
--- What a program that the processor can run has: its graphs, the points that follow each of its points, the sizes of its buffers, the lines above its
--- agents' demands, and up to which length their demand was looked at
+-- What a program that its processors can run has: its graphs, the points that follow each of its points, the sizes of its buffers, the lines above
+-- its agents' demands, and up to which length their demand was looked at
 pub record Supply : Type 0 where
   pub graphs : List Graph
   pub nexts : List (List (List ℕ))
@@ -47,7 +47,7 @@ pub record Supply : Type 0 where
   pub lines : List Rate
   pub extent : Extent
 
--- That, where the processor can supply what the program's agents may demand up to this date
+-- That, where each processor can supply what its agents may demand up to this date
 abbrev pub supplying : Whole → ℕ → Course Supply
 supplying unit until = do
   graphs ← graphing unit
@@ -66,7 +66,7 @@ listing files unit (Some name) = do
   bytes ← reading files file.Inputs name
   stating unit bytes
 
--- The script that the script file states; without a file there are no stalls and no orders.
+-- The script that the script file states; without a file there are no stalls, no orders and no rounds.
 abbrev pub scripting : Option Files → Whole → Option (List ℕ) → Course Script
 scripting files unit None = pure no_script
 scripting files unit (Some name) = do

@@ -1,19 +1,19 @@
 -- What each run keeps, and its summary shows; and what a check tells.
-use Rattle.std.specs.Prelude.{◌≡◌, ℕ, ◌+◌, ◌*◌, ◌<◌, ◌≤◌, List, length, Some, get_or, ⊤, ℤ}
+use Rattle.std.specs.Prelude.{◌≡◌, ℕ, ◌+◌, ◌*◌, ◌<◌, ◌≤◌, List, length, Some, get_or, ⊤}
 use Rattle.std.specs.List.{Contains}
 use Rattle.psy_base.specs.declared.sizes.Sizes.{Sizes}
+use Rattle.psy_tree.specs.Parts.{homes}
 use Rattle.psy_tree.specs.declared.unit.Unit.{Unit as Whole}
 use Rattle.psy_history.specs.Actions.{Action, System}
 use Rattle.psy_history.specs.History.{history}
 use Rattle.psy_history.specs.Schedule.{finish}
 use Rattle.psy_history.specs.Summary.{most_held, reach}
 use Rattle.psy_history.specs.Scheduled.{IsFinished, turns_by}
-use Rattle.psy_history.specs.declared.told.Script.{Script}
 use Rattle.psy_history.specs.Scripts.{order_of}
 use Rattle.psy_graph.specs.declared.graph.Graph.{Graph}
 use Rattle.psy_graph.specs.Graphs.{AreGraphs}
 use Rattle.psy_demand.specs.Criterion.{edges_of}
-use Rattle.psy_meaning.specs.Demand.{IsFeasible}
+use Rattle.psy_meaning.specs.Demand.{AreFeasible}
 use Rattle.psy_rate.specs.Lines.{AreRates}
 use Rattle.psy_run.specs.declared.extent.Extent.{Extent}
 use Rattle.psy_run.specs.declared.extent.Extent.TheVariants.{Horizon, LastDate}
@@ -39,11 +39,11 @@ IsBounded (Ran unit nexts sizes until inputs script) = KeepsBounds (meaning_of u
 IsBounded (Tried unit nexts sizes until) = KeepsBounds (meaning_of unit nexts (no_inputs unit) no_script) (order_of unit no_script) sizes until
 IsBounded service = ⊤
 
--- What the verdict of a check tells of the demand: where it was looked at up to the horizon, the processor supplies it over every length, whatever
+-- What the verdict of a check tells of the demand: where it was looked at up to the horizon, each processor supplies it over every length, whatever
 -- the last date; else over each length up to that date.
 abbrev pub IsMet : Whole → List Graph → Extent → Type 0
-IsMet unit graphs (Horizon length) = (top : ℕ) → IsFeasible (edges_of graphs) unit.quantum top
-IsMet unit graphs (LastDate date) = IsFeasible (edges_of graphs) unit.quantum date
+IsMet unit graphs (Horizon length) = (top : ℕ) → AreFeasible (homes unit) (edges_of graphs) unit.quantum top
+IsMet unit graphs (LastDate date) = AreFeasible (homes unit) (edges_of graphs) unit.quantum date
 
 -- What a check tells is borne out: its lines are those of the agents' graphs, and their demand is met.
 abbrev pub IsBorneOut : Service → Type 0

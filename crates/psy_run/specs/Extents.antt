@@ -1,8 +1,9 @@
--- Up to which length the demand of a program's agents is looked at: up to the horizon, from which on the supply is above the lines of all agents,
--- or up to the last date where that comes first.
+-- Up to which length the demand of a program's agents is looked at: up to the horizon, from which on the supply of each processor is above the
+-- lines of its agents, or up to the last date where that comes first.
 use Rattle.std.specs.Prelude.{◌≡◌, ℕ, ◌<◌, ◌≤◌, List}
 use Rattle.psy_rate.specs.declared.line.Rate.{Rate}
-use Rattle.psy_rate.specs.Horizons.{IsHorizonOf}
+use Rattle.psy_rate.specs.Horizons.{IsHorizon}
+use Rattle.psy_rate.specs.Lines.{lines_by}
 use Rattle.psy_run.specs.declared.extent.Extent.{Extent}
 use Rattle.psy_run.specs.declared.extent.Extent.TheVariants.{Horizon, LastDate}
 
@@ -11,11 +12,11 @@ abbrev pub length_of : Extent → ℕ
 length_of (Horizon length) = length
 length_of (LastDate date) = date
 
--- Of a program with so many cycles a tick, whose agents have these lines: the horizon, where there is one that isn't behind the last date, else
--- that date.
-abbrev pub IsExtent : ℕ → List Rate → ℕ → Extent → Type 0
-IsExtent quantum lines until (Horizon length) = IsHorizonOf quantum lines length × (length ≤ until)
-IsExtent quantum lines until (LastDate date) = (date ≡ until) × ((length : ℕ) → IsHorizonOf quantum lines length → until < length)
+-- Of a program with so many cycles a tick, whose agents are of these processors and have these lines: the horizon of all processors, where there is
+-- one that isn't behind the last date, else that date.
+abbrev pub IsExtent : ℕ → List ℕ → List Rate → ℕ → Extent → Type 0
+IsExtent quantum homes lines until (Horizon length) = IsHorizon quantum (lines_by homes lines) length × (length ≤ until)
+IsExtent quantum homes lines until (LastDate date) = (date ≡ until) × ((length : ℕ) → IsHorizon quantum (lines_by homes lines) length → until < length)
 
 -- Which of both comes first, this horizon or the last date
 abbrev pub IsNearer : ℕ → ℕ → Extent → Type 0

@@ -1,5 +1,5 @@
 -- The status and the line of each refusal.
-use Rattle.std.specs.Prelude.{ℕ, List, codes, None, Some}
+use Rattle.std.specs.Prelude.{ℕ, zero, suc, List, codes, Option, None, Some}
 use Rattle.psy_base.specs.declared.limits.TheConstants as limit
 use Rattle.psy_tree.specs.declared.rules.Count.{Count}
 use Rattle.psy_tree.specs.declared.rules.Count.TheVariants.{Clocks, Agents, Variables, Streams, Functions, Names, Points}
@@ -31,7 +31,7 @@ status_of Edges = 7
 status_of Ring = 7
 status_of Queue = 7
 status_of Cells = 7
-status_of (Infeasible length demand supply) = 5
+status_of (Infeasible length demand supply processor) = 5
 status_of (Line file kind line) = 6
 status_of Lines = 7
 status_of Cycles = 7
@@ -62,6 +62,11 @@ count_limit Functions = limit.FUNCTIONS
 count_limit Names = limit.NAMES
 count_limit Points = limit.POINTS
 
+-- The processor that a refusal names: none where it is the first
+abbrev pub told_processor : ℕ → Option ℕ
+told_processor zero = None
+told_processor (suc n) = Some (suc n)
+
 -- The line of each refusal
 abbrev pub line_of : Refusal → List ℕ
 line_of Words = words_line
@@ -76,7 +81,7 @@ line_of Edges = limit_line (codes "edges") limit.EDGES
 line_of Ring = limit_line (codes "ring") limit.RING
 line_of Queue = limit_line (codes "queue") limit.QUEUE
 line_of Cells = limit_line (codes "cells") limit.WINDOW_CELLS
-line_of (Infeasible length demand supply) = infeasible_line length demand supply None
+line_of (Infeasible length demand supply processor) = infeasible_line length demand supply (told_processor processor)
 line_of (Line file kind line) = refused_line (file_name file) (line_number kind) (Some line)
 line_of Lines = limit_line (codes "lines") limit.LINES
 line_of Cycles = limit_line (codes "run") limit.RUN

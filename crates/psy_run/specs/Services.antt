@@ -1,5 +1,5 @@
 -- What a command does, once nothing refuses it, and its text.
-use Rattle.std.specs.Prelude.{◌≡◌, ℕ, ◌+◌, ◌*◌, List, [], ◌∷◌, map, length, Option, None, Some, ℤ}
+use Rattle.std.specs.Prelude.{◌≡◌, ℕ, ◌+◌, ◌*◌, List, [], map, length, Option, None, Some, ℤ}
 use Rattle.psy_tree.specs.declared.unit.Unit.{Unit as Whole}
 use Rattle.psy_history.specs.Actions.{System}
 use Rattle.psy_graph.specs.declared.graph.Graph.{Graph}
@@ -31,9 +31,9 @@ pub data Service : Type 0 where
 abbrev pub no_inputs : Whole → List (List ℤ)
 no_inputs unit = map (λ v. []) unit.variables
 
--- No action is stalled, and ties go by the order of declaration.
+-- No action is stalled, ties go by the order of declaration, and processors by their numbers.
 abbrev pub no_script : Script
-no_script = record { stalls = []; orders = [] }
+no_script = record { stalls = []; orders = []; rounds = [] }
 
 -- The dated meaning of a program's statements, with these inputs and this script. Of the script it knows the stalls, by which actions overrun.
 abbrev pub meaning_of : Whole → List (List (List ℕ)) → List (List ℤ) → Script → System

@@ -4,6 +4,7 @@ use Rattle.std.specs.List.{All, Any}
 use Rattle.psy_base.specs.declared.sizes.Sizes.{Sizes}
 use Rattle.psy_base.specs.declared.limits.TheConstants.{FILE_BYTES, RUN}
 use Rattle.psy_door.specs.Files.{Files, WhereTold, bytes_under}
+use Rattle.psy_tree.specs.Parts.{homes}
 use Rattle.psy_tree.specs.declared.raw.Raw.{Raw}
 use Rattle.psy_tree.specs.declared.token.Token.{Token}
 use Rattle.psy_tree.specs.declared.unit.Unit.{Unit as Whole}
@@ -16,7 +17,7 @@ use Rattle.psy_tree.specs.Tokens.{TokensOf}
 use Rattle.psy_parse.specs.Fault.{AtFault}
 use Rattle.psy_meaning.specs.BufferSizes.{AreSizes}
 use Rattle.psy_meaning.specs.KnownWays.{OfText}
-use Rattle.psy_meaning.specs.Demand.{IsFeasible, IsOverload}
+use Rattle.psy_meaning.specs.Demand.{AreFeasible, IsOverloadOn}
 use Rattle.psy_demand.specs.Criterion.{HasCells, PassesCells, edges_of}
 use Rattle.psy_flow.specs.Costs.{AreAllCosts}
 use Rattle.psy_graph.specs.declared.fault.GraphFault.TheVariants as fault
@@ -113,21 +114,21 @@ rating graphs = step (AreRates (edges_of graphs)) (λ refusal. ⊥)
 
 -- The length up to which the next two steps look: the horizon of the lines, or the last date where there is no horizon by then
 abbrev pub extending : Whole → List Rate → ℕ → Course Extent
-extending unit lines until = step (IsExtent unit.quantum lines until) (λ refusal. ⊥)
+extending unit lines until = step (IsExtent unit.quantum (homes unit) lines until) (λ refusal. ⊥)
 
 -- The tables by which the demand is found have at most 4,000,000 cells each.
 abbrev pub windowing : List Graph → ℕ → Course (Unit {0})
 windowing graphs top = unless (All (HasCells top) graphs) (Any (PassesCells top) graphs) Cells
 
--- The least length over which the processor can't supply what the agents may demand
+-- The least length over which a processor can't supply what its agents may demand, and the least such processor
 abbrev pub IsOverloaded : Whole → List Graph → ℕ → Refusal → Type 0
-IsOverloaded unit graphs top (Infeasible length demand supply) = IsOverload (edges_of graphs) unit.quantum top length demand
-    × (supply ≡ unit.quantum * length)
+IsOverloaded unit graphs top (Infeasible length demand supply processor) =
+    IsOverloadOn (homes unit) (edges_of graphs) unit.quantum top length processor demand × (supply ≡ unit.quantum * length)
 IsOverloaded unit graphs top _ = ⊥
 
--- The processor demand criterion up to a length
+-- The processor demand criterion up to a length, on each processor
 abbrev pub demanding : Whole → List Graph → ℕ → Course (Unit {0})
-demanding unit graphs top = step (λ done. IsFeasible (edges_of graphs) unit.quantum top) (IsOverloaded unit graphs top)
+demanding unit graphs top = step (λ done. AreFeasible (homes unit) (edges_of graphs) unit.quantum top) (IsOverloaded unit graphs top)
 
 -- The first line of an inputs file that is at fault, where there are no more than 10,000, or else that there are more
 abbrev pub IsUnlisted : Whole → List ℕ → Refusal → Type 0

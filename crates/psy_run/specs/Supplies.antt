@@ -11,6 +11,6 @@ use Rattle.psy_run.specs.Steps.{demanding, windowing}
 abbrev pub supply_of : List Graph → Supplied → Supply
 supply_of graphs supply = record { graphs = graphs; nexts = supply.ways.nexts; sizes = supply.sizes; lines = supply.lines; extent = supply.extent }
 
--- The tables by which the demand is found keep their limit, and the processor can supply it, over each length up to this one.
+-- The tables by which the demand is found keep their limit, and each processor can supply it, over each length up to this one.
 abbrev pub meeting : Whole → List Graph → ℕ → Course (Unit {0})
 meeting unit graphs top = windowing graphs top >>= (λ done. demanding unit graphs top)

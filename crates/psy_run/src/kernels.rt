@@ -13,7 +13,7 @@ use psy_kernel::Kernel;
 use std::alloc::Global;
 
 /// A kernel of the program of a text that was just booted, to be run up to a date without inputs and script, however many cycles that is;
-/// None where the text is refused, or the processor can't supply what its agents may demand, or memory is wanting.
+/// None where the text is refused, or a processor can't supply what its agents may demand, or memory is wanting.
 pub fn kernel_of(alloc: Global, text: &Vec<u8>, until: u32) -> Option<Kernel>
     requires { length text.now.items ≤ FILE_BYTES }
     ensures booted { IfSome result (λ kernel. kernel ≡ booted kernel.plan (no_inputs kernel.plan.unit) no_script) }

@@ -4,6 +4,7 @@ ghost use Rattle.psy_door.specs.Files.{Files, bytes_under};
 ghost use Rattle.psy_demand.specs.Criterion.{edges_of};
 ghost use Rattle.psy_dates.specs.declared.plan.Plan.{Plan};
 ghost use Rattle.psy_dates.specs.Plans.{IsPlan};
+ghost use Rattle.psy_base.specs.declared.sizes.Sizes.{Sizes};
 ghost use Rattle.psy_base.specs.declared.ways.Ways.{Ways};
 ghost use Rattle.psy_budget.specs.declared.charge.Stall.{Stall};
 ghost use Rattle.psy_tree.specs.declared.unit.Unit.{Unit as Whole};
@@ -16,7 +17,8 @@ ghost use Rattle.psy_history.specs.Scripts.{IsScript, order_of};
 ghost use Rattle.psy_run.specs.Accepted.{IsRunnable};
 ghost use Rattle.psy_graph.specs.declared.graph.Graph.{Graph};
 ghost use Rattle.psy_graph.specs.Graphs.{AreGraphs};
-ghost use Rattle.psy_meaning.specs.Demand.{IsFeasible, IsOverload};
+ghost use Rattle.psy_meaning.specs.Demand.{AreFeasible, IsOverloadOn};
+ghost use Rattle.psy_tree.specs.Parts.{homes};
 ghost use Rattle.psy_meaning.specs.ListedWays.{AreWaysOf};
 ghost use Rattle.psy_rate.specs.declared.line.Rate.{Rate};
 ghost use Rattle.psy_rate.specs.Lines.{AreRates};
@@ -28,14 +30,13 @@ ghost use Rattle.psy_run.specs.Bounds.{IsBounded, IsBorneOut, IsMet, KeepsBounds
 ghost use Rattle.psy_run.specs.Extents.{IsExtent, length_of};
 ghost use Rattle.psy_run.specs.OwnLines.{own_text};
 ghost use Rattle.psy_run.specs.Planned.{IsStatedPlan};
-ghost use Rattle.psy_run.specs.Services.{Service, meaning_of};
+ghost use Rattle.psy_run.specs.Services.{Service, Ran, meaning_of, text_of};
 
 use psy_flow::laws::{costs, listed, nexts, one_list};
 use psy_gen::laws::alike as generated;
 use psy_graph::laws::one_graph;
 use psy_history::laws::{
-    alike, compiled, isolation as histories, on_time, one_processor, queue_sizes, regular,
-    ring_sizes,
+    alike, compiled, isolation as histories, on_time, one_of_them, queue_sizes, regular, ring_sizes,
 };
 use psy_make::laws::short;
 use psy_meaning::laws::{of_text, sound};
@@ -61,6 +62,7 @@ pub fn one_answer()
     costs();
     one_size();
     rates();
+    horizons();
 }
 
 /// Words have some answer, where files are told.
@@ -116,26 +118,31 @@ pub fn bounded()
     short();
     generated();
     one_graph();
-    one_processor();
+    one_of_them();
     lawful();
     bounds();
     extents();
 }
 
 /// Up to which length the demand is looked at: what is supplied up to it is supplied up to the last date, and over every length where it is the
-/// horizon. The least length over which the demand isn't supplied is the same up to both, and it is what a refusal tells.
+/// horizon. The least length over which a processor can't supply the demand, and the least such processor, are the same up to both, and they are
+/// what a refusal tells.
 pub fn extents()
     ensures met { (unit : Whole) (graphs : List Graph) (lines : List Rate) (until : ℕ) (extent : Extent) → IsOfText unit → AreGraphs unit graphs
-        → AreRates (edges_of graphs) lines → IsExtent unit.quantum lines until extent → IsFeasible (edges_of graphs) unit.quantum (length_of extent)
-        → IsFeasible (edges_of graphs) unit.quantum until × IsMet unit graphs extent }
-    ensures passed { (unit : Whole) (graphs : List Graph) (lines : List Rate) (until length demand : ℕ) (extent : Extent) → IsOfText unit
-        → AreGraphs unit graphs → AreRates (edges_of graphs) lines → IsExtent unit.quantum lines until extent
-        → IsOverload (edges_of graphs) unit.quantum until length demand → IsOverload (edges_of graphs) unit.quantum (length_of extent) length demand }
-    ensures refused { (unit : Whole) (until length demand supply : ℕ) → IsOfText unit → (supplying unit until).stops (Infeasible length demand supply)
-        → (graphs : List Graph) × AreGraphs unit graphs × IsOverload (edges_of graphs) unit.quantum until length demand
+        → AreRates (edges_of graphs) lines → IsExtent unit.quantum (homes unit) lines until extent
+        → AreFeasible (homes unit) (edges_of graphs) unit.quantum (length_of extent)
+        → AreFeasible (homes unit) (edges_of graphs) unit.quantum until × IsMet unit graphs extent }
+    ensures passed { (unit : Whole) (graphs : List Graph) (lines : List Rate) (until length processor demand : ℕ) (extent : Extent) → IsOfText unit
+        → AreGraphs unit graphs → AreRates (edges_of graphs) lines → IsExtent unit.quantum (homes unit) lines until extent
+        → IsOverloadOn (homes unit) (edges_of graphs) unit.quantum until length processor demand
+        → IsOverloadOn (homes unit) (edges_of graphs) unit.quantum (length_of extent) length processor demand }
+    ensures refused { (unit : Whole) (until length demand supply processor : ℕ) → IsOfText unit
+        → (supplying unit until).stops (Infeasible length demand supply processor)
+        → (graphs : List Graph) × AreGraphs unit graphs × IsOverloadOn (homes unit) (edges_of graphs) unit.quantum until length processor demand
         × (supply ≡ unit.quantum * length) }
 {
     always();
+    rates();
     one_graph();
     greatest();
 }
@@ -170,3 +177,10 @@ pub fn isolation()
 {
     histories();
 }
+
+/// Rounds change nothing: of a program's runs by scripts that differ in their rounds alone the text is the same, to the byte.
+pub fn rounds()
+    ensures { (unit : Whole) (nexts : List (List (List ℕ))) (sizes : Sizes) (until : ℕ) (inputs : List (List ℤ)) (script other : Script)
+        → script.stalls ≡ other.stalls → script.orders ≡ other.orders
+        → text_of (Ran unit nexts sizes until inputs script) ≡ text_of (Ran unit nexts sizes until inputs other) }
+{}

@@ -12,10 +12,10 @@ use crate::laws::{extents, fits};
 use crate::supply::Supplied;
 use psy_dates::Plan;
 use psy_graph::laws::one_graph;
-use psy_history::laws::one_processor;
+use psy_history::laws::one_of_them;
 use psy_tree::Unit;
 
-/// The plan of a program that can be run, and whose demand the processor can supply up to a date.
+/// The plan of a program that can be run, and whose demand its processors can supply up to a date.
 pub fn plan_of(unit: Unit, supply: Supplied, until: u32) -> Plan
     requires text { IsOfText unit }
     requires alike { ActsAlike unit supply.code }
@@ -28,7 +28,7 @@ pub fn plan_of(unit: Unit, supply: Supplied, until: u32) -> Plan
     ensures its_until { result.until ≡ until }
 {
     one_graph();
-    one_processor();
+    one_of_them();
     extents();
     fits();
     let ways = supply.ways;

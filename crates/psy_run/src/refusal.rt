@@ -1,7 +1,7 @@
 //! Why a command isn't served.
 ghost use Rattle.std.specs.Prelude.{◌≡◌, ◌≤◌, length, Some as some};
 ghost use Rattle.psy_base.specs.declared.limits.TheConstants.{WORD_BYTES};
-ghost use Rattle.psy_run.specs.Refusals.{status_of, line_of, file_name, count_name, count_limit};
+ghost use Rattle.psy_run.specs.Refusals.{status_of, line_of, file_name, count_name, count_limit, told_processor as told};
 ghost use Rattle.psy_log.specs.Forms.{name_of, limit_line, read_line, refused_line, line_of as note_line};
 ghost use Rattle.psy_run.specs.declared.refusal.Stop.TheVariants.{Memory as no_memory};
 
@@ -66,11 +66,12 @@ pub enum Refusal {
     Queue,
     /// A table of windows, for the demand or for a queue, would have more than 4,000,000 cells.
     Cells,
-    /// Over so many ticks the agents may demand more cycles than the processor supplies.
+    /// Over so many ticks the agents of a processor may demand more cycles than it supplies.
     Infeasible {
         length: u32,
         demand: u64,
         supply: u64,
+        processor: u32,
     },
     /// The first line of the file that is at fault, counted from 1.
     Line {
@@ -148,7 +149,8 @@ impl Refusal {
                 length,
                 demand,
                 supply,
-            } => infeasible(length, demand, supply),
+                processor,
+            } => infeasible(length, demand, supply, processor),
             Refusal::Line { file, kind, line } => refused(file.name(), kind.number(), line),
             Refusal::Lines => limit(b"lines", limits::LINES as u64),
             Refusal::Cycles => limit(b"run", limits::RUN),
@@ -188,14 +190,25 @@ fn refused(what: &[u8], number: u32, at: u32) -> Line
     line(&Note::Refused { what, number, at })
 }
 
-fn infeasible(length: u32, demand: u64, supply: u64) -> Line
-    ensures { result ≡ line_of (Refusal.Infeasible length demand supply) }
+// The processor that a refusal names: none where it is the first.
+fn told_processor(processor: u32) -> Option<u32>
+    ensures { result ≡ told processor }
+{
+    if processor == 0 {
+        None
+    } else {
+        Some(processor)
+    }
+}
+
+fn infeasible(length: u32, demand: u64, supply: u64, processor: u32) -> Line
+    ensures { result ≡ line_of (Refusal.Infeasible length demand supply processor) }
 {
     line(&Note::Infeasible {
         length: u64::from(length),
         demand,
         supply,
-        processor: None,
+        processor: told_processor(processor),
     })
 }
 

@@ -1,5 +1,5 @@
-//! The steps on the action graphs of a program: the sizes of its buffers, and whether the processor can supply what its agents may demand.
-ghost use Rattle.std.specs.Prelude.{ℕ, ◌≤◌, List, length, IfOk, IfErr};
+//! The steps on the action graphs of a program: the sizes of its buffers, and whether its processors can supply what its agents may demand.
+ghost use Rattle.std.specs.Prelude.{◌≡◌, ℕ, ◌≤◌, List, length, IfOk, IfErr};
 ghost use Rattle.std.specs.List.{All};
 ghost use Rattle.psy_base.specs.declared.limits.TheConstants.{AGENTS};
 ghost use Rattle.psy_demand.specs.Criterion.{IsDrawn};
@@ -8,6 +8,7 @@ ghost use Rattle.psy_graph.specs.Graphs.{AreGraphs, IsSmall};
 ghost use Rattle.psy_meaning.specs.Alike.{ActsAlike};
 ghost use Rattle.psy_meaning.specs.ListedWays.{AreWaysOf};
 ghost use Rattle.psy_meaning.specs.Units.{IsOfText};
+ghost use Rattle.psy_tree.specs.Parts.{homes as homes_by};
 ghost use Rattle.psy_run.specs.Answer.{supplying};
 ghost use Rattle.psy_run.specs.Outcome.{Halts};
 ghost use Rattle.psy_run.specs.Supplies.{meeting, supply_of};
@@ -23,6 +24,7 @@ use psy_demand::{Verdict, criterion};
 use psy_flow::laws::listed;
 use psy_graph::laws::one_graph;
 use psy_graph::{Graph, GraphFault, build_by};
+use psy_history::homes_of;
 use psy_rate::Rate;
 use psy_sizes::laws::listed_sizes;
 use psy_sizes::{SizeFault, sizes_by};
@@ -30,7 +32,7 @@ use psy_tree::Unit;
 use psy_window::WindowFault;
 use std::alloc::Global;
 
-/// What a program that the processor can run needs: its code, the ways of its actions, and the sizes of its buffers; with the lines above the
+/// What a program that its processors can run needs: its code, the ways of its actions, and the sizes of its buffers; with the lines above the
 /// demands of its agents, and up to which length the demand was looked at.
 #[derive(Drop)]
 pub struct Supplied {
@@ -80,22 +82,44 @@ fn sizes(alloc: Global, unit: &Unit, graphs: &Items<Graph>, ways: &Ways) -> Resu
     }
 }
 
-// Whether the processor can supply the demand over each length up to this one.
-fn demand(alloc: Global, unit: &Unit, graphs: &Items<Graph>, top: u32) -> Result<(), Stop>
+// Whether each processor can supply the demand of its agents over each length up to this one.
+fn demand(
+    alloc: Global,
+    unit: &Unit,
+    graphs: &Items<Graph>,
+    homes: &Items<u32>,
+    top: u32,
+) -> Result<(), Stop>
+    requires text { IsOfText unit.now }
+    requires graphs { AreGraphs unit.now graphs.now }
+    requires homes { homes.now ≡ homes_by unit.now }
     requires edges { All IsDrawn graphs.now }
     requires small { All IsSmall graphs.now }
     requires few { length graphs.now ≤ AGENTS }
     ensures ok { IfOk result (λ done. (meeting unit.now graphs.now top).gives done) }
     ensures err { (failed : List ℕ) (before after : ℕ) → IfErr result (Halts (meeting unit.now graphs.now top) failed before after) }
 {
-    match criterion(alloc, graphs.as_slice(), unit.quantum, top) {
+    match criterion(
+        alloc,
+        graphs.as_slice(),
+        homes.as_slice(),
+        unit.quantum,
+        top,
+    ) {
         Ok(Verdict::Yes) => Ok(()),
-        Ok(Verdict::No { length, demand }) => {
+        Ok(
+            Verdict::No {
+                length,
+                processor,
+                demand,
+            },
+        ) => {
             let supply = u64::from(unit.quantum) * u64::from(length);
             Err(Stop::Refused(Refusal::Infeasible {
                 length,
                 demand,
                 supply,
+                processor,
             }))
         }
         Err(WindowFault::Cells) => Err(Stop::Refused(Refusal::Cells)),
@@ -103,7 +127,7 @@ fn demand(alloc: Global, unit: &Unit, graphs: &Items<Graph>, top: u32) -> Result
     }
 }
 
-/// Whether the processor can run a program: its buffers keep their limits, and what its agents may demand over each length up to the horizon, or
+/// Whether its processors can run a program: its buffers keep their limits, and what its agents may demand over each length up to the horizon, or
 /// up to a date where that comes first, is supplied.
 pub fn supply(alloc: Global, unit: &Unit, until: u32) -> Result<Supplied, Stop>
     requires text { IsOfText unit.now }
@@ -117,9 +141,10 @@ pub fn supply(alloc: Global, unit: &Unit, until: u32) -> Result<Supplied, Stop>
     let graphs = graphs(alloc, unit, &coded.ways)?;
     let sizes = sizes(alloc, unit, &graphs, &coded.ways)?;
     let lines = lines_of(alloc, &graphs)?;
-    let extent = extent_of(&lines, unit.quantum, until);
+    let homes = homes_of(alloc, unit)?;
+    let extent = extent_of(alloc, &homes, &lines, unit.quantum, until)?;
     let top = extent.length();
-    demand(alloc, unit, &graphs, top)?;
+    demand(alloc, unit, &graphs, &homes, top)?;
     Ok(Supplied {
         code: coded.code,
         ways: coded.ways,

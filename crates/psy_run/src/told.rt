@@ -30,13 +30,14 @@ pub fn no_lists(alloc: Global, unit: &Unit) -> Result<Inputs, Memory>
     Ok(Inputs { lists })
 }
 
-/// No stalls and no orders.
+/// No stalls, no orders and no rounds.
 pub fn nothing_said(alloc: Global) -> Script
     ensures { result ≡ no_script }
 {
     Script {
         stalls: Items::new(alloc),
         orders: Items::new(alloc),
+        rounds: Items::new(alloc),
     }
 }
 
@@ -101,7 +102,7 @@ pub fn inputs_of<F: Shelf>(
     state(alloc, unit, &bytes)
 }
 
-/// The script of a run, from the file with this name; without one there are no stalls and no orders.
+/// The script of a run, from the file with this name; without one there are no stalls, no orders and no rounds.
 pub fn script_of<F: Shelf>(
     alloc: Global,
     shelf: &mut F,

@@ -1,5 +1,5 @@
 -- The lemmas of this crate, by subject.
-mod AgentOrders
+mod EachOnce
 mod FirstFaults
 mod InputFaults
 mod InputNumbers
@@ -10,6 +10,7 @@ mod Placing
 mod Positions
 mod PutEntries
 mod RisingScripts
+mod RoundNumbers
 mod ScriptFaults
 mod SoundScripts
 mod Stated

@@ -11,14 +11,15 @@ use Rattle.std.specs.BTreeMap.{insert_entry, is_at}
 use Rattle.std.specs.Map.{keys_of, lookup}
 use Rattle.psy_budget.specs.declared.charge.Stall.{Stall}
 use Rattle.psy_history.specs.declared.told.Order.{Order}
+use Rattle.psy_history.specs.declared.told.Round.{Round}
 use Rattle.psy_history.specs.declared.told.Script.{Script}
 use Rattle.psy_history.specs.Scripts.{StallBefore}
 use Rattle.psy_script.specs.declared.entry.Entry.TheVariants as entry
 use Rattle.psy_script.specs.declared.placed.Place.{Place}
 use Rattle.psy_script.specs.contracts.placed.PlaceOrd.TheImpl.{cmp-value as place}
-use Rattle.psy_script.specs.Entries.{clashes, is_beside, order_from, repeats, stall_at, with_entry}
+use Rattle.psy_script.specs.Entries.{clashes, is_beside, order_from, round_from, stall_at, with_entry}
 use Rattle.psy_script.specs.Rising.{put}
-use Rattle.psy_script.specs.Script.{less_or, order_before, stall_before}
+use Rattle.psy_script.specs.Script.{has_same, less_or, order_before, round_before, stall_before}
 
 -- What an answer of a comparison says of two tests: the one item comes before the other; they meet.
 abbrev pub Tells : Ordering → Bool → Bool → Type 0
@@ -96,15 +97,16 @@ pub found_stall : (p : Place) (cycles : ℕ) (es : List (Place × ℕ)) → is_s
 found_stall p cycles = found_entry place.it stall_before stall_at (is_beside (stall_at (p, cycles))) p cycles (λ e. place_tells p e.0 cycles e.1)
 
 -- The script with one more stall
-pub with_stall : (script : Script) (p : Place) (cycles : ℕ) (es new : List (Place × ℕ)) (orders : List Order) → record { stalls = map stall_at es; orders = orders } ≡ script → clashes script (entry.Stall (stall_at (p, cycles))) ≡ false
-    → new ≡ insert_entry place.it es p cycles → record { stalls = map stall_at new; orders = orders } ≡ with_entry script (entry.Stall (stall_at (p, cycles)))
-with_stall script p cycles es new orders is none inserted =
-    subst (λ (sc : Script). clashes sc (entry.Stall (stall_at (p, cycles))) ≡ false → record { stalls = map stall_at new; orders = orders } ≡ with_entry sc (entry.Stall (stall_at (p, cycles)))) is
-    (λ none. ap (λ ss. record { stalls = ss; orders = orders }) (ap (map stall_at) inserted ∙ put_stall p cycles es none)) none
+pub with_stall : (script : Script) (p : Place) (cycles : ℕ) (es new : List (Place × ℕ)) (orders : List Order) (rounds : List Round) → record { stalls = map stall_at es; orders = orders; rounds = rounds } ≡ script → clashes script (entry.Stall (stall_at (p, cycles))) ≡ false
+    → new ≡ insert_entry place.it es p cycles → record { stalls = map stall_at new; orders = orders; rounds = rounds } ≡ with_entry script (entry.Stall (stall_at (p, cycles)))
+with_stall script p cycles es new orders rounds is none inserted =
+    subst (λ (sc : Script). clashes sc (entry.Stall (stall_at (p, cycles))) ≡ false → record { stalls = map stall_at new; orders = orders; rounds = rounds } ≡ with_entry sc (entry.Stall (stall_at (p, cycles)))) is
+    (λ none. ap (λ ss. record { stalls = ss; orders = orders; rounds = rounds }) (ap (map stall_at) inserted ∙ put_stall p cycles es none)) none
 
 -- Its place is taken where it is found.
-pub clash_stall : (script : Script) (p : Place) (cycles : ℕ) (es : List (Place × ℕ)) (orders : List Order) → record { stalls = map stall_at es; orders = orders } ≡ script → is_some (lookup (is_at (place.it p)) es) ≡ clashes script (entry.Stall (stall_at (p, cycles)))
-clash_stall script p cycles es orders is = found_stall p cycles es ∙ ap (λ (sc : Script). clashes sc (entry.Stall (stall_at (p, cycles)))) is
+pub clash_stall : (script : Script) (p : Place) (cycles : ℕ) (es : List (Place × ℕ)) (orders : List Order) (rounds : List Round) → record { stalls = map stall_at es; orders = orders; rounds = rounds } ≡ script
+    → is_some (lookup (is_at (place.it p)) es) ≡ clashes script (entry.Stall (stall_at (p, cycles)))
+clash_stall script p cycles es orders rounds is = found_stall p cycles es ∙ ap (λ (sc : Script). clashes sc (entry.Stall (stall_at (p, cycles)))) is
 
 -- Which part of an order decides
 less_first : (a b : ℕ) (less same rest : Bool) → ltb a b ≡ less → eqb a b ≡ same → (less || same && rest) ≡ true → (a < b) ⊎ ((a ≡ b) × (rest ≡ true))
@@ -145,16 +147,16 @@ pub found_order : (cycle : ℕ) (agents : List ℕ) (es : List (ℕ × List ℕ)
 found_order cycle agents = found_entry nat_cmp order_before order_from (λ (o : Order). eqb cycle o.cycle) cycle agents (λ e. cmp_tells cycle e.0)
 
 -- The script with one more order
-pub with_order : (script : Script) (cycle : ℕ) (agents : List ℕ) (es new : List (ℕ × List ℕ)) (stalls : List Stall) → record { stalls = stalls; orders = map order_from es } ≡ script → clashes script (entry.Order (order_from (cycle, agents))) ≡ false
-    → new ≡ insert_entry nat_cmp es cycle agents → record { stalls = stalls; orders = map order_from new } ≡ with_entry script (entry.Order (order_from (cycle, agents)))
-with_order script cycle agents es new stalls is none inserted =
-    subst (λ (sc : Script). clashes sc (entry.Order (order_from (cycle, agents))) ≡ false → record { stalls = stalls; orders = map order_from new } ≡ with_entry sc (entry.Order (order_from (cycle, agents)))) is
-    (λ none. ap (λ os. record { stalls = stalls; orders = os }) (ap (map order_from) inserted ∙ put_order cycle agents es (or_parts (list_any (λ (o : Order). eqb cycle o.cycle) (map order_from es)) (repeats agents) none).0)) none
+pub with_order : (script : Script) (cycle : ℕ) (agents : List ℕ) (es new : List (ℕ × List ℕ)) (stalls : List Stall) (rounds : List Round) → record { stalls = stalls; orders = map order_from es; rounds = rounds } ≡ script → clashes script (entry.Order (order_from (cycle, agents))) ≡ false
+    → new ≡ insert_entry nat_cmp es cycle agents → record { stalls = stalls; orders = map order_from new; rounds = rounds } ≡ with_entry script (entry.Order (order_from (cycle, agents)))
+with_order script cycle agents es new stalls rounds is none inserted =
+    subst (λ (sc : Script). clashes sc (entry.Order (order_from (cycle, agents))) ≡ false → record { stalls = stalls; orders = map order_from new; rounds = rounds } ≡ with_entry sc (entry.Order (order_from (cycle, agents)))) is
+    (λ none. ap (λ os. record { stalls = stalls; orders = os; rounds = rounds }) (ap (map order_from) inserted ∙ put_order cycle agents es (or_parts (list_any (λ (o : Order). eqb cycle o.cycle) (map order_from es)) (has_same agents) none).0)) none
 
 -- It clashes where its cycle is found, or its agents repeat.
-pub clash_order : (script : Script) (cycle : ℕ) (agents : List ℕ) (es : List (ℕ × List ℕ)) (stalls : List Stall) (found : Bool) → record { stalls = stalls; orders = map order_from es } ≡ script → found ≡ is_some (lookup (is_at (nat_cmp cycle)) es)
-    → (found || repeats agents) ≡ clashes script (entry.Order (order_from (cycle, agents)))
-clash_order script cycle agents es stalls found is e = ap (λ b. b || repeats agents) (e ∙ found_order cycle agents es) ∙ ap (λ (sc : Script). clashes sc (entry.Order (order_from (cycle, agents)))) is
+pub clash_order : (script : Script) (cycle : ℕ) (agents : List ℕ) (es : List (ℕ × List ℕ)) (stalls : List Stall) (rounds : List Round) (found : Bool) → record { stalls = stalls; orders = map order_from es; rounds = rounds } ≡ script → found ≡ is_some (lookup (is_at (nat_cmp cycle)) es)
+    → (found || has_same agents) ≡ clashes script (entry.Order (order_from (cycle, agents)))
+clash_order script cycle agents es stalls rounds found is e = ap (λ b. b || has_same agents) (e ∙ found_order cycle agents es) ∙ ap (λ (sc : Script). clashes sc (entry.Order (order_from (cycle, agents)))) is
 
 -- A cycle that is less is below.
 cycle_below : (a b : ℕ) → nat_cmp a b ≡ Less → a < b
@@ -163,3 +165,27 @@ cycle_below a b e = ltb-true a b (before_where (nat_cmp a b) (ltb a b) (eqb a b)
 -- Orders whose cycles rise do so too.
 pub orders_rise : (es : List (ℕ × List ℕ)) → IsStrictlySortedBy nat_cmp (keys_of es) → AllPairs (λ (o p : Order). o.cycle < p.cycle) (map order_from es)
 orders_rise = entries_rise nat_cmp order_from (λ (o p : Order). o.cycle < p.cycle) (λ o. (o.cycle, o.agents)) (λ o. refl) (λ e f below. cycle_below e.0 f.0 below)
+
+-- Rounds by their cycles
+pub put_round : (cycle : ℕ) (numbers : List ℕ) (es : List (ℕ × List ℕ)) → list_any (λ (r : Round). eqb cycle r.cycle) (map round_from es) ≡ false → map round_from (insert_entry nat_cmp es cycle numbers) ≡ put round_before (round_from (cycle, numbers)) (map round_from es)
+put_round cycle numbers = put_entry nat_cmp round_before round_from (λ (r : Round). eqb cycle r.cycle) cycle numbers (λ e. cmp_tells cycle e.0)
+
+-- A cycle is found where a round begins there.
+pub found_round : (cycle : ℕ) (numbers : List ℕ) (es : List (ℕ × List ℕ)) → is_some (lookup (is_at (nat_cmp cycle)) es) ≡ list_any (λ (r : Round). eqb cycle r.cycle) (map round_from es)
+found_round cycle numbers = found_entry nat_cmp round_before round_from (λ (r : Round). eqb cycle r.cycle) cycle numbers (λ e. cmp_tells cycle e.0)
+
+-- The script with one more round
+pub with_round : (script : Script) (cycle : ℕ) (numbers : List ℕ) (es new : List (ℕ × List ℕ)) (stalls : List Stall) (orders : List Order) → record { stalls = stalls; orders = orders; rounds = map round_from es } ≡ script
+    → clashes script (entry.Round cycle numbers) ≡ false → new ≡ insert_entry nat_cmp es cycle numbers → record { stalls = stalls; orders = orders; rounds = map round_from new } ≡ with_entry script (entry.Round cycle numbers)
+with_round script cycle numbers es new stalls orders is none inserted =
+    subst (λ (sc : Script). clashes sc (entry.Round cycle numbers) ≡ false → record { stalls = stalls; orders = orders; rounds = map round_from new } ≡ with_entry sc (entry.Round cycle numbers)) is
+    (λ none. ap (λ rs. record { stalls = stalls; orders = orders; rounds = rs }) (ap (map round_from) inserted ∙ put_round cycle numbers es (or_parts (list_any (λ (r : Round). eqb cycle r.cycle) (map round_from es)) (has_same numbers) none).0)) none
+
+-- It clashes where its cycle is found, or its numbers repeat.
+pub clash_round : (script : Script) (cycle : ℕ) (numbers : List ℕ) (es : List (ℕ × List ℕ)) (stalls : List Stall) (orders : List Order) (found : Bool) → record { stalls = stalls; orders = orders; rounds = map round_from es } ≡ script
+    → found ≡ is_some (lookup (is_at (nat_cmp cycle)) es) → (found || has_same numbers) ≡ clashes script (entry.Round cycle numbers)
+clash_round script cycle numbers es stalls orders found is e = ap (λ b. b || has_same numbers) (e ∙ found_round cycle numbers es) ∙ ap (λ (sc : Script). clashes sc (entry.Round cycle numbers)) is
+
+-- Rounds whose cycles rise do so too.
+pub rounds_rise : (es : List (ℕ × List ℕ)) → IsStrictlySortedBy nat_cmp (keys_of es) → AllPairs (λ (r q : Round). r.cycle < q.cycle) (map round_from es)
+rounds_rise = entries_rise nat_cmp round_from (λ (r q : Round). r.cycle < q.cycle) (λ r. (r.cycle, r.processors)) (λ r. refl) (λ e f below. cycle_below e.0 f.0 below)

@@ -1,4 +1,4 @@
--- The script of a text without fault rises: its stalls by agent, action and instruction, its orders by cycle.
+-- The script of a text without fault rises: its stalls by agent, action and instruction, its orders and its rounds by cycle.
 use Rattle.std.proofs.Common.{◌≡◌, ◌∙◌, ◌⊎◌, inl, inr, refl, sym, subst, ℕ, suc, ◌<◌, Bool, true, false, cond, ◌&&◌, ◌||◌, List, [], ◌∷◌, ◌++◌, length, Option, Some, None, eqb, ltb, eqb-true, append-nil, true≢false, arith}
 use Rattle.std.specs.List.{All, AllPairs, list_any}
 use Rattle.std.specs.Option.{option_to_list}
@@ -8,23 +8,25 @@ use Rattle.std.proofs.lemmas.List.Elements.{All-cons, All-nil, All-weaker}
 use Rattle.std.proofs.lemmas.List.Kept.{AllPairs-cons}
 use Rattle.psy_budget.specs.declared.charge.Stall.{Stall}
 use Rattle.psy_tree.specs.declared.unit.Unit.{Unit as Whole}
+use Rattle.psy_history.specs.Processors.{processors}
 use Rattle.psy_history.specs.declared.told.Order.{Order}
+use Rattle.psy_history.specs.declared.told.Round.{Round}
 use Rattle.psy_history.specs.declared.told.Script.{Script}
 use Rattle.psy_history.specs.Scripts.{IsScript, StallBefore}
 use Rattle.psy_script.specs.declared.entry.Entry.{Entry}
 use Rattle.psy_script.specs.declared.entry.Entry.TheVariants as entry
 use Rattle.psy_script.specs.declared.fault.LineKind.TheVariants.{BadLine}
-use Rattle.psy_script.specs.Entries.{clashes, is_beside, repeats, with_entry}
+use Rattle.psy_script.specs.Entries.{clashes, is_beside, round_from, with_entry}
 use Rattle.psy_text.specs.Lines.{is_skipped}
 use Rattle.psy_text.specs.Lines.{lines_of}
 use Rattle.psy_text.specs.Words.{words_of}
 use Rattle.psy_script.specs.Rising.{put}
-use Rattle.psy_script.specs.Script.{IsScriptOf, Statement, is_in_range, less_or, names_agents, order_before, script_judge, stall_before, stands_again, statement_fault, statement_in, statements}
+use Rattle.psy_script.specs.Script.{IsScriptOf, Statement, has_same, is_in_range, less_or, names_agents, order_before, round_before, script_judge, stall_before, stands_again, statement_fault, statement_in, statements}
 use Rattle.psy_script.proofs.FirstFaults.{kept_lines}
 use Rattle.psy_script.proofs.Placing.{All_put}
 use Rattle.psy_script.proofs.PutEntries.{from_before}
 use Rattle.psy_script.proofs.ScriptFaults.{statements_more}
-use Rattle.psy_script.proofs.SoundScripts.{not_there, parts_of, script_is}
+use Rattle.psy_script.proofs.SoundScripts.{Rises, not_there, parts_of, script_is}
 use Rattle.psy_script.proofs.Stated.{clashes_are, numbered, said_more, script_said}
 
 -- ---- items put in their order
@@ -87,38 +89,51 @@ stall_later s t e apart = elim (later_part s.agent t.agent (less_or s.action t.a
 
 -- ---- scripts
 
--- Stalls and orders rise.
-abbrev Rises : Script → Type 0
-Rises script = AllPairs StallBefore script.stalls × AllPairs (λ (o p : Order). o.cycle < p.cycle) script.orders
-
 order_sooner : (o p : Order) → order_before o p ≡ true → o.cycle < p.cycle
 order_sooner o p e = grind (arith, nat_tests)
 
+round_sooner : (r q : Round) → round_before r q ≡ true → r.cycle < q.cycle
+round_sooner r q e = grind (arith, nat_tests)
+
+-- With one more that meets none, all rise.
 entry_rises : (script : Script) (e : Entry) → clashes script e ≡ false → Rises script → Rises (with_entry script e)
-entry_rises script (entry.Stall s) none (stalls, orders) = (put_rises stall_before is_beside StallBefore stall_trans from_before stall_later s script.stalls none stalls, orders)
-entry_rises script (entry.Order o) none (stalls, orders) = (
-  stalls,
-  put_rises order_before (λ (o p : Order). eqb o.cycle p.cycle) (λ (o p : Order). o.cycle < p.cycle) (λ o p q a b. omega (arith, a, b)) order_sooner (λ o p. no_less o.cycle p.cycle) o script.orders
-      (or_parts (list_any (λ (p : Order). eqb o.cycle p.cycle) script.orders) (repeats o.agents) none).0 orders,
-)
+entry_rises script (entry.Stall s) none rises = record {
+  stalls = put_rises stall_before is_beside StallBefore stall_trans from_before stall_later s script.stalls none rises.stalls;
+  orders = rises.orders;
+  rounds = rises.rounds;
+}
+entry_rises script (entry.Order o) none rises = record {
+  stalls = rises.stalls;
+  orders = put_rises order_before (λ (o p : Order). eqb o.cycle p.cycle) (λ (o p : Order). o.cycle < p.cycle) (λ o p q a b. omega (arith, a, b)) order_sooner (λ o p. no_less o.cycle p.cycle) o script.orders
+      (or_parts (list_any (λ (p : Order). eqb o.cycle p.cycle) script.orders) (has_same o.agents) none).0 rises.orders;
+  rounds = rises.rounds;
+}
+entry_rises script (entry.Round cycle numbers) none rises = record {
+  stalls = rises.stalls;
+  orders = rises.orders;
+  rounds = put_rises round_before (λ (r q : Round). eqb r.cycle q.cycle) (λ (r q : Round). r.cycle < q.cycle) (λ r q s a b. omega (arith, a, b)) round_sooner (λ r q. no_less r.cycle q.cycle)
+      (round_from (cycle, numbers)) script.rounds (or_parts (list_any (λ (r : Round). eqb cycle r.cycle) script.rounds) (has_same numbers) none).0 rises.rounds;
+}
 
 -- What is said, with a line more that may say something
 said_rises : (unit : Whole) (said : List Statement) (skipped : Bool) (o : Option Statement) → cond skipped None (statement_fault unit said o) ≡ None → Rises (script_said unit said) → Rises (script_said unit (said ++ option_to_list (cond skipped None o)))
 said_rises unit said true o sound rise = subst (λ ss. Rises (script_said unit ss)) (sym (append-nil said)) rise
 said_rises unit said false None sound rise = absurd (not_there BadLine sound)
 said_rises unit said false (Some st) sound rise =
-    let parts = parts_of (names_agents unit st) (stands_again said st) (is_in_range st) sound in
+    let parts = parts_of (names_agents unit st) (stands_again said st) (is_in_range (processors unit) st) sound in
     subst Rises (said_more unit said st) (entry_rises (script_said unit said) (numbered unit st) (clashes_are unit said st parts.0 ∙ parts.1) rise)
 
 line_rises : (unit : Whole) (before : List (List ℕ)) (line : List ℕ) → Rises (script_said unit (statements unit before)) → script_judge unit before line ≡ None → Rises (script_said unit (statements unit (before ++ line ∷ [])))
 line_rises unit before line rise sound =
-    subst (λ ss. Rises (script_said unit ss)) (sym (statements_more unit before line)) (said_rises unit (statements unit before) (is_skipped line) (statement_in (length unit.agents) (words_of line)) sound rise)
+    subst (λ ss. Rises (script_said unit ss)) (sym (statements_more unit before line)) (said_rises unit (statements unit before) (is_skipped line) (statement_in (length unit.agents) (processors unit) (words_of line)) sound rise)
 
 -- The script that a text states is one of the program.
 pub script_of_text : (unit : Whole) (text : List ℕ) (script : Script) → IsScriptOf unit text script → IsScript unit script
 script_of_text unit text script is =
-    let none : Rises (script_said unit []) = (λ i j d first less. absurd (omega (arith, less)), λ i j d first less. absurd (omega (arith, less))) in
-    let rise = kept_lines (script_judge unit) (λ lines. Rises (script_said unit (statements unit lines))) (line_rises unit) text none is.lawful in
-    script_is unit (lines_of text) script is.lawful.sound is.stated
-    (subst (λ (s : Script). AllPairs StallBefore s.stalls) (sym is.stated) rise.0)
-    (subst (λ (s : Script). AllPairs (λ (o p : Order). o.cycle < p.cycle) s.orders) (sym is.stated) rise.1)
+    let none : Rises (script_said unit []) = record {
+      stalls = λ i j d first less. absurd (omega (arith, less));
+      orders = λ i j d first less. absurd (omega (arith, less));
+      rounds = λ i j d first less. absurd (omega (arith, less));
+    } in
+    let rises = kept_lines (script_judge unit) (λ lines. Rises (script_said unit (statements unit lines))) (line_rises unit) text none is.lawful in
+    script_is unit (lines_of text) script is.lawful.sound is.stated (subst Rises (sym is.stated) rises)

@@ -13,13 +13,14 @@ use Rattle.std.proofs.lemmas.Slice.Eq.{bytes_eq-Decides}
 use Rattle.psy_tree.specs.declared.unit.AgentDecl.{AgentDecl}
 use Rattle.psy_tree.specs.declared.unit.Unit.{Unit as Whole}
 use Rattle.psy_history.specs.declared.told.Order.{Order}
+use Rattle.psy_history.specs.declared.told.Round.{Round}
 use Rattle.psy_history.specs.declared.told.Script.{Script}
 use Rattle.psy_script.specs.declared.entry.Entry.{Entry}
 use Rattle.psy_script.specs.declared.entry.Entry.TheVariants as entry
-use Rattle.psy_script.specs.Entries.{clashes, entry_in, is_beside, place_in, repeats, with_entry}
+use Rattle.psy_script.specs.Entries.{clashes, entry_in, is_beside, place_in, with_entry}
 use Rattle.psy_script.specs.Numbers.{all_some}
-use Rattle.psy_script.specs.Rising.{rising}
-use Rattle.psy_script.specs.Script.{Statement, Stalls, Orders, agent_number, has_twice, is_agent, is_order_at, is_stall_at, names_agents, order_before, order_said, stall_before, stall_said, stands_again}
+use Rattle.psy_script.specs.Rising.{put_all, rising}
+use Rattle.psy_script.specs.Script.{Statement, Stalls, Orders, Rounds, agent_number, has_same, has_twice, is_agent, is_order_at, is_round_at, is_stall_at, names_agents, order_before, order_said, round_before, round_said, stall_before, stall_said, stands_again}
 use Rattle.psy_script.proofs.Placing.{any_rising, or_none, rising-append}
 
 -- ---- names and numbers
@@ -49,7 +50,7 @@ any_map test f [] = refl
 any_map test f (x ∷ xs) = ap (λ b. test (f x) || b) (any_map test f xs)
 
 -- Tests that agree find the same.
-any_same : {X : Type 0} (p q : X → Bool) → ((x : X) → p x ≡ q x) → (xs : List X) → list_any p xs ≡ list_any q xs
+pub any_same : {X : Type 0} (p q : X → Bool) → ((x : X) → p x ≡ q x) → (xs : List X) → list_any p xs ≡ list_any q xs
 any_same p q same [] = refl
 any_same p q same (x ∷ xs) = ap₂ (λ a b. a || b) (same x) (any_same p q same xs)
 
@@ -105,6 +106,7 @@ places_are unit (name ∷ names) =
 abbrev pub numbered : Whole → Statement → Entry
 numbered unit (Stalls agent action instr cycles) = entry.Stall (record { agent = agent_number unit agent; action = action; instr = instr; cycles = cycles })
 numbered unit (Orders cycle agents) = entry.Order (record { cycle = cycle; agents = map (agent_number unit) agents })
+numbered unit (Rounds cycle processors) = entry.Round cycle processors
 
 -- It is found where each name is an agent's.
 pub entry_is : (unit : Whole) (st : Statement) → entry_in (agent_names unit) st ≡ cond (names_agents unit st) (Some (numbered unit st)) None
@@ -114,56 +116,77 @@ entry_is unit (Stalls agent action instr cycles) =
 entry_is unit (Orders cycle agents) =
     let order = λ (ns : List ℕ). entry.Order (record { cycle = cycle; agents = ns }) in
     ap (option_map order) (places_are unit agents) ∙ option_cond order (list_all (is_agent unit) agents) (map (agent_number unit) agents)
+entry_is unit (Rounds cycle processors) = refl
 
 -- The script of what was said
 abbrev pub script_said : Whole → List Statement → Script
 script_said unit said = record {
   stalls = rising stall_before (flat_map (stall_said unit) said);
   orders = rising order_before (flat_map (order_said unit) said);
+  rounds = rising round_before (flat_map round_said said);
 }
 
--- One more statement is one more entry.
+-- What one more statement says is put among what was said.
+put_said : {Y : Type 0} (before : Y → Y → Bool) (says : Statement → List Y) (said : List Statement) (st : Statement)
+    → put_all before (flat_map says (st ∷ [])) (rising before (flat_map says said)) ≡ rising before (flat_map says (said ++ st ∷ []))
+put_said before says said st = sym (ap (rising before) (flat_map-append says said (st ∷ [])) ∙ rising-append before (flat_map says said) (flat_map says (st ∷ [])))
+
+-- So with all of it the script has one entry more,
+with_said : (unit : Whole) (said : List Statement) (st : Statement) → record {
+  stalls = put_all stall_before (flat_map (stall_said unit) (st ∷ [])) (rising stall_before (flat_map (stall_said unit) said));
+  orders = put_all order_before (flat_map (order_said unit) (st ∷ [])) (rising order_before (flat_map (order_said unit) said));
+  rounds = put_all round_before (flat_map round_said (st ∷ [])) (rising round_before (flat_map round_said said));
+} ≡ script_said unit (said ++ st ∷ [])
+with_said unit said st = λ i. record {
+  stalls = put_said stall_before (stall_said unit) said st i;
+  orders = put_said order_before (order_said unit) said st i;
+  rounds = put_said round_before round_said said st i;
+}
+
+-- Which is that of the statement.
 pub said_more : (unit : Whole) (said : List Statement) (st : Statement) → with_entry (script_said unit said) (numbered unit st) ≡ script_said unit (said ++ st ∷ [])
-said_more unit said (Stalls agent action instr cycles) =
-    let st = Stalls agent action instr cycles in
-    λ i. record {
-      stalls = (sym (ap (rising stall_before) (flat_map-append (stall_said unit) said (st ∷ [])) ∙ rising-append stall_before (flat_map (stall_said unit) said) (flat_map (stall_said unit) (st ∷ [])))) i;
-      orders = (sym (ap (rising order_before) (flat_map-append (order_said unit) said (st ∷ [])) ∙ rising-append order_before (flat_map (order_said unit) said) [])) i;
-    }
-said_more unit said (Orders cycle agents) =
-    let st = Orders cycle agents in
-    λ i. record {
-      stalls = (sym (ap (rising stall_before) (flat_map-append (stall_said unit) said (st ∷ [])) ∙ rising-append stall_before (flat_map (stall_said unit) said) [])) i;
-      orders = (sym (ap (rising order_before) (flat_map-append (order_said unit) said (st ∷ [])) ∙ rising-append order_before (flat_map (order_said unit) said) (flat_map (order_said unit) (st ∷ [])))) i;
-    }
+said_more unit said (Stalls agent action instr cycles) = with_said unit said (Stalls agent action instr cycles)
+said_more unit said (Orders cycle agents) = with_said unit said (Orders cycle agents)
+said_more unit said (Rounds cycle processors) = with_said unit said (Rounds cycle processors)
 
 -- By number and by name the same stalls stand before an instruction,
 stall_at_number : (unit : Whole) (agent : List ℕ) (action instr cycles : ℕ) → is_agent unit agent ≡ true → (st : Statement)
     → list_any (is_beside (record { agent = agent_number unit agent; action = action; instr = instr; cycles = cycles })) (stall_said unit st) ≡ is_stall_at agent action instr st
 stall_at_number unit agent action instr cycles is (Stalls a n i c) = or_none (eqb (agent_number unit agent) (agent_number unit a) && (eqb action n && eqb instr i)) ∙ ap (λ b. b && (eqb action n && eqb instr i)) (same_number unit agent a is)
 stall_at_number unit agent action instr cycles is (Orders c agents) = refl
+stall_at_number unit agent action instr cycles is (Rounds c processors) = refl
 
--- And the same orders begin at a cycle.
+-- And the same orders begin at a cycle,
 order_at_cycle : (unit : Whole) (cycle : ℕ) (st : Statement) → list_any (λ (o : Order). eqb cycle o.cycle) (order_said unit st) ≡ is_order_at cycle st
 order_at_cycle unit cycle (Stalls a n i c) = refl
 order_at_cycle unit cycle (Orders c agents) = or_none (eqb cycle c)
+order_at_cycle unit cycle (Rounds c processors) = refl
+
+-- And the same rounds.
+round_at_cycle : (cycle : ℕ) (st : Statement) → list_any (λ (r : Round). eqb cycle r.cycle) (round_said st) ≡ is_round_at cycle st
+round_at_cycle cycle (Stalls a n i c) = refl
+round_at_cycle cycle (Orders c agents) = refl
+round_at_cycle cycle (Rounds c processors) = or_none (eqb cycle c)
 
 -- A number repeats where a name stands twice; the names are agents'.
-pub repeats_are : (unit : Whole) (names : List (List ℕ)) → list_all (is_agent unit) names ≡ true → repeats (map (agent_number unit) names) ≡ has_twice names
+pub repeats_are : (unit : Whole) (names : List (List ℕ)) → list_all (is_agent unit) names ≡ true → has_same (map (agent_number unit) names) ≡ has_twice names
 repeats_are unit [] are = refl
 repeats_are unit (name ∷ names) are =
     ap₂ (λ a b. a || b)
     (any_map (λ m. eqb (agent_number unit name) m) (agent_number unit) names ∙ any_same (λ other. eqb (agent_number unit name) (agent_number unit other)) (bytes_eq name) (λ other. same_number unit name other (and_parts (is_agent unit name) (list_all (is_agent unit) names) are).0) names)
     (repeats_are unit names (and_parts (is_agent unit name) (list_all (is_agent unit) names) are).1)
 
+-- One stands among what was said, put in its order, where a statement says it.
+any_said : {Y : Type 0} (test : Y → Bool) (before : Y → Y → Bool) (says : Statement → List Y) (is : Statement → Bool) → ((st : Statement) → list_any test (says st) ≡ is st)
+    → (said : List Statement) → list_any test (rising before (flat_map says said)) ≡ list_any is said
+any_said test before says is same said = any_rising test before (flat_map says said) ∙ any_flat test says said ∙ any_same (λ st. list_any test (says st)) is same said
+
 -- An entry clashes where its statement stands again.
 pub clashes_are : (unit : Whole) (said : List Statement) (st : Statement) → names_agents unit st ≡ true → clashes (script_said unit said) (numbered unit st) ≡ stands_again said st
 clashes_are unit said (Stalls agent action instr cycles) are =
-    let test = is_beside (record { agent = agent_number unit agent; action = action; instr = instr; cycles = cycles }) in
-    any_rising test stall_before (flat_map (stall_said unit) said) ∙ any_flat test (stall_said unit) said
-    ∙ any_same (λ st. list_any test (stall_said unit st)) (is_stall_at agent action instr) (stall_at_number unit agent action instr cycles are) said
+    any_said (is_beside (record { agent = agent_number unit agent; action = action; instr = instr; cycles = cycles })) stall_before (stall_said unit) (is_stall_at agent action instr)
+    (stall_at_number unit agent action instr cycles are) said
 clashes_are unit said (Orders cycle agents) are =
-    let test = λ (o : Order). eqb cycle o.cycle in
-    ap₂ (λ a b. a || b)
-    (any_rising test order_before (flat_map (order_said unit) said) ∙ any_flat test (order_said unit) said ∙ any_same (λ st. list_any test (order_said unit st)) (is_order_at cycle) (order_at_cycle unit cycle) said)
-    (repeats_are unit agents are)
+    ap₂ (λ a b. a || b) (any_said (λ (o : Order). eqb cycle o.cycle) order_before (order_said unit) (is_order_at cycle) (order_at_cycle unit cycle) said) (repeats_are unit agents are)
+clashes_are unit said (Rounds cycle processors) are =
+    ap (λ a. a || has_same processors) (any_said (λ (r : Round). eqb cycle r.cycle) round_before round_said (is_round_at cycle) (round_at_cycle cycle) said)

@@ -1,22 +1,23 @@
-//! A stall or an order, with agents by their numbers.
+//! A stall, an order or a round, with agents by their numbers.
 ghost use Rattle.std.specs.Prelude.{◌≡◌, map, IfOk};
-ghost use Rattle.psy_script.specs.Entries.{entry_in, place_in, repeats, said};
+ghost use Rattle.psy_script.specs.Entries.{entry_in, numbers_in, place_in, repeats, said};
 ghost use Rattle.psy_text.specs.Words.{words_of};
 ghost use Rattle.psy_script.specs.Numbers.{all_some};
 
 use crate::names::Names;
-use crate::statement::Statement;
+use crate::statement::{Statement, number_or_0};
 use psy_base::{Items, Memory};
 use psy_budget::Stall;
 use psy_history::Order;
 use psy_text::word::cut_word;
 use std::alloc::Global;
 
-/// A stall or an order of agents of the program.
+/// A stall or an order of agents of the program, or a round. Nothing says yet that the numbers of a round are processors'.
 #[derive(Drop)]
 pub enum Entry {
     Stall(Stall),
     Order(Order),
+    Round { cycle: u64, numbers: Items<u64> },
 }
 
 /// What a line says of the agents whose names are these. None exactly where it names no agent.
@@ -47,6 +48,10 @@ pub fn entry_of(
             let agents = places(alloc, agents, names)?;
             Ok(agents.map(|agents| Entry::Order(Order { cycle, agents })))
         }
+        Statement::Round { cycle, numbers } => {
+            let numbers = all_numbers(alloc, numbers)?;
+            Ok(Some(Entry::Round { cycle, numbers }))
+        }
     }
 }
 
@@ -66,11 +71,24 @@ fn places(alloc: Global, agents: &Names, names: &[u8]) -> Result<Option<Items<u3
     Ok(Some(places))
 }
 
-/// A number stands there twice.
-pub fn repeats(numbers: &[u32]) -> bool
-    ensures { result ≡ repeats numbers.now }
+// The numbers of a round.
+fn all_numbers(alloc: Global, words: &[u8]) -> Result<Items<u64>, Memory>
+    ensures { IfOk result (λ numbers. numbers ≡ numbers_in words.now) }
 {
-    match numbers {
+    let mut numbers = Items::new(alloc);
+    let mut rest = words;
+    while let Some(cut) = cut_word(rest) {
+        numbers.push(number_or_0(cut.front))?;
+        rest = cut.rest;
+    }
+    Ok(numbers)
+}
+
+/// An item stands there twice.
+pub fn repeats<T: PartialEq>(items: &[T]) -> bool
+    ensures { result ≡ repeats T.eq items.now }
+{
+    match items {
         [] => false,
         [first, rest @ ..] => rest.contains(first) || repeats(rest),
     }

@@ -13,7 +13,7 @@ pub enum LineKind {
     BadLine,
     /// It names no input, or no agent.
     NoSuchName,
-    /// What it speaks of stood in an earlier line, or it names an agent twice.
+    /// What it speaks of stood in an earlier line, or it names an agent or a processor twice.
     Again,
     /// A number isn't in its range.
     Range,

@@ -1,4 +1,4 @@
-//! Reads what a run is told from outside: the inputs' lists of values, and the script of execution times and orders.
+//! Reads what a run is told from outside: the inputs' lists of values, and the script of execution times, orders and rounds.
 //! It may know words, names of inputs and agents; no dates, no kernel.
 #![tactic(auto)]
 

@@ -1,13 +1,13 @@
-//! The stalls and orders of the lines so far, in their order.
-ghost use Rattle.std.specs.Prelude.{◌≡◌, ◌<◌, [], false, map, IfOk, OnOk};
-ghost use Rattle.std.specs.List.{AllPairs};
+//! The stalls, orders and rounds of the lines so far, in their order.
+ghost use Rattle.std.specs.Prelude.{◌≡◌, ◌<◌, ◌^◌, [], true, false, map, IfOk, OnOk};
+ghost use Rattle.std.specs.List.{All, AllPairs};
 ghost use Rattle.psy_history.specs.Scripts.{StallBefore};
-ghost use Rattle.psy_script.specs.Entries.{clashes, order_from, stall_at, with_entry};
+ghost use Rattle.psy_script.specs.Entries.{clashes, is_narrow, order_from, round_from, stall_at, with_entry};
 
 use crate::entry::{Entry, repeats};
 use psy_base::{Items, Memory};
 use psy_budget::Stall;
-use psy_history::{Order, Script};
+use psy_history::{Order, Round, Script};
 use std::alloc::Global;
 use std::collections::BTreeMap;
 use std::marker::Model;
@@ -20,34 +20,40 @@ struct Place {
     instr: u64,
 }
 
-/// Stalls and orders that are put in one by one. Contracts see them as a script.
+/// Stalls, orders and rounds that are put in one by one. Contracts see them as a script.
 #[derive(Drop)]
 pub struct Placed {
     stalls: BTreeMap<Place, u64>,
     orders: BTreeMap<u64, Items<u32>>,
+    rounds: BTreeMap<u64, Items<u32>>,
 }
 
 impl Model for Placed {
     ghost use Rattle.std.specs.Prelude.{map};
     ghost use Rattle.psy_history.specs.declared.told.Script.{Script};
-    ghost use Rattle.psy_script.specs.Entries.{order_from, stall_at};
+    ghost use Rattle.psy_script.specs.Entries.{order_from, round_from, stall_at};
 
     ghost Value = { Script };
 
-    ghost view = { λ p. record { stalls = map stall_at p.stalls.entries; orders = map order_from p.orders.entries } };
+    ghost view = { λ p. record {
+      stalls = map stall_at p.stalls.entries;
+      orders = map order_from p.orders.entries;
+      rounds = map round_from p.rounds.entries;
+    } };
 }
 
 impl Placed {
     pub fn new(alloc: Global) -> Placed
-        ensures { result ≡ record { stalls = []; orders = [] } }
+        ensures { result ≡ record { stalls = []; orders = []; rounds = [] } }
     {
         Placed {
             stalls: BTreeMap::new(alloc),
             orders: BTreeMap::new(alloc),
+            rounds: BTreeMap::new(alloc),
         }
     }
 
-    /// One that is there stands where this one would; or the order lists an agent twice.
+    /// One that is there stands where this one would; or the order lists an agent twice, or the round a number.
     pub fn clashes(&self, entry: &Entry) -> bool
         ensures { result ≡ clashes self.now entry.now }
     {
@@ -56,11 +62,15 @@ impl Placed {
             Entry::Order(order) => {
                 self.orders.contains_key(&order.cycle) || repeats(order.agents.as_slice())
             }
+            Entry::Round { cycle, numbers } => {
+                self.rounds.contains_key(cycle) || repeats(numbers.as_slice())
+            }
         }
     }
 
-    pub fn put(&mut self, entry: Entry) -> Result<(), Memory>
-        requires { clashes self.old entry ≡ false }
+    pub fn put(&mut self, alloc: Global, entry: Entry) -> Result<(), Memory>
+        requires apart { clashes self.old entry ≡ false }
+        requires narrow { is_narrow entry ≡ true }
         ensures { OnOk result (self.new ≡ with_entry self.old entry) }
     {
         match entry {
@@ -69,6 +79,10 @@ impl Placed {
             }
             Entry::Order(Order { cycle, agents }) => {
                 self.orders.insert(cycle, agents)?;
+            }
+            Entry::Round { cycle, numbers } => {
+                let processors = narrowed(alloc, numbers.as_slice())?;
+                self.rounds.insert(cycle, processors)?;
             }
         }
         Ok(())
@@ -79,11 +93,17 @@ impl Placed {
         ensures all { IfOk result (λ script. script ≡ self) }
         ensures stalls_rise { IfOk result (λ script. AllPairs StallBefore script.stalls) }
         ensures orders_rise { IfOk result (λ script. AllPairs (λ o p. o.cycle < p.cycle) script.orders) }
+        ensures rounds_rise { IfOk result (λ script. AllPairs (λ r q. r.cycle < q.cycle) script.rounds) }
     {
-        let Placed { stalls, orders } = self;
+        let Placed {
+            stalls,
+            orders,
+            rounds,
+        } = self;
         Ok(Script {
             stalls: sorted_stalls(alloc, stalls)?,
             orders: sorted_orders(alloc, orders)?,
+            rounds: sorted_rounds(alloc, rounds)?,
         })
     }
 }
@@ -125,4 +145,28 @@ fn sorted_orders(alloc: Global, orders: BTreeMap<u64, Items<u32>>) -> Result<Ite
         sorted.push(Order { cycle, agents })?;
     }
     Ok(sorted)
+}
+
+// The rounds by their cycles, which rise.
+fn sorted_rounds(alloc: Global, rounds: BTreeMap<u64, Items<u32>>) -> Result<Items<Round>, Memory>
+    ensures all { IfOk result (λ sorted. sorted ≡ map round_from rounds.entries) }
+    ensures rise { IfOk result (AllPairs (λ r q. r.cycle < q.cycle)) }
+{
+    let mut sorted = Items::new(alloc);
+    for (cycle, processors) in rounds {
+        sorted.push(Round { cycle, processors })?;
+    }
+    Ok(sorted)
+}
+
+// The numbers in 32 bits.
+fn narrowed(alloc: Global, numbers: &[u64]) -> Result<Items<u32>, Memory>
+    requires { All (λ n. n < 2 ^ 32) numbers.now }
+    ensures { IfOk result (λ narrow. narrow ≡ numbers.now) }
+{
+    let mut narrow = Items::new(alloc);
+    for number in numbers {
+        narrow.push(*number as u32)?;
+    }
+    Ok(narrow)
 }

@@ -15,13 +15,13 @@ use crate::names::Names;
 use crate::placed::Placed;
 use crate::statement::read_statement;
 use psy_base::Memory;
-use psy_history::Script;
+use psy_history::{Script, processors_of};
 use psy_text::line::{cut_line, is_skipped};
 use psy_tree::Unit;
 use std::alloc::Global;
 
-/// The script that a text states for a program, line by line: its stalls by agent, action and instruction, its orders by cycle. Its errors
-/// are the first line that is at fault, more than 10,000 lines, and want of memory.
+/// The script that a text states for a program, line by line: its stalls by agent, action and instruction, its orders and its rounds by
+/// cycle. Its errors are the first line that is at fault, more than 10,000 lines, and want of memory.
 pub fn read_script(alloc: Global, text: &[u8], unit: &Unit) -> Result<Script, TextFault>
     requires { IsBare unit.now }
     // The script is that of the text, which has no fault; and it is one of the program.
@@ -76,7 +76,8 @@ fn add_line(
     placed: &mut Placed,
     line: &[u8],
 ) -> Result<Option<LineKind>, Memory>
-    requires { agents.now ≡ map (λ a. a.name) unit.now.agents }
+    requires bare { IsBare unit.now }
+    requires agents { agents.now ≡ map (λ a. a.name) unit.now.agents }
     ensures fault { (before : List (List ℕ)) → placed.old ≡ script_in unit.now before → IfOk result (λ fault. fault ≡ script_judge unit.now before line.now) }
     ensures placed { (before : List (List ℕ)) → placed.old ≡ script_in unit.now before
         → IfOk result (λ fault. fault ≡ None → placed.new ≡ script_in unit.now (before ++ line.now ∷ [])) }
@@ -84,7 +85,8 @@ fn add_line(
     if is_skipped(line) {
         return Ok(None);
     }
-    let Some(statement) = read_statement(line, unit.agents.len()) else {
+    let processors = processors_of(unit);
+    let Some(statement) = read_statement(line, unit.agents.len(), processors) else {
         return Ok(Some(LineKind::BadLine));
     };
     let Some(entry) = entry_of(alloc, agents, &statement)? else {
@@ -93,9 +95,9 @@ fn add_line(
     if placed.clashes(&entry) {
         return Ok(Some(LineKind::Again));
     }
-    if !statement.is_in_range() {
+    if !statement.is_in_range(processors) {
         return Ok(Some(LineKind::Range));
     }
-    placed.put(entry)?;
+    placed.put(alloc, entry)?;
     Ok(None)
 }

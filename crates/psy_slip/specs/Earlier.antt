@@ -1,4 +1,5 @@
--- Which earlier line of inputs or of a script says the same as a line: gives an input its values, stalls there, or orders from that cycle on.
+-- Which earlier line of inputs or of a script says the same as a line: gives an input its values, stalls there, or tells the order or the round
+-- from that cycle on.
 use Rattle.std.specs.Prelude.{ℕ, suc, Bool, false, ◌&&◌, if◌then◌else◌, List, [], ◌∷◌, codes, bytes_eq, Option, None, Some, option_map}
 use Rattle.std.specs.List.{list_any}
 use Rattle.psy_slip.specs.declared.slip.File.{File}
@@ -18,16 +19,17 @@ is_same_stall (agent ∷ action ∷ instr ∷ cycles ∷ []) (other ∷ act ∷ 
     bytes_eq agent other && (is_same_number action act && is_same_number instr place)
 is_same_stall _ _ = false
 
--- Two orders, by the words behind `order`, begin with one cycle.
-unfoldable pub is_same_order : List (List ℕ) → List (List ℕ) → Bool
-is_same_order (cycle ∷ names) (other ∷ others) = is_same_number cycle other
-is_same_order _ _ = false
+-- Two orders or two rounds, by the words behind `order` or `round`, begin with one cycle.
+unfoldable pub is_same_cycle : List (List ℕ) → List (List ℕ) → Bool
+is_same_cycle (cycle ∷ names) (other ∷ others) = is_same_number cycle other
+is_same_cycle _ _ = false
 
 -- Two lines of a script, by their words, say the same.
 abbrev pub is_same_statement : List (List ℕ) → List (List ℕ) → Bool
 is_same_statement (word ∷ words) (other ∷ others) =
     if bytes_eq word (codes "stall") then bytes_eq other (codes "stall") && is_same_stall words others
-    else bytes_eq word (codes "order") && (bytes_eq other (codes "order") && is_same_order words others)
+    else if bytes_eq word (codes "order") then bytes_eq other (codes "order") && is_same_cycle words others
+    else bytes_eq word (codes "round") && (bytes_eq other (codes "round") && is_same_cycle words others)
 is_same_statement _ _ = false
 
 -- Two lines of a file, by their words, say the same; of a program's nothing is told.
@@ -49,3 +51,8 @@ first_like file words text = first_number (λ line. is_said_by file words (words
 abbrev pub first_repeated : List (List ℕ) → Option (List ℕ)
 first_repeated [] = None
 first_repeated (word ∷ words) = if list_any (bytes_eq word) words then Some word else first_repeated words
+
+-- The first word that stands again behind itself, as the same number
+abbrev pub first_same : List (List ℕ) → Option (List ℕ)
+first_same [] = None
+first_same (word ∷ words) = if list_any (is_same_number word) words then Some word else first_same words

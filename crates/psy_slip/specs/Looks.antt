@@ -44,15 +44,15 @@ are_values words = not (is_none_of words) && list_all is_value words
 
 -- A line of a script begins with this word.
 abbrev pub begins_statement : List ℕ → Bool
-begins_statement word = bytes_eq word (codes "stall") || bytes_eq word (codes "order")
+begins_statement word = bytes_eq word (codes "stall") || (bytes_eq word (codes "order") || bytes_eq word (codes "round"))
 
 -- Behind a date a line of a log has a name, and something behind that.
 abbrev pub is_note : List (List ℕ) → Bool
 is_note (name ∷ word ∷ more) = not (is_value name)
 is_note _ = false
 
--- A file looks like one of a sort, by the words of its first line that says something: a program by how it begins or by a declaration, a script by a stall or
--- an order, a log by a number and a name, and inputs by a name with values behind it.
+-- A file looks like one of a sort, by the words of its first line that says something: a program by how it begins or by a declaration, a script by a stall, an
+-- order or a round, a log by a number and a name, and inputs by a name with values behind it.
 abbrev pub is_like : Look → List (List ℕ) → Bool
 is_like look [] = false
 is_like Program (word ∷ words) = begins_program word || (begins_declaration word && is_declared words)

@@ -1,5 +1,5 @@
 -- Words that are numbers or values, compared.
-use Rattle.std.specs.Prelude.{ℕ, Bool, false, ◌==◌, ◌||◌, nat_lt, List, Option, None, Some, pos, negsuc, int_lt}
+use Rattle.std.specs.Prelude.{ℕ, Bool, false, ◌==◌, ◌||◌, nat_lt, if◌then◌else◌, List, [], ◌∷◌, Option, None, Some, pos, negsuc, int_lt}
 use Rattle.psy_base.specs.declared.limits.TheConstants.{LITERAL}
 use Rattle.psy_text.specs.Words.{number_of, value_of}
 
@@ -19,6 +19,15 @@ is_nothing word = passes (λ n. n == 0) (number_of word)
 -- Two words are one number.
 abbrev pub is_same_number : List ℕ → List ℕ → Bool
 is_same_number word other = passes (λ n. passes (λ m. n == m) (number_of other)) (number_of word)
+
+-- One word is a number below another's.
+abbrev pub is_less_number : List ℕ → List ℕ → Bool
+is_less_number word other = passes (λ n. passes (nat_lt n) (number_of other)) (number_of word)
+
+-- The first of the greatest among a number and those behind it
+abbrev pub greatest : List ℕ → List (List ℕ) → List ℕ
+greatest word [] = word
+greatest word (other ∷ words) = if is_less_number word other then greatest other words else greatest word words
 
 -- The word is a value of more than 32 bits: below -2,147,483,648, or above 2,147,483,647.
 abbrev pub is_beyond : List ℕ → Bool

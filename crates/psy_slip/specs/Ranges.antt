@@ -1,7 +1,7 @@
 -- Which number of a line is out of its range, and what its range is.
 use Rattle.std.specs.Prelude.{ℕ, ◌||◌, if◌then◌else◌, List, [], ◌∷◌, ◌++◌, codes, find, bytes_eq}
 use Rattle.psy_base.specs.declared.limits.TheConstants.{RUN, STALL}
-use Rattle.psy_slip.specs.Numbers.{is_above, is_beyond, is_nothing}
+use Rattle.psy_slip.specs.Numbers.{greatest, is_above, is_beyond, is_nothing}
 use Rattle.psy_slip.specs.Told.{of_word, quoted}
 
 -- The first of some values that has more than 32 bits
@@ -36,10 +36,23 @@ order_range [] = []
 order_range (cycle ∷ names) =
     if is_above RUN cycle then quoted cycle ++ codes " is out of range: an order holds from a cycle of at most 100000000 on" else []
 
+-- The greatest number of a round: where one of them is no processor's, that one isn't.
+abbrev pub processors_range : List (List ℕ) → List ℕ
+processors_range [] = []
+processors_range (word ∷ words) = quoted (greatest word words) ++ codes " is no processor of the program"
+
+-- The cycle of a round, or else its greatest number, by the words behind `round`
+unfoldable pub round_range : List (List ℕ) → List ℕ
+round_range [] = []
+round_range (cycle ∷ numbers) =
+    if is_above RUN cycle then quoted cycle ++ codes " is out of range: a round holds from a cycle of at most 100000000 on"
+    else processors_range numbers
+
 -- The same of a line of a script, by its words
 abbrev pub statement_range : List (List ℕ) → List ℕ
 statement_range [] = []
 statement_range (word ∷ words) =
     if bytes_eq word (codes "stall") then stall_range words
     else if bytes_eq word (codes "order") then order_range words
+    else if bytes_eq word (codes "round") then round_range words
     else []

@@ -6,7 +6,7 @@ use Rattle.std.specs.List.{list_all, list_any}
 use Rattle.psy_slip.specs.declared.slip.File.{File}
 use Rattle.psy_slip.specs.declared.slip.File.TheVariants.{Program, Inputs, Script}
 use Rattle.psy_slip.specs.Agents.{strangers, strangers_told}
-use Rattle.psy_slip.specs.Earlier.{first_like, first_repeated}
+use Rattle.psy_slip.specs.Earlier.{first_like, first_repeated, first_same}
 use Rattle.psy_slip.specs.Ranges.{listing_range, statement_range}
 use Rattle.psy_slip.specs.Told.{counted, no_number, of_first, of_word, quoted}
 use Rattle.psy_text.specs.Lines.{begins_with}
@@ -134,13 +134,24 @@ unfoldable pub order_slip : List (List ℕ) → List ℕ
 order_slip [] = codes "behind `order` stand a cycle, and each agent of the program"
 order_slip (cycle ∷ names) = cycle_slip cycle names
 
+-- The same of a round, by the first word behind `round` that is no number, where one is; else how many stand behind its cycle
+abbrev pub numbers_slip : Option (List ℕ) → ℕ → List ℕ
+numbers_slip None count = counted (codes "behind the cycle each processor of the program stands once; numbers here: ") count
+numbers_slip (Some word) count = quoted word ++ no_number
+
+-- The same by the words behind `round`: a cycle, and numbers of processors
+unfoldable pub round_slip : List (List ℕ) → List ℕ
+round_slip [] = codes "behind `round` stand a cycle, and each processor of the program"
+round_slip (cycle ∷ numbers) = numbers_slip (find (λ w. not (is_number w)) (cycle ∷ numbers)) (length numbers)
+
 -- The same of a line of a script
 abbrev pub statement_slip : List (List ℕ) → List ℕ
 statement_slip [] = []
 statement_slip (word ∷ words) =
     if bytes_eq word (codes "stall") then stall_slip words
     else if bytes_eq word (codes "order") then order_slip words
-    else quoted word ++ codes " begins no line of a script: `stall` and `order` do"
+    else if bytes_eq word (codes "round") then round_slip words
+    else quoted word ++ codes " begins no line of a script: `stall`, `order` and `round` do"
 
 -- The same, or that a comment or a comma stands in it
 abbrev pub statement_form : List (List ℕ) → List ℕ
@@ -161,12 +172,15 @@ abbrev pub listed_slip : List (List ℕ) → Option ℕ → List ℕ
 listed_slip words None = of_first words (codes " has its values from an earlier line")
 listed_slip words (Some line) = of_first words (counted (codes " has its values from line ") line)
 
--- A name of an order stands again behind itself
+-- Behind the cycle of an order a name stands again behind itself, or behind that of a round a number.
 abbrev pub names_slip : List (List ℕ) → List ℕ
-names_slip (word ∷ cycle ∷ names) = if bytes_eq word (codes "order") then of_word (first_repeated names) (codes " is named twice") else []
+names_slip (word ∷ cycle ∷ names) =
+    if bytes_eq word (codes "order") then of_word (first_repeated names) (codes " is named twice")
+    else if bytes_eq word (codes "round") then of_word (first_same names) (codes " is named twice")
+    else []
 names_slip words = []
 
--- What a line of a script says is said by the line of this number, where it is known; else a name stands there twice.
+-- What a line of a script says is said by the line of this number, where it is known; else a name or a number stands there twice.
 abbrev pub said_slip : List (List ℕ) → Option ℕ → List ℕ
 said_slip words None = names_slip words
 said_slip words (Some line) = counted (codes "this is said already by line ") line

@@ -2,7 +2,9 @@
 ghost use Rattle.std.specs.Prelude.{◌≡◌, IfOk, bytes_eq, map};
 ghost use Rattle.std.specs.List.{list_any};
 ghost use Rattle.std.specs.Option.{option_copied};
-ghost use Rattle.psy_slip.specs.Earlier.{first_like, first_repeated, is_said_by, is_same_name, is_same_order, is_same_stall, is_same_statement};
+ghost use Rattle.psy_slip.specs.Earlier.{first_like, first_repeated, first_same, is_said_by, is_same_cycle, is_same_name, is_same_stall};
+ghost use Rattle.psy_slip.specs.Earlier.{is_same_statement};
+ghost use Rattle.psy_slip.specs.Numbers.{is_same_number};
 
 use crate::numbers::is_same_number;
 use crate::slip::File;
@@ -59,9 +61,11 @@ fn is_same_statement(words: &[&[u8]], others: &[&[u8]]) -> bool
         ([word, words @ ..], [other, others @ ..]) => {
             if *word == b"stall".as_slice() {
                 *other == b"stall".as_slice() && is_same_stall(words, others)
+            } else if *word == b"order".as_slice() {
+                *other == b"order".as_slice() && is_same_cycle(words, others)
             } else {
-                *word == b"order".as_slice()
-                    && (*other == b"order".as_slice() && is_same_order(words, others))
+                *word == b"round".as_slice()
+                    && (*other == b"round".as_slice() && is_same_cycle(words, others))
             }
         }
         _ => false,
@@ -79,9 +83,9 @@ fn is_same_stall(words: &[&[u8]], others: &[&[u8]]) -> bool
     }
 }
 
-#[tactic(auto, unfolding(crate::specs::Earlier::is_same_order))]
-fn is_same_order(words: &[&[u8]], others: &[&[u8]]) -> bool
-    ensures { result ≡ is_same_order (map (λ w. w.now) words.now) (map (λ w. w.now) others.now) }
+#[tactic(auto, unfolding(crate::specs::Earlier::is_same_cycle))]
+fn is_same_cycle(words: &[&[u8]], others: &[&[u8]]) -> bool
+    ensures { result ≡ is_same_cycle (map (λ w. w.now) words.now) (map (λ w. w.now) others.now) }
 {
     match (words, others) {
         ([cycle, ..], [other, ..]) => is_same_number(cycle, other),
@@ -101,6 +105,34 @@ pub fn first_repeated<'a>(words: &[&'a [u8]]) -> Option<&'a [u8]>
         rest = more;
     }
     None
+}
+
+/// The first word that stands again behind itself, as the same number.
+pub fn first_same<'a>(words: &[&'a [u8]]) -> Option<&'a [u8]>
+    ensures { option_copied result ≡ first_same (map (λ w. w.now) words.now) }
+{
+    let mut rest = words;
+    'each: while let [word, more @ ..] = rest {
+        if has_number(more, word) {
+            return Some(word);
+        }
+        rest = more;
+    }
+    None
+}
+
+// Is one of these words the same number?
+fn has_number(words: &[&[u8]], word: &[u8]) -> bool
+    ensures { result ≡ list_any (is_same_number word.now) (map (λ w. w.now) words.now) }
+{
+    let mut rest = words;
+    'each: while let [other, more @ ..] = rest {
+        if is_same_number(word, other) {
+            return true;
+        }
+        rest = more;
+    }
+    false
 }
 
 /// Is the word among these?

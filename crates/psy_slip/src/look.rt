@@ -238,5 +238,5 @@ fn all_values(words: &[&[u8]]) -> bool
 fn begins_statement(word: &[u8]) -> bool
     ensures { result ≡ begins_statement word.now }
 {
-    word == b"stall".as_slice() || word == b"order".as_slice()
+    word == b"stall".as_slice() || (word == b"order".as_slice() || word == b"round".as_slice())
 }

@@ -1,6 +1,6 @@
 //! Words that are numbers or values, compared.
-ghost use Rattle.std.specs.Prelude.{◌≡◌};
-ghost use Rattle.psy_slip.specs.Numbers.{is_above, is_beyond, is_nothing, is_same_number};
+ghost use Rattle.std.specs.Prelude.{◌≡◌, map};
+ghost use Rattle.psy_slip.specs.Numbers.{greatest, is_above, is_beyond, is_less_number, is_nothing, is_same_number};
 
 use psy_text::word::{number, value};
 
@@ -26,6 +26,30 @@ pub fn is_same_number(word: &[u8], other: &[u8]) -> bool
         (Some(n), Some(m)) => n == m,
         _ => false,
     }
+}
+
+fn is_less_number(word: &[u8], other: &[u8]) -> bool
+    ensures { result ≡ is_less_number word.now other.now }
+{
+    match (number(word), number(other)) {
+        (Some(n), Some(m)) => n < m,
+        _ => false,
+    }
+}
+
+/// The first of the greatest among a number and those behind it.
+pub fn greatest<'a>(word: &'a [u8], words: &[&'a [u8]]) -> &'a [u8]
+    ensures { result.now ≡ greatest word.now (map (λ w. w.now) words.now) }
+{
+    let mut most = word;
+    let mut rest = words;
+    'each: while let [other, more @ ..] = rest {
+        if is_less_number(most, other) {
+            most = other;
+        }
+        rest = more;
+    }
+    most
 }
 
 /// Is the word a value of more than 32 bits?

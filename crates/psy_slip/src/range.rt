@@ -1,10 +1,11 @@
 //! Which number of a line is out of its range.
 ghost use Rattle.std.specs.Prelude.{◌≡◌, ◌++◌, OnOk, find, map};
 ghost use Rattle.std.specs.Option.{option_copied};
-ghost use Rattle.psy_slip.specs.Ranges.{cycles_range, listing_range, numbers_range, order_range, stall_range, statement_range};
+ghost use Rattle.psy_slip.specs.Ranges.{cycles_range, listing_range, numbers_range, order_range, processors_range, round_range};
+ghost use Rattle.psy_slip.specs.Ranges.{stall_range, statement_range};
 ghost use Rattle.psy_slip.specs.Numbers.{is_beyond};
 
-use crate::numbers::{is_above, is_beyond, is_nothing};
+use crate::numbers::{greatest, is_above, is_beyond, is_nothing};
 use crate::told::{add_of, add_of_word};
 use psy_base::limits::{RUN, STALL};
 use std::alloc::AllocError;
@@ -47,6 +48,8 @@ pub fn add_statement_range(out: &mut Vec<u8>, words: &[&[u8]]) -> Result<(), All
                 add_stall_range(out, behind)
             } else if *word == b"order".as_slice() {
                 add_order_range(out, behind)
+            } else if *word == b"round".as_slice() {
+                add_round_range(out, behind)
             } else {
                 Ok(())
             }
@@ -114,5 +117,39 @@ fn add_order_range(out: &mut Vec<u8>, words: &[&[u8]]) -> Result<(), AllocError>
             b" is out of range: an order holds from a cycle of at most 100000000 on",
         ),
         _ => Ok(()),
+    }
+}
+
+#[tactic(auto, unfolding(crate::specs::Ranges::round_range))]
+fn add_round_range(out: &mut Vec<u8>, words: &[&[u8]]) -> Result<(), AllocError>
+    ensures { OnOk result (out.new.items ≡ out.old.items ++ round_range (map (λ w. w.now) words.now)) }
+{
+    match words {
+        [] => Ok(()),
+        [cycle, numbers @ ..] => {
+            if is_above(RUN, cycle) {
+                add_of(
+                    out,
+                    cycle,
+                    b" is out of range: a round holds from a cycle of at most 100000000 on",
+                )
+            } else {
+                add_processors_range(out, numbers)
+            }
+        }
+    }
+}
+
+// Adds the greatest number of a round.
+fn add_processors_range(out: &mut Vec<u8>, numbers: &[&[u8]]) -> Result<(), AllocError>
+    ensures { OnOk result (out.new.items ≡ out.old.items ++ processors_range (map (λ w. w.now) numbers.now)) }
+{
+    match numbers {
+        [] => Ok(()),
+        [word, words @ ..] => add_of(
+            out,
+            greatest(word, words),
+            b" is no processor of the program",
+        ),
     }
 }

@@ -6,13 +6,13 @@ ghost use Rattle.psy_slip.specs.Agents.{strangers, strangers_told};
 ghost use Rattle.psy_slip.specs.Earlier.{first_like};
 ghost use Rattle.psy_slip.specs.Slips.{agent_form, agent_slip, cycle_slip, inputs_slip, listed_slip, listing_slip, names_slip, no_value, order_slip, said_slip};
 ghost use Rattle.psy_slip.specs.Slips.{begins_comment, begins_letter, has_comma, has_comment, input_slip, listing_form, no_input, script_slip, sign_told, slip};
-ghost use Rattle.psy_slip.specs.Slips.{has_date, has_equal, input_said, is_head, listing_said, listing_told, slip_line, stall_slip};
+ghost use Rattle.psy_slip.specs.Slips.{has_date, has_equal, input_said, is_head, listing_said, listing_told, numbers_slip, round_slip, slip_line, stall_slip};
 ghost use Rattle.psy_slip.specs.Slips.{statement_form, statement_slip, unknown_slip, values_slip};
 ghost use Rattle.psy_text.specs.Lines.{begins_with};
 ghost use Rattle.psy_text.specs.Words.{is_number, is_value, words_of};
 
 use crate::agents::{add_strangers_told, strangers};
-use crate::earlier::{first_like, first_repeated};
+use crate::earlier::{first_like, first_repeated, first_same};
 use crate::range::{add_listing_range, add_statement_range};
 use crate::told::{add_count, add_of, add_of_first, add_of_first_at, add_of_word, add_quoted};
 use psy_base::Memory;
@@ -408,7 +408,7 @@ fn add_said(alloc: Global, out: &mut Vec<u8>, earlier: &[u8], words: &[&[u8]]) -
     }
 }
 
-// A name of an order that stands again behind itself.
+// A name of an order, or a number of a round, that stands again behind itself.
 fn add_names(out: &mut Vec<u8>, words: &[&[u8]]) -> Result<(), AllocError>
     ensures { OnOk result (out.new.items ≡ out.old.items ++ names_slip (map (λ w. w.now) words.now)) }
 {
@@ -416,6 +416,8 @@ fn add_names(out: &mut Vec<u8>, words: &[&[u8]]) -> Result<(), AllocError>
         [word, _, names @ ..] => {
             if *word == b"order".as_slice() {
                 add_of_word(out, first_repeated(names), b" is named twice")
+            } else if *word == b"round".as_slice() {
+                add_of_word(out, first_same(names), b" is named twice")
             } else {
                 Ok(())
             }
@@ -434,11 +436,13 @@ fn add_statement(out: &mut Vec<u8>, words: &[&[u8]]) -> Result<(), AllocError>
                 add_stall(out, behind)
             } else if *word == b"order".as_slice() {
                 add_order(out, behind)
+            } else if *word == b"round".as_slice() {
+                add_round(out, behind)
             } else {
                 add_of(
                     out,
                     word,
-                    b" begins no line of a script: `stall` and `order` do",
+                    b" begins no line of a script: `stall`, `order` and `round` do",
                 )
             }
         }
@@ -500,6 +504,32 @@ fn add_cycle(out: &mut Vec<u8>, cycle: &[u8], names: &[&[u8]]) -> Result<(), All
         )
     } else {
         add_of(out, cycle, b" is no number: a number is 1 to 12 digits")
+    }
+}
+
+#[tactic(auto, using(crate::proofs::Mapped::length_of_map), unfolding(crate::specs::Slips::round_slip))]
+fn add_round(out: &mut Vec<u8>, words: &[&[u8]]) -> Result<(), AllocError>
+    ensures { OnOk result (out.new.items ≡ out.old.items ++ round_slip (map (λ w. w.now) words.now)) }
+{
+    match words {
+        [] => out.extend_from_slice(
+            b"behind `round` stand a cycle, and each processor of the program",
+        ),
+        [_, numbers @ ..] => add_numbers(out, first_other_number(words), numbers.len()),
+    }
+}
+
+// The word of a round that is no number, or else how many numbers stand behind its cycle.
+fn add_numbers(out: &mut Vec<u8>, word: Option<&[u8]>, count: usize) -> Result<(), AllocError>
+    ensures { OnOk result (out.new.items ≡ out.old.items ++ numbers_slip (option_copied word.entry) count) }
+{
+    match word {
+        None => add_count(
+            out,
+            b"behind the cycle each processor of the program stands once; numbers here: ",
+            count,
+        ),
+        Some(word) => add_of(out, word, b" is no number: a number is 1 to 12 digits"),
     }
 }
 

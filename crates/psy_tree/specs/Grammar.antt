@@ -232,7 +232,12 @@ pub data Declaration : List Numbered → Item → List Numbered → Type 0 where
   agent : {name clock : Name} {budget : Lit} {locals : List Local} {stmts : List RawStmt} {n a b c body d e : ℕ} {ts us rest : List Numbered}
       → Many AgentLocal ts locals (word body words.Body ∷ sign d signs.OpenBrace ∷ us) → Block us stmts (sign e signs.CloseBrace ∷ rest)
       → Declaration (word n words.Agent ∷ named name ∷ word a words.On ∷ named clock ∷ word b words.Budget ∷ numeral budget ∷ sign c signs.OpenBrace
-      ∷ ts) (Agent name clock budget locals body stmts) rest
+      ∷ ts) (Agent name clock None budget locals body stmts) rest
+  agent_on_processor : {name clock : Name} {processor budget : Lit} {locals : List Local} {stmts : List RawStmt} {n a p b c body d e : ℕ}
+      {ts us rest : List Numbered}
+      → Many AgentLocal ts locals (word body words.Body ∷ sign d signs.OpenBrace ∷ us) → Block us stmts (sign e signs.CloseBrace ∷ rest)
+      → Declaration (word n words.Agent ∷ named name ∷ word a words.On ∷ named clock ∷ word p words.Processor ∷ numeral processor
+      ∷ word b words.Budget ∷ numeral budget ∷ sign c signs.OpenBrace ∷ ts) (Agent name clock (Some processor) budget locals body stmts) rest
 
 -- Declarations up to the end of the text
 pub data Program : List Numbered → List Item → Type 0 where

@@ -1,5 +1,5 @@
 -- The parts of a program, by number, and what stands where there is no part of that number.
-use Rattle.std.specs.Prelude.{ℕ, [], get_or, None, pos}
+use Rattle.std.specs.Prelude.{ℕ, List, [], get_or, map, None, pos}
 use Rattle.psy_clock.specs.declared.clock.Clock.{Clock}
 use Rattle.psy_tree.specs.declared.unit.AgentDecl.{AgentDecl}
 use Rattle.psy_tree.specs.declared.unit.StreamDecl.{StreamDecl}
@@ -18,9 +18,9 @@ no_variable = record { name = []; owner = None; clock = 0; init = pos 0; depth =
 abbrev pub no_stream : StreamDecl
 no_stream = record { name = []; receiver = 0; keep = 1; clock = 0 }
 
--- An agent without points
+-- An agent of processor 0 without points
 abbrev pub no_agent : AgentDecl
-no_agent = record { name = []; clock = 0; budget = 0; slots = []; points = []; stmts = [] }
+no_agent = record { name = []; clock = 0; processor = 0; budget = 0; slots = []; points = []; stmts = [] }
 
 -- The clock of a number
 abbrev pub clock_in : Whole → ℕ → Clock
@@ -37,3 +37,7 @@ stream_at unit stream = get_or unit.streams stream no_stream
 -- The agent of a number
 abbrev pub agent_at : Whole → ℕ → AgentDecl
 agent_at unit agent = get_or unit.agents agent no_agent
+
+-- By agent, the processor that runs it
+abbrev pub homes : Whole → List ℕ
+homes unit = map (λ agent. agent.processor) unit.agents

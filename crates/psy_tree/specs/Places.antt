@@ -1,6 +1,6 @@
 -- The places of a program that rules speak of, each with where it stands.
-use Rattle.std.specs.Prelude.{ℕ, ◌+◌, Bool, true, false, nat_lt, List, [], ◌∷◌, ◌++◌, map, length, Option, Some, None, is_some}
-use Rattle.psy_base.specs.declared.limits.TheConstants.{QUANTUM, BUDGET, DEPTH, KEEP, ADVANCE, AFTER, TURNS, CELLS}
+use Rattle.std.specs.Prelude.{ℕ, ◌+◌, ◌-◌, Bool, true, false, nat_lt, List, [], ◌∷◌, ◌++◌, map, length, Option, Some, None, is_some}
+use Rattle.psy_base.specs.declared.limits.TheConstants.{QUANTUM, BUDGET, DEPTH, KEEP, ADVANCE, AFTER, TURNS, CELLS, PROCESSORS}
 use Rattle.psy_tree.specs.declared.raw.Name.{Name}
 use Rattle.psy_tree.specs.declared.raw.Lit.{Lit}
 use Rattle.psy_tree.specs.declared.raw.Local.{Local}
@@ -118,6 +118,11 @@ abbrev pub parent_places : Option Name → List Place
 parent_places None = []
 parent_places (Some parent) = Uses parent asks.Parent ∷ []
 
+-- Of an agent's processor, where it names one
+abbrev pub processor_places : Option Lit → List Place
+processor_places None = []
+processor_places (Some processor) = Ranges processor 0 (PROCESSORS - 1) ∷ []
+
 -- Of a declaration's head
 abbrev pub head_places : Item → List Place
 head_places (item.Clock name by parent shift) = NamesItem name ∷ (Derives name ∷ parent_places parent)
@@ -125,7 +130,8 @@ head_places (item.Temporal name owner clock init depth) = NamesItem name ∷ (Us
 head_places (item.Input name clock init depth) = NamesItem name ∷ (Uses clock asks.Clock ∷ (Ranges depth 1 DEPTH ∷ []))
 head_places (item.Stream name receiver keep clock) = NamesItem name ∷ (Uses receiver asks.Agent ∷ (Ranges keep 1 KEEP ∷ (Uses clock asks.Clock ∷ [])))
 head_places (item.Function name params locals stmts) = NamesItem name ∷ []
-head_places (item.Agent name clock budget locals body stmts) = NamesItem name ∷ (Uses clock asks.Clock ∷ (Ranges budget 1 BUDGET ∷ []))
+head_places (item.Agent name clock processor budget locals body stmts) =
+    NamesItem name ∷ (Uses clock asks.Clock ∷ (processor_places processor ++ Ranges budget 1 BUDGET ∷ []))
 
 -- Of the names of slots, from number k on
 abbrev pub slot_places : ℕ → List SlotName → List Place
@@ -141,7 +147,7 @@ cells_places (local.Array name cells ∷ ls) = Ranges cells 1 CELLS ∷ cells_pl
 -- Of an agent's or a function's arrays and statements, and of an agent's word `body`
 abbrev pub body_places : Item → List Place
 body_places (item.Function name params locals stmts) = cells_places locals ++ stmts_places stmts
-body_places (item.Agent name clock budget locals body stmts) = cells_places locals ++ (stmts_places stmts ++ HasBody body (quiet_list stmts) ∷ [])
+body_places (item.Agent name clock processor budget locals body stmts) = cells_places locals ++ (stmts_places stmts ++ HasBody body (quiet_list stmts) ∷ [])
 body_places _ = []
 
 -- Of what stands inside its braces, the names of its slots first

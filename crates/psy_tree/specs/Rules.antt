@@ -30,7 +30,7 @@ is_clock _ = false
 
 -- There is a declaration, and it is an agent.
 abbrev pub is_agent : Option Item → Bool
-is_agent (Some (item.Agent name clock budget locals body stmts)) = true
+is_agent (Some (item.Agent name clock processor budget locals body stmts)) = true
 is_agent _ = false
 
 -- There is a declaration, and it is a function.

@@ -17,7 +17,7 @@ item_name (item.Temporal name owner clock init depth) = name
 item_name (item.Input name clock init depth) = name
 item_name (item.Stream name receiver keep clock) = name
 item_name (item.Function name params locals stmts) = name
-item_name (item.Agent name clock budget locals body stmts) = name
+item_name (item.Agent name clock processor budget locals body stmts) = name
 
 -- The parameters of a function.
 abbrev pub item_params : Item → List Name
@@ -27,13 +27,13 @@ item_params _ = []
 -- The local declarations of an agent or a function.
 abbrev pub item_locals : Item → List Local
 item_locals (item.Function name params locals stmts) = locals
-item_locals (item.Agent name clock budget locals body stmts) = locals
+item_locals (item.Agent name clock processor budget locals body stmts) = locals
 item_locals _ = []
 
 -- The statements inside an agent or a function.
 abbrev pub item_stmts : Item → List RawStmt
 item_stmts (item.Function name params locals stmts) = stmts
-item_stmts (item.Agent name clock budget locals body stmts) = stmts
+item_stmts (item.Agent name clock processor budget locals body stmts) = stmts
 item_stmts _ = []
 
 -- A parameter, variable or array, and whether it is an array.
@@ -53,7 +53,7 @@ local_slot (local.Array name cells) = record { name = name; array = true }
 -- The parameters, variables and arrays of an agent or a function, in order.
 abbrev pub slots_of : Item → List SlotName
 slots_of (item.Function name params locals stmts) = map scalar params ++ map local_slot locals
-slots_of (item.Agent name clock budget locals body stmts) = map local_slot locals
+slots_of (item.Agent name clock processor budget locals body stmts) = map local_slot locals
 slots_of _ = []
 
 -- Where a place stands: the whole program's declarations, the number of the one that it is in, and

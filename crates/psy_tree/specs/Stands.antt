@@ -49,7 +49,7 @@ counting p items = count_by (λ i. p (Some i)) items
 
 -- The points of an agent: the head of its body, and each `advance`.
 abbrev pub points_of : Item → ℕ
-points_of (item.Agent name clock budget locals body stmts) = 1 + advances_list stmts
+points_of (item.Agent name clock processor budget locals body stmts) = 1 + advances_list stmts
 points_of _ = 0
 
 -- A count passes its limit.
@@ -143,7 +143,7 @@ in_turn (n ∷ ns) points = and_more (n points).0 (in_turn ns (n points).1)
 
 -- The budget of an agent, 0 where it is none.
 abbrev pub agent_budget : Option Item → ℕ
-agent_budget (Some (item.Agent name clock budget locals body stmts)) = budget.value
+agent_budget (Some (item.Agent name clock processor budget locals body stmts)) = budget.value
 agent_budget _ = 0
 
 -- The budget that an `advance` gives the next action: its own, or the agent's.
@@ -240,15 +240,28 @@ functions items k _ = []
 abbrev pub head_point : ℕ → ℕ → Point
 head_point clock budget = record { count = 0; clock = clock; budget = budget }
 
+-- The processor that an agent names, 0 where it names none.
+abbrev pub named_processor : Option Lit → ℕ
+named_processor None = 0
+named_processor (Some processor) = processor.value
+
 -- An agent with its statements and its points.
-abbrev pub agent_with : List Item → Name → Name → Lit → List Local → List Stmt × List Point → AgentDecl
-agent_with items name clock budget locals body =
-    record { name = name.text; clock = global_number is_clock items clock; budget = budget.value; slots = map slot_of locals; points = body.1; stmts = body.0 }
+abbrev pub agent_with : List Item → Name → Name → Option Lit → Lit → List Local → List Stmt × List Point → AgentDecl
+agent_with items name clock processor budget locals body = record {
+  name = name.text;
+  clock = global_number is_clock items clock;
+  processor = named_processor processor;
+  budget = budget.value;
+  slots = map slot_of locals;
+  points = body.1;
+  stmts = body.0;
+}
 
 -- The agent that declaration number k is, where it is one.
 abbrev pub agents : List Item → ℕ → Item → List AgentDecl
-agents items k (item.Agent name clock budget locals body stmts) =
-    agent_with items name clock budget locals (stmts_of (inside_of items k) stmts (head_point (global_number is_clock items clock) budget.value ∷ [])) ∷ []
+agents items k (item.Agent name clock processor budget locals body stmts) =
+    agent_with items name clock processor budget locals
+    (stmts_of (inside_of items k) stmts (head_point (global_number is_clock items clock) budget.value ∷ [])) ∷ []
 agents items k _ = []
 
 -- What each declaration gives, from number k on

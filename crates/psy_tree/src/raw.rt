@@ -68,6 +68,8 @@ pub enum Item {
     Agent {
         name: Name,
         clock: Name,
+        /// The first where none is written.
+        processor: Option<Lit>,
         budget: Lit,
         locals: Items<Local>,
         body_token: u32,

@@ -72,6 +72,8 @@ pub struct Point {
 pub struct AgentDecl {
     pub name: Text,
     pub clock: u32,
+    /// The processor that runs its actions, numbered from 0.
+    pub processor: u32,
     pub budget: u32,
     pub slots: Items<Slots>,
     pub points: Items<Point>,

@@ -4,5 +4,6 @@ mod code;
 mod depths;
 mod exchanges;
 mod flow;
+mod processors;
 mod tokens;
 mod trees;

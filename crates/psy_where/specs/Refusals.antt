@@ -55,9 +55,9 @@ sentence_of Inputs number =
     else if number == 4 then Some (codes "a value isn't one of 32 bits")
     else None
 sentence_of Script number =
-    if number == 1 then Some (codes "this line is no stall and no order")
+    if number == 1 then Some (codes "this line is no stall, no order and no round")
     else if number == 2 then Some (codes "the program has no agent of this name")
-    else if number == 3 then Some (codes "an earlier line says this already, or an agent is named twice")
+    else if number == 3 then Some (codes "an earlier line says this already, or an agent or a processor is named twice")
     else if number == 4 then Some (codes "a number is out of its range")
     else None
 

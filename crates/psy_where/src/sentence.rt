@@ -83,9 +83,9 @@ fn script(number: u32) -> Option<&'static [u8]>
     ensures { option_copied result ≡ sentence_of What.Script number }
 {
     match number {
-        1 => Some(b"this line is no stall and no order"),
+        1 => Some(b"this line is no stall, no order and no round"),
         2 => Some(b"the program has no agent of this name"),
-        3 => Some(b"an earlier line says this already, or an agent is named twice"),
+        3 => Some(b"an earlier line says this already, or an agent or a processor is named twice"),
         4 => Some(b"a number is out of its range"),
         _ => None,
     }

@@ -20,7 +20,6 @@ ghost use Rattle.psy_history.specs.Summary.{reach};
 ghost use Rattle.psy_base.specs.Extremes.{greater};
 ghost use Rattle.psy_meaning.specs.Timing.{end_date, timing_of};
 ghost use Rattle.psy_ready.specs.Choice.{ListsEach};
-ghost use Rattle.psy_tree.specs.declared.unit.Unit.{Unit as Whole};
 ghost use Rattle.psy_tree.specs.declared.unit.VarDecl.{VarDecl};
 ghost use Rattle.psy_kernel.specs.Cycles.{AreOver, GetsCycle, IsCycleOf, IsNear, LooksBack, MayEnd, figured};
 ghost use Rattle.psy_kernel.specs.Cycles.{order_by, reach_by, run_of, run_turns};
@@ -39,7 +38,8 @@ use psy_code::CopyInit;
 use psy_dates::{Phase, Plan, Seat};
 use psy_history::Order;
 use psy_history::laws::{
-    deeds, fitting, on_time, one_processor, openings, queues, reaches, regular, ring_sizes, rings,
+    deeds, fitting, on_time, one_of_them, one_processor, openings, queues, reaches, regular,
+    ring_sizes, rings,
 };
 use psy_machine::Machine;
 use psy_ready::Ready;
@@ -230,7 +230,7 @@ fn gets(until: u32)
         → reach s (gone_to s.unit processor None turns) h variable ≡ reach s turns h variable }
     ensures same { (s : System) (turns others : ℕ → List (Option Turn)) (h : History) (variable : ℕ) → ((agent : ℕ) → turns agent ≡ others agent)
         → reach s turns h variable ≡ reach s others h variable }
-    ensures one { (unit : Whole) (agent : ℕ) → processor_at unit agent ≡ 0 }
+    ensures one { (plan : Plan) (agent : ℕ) → IsPlan plan → processor_at plan.unit agent ≡ 0 }
     ensures lawful { (plan : Plan) (opening : Opening) (inputs : List (List ℤ)) (script : Script) → IsPlan plan
         → AreInputs plan.unit inputs → IsSoundFor plan opening inputs (stalls_of script)
         → IsLawful (run_of plan opening inputs script) }
@@ -238,6 +238,7 @@ fn gets(until: u32)
     fitting();
     openings();
     regular();
+    one_of_them();
     one_processor();
     on_time();
     rings();

@@ -111,7 +111,7 @@ gives_variables items k (item.Temporal name owner clock init depth) = refl
 gives_variables items k (item.Input name clock init depth) = refl
 gives_variables items k (item.Stream name receiver keep clock) = refl
 gives_variables items k (item.Function name params locals stmts) = refl
-gives_variables items k (item.Agent name clock budget locals body stmts) = refl
+gives_variables items k (item.Agent name clock processor budget locals body stmts) = refl
 
 pub gives_streams : (items : List Item) → Gives is_stream (λ k. streams items)
 gives_streams items k (item.Stream name receiver keep clock) = refl
@@ -122,7 +122,7 @@ gives_functions items k (item.Function name params locals stmts) = refl
 gives_functions items k _ = refl
 
 pub gives_agents : (items : List Item) → Gives is_agent (agents items)
-gives_agents items k (item.Agent name clock budget locals body stmts) = refl
+gives_agents items k (item.Agent name clock processor budget locals body stmts) = refl
 gives_agents items k _ = refl
 
 pub variable_at : (raw : Raw) (k : ℕ) (i : Item) (v : VarDecl) → slice_get raw.items k ≡ Some i → variables raw.items i ≡ v ∷ [] → slice_get (unit_of raw).variables (counting is_variable (take k raw.items)) ≡ Some v

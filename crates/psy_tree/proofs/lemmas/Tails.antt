@@ -113,3 +113,4 @@ behind_declaration (grammar.Declaration.input h) = there (there (there (there (t
 behind_declaration grammar.Declaration.stream = there (there (there (there (there (there (there (there (there here))))))))
 behind_declaration (grammar.Declaration.function p m b) = there (there (there (behind_both (behind_one (behind_params p)) (behind_both (behind_locals (agent_locals m)) (behind_block b)))))
 behind_declaration (grammar.Declaration.agent m b) = there (there (there (there (there (there (there (behind_both (behind_two (behind_locals m)) (behind_one (behind_block b)))))))))
+behind_declaration (grammar.Declaration.agent_on_processor m b) = there (there (there (there (there (there (there (there (there (behind_both (behind_two (behind_locals m)) (behind_one (behind_block b)))))))))))

@@ -21,10 +21,10 @@ feasible-requires-clause-small c =
 
 pub returns-clause-yes : goal.returns-clause-yes
 returns-clause-yes c =
-    let is = subst (λ lists. IsVerdict lists c.args.quantum c.args.top c.feasible.result) c.as_slice.ensures c.feasible.ensures in
-    fits c.args.graphs.now c.in_ok-lists.lists c.args.quantum c.args.top c.in_ok-lists.ensures.lists c.feasible.result is
+    let is = subst (λ lists. IsVerdict lists c.args.homes.now c.args.quantum c.args.top c.feasible.result) c.as_slice.ensures c.feasible.ensures in
+    fits c.args.graphs.now c.in_ok-lists.lists c.args.homes.now c.args.quantum c.args.top c.in_ok-lists.ensures.lists c.feasible.result is
 
 pub returns-clause-no : goal.returns-clause-no
 returns-clause-no c =
-    let is = subst (λ lists. IsVerdict lists c.args.quantum c.args.top c.feasible.result) c.as_slice.ensures c.feasible.ensures in
-    passes c.args.graphs.now c.in_ok-lists.lists c.args.quantum c.args.top c.in_ok-lists.ensures.lists c.feasible.result is
+    let is = subst (λ lists. IsVerdict lists c.args.homes.now c.args.quantum c.args.top c.feasible.result) c.as_slice.ensures c.feasible.ensures in
+    passes c.args.graphs.now c.in_ok-lists.lists c.args.homes.now c.args.quantum c.args.top c.in_ok-lists.ensures.lists c.feasible.result is

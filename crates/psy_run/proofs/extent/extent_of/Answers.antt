@@ -1,14 +1,19 @@
 -- What is left of the proof of `extent::extent_of`.
 use Rattle.std.proofs.Common.{ℕ, subst}
-use Rattle.psy_rate.specs.Horizons.{Covers, IsHorizonOf}
-use Rattle.psy_run.proofs.SupplyLemmas.{no_horizon, nearer_is}
+use Rattle.std.specs.Prelude.{MatchOption}
+use Rattle.psy_rate.specs.Horizons.{IsHorizon}
+use Rattle.psy_rate.specs.Lines.{lines_by}
+use Rattle.psy_run.proofs.ExtentLemmas.{no_horizon, nearer_is}
 use Rattle.psy_run.proofs.extent.extent_of.Goals as goal
 
-pub returns-in-None : goal.returns-in-None
-returns-in-None c =
-    no_horizon c.args.quantum c.args.until c.args.lines.now (subst (λ lines. (length : ℕ) → Covers c.args.quantum lines length → ⊥) c.as_slice.ensures c.in-None.ensures)
+pub returns-in-None-clause-ok : goal.returns-in-None-clause-ok
+returns-in-None-clause-ok c =
+    let groups = lines_by c.args.homes.now c.args.lines.now in
+    no_horizon c.args.quantum c.args.until c.args.homes.now c.args.lines.now
+    (subst (λ found. MatchOption found ((length : ℕ) → IsHorizon c.args.quantum groups length → ⊥) (IsHorizon c.args.quantum groups)) c.in-None.is c.in_ok-horizon_of.ensures)
 
-pub returns-in-Some : goal.returns-in-Some
-returns-in-Some c =
-    let is = subst (λ lines. IsHorizonOf c.args.quantum lines c.in-Some.length) c.as_slice.ensures c.in-Some.ensures in
-    nearer_is c.args.quantum c.args.until c.in-Some.length c.args.lines.now c.within.result is c.within.ensures
+pub returns-in-Some-clause-ok : goal.returns-in-Some-clause-ok
+returns-in-Some-clause-ok c =
+    let groups = lines_by c.args.homes.now c.args.lines.now in
+    let is = subst (λ found. MatchOption found ((length : ℕ) → IsHorizon c.args.quantum groups length → ⊥) (IsHorizon c.args.quantum groups)) c.in-Some.is c.in_ok-horizon_of.ensures in
+    nearer_is c.horizons.ensures.only c.args.quantum c.args.until c.in-Some.length c.args.homes.now c.args.lines.now c.within.result is c.within.ensures

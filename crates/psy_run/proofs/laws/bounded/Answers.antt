@@ -1,5 +1,6 @@
 -- What is left of the proof of `laws::bounded`.
 use Rattle.psy_run.proofs.Accepting.{answering_bounded}
+use Rattle.psy_run.proofs.PlanLemmas.{each_apart}
 use Rattle.psy_run.proofs.laws.bounded.Goals as goal
 
 pub returns : goal.returns
@@ -8,7 +9,7 @@ returns c words files = answering_bounded (record {
   short = c.short.ensures;
   alike = λ unit is. c.alike.ensures unit (c.sound.ensures.unit is.text.0 unit is.text.1);
   timing = c.one_graph.ensures.timing;
-  alone = c.one_processor.ensures.feasible;
+  apart = each_apart c.one_of_them.ensures.few c.one_of_them.ensures.homes;
   inputs = c.lawful.ensures.inputs;
   script = c.lawful.ensures.script;
   keeps = c.bounds.ensures;

@@ -29,4 +29,5 @@ returns c words files = Answers-unique (record {
   size_fault = c.one_size.ensures.cause;
   cost = c.costs.ensures.one;
   line = c.rates.ensures.one;
+  horizon = c.horizons.ensures.only;
 }) files words

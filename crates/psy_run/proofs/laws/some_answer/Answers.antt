@@ -18,5 +18,6 @@ returns c words files = Answers-some (record {
   sizes_or_fault = c.one_size.ensures.some;
   greatest = c.greatest.ensures.some;
   line = c.rates.ensures.some;
-  horizon = c.horizons.ensures.some;
+  horizon = c.horizons.ensures.groups;
+  one_horizon = c.horizons.ensures.only;
 }) files words

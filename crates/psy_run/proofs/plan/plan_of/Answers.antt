@@ -2,7 +2,7 @@
 use Rattle.psy_dates.specs.declared.plan.Plan.{Plan}
 use Rattle.psy_run.specs.Planned.{IsStatedPlan}
 use Rattle.psy_run.specs.Supplies.{supply_of}
-use Rattle.psy_run.proofs.PlanLemmas.{is_feasible_for}
+use Rattle.psy_run.proofs.PlanLemmas.{each_apart, is_feasible_for}
 use Rattle.psy_run.proofs.SupplyLemmas.{supply_is}
 use Rattle.psy_run.proofs.plan.plan_of.Goals as goal
 
@@ -14,6 +14,6 @@ returns-clause-plan c =
     let stated : IsStatedPlan plan = record {
       compiled = record { text = c.requires.text; alike = c.requires.alike; followed = is.followed };
       buffers = is.sized;
-      supplied = is_feasible_for c.one_graph.ensures.timing c.one_processor.ensures.feasible plan is.followed _ is;
+      supplied = is_feasible_for c.one_graph.ensures.timing (each_apart c.one_of_them.ensures.few c.one_of_them.ensures.homes) plan c.requires.text.bare is.followed _ is;
     } in
     record { stated = stated; fits = c.fits.ensures plan supply.ways stated c.requires.ways }

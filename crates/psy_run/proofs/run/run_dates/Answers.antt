@@ -1,5 +1,5 @@
 -- What is left of the proof of `run::run_dates`.
-use Rattle.std.proofs.Common.{◌≡◌, ◌∙◌, refl, ap, subst, sym, ◌+◌, ◌*◌, ◌≤◌, length, arith}
+use Rattle.std.proofs.Common.{◌≡◌, ◌∙◌, ap, subst, sym, ◌+◌, ◌*◌, ◌≤◌, length, arith}
 use Rattle.psy_door.specs.Growth.{Grew, GrewByFront}
 use Rattle.psy_kernel.specs.Progress.{after_date, lines_told, system}
 use Rattle.psy_kernel.specs.Texts.{lines_of, text_of}

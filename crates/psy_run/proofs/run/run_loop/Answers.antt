@@ -1,5 +1,5 @@
 -- What is left of the proof of `run::run_loop`.
-use Rattle.std.proofs.Common.{◌≡◌, refl, ap, subst, ◌+◌, IfErr}
+use Rattle.std.proofs.Common.{◌≡◌, ap, subst, ◌+◌, IfErr}
 use Rattle.psy_door.specs.Growth.{Grew}
 use Rattle.psy_kernel.specs.Progress.{summary_told, system}
 use Rattle.psy_kernel.specs.Texts.{log_of, text_of}

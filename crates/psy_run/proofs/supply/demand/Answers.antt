@@ -1,14 +1,23 @@
 -- What is left of the proof of `supply::demand`.
-use Rattle.std.proofs.Common.{◌≡◌, ◌*◌, Err, refl, subst}
+use Rattle.std.proofs.Common.{◌≡◌, ◌∙◌, ◌*◌, ◌<◌, Err, ap, length, refl, subst, sym, arith}
 use Rattle.std.specs.List.{All, Any}
+use Rattle.psy_base.specs.declared.limits.TheConstants.{PROCESSORS}
 use Rattle.psy_demand.specs.Criterion.{HasCells, PassesCells, edges_of}
-use Rattle.psy_meaning.specs.Demand.{IsFeasible, IsOverload}
+use Rattle.psy_meaning.specs.Demand.{AreFeasible, IsOverloadOn}
 use Rattle.psy_run.specs.declared.refusal.Refusal.TheVariants.{Cells, Infeasible}
 use Rattle.psy_run.specs.Outcome.{halts_refused, halts_memory}
 use Rattle.psy_run.specs.Steps.{demanding, windowing}
 use Rattle.psy_run.proofs.Courses.{gives_then, halts_first, halts_later}
-use Rattle.psy_run.proofs.SupplyLemmas.{has_cells}
+use Rattle.psy_run.proofs.SupplyLemmas.{has_cells, homes_known, homes_of_graphs}
 use Rattle.psy_run.proofs.supply.demand.Goals as goal
+
+pub criterion-requires-clause-count : goal.criterion-requires-clause-count
+criterion-requires-clause-count c =
+    omega (arith, ap length (c.as_slice-2.ensures ∙ c.requires.homes), ap length c.as_slice.ensures, homes_of_graphs c.args.unit.now c.args.graphs.now c.requires.graphs)
+
+pub criterion-requires-clause-known : goal.criterion-requires-clause-known
+criterion-requires-clause-known c =
+    subst (All (λ home. home < PROCESSORS)) (sym (c.as_slice-2.ensures ∙ c.requires.homes)) (homes_known c.args.unit.now c.requires.text.bare)
 
 pub returns-in-Ok-Yes-clause-ok : goal.returns-in-Ok-Yes-clause-ok
 returns-in-Ok-Yes-clause-ok c =
@@ -18,7 +27,7 @@ returns-in-Ok-Yes-clause-ok c =
     let cells = has_cells top c.as_slice.result.now c.criterion.result c.in-Ok-Yes.field-0 c.in-Ok-Yes.is c.criterion.ensures.cells in
     let feasible = c.in-Ok-Yes.ensures.yes.0 c.in-Ok-Yes.field-0-is in
     gives_then (windowing graphs top) (λ done. demanding unit graphs top) tt tt (subst (All (HasCells top)) c.as_slice.ensures cells)
-    (subst (λ gs. IsFeasible (edges_of gs) unit.quantum top) c.as_slice.ensures feasible)
+    (subst (λ hs. AreFeasible hs (edges_of graphs) unit.quantum top) (c.as_slice-2.ensures ∙ c.requires.homes) (subst (λ gs. AreFeasible c.as_slice-2.result.now (edges_of gs) unit.quantum top) c.as_slice.ensures feasible))
 
 pub returns-in-Ok-No-clause-err : goal.returns-in-Ok-No-clause-err
 returns-in-Ok-No-clause-err c failed before after =
@@ -26,13 +35,18 @@ returns-in-Ok-No-clause-err c failed before after =
     let graphs = c.args.graphs.now in
     let top = c.args.top in
     let within = c.in-Ok-No.length in
+    let processor = c.in-Ok-No.processor in
     let passed = c.in-Ok-No.demand in
     let cells = has_cells top c.as_slice.result.now c.criterion.result c.in-Ok-No.field-0 c.in-Ok-No.is c.criterion.ensures.cells in
-    let over = (c.in-Ok-No.ensures.no within passed).0 c.in-Ok-No.field-0-is in
+    let over = (c.in-Ok-No.ensures.no within processor passed).0 c.in-Ok-No.field-0-is in
     let supply = c.from.result * c.from-in-Ok-No.result in
     let product : supply ≡ unit.quantum * within = λ i. c.from.ensures i * c.from-in-Ok-No.ensures i in
     halts_later (windowing graphs top) (λ done. demanding unit graphs top) failed before after tt _ (subst (All (HasCells top)) c.as_slice.ensures cells)
-    (halts_refused (Infeasible within passed supply) (subst (λ gs. IsOverload (edges_of gs) unit.quantum top within passed) c.as_slice.ensures over, product))
+    (halts_refused (Infeasible within passed supply processor) (
+      subst (λ hs. IsOverloadOn hs (edges_of graphs) unit.quantum top within processor passed) (c.as_slice-2.ensures ∙ c.requires.homes)
+          (subst (λ gs. IsOverloadOn c.as_slice-2.result.now (edges_of gs) unit.quantum top within processor passed) c.as_slice.ensures over),
+      product,
+    ))
 
 pub returns-in-Err-Cells-clause-err : goal.returns-in-Err-Cells-clause-err
 returns-in-Err-Cells-clause-err c failed before after =

@@ -1,5 +1,5 @@
 -- What is left of the proof of `texts::write_edges`.
-use Rattle.std.proofs.Common.{◌∙◌, ◌+◌, flat_map, take, arith}
+use Rattle.std.proofs.Common.{◌∙◌, ◌+◌, flat_map, take}
 use Rattle.psy_run.specs.Texts.{edge_text}
 use Rattle.psy_run.proofs.TextLemmas.{items_more, items_split}
 use Rattle.psy_run.proofs.WritingLemmas.{Grew-item, GrewByFront-item}

@@ -1,5 +1,5 @@
 -- What is left of the proof of `texts::write_nodes`.
-use Rattle.std.proofs.Common.{◌∙◌, ◌+◌, take, arith}
+use Rattle.std.proofs.Common.{◌∙◌, ◌+◌, take}
 use Rattle.psy_run.specs.Texts.{nodes_text}
 use Rattle.psy_run.proofs.TextLemmas.{nodes_more, nodes_split}
 use Rattle.psy_run.proofs.WritingLemmas.{Grew-item, GrewByFront-item}

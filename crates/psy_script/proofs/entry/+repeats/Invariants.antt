@@ -3,4 +3,4 @@ use Rattle.std.proofs.Common.{length}
 use Rattle.psy_script.proofs.entry.+repeats.Given as goal
 
 abbrev pub decreases-repeats : goal.decreases-repeats
-decreases-repeats l = length l.numbers.now
+decreases-repeats g l = length l.items.now

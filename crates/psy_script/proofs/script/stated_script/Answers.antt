@@ -3,7 +3,7 @@ use Rattle.std.proofs.Common.{◌≡◌, ◌+◌, ◌∙◌, [], ◌∷◌, ◌+
 use Rattle.psy_text.specs.Lines.{lines_of}
 use Rattle.psy_script.specs.Script.{script_in, script_judge}
 use Rattle.psy_script.proofs.FirstFaults.{AreRead, read_all, read_more}
-use Rattle.psy_script.proofs.SoundScripts.{script_is}
+use Rattle.psy_script.proofs.SoundScripts.{Rises, script_is}
 use Rattle.psy_script.proofs.script.stated_script.Goals as goal
 
 pub loop-cut-preserved : goal.loop-cut-preserved
@@ -23,4 +23,9 @@ returns-clause-script c =
     let before = c.loop-cut.invariant.0 in
     let all = read_all judge c.args.text.now before (subst (AreRead judge c.args.text.now before) c.in_default.ensures c.loop-cut.invariant.2) in
     let lines = c.in_ok-into_script.ensures.all ∙ c.loop-cut.invariant.3 ∙ ap (script_in c.args.unit.now) all.1 in
-    script_is c.args.unit.now (lines_of c.args.text.now) c.in_ok-into_script.field-0 all.0.sound lines c.in_ok-into_script.ensures.stalls_rise c.in_ok-into_script.ensures.orders_rise
+    let rises : Rises c.in_ok-into_script.field-0 = record {
+      stalls = c.in_ok-into_script.ensures.stalls_rise;
+      orders = c.in_ok-into_script.ensures.orders_rise;
+      rounds = c.in_ok-into_script.ensures.rounds_rise;
+    } in
+    script_is c.args.unit.now (lines_of c.args.text.now) c.in_ok-into_script.field-0 all.0.sound lines rises

@@ -1,5 +1,5 @@
 -- What is left of the proof of `kernel::cycle::gets`.
-use Rattle.std.proofs.Common.{◌+◌, All, subst}
+use Rattle.std.proofs.Common.{◌+◌, All, subst, arith}
 use Rattle.std.proofs.lemmas.List.Elements.{All-head}
 use Rattle.std.specs.Prelude.{ℕ, List, ◌∷◌, ◌≡◌, ℤ, true}
 use Rattle.psy_dates.specs.declared.plan.Plan.{Plan}
@@ -7,6 +7,7 @@ use Rattle.psy_dates.specs.Plans.{IsPlan, IsSoundFor}
 use Rattle.psy_dates.proofs.lemmas.Fits.{goes_well_from}
 use Rattle.psy_history.specs.declared.told.Script.{Script}
 use Rattle.psy_history.specs.Compiled.{AreInputs}
+use Rattle.psy_history.specs.Processors.{processors}
 use Rattle.psy_history.specs.Regular.{Runs}
 use Rattle.psy_history.specs.Runs.{IsRun}
 use Rattle.psy_history.specs.Scheduled.{IsSupplied}
@@ -67,7 +68,9 @@ pub returns-clause-same : goal.returns-clause-same
 returns-clause-same c = c.reaches.ensures.same
 
 pub returns-clause-one : goal.returns-clause-one
-returns-clause-one c = c.one_processor.ensures.agents
+returns-clause-one c = λ plan agent its.
+    let only : processors plan.unit ≡ 1 = omega (arith, c.one_of_them.ensures.few plan.unit its.fits.bare, c.one_of_them.ensures.one plan.unit agent) in
+    c.one_processor.ensures.agents plan.unit agent only
 
 pub returns-clause-lawful : goal.returns-clause-lawful
 returns-clause-lawful c = λ plan opening inputs script of_plan of_inputs sound. c.regular.ensures.lawful (run_of plan opening inputs script) (Listed of_plan.ways) plan.code (run_is c plan opening inputs script of_plan of_inputs sound)
