@@ -62,15 +62,16 @@ class Point:
     budget: int
 
 
-@dataclass
+@dataclass(eq=False)
 class Agent:
     clock: Clock
+    processor: int
     variables: dict
     points: list
     body: list = field(default_factory=list)
 
 
-@dataclass
+@dataclass(eq=False)
 class Program:
     quantum: int = 0
     clocks: dict = field(default_factory=dict)
@@ -78,6 +79,11 @@ class Program:
     streams: dict = field(default_factory=dict)
     functions: dict = field(default_factory=dict)
     agents: dict = field(default_factory=dict)
+
+    def processors(self):
+        """By processor, the names of its agents, in order of declaration."""
+        count = 1 + max((agent.processor for agent in self.agents.values()), default=0)
+        return [[name for name, agent in self.agents.items() if agent.processor == number] for number in range(count)]
 
 
 class Parser:
@@ -191,9 +197,10 @@ class Parser:
     def read_agent(self):
         name = self.next()
         clock = self.behind("on", self.clock)
+        processor = self.number() if self.accept("processor") else 0
         self.budget = self.behind("budget", self.number)
         self.expect("{")
-        self.agent = Agent(clock, self.declarations(), [Point(0, clock, self.budget)])
+        self.agent = Agent(clock, processor, self.declarations(), [Point(0, clock, self.budget)])
         self.expect("body")
         self.agent.body = self.block()
         self.program.agents[name] = self.agent
@@ -316,11 +323,13 @@ def read_inputs(path):
 
 
 def read_script(path):
-    """The stalls, by agent, action and instruction; and the orders, rising by cycle."""
-    stalls, orders = {}, []
-    for words in spoken(path):
-        if words[0] == "stall":
-            stalls[words[1], int(words[2]), int(words[3])] = int(words[4])
+    """The stalls, by agent, action and instruction; and the orders and the rounds, rising by cycle."""
+    stalls, orders, rounds = {}, [], []
+    for word, *words in spoken(path):
+        if word == "stall":
+            stalls[words[0], int(words[1]), int(words[2])] = int(words[3])
+        elif word == "order":
+            orders.append((int(words[0]), words[1:]))
         else:
-            orders.append((int(words[1]), words[2:]))
-    return stalls, sorted(orders)
+            rounds.append((int(words[0]), [int(number) for number in words[1:]]))
+    return stalls, sorted(orders), sorted(rounds)

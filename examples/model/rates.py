@@ -1,4 +1,4 @@
-"""The line above each agent's demand, the length from which on the processor is above all lines, and the demand itself, as they are defined."""
+"""The line above each agent's demand, the length from which on each processor is above the lines of its agents, and the demand itself, as they are defined."""
 from functools import lru_cache
 
 from meaning import next_points, pieces
@@ -49,7 +49,7 @@ def line(edges):
 
 
 def horizon(lines, quantum):
-    """The least length from which on the supply is above the lines of all agents; None where there is none."""
+    """The least length from which on the supply of a processor is above the lines of its agents; None where there is none."""
     rate, intercept = sum(rate for rate, _ in lines), sum(intercept for _, intercept in lines)
     left = quantum * SCALE - rate
     if left < 0 or left == 0 < intercept:
@@ -58,7 +58,7 @@ def horizon(lines, quantum):
 
 
 def demand(graphs, length):
-    """The sum of the greatest budgets of paths of which the last action is due within the length."""
+    """The sum, over the agents of a processor, of the greatest budgets of paths of which the last action is due within the length."""
     def greatest(edges):
         @lru_cache(None)
         def behind(place, left):
@@ -74,13 +74,16 @@ def demand(graphs, length):
 
 def judged(program, until):
     """The lines that a check writes of rates, and its verdict; or the one line that tells where the demand isn't supplied."""
-    graphs = [edges_of(program, agent) for agent in program.agents.values()]
-    lines = [line(edges) for edges in graphs]
-    end = horizon(lines, program.quantum)
+    graphs = {name: edges_of(program, agent) for name, agent in program.agents.items()}
+    lines = {name: line(edges) for name, edges in graphs.items()}
+    ends = [horizon([lines[name] for name in names], program.quantum) for names in program.processors()]
+    end = None if None in ends else max(ends)
     top = until if end is None or end > until else end
     for length in range(1, top + 1):
-        asked = demand(graphs, length)
-        if asked > program.quantum * length:
-            return False, [f"infeasible {length} {asked} {program.quantum * length}"]
-    rates = [f"rate {name} {rate} {intercept}" for name, (rate, intercept) in zip(program.agents, lines)]
+        for processor, names in enumerate(program.processors()):
+            asked = demand([graphs[name] for name in names], length)
+            if asked > program.quantum * length:
+                told = f" on {processor}" if processor else ""
+                return False, [f"infeasible {length} {asked} {program.quantum * length}{told}"]
+    rates = [f"rate {name} {rate} {intercept}" for name, (rate, intercept) in lines.items()]
     return True, rates + ["feasible always" if end == top else f"feasible {until}"]

@@ -82,6 +82,22 @@ def common(periods):
     return shared
 
 
+@lru_cache(None)
+def points_from(agent, point):
+    return next_points(pieces(agent, point))[0]
+
+
+@lru_cache(None)
+def looks_from(agent, point):
+    return may_look(pieces(agent, point))[0]
+
+
+@lru_cache(None)
+def sends_from(agent, point, stream):
+    return most_sends(pieces(agent, point), stream)[0]
+
+
+@lru_cache(None)
 def steps(program, agent):
     """Each point and date at which an action of the agent may start, with the dates at which it may end, by point."""
     clocks = program.clocks.values()
@@ -91,8 +107,7 @@ def steps(program, agent):
         point, date = open_.pop()
         if (point, date) in found or date > last:
             continue
-        reached = next_points(pieces(agent, point))[0]
-        ends = {to: agent.points[to].clock.after(date, agent.points[to].count) for to in reached}
+        ends = {to: agent.points[to].clock.after(date, agent.points[to].count) for to in points_from(agent, point)}
         found[point, date] = ends
         open_ += ends.items()
     return found
@@ -103,7 +118,7 @@ def ring(program, name):
     variable, most = program.variables[name], 0
     for agent in program.agents.values():
         for (point, date), ends in steps(program, agent).items():
-            if name in may_look(pieces(agent, point))[0]:
+            if name in looks_from(agent, point):
                 most = max(most, variable.clock.count(min(ends.values()) - 1) - variable.clock.count(date))
     return variable.depth + most
 
@@ -113,7 +128,7 @@ def spread(program, agent, stream, window):
     cycle = common(point.clock.period for point in agent.points[1:])
     edges = {}
     for (point, date), ends in steps(program, agent).items():
-        sends = most_sends(pieces(agent, point), stream)[0]
+        sends = sends_from(agent, point, stream)
         edges.setdefault((point, date % cycle), set()).update((to, end % cycle, end - date, sends.get(to, 0)) for to, end in ends.items())
 
     @lru_cache(None)

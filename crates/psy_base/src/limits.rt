@@ -10,8 +10,8 @@ pub const CLOCKS: usize = 64;
 /// Declared agents.
 pub const AGENTS: usize = 64;
 
-/// Processors of a program, numbered from 0: one so far.
-pub const PROCESSORS: u32 = 1;
+/// Processors of a program, numbered from 0.
+pub const PROCESSORS: u32 = 8;
 
 /// Declared temporal variables and inputs together.
 pub const VARIABLES: usize = 256;
@@ -142,7 +142,7 @@ mod tests {
             (AFTER, 1_024, "dates of a delay"),
             (TURNS, 65_536, "turns"),
             (CELLS, 256, "cells"),
-            (PROCESSORS, 1, "processors"),
+            (PROCESSORS, 8, "processors"),
             (BRACKETS, 64, "open brackets"),
             (OPERATORS, 256, "operators"),
             (OPEN_CALLS, 64, "open calls"),

@@ -28,9 +28,9 @@ pub many_rows : (a b c d e f : List Row) → length a ≤ length d → length b 
 many_rows a b c d e f p q r many =
     ⊎_elim (λ h. inl (omega (arith, p, h))) (λ rest. inr (⊎_elim (λ h. inl (omega (arith, q, h))) (λ h. inr (omega (arith, r, h))) rest)) many
 
--- The same rows
-pub many_rows_are : (a b c d e f : List Row) → a ≡ d → b ≡ e → c ≡ f → HasManyRows a b c → HasManyRows d e f
-many_rows_are a b c d e f p q r many = subst (HasManyRows d e) r (subst (λ s. HasManyRows d s c) q (subst (λ s. HasManyRows s b c) p many))
+-- As many rows are too many too.
+pub many_rows_as : (a b c d e f : List Row) → length a ≡ length d → length b ≡ length e → length c ≡ length f → HasManyRows a b c → HasManyRows d e f
+many_rows_as a b c d e f p q r many = many_rows a b c d e f (omega (arith, p)) (omega (arith, q)) (omega (arith, r)) many
 
 -- A greater number
 pub beyond : (most a b : ℕ) → a ≤ b → most < a → most < b

@@ -1,4 +1,5 @@
 -- The lemmas of this crate, by subject.
+mod Agreeing
 mod Carrying
 mod Clean
 mod Crowded
@@ -15,9 +16,11 @@ mod Last
 mod NameTables
 mod Pictured
 mod Placing
+mod PlainRows
 mod Positions
 mod Refused
 mod Rows
+mod Sayings
 mod Standing
 mod SummaryNames
 mod Undated

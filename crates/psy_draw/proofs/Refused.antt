@@ -1,6 +1,6 @@
 -- Refusals.
 use Rattle.std.proofs.Common.{◌≡◌, Result, Ok, Err, ap}
-use Rattle.std.specs.Prelude.{OnOk}
+use Rattle.std.specs.Prelude.{IfOk, OnOk}
 use Rattle.psy_draw.specs.declared.fault.DrawFault.{DrawFault}
 use Rattle.psy_draw.specs.declared.fault.DrawFault.TheVariants as fault
 use Rattle.psy_draw.specs.declared.room.RoomFault.{RoomFault}
@@ -35,3 +35,8 @@ on_ok P (Err e) p = tt
 pub if_ok : {T E : Type 0} (P Q : Type 0) (r : Result T E) → (P → Q) → OnOk r P → OnOk r Q
 if_ok P Q (Ok x) more p = more p
 if_ok P Q (Err e) more p = tt
+
+-- What holds of what came, and what follows from that
+pub ok_more : {T E : Type 0} {A B : T → Type 0} (came : Result T E) → ((x : T) → A x → B x) → IfOk came A → IfOk came B
+ok_more (Ok x) more is = more x is
+ok_more (Err e) more is = tt

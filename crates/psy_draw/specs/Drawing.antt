@@ -4,11 +4,12 @@ use Rattle.psy_draw.specs.declared.hover.TheConstants.{TELLING_COLUMNS}
 use Rattle.psy_draw.specs.declared.lane.Lane.{Lane}
 use Rattle.psy_draw.specs.Groups.{lane_end, lane_head}
 use Rattle.psy_draw.specs.Insides.{lane_inside}
-use Rattle.psy_draw.specs.Shapes.{class_of, columns_of, height_of}
+use Rattle.psy_draw.specs.Shapes.{class_of, columns_of, height_of, processor_of}
 
 -- The group of a lane at a place, with this inside
 abbrev pub lane_text : ℕ → ℕ → Lane → List ℕ → List ℕ
-lane_text left top lane inside = lane_head (class_of lane.shape) left top (height_of lane.shape) lane.name.now ++ (inside ++ lane_end)
+lane_text left top lane inside =
+    lane_head (class_of lane.shape) left top (height_of lane.shape) lane.name.now (processor_of lane.shape) ++ (inside ++ lane_end)
 
 -- A lane at a place, with what stands in it
 abbrev pub drawn_lane : (ℕ → ℕ) → Bool → ℕ → ℕ → Lane → List ℕ

@@ -9,6 +9,7 @@ use Rattle.psy_draw.specs.declared.node.Node.{Node}
 use Rattle.psy_draw.specs.declared.node.Step.{Step}
 use Rattle.psy_draw.specs.declared.folded.TheConstants.{MOST_PHASES}
 use Rattle.psy_draw.specs.Graph.{node_name, opening}
+use Rattle.psy_draw.specs.Homes.{Housed, home_at}
 
 -- ---- the graph of an agent
 
@@ -110,10 +111,10 @@ arrow_text agent from steps to = arrow_by agent from to (flat_map (phase_to to) 
 abbrev pub arrows_text : List ℕ → List Node → List Note → ℕ → ℕ → List ℕ
 arrows_text agent nodes notes count from = flat_map (arrow_text agent from (steps_from nodes notes from)) (range_with_len 0 count)
 
--- The cluster of an agent whose points have these lines, and whose graph is in these notes
-abbrev pub cluster_text : List ℕ → List (List ℕ) → List Note → List ℕ
-cluster_text agent lines notes =
-    opening agent ++ flat_map (point_text agent lines (nodes_of notes)) (range_with_len 0 (length lines))
+-- The cluster of an agent whose points have these lines, and whose graph is in these notes; with its processor, where one is told
+abbrev pub cluster_text : List ℕ → Option ℕ → List (List ℕ) → List Note → List ℕ
+cluster_text agent processor lines notes =
+    opening agent processor ++ flat_map (point_text agent lines (nodes_of notes)) (range_with_len 0 (length lines))
     ++ flat_map (arrows_text agent (nodes_of notes) notes (length lines)) (range_with_len 0 (length lines)) ++ codes "  }\n"
 
 -- Of lists of lines the first, and those behind it
@@ -125,13 +126,13 @@ abbrev pub more_lines : List (List (List ℕ)) → List (List (List ℕ))
 more_lines [] = []
 more_lines (lines ∷ more) = more
 
--- The clusters of the agents whose graphs these notes tell, with the lines of their points, agent by agent
-abbrev pub folded_clusters : List (List (List ℕ)) → List Note → List ℕ
-folded_clusters lines [] = []
-folded_clusters lines (note.AgentGraph agent nodes edges ∷ notes) =
-    cluster_text agent.now (first_lines lines) (inside notes) ++ folded_clusters (more_lines lines) notes
-folded_clusters lines (_ ∷ notes) = folded_clusters lines notes
+-- The clusters of the agents whose graphs these notes tell, with their processors, and with the lines of their points, agent by agent
+abbrev pub folded_clusters : List Housed → List (List (List ℕ)) → List Note → List ℕ
+folded_clusters homes lines [] = []
+folded_clusters homes lines (note.AgentGraph agent nodes edges ∷ notes) =
+    cluster_text agent.now (home_at homes agent.now) (first_lines lines) (inside notes) ++ folded_clusters homes (more_lines lines) notes
+folded_clusters homes lines (_ ∷ notes) = folded_clusters homes lines notes
 
 -- The whole text
-abbrev pub folded_of : List (List (List ℕ)) → List Note → List ℕ
-folded_of lines notes = codes "digraph psyc {\n  rankdir=LR;\n  node [shape=box];\n" ++ folded_clusters lines notes ++ codes "}\n"
+abbrev pub folded_of : List Housed → List (List (List ℕ)) → List Note → List ℕ
+folded_of homes lines notes = codes "digraph psyc {\n  rankdir=LR;\n  node [shape=box];\n" ++ folded_clusters homes lines notes ++ codes "}\n"

@@ -6,6 +6,7 @@ use Rattle.psy_log.specs.declared.note.Note.TheVariants as note
 use Rattle.psy_draw.specs.ByName.{Each}
 use Rattle.psy_draw.specs.Columns.{Dated, Keeps, is_there, is_there_still}
 use Rattle.psy_draw.specs.Dates.{last_date}
+use Rattle.psy_draw.specs.Homes.{Housed}
 use Rattle.psy_draw.specs.Lanes.{is_asked, last_alone, may_have_lane, message_values, values_before, values_within}
 use Rattle.psy_draw.specs.Planning.{Are, Shown, stop_lanes}
 use Rattle.psy_draw.specs.Scales.{place_by}
@@ -93,7 +94,8 @@ abbrev pub values_behind : Scale → (List ℕ → List Dated) → List Note →
 values_behind scale first notes name = first name ++ flat_map (values_within scale.from scale.to name) notes
 
 -- What was gathered is what these notes tell, of variables with these values at the first date.
-pub record Gathers (scale : Scale) (names : List (List ℕ)) (first : List ℕ → List Dated) (notes : List Note) (gathering : Gathering) : Type 0 where
-  pub stops : AreStops (place_by scale) (flat_map (stop_lanes scale.to names) notes) gathering.stopped.lanes.items gathering.stopped.full
+pub record Gathers (scale : Scale) (homes : List Housed) (names : List (List ℕ)) (first : List ℕ → List Dated) (notes : List Note) (gathering : Gathering)
+    : Type 0 where
+  pub stops : AreStops (place_by scale) (flat_map (stop_lanes scale.to homes names) notes) gathering.stopped.lanes.items gathering.stopped.full
   pub variables : AreColumns (place_by scale) (is_there_still (place_by scale)) (values_behind scale first notes) gathering.variables
   pub streams : AreColumns (place_by scale) (is_there (place_by scale)) (λ name. message_values scale.from scale.to name notes) gathering.streams

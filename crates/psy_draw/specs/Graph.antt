@@ -1,5 +1,6 @@
 -- Action graphs in the language DOT of Graphviz: a cluster for each agent, in it a box for each node and an arrow for each edge.
 use Rattle.std.specs.Prelude.{ℕ, List, [], ◌∷◌, ◌++◌, codes, decimal, Option, None, Some, unwrap_or}
+use Rattle.psy_log.specs.Forms.{on_processor}
 use Rattle.psy_log.specs.declared.note.Note.{Note}
 use Rattle.psy_log.specs.declared.note.Note.TheVariants as note
 
@@ -8,9 +9,10 @@ abbrev pub closing : Option (List ℕ) → List ℕ
 closing None = []
 closing (Some agent) = codes "  }\n"
 
--- What opens an agent's cluster
-abbrev pub opening : List ℕ → List ℕ
-opening agent = codes "  subgraph \"cluster_" ++ agent ++ codes "\" {\n    label=\"" ++ agent ++ codes "\";\n"
+-- What opens an agent's cluster: it has the agent's name, and its processor, where one is told
+abbrev pub opening : List ℕ → Option ℕ → List ℕ
+opening agent processor =
+    codes "  subgraph \"cluster_" ++ agent ++ codes "\" {\n    label=\"" ++ agent ++ on_processor processor ++ codes "\";\n"
 
 -- The name of an agent's node
 abbrev pub node_name : Option (List ℕ) → ℕ → List ℕ
@@ -30,7 +32,7 @@ edge_text agent from to len =
 -- What notes draw within the cluster of an agent, and the clusters behind it; other notes than a graph's draw nothing
 abbrev pub clusters : Option (List ℕ) → List Note → List ℕ
 clusters agent [] = closing agent
-clusters agent (note.AgentGraph next nodes edges ∷ notes) = closing agent ++ opening next.now ++ clusters (Some next.now) notes
+clusters agent (note.AgentGraph next nodes edges ∷ notes) = closing agent ++ opening next.now None ++ clusters (Some next.now) notes
 clusters agent (note.Node number point phase budget worst due ∷ notes) = node_text agent number point phase budget worst due ++ clusters agent notes
 clusters agent (note.EdgeOf from to len ∷ notes) = edge_text agent from to len ++ clusters agent notes
 clusters agent (_ ∷ notes) = clusters agent notes

@@ -8,14 +8,17 @@ use Rattle.psy_draw.specs.declared.lane.Lane.{Lane}
 use Rattle.psy_draw.specs.declared.lane.Shape.{Shape}
 use Rattle.psy_draw.specs.declared.lane.Shape.TheVariants as shape
 use Rattle.psy_draw.specs.declared.room.TheConstants.{MOST_LANES}
+use Rattle.psy_draw.specs.Homes.{Housed, home_at}
+use Rattle.psy_draw.specs.Knowledge.{Knowledge}
 use Rattle.psy_draw.specs.Lanes.{held_values, is_asked, message_values}
 use Rattle.psy_draw.specs.Silences.{Silent, silence_at}
 use Rattle.psy_log.specs.declared.note.Note.{Note}
 use Rattle.psy_log.specs.declared.note.Note.TheVariants as note
 
--- What a lane shows: a stop at a date, by a trap or by a spent budget; the values of a variable; the messages of a stream
+-- What a lane shows: a stop at a date, by a trap or by a spent budget, of an agent of a processor, where one is told; the values of a variable; the messages of
+-- a stream
 pub data Content : Type 0 where
-  Stopped : ℕ → Option Trap → Content
+  Stopped : ℕ → Option Trap → Option ℕ → Content
   Held : List Dated → Content
   Sent : List Dated → Content
 
@@ -26,14 +29,15 @@ pub record Shown : Type 0 where
   pub content : Content
 
 -- The lane of a stop up to a date, where its agent was asked for
-abbrev pub stop_lane : ℕ → List (List ℕ) → ℕ → List ℕ → Option Trap → List Shown
-stop_lane to names date agent trap = cond (nat_le date to && is_asked names agent) (record { name = agent; silent = None; content = Stopped date trap } ∷ []) []
+abbrev pub stop_lane : ℕ → List Housed → List (List ℕ) → ℕ → List ℕ → Option Trap → List Shown
+stop_lane to homes names date agent trap =
+    cond (nat_le date to && is_asked names agent) (record { name = agent; silent = None; content = Stopped date trap (home_at homes agent) } ∷ []) []
 
 -- The lane that a note tells of a stopped agent
-abbrev pub stop_lanes : ℕ → List (List ℕ) → Note → List Shown
-stop_lanes to names (note.StopOverrun date agent) = stop_lane to names date agent.now None
-stop_lanes to names (note.StopTrap date agent kind) = stop_lane to names date agent.now (Some kind)
-stop_lanes to names _ = []
+abbrev pub stop_lanes : ℕ → List Housed → List (List ℕ) → Note → List Shown
+stop_lanes to homes names (note.StopOverrun date agent) = stop_lane to homes names date agent.now None
+stop_lanes to homes names (note.StopTrap date agent kind) = stop_lane to homes names date agent.now (Some kind)
+stop_lanes to homes names _ = []
 
 -- The lane of a variable's values, where there are some and it was asked for
 abbrev pub value_lane : List Silent → List (List ℕ) → List ℕ → List Dated → List Shown
@@ -65,14 +69,15 @@ stream_lanes from to names notes (note.StreamEnd stream size held) = message_lan
 stream_lanes from to names notes _ = []
 
 -- The lanes of a run in a window, from its first date to its last: of the stopped agents, of the variables, of the streams
-abbrev pub lanes_of : ℕ → ℕ → List Silent → List (List ℕ) → List Note → List Shown
-lanes_of from to silences names notes =
-    flat_map (stop_lanes to names) notes ++ (flat_map (variable_lanes from to silences names notes) notes ++ flat_map (stream_lanes from to names notes) notes)
+abbrev pub lanes_of : ℕ → ℕ → Knowledge → List (List ℕ) → List Note → List Shown
+lanes_of from to known names notes =
+    flat_map (stop_lanes to known.homes names) notes
+    ++ (flat_map (variable_lanes from to known.silences names notes) notes ++ flat_map (stream_lanes from to names notes) notes)
 
 -- A shape has what a lane shows, by the places of dates: the stop, or columns that stand for the values; those of a variable are boxes where they keep few
 -- different values, and a line else.
 abbrev pub Has : (ℕ → ℕ) → Shape → Content → Type 0
-Has place (shape.Stop stop) (Stopped date trap) = (stop.date ≡ date) × (stop.trap ≡ trap) × (stop.x ≡ place date)
+Has place (shape.Stop stop) (Stopped date trap processor) = (stop.date ≡ date) × (stop.trap ≡ trap) × (stop.processor ≡ processor) × (stop.x ≡ place date)
 Has place (shape.Curve columns) (Held values) = Keeps place (is_there_still place) values columns.items × (is_few columns.items ≡ false)
 Has place (shape.Boxes columns) (Held values) = Keeps place (is_there_still place) values columns.items × (is_few columns.items ≡ true)
 Has place (shape.Marks columns) (Sent values) = Keeps place (is_there place) values columns.items

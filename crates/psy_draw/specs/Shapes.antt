@@ -1,5 +1,5 @@
 -- The shapes of lanes.
-use Rattle.std.specs.Prelude.{ℕ, List, [], codes}
+use Rattle.std.specs.Prelude.{ℕ, List, [], Option, None, codes}
 use Rattle.psy_draw.specs.declared.boxes.TheConstants.{BOXES_HEIGHT}
 use Rattle.psy_draw.specs.declared.column.Column.{Column}
 use Rattle.psy_draw.specs.declared.curve.TheConstants.{CURVE_HEIGHT}
@@ -21,6 +21,11 @@ class_of (shape.Stop stop) = codes "stop"
 class_of (shape.Curve columns) = codes "variable"
 class_of (shape.Boxes columns) = codes "variable"
 class_of (shape.Marks columns) = codes "stream"
+
+-- The processor of its agent, where it is the lane of one and the processor is told
+abbrev pub processor_of : Shape → Option ℕ
+processor_of (shape.Stop stop) = stop.processor
+processor_of _ = None
 
 -- Its columns
 abbrev pub columns_of : Shape → List Column

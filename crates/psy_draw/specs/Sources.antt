@@ -4,23 +4,29 @@ use Rattle.std.specs.List.{flat_map}
 use Rattle.psy_draw.specs.declared.source.Source.{Source}
 use Rattle.psy_draw.specs.declared.stopped.Stopped.{Stopped}
 use Rattle.psy_draw.specs.Columns.{is_there, is_there_still}
-use Rattle.psy_draw.specs.Gathering.{AreColumns, AreStops, asks_stream, asks_variable, undated}
+use Rattle.psy_draw.specs.Gathering.{AreColumns, AreStops, asks_stream, asks_variable}
+use Rattle.psy_draw.specs.Knowledge.{Knowledge, knowledge_of}
 use Rattle.psy_draw.specs.Lanes.{held_values, message_values}
 use Rattle.psy_draw.specs.Listing.{Lists}
 use Rattle.psy_draw.specs.Pictures.{IsCrowded, IsFile, IsInside}
 use Rattle.psy_draw.specs.Planning.{Shown, input_name, input_names, lanes_of}
 use Rattle.psy_draw.specs.Planning.{message_lane, stop_lanes, stream_lanes, value_lane, variable_lanes}
+use Rattle.psy_draw.specs.Sayings.{HasSummary}
 use Rattle.psy_draw.specs.Scales.{place_by}
-use Rattle.psy_draw.specs.Silences.{Silent, silent_of}
+use Rattle.psy_draw.specs.Silences.{Silent}
 use Rattle.psy_log.specs.declared.note.Note.{Note}
 
 -- The names that were asked for
 abbrev pub names_in : Source → List (List ℕ)
 names_in source = map string_bytes source.names.now
 
+-- What the program tells
+abbrev pub known_in : Source → Knowledge
+known_in source = knowledge_of source.known
+
 -- From when on variables are silent
 abbrev pub silences_in : Source → List Silent
-silences_in source = map silent_of source.silences.now
+silences_in source = (known_in source).silences
 
 -- The places of dates
 abbrev pub place_in : Source → ℕ → ℕ
@@ -40,11 +46,11 @@ pub record HasNames (source : Source) : Type 0 where
 
 -- The lanes of a run with these notes
 abbrev pub lanes_in : Source → List Note → List Shown
-lanes_in source notes = lanes_of source.scale.now.from source.scale.now.to (silences_in source) (names_in source) notes
+lanes_in source notes = lanes_of source.scale.now.from source.scale.now.to (known_in source) (names_in source) notes
 
 -- The lane that a note tells of a stopped agent
 abbrev pub stops_of : Source → Note → List Shown
-stops_of source note = stop_lanes source.scale.now.to (names_in source) note
+stops_of source note = stop_lanes source.scale.now.to (known_in source).homes (names_in source) note
 
 -- The lane that a note tells of a variable
 abbrev pub variables_of : Source → List Note → Note → List Shown
@@ -83,18 +89,18 @@ messages_in source notes name = message_lane (names_in source) name (message_val
 pub record IsOf (source : Source) (stopped : Stopped) (notes : List Note) : Type 0 where
   pub draws : Draws source notes
   pub stops : AreStops (place_in source) (flat_map (stops_of source) notes) stopped.lanes.items stopped.full
-  pub summary : undated notes ≡ undated source.summary.now
+  pub summary : HasSummary notes source.summary.now
 
 -- A picture of it would have too many lanes, names or rows.
 abbrev pub IsCrowdedBy : Source → List Note → Type 0
-IsCrowdedBy source notes = IsCrowded source.scale.now.from source.scale.now.to (silences_in source) (names_in source) notes
+IsCrowdedBy source notes = IsCrowded source.scale.now.from source.scale.now.to (known_in source) (names_in source) notes
 
 -- A text is the inside of the file of the picture.
 abbrev pub IsInsideBy : List ℕ → Source → List Note → List ℕ → Type 0
 IsInsideBy name source notes text =
-    IsInside name source.scale.now.from source.scale.now.to source.scale.now.grain (silences_in source) (names_in source) notes text
+    IsInside name source.scale.now.from source.scale.now.to source.scale.now.grain (known_in source) (names_in source) notes text
 
 -- A file is that of the picture, or says that it would be too large.
 abbrev pub IsFileBy : List ℕ → Source → List Note → List ℕ → Type 0
 IsFileBy name source notes svg =
-    IsFile name source.scale.now.from source.scale.now.to source.scale.now.grain (silences_in source) (names_in source) notes svg
+    IsFile name source.scale.now.from source.scale.now.to source.scale.now.grain (known_in source) (names_in source) notes svg

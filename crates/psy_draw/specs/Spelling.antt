@@ -2,6 +2,7 @@
 use Rattle.std.specs.Prelude.{◌==◌, ℕ, List, [], ◌∷◌, ◌++◌, codes, cond, decimal, nat_le}
 use Rattle.std.specs.Fmt.{signed_decimal}
 use Rattle.std.specs.List.{flat_map}
+use Rattle.psy_log.specs.Forms.{on_processor}
 use Rattle.psy_draw.specs.declared.piece.Piece.{Piece}
 use Rattle.psy_draw.specs.declared.piece.Piece.TheVariants as piece
 
@@ -18,6 +19,7 @@ spelled (piece.Text text) = flat_map escaped text.now
 spelled (piece.Number number) = decimal number
 spelled (piece.Long number) = decimal number
 spelled (piece.Value value) = signed_decimal value
+spelled (piece.Processor processor) = on_processor processor
 
 -- The file of one SVG element with this inside
 abbrev pub svg_of : List ℕ → List ℕ

@@ -1,5 +1,6 @@
 -- What may be told.
-use Rattle.std.specs.Prelude.{ℕ, List, [], ◌∷◌, Option, None, Some, bytes_eq, cond}
+use Rattle.std.specs.Prelude.{◌==◌, ◌&&◌, ℕ, Bool, true, false, List, [], ◌∷◌, Option, None, Some, bytes_eq, cond}
+use Rattle.std.specs.Ordering.{int_eq}
 use Rattle.psy_draw.specs.Columns.{Dated, dated}
 use Rattle.psy_draw.specs.declared.values.Said.{Said}
 use Rattle.psy_draw.specs.declared.values.Told.{Told}
@@ -13,3 +14,9 @@ values_of (Some told) = dated told.date told.value ∷ []
 abbrev pub said_of : List ℕ → Option Said → List Dated
 said_of name None = []
 said_of name (Some said) = cond (bytes_eq said.name.now name) (dated said.told.date said.told.value ∷ []) []
+
+-- It is one value, of one date; or there are none.
+abbrev pub is_same : Option Told → Option Told → Bool
+is_same (Some some) (Some other) = some.date == other.date && int_eq some.value other.value
+is_same None None = true
+is_same _ _ = false

@@ -51,7 +51,14 @@ fn inside_of(alloc: Global, scale: &Scale, lane: &Lane, tells: bool) -> Result<P
 fn put_lane(page: &mut Page, corner: Corner, lane: &Lane, inside: &[u8]) -> Result<(), Memory>
     ensures { OnOk result (page.new ≡ page.old ++ lane_text corner.left corner.top lane.now inside.now) }
 {
-    open_lane(page, lane.class(), corner, lane.height(), lane.name)?;
+    open_lane(
+        page,
+        lane.class(),
+        corner,
+        lane.height(),
+        lane.name,
+        lane.processor(),
+    )?;
     page.put(&[Piece::Raw(inside)])?;
     close_lane(page)?;
     Ok(())

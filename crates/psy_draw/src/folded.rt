@@ -1,11 +1,13 @@
 //! The text of graphs that are folded by point.
-ghost use Rattle.std.specs.Prelude.{◌≡◌, ◌∷◌, ◌++◌, [], Some, IfOk, OnOk, codes, decimal, get_or, length};
+ghost use Rattle.std.specs.Prelude.{◌≡◌, ◌∷◌, ◌++◌, [], Some, IfOk, OnOk, codes, decimal, get_or, length, map};
 ghost use Rattle.std.specs.List.{flat_map, range_with_len};
 ghost use Rattle.psy_draw.specs.Folded.{arrow_by, arrow_text, arrows_text, box_of, box_text, cluster_text, color, ends_text, first_lines, folded_clusters};
 ghost use Rattle.psy_draw.specs.Graph.{node_name};
+ghost use Rattle.psy_draw.specs.Homes.{home_at, housed_of};
 ghost use Rattle.psy_draw.specs.Folded.{folded_of, more_lines, more_phase, more_phases, point_text, quoted};
 
 use crate::graph::{add_name, add_opening};
+use crate::home::{Home, home_at};
 use crate::node::{Node, Step};
 use crate::nodes::{greatest_worst, inside, nodes_at, nodes_of, phases_to, steps_from};
 use psy_base::{Items, Text};
@@ -16,21 +18,22 @@ use std::alloc::{AllocError, Global};
 /// The dates of a cycle that an arrow tells behind the first, at most.
 pub const MOST_PHASES: usize = 7;
 
-/// The graphs that the notes tell, folded by point, in the language DOT: a cluster for each agent, a box for each point at which its actions may start,
-/// with its line in the program's text, which is red where an action may cost more than its budget; and an arrow to each point that may follow. The
-/// lines are told agent by agent and point by point, of less than 2 ^ 32 points each. The only error is want of memory.
+/// The graphs that the notes tell, folded by point, in the language DOT: a cluster for each agent, with its processor, where one is told; a box for each
+/// point at which its actions may start, with its line in the program's text, which is red where an action may cost more than its budget; and an arrow to
+/// each point that may follow. The lines are told agent by agent and point by point, of less than 2 ^ 32 points each. The only error is want of memory.
 pub fn dot_by_point(
     alloc: Global,
     notes: &[Note],
+    homes: &[Home],
     lines: &[Items<Text>],
 ) -> Result<Vec<u8>, AllocError>
-    ensures { IfOk result (λ text. text.items ≡ folded_of lines.now notes.now) }
+    ensures { IfOk result (λ text. text.items ≡ folded_of (map housed_of homes.now) lines.now notes.now) }
 {
     let mut out = Vec::from_slice(
         alloc,
         b"digraph psyc {\n  rankdir=LR;\n  node [shape=box];\n",
     )?;
-    add_clusters(alloc, &mut out, notes, lines)?;
+    add_clusters(alloc, &mut out, notes, homes, lines)?;
     out.extend_from_slice(b"}\n")?;
     Ok(out)
 }
@@ -39,13 +42,14 @@ fn add_clusters(
     alloc: Global,
     out: &mut Vec<u8>,
     notes: &[Note],
+    homes: &[Home],
     lines: &[Items<Text>],
 ) -> Result<(), AllocError>
-    ensures { OnOk result (out.new.items ≡ out.old.items ++ folded_clusters lines.now notes.now) }
+    ensures { OnOk result (out.new.items ≡ out.old.items ++ folded_clusters (map housed_of homes.now) lines.now notes.now) }
 {
     let mut left = lines;
     'each: for (index, note) in notes.iter().enumerate() {
-        left = add_cluster_of(alloc, out, *note, &notes[index + 1..], left)?;
+        left = add_cluster_of(alloc, out, *note, &notes[index + 1..], homes, left)?;
     }
     Ok(())
 }
@@ -56,14 +60,23 @@ fn add_cluster_of<'l>(
     out: &mut Vec<u8>,
     note: Note,
     behind: &[Note],
+    homes: &[Home],
     lines: &'l [Items<Text>],
 ) -> Result<&'l [Items<Text>], AllocError>
-    ensures { IfOk result (λ more. out.new.items ++ folded_clusters more.now behind.now
-        ≡ out.old.items ++ folded_clusters lines.now (note.entry ∷ behind.now)) }
+    ensures { IfOk result (λ more. out.new.items ++ folded_clusters (map housed_of homes.now) more.now behind.now
+        ≡ out.old.items ++ folded_clusters (map housed_of homes.now) lines.now (note.entry ∷ behind.now)) }
 {
     match note {
         Note::AgentGraph { agent, .. } => {
-            add_cluster(alloc, out, agent, first_lines(lines), inside(behind))?;
+            let processor = home_at(homes, agent);
+            add_cluster(
+                alloc,
+                out,
+                agent,
+                processor,
+                first_lines(lines),
+                inside(behind),
+            )?;
             Ok(more_lines(lines))
         }
         _ => Ok(lines),
@@ -92,13 +105,14 @@ fn add_cluster(
     alloc: Global,
     out: &mut Vec<u8>,
     agent: &[u8],
+    processor: Option<u32>,
     lines: &[Text],
     notes: &[Note],
 ) -> Result<(), AllocError>
-    ensures { OnOk result (out.new.items ≡ out.old.items ++ cluster_text agent.now lines.now notes.now) }
+    ensures { OnOk result (out.new.items ≡ out.old.items ++ cluster_text agent.now processor lines.now notes.now) }
 {
     let nodes = nodes_of(alloc, notes)?;
-    add_opening(out, agent)?;
+    add_opening(out, agent, processor)?;
     add_points(alloc, out, agent, lines, nodes.as_slice())?;
     add_arrows(alloc, out, agent, nodes.as_slice(), notes, lines.len())?;
     out.extend_from_slice(b"  }\n")?;

@@ -92,14 +92,14 @@ pub fn is_high(bottom: u32) -> bool
     LANES_TOP + HIGH <= bottom
 }
 
-// The width of the longest name.
+// The width of the longest name, with a processor behind it, where there is one.
 fn names_width(lanes: &[Lane]) -> u32
     ensures wide { result ≡ width_of (longest_name lanes.now) NAME_LETTER }
     ensures narrow { result ≤ 732 }
 {
     let mut longest = LEAST_LETTERS;
     for lane in lanes {
-        longest = lane.name.len().max(longest);
+        longest = lane.letters().max(longest);
     }
     width_of(longest, NAME_LETTER)
 }

@@ -5,6 +5,7 @@ ghost use Rattle.std.specs.List.{list_all};
 ghost use Rattle.psy_log.specs.declared.note.Note.{Note};
 ghost use Rattle.psy_draw.specs.Columns.{Dated};
 ghost use Rattle.psy_draw.specs.Gathering.{AreFirst, Gathers, asks_stream, is_known};
+ghost use Rattle.psy_draw.specs.Homes.{Housed, housed_of};
 ghost use Rattle.psy_draw.specs.Listing.{Lists};
 
 use crate::asked::asked_streams;
@@ -35,8 +36,8 @@ impl<'a> Gathering<'a> {
     ) -> Result<Gathering<'a>, Memory>
         ensures variables { IfOk result (λ gathering. gathering.variables.names ≡ firsts.entry.names) }
         ensures streams { IfOk result (λ gathering. Lists (asks_stream (map string_bytes names.now)) summary.now gathering.streams.names) }
-        ensures none { IfOk result (λ gathering. (values : List ℕ → List Dated) → AreFirst values firsts.entry
-            → Gathers scale.now (map string_bytes names.now) values [] gathering) }
+        ensures none { IfOk result (λ gathering. (homes : List Housed) (values : List ℕ → List Dated) → AreFirst values firsts.entry
+            → Gathers scale.now homes (map string_bytes names.now) values [] gathering) }
     {
         let streams = asked_streams(alloc, summary, names)?;
         Ok(Gathering {
@@ -51,8 +52,8 @@ impl<'a> Gathering<'a> {
         ensures variables { self.new.variables.names ≡ self.old.variables.names }
         ensures streams { self.new.streams.names ≡ self.old.streams.names }
         ensures gathers { OnOk result ((values : List ℕ → List Dated) (notes : List Note) → is_known by.entry.agents.now note.now ≡ true
-            → Gathers by.entry.scale.now (map string_bytes by.entry.names.now) values notes self.old
-            → Gathers by.entry.scale.now (map string_bytes by.entry.names.now) values (notes ++ note.now ∷ []) self.new) }
+            → Gathers by.entry.scale.now (map housed_of by.entry.homes.now) (map string_bytes by.entry.names.now) values notes self.old
+            → Gathers by.entry.scale.now (map housed_of by.entry.homes.now) (map string_bytes by.entry.names.now) values (notes ++ note.now ∷ []) self.new) }
     {
         self.stopped.add(by, note)?;
         self.variables.add_value(by.scale, note)?;
@@ -65,8 +66,8 @@ impl<'a> Gathering<'a> {
         ensures variables { self.new.variables.names ≡ self.old.variables.names }
         ensures streams { self.new.streams.names ≡ self.old.streams.names }
         ensures gathers { OnOk result ((values : List ℕ → List Dated) → list_all (is_known by.entry.agents.now) notes.now ≡ true
-            → Gathers by.entry.scale.now (map string_bytes by.entry.names.now) values [] self.old
-            → Gathers by.entry.scale.now (map string_bytes by.entry.names.now) values notes.now self.new) }
+            → Gathers by.entry.scale.now (map housed_of by.entry.homes.now) (map string_bytes by.entry.names.now) values [] self.old
+            → Gathers by.entry.scale.now (map housed_of by.entry.homes.now) (map string_bytes by.entry.names.now) values notes.now self.new) }
     {
         for note in notes {
             self.add(by, note)?;

@@ -3,6 +3,7 @@ ghost use Rattle.std.specs.Prelude.{◌≡◌, [], ◌∷◌, ◌++◌, List, No
 ghost use Rattle.psy_log.specs.declared.note.Note.{Note};
 ghost use Rattle.psy_draw.specs.Graph.{closing, clusters, dot_of, edge_text, node_name, node_text, opening};
 
+use crate::home::add_processor;
 use psy_log::Note;
 use psy_text::write::{add_labelled, add_number};
 use std::alloc::{AllocError, Global};
@@ -37,7 +38,7 @@ fn add_note<'a>(
     match note {
         Note::AgentGraph { agent: next, .. } => {
             add_closing(out, agent)?;
-            add_opening(out, next)?;
+            add_opening(out, next, None)?;
             Ok(Some(next))
         }
         Note::Node {
@@ -71,13 +72,18 @@ fn add_closing(out: &mut Vec<u8>, agent: Option<&[u8]>) -> Result<(), AllocError
 }
 
 /// Opens an agent's cluster.
-pub fn add_opening(out: &mut Vec<u8>, agent: &[u8]) -> Result<(), AllocError>
-    ensures { OnOk result (out.new.items ≡ out.old.items ++ opening agent.now) }
+pub fn add_opening(
+    out: &mut Vec<u8>,
+    agent: &[u8],
+    processor: Option<u32>,
+) -> Result<(), AllocError>
+    ensures { OnOk result (out.new.items ≡ out.old.items ++ opening agent.now processor) }
 {
     out.extend_from_slice(b"  subgraph \"cluster_")?;
     out.extend_from_slice(agent)?;
     out.extend_from_slice(b"\" {\n    label=\"")?;
     out.extend_from_slice(agent)?;
+    add_processor(out, processor)?;
     out.extend_from_slice(b"\";\n")
 }
 

@@ -1,11 +1,13 @@
 //! A lane of a picture.
 
 ghost use Rattle.std.specs.Prelude.{◌≡◌, ◌≤◌, length};
-ghost use Rattle.psy_draw.specs.Shapes.{class_of, columns_of, height_of};
+ghost use Rattle.psy_draw.specs.Heads.{name_letters};
+ghost use Rattle.psy_draw.specs.Shapes.{class_of, columns_of, height_of, processor_of};
 
 use crate::boxes::BOXES_HEIGHT;
 use crate::column::Column;
 use crate::curve::CURVE_HEIGHT;
+use crate::home::processor_letters;
 use crate::messages::MESSAGES_HEIGHT;
 use crate::stops::{STOP_HEIGHT, Stop};
 
@@ -53,6 +55,23 @@ impl<'a> Lane<'a> {
             Shape::Curve(_) | Shape::Boxes(_) => b"variable",
             Shape::Marks(_) => b"stream",
         }
+    }
+
+    /// The processor that stands behind its name, where there is one.
+    pub fn processor(&self) -> Option<u32>
+        ensures { result ≡ processor_of self.now.shape }
+    {
+        match &self.shape {
+            Shape::Stop(stop) => stop.processor,
+            _ => None,
+        }
+    }
+
+    /// How many letters its name has, with the processor behind it.
+    pub fn letters(&self) -> usize
+        ensures { result ≡ name_letters self.now }
+    {
+        self.name.len() + processor_letters(self.processor())
     }
 
     /// How many columns it has.

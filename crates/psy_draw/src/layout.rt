@@ -48,16 +48,17 @@ pub fn width_of(letters: usize, letter: u32) -> u32
     (letters * letter).div_ceil(100)
 }
 
-/// Begins a lane of a class: its line at the bottom, and its name.
+/// Begins a lane of a class: its line at the bottom, and its name, with the processor, where there is one.
 pub fn open_lane<'x>(
     page: &mut Page,
     class: &'x [u8],
     corner: Corner,
     height: u32,
     name: &'x [u8],
+    processor: Option<u32>,
 ) -> Result<(), Memory>
     requires { height ≤ 64 }
-    ensures { OnOk result (page.new ≡ page.old ++ lane_head class.now corner.left corner.top height name.now) }
+    ensures { OnOk result (page.new ≡ page.old ++ lane_head class.now corner.left corner.top height name.now processor) }
 {
     let edge = corner.left - MARGIN;
     page.put(&[
@@ -79,6 +80,7 @@ pub fn open_lane<'x>(
         Piece::Number(height / 2 + 4),
         Piece::Raw(b"\">"),
         Piece::Text(name),
+        Piece::Processor(processor),
         Piece::Raw(b"</text>\n"),
     ])
 }

@@ -65,8 +65,8 @@ impl<'a> Names<'a> {
         }
     }
 
-    // The name at a place, and no bytes where there is none.
-    fn name(&self, place: usize) -> &'a [u8]
+    /// The name at a place, and no bytes where there is none.
+    pub fn name(&self, place: usize) -> &'a [u8]
         ensures { result.now ≡ slice_index_or self.now place [] }
     {
         match self.table.get_index(place) {

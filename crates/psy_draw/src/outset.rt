@@ -1,15 +1,23 @@
 //! What must be known of notes before their values are drawn.
 
-ghost use Rattle.std.specs.Prelude.{◌≡◌, ◌++◌, [], ◌∷◌, ℕ, IfOk, List, cond, map, string_bytes};
+ghost use Rattle.std.specs.Prelude.{◌≡◌, ◌<◌, ◌++◌, ◌==◌, ◌&&◌, [], ◌∷◌, ℕ, None, IfOk, IfSome, List, cond, map, string_bytes};
+ghost use Rattle.std.specs.List.{list_all};
 ghost use Rattle.psy_log.specs.declared.note.Note.{Note};
-ghost use Rattle.psy_draw.specs.Gathering.{Counts, asks_variable};
+ghost use Rattle.psy_draw.specs.Columns.{Dated};
+ghost use Rattle.psy_draw.specs.Dates.{last_date};
+ghost use Rattle.psy_draw.specs.Firsts.{agree_on};
+ghost use Rattle.psy_draw.specs.Gathering.{AreFirst, Counts, asks_variable};
 ghost use Rattle.psy_draw.specs.Lanes.{may_have_lane};
 ghost use Rattle.psy_draw.specs.Listing.{Lists};
+ghost use Rattle.psy_draw.specs.Places.{window_end};
+ghost use Rattle.psy_draw.specs.Scales.{IsScaleOf};
 
 use crate::asked::asked_variables;
 use crate::choice::is_asked;
 use crate::dates::date_of;
 use crate::firsts::Firsts;
+use crate::scale::Scale;
+use crate::window::Window;
 use psy_base::Memory;
 use psy_log::Note;
 use std::alloc::Global;
@@ -46,6 +54,41 @@ impl<'a> Outset<'a> {
         self.last = date_of(note).max(self.last);
         self.lanes = self.lanes.saturating_add(lanes_of(note, names));
         self.firsts.add(note, from);
+    }
+
+    /// The scale of a picture of a window, where a date of the run lies in it.
+    pub fn scale(&self, window: Window) -> Option<Scale>
+        ensures scale { IfSome result (λ scale. (names : List (List ℕ)) (from : ℕ) (notes : List Note) → Counts names from notes self.now
+            → IsScaleOf window names notes scale) }
+        ensures none { result ≡ None → (names : List (List ℕ)) (from : ℕ) (notes : List Note) → Counts names from notes self.now
+            → window_end window (last_date notes) < window.from }
+    {
+        Scale::new(window, self.last, self.lanes)
+    }
+
+    /// The values at the first date once more, of a run with this summary.
+    pub fn again(
+        &self,
+        alloc: Global,
+        summary: &[Note<'a>],
+        names: &[String],
+    ) -> Result<Firsts<'a>, Memory>
+        requires { Lists (asks_variable (map string_bytes names.now)) summary.now self.now.firsts.names }
+        ensures names { IfOk result (λ firsts. Lists (asks_variable (map string_bytes names.now)) summary.now firsts.names) }
+        ensures same { IfOk result (λ firsts. (values : List ℕ → List Dated) → AreFirst values self.now.firsts → AreFirst values firsts) }
+    {
+        let variables = asked_variables(alloc, summary, names)?;
+        self.firsts.copied(alloc, variables)
+    }
+
+    /// Do both know the same of runs with this summary?
+    pub fn agrees(&self, other: &Outset, summary: &[Note]) -> bool
+        ensures { result ≡ (self.now.last == other.now.last && self.now.lanes == other.now.lanes
+            && list_all (agree_on self.now.firsts other.now.firsts) summary.now) }
+    {
+        self.last == other.last
+            && self.lanes == other.lanes
+            && self.firsts.agree(&other.firsts, summary)
     }
 
     /// Takes in notes, one by one.

@@ -4,6 +4,7 @@ ghost use Rattle.std.specs.Prelude.{◌≡◌, ◌++◌, [], OnOk};
 ghost use Rattle.std.specs.List.{flat_map};
 ghost use Rattle.psy_draw.specs.Spelling.{escaped, spelled};
 
+use crate::home::add_processor;
 use crate::piece::Piece;
 use psy_base::Memory;
 use psy_text::write::{add_number, add_value};
@@ -60,6 +61,7 @@ impl Page {
             Piece::Number(number) => Ok(add_number(&mut self.bytes, u64::from(number))?),
             Piece::Long(number) => Ok(add_number(&mut self.bytes, number)?),
             Piece::Value(value) => Ok(add_value(&mut self.bytes, value)?),
+            Piece::Processor(processor) => Ok(add_processor(&mut self.bytes, processor)?),
         }
     }
 

@@ -4,15 +4,19 @@ ghost use Rattle.std.specs.Prelude.{◌≡◌, ◌+◌, ◌++◌, ◌≤◌, ◌
 ghost use Rattle.std.specs.List.{list_all};
 ghost use Rattle.psy_log.specs.declared.note.Note.{Note};
 ghost use Rattle.psy_draw.specs.Drawing.{column_count, stacked, tells_parts};
-ghost use Rattle.psy_draw.specs.Scales.{place_by};
+ghost use Rattle.psy_draw.specs.Sayings.{HasSummary};
+ghost use Rattle.psy_draw.specs.Scales.{IsScaleOf, place_by};
 ghost use Rattle.psy_draw.specs.Silences.{silent_of};
 ghost use Rattle.psy_draw.specs.Sources.{HasNames, IsCrowdedBy, IsFileBy, IsInsideBy, IsOf};
-ghost use Rattle.psy_draw.specs.Gathering.{AreFirst, asks_variable, first_values, is_known};
-ghost use Rattle.psy_draw.specs.Pictures.{IsFile, IsFileOf, dates_text, inputs_group, lower_text, parts_text};
+ghost use Rattle.psy_draw.specs.Gathering.{AreFirst, Gathers, asks_stream, asks_variable, first_values, is_known};
+ghost use Rattle.psy_draw.specs.Pictures.{IsFileOf, dates_text, inputs_group, lower_text, parts_text};
 ghost use Rattle.psy_draw.specs.Summaries.{behind_table, table_width, tables_text, titles_of};
+ghost use Rattle.psy_draw.specs.Homes.{housed_of};
+ghost use Rattle.psy_draw.specs.Knowledge.{knowledge_of};
 ghost use Rattle.psy_draw.specs.Listing.{Lists, first_unlisted, first_unasked};
 ghost use Rattle.psy_draw.specs.Dates.{last_date};
 ghost use Rattle.psy_draw.specs.Places.{window_end};
+ghost use Rattle.psy_draw.specs.declared.window.Window.{Window};
 ghost use Rattle.psy_draw.specs.Tables.{NamesFault, AllListed};
 
 use crate::DrawFault;
@@ -25,6 +29,7 @@ use crate::gathering::Gathering;
 use crate::head::put_head;
 use crate::hover::TELLING_COLUMNS;
 use crate::inputs::Inputs;
+use crate::known::Known;
 use crate::lane::Lane;
 use crate::layout::{Corner, MARGIN};
 use crate::legend::put_legend;
@@ -47,12 +52,12 @@ use psy_base::Memory;
 use psy_log::Note;
 use std::alloc::Global;
 
-// What was asked for: the agents of the summary, the names, and from when on variables are silent.
+// What was asked for: the agents of the summary, the names, and what the program tells.
 #[derive(Clone, Copy)]
 struct Asked<'a, 's> {
     agents: &'s Names<'a>,
     names: &'s [String],
-    silences: &'s [Silence<'s>],
+    known: Known<'s>,
 }
 
 /// The picture of the dates of a run in a window, as an SVG file of at most 2,000,000 bytes with this title. Its lanes are those
@@ -60,7 +65,8 @@ struct Asked<'a, 's> {
 /// those whose names were asked for, or all where none were, as it is with the names of the other variables below them. All lanes
 /// together have at most 40,000 columns of at least a pixel, and each one more where a value stands at the last date: of several
 /// values in one column a line goes over the first, the least, the greatest and the last, a box is filled, and several messages are
-/// one mark. Lines and boxes of a variable that is silent are dashed from there on. The tables of the summary stand at the end.
+/// one mark. Lines and boxes of a variable that is silent are dashed from there on, and the processor of a stopped agent stands behind its name, where the
+/// program tells of them. The tables of the summary stand at the end.
 /// Where a file would be longer, or would have more than 4,096 lanes, names or rows of a table, it is one that says so. Notes that
 /// are no part of a run are skipped.
 pub fn timeline(
@@ -69,7 +75,7 @@ pub fn timeline(
     notes: &[Note],
     window: Window,
     names: &[String],
-    silences: &[Silence],
+    known: Known,
 ) -> Result<Vec<u8>, DrawFault>
     ensures unlisted { (n : ℕ) → result ≡ Err (DrawFault.Unlisted n) → first_unlisted notes.now ≡ Some n }
     ensures listed { OnOk result (first_unlisted notes.now ≡ None) }
@@ -81,7 +87,7 @@ pub fn timeline(
         × (window_end window (last_date notes.now) < window.from) }
     ensures dated { OnOk result (window.from ≤ window_end window (last_date notes.now)) }
     // The file is the whole picture, exactly where that has room; where it hasn't, it says that the picture would be too large.
-    ensures picture { IfOk result (λ svg. IsFileOf title.now window (map silent_of silences.now) (map string_bytes names.now) notes.now svg.items) }
+    ensures picture { IfOk result (λ svg. IsFileOf title.now window (knowledge_of known.entry) (map string_bytes names.now) notes.now svg.items) }
     ensures small { IfOk result (λ svg. vec_len svg ≤ 2000000) }
 {
     let listed = Listed::of(alloc, notes)?;
@@ -95,7 +101,7 @@ pub fn timeline(
             Asked {
                 agents: &listed.agents,
                 names,
-                silences,
+                known,
             },
         ),
     }
@@ -127,13 +133,13 @@ fn drawn<'a>(
     ensures unknown { (k : ℕ) → result ≡ Err (DrawFault.Unknown k) → ⊥ }
     ensures empty { result ≡ Err DrawFault.Empty → window_end window (last_date notes.now) < window.from }
     ensures dated { OnOk result (window.from ≤ window_end window (last_date notes.now)) }
-    ensures picture { IfOk result (λ svg. IsFileOf title.now window (map silent_of asked.entry.silences.now) (map string_bytes asked.entry.names.now)
+    ensures picture { IfOk result (λ svg. IsFileOf title.now window (knowledge_of asked.entry.known) (map string_bytes asked.entry.names.now)
         notes.now svg.items) }
     ensures small { IfOk result (λ svg. vec_len svg ≤ 2000000) }
 {
     let mut outset = Outset::of(alloc, notes, asked.names)?;
     outset.add_all(notes, asked.names, first_date(window));
-    match Scale::new(window, outset.last, outset.lanes) {
+    match outset.scale(window) {
         Some(scale) => Ok(filled(alloc, title, notes, outset.firsts, &scale, asked)?),
         None => Err(DrawFault::Empty),
     }
@@ -151,34 +157,60 @@ fn filled<'a>(
     requires known { list_all (is_known asked.agents.now) notes.now ≡ true }
     requires names { Lists (asks_variable (map string_bytes asked.names.now)) notes.now firsts.names }
     requires firsts { AreFirst (first_values scale.now.from notes.now) firsts }
-    ensures picture { IfOk result (λ svg. IsFile title.now scale.now.from scale.now.to scale.now.grain (map silent_of asked.entry.silences.now)
-        (map string_bytes asked.entry.names.now) notes.now svg.items) }
+    ensures picture { IfOk result (λ svg. (window : Window) → IsScaleOf window (map string_bytes asked.entry.names.now) notes.now scale.now
+        → IsFileOf title.now window (knowledge_of asked.entry.known) (map string_bytes asked.entry.names.now) notes.now svg.items) }
     ensures small { IfOk result (λ svg. vec_len svg ≤ 2000000) }
 {
     let Asked {
         agents,
         names,
-        silences,
+        known,
     } = asked;
     let mut gathering = Gathering::of(alloc, notes, firsts, names, scale)?;
     let by = Stops {
         agents,
+        homes: known.homes,
         names,
         scale,
     };
     gathering.add_all(by, notes)?;
+    picture_of(alloc, title, notes, known.silences, by, gathering)
+}
+
+/// The picture of what was gathered of notes that come one by one, of a run with this summary: what `timeline` draws of all of them.
+pub fn picture_of<'a>(
+    alloc: Global,
+    title: &str,
+    summary: &[Note<'a>],
+    silences: &[Silence],
+    by: Stops<'a, '_>,
+    gathering: Gathering<'a>,
+) -> Result<Vec<u8>, Memory>
+    requires variables { Lists (asks_variable (map string_bytes by.names.now)) summary.now gathering.variables.names }
+    requires streams { Lists (asks_stream (map string_bytes by.names.now)) summary.now gathering.streams.names }
+    ensures picture { IfOk result (λ svg. (window : Window) (notes : List Note) → HasSummary notes summary.now
+        → IsScaleOf window (map string_bytes by.entry.names.now) notes by.entry.scale.now
+        → Gathers by.entry.scale.now (map housed_of by.entry.homes.now) (map string_bytes by.entry.names.now) (first_values by.entry.scale.now.from notes) notes
+        gathering.entry
+        → IsFileOf title.now window (record { silences = map silent_of silences.now; homes = map housed_of by.entry.homes.now })
+        (map string_bytes by.entry.names.now) notes svg.items) }
+    ensures small { IfOk result (λ svg. vec_len svg ≤ 2000000) }
+{
     let Gathering {
         stopped,
         variables,
         streams,
     } = gathering;
     let source = Source {
-        summary: notes,
+        summary,
         variables: &variables,
         streams: &streams,
-        silences,
-        names,
-        scale,
+        known: Known {
+            silences,
+            homes: by.homes,
+        },
+        names: by.names,
+        scale: by.scale,
     };
     let file = file_by(alloc, title, source, stopped)?;
     Ok(file)

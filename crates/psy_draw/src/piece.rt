@@ -13,4 +13,6 @@ pub enum Piece<'a> {
     Long(u64),
     /// The digits of a value, with a minus before them where it is below 0.
     Value(i32),
+    /// ` on N`, where there is a processor.
+    Processor(Option<u32>),
 }

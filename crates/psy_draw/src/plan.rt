@@ -129,7 +129,7 @@ impl<'a> Plan<'a> {
         }
         let lane = Lane {
             name,
-            silent: silence_at(source.silences, name),
+            silent: silence_at(source.known.silences, name),
             shape: shape_of(columns),
         };
         if let Err(fault) = self.add(lane) {

@@ -2,12 +2,14 @@
 
 ghost use Rattle.std.specs.Prelude.{◌≡◌, ◌≤◌, ◌&&◌, [], false, true, OnOk, bytes_eq, length, map, nat_le, string_bytes};
 ghost use Rattle.std.specs.List.{list_any};
+ghost use Rattle.psy_draw.specs.Homes.{housed_of};
 ghost use Rattle.psy_draw.specs.Lanes.{is_asked};
 ghost use Rattle.psy_draw.specs.Planning.{stop_lane, stop_lanes};
 ghost use Rattle.psy_draw.specs.Scales.{place_by};
 ghost use Rattle.psy_draw.specs.declared.room.TheConstants.{MOST_LANES};
 
 use crate::choice::is_asked;
+use crate::home::{Home, home_at};
 use crate::lane::{Lane, Shape};
 use crate::names::Names;
 use crate::room::MOST_LANES;
@@ -18,10 +20,11 @@ use psy_base::Memory;
 use psy_log::Note;
 use std::alloc::Global;
 
-/// By what stops become lanes: the agents of the summary, the names that were asked for, and the scale.
+/// By what stops become lanes: the agents of the summary, the processors of agents, the names that were asked for, and the scale.
 #[derive(Clone, Copy)]
 pub struct Stops<'a, 's> {
     pub agents: &'s Names<'a>,
+    pub homes: &'s [Home<'s>],
     pub names: &'s [String],
     pub scale: &'s Scale,
 }
@@ -51,7 +54,7 @@ impl<'a> Stopped<'a> {
     /// Adds the lane that a note tells, whose agent is one of the summary.
     pub fn add(&mut self, by: Stops<'a, '_>, note: &Note) -> Result<(), Memory>
         ensures { OnOk result (is_known by.entry.agents.now note.now ≡ true → AddsStops (place_by by.entry.scale.now)
-            (stop_lanes by.entry.scale.now.to (map string_bytes by.entry.names.now) note.now) self.old self.new) }
+            (stop_lanes by.entry.scale.now.to (map housed_of by.entry.homes.now) (map string_bytes by.entry.names.now) note.now) self.old self.new) }
     {
         match *note {
             Note::StopOverrun { date, agent } => self.add_stop(by, date, agent, None),
@@ -69,7 +72,8 @@ impl<'a> Stopped<'a> {
         trap: Option<Trap>,
     ) -> Result<(), Memory>
         ensures { OnOk result (list_any (bytes_eq agent.now) by.entry.agents.now ≡ true → AddsStops (place_by by.entry.scale.now)
-            (stop_lane by.entry.scale.now.to (map string_bytes by.entry.names.now) date agent.now trap) self.old self.new) }
+            (stop_lane by.entry.scale.now.to (map housed_of by.entry.homes.now) (map string_bytes by.entry.names.now) date agent.now trap)
+            self.old self.new) }
     {
         if !is_shown(by, date, agent) {
             return Ok(());
@@ -78,7 +82,7 @@ impl<'a> Stopped<'a> {
             Some(name) => self.push(Lane {
                 name,
                 silent: None,
-                shape: Shape::Stop(Stop::new(by.scale, date, trap)),
+                shape: Shape::Stop(Stop::new(by.scale, date, trap, home_at(by.homes, agent))),
             }),
             None => Ok(()),
         }

@@ -17,12 +17,13 @@ pub const STOP_HEIGHT: u32 = 26;
 // What stays free beside the mark.
 const BESIDE: u32 = 9;
 
-/// A stop: when, where that is, and the trap, or none where its budget was spent.
+/// A stop: when, where that is, and the trap, or none where its budget was spent; and the processor of the agent, where one is told.
 #[derive(Clone, Copy, Debug, Drop)]
 pub struct Stop {
     pub date: u64,
     pub x: u32,
     pub trap: Option<Trap>,
+    pub processor: Option<u32>,
     ghost placed: { x ≤ 960 },
 }
 
@@ -30,13 +31,15 @@ impl Stop {
     ghost use Rattle.psy_draw.specs.Places.{x_of};
 
     /// A stop at a date.
-    pub fn new(scale: &Scale, date: u64, trap: Option<Trap>) -> Stop
-        ensures { (result.date ≡ date) × (result.trap ≡ trap) × (result.x ≡ x_of scale.now.from scale.now.to scale.now.grain date) }
+    pub fn new(scale: &Scale, date: u64, trap: Option<Trap>, processor: Option<u32>) -> Stop
+        ensures { (result.date ≡ date) × (result.trap ≡ trap) × (result.processor ≡ processor)
+            × (result.x ≡ x_of scale.now.from scale.now.to scale.now.grain date) }
     {
         Stop {
             date,
             x: scale.x(date),
             trap,
+            processor,
         }
     }
 }

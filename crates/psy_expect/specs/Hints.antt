@@ -452,7 +452,8 @@ hint_words FormClock = codes "a clock is declared as in `clock c = 10 * tick;`, 
 hint_words FormTemporal = codes "a temporal variable is declared as in `temporal v of A on c = 0 depth 1;`"
 hint_words FormInput = codes "an input is declared as in `input x on c = 0 depth 1;`"
 hint_words FormStream = codes "a stream is declared as in `stream s to A keep 1 on c;`"
-hint_words FormAgent = codes "an agent is declared as in `agent A on c budget 90 { int n = 0; body { n = n + 1; advance 1 on c; } }`"
+hint_words FormAgent =
+    codes "an agent is declared as in `agent A on c budget 90 { int n = 0; body { n = n + 1; advance 1 on c; } }`; `processor 1` may stand before `budget`"
 hint_words FormInt =
     codes "`int` begins a function, as in `int f(int a, int b) { return a; }`, a variable, as in `int n = 0;`, and in an agent an array, as in `int a[4];`"
 hint_words FormIf = codes "an `if` is written as in `if (v > 0) { v = 0; } else { v = 1; }`"

@@ -475,7 +475,7 @@ pub fn hint_words(hint: Hint) -> &'static [u8]
         Hint::FormInput => b"an input is declared as in `input x on c = 0 depth 1;`",
         Hint::FormStream => b"a stream is declared as in `stream s to A keep 1 on c;`",
         Hint::FormAgent =>
-            b"an agent is declared as in `agent A on c budget 90 { int n = 0; body { n = n + 1; advance 1 on c; } }`",
+            b"an agent is declared as in `agent A on c budget 90 { int n = 0; body { n = n + 1; advance 1 on c; } }`; `processor 1` may stand before `budget`",
         Hint::FormInt =>
             b"`int` begins a function, as in `int f(int a, int b) { return a; }`, a variable, as in `int n = 0;`, and in an agent an array, as in `int a[4];`",
         Hint::FormIf => b"an `if` is written as in `if (v > 0) { v = 0; } else { v = 1; }`",

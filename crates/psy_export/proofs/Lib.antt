@@ -1,4 +1,4 @@
 -- The lemmas of this crate, by subject.
 mod Endings
-mod Said
+mod Told
 mod Whole

@@ -18,7 +18,7 @@ use Rattle.psy_wave.specs.Streams.{vcd_under}
 use Rattle.psy_export.specs.declared.forms.Format.{Format}
 use Rattle.psy_export.specs.declared.forms.Format.TheVariants as format
 use Rattle.psy_export.specs.Exports.{IsExportFront, IsFrontOfExport}
-use Rattle.psy_export.proofs.Said.{changes_are, changes_said, rows_are, rows_said}
+use Rattle.psy_export.proofs.Told.{changes_are, changes_said, rows_are, rows_said}
 
 same_table : (before notes others : List Note) → map says notes ≡ map says others → csv_under before notes ≡ csv_under before others
 same_table before notes others same =

@@ -58,8 +58,8 @@ fn refuse<S: Sink>(alloc: Global, name: &str, fault: PassFault, out: &mut S) -> 
     }
 }
 
-// Why a file isn't exported. The only error is want of memory.
-fn refusal(alloc: Global, name: &str, fault: PassFault) -> Result<Said, Memory>
+/// Why a long file isn't exported, or not drawn. The only error is want of memory.
+pub fn refusal(alloc: Global, name: &str, fault: PassFault) -> Result<Said, Memory>
     requires { fault ≢ PassFault.Unwritten }
     ensures { IfOk result (λ said. IsSaidOf name.now fault said.status said.text.items) }
 {

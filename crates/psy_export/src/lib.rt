@@ -8,7 +8,7 @@ pub mod laws;
 mod refusals;
 mod saying;
 
-pub use exporting::export;
+pub use exporting::{export, refusal};
 pub use forms::Format;
 pub use refusals::{unlisted_line, unread_line};
-pub use saying::say;
+pub use saying::{Said, say};

@@ -1,7 +1,8 @@
 -- What a kernel begins with.
 use Rattle.std.proofs.Common.{◌≡◌, ℤ, ℕ, zero, suc, ◌+◌, ◌<◌, ◌==◌, Bool, true, false, if◌then◌else◌, List, [], ◌∷◌, ◌++◌, map, filter, length, replicate, get_or, Option, Some, None, refl, sym, ap, subst, ◌∙◌, inl, inr, arith}
 use Rattle.std.specs.List.{AllPairs, range_with_len, slice_get}
-use Rattle.std.proofs.lemmas.Bool.{cases_eq, eqb-false, eqb-true}
+use Rattle.std.proofs.lemmas.Bool.{cases_eq, eqb-false, eqb-true, true≢false}
+use Rattle.std.proofs.lemmas.List.{length-replicate}
 use Rattle.std.proofs.lemmas.Option.{get_or_from_slice_get, slice_get_within}
 use Rattle.std.proofs.lemmas.List.Elements.{All-contains, Contains-get_or, filter_passes}
 use Rattle.std.proofs.lemmas.List.FromFn.{get_or-map-range_with_len, length-map-range_with_len, map-range_with_len_more}
@@ -14,12 +15,18 @@ use Rattle.psy_base.specs.Extremes.{least_of}
 use Rattle.psy_history.specs.Actions.{System}
 use Rattle.psy_history.specs.Summary.{added_to, numbers_in}
 use Rattle.psy_dates.specs.declared.plan.Plan.{Plan}
-use Rattle.psy_kernel.specs.declared.kernel.Figure.{Figure}
+use Rattle.psy_kernel.specs.declared.engine.Figure.{Figure}
 use Rattle.psy_history.specs.declared.told.Order.{Order}
 use Rattle.psy_history.specs.declared.told.Script.{Script}
-use Rattle.psy_kernel.specs.Progress.{Progress, booted}
+use Rattle.psy_tree.specs.declared.unit.Unit.{Unit as Whole}
+use Rattle.psy_ready.specs.Choice.{pending_deadline}
+use Rattle.psy_kernel.specs.Engines.{EngineState, begun}
+use Rattle.psy_kernel.specs.Starting.{first_server}
+use Rattle.psy_kernel.proofs.Engines.{cycles_of}
 use Rattle.psy_history.specs.Scripts.{StallBefore}
-use Rattle.psy_kernel.specs.Standing.{AgentStands, AreInForce}
+use Rattle.psy_kernel.specs.Standing.{AgentStands, AreInForce, InTick, ServerStands, ready_of, waits_on}
+use Rattle.psy_kernel.specs.declared.engine.Server.{Server}
+use Rattle.psy_history.specs.Processors.{processor_at, processors}
 
 -- The stalls of one agent rise by action and instruction
 pub own_rise : (agent : ℕ) (stalls : List Stall) → AllPairs StallBefore stalls → StallsRise (filter (λ (s : Stall). s.agent == agent) stalls)
@@ -92,5 +99,42 @@ first_stands s code until agent charge machine waits figure charged new of_code 
   slacked = ap (λ (f : Figure). f.slack) empty ∙ sym (ap (λ o. least_of (numbers_in o ++ [])) unslacked);
 }
 
-pub view_booted : (plan : Plan) (script : Script) (inputs lists : List (List ℤ)) (dates : ℕ) → lists ≡ inputs → dates ≡ 0 → ◌≡◌ {A = Progress} (record { plan = plan; inputs = lists; script = script; opening = None; dates = dates; cycles = 0; given = 0 }) (booted plan inputs script)
-view_booted plan script inputs lists dates same none = cc (same, none)
+-- ---- the processors before their first cycle
+
+none_waits : (agents agent : ℕ) → pending_deadline (replicate agents None) agent ≡ None
+none_waits zero agent = refl
+none_waits (suc agents) zero = refl
+none_waits (suc agents) (suc agent) = none_waits agents agent
+
+module _ (agents passed : ℕ) where
+  pub first_cycles : (n processor : ℕ) → cycles_of (replicate n (first_server agents passed)) processor ≡ 0
+  first_cycles zero processor = refl
+  first_cycles (suc n) zero = refl
+  first_cycles (suc n) (suc processor) = first_cycles n processor
+
+  first_ready : (n processor agent : ℕ) → pending_deadline (ready_of (slice_get (replicate n (first_server agents passed)) processor)) agent ≡ None
+  first_ready zero processor agent = refl
+  first_ready (suc n) zero agent = none_waits agents agent
+  first_ready (suc n) (suc processor) agent = first_ready n processor agent
+
+  pub first_waits : (unit : Whole) (n agent : ℕ) → waits_on unit (replicate n (first_server agents passed)) agent ≡ None
+  first_waits unit n agent = first_ready n (processor_at unit agent) agent
+
+  first_done : (n : ℕ) → map (λ (server : Server). server.cycles) (replicate n (first_server agents passed)) ≡ replicate n 0
+  first_done zero = refl
+  first_done (suc n) = ap (λ cycles. 0 ∷ cycles) (first_done n)
+
+  pub first_one : (e : EngineState) (processor : ℕ) → e.dates ≡ 0 → agents ≡ length e.plan.unit.agents → AreInForce e.script.orders passed 0 → ServerStands e processor (first_server agents passed)
+  first_one e processor none count orders = record {
+    in_tick = subst (λ d. InTick e.plan.unit.quantum e.plan.until d 0) (sym none) refl;
+    waiting = length-replicate agents None ∙ count;
+    own = λ agent differs. none_waits agents agent;
+    orders = orders;
+    choice = λ fresh. absurd (true≢false fresh);
+  }
+
+  pub view_booted : (plan : Plan) (script : Script) (inputs lists : List (List ℤ)) (dates n : ℕ) (servers : List Server) → lists ≡ inputs → dates ≡ 0 → n ≡ processors plan.unit → servers ≡ replicate n (first_server agents passed)
+      → ◌≡◌ {A = EngineState} (record { plan = plan; inputs = lists; script = script; opening = None; dates = dates; done = map (λ (server : Server). server.cycles) servers; given = 0 }) (begun plan inputs script)
+  view_booted plan script inputs lists dates n servers same none count are =
+      let done : map (λ (server : Server). server.cycles) servers ≡ replicate (processors plan.unit) 0 = ap (map (λ (server : Server). server.cycles)) are ∙ first_done n ∙ ap (λ m. replicate m 0) count in
+      cc (same, none, done)

@@ -2,7 +2,7 @@
 use Rattle.std.proofs.Common.{◌≡◌, refl, sym, ap, ◌∙◌, subst, arith}
 use Rattle.std.specs.Prelude.{ℕ, zero, suc, ◌+◌, ◌-◌, ◌*◌, ◌<◌, ◌≤◌, ◌==◌, Bool, true, false, nat_lt, if◌then◌else◌, List, [], ◌∷◌, ◌++◌, filter, Option, Some, None}
 use Rattle.std.specs.List.{All}
-use Rattle.std.proofs.lemmas.Bool.{cond-true, eq-eqb, lt-ltb, ltb-true}
+use Rattle.std.proofs.lemmas.Bool.{cond-true, cond-false, eq-eqb, lt-ltb, ltb-true, ne_eqb}
 use Rattle.std.proofs.lemmas.List.Elements.{All-cons, All-weaker}
 use Rattle.psy_history.specs.Actions.{Action, History, System}
 use Rattle.psy_history.specs.History.{history}
@@ -38,6 +38,13 @@ own_given unit processor agent turn turns of (suc n) =
     let now = given_on unit processor turn n turns agent in
     cond-true (processor_at unit agent == processor) (turn ∷ now) now (eq-eqb (processor_at unit agent) processor of) ∙ ap (λ ts. turn ∷ ts) before
 
+-- And to an agent of another one
+pub others_given : (unit : Whole) (processor agent : ℕ) (turn : Option Turn) (turns : ℕ → List (Option Turn)) → (processor_at unit agent ≡ processor → ⊥) → (n : ℕ) → given_on unit processor turn n turns agent ≡ turns agent
+others_given unit processor agent turn turns differs zero = refl
+others_given unit processor agent turn turns differs (suc n) =
+    let now = given_on unit processor turn n turns agent in
+    cond-false (processor_at unit agent == processor) (turn ∷ now) now (ne_eqb (processor_at unit agent) processor differs) ∙ others_given unit processor agent turn turns differs n
+
 -- An action that doesn't get them is left as it is, whichever processor they are of.
 missed_by : (test : Bool) (turn : Option Turn) (turns now : List (Option Turn)) (r : Action) → is_of r.agent r.number turn ≡ false → AreSameFor turns now r → AreSameFor turns (if test then turn ∷ now else now) r
 missed_by true turn turns now r h before = (let last = missed turn now r h in record { units = last.units ∙ before.units; finish = last.finish ∙ before.finish })
@@ -50,13 +57,6 @@ missed_on unit processor agent turn turns r h (suc n) =
 
 pub same_stays : (turns now : List (Option Turn)) (r : Action) → AreSameFor turns now r → StaysSo turns now r
 same_stays turns now r same = ap (λ n. nat_lt n (work r)) same.units
-
--- The agents of the only processor are all agents of an order.
-pub served_all : (unit : Whole) (processor : ℕ) → ((agent : ℕ) → processor_at unit agent ≡ processor) → (order : List ℕ) → served unit processor order ≡ order
-served_all unit processor one [] = refl
-served_all unit processor one (agent ∷ order) =
-    let rest = served unit processor order in
-    cond-true (processor_at unit agent == processor) (agent ∷ rest) rest (eq-eqb (processor_at unit agent) processor (one agent)) ∙ ap (λ agents. agent ∷ agents) (served_all unit processor one order)
 
 -- ---- the action that gets them
 

@@ -7,17 +7,17 @@ use Rattle.psy_history.specs.History.{history}
 use Rattle.psy_history.specs.Lines.{Event, shows}
 use Rattle.psy_history.specs.Schedule.{Turn}
 use Rattle.psy_history.specs.Regular.{IsLawful}
-use Rattle.psy_history.specs.Scheduled.{turns_by}
 use Rattle.psy_history.specs.Scripts.{stalls_of}
 use Rattle.psy_dates.specs.Standing.{SharedStands, dates_done}
-use Rattle.psy_kernel.specs.declared.kernel.Kernel.TheInside.{Inside}
-use Rattle.psy_kernel.specs.Progress.{beginning, lines_at, lines_told, order, system}
-use Rattle.psy_kernel.specs.Standing.{InTick, KernelStands, given_at, progress_of, told_from}
+use Rattle.psy_kernel.specs.declared.engine.Engine.TheInside.{Inside}
+use Rattle.psy_kernel.specs.Engines.{lines_at, lines_on_date}
+use Rattle.psy_kernel.specs.Standing.{InTick, EngineStands, given_at, state_of, told_from}
 use Rattle.psy_kernel.specs.Telling.{IsNextTold, StandsBehind}
 use Rattle.psy_kernel.specs.Texts.{event_line, lines_of}
+use Rattle.psy_kernel.proofs.Engines.{opening_in, run_in, server_there, turns_in}
 use Rattle.psy_kernel.proofs.Publications.{publications_few}
 use Rattle.psy_kernel.proofs.Stops.{stops_few}
-use Rattle.psy_kernel.specs.declared.kernel.lines.Mark.{Mark}
+use Rattle.psy_kernel.specs.declared.engine.lines.Mark.{Mark}
 use Rattle.psy_kernel.proofs.ToldPlaces.{at_place}
 use Rattle.psy_kernel.proofs.ToldStreams.{all_told, at_end, end_of, told_few, told_front}
 
@@ -30,13 +30,13 @@ mapped_at f all front more x e =
     ∙ ap (slice_get ((map f front ++ f x ∷ []) ++ map f more)) (sym (length-map front f))
     ∙ at_place (map f front) (map f more) (f x)
 
--- ---- a kernel
+-- ---- an engine
 
--- A kernel stands as well where more lines were given of a date that wasn't done before.
-pub stands_at : (k : Inside) (place shown given : ℕ) → KernelStands k → place ≤ length k.plan.unit.agents + length k.plan.unit.variables + length k.plan.unit.streams
-    → (place < length k.plan.unit.agents + length k.plan.unit.variables → shown ≡ 0) → given ≡ given_at (system (progress_of k)) (dates_done k.shared.date) place shown
-    → ((last : ℕ) → (beginning (progress_of k)).dates ≡ suc last → dates_done k.shared.date ≡ suc last → place ≡ length k.plan.unit.agents + length k.plan.unit.variables + length k.plan.unit.streams)
-    → KernelStands (record k { place = place; shown = shown; given = given })
+-- An engine stands as well where more lines were given of a date that wasn't done before.
+pub stands_at : (k : Inside) (place shown given : ℕ) → EngineStands k → place ≤ length k.plan.unit.agents + length k.plan.unit.variables + length k.plan.unit.streams
+    → (place < length k.plan.unit.agents + length k.plan.unit.variables → shown ≡ 0) → given ≡ given_at (run_in k) (dates_done k.shared.date) place shown
+    → ((last : ℕ) → (opening_in k).dates ≡ suc last → dates_done k.shared.date ≡ suc last → place ≡ length k.plan.unit.agents + length k.plan.unit.variables + length k.plan.unit.streams)
+    → EngineStands (record k { place = place; shown = shown; given = given })
 stands_at k place shown given w within unshown is before = record {
   plan = w.plan;
   inputs = w.inputs;
@@ -44,7 +44,8 @@ stands_at k place shown given w within unshown is before = record {
   sound = w.sound;
   behind = w.behind;
   before = before;
-  in_tick = w.in_tick;
+  served = w.served;
+  servers = λ processor server at. (let its = w.servers processor server at in record { in_tick = its.in_tick; waiting = its.waiting; own = its.own; orders = its.orders; choice = its.choice });
   shared = w.shared;
   machined = w.machined;
   charges = w.charges;
@@ -53,29 +54,28 @@ stands_at k place shown given w within unshown is before = record {
   holding = w.holding;
   held = w.held;
   doing = w.doing;
-  waiting = w.waiting;
   figured = w.figured;
   agents = w.agents;
   all = w.all;
-  orders = w.orders;
-  choice = w.choice;
   place = within;
   unshown = unshown;
   given = is;
 }
 
-module _ (k : Inside) (w : KernelStands k) (date : ℕ) (is : k.shared.date ≡ Some date) where
+module _ (k : Inside) (w : EngineStands k) (date : ℕ) (is : k.shared.date ≡ Some date) where
   abbrev s : System
-  s = system (progress_of k)
+  s = run_in k
 
   abbrev turns : ℕ → List (Option Turn)
-  turns agent = turns_by s (order (progress_of k)) k.cycles agent
+  turns = turns_in k
 
   done : dates_done k.shared.date ≡ suc date
   done = ap dates_done is ∙ omega arith
 
-  pub date_within : date ≤ k.plan.until
-  date_within = (subst (λ n. InTick k.plan.unit.quantum k.plan.until n k.cycles) done w.in_tick).0
+  pub date_within : 1 ≤ length k.servers.items → date ≤ k.plan.until
+  date_within some =
+      let server = server_there k.servers.items 0 some in
+      (subst (λ n. InTick k.plan.unit.quantum k.plan.until n server.0.cycles) done (w.servers 0 server.0 server.1).in_tick).0
 
   shared_now : SharedStands s k.plan.sizes turns (date + 1) k.shared
   shared_now = subst (λ n. SharedStands s k.plan.sizes turns n k.shared) (ap dates_done is) w.shared
@@ -83,7 +83,7 @@ module _ (k : Inside) (w : KernelStands k) (date : ℕ) (is : k.shared.date ≡ 
   -- ---- where all is told
 
   -- Behind the last place all lines were given.
-  pub given_all : end_of s date ≡ k.place → k.given ≡ length (lines_told (progress_of k))
+  pub given_all : end_of s date ≡ k.place → k.given ≡ length (lines_on_date (state_of k))
   given_all last =
       w.given ∙ ap (λ n. given_at s n k.place k.shown) done ∙ by (nat_lt date s.opening.dates) ∙ sym (ap (λ n. length (lines_at s n)) done)
     where
@@ -107,12 +107,12 @@ module _ (k : Inside) (w : KernelStands k) (date : ℕ) (is : k.shared.date ≡ 
     given_is : k.given ≡ length (told_from s date k.place k.shown)
     given_is = w.given ∙ told_now k.place k.shown
 
-    lines_are : lines_told (progress_of k) ≡ map (event_line s date) (told_from s date (end_of s date) 0)
+    lines_are : lines_on_date (state_of k) ≡ map (event_line s date) (told_from s date (end_of s date) 0)
     lines_are =
         ap (lines_at s) done ∙ cond-false (nat_lt date s.opening.dates) [] (lines_of s date) (le-ltb date s.opening.dates later)
         ∙ ap (map (event_line s date)) (all_told s date)
 
-    pub stands_now : StandsBehind k.plan (beginning (progress_of k)) (stalls_of k.script) turns date k.shared
+    pub stands_now : StandsBehind k.plan (opening_in k) (stalls_of k.script) turns date k.shared
     stands_now = record { sound = w.sound; later = later; stands = shared_now }
 
     -- It isn't the last one of those that were done before.
@@ -127,7 +127,7 @@ module _ (k : Inside) (w : KernelStands k) (date : ℕ) (is : k.shared.date ≡ 
         omega (arith, few, given_is)
 
     -- The next line is the one behind those given.
-    pub next_given : (mark : Mark) (old new : List ℕ) → IsNextTold s date (end_of s date) k.place k.shown (Some mark) old new → slice_get (lines_told (progress_of k)) k.given ≡ Some new
+    pub next_given : (mark : Mark) (old new : List ℕ) → IsNextTold s date (end_of s date) k.place k.shown (Some mark) old new → slice_get (lines_on_date (state_of k)) k.given ≡ Some new
     next_given mark old new told =
         let front = told_from s date k.place k.shown in
         let event : Event = told.2 in
@@ -145,7 +145,7 @@ module _ (k : Inside) (w : KernelStands k) (date : ℕ) (is : k.shared.date ≡ 
         omega (arith, longer, given, given_is)
 
     -- Where no place is left that tells anything, all lines were given.
-    pub all_given : (old new : List ℕ) → IsNextTold s date (end_of s date) k.place k.shown None old new → k.given ≡ length (lines_told (progress_of k))
+    pub all_given : (old new : List ℕ) → IsNextTold s date (end_of s date) k.place k.shown None old new → k.given ≡ length (lines_on_date (state_of k))
     all_given old new told = given_is ∙ ap length (sym told.0) ∙ sym (length-map (told_from s date (end_of s date) 0) (event_line s date)) ∙ ap length (sym lines_are)
 
     pub given_same : (old new : List ℕ) → IsNextTold s date (end_of s date) k.place k.shown None old new → k.given ≡ given_at s (dates_done k.shared.date) (end_of s date) 0

@@ -98,19 +98,17 @@ module _ (plan : Plan) (opening : Opening) (inputs : List (List ℤ)) (stalls : 
   abbrev order : ℕ → List ℕ
   order = order_of plan.unit script
 
-  abbrev turns : ℕ → List (Option Turn)
-  turns agent = turns_by s order cycle agent
-
-  pub looks : AreLooksLaws → IsSupplied s order plan.until → (agent : ℕ) (r : Action) (before : List Action) → history s (date + 1) agent ≡ r ∷ before → Runs s ways plan.code r
+  -- whatever the cycles of the other agents' processors went to
+  pub looks : AreLooksLaws → IsSupplied s order plan.until → (turns : ℕ → List (Option Turn)) (agent : ℕ) → turns agent ≡ turns_by s order cycle agent → (r : Action) (before : List Action) → history s (date + 1) agent ≡ r ∷ before → Runs s ways plan.code r
       → GetsCycle s plan.code (turns agent) plan.until date cycle agent r before → LooksBack s plan.sizes plan.code turns date r
-  looks laws supply agent r before e runs g =
+  looks laws supply turns agent same r before e runs g =
       let had : ℕ = units r.agent r.number (turns r.agent) in
       let in_agent : Contains (history s (date + 1) agent) r = subst (λ actions. Contains actions r) (sym e) (0, omega arith, refl) in
       let in_own : Contains (history s (date + 1) r.agent) r = subst (λ n. Contains (history s (date + 1) n) r) (sym g.agent_is) in_agent in
       let soon : had < work r = subst (λ a. units r.agent r.number (turns a) < work r) (sym g.agent_is) (early s plan.code (turns agent) plan.until date cycle agent r before g) in
       let paid = (charge_after s r had).paid in
       let left : paid < r.budget = (let few = paid_few (s.stalls r.agent) r.number r.budget had (omega (arith, soon)) in omega (arith, few, soon)) in
-      let at_date : length (turns r.agent) / plan.unit.quantum ≡ date = ap (λ n. n / plan.unit.quantum) (as_many s order (processor_at s.unit r.agent) cycle) ∙ tick_of_cycle s order (processor_at s.unit r.agent) date cycle low high in
+      let at_date : length (turns r.agent) / plan.unit.quantum ≡ date = ap (λ n. n / plan.unit.quantum) (ap length (subst (λ a. turns a ≡ turns_by s order cycle a) (sym g.agent_is) same) ∙ as_many s order (processor_at s.unit r.agent) cycle) ∙ tick_of_cycle s order (processor_at s.unit r.agent) date cycle low high in
       let of_code : IsOfCode s plan.code r = record { deeds = g.of_code.deeds; after = g.of_code.after; charge = g.of_code.charge; verdict = g.of_code.verdict; ways = ways; runs = runs } in
       let of_program : agent < length plan.unit.agents = IsRegular.known (All-contains (IsRegular s agent) (history s (date + 1) agent) r (AreRegular.each (supply.lawful.actions (date + 1) agent)) in_agent) in
       let known : r.agent < length plan.unit.agents = subst (λ n. n < length plan.unit.agents) (sym g.agent_is) of_program in

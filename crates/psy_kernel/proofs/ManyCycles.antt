@@ -26,9 +26,9 @@ use Rattle.psy_meaning.specs.Timing.{end_date, timing_of}
 use Rattle.psy_queue.specs.Order.{Queued}
 use Rattle.psy_tree.specs.Parts.{agent_at}
 use Rattle.psy_tree.specs.declared.unit.VarDecl.{VarDecl}
-use Rattle.psy_kernel.specs.declared.kernel.Figure.{Figure}
-use Rattle.psy_kernel.specs.declared.kernel.advance.Gone.{Gone}
-use Rattle.psy_kernel.specs.declared.kernel.advance.Gone.TheVariants as gone
+use Rattle.psy_kernel.specs.declared.engine.Figure.{Figure}
+use Rattle.psy_kernel.specs.declared.engine.advance.Gone.{Gone}
+use Rattle.psy_kernel.specs.declared.engine.advance.Gone.TheVariants as gone
 use Rattle.psy_kernel.specs.Acting.{AfterCycle, HasDoneBy, IsLookIn, IsOfCode}
 use Rattle.psy_kernel.specs.Cycles.{ActsIn, BoxStands, GetsCycle, IsNear, LooksBack, MayEnd, OneStands, figured}
 use Rattle.psy_kernel.specs.Seeing.{Sight, sight_in}

@@ -16,7 +16,7 @@ use Rattle.psy_machine.specs.Stepping.{AgentMachine, Answers, next_for, stepped,
 use Rattle.psy_history.specs.Actions.{Action, System}
 use Rattle.psy_history.specs.Schedule.{work}
 use Rattle.psy_kernel.specs.declared.eyes.Eyes.{Eyes}
-use Rattle.psy_kernel.specs.declared.kernel.advance.Gone.TheVariants as gone
+use Rattle.psy_kernel.specs.declared.engine.advance.Gone.TheVariants as gone
 use Rattle.psy_kernel.specs.Acting.{AfterCycle, AreDone, HasDoneBy, InAction, IsLookIn, IsOfCode, ShowsAs}
 use Rattle.psy_kernel.specs.Cycles.{ActsIn, IsNear, reach_by}
 use Rattle.psy_kernel.specs.Looking.{KeepsRest, window_of}

@@ -24,8 +24,8 @@ use Rattle.psy_history.specs.Summary.{due_by, due_count, least_slack, slack_of}
 use Rattle.psy_base.specs.Extremes.{lesser}
 use Rattle.psy_kernel.specs.Acting.{AfterCycle, InAction}
 use Rattle.psy_kernel.specs.Cycles.{GetsCycle, OneStands, figured}
-use Rattle.psy_kernel.specs.declared.kernel.Figure.{Figure}
-use Rattle.psy_kernel.specs.declared.kernel.advance.Gone.TheVariants as gone
+use Rattle.psy_kernel.specs.declared.engine.Figure.{Figure}
+use Rattle.psy_kernel.specs.declared.engine.advance.Gone.TheVariants as gone
 use Rattle.psy_kernel.specs.Standing.{IsAtEnd, IsRunning, MachineIn, charge_after, settled}
 use Rattle.psy_kernel.proofs.Figures.{added_is, added_more, least_more}
 use Rattle.psy_kernel.proofs.OtherAgents.{AreSameFor, is_own, least_settled_same, missed, other_number, settled_same}

@@ -13,7 +13,7 @@ use Rattle.psy_history.specs.Actions.{Action, System, is_done}
 use Rattle.psy_history.specs.Schedule.{Turn, units, work}
 use Rattle.psy_kernel.specs.Acting.{AfterCycle, HasDoneBy}
 use Rattle.psy_kernel.specs.Cycles.{BoxStands, GetsCycle}
-use Rattle.psy_kernel.specs.declared.kernel.advance.Gone.TheVariants as gone
+use Rattle.psy_kernel.specs.declared.engine.advance.Gone.TheVariants as gone
 use Rattle.psy_kernel.specs.Standing.{HasDone, charge_after}
 use Rattle.psy_kernel.proofs.OneAgent.{more, over, phase_acting, phase_over, still}
 

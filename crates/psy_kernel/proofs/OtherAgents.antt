@@ -17,7 +17,7 @@ use Rattle.psy_history.specs.Executors.{agent_code_at}
 use Rattle.psy_history.specs.Schedule.{Turn, finish, is_of, is_pending, units, work}
 use Rattle.psy_history.specs.Summary.{due_by, due_count, least_slack, numbers_in, slack_of}
 use Rattle.psy_base.specs.Extremes.{least_of}
-use Rattle.psy_kernel.specs.declared.kernel.Figure.{Figure}
+use Rattle.psy_kernel.specs.declared.engine.Figure.{Figure}
 use Rattle.psy_kernel.specs.Standing.{AgentStands, ChargeStands, DeedsStand, HasDone, MachineIn, MachineStands, charge_after, deadline_of, settled}
 
 -- ---- lists

@@ -5,7 +5,7 @@ use Rattle.std.specs.List.{All}
 use Rattle.std.proofs.lemmas.Bool.{cases_eq, cases_lt}
 use Rattle.std.proofs.lemmas.List.{get_or_past, length-set}
 use Rattle.std.proofs.lemmas.List.Elements.{All-head, All-weaker}
-use Rattle.std.proofs.lemmas.Option.{get_or_from_slice_get, slice_get-get_or, slice_get_within}
+use Rattle.std.proofs.lemmas.Option.{slice_get-get_or, slice_get_within}
 use Rattle.psy_budget.specs.Charges.{Charged}
 use Rattle.psy_code.specs.declared.code.Code.{Code}
 use Rattle.psy_dates.specs.declared.seat.Seat.{Seat}
@@ -17,36 +17,36 @@ use Rattle.psy_dates.specs.Standing.{IsSeated, KeepsCopy, KeepsSends, KeepsTakes
 use Rattle.psy_dates.proofs.lemmas.Moving.{never_waits, silent_by, silent_from}
 use Rattle.psy_history.specs.Regular.{AreRegular, IsLawful, IsRegular}
 use Rattle.psy_machine.specs.Stepping.{AgentMachine}
-use Rattle.psy_history.specs.Actions.{Action, System, is_done, is_silent, stream_of, variable_of}
+use Rattle.psy_history.specs.Actions.{Action, History, System, is_done, is_silent, stream_of, variable_of}
 use Rattle.psy_tree.specs.Parts.{no_stream}
 use Rattle.psy_base.specs.declared.sizes.Sizes.{Sizes}
 use Rattle.psy_history.specs.History.{history}
-use Rattle.psy_history.specs.Processors.{processor_at}
+use Rattle.psy_history.specs.Processors.{processor_at, served}
 use Rattle.psy_history.specs.Schedule.{Turn, is_pending, pending, soonest}
 use Rattle.psy_ready.specs.Choice.{IsPick, pending_deadline}
 use Rattle.psy_tree.specs.declared.unit.StreamDecl.{StreamDecl}
 use Rattle.psy_tree.specs.declared.unit.VarDecl.{VarDecl}
 use Rattle.psy_kernel.specs.Cycles.{AreOver, BoxStands, OneStands}
-use Rattle.psy_kernel.specs.declared.kernel.Figure.{Figure}
+use Rattle.psy_kernel.specs.declared.engine.Figure.{Figure}
 use Rattle.psy_kernel.specs.Standing.{AgentStands, DeedsStand, IsChosen, deadline_of}
 use Rattle.psy_kernel.specs.Stretches.{given_on, given_to}
 use Rattle.psy_kernel.proofs.GivenCycles.{missed_on, own_given}
 use Rattle.psy_kernel.proofs.MoversGiven.{IsTold, movers_given}
 use Rattle.psy_kernel.proofs.OneAgent.{variable_known}
 use Rattle.psy_kernel.proofs.OtherAgents.{AreSameFor, agent_kept, copy_kept, deeds_kept, deeds_untaken, other_agent, seat_kept, sends_kept, takes_kept}
-use Rattle.psy_kernel.proofs.PickIsSoonest.{Front, IsSoonest, front_of, soonest_by_pick, soonest_of_nobody}
+use Rattle.psy_kernel.proofs.OwnAgents.{history_on, on_other, on_own, served_pending}
+use Rattle.psy_kernel.proofs.PickIsSoonest.{Front, front_of, soonest_by_pick, soonest_of_nobody}
 use Rattle.psy_dates.proofs.lemmas.Sets.{get_set_other, get_set_same}
 
 -- It stands for the history of so many dates, where by agent the cycles of its processor went to these turns
-pub record PartsStand (s : System) (sizes : Sizes) (code : Code) (until : ℕ) (turns : ℕ → List (Option Turn)) (dates : ℕ) (shared : Shared) (machines : List AgentMachine) (charges : List Charged) (ready : List (Option ℕ)) (figures : List Figure) : Type 0 where
+pub record PartsStand (s : System) (sizes : Sizes) (code : Code) (until : ℕ) (turns : ℕ → List (Option Turn)) (dates : ℕ) (shared : Shared) (machines : List AgentMachine) (charges : List Charged) (waiting : ℕ → Option ℕ) (figures : List Figure) : Type 0 where
   pub shares : SharedStands s sizes turns dates shared
   pub machined : length machines ≡ length s.unit.agents
   pub charged : length charges ≡ length s.unit.agents
-  pub waiting : length ready ≡ length s.unit.agents
   pub figured : length figures ≡ length s.unit.agents
-  pub agents : (agent : ℕ) (machine : AgentMachine) (charge : Charged) (waits : Option ℕ) (figure : Figure)
-      → slice_get machines agent ≡ Some machine → slice_get charges agent ≡ Some charge → slice_get ready agent ≡ Some waits → slice_get figures agent ≡ Some figure
-      → AgentStands s code (turns agent) until agent (history s dates agent) charge machine waits figure
+  pub agents : (agent : ℕ) (machine : AgentMachine) (charge : Charged) (figure : Figure)
+      → slice_get machines agent ≡ Some machine → slice_get charges agent ≡ Some charge → slice_get figures agent ≡ Some figure
+      → AgentStands s code (turns agent) until agent (history s dates agent) charge machine (waiting agent) figure
   pub doing : (agent : ℕ) (outbox : Outboxed) → slice_get shared.outboxes.items agent ≡ Some outbox → DeedsStand s code (turns agent) (history s dates agent) outbox.sends shared.taken.items
 
 found : {X : Type 0} (xs : List X) (place : ℕ) → place < length xs → (x : X) × (slice_get xs place ≡ Some x)
@@ -89,28 +89,42 @@ shared_same s sizes turns now dates shared same h = record {
   movers = h.movers;
 }
 
-module _ (s : System) (sizes : Sizes) (code : Code) (until : ℕ) (turns : ℕ → List (Option Turn)) (dates : ℕ) (shared : Shared) (machines : List AgentMachine) (charges : List Charged) (ready : List (Option ℕ)) (figures : List Figure) (p : PartsStand s sizes code until turns dates shared machines charges ready figures) where
+-- The same turns, by agent
+pub shared_alike : (s : System) (sizes : Sizes) (turns now : ℕ → List (Option Turn)) (dates : ℕ) (shared : Shared) → ((agent : ℕ) → turns agent ≡ now agent) → SharedStands s sizes turns dates shared → SharedStands s sizes now dates shared
+shared_alike s sizes turns now dates shared same = shared_same s sizes turns now dates shared (λ agent k d less. subst (λ ts. AreSameFor (turns agent) ts (get_or (history s dates agent) k d)) (same agent) (record { units = refl; finish = refl }))
+
+module _ (s : System) (sizes : Sizes) (code : Code) (until : ℕ) (turns : ℕ → List (Option Turn)) (dates : ℕ) (shared : Shared) (machines : List AgentMachine) (charges : List Charged) (waiting : ℕ → Option ℕ) (figures : List Figure) (p : PartsStand s sizes code until turns dates shared machines charges waiting figures) where
   -- turns that give each action as many cycles, and the last one as late
-  parts_same : (now : ℕ → List (Option Turn)) → ((agent : ℕ) → All (AreSameFor (turns agent) (now agent)) (history s dates agent)) → PartsStand s sizes code until now dates shared machines charges ready figures
+  parts_same : (now : ℕ → List (Option Turn)) → ((agent : ℕ) → All (AreSameFor (turns agent) (now agent)) (history s dates agent)) → PartsStand s sizes code until now dates shared machines charges waiting figures
   parts_same now same = record {
     shares = shared_same s sizes turns now dates shared same p.shares;
     machined = p.machined;
     charged = p.charged;
-    waiting = p.waiting;
     figured = p.figured;
-    agents = λ agent machine charge waits figure m c w f. agent_kept (turns agent) (now agent) s code until agent (history s dates agent) charge machine waits figure (same agent) (p.agents agent machine charge waits figure m c w f);
+    agents = λ agent machine charge figure m c f. agent_kept (turns agent) (now agent) s code until agent (history s dates agent) charge machine (waiting agent) figure (same agent) (p.agents agent machine charge figure m c f);
     doing = λ agent outbox at. deeds_kept (turns agent) (now agent) s code (history s dates agent) outbox.sends shared.taken.items (same agent) (p.doing agent outbox at);
   }
 
   -- the same turns, by agent
-  pub alike : (now : ℕ → List (Option Turn)) → ((agent : ℕ) → turns agent ≡ now agent) → PartsStand s sizes code until now dates shared machines charges ready figures
+  pub alike : (now : ℕ → List (Option Turn)) → ((agent : ℕ) → turns agent ≡ now agent) → PartsStand s sizes code until now dates shared machines charges waiting figures
   alike now same = parts_same now (λ agent k d less. subst (λ ts. AreSameFor (turns agent) ts (get_or (history s dates agent) k d)) (same agent) (record { units = refl; finish = refl }))
 
+  -- the same deadlines, by agent
+  pub waits_alike : (others : ℕ → Option ℕ) → ((agent : ℕ) → waiting agent ≡ others agent) → PartsStand s sizes code until turns dates shared machines charges others figures
+  waits_alike others same = record {
+    shares = p.shares;
+    machined = p.machined;
+    charged = p.charged;
+    figured = p.figured;
+    agents = λ agent machine charge figure m c f. subst (λ w. AgentStands s code (turns agent) until agent (history s dates agent) charge machine w figure) (same agent) (p.agents agent machine charge figure m c f);
+    doing = p.doing;
+  }
+
   -- cycles that nobody gets
-  pub idle : (processor n : ℕ) → PartsStand s sizes code until (given_on s.unit processor None n turns) dates shared machines charges ready figures
+  pub idle : (processor n : ℕ) → PartsStand s sizes code until (given_on s.unit processor None n turns) dates shared machines charges waiting figures
   idle processor n = parts_same (given_on s.unit processor None n turns) (λ agent k d less. missed_on s.unit processor agent None turns (get_or (history s dates agent) k d) refl n)
 
-  module _ (lawful : IsLawful s) (over : (agent : ℕ) → AreOver (turns agent) (history s dates agent)) where
+  module _ (lawful : IsLawful s) where
     -- an agent that the program doesn't have has no actions
     past : (agent : ℕ) → length s.unit.agents ≤ agent → history s dates agent ≡ []
     past agent h = by (history s dates agent) (AreRegular.each (lawful.actions dates agent))
@@ -119,40 +133,63 @@ module _ (s : System) (sizes : Sizes) (code : Code) (until : ℕ) (turns : ℕ �
         by [] all = refl
         by (r ∷ before) all = absurd (omega (arith, h, IsRegular.known (All-head (IsRegular s agent) r before all)))
 
-    waits_is : (agent : ℕ) → pending_deadline ready agent ≡ deadline_of (turns agent) (history s dates agent)
-    waits_is agent = elim (cases_lt agent (length s.unit.agents)) [
-      | inl less ↦
-          (let m = found machines agent (omega (arith, less, p.machined)) in let c = found charges agent (omega (arith, less, p.charged)) in let w = found ready agent (omega (arith, less, p.waiting)) in let f = found figures agent (omega (arith, less, p.figured)) in
-          get_or_from_slice_get ready agent w.0 None w.1 ∙ AgentStands.ready (p.agents agent m.0 c.0 w.0 f.0 m.1 c.1 w.1 f.1))
-      | inr more ↦ get_or_past ready agent None (omega (arith, more, p.waiting)) ∙ sym (ap (deadline_of (turns agent)) (past agent more))
-    ]
+    -- a processor, for which its own agents wait, and whose cycles went to these turns
+    module _ (processor : ℕ) (ready : List (Option ℕ)) (as_many : length ready ≡ length s.unit.agents) (all : List (Option Turn))
+        (own : (agent : ℕ) → processor_at s.unit agent ≡ processor → waiting agent ≡ pending_deadline ready agent)
+        (alone : (agent : ℕ) → (processor_at s.unit agent ≡ processor → ⊥) → pending_deadline ready agent ≡ None)
+        (one : (agent : ℕ) → processor_at s.unit agent ≡ processor → turns agent ≡ all)
+        (over : (agent : ℕ) → processor_at s.unit agent ≡ processor → AreOver (turns agent) (history s dates agent)) where
+      waits_is : (agent : ℕ) → processor_at s.unit agent ≡ processor → pending_deadline ready agent ≡ deadline_of (turns agent) (history s dates agent)
+      waits_is agent of = elim (cases_lt agent (length s.unit.agents)) [
+        | inl less ↦
+            (let m = found machines agent (omega (arith, less, p.machined)) in let c = found charges agent (omega (arith, less, p.charged)) in let f = found figures agent (omega (arith, less, p.figured)) in
+            sym (own agent of) ∙ AgentStands.ready (p.agents agent m.0 c.0 f.0 m.1 c.1 f.1))
+        | inr more ↦ get_or_past ready agent None (omega (arith, more, as_many)) ∙ sym (ap (deadline_of (turns agent)) (past agent more))
+      ]
 
-    fronts_by : (agent : ℕ) → Front (turns agent) (history s dates agent) (pending_deadline ready agent)
-    fronts_by agent = subst (Front (turns agent) (history s dates agent)) (sym (waits_is agent)) (front_of (turns agent) (history s dates agent) (over agent))
+      abbrev its : History
+      its = history_on s.unit processor (history s dates)
 
-    -- where all agents are of one processor
-    module _ (all : List (Option Turn)) (one : (agent : ℕ) → turns agent ≡ all) where
-      pub fronts : (agent : ℕ) → Front all (history s dates agent) (pending_deadline ready agent)
-      fronts agent = subst (λ ts. Front ts (history s dates agent) (pending_deadline ready agent)) (one agent) (fronts_by agent)
+      fronts : (agent : ℕ) → Front all (its agent) (pending_deadline ready agent)
+      fronts agent = elim (cases_eq (processor_at s.unit agent) processor) [
+        | inl of ↦
+            subst (λ actions. Front all actions (pending_deadline ready agent)) (sym (on_own s.unit processor agent (history s dates) of))
+            (subst (λ ts. Front ts (history s dates agent) (pending_deadline ready agent)) (one agent of)
+            (subst (Front (turns agent) (history s dates agent)) (sym (waits_is agent of)) (front_of (turns agent) (history s dates agent) (over agent of))))
+        | inr differs ↦
+            subst (λ actions. Front all actions (pending_deadline ready agent)) (sym (on_other s.unit processor agent (history s dates) differs)) (subst (Front all []) (sym (alone agent differs)) refl)
+      ]
 
-      pub nobody_soonest : (order : List ℕ) → IsChosen ready order None → soonest (pending order all (history s dates)) ≡ None
-      nobody_soonest order none = soonest_of_nobody all (history s dates) ready fronts order none
+      pub nobody_soonest : (order : List ℕ) → IsChosen ready order None → soonest (pending (served s.unit processor order) all (history s dates)) ≡ None
+      nobody_soonest order none = ap soonest (served_pending s.unit processor all (history s dates) order) ∙ soonest_of_nobody all its ready fronts order none
 
-      pub pick_soonest : (order : List ℕ) (agent : ℕ) (pick : IsPick ready order agent) → IsSoonest all (history s dates) (pending_deadline ready) fronts order agent pick.deadline
-      pick_soonest order agent pick = soonest_by_pick all (history s dates) ready fronts order agent pick
+      pub pick_home : (order : List ℕ) (agent : ℕ) → IsPick ready order agent → processor_at s.unit agent ≡ processor
+      pick_home order agent pick = elim (cases_eq (processor_at s.unit agent) processor) [
+        | inl of ↦ of
+        | inr differs ↦ absurd (let wrong : None ≡ Some pick.deadline = sym (alone agent differs) ∙ pick.is_pending in cc)
+      ]
 
-    pub pick_known : (order : List ℕ) (agent : ℕ) → IsPick ready order agent → agent < length s.unit.agents
-    pick_known order agent pick = elim (cases_lt agent (length s.unit.agents)) [
-      | inl less ↦ less
-      | inr more ↦ absurd (let wrong : None ≡ Some pick.deadline = sym (get_or_past ready agent None (omega (arith, more, p.waiting))) ∙ pick.is_pending in cc)
-    ]
+      -- The last action of an agent is the soonest of those that the processor serves.
+      abbrev pub IsFirst : List ℕ → ℕ → Type 0
+      IsFirst order agent = (r : Action) × (before : List Action) × (history s dates agent ≡ r ∷ before) × (is_pending all r ≡ true) × (soonest (pending (served s.unit processor order) all (history s dates)) ≡ Some r)
+
+      pub pick_soonest : (order : List ℕ) (agent : ℕ) → IsPick ready order agent → IsFirst order agent
+      pick_soonest order agent pick =
+          let w = soonest_by_pick all its ready fronts order agent pick in
+          (w.0, w.1, sym (on_own s.unit processor agent (history s dates) (pick_home order agent pick)) ∙ w.2, w.3, ap soonest (served_pending s.unit processor all (history s dates) order) ∙ w.5)
+
+      pub pick_known : (order : List ℕ) (agent : ℕ) → IsPick ready order agent → agent < length s.unit.agents
+      pick_known order agent pick = elim (cases_lt agent (length s.unit.agents)) [
+        | inl less ↦ less
+        | inr more ↦ absurd (let wrong : None ≡ Some pick.deadline = sym (get_or_past ready agent None (omega (arith, more, as_many))) ∙ pick.is_pending in cc)
+      ]
 
   -- what an agent has, with its seat and kept copies
   pub one_of : (date agent : ℕ) (r : Action) (before : List Action) → dates - 1 ≡ date → history s dates agent ≡ r ∷ before
-      → (machine : AgentMachine) (charge : Charged) (waits : Option ℕ) (figure : Figure) (seat : Seat) → slice_get machines agent ≡ Some machine → slice_get charges agent ≡ Some charge → slice_get ready agent ≡ Some waits → slice_get figures agent ≡ Some figure → slice_get shared.seats.items agent ≡ Some seat
-      → OneStands s code (turns agent) until date agent (r ∷ before) charge machine waits figure seat shared.ended.items
-  one_of date agent r before last is machine charge waits figure seat m c w f x = record {
-    stands = subst (λ actions. AgentStands s code (turns agent) until agent actions charge machine waits figure) is (p.agents agent machine charge waits figure m c w f);
+      → (machine : AgentMachine) (charge : Charged) (figure : Figure) (seat : Seat) → slice_get machines agent ≡ Some machine → slice_get charges agent ≡ Some charge → slice_get figures agent ≡ Some figure → slice_get shared.seats.items agent ≡ Some seat
+      → OneStands s code (turns agent) until date agent (r ∷ before) charge machine (waiting agent) figure seat shared.ended.items
+  one_of date agent r before last is machine charge figure seat m c f x = record {
+    stands = subst (λ actions. AgentStands s code (turns agent) until agent actions charge machine (waiting agent) figure) is (p.agents agent machine charge figure m c f);
     seated = seated_last (s.opening.silent agent) s.opening.dates date (turns agent) r before seat
         (subst (λ actions. IsSeated (s.opening.silent agent) s.opening.dates date (turns agent) actions seat) is
         (subst (λ d. IsSeated (s.opening.silent agent) s.opening.dates d (turns agent) (history s dates agent) seat) last (p.shares.seats agent seat x)));
@@ -288,31 +325,30 @@ module _ (s : System) (sizes : Sizes) (code : Code) (until : ℕ) (turns : ℕ �
       }
 
       -- the agent's own, and those of another agent
-      pub agents_given : (ready' : List (Option ℕ)) → ((w : Option ℕ) → slice_get ready' agent ≡ Some w → w ≡ waits) → ((other : ℕ) → (other ≡ agent → ⊥) → slice_get ready' other ≡ slice_get ready other)
-          → (other : ℕ) (m : AgentMachine) (c : Charged) (w : Option ℕ) (f : Figure) → slice_get (slice_set machines agent machine) other ≡ Some m → slice_get (slice_set charges agent charge) other ≡ Some c → slice_get ready' other ≡ Some w → slice_get (slice_set figures agent figure) other ≡ Some f
-          → AgentStands s code (now other) until other (history s dates other) c m w f
-      agents_given ready' own rest other m c w f at_m at_c at_w at_f = elim (cases_eq other agent) [
+      agents_given : (waiting' : ℕ → Option ℕ) → waiting' agent ≡ waits → ((other : ℕ) → (other ≡ agent → ⊥) → waiting' other ≡ waiting other)
+          → (other : ℕ) (m : AgentMachine) (c : Charged) (f : Figure) → slice_get (slice_set machines agent machine) other ≡ Some m → slice_get (slice_set charges agent charge) other ≡ Some c → slice_get (slice_set figures agent figure) other ≡ Some f
+          → AgentStands s code (now other) until other (history s dates other) c m (waiting' other) f
+      agents_given waiting' own rest other m c f at_m at_c at_f = elim (cases_eq other agent) [
         | inl same ↦
             (let m_is : m ≡ machine = get_set_same machines agent machine m (sym (ap (slice_get (slice_set machines agent machine)) same) ∙ at_m) in
             let c_is : c ≡ charge = get_set_same charges agent charge c (sym (ap (slice_get (slice_set charges agent charge)) same) ∙ at_c) in
             let f_is : f ≡ figure = get_set_same figures agent figure f (sym (ap (slice_get (slice_set figures agent figure)) same) ∙ at_f) in
-            let w_is : w ≡ waits = own w (sym (ap (slice_get ready') same) ∙ at_w) in
-            subst (λ a. AgentStands s code (now a) until a (history s dates a) c m w f) (sym same) (subst (λ actions. AgentStands s code (now agent) until agent actions c m w f) (sym is)
-            (subst (λ z. AgentStands s code (now agent) until agent (r ∷ before) z m w f) (sym c_is) (subst (λ z. AgentStands s code (now agent) until agent (r ∷ before) charge z w f) (sym m_is)
-            (subst (λ z. AgentStands s code (now agent) until agent (r ∷ before) charge machine z f) (sym w_is) (subst (λ z. AgentStands s code (now agent) until agent (r ∷ before) charge machine waits z) (sym f_is) one.stands))))))
+            subst (λ a. AgentStands s code (now a) until a (history s dates a) c m (waiting' a) f) (sym same) (subst (λ actions. AgentStands s code (now agent) until agent actions c m (waiting' agent) f) (sym is)
+            (subst (λ z. AgentStands s code (now agent) until agent (r ∷ before) z m (waiting' agent) f) (sym c_is) (subst (λ z. AgentStands s code (now agent) until agent (r ∷ before) charge z (waiting' agent) f) (sym m_is)
+            (subst (λ z. AgentStands s code (now agent) until agent (r ∷ before) charge machine z f) (sym own) (subst (λ z. AgentStands s code (now agent) until agent (r ∷ before) charge machine waits z) (sym f_is) one.stands))))))
         | inr differs ↦
-            agent_kept (turns other) (now other) s code until other (history s dates other) c m w f (others_same other differs)
-            (p.agents other m c w f (sym (get_set_other machines agent other machine differs) ∙ at_m) (sym (get_set_other charges agent other charge differs) ∙ at_c) (sym (rest other differs) ∙ at_w) (sym (get_set_other figures agent other figure differs) ∙ at_f))
+            subst (λ z. AgentStands s code (now other) until other (history s dates other) c m z f) (sym (rest other differs))
+            (agent_kept (turns other) (now other) s code until other (history s dates other) c m (waiting other) f (others_same other differs)
+            (p.agents other m c f (sym (get_set_other machines agent other machine differs) ∙ at_m) (sym (get_set_other charges agent other charge differs) ∙ at_c) (sym (get_set_other figures agent other figure differs) ∙ at_f)))
       ]
 
-      pub given : (ready' : List (Option ℕ)) → length ready' ≡ length ready → ((w : Option ℕ) → slice_get ready' agent ≡ Some w → w ≡ waits) → ((other : ℕ) → (other ≡ agent → ⊥) → slice_get ready' other ≡ slice_get ready other)
-          → (after : Shared) → after.outboxes.items ≡ slice_set shared.outboxes.items agent outbox → after.taken.items ≡ taken → SharedStands s sizes now dates after → PartsStand s sizes code until now dates after (slice_set machines agent machine) (slice_set charges agent charge) ready' (slice_set figures agent figure)
-      given ready' as_many own rest after outboxes_are taken_is shares = record {
+      pub given : (waiting' : ℕ → Option ℕ) → waiting' agent ≡ waits → ((other : ℕ) → (other ≡ agent → ⊥) → waiting' other ≡ waiting other)
+          → (after : Shared) → after.outboxes.items ≡ slice_set shared.outboxes.items agent outbox → after.taken.items ≡ taken → SharedStands s sizes now dates after → PartsStand s sizes code until now dates after (slice_set machines agent machine) (slice_set charges agent charge) waiting' (slice_set figures agent figure)
+      given waiting' own rest after outboxes_are taken_is shares = record {
         shares = shares;
         machined = length-set machines agent machine ∙ p.machined;
         charged = length-set charges agent charge ∙ p.charged;
-        waiting = as_many ∙ p.waiting;
         figured = length-set figures agent figure ∙ p.figured;
-        agents = agents_given ready' own rest;
+        agents = agents_given waiting' own rest;
         doing = λ other x at. subst (λ ns. DeedsStand s code (now other) (history s dates other) x.sends ns) (sym taken_is) (doing_given other x (sym (ap (λ xs. slice_get xs other) outboxes_are) ∙ at));
       }

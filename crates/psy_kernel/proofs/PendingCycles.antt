@@ -16,12 +16,12 @@ use Rattle.psy_machine.specs.Stepping.{AgentMachine, Answers, machine_after, nex
 use Rattle.psy_history.specs.Actions.{Action, System}
 use Rattle.psy_history.specs.Executors.{Acted}
 use Rattle.psy_history.specs.Regular.{AnswerAlike}
-use Rattle.psy_kernel.specs.declared.kernel.advance.Gone.{Gone}
-use Rattle.psy_kernel.specs.declared.kernel.advance.Gone.TheVariants as gone
+use Rattle.psy_kernel.specs.declared.engine.advance.Gone.{Gone}
+use Rattle.psy_kernel.specs.declared.engine.advance.Gone.TheVariants as gone
 use Rattle.psy_kernel.specs.Acting.{AfterCycle, AreDone, HasDoneBy, InAction, IsGone, IsLookIn, IsOfCode, ShowsAs, look_of}
 use Rattle.psy_kernel.specs.Standing.{HasDone, IsRunning, charge_after}
 use Rattle.psy_kernel.specs.Stretches.{gone_by, gone_on}
-use Rattle.psy_kernel.proofs.PaidCycles.{not_spent as is_granted, paid_at, paid_few, paid_next, spent_is, stalled_next, up_to_next}
+use Rattle.psy_kernel.proofs.PaidCycles.{not_spent as is_granted, paid_at, paid_few, paid_next, spent_is, up_to_next}
 use Rattle.psy_kernel.proofs.RunsOn.{able as can_go, answers_alike, asks as asks_of, at_end, early, next_run, noted_after, over_then, pasts, permits, served}
 use Rattle.psy_kernel.proofs.Verdicts.{comes_to, ended, is_whole, its, less_charge, of_code, overran, runs as runs_of, start, trapped}
 
@@ -89,31 +89,10 @@ module _ (s : System) (code : Code) (r : Action) (had : ℕ) (charge : Charged) 
   tick_by : (t : Tick) → tick_of charge ≡ t → tick_of (charge_after s r had) ≡ t
   tick_by t e = ap tick_of (sym w.charged) ∙ e
 
-  -- a cycle that goes to a stall
-  pub after_stalled : tick_of charge ≡ tick.Stalled → (after : Charged) → after ≡ after_tick charge tick.Stalled → (result : Gone) → result ≡ gone_on after → AfterCycle s code r had result after machine
-  after_stalled e after after_is result result_is =
-      let charged : after ≡ charge_after s r (suc had) = after_is ∙ charge_by tick.Stalled e in
-      let same = stalled_next (s.stalls r.agent) r.number r.budget had (tick_by tick.Stalled e) in
-      record {
-        charged = charged;
-        agent = w.agent;
-        gone = subst (IsGone s code r had machine) (sym (result_is ∙ ap gone_on charged)) (goes_on s code r w.of_code had machine less (subst (λ n. IsRunning code r n machine) (sym same) w.running));
-      }
-
   -- an action that may go on has done what its paid instructions did
   pub on_done : (sends : List Sent) (taken : List ℕ) → HasDone s code r (charge_after s r (suc had)).paid sends taken → (test : Bool) → HasDoneBy s code r had sends taken (if test then gone.Spent else gone.Going)
   on_done sends taken did true = tt {0}
   on_done sends taken did false = did
-
-  -- which sends and takes nothing
-  pub did_stalled : tick_of charge ≡ tick.Stalled → (after : Charged) (result : Gone) → result ≡ gone_on after → (sends : List Sent) (taken : List ℕ) → HasDone s code r paid sends taken → HasDoneBy s code r had sends taken result
-  did_stalled e after result result_is sends taken did =
-      subst (HasDoneBy s code r had sends taken) (sym result_is)
-      (on_done sends taken (subst (λ n. HasDone s code r n sends taken) (sym (stalled_next (s.stalls r.agent) r.number r.budget had (tick_by tick.Stalled e))) did) (after.consumed == after.budget))
-
-  -- and looks at nothing
-  pub looks_stalled : tick_of charge ≡ tick.Stalled → (look : Option (ℕ × ℕ)) → look ≡ None → IsLookIn s code r had look
-  looks_stalled e look none = rw (tick_by tick.Stalled e) none
 
   -- a cycle that pays an instruction
   module _ (paying : tick_of charge ≡ tick.Paid) where

@@ -13,7 +13,7 @@ use Rattle.psy_history.specs.Regular.{AreRegular}
 use Rattle.psy_dates.specs.declared.seat.Seat.{Seat}
 use Rattle.psy_dates.specs.declared.shared.Shared.{Shared}
 use Rattle.psy_dates.specs.Standing.{IsQuiet, IsSeated, SeatStands, SharedStands, committed_at}
-use Rattle.psy_kernel.specs.declared.kernel.lines.Mark.{Mark}
+use Rattle.psy_kernel.specs.declared.engine.lines.Mark.{Mark}
 use Rattle.psy_kernel.specs.Standing.{told_from}
 use Rattle.psy_kernel.specs.Telling.{IsNextTold, IsToldBy, TellsStop, TellsValue, places_of, told_by}
 use Rattle.psy_kernel.proofs.Publications.{value_told}

@@ -1,51 +1,99 @@
--- What is due before a cycle, and behind it and others of its tick.
+-- What is due: a date, a cycle, or a unit of one that was begun; and what is due behind it.
 use Rattle.std.proofs.Common.{◌≡◌, ◌≢◌, refl, sym, ap, ◌∙◌, subst, inl, inr, arith}
-use Rattle.std.specs.Prelude.{ℕ, zero, suc, ◌+◌, ◌*◌, ◌<◌, ◌≤◌, ◌==◌, Bool, true, false, if◌then◌else◌}
-use Rattle.std.proofs.lemmas.Bool.{cases_lt, cond-true, cond-false, eq-eqb, eqb-false, ne_eqb}
+use Rattle.std.specs.Prelude.{◌⊎◌, ℕ, zero, suc, ◌+◌, ◌*◌, ◌<◌, ◌≤◌, ◌==◌, Bool, true, false, if◌then◌else◌}
+use Rattle.std.proofs.lemmas.Bool.{cases_lt, eq-eqb, eqb-false, eqb-true, ne_eqb}
 use Rattle.std.proofs.lemmas.Nat.{mul-le}
-use Rattle.psy_kernel.specs.declared.stage.Stage.TheVariants.{DateDue, CycleDue, Over}
-use Rattle.psy_kernel.specs.Progress.{Progress, stage_of}
+use Rattle.psy_kernel.specs.declared.stage.Stage.{Stage}
+use Rattle.psy_kernel.specs.declared.stage.Stage.TheVariants.{DateDue, CycleDue, UnitDue, Over}
+use Rattle.psy_kernel.specs.Progress.{Progress, next_processor, stage_of}
 use Rattle.psy_kernel.specs.Standing.{InTick}
+use Rattle.psy_kernel.proofs.Ticks.{IsInside, inside_tick}
 
--- ---- a cycle is due
+-- ---- what is due tells how far the run is
 
-not_over : (a b : Bool) (date cycle other : ℕ) → (if a then Over else if b then DateDue date else CycleDue cycle) ≡ CycleDue other → (a ≡ false) × (b ≡ false)
-not_over true b date cycle other e = cc
-not_over false true date cycle other e = cc
-not_over false false date cycle other e = (refl, refl)
+-- The stage where these tests hold
+abbrev stage_by : Bool → Bool → Bool → ℕ → ℕ → ℕ → Stage
+stage_by over filled whole date cycle processor = if over then Over else if filled then DateDue date else if whole then CycleDue cycle else UnitDue cycle processor
 
-pub cycle_due : (p : Progress) → stage_of p ≡ CycleDue p.cycles → (p.dates ≢ p.plan.until + 1) × (p.cycles ≢ p.dates * p.plan.unit.quantum)
+date_by : (over filled whole : Bool) (date cycle processor : ℕ) → stage_by over filled whole date cycle processor ≡ DateDue date → (over ≡ false) × (filled ≡ true)
+date_by true filled whole date cycle processor e = absurd (cc)
+date_by false true whole date cycle processor e = (refl, refl)
+date_by false false true date cycle processor e = absurd (cc)
+date_by false false false date cycle processor e = absurd (cc)
+
+cycle_by : (over filled whole : Bool) (date cycle processor : ℕ) → stage_by over filled whole date cycle processor ≡ CycleDue cycle → (over ≡ false) × (filled ≡ false) × (whole ≡ true)
+cycle_by true filled whole date cycle processor e = absurd (cc)
+cycle_by false true whole date cycle processor e = absurd (cc)
+cycle_by false false true date cycle processor e = (refl, refl, refl)
+cycle_by false false false date cycle processor e = absurd (cc)
+
+unit_by : (over filled whole : Bool) (date cycle processor : ℕ) → stage_by over filled whole date cycle processor ≡ UnitDue cycle processor → (over ≡ false) × (filled ≡ false)
+unit_by true filled whole date cycle processor e = absurd (cc)
+unit_by false true whole date cycle processor e = absurd (cc)
+unit_by false false true date cycle processor e = absurd (cc)
+unit_by false false false date cycle processor e = (refl, refl)
+
+over_by : (over filled whole : Bool) (date cycle processor : ℕ) → stage_by over filled whole date cycle processor ≡ Over → over ≡ true
+over_by true filled whole date cycle processor e = refl
+over_by false true whole date cycle processor e = absurd (cc)
+over_by false false true date cycle processor e = absurd (cc)
+over_by false false false date cycle processor e = absurd (cc)
+
+-- Date `until` was done where the run is over.
+pub over_due : (p : Progress) → stage_of p ≡ Over → p.dates ≡ p.plan.until + 1
+over_due p due =
+    eqb-true p.dates (p.plan.until + 1) (over_by (p.dates == p.plan.until + 1) (p.cycles == p.dates * p.plan.unit.quantum) (p.units == 0) p.dates p.cycles (next_processor p) due)
+
+-- The cycles fill whole ticks where a date is due.
+pub date_due : (p : Progress) → stage_of p ≡ DateDue p.dates → (p.dates ≢ p.plan.until + 1) × (p.cycles ≡ p.dates * p.plan.unit.quantum)
+date_due p due =
+    let tests = date_by (p.dates == p.plan.until + 1) (p.cycles == p.dates * p.plan.unit.quantum) (p.units == 0) p.dates p.cycles (next_processor p) due in
+    (eqb-false p.dates (p.plan.until + 1) tests.0, eqb-true p.cycles (p.dates * p.plan.unit.quantum) tests.1)
+
+pub cycle_due : (p : Progress) → stage_of p ≡ CycleDue p.cycles → (p.dates ≢ p.plan.until + 1) × (p.cycles ≢ p.dates * p.plan.unit.quantum) × (p.units ≡ 0)
 cycle_due p due =
-    let tests = not_over (p.dates == p.plan.until + 1) (p.cycles == p.dates * p.plan.unit.quantum) p.dates p.cycles p.cycles due in
-    (eqb-false p.dates (p.plan.until + 1) tests.0, eqb-false p.cycles (p.dates * p.plan.unit.quantum) tests.1)
+    let tests = cycle_by (p.dates == p.plan.until + 1) (p.cycles == p.dates * p.plan.unit.quantum) (p.units == 0) p.dates p.cycles (next_processor p) due in
+    (eqb-false p.dates (p.plan.until + 1) tests.0, eqb-false p.cycles (p.dates * p.plan.unit.quantum) tests.1, eqb-true p.units 0 tests.2)
 
-no_cycles : (quantum : ℕ) → 0 * quantum ≡ 0
-no_cycles quantum = grind arith
+pub unit_due : (p : Progress) → (stage_of p ≡ CycleDue p.cycles) ⊎ (stage_of p ≡ UnitDue p.cycles (next_processor p)) → (p.dates ≢ p.plan.until + 1) × (p.cycles ≢ p.dates * p.plan.unit.quantum)
+unit_due p due = elim due [
+  | inl whole ↦ (let w = cycle_due p whole in (w.0, w.1))
+  | inr begun ↦ (
+      let tests = unit_by (p.dates == p.plan.until + 1) (p.cycles == p.dates * p.plan.unit.quantum) (p.units == 0) p.dates p.cycles (next_processor p) begun in
+      (eqb-false p.dates (p.plan.until + 1) tests.0, eqb-false p.cycles (p.dates * p.plan.unit.quantum) tests.1))
+]
 
--- A cycle that is due stands between a date and the next one
-abbrev pub IsInside : ℕ → ℕ → ℕ → ℕ → ℕ → Type 0
-IsInside quantum until dates cycles date = (dates ≡ date + 1) × (date < until) × (date * quantum ≤ cycles) × (cycles < (date + 1) * quantum)
+-- ---- and the other way round
 
-pub inside_tick : (quantum until dates cycles : ℕ) → InTick quantum until dates cycles → dates ≢ until + 1 → cycles ≢ dates * quantum → (date : ℕ) × IsInside quantum until dates cycles date
-inside_tick quantum until zero cycles h more other = absurd (other (h ∙ sym (no_cycles quantum)))
-inside_tick quantum until (suc date) cycles h more other =
-    let e : suc date ≡ date + 1 = omega arith in
-    let differs : cycles ≢ (date + 1) * quantum = λ same. other (same ∙ ap (λ n. n * quantum) (sym e)) in
-    (date, (e, not_last date until h.0 (λ last. more (e ∙ ap (λ n. n + 1) last)), h.1, below cycles ((date + 1) * quantum) h.2 differs))
+pub date_is : (p : Progress) → p.dates ≢ p.plan.until + 1 → p.cycles ≡ p.dates * p.plan.unit.quantum → stage_of p ≡ DateDue p.dates
+date_is p more filled = rw (ne_eqb p.dates (p.plan.until + 1) more, eq-eqb p.cycles (p.dates * p.plan.unit.quantum) filled) refl
+
+pub cycle_is : (p : Progress) → p.dates ≢ p.plan.until + 1 → p.cycles ≢ p.dates * p.plan.unit.quantum → p.units ≡ 0 → stage_of p ≡ CycleDue p.cycles
+cycle_is p more other whole = rw (ne_eqb p.dates (p.plan.until + 1) more, ne_eqb p.cycles (p.dates * p.plan.unit.quantum) other, eq-eqb p.units 0 whole) refl
+
+pub unit_is : (p : Progress) → p.dates ≢ p.plan.until + 1 → p.cycles ≢ p.dates * p.plan.unit.quantum → p.units ≢ 0 → stage_of p ≡ UnitDue p.cycles (next_processor p)
+unit_is p more other part = rw (ne_eqb p.dates (p.plan.until + 1) more, ne_eqb p.cycles (p.dates * p.plan.unit.quantum) other, ne_eqb p.units 0 part) refl
+
+-- ---- between two dates
+
+pub early_until : (quantum until dates cycles : ℕ) → InTick quantum until dates cycles → dates ≢ until + 1 → dates ≤ until
+early_until quantum until zero cycles h more = omega arith
+early_until quantum until (suc date) cycles h more = (let within : date ≤ until = h.0 in omega (arith, within, more))
+
+tick_high : (quantum until dates cycles : ℕ) → InTick quantum until dates cycles → cycles ≤ dates * quantum
+tick_high quantum until zero cycles h = omega (arith, h)
+tick_high quantum until (suc date) cycles h =
+    let e : date + 1 ≡ suc date = omega arith in
+    subst (λ n. cycles ≤ n * quantum) e h.2
+
+-- Where a cycle is due or begun, it stands between a date and the next one.
+pub inside_date : (quantum until dates cycles : ℕ) → InTick quantum until dates cycles → (dates ≢ until + 1) × (cycles ≢ dates * quantum) → (date : ℕ) × IsInside quantum until dates cycles date
+inside_date quantum until dates cycles h due = inside_tick quantum until dates cycles h (early_until quantum until dates cycles h due.0) (below cycles (dates * quantum) (tick_high quantum until dates cycles h) due.1)
   where
-    not_last : (date until : ℕ) → date ≤ until → (date ≡ until → ⊥) → date < until
-    not_last date until h other = grind (arith, h, other)
-
     below : (a b : ℕ) → a ≤ b → (a ≡ b → ⊥) → a < b
     below a b h other = grind (arith, h, other)
 
--- And as many more as the tick has stay in it
-pub tick_kept : (quantum until dates cycles date n : ℕ) → IsInside quantum until dates cycles date → cycles + n ≤ (date + 1) * quantum → InTick quantum until dates (cycles + n)
-tick_kept quantum until dates cycles date n h high =
-    let e : dates ≡ suc date = omega (arith, h.0) in
-    subst (λ d. InTick quantum until d (cycles + n)) (sym e) (omega (arith, h.1), omega (arith, h.2), high, λ last. absurd (omega (arith, h.1, last)))
-
--- ---- what is due behind it
+-- ---- what is due behind cycles of a tick
 
 later_tick : (date t quantum n : ℕ) → date + 2 ≤ t → 1 ≤ quantum → n ≤ (date + 1) * quantum → n ≡ t * quantum → ⊥
 later_tick date t quantum n more some low e =
@@ -57,8 +105,8 @@ earlier_tick : (date t quantum n : ℕ) → t ≤ date → date * quantum < n �
 earlier_tick date t quantum n less low e = let a = mul-le t quantum date quantum less (omega arith) in omega (arith, a, low, e)
 
 module _ (p : Progress) (date : ℕ) (inside : IsInside p.plan.unit.quantum p.plan.until p.dates p.cycles date) (some : 1 ≤ p.plan.unit.quantum) (cycles : ℕ) (above : p.cycles < cycles) (high : cycles ≤ (date + 1) * p.plan.unit.quantum) where
-  not_the_end : (p.dates == p.plan.until + 1) ≡ false
-  not_the_end = ne_eqb p.dates (p.plan.until + 1) (λ e. absurd (omega (arith, inside.0, inside.1, e)))
+  not_the_end : p.dates ≢ p.plan.until + 1
+  not_the_end e = absurd (omega (arith, inside.0, inside.1, e))
 
   same_tick : (t : ℕ) → cycles ≡ t * p.plan.unit.quantum → t ≡ p.dates
   same_tick t e = elim (cases_lt date t) [
@@ -72,11 +120,7 @@ module _ (p : Progress) (date : ℕ) (inside : IsInside p.plan.unit.quantum p.pl
   pub filled : (t : ℕ) → cycles ≡ t * p.plan.unit.quantum → stage_of (record p { cycles = cycles }) ≡ DateDue t
   filled t e =
       let same = same_tick t e in
-      cond-false (p.dates == p.plan.until + 1) Over (if cycles == p.dates * p.plan.unit.quantum then DateDue p.dates else CycleDue cycles) not_the_end
-      ∙ cond-true (cycles == p.dates * p.plan.unit.quantum) (DateDue p.dates) (CycleDue cycles) (eq-eqb cycles (p.dates * p.plan.unit.quantum) (e ∙ ap (λ n. n * p.plan.unit.quantum) same))
-      ∙ ap DateDue (sym same)
+      date_is (record p { cycles = cycles }) not_the_end (e ∙ ap (λ n. n * p.plan.unit.quantum) same) ∙ ap DateDue (sym same)
 
-  pub not_filled : (cycles ≢ p.dates * p.plan.unit.quantum) → stage_of (record p { cycles = cycles }) ≡ CycleDue cycles
-  not_filled none =
-      cond-false (p.dates == p.plan.until + 1) Over (if cycles == p.dates * p.plan.unit.quantum then DateDue p.dates else CycleDue cycles) not_the_end
-      ∙ cond-false (cycles == p.dates * p.plan.unit.quantum) (DateDue p.dates) (CycleDue cycles) (ne_eqb cycles (p.dates * p.plan.unit.quantum) none)
+  pub not_filled : (cycles ≢ p.dates * p.plan.unit.quantum) → p.units ≡ 0 → stage_of (record p { cycles = cycles }) ≡ CycleDue cycles
+  not_filled none whole = cycle_is (record p { cycles = cycles }) not_the_end none whole

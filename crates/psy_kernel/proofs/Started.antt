@@ -26,7 +26,7 @@ use Rattle.psy_dates.specs.declared.seat.Phase.TheVariants as phase
 use Rattle.psy_dates.specs.declared.seat.Seat.{Seat}
 use Rattle.psy_dates.specs.Standing.{IsSeated, SeatOf, phase_by}
 use Rattle.psy_dates.proofs.lemmas.Begun.{AreBegun, seat_of_last}
-use Rattle.psy_kernel.specs.declared.kernel.Figure.{Figure}
+use Rattle.psy_kernel.specs.declared.engine.Figure.{Figure}
 use Rattle.psy_kernel.specs.Standing.{AgentStands, ChargeStands, IsAtEnd, IsRunning, MachineIn, MachineStands, charge_after, deadline_of, settled}
 use Rattle.psy_kernel.specs.Starting.{budget_in, is_acting, starts_at}
 

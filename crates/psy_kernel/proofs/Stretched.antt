@@ -15,7 +15,7 @@ use Rattle.psy_machine.specs.Stepping.{AgentMachine, IsOf}
 use Rattle.psy_history.specs.Actions.{Action, Opening, System}
 use Rattle.psy_history.specs.Schedule.{work}
 use Rattle.psy_kernel.specs.declared.eyes.Eyes.{Eyes}
-use Rattle.psy_kernel.specs.declared.kernel.advance.Gone.{Gone}
+use Rattle.psy_kernel.specs.declared.engine.advance.Gone.{Gone}
 use Rattle.psy_kernel.specs.Acting.{AfterCycle, HasDoneBy, IsLookIn, IsOfCode}
 use Rattle.psy_kernel.specs.Cycles.{ActsIn}
 use Rattle.psy_kernel.specs.Seeing.{is_mine}

@@ -1,7 +1,6 @@
 -- Over all dates, the figures, the reaches and what was held are those of the history, so their lines are the summary's.
-use Rattle.std.proofs.Common.{◌≡◌, ℕ, suc, ◌+◌, ◌*◌, ◌<◌, ◌≤◌, Bool, true, false, if◌then◌else◌, ◌==◌, List, [], ◌∷◌, ◌++◌, map, length, get_or, slice_get, Option, Some, None, refl, sym, ap, subst, ◌∙◌, arith}
+use Rattle.std.proofs.Common.{◌≡◌, ℕ, suc, ◌+◌, ◌*◌, ◌<◌, ◌≤◌, List, [], ◌∷◌, ◌++◌, map, length, get_or, slice_get, Option, Some, None, refl, sym, ap, subst, ◌∙◌, arith}
 use Rattle.std.specs.List.{Contains, range_with_len}
-use Rattle.std.proofs.lemmas.Bool.{eqb-true}
 use Rattle.std.proofs.Math.Numerals.{add-one}
 use Rattle.std.proofs.lemmas.List.FromFn.{fill_by_all, length-map-range_with_len, get_or-map-range_with_len}
 use Rattle.std.proofs.lemmas.Option.{slice_get-get_or}
@@ -12,15 +11,17 @@ use Rattle.psy_history.specs.History.{history}
 use Rattle.psy_history.specs.Schedule.{Turn}
 use Rattle.psy_history.specs.Summary.{due_by, due_count, least_slack, most_held, reach}
 use Rattle.psy_history.specs.Regular.{IsLawful}
-use Rattle.psy_history.specs.Scheduled.{IsFinished, IsSupplied, turns_by}
+use Rattle.psy_history.specs.Processors.{processor_at, processors}
+use Rattle.psy_history.specs.Scheduled.{IsFinished, IsSupplied, turns_by, turns_of}
 use Rattle.psy_dates.specs.Standing.{dates_done}
-use Rattle.psy_kernel.specs.declared.kernel.Figure.{Figure}
-use Rattle.psy_kernel.specs.declared.kernel.Kernel.TheInside.{Inside}
-use Rattle.psy_kernel.specs.declared.stage.Stage.TheVariants.{DateDue, CycleDue, Over}
-use Rattle.psy_kernel.specs.Progress.{Progress, order, stage_of, summary_told, system}
-use Rattle.psy_kernel.specs.Standing.{InTick, KernelStands, most_held_in, progress_of, settled}
+use Rattle.psy_kernel.specs.declared.engine.Figure.{Figure}
+use Rattle.psy_kernel.specs.declared.engine.Engine.TheInside.{Inside}
+use Rattle.psy_kernel.specs.Engines.{summary_on}
+use Rattle.psy_kernel.specs.Standing.{InTick, EngineStands, most_held_in, settled, state_of}
 use Rattle.psy_kernel.specs.Telling.{figure_line, figured_lines, held_line, reach_line}
 use Rattle.psy_kernel.specs.Texts.{agent_end, stream_end, variable_end}
+use Rattle.psy_kernel.proofs.DatesDue.{SameReach}
+use Rattle.psy_kernel.proofs.Engines.{cycles_is, order_in, run_in, server_there, turns_in}
 use Rattle.psy_kernel.proofs.ShownMessages.{some_at}
 use Rattle.psy_kernel.proofs.Settled.{date_settled, settled_all}
 use Rattle.psy_kernel.proofs.Supplied.{supplied}
@@ -33,44 +34,35 @@ same_map f g n same =
 
 -- ---- the end
 
-over_then : (last filled : Bool) (date cycle : ℕ) → (if last then Over else if filled then DateDue date else CycleDue cycle) ≡ Over → last ≡ true
-over_then true filled date cycle e = refl
-over_then false true date cycle e = cc
-over_then false false date cycle e = cc
-
--- Over is where the last date was done.
-pub over_dates : (p : Progress) → stage_of p ≡ Over → p.dates ≡ p.plan.until + 1
-over_dates p e = eqb-true p.dates (p.plan.until + 1) (over_then (p.dates == p.plan.until + 1) (p.cycles == p.dates * p.plan.unit.quantum) p.dates p.cycles e)
-
-module _ (k : Inside) (w : KernelStands k) (over : stage_of (progress_of k) ≡ Over) where
+module _ (k : Inside) (w : EngineStands k) (done : dates_done k.shared.date ≡ k.plan.until + 1) (home : (agent : ℕ) → processor_at k.plan.unit agent < processors k.plan.unit) where
   abbrev s : System
-  s = system (progress_of k)
+  s = run_in k
 
   abbrev until : ℕ
   until = k.plan.until
 
   abbrev turns : ℕ → List (Option Turn)
-  turns agent = turns_by s (order (progress_of k)) (until * s.unit.quantum) agent
+  turns agent = turns_by s (order_in k) (until * s.unit.quantum) agent
 
-  done : dates_done k.shared.date ≡ until + 1
-  done = over_dates (progress_of k) over
-
-  all_cycles : k.cycles ≡ until * s.unit.quantum
-  all_cycles =
+  -- each processor did all its cycles
+  all_turns : (agent : ℕ) → turns_in k agent ≡ turns agent
+  all_turns agent =
+      let processor = processor_at k.plan.unit agent in
+      let server = server_there k.servers.items processor (omega (arith, home agent, w.served)) in
       let last : dates_done k.shared.date ≡ suc until = done ∙ omega arith in
-      let tick : InTick k.plan.unit.quantum until (suc until) k.cycles = subst (λ n. InTick k.plan.unit.quantum until n k.cycles) last w.in_tick in
-      tick.3 refl
+      let tick : InTick k.plan.unit.quantum until (suc until) server.0.cycles = subst (λ n. InTick k.plan.unit.quantum until n server.0.cycles) last (w.servers processor server.0 server.1).in_tick in
+      ap (λ c. turns_of s (order_in k) c processor) (cycles_is k.servers.items processor server.0 server.1 ∙ tick.3 refl)
 
   -- ---- variables
 
-  reach_told : (variable : ℕ) → variable < length s.unit.variables → get_or k.reaches.items variable None ≡ reach s turns (history s (until + 1)) variable
-  reach_told variable l =
+  reach_told : SameReach → (variable : ℕ) → variable < length s.unit.variables → get_or k.reaches.items variable None ≡ reach s turns (history s (until + 1)) variable
+  reach_told same variable l =
       w.reached variable (get_or k.reaches.items variable None) (slice_get-get_or k.reaches.items variable None (omega (arith, l, w.reaching)))
-      ∙ ap (λ c. reach s (turns_by s (order (progress_of k)) c) (history s (dates_done k.shared.date)) variable) all_cycles
+      ∙ same s (turns_in k) turns (history s (dates_done k.shared.date)) variable all_turns
       ∙ ap (λ n. reach s turns (history s n) variable) done
 
-  variable_told : (variable : ℕ) → variable < length s.unit.variables → reach_line k.plan k.reaches.items variable ≡ variable_end s turns k.plan.sizes until variable
-  variable_told variable l = ap (variable_line (variable_of s variable).name (get_or k.plan.sizes.rings variable 0)) (reach_told variable l)
+  variable_told : SameReach → (variable : ℕ) → variable < length s.unit.variables → reach_line k.plan k.reaches.items variable ≡ variable_end s turns k.plan.sizes until variable
+  variable_told same variable l = ap (variable_line (variable_of s variable).name (get_or k.plan.sizes.rings variable 0)) (reach_told same variable l)
 
   -- ---- streams
 
@@ -85,26 +77,25 @@ module _ (k : Inside) (w : KernelStands k) (over : stage_of (progress_of k) ≡ 
   -- ---- agents
 
   module _ (lawful : IsLawful s)
-      (due : (agent : ℕ) (r : Action) → IsSupplied s (order (progress_of k)) until → Contains (history s until agent) r → r.deadline ≤ until → IsFinished s (order (progress_of k)) (until * s.unit.quantum) r) where
+      (due : (agent : ℕ) (r : Action) → IsSupplied s (order_in k) until → Contains (history s until agent) r → r.deadline ≤ until → IsFinished s (order_in k) (until * s.unit.quantum) r) where
     abbrev actions : ℕ → List Action
     actions agent = history s (until + 1) agent
 
     all_settled : (agent : ℕ) → settled (turns agent) until (actions agent) ≡ due_by until (actions agent)
     all_settled agent =
-        settled_all (turns agent) until (actions agent) (date_settled s (order (progress_of k)) until agent lawful (λ r. due agent r (supplied (progress_of k) w.plan w.script lawful)))
+        settled_all (turns agent) until (actions agent) (date_settled s (order_in k) until agent lawful (λ r. due agent r (supplied (state_of k) w.plan w.script lawful)))
 
     figure_told : (agent : ℕ) (figure : Figure) → agent < length s.unit.agents → slice_get k.figures.items agent ≡ Some figure
         → agent_line (agent_at s.unit agent).name figure.count figure.slack ≡ agent_end s turns until agent
     figure_told agent figure l at =
         let machine = some_at k.machines.items agent (omega (arith, l, w.machined)) in
         let charge = some_at k.charges.items agent (omega (arith, l, w.charges)) in
-        let waits = some_at k.ready agent (omega (arith, l, w.waiting)) in
-        let stands = w.agents agent machine.0 charge.0 waits.0 figure machine.1 charge.1 waits.1 at in
+        let stands = w.agents agent machine.0 charge.0 figure machine.1 charge.1 at in
         let count : figure.count ≡ due_count s agent (settled (turns agent) until (actions agent)) =
-        stands.counted ∙ ap (λ c. due_count s agent (settled (turns_by s (order (progress_of k)) c agent) until (history s (dates_done k.shared.date) agent))) all_cycles
+        stands.counted ∙ ap (λ ts. due_count s agent (settled ts until (history s (dates_done k.shared.date) agent))) (all_turns agent)
         ∙ ap (λ n. due_count s agent (settled (turns agent) until (history s n agent))) done in
         let least : figure.slack ≡ least_slack s (turns agent) agent (settled (turns agent) until (actions agent)) =
-        stands.slacked ∙ ap (λ c. least_slack s (turns_by s (order (progress_of k)) c agent) agent (settled (turns_by s (order (progress_of k)) c agent) until (history s (dates_done k.shared.date) agent))) all_cycles
+        stands.slacked ∙ ap (λ ts. least_slack s ts agent (settled ts until (history s (dates_done k.shared.date) agent))) (all_turns agent)
         ∙ ap (λ n. least_slack s (turns agent) agent (settled (turns agent) until (history s n agent))) done in
         let name = (agent_at s.unit agent).name in
         ap (λ n. agent_line name n figure.slack) (count ∙ ap (due_count s agent) (all_settled agent))
@@ -115,15 +106,15 @@ module _ (k : Inside) (w : KernelStands k) (over : stage_of (progress_of k) ≡ 
         figure_told agent (get_or k.figures.items agent (record { count = 0; slack = None })) l (slice_get-get_or k.figures.items agent (record { count = 0; slack = None }) (omega (arith, l, w.figured)))
 
     -- The figures, the reaches and what was held tell the summary.
-    pub summary_figured : summary_told (progress_of k) ≡ figured_lines k.plan k.figures.items k.reaches.items k.helds.items
-    summary_figured =
+    pub summary_figured : SameReach → summary_on (state_of k) ≡ figured_lines k.plan k.figures.items k.reaches.items k.helds.items
+    summary_figured same =
         let agents = range_with_len 0 (length s.unit.agents) in
         let variables = range_with_len 0 (length s.unit.variables) in
         let streams = range_with_len 0 (length s.unit.streams) in
         let of_agents : map (agent_end s turns until) agents ≡ map (figure_line k.plan.unit k.figures.items) agents =
         sym (same_map (figure_line k.plan.unit k.figures.items) (agent_end s turns until) (length s.unit.agents) agent_told) in
         let of_variables : map (variable_end s turns k.plan.sizes until) variables ≡ map (reach_line k.plan k.reaches.items) variables =
-        sym (same_map (reach_line k.plan k.reaches.items) (variable_end s turns k.plan.sizes until) (length s.unit.variables) variable_told) in
+        sym (same_map (reach_line k.plan k.reaches.items) (variable_end s turns k.plan.sizes until) (length s.unit.variables) (variable_told same)) in
         let of_streams : map (stream_end s k.plan.sizes until) streams ≡ map (held_line k.plan k.helds.items) streams =
         sym (same_map (held_line k.plan k.helds.items) (stream_end s k.plan.sizes until) (length s.unit.streams) stream_told) in
         ap (λ lines. end_line until ∷ (map (agent_end s turns until) agents ++ (map (variable_end s turns k.plan.sizes until) variables ++ lines))) of_streams

@@ -1,4 +1,4 @@
--- A kernel's processor can supply the demand of its plan.
+-- An engine's processors can supply the demand of its plan.
 use Rattle.std.proofs.Common.{ℕ, ◌<◌, Bool, true, false, if◌then◌else◌, nat_le, List, [], ◌∷◌, All, length, ◌∙◌, arith}
 use Rattle.std.specs.List.{Contains, range_with_len}
 use Rattle.std.proofs.lemmas.List.Elements.{All-head, All-tail}
@@ -8,7 +8,7 @@ use Rattle.psy_history.specs.Scheduled.{HaveAll, IsSupplied}
 use Rattle.psy_tree.specs.declared.unit.Unit.{Unit as Whole}
 use Rattle.psy_dates.specs.Plans.{IsPlan}
 use Rattle.psy_history.specs.declared.told.Order.{Order}
-use Rattle.psy_kernel.specs.Progress.{Progress, order, system}
+use Rattle.psy_kernel.specs.Engines.{EngineState, history_of, ties}
 use Rattle.psy_history.specs.Scripts.{IsOrder, IsScript, in_force}
 
 -- It has each of so many agents.
@@ -28,14 +28,14 @@ in_force_each unit before (o ∷ orders) cycle each all =
     by false rest = each
 
 -- At each cycle the order in force has all agents.
-pub have_all : (p : Progress) → IsScript p.plan.unit p.script → HaveAll (system p) (order p)
-have_all p script cycle = in_force_each p.plan.unit (range_with_len 0 (length p.plan.unit.agents)) p.script.orders cycle (declared_each (length p.plan.unit.agents)) script.orders
+pub have_all : (e : EngineState) → IsScript e.plan.unit e.script → HaveAll (history_of e) (ties e)
+have_all e script cycle = in_force_each e.plan.unit (range_with_len 0 (length e.plan.unit.agents)) e.script.orders cycle (declared_each (length e.plan.unit.agents)) script.orders
 
-pub supplied : (p : Progress) → IsPlan p.plan → IsScript p.plan.unit p.script → IsLawful (system p) → IsSupplied (system p) (order p) p.plan.until
-supplied p plan script lawful = record {
+pub supplied : (e : EngineState) → IsPlan e.plan → IsScript e.plan.unit e.script → IsLawful (history_of e) → IsSupplied (history_of e) (ties e) e.plan.until
+supplied e plan script lawful = record {
   lawful = lawful;
   quantum = plan.fits.bare.quantum.0;
-  orders = have_all p script;
+  orders = have_all e script;
   graphs = plan.supplied.graphs;
   drawn = record { count = plan.supplied.drawn.count; each = plan.supplied.drawn.each };
   feasible = plan.supplied.feasible;

@@ -18,7 +18,7 @@ use Rattle.psy_history.specs.Schedule.{work}
 use Rattle.psy_meaning.specs.Timing.{end_date}
 use Rattle.psy_tree.specs.declared.unit.VarDecl.{VarDecl}
 use Rattle.psy_history.specs.Regular.{Runs, begun_by}
-use Rattle.psy_kernel.specs.declared.kernel.advance.Gone.TheVariants as gone
+use Rattle.psy_kernel.specs.declared.engine.advance.Gone.TheVariants as gone
 use Rattle.psy_kernel.specs.Acting.{IsGone, IsOfCode, came_to}
 use Rattle.psy_kernel.proofs.PaidCycles.{more_stalled}
 use Rattle.psy_kernel.proofs.RunsOn.{IsWhole, before_over, stays_over}

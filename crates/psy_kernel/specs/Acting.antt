@@ -17,8 +17,8 @@ use Rattle.psy_meaning.specs.Kept.{Receives}
 use Rattle.psy_history.specs.Schedule.{work}
 use Rattle.psy_history.specs.Regular.{Runs, begun_by}
 use Rattle.psy_meaning.specs.KnownWays.{Ways}
-use Rattle.psy_kernel.specs.declared.kernel.advance.Gone.{Gone}
-use Rattle.psy_kernel.specs.declared.kernel.advance.Gone.TheVariants as gone
+use Rattle.psy_kernel.specs.declared.engine.advance.Gone.{Gone}
+use Rattle.psy_kernel.specs.declared.engine.advance.Gone.TheVariants as gone
 use Rattle.psy_kernel.specs.Seeing.{Sight, seen_by}
 use Rattle.psy_kernel.specs.Standing.{HasDone, IsRunning, charge_after}
 

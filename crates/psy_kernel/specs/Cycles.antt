@@ -27,7 +27,7 @@ use Rattle.psy_history.specs.Schedule.{Turn, is_pending, turn_of, units}
 use Rattle.psy_history.specs.Summary.{reach}
 use Rattle.psy_meaning.specs.Timing.{Timing, clock_at, end_date, point_at}
 use Rattle.psy_kernel.specs.Acting.{IsLookIn, IsOfCode, SeesAs, ShowsAs}
-use Rattle.psy_kernel.specs.declared.kernel.Figure.{Figure}
+use Rattle.psy_kernel.specs.declared.engine.Figure.{Figure}
 use Rattle.psy_history.specs.declared.told.Order.{Order}
 use Rattle.psy_history.specs.declared.told.Script.{Script}
 use Rattle.psy_history.specs.Scripts.{IsScript, order_of, stalls_of}

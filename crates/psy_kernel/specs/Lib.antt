@@ -1,6 +1,8 @@
 -- The definitions of this crate, by subject.
 pub mod Acting
 pub mod Cycles
+pub mod Engines
+pub mod Kernels
 pub mod Looking
 pub mod Progress
 pub mod Seeing

@@ -1,16 +1,18 @@
 -- How far a run is, what is due next, and what was told.
-use Rattle.std.specs.Prelude.{ℕ, zero, suc, ◌+◌, ◌*◌, ◌==◌, nat_lt, if◌then◌else◌, List, [], Option, None, ℤ}
+use Rattle.std.specs.Prelude.{ℕ, ◌+◌, ◌*◌, ◌==◌, if◌then◌else◌, List, get_or, Option, None, ℤ}
 use Rattle.psy_history.specs.Actions.{Opening, System}
-use Rattle.psy_history.specs.Lines.{Event, events}
+use Rattle.psy_history.specs.Lines.{Event}
 use Rattle.psy_dates.specs.Beginnings.{beginning_of}
 use Rattle.psy_dates.specs.declared.opening.Opening.{Opening as State}
 use Rattle.psy_dates.specs.declared.plan.Plan.{Plan}
 use Rattle.psy_dates.specs.Plans.{opened_of}
 use Rattle.psy_history.specs.declared.told.Script.{Script}
 use Rattle.psy_kernel.specs.declared.stage.Stage.{Stage}
-use Rattle.psy_kernel.specs.declared.stage.Stage.TheVariants.{DateDue, CycleDue, Over}
-use Rattle.psy_history.specs.Scripts.{order_of, stalls_of}
-use Rattle.psy_kernel.specs.Texts.{lines_of, summary_of}
+use Rattle.psy_kernel.specs.declared.stage.Stage.TheVariants.{DateDue, CycleDue, UnitDue, Over}
+use Rattle.psy_history.specs.Processors.{processors}
+use Rattle.psy_history.specs.Scripts.{order_of, round_of, stalls_of}
+use Rattle.psy_kernel.specs.Engines.{lines_at, told_at}
+use Rattle.psy_kernel.specs.Texts.{summary_of}
 
 -- A run of a plan with these inputs and this script, from date 0 on or from a state
 pub record Progress : Type 0 where
@@ -18,9 +20,10 @@ pub record Progress : Type 0 where
   pub inputs : List (List ℤ)
   pub script : Script
   pub opening : Option State
-  -- how many dates and cycles were done
+  -- how many dates and cycles were done, and how many units of the cycle that comes next: one for each of the first processors of its round
   pub dates : ℕ
   pub cycles : ℕ
+  pub units : ℕ
   -- how many lines of the date done last were given
   pub given : ℕ
 
@@ -38,11 +41,19 @@ order p = order_of p.plan.unit p.script
 
 -- Nothing was done.
 abbrev pub booted : Plan → List (List ℤ) → Script → Progress
-booted plan inputs script = record { plan = plan; inputs = inputs; script = script; opening = None; dates = 0; cycles = 0; given = 0 }
+booted plan inputs script = record { plan = plan; inputs = inputs; script = script; opening = None; dates = 0; cycles = 0; units = 0; given = 0 }
 
--- What is due next: nothing where date `until` was done; a date where all cycles before it were; else a cycle.
+-- The processor whose unit of the cycle that comes next is due: the next one of the round in force
+abbrev pub next_processor : Progress → ℕ
+next_processor p = get_or (round_of p.plan.unit p.script p.cycles) p.units 0
+
+-- What is due next: nothing where date `until` was done; a date where all cycles before it were; else a cycle, or a unit of one that was begun.
 abbrev pub stage_of : Progress → Stage
-stage_of p = if p.dates == p.plan.until + 1 then Over else if p.cycles == p.dates * p.plan.unit.quantum then DateDue p.dates else CycleDue p.cycles
+stage_of p =
+    if p.dates == p.plan.until + 1 then Over
+    else if p.cycles == p.dates * p.plan.unit.quantum then DateDue p.dates
+    else if p.units == 0 then CycleDue p.cycles
+    else UnitDue p.cycles (next_processor p)
 
 -- One date more, none of whose lines were given
 abbrev pub after_date : Progress → Progress
@@ -52,23 +63,17 @@ after_date p = record p { dates = p.dates + 1; given = 0 }
 abbrev pub after_cycle : Progress → Progress
 after_cycle p = record p { cycles = p.cycles + 1 }
 
+-- One unit more: that of the last processor ends its cycle.
+abbrev pub after_unit : Progress → Progress
+after_unit p = if p.units + 1 == processors p.plan.unit then record p { cycles = p.cycles + 1; units = 0 } else record p { units = p.units + 1 }
+
 -- One line more
 abbrev pub after_line : Progress → Progress
 after_line p = record p { given = p.given + 1 }
 
--- What is told of the last of so many dates: nothing before the first, nor of a date that was done before
-abbrev pub told_at : System → ℕ → List Event
-told_at s zero = []
-told_at s (suc date) = if nat_lt date s.opening.dates then [] else events s date
-
 -- What is told of the date done last
 abbrev pub told : Progress → List Event
 told p = told_at (system p) p.dates
-
--- The lines of the last of so many dates: none before the first, nor of a date that was done before
-abbrev pub lines_at : System → ℕ → List (List ℕ)
-lines_at s zero = []
-lines_at s (suc date) = if nat_lt date s.opening.dates then [] else lines_of s date
 
 -- The lines of the date done last
 abbrev pub lines_told : Progress → List (List ℕ)

@@ -6,7 +6,7 @@ use Rattle.psy_history.specs.History.{history}
 use Rattle.psy_history.specs.Schedule.{Turn, is_pending}
 use Rattle.psy_history.specs.Scheduled.{turns_by}
 use Rattle.psy_history.specs.declared.told.Order.{Order}
-use Rattle.psy_kernel.specs.Progress.{Progress, after_cycle, order, system}
+use Rattle.psy_kernel.specs.Progress.{Progress, after_cycle, after_unit, order, system}
 
 -- By agent, what the first so many cycles of its processor go to in a run, the last one first
 abbrev pub turns_at : Progress → ℕ → ℕ → List (Option Turn)
@@ -30,6 +30,11 @@ pub record IsSliceEnd (p : Progress) (cycles : ℕ) : Type 0 where
   pub some : p.cycles < cycles
   pub changes : Changes p cycles
   pub first : (between : ℕ) → p.cycles < between → between < cycles → Changes p between → ⊥
+
+-- So many units, one by one
+abbrev pub after_units : ℕ → Progress → Progress
+after_units zero p = p
+after_units (suc n) p = after_unit (after_units n p)
 
 -- So many cycles, one by one
 abbrev pub after_cycles : ℕ → Progress → Progress

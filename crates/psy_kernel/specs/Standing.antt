@@ -1,6 +1,6 @@
--- When a kernel stands for the dated history and the schedule.
+-- When an engine stands for the dated history and the schedule.
 use Rattle.std.specs.Prelude.{◌≡◌, ℕ, zero, suc, ◌+◌, ◌-◌, ◌*◌, ◌==◌, ◌<◌, ◌≤◌, Bool, true, false, nat_lt, not, if◌then◌else◌, List, [], ◌∷◌, ◌++◌}
-use Rattle.std.specs.Prelude.{filter, length, take, Option, Some, None, slice_get, ⊤}
+use Rattle.std.specs.Prelude.{filter, length, map, take, Option, Some, None, slice_get, ⊤}
 use Rattle.std.specs.List.{count_by, flat_map, range_with_len}
 use Rattle.psy_budget.specs.Charges.{Charged, ticked}
 use Rattle.psy_code.specs.declared.code.Code.{Code}
@@ -16,25 +16,27 @@ use Rattle.psy_history.specs.Schedule.{Turn, is_pending, units}
 use Rattle.psy_history.specs.Summary.{due_by, due_count, least_slack, most_held, reach}
 use Rattle.psy_history.specs.Compiled.{AreInputs}
 use Rattle.psy_history.specs.Regular.{begun_by}
-use Rattle.psy_history.specs.Scheduled.{turns_by}
 use Rattle.psy_dates.specs.Outboxes.{Outboxed}
 use Rattle.psy_dates.specs.Plans.{IsPlan, IsSoundFor}
 use Rattle.psy_dates.specs.Standing.{SharedStands, dates_done}
-use Rattle.psy_kernel.specs.declared.kernel.Figure.{Figure}
-use Rattle.psy_kernel.specs.declared.kernel.Kernel.TheInside.{Inside}
+use Rattle.psy_kernel.specs.declared.engine.Figure.{Figure}
+use Rattle.psy_kernel.specs.declared.engine.Engine.TheInside.{Inside}
+use Rattle.psy_kernel.specs.declared.engine.Server.{Server}
+use Rattle.psy_history.specs.Processors.{processor_at, processors}
+use Rattle.psy_tree.specs.declared.unit.Unit.{Unit as Whole}
 use Rattle.psy_history.specs.declared.told.Order.{Order}
-use Rattle.psy_kernel.specs.Progress.{Progress, beginning, order, system}
+use Rattle.psy_kernel.specs.Engines.{EngineState, history_of, opening_of, ties, turns_done}
 use Rattle.psy_history.specs.Scripts.{IsScript, stalls_of}
 
 -- How far the run is
-abbrev pub progress_of : Inside → Progress
-progress_of k = record {
+abbrev pub state_of : Inside → EngineState
+state_of k = record {
   plan = k.plan;
   inputs = k.shared.inputs.lists;
   script = k.script;
   opening = k.opening;
   dates = dates_done k.shared.date;
-  cycles = k.cycles;
+  done = map (λ (server : Server). server.cycles) k.servers.items;
   given = k.given;
 }
 
@@ -146,49 +148,65 @@ abbrev pub most_held_in : System → ℕ → ℕ → ℕ
 most_held_in s zero stream = s.opening.most stream
 most_held_in s (suc date) stream = most_held s date stream
 
--- ---- the kernel
+-- ---- a processor
 
 -- The cycles done lie between the dates done and the next one.
 abbrev pub InTick : ℕ → ℕ → ℕ → ℕ → Type 0
 InTick quantum until zero cycles = cycles ≡ 0
 InTick quantum until (suc date) cycles = (date ≤ until) × (date * quantum ≤ cycles) × (cycles ≤ (date + 1) * quantum) × (date ≡ until → cycles ≡ date * quantum)
 
--- The kernel stands for the history of its plan's code, with its inputs and script, from where the run begins up to the date done last, and
--- for the schedule before the next cycle.
-pub record KernelStands (k : Inside) : Type 0 where
+-- A processor stands: its cycles done lie between the dates done and the next one, so many orders have come into force by its next cycle, only its own
+-- agents wait for it, and the one that is chosen is the one of the earliest deadline.
+pub record ServerStands (e : EngineState) (processor : ℕ) (server : Server) : Type 0 where
+  pub in_tick : InTick e.plan.unit.quantum e.plan.until e.dates server.cycles
+  pub waiting : length server.ready ≡ length e.plan.unit.agents
+  pub own : (agent : ℕ) → (processor_at e.plan.unit agent ≡ processor → ⊥) → pending_deadline server.ready agent ≡ None
+  pub orders : AreInForce e.script.orders server.passed server.cycles
+  pub choice : server.stale ≡ false → IsChosen server.ready (ties e server.cycles) server.chosen
+
+-- Who waits for a processor, where there is such a processor
+abbrev pub ready_of : Option Server → List (Option ℕ)
+ready_of None = []
+ready_of (Some server) = server.ready
+
+-- By agent, the deadline for which it waits for its processor
+abbrev pub waits_on : Whole → List Server → ℕ → Option ℕ
+waits_on unit servers agent = pending_deadline (ready_of (slice_get servers (processor_at unit agent))) agent
+
+-- ---- the engine
+
+-- The engine stands for the history of its plan's code, with its inputs and script, from where the run begins up to the date done last, and for what
+-- the cycles done of each processor went to.
+pub record EngineStands (k : Inside) : Type 0 where
   pub plan : IsPlan k.plan
   pub inputs : AreInputs k.plan.unit k.shared.inputs.lists
   pub script : IsScript k.plan.unit k.script
   -- it begins soundly, with what was done before
-  pub sound : IsSoundFor k.plan (beginning (progress_of k)) k.shared.inputs.lists (stalls_of k.script)
-  pub behind : (beginning (progress_of k)).dates ≤ dates_done k.shared.date
-  pub in_tick : InTick k.plan.unit.quantum k.plan.until (dates_done k.shared.date) k.cycles
-  pub shared : SharedStands (system (progress_of k)) k.plan.sizes (turns_by (system (progress_of k)) (order (progress_of k)) k.cycles)
-      (dates_done k.shared.date) k.shared
+  pub sound : IsSoundFor k.plan (opening_of (state_of k)) k.shared.inputs.lists (stalls_of k.script)
+  pub behind : (opening_of (state_of k)).dates ≤ dates_done k.shared.date
+  pub served : length k.servers.items ≡ processors k.plan.unit
+  pub servers : (processor : ℕ) (server : Server) → slice_get k.servers.items processor ≡ Some server → ServerStands (state_of k) processor server
+  pub shared : SharedStands (history_of (state_of k)) k.plan.sizes (turns_done (state_of k)) (dates_done k.shared.date) k.shared
   pub machined : length k.machines.items ≡ length k.plan.unit.agents
   pub charges : length k.charges.items ≡ length k.plan.unit.agents
   pub reaching : length k.reaches.items ≡ length k.plan.unit.variables
   pub reached : (variable : ℕ) (n : Option ℕ) → slice_get k.reaches.items variable ≡ Some n
-      → n ≡ reach (system (progress_of k)) (turns_by (system (progress_of k)) (order (progress_of k)) k.cycles)
-      (history (system (progress_of k)) (dates_done k.shared.date)) variable
+      → n ≡ reach (history_of (state_of k)) (turns_done (state_of k)) (history (history_of (state_of k)) (dates_done k.shared.date)) variable
   pub holding : length k.helds.items ≡ length k.plan.unit.streams
-  pub held : (stream n : ℕ) → slice_get k.helds.items stream ≡ Some n → n ≡ most_held_in (system (progress_of k)) (dates_done k.shared.date) stream
+  pub held : (stream n : ℕ) → slice_get k.helds.items stream ≡ Some n → n ≡ most_held_in (history_of (state_of k)) (dates_done k.shared.date) stream
   pub doing : (agent : ℕ) (outbox : Outboxed) → slice_get k.shared.outboxes.items agent ≡ Some outbox
-      → DeedsStand (system (progress_of k)) k.plan.code (turns_by (system (progress_of k)) (order (progress_of k)) k.cycles agent)
-      (history (system (progress_of k)) (dates_done k.shared.date) agent) outbox.sends k.shared.taken.items
-  pub waiting : length k.ready ≡ length k.plan.unit.agents
+      → DeedsStand (history_of (state_of k)) k.plan.code (turns_done (state_of k) agent)
+      (history (history_of (state_of k)) (dates_done k.shared.date) agent) outbox.sends k.shared.taken.items
   pub figured : length k.figures.items ≡ length k.plan.unit.agents
-  pub agents : (agent : ℕ) (machine : AgentMachine) (charge : Charged) (waits : Option ℕ) (figure : Figure)
-      → slice_get k.machines.items agent ≡ Some machine → slice_get k.charges.items agent ≡ Some charge → slice_get k.ready agent ≡ Some waits
+  pub agents : (agent : ℕ) (machine : AgentMachine) (charge : Charged) (figure : Figure)
+      → slice_get k.machines.items agent ≡ Some machine → slice_get k.charges.items agent ≡ Some charge
       → slice_get k.figures.items agent ≡ Some figure
-      → AgentStands (system (progress_of k)) k.plan.code (turns_by (system (progress_of k)) (order (progress_of k)) k.cycles agent) k.plan.until agent
-      (history (system (progress_of k)) (dates_done k.shared.date) agent) charge machine waits figure
+      → AgentStands (history_of (state_of k)) k.plan.code (turns_done (state_of k) agent) k.plan.until agent
+      (history (history_of (state_of k)) (dates_done k.shared.date) agent) charge machine (waits_on k.plan.unit k.servers.items agent) figure
   pub all : k.declared.items ≡ range_with_len 0 (length k.plan.unit.agents)
-  pub orders : AreInForce k.script.orders k.passed k.cycles
-  pub choice : k.stale ≡ false → IsChosen k.ready (order (progress_of k) k.cycles) k.chosen
   pub place : k.place ≤ length k.plan.unit.agents + length k.plan.unit.variables + length k.plan.unit.streams
   -- nothing is left to tell of a date that was done before
-  pub before : (last : ℕ) → (beginning (progress_of k)).dates ≡ suc last → dates_done k.shared.date ≡ suc last
+  pub before : (last : ℕ) → (opening_of (state_of k)).dates ≡ suc last → dates_done k.shared.date ≡ suc last
       → k.place ≡ length k.plan.unit.agents + length k.plan.unit.variables + length k.plan.unit.streams
   pub unshown : k.place < length k.plan.unit.agents + length k.plan.unit.variables → k.shown ≡ 0
-  pub given : k.given ≡ given_at (system (progress_of k)) (dates_done k.shared.date) k.place k.shown
+  pub given : k.given ≡ given_at (history_of (state_of k)) (dates_done k.shared.date) k.place k.shown

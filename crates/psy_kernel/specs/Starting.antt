@@ -1,6 +1,6 @@
 -- What starts at a date, and what a kernel begins with.
 use Rattle.std.specs.Prelude.{◌≡◌, ℕ, ◌==◌, ◌&&◌, Bool, true, false, if◌then◌else◌, List, [], length, Option, Some, None, slice_get}
-use Rattle.std.specs.Prelude.{slice_index_or, max}
+use Rattle.std.specs.Prelude.{slice_index_or, max, replicate}
 use Rattle.psy_budget.specs.Charges.{Charged, after_start}
 use Rattle.psy_code.specs.declared.code.Code.{Code}
 use Rattle.psy_dates.specs.declared.seat.Phase.{Phase}
@@ -11,6 +11,9 @@ use Rattle.psy_queue.specs.Order.{Queued}
 use Rattle.psy_tree.specs.declared.unit.AgentDecl.{AgentDecl}
 use Rattle.psy_tree.specs.declared.unit.Point.{Point}
 use Rattle.psy_history.specs.declared.told.Script.{Script}
+use Rattle.psy_kernel.specs.declared.engine.Server.{Server}
+use Rattle.psy_kernel.specs.Standing.{ready_of}
+use Rattle.psy_ready.specs.Choice.{pending_deadline}
 use Rattle.psy_history.specs.Scripts.{stalls_of}
 use Rattle.psy_tree.specs.Parts.{no_agent}
 
@@ -23,6 +26,10 @@ AreNew code machines = (agent : ℕ) (machine : AgentMachine) → slice_get mach
 -- The charge of an agent none of whose actions has started
 abbrev pub first_charge : Script → ℕ → Charged
 first_charge script agent = record { stalls = stalls_of script agent; started = 0; budget = 0; consumed = 0; paid = 0 }
+
+-- A processor before its first cycle, for which none of so many agents waits, where so many orders are in force from cycle 0 on
+abbrev pub first_server : ℕ → ℕ → Server
+first_server agents passed = record { cycles = 0; ready = replicate agents None; passed = passed; chosen = None; stale = true }
 
 -- ---- at a date
 
@@ -56,6 +63,18 @@ charge_at date seats agents agent charge = if starts_at date (seat_at seats agen
 -- The deadline for which it waits then
 abbrev pub deadline_at : ℕ → List Seat → ℕ → Option ℕ → Option ℕ
 deadline_at date seats agent waits = if starts_at date (seat_at seats agent) then Some (seat_at seats agent).deadline else waits
+
+-- The processor of an agent: the first where there is no agent
+abbrev pub home_at : List AgentDecl → ℕ → ℕ
+home_at agents agent = (slice_index_or agents agent no_agent).processor
+
+-- The deadline for which an agent waits for a processor then
+abbrev pub deadline_on : ℕ → List AgentDecl → List Seat → ℕ → ℕ → Option ℕ → Option ℕ
+deadline_on date agents seats processor agent waits = if home_at agents agent == processor then deadline_at date seats agent waits else waits
+
+-- The deadline for which an agent waits for its processor
+abbrev pub waits_in : List AgentDecl → List Server → ℕ → Option ℕ
+waits_in agents servers agent = pending_deadline (ready_of (slice_get servers (home_at agents agent))) agent
 
 -- The greatest number of messages that a stream held, with those of its queue
 abbrev pub held_at : List Queued → ℕ → ℕ → ℕ

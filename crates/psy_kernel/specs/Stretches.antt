@@ -18,9 +18,9 @@ use Rattle.psy_machine.specs.declared.machine.Step.TheVariants as step
 use Rattle.psy_machine.specs.Stepping.{AgentMachine}
 use Rattle.psy_queue.specs.Order.{Queued}
 use Rattle.psy_tree.specs.declared.unit.Unit.{Unit as Whole}
-use Rattle.psy_kernel.specs.declared.kernel.Figure.{Figure}
-use Rattle.psy_kernel.specs.declared.kernel.advance.Gone.{Gone}
-use Rattle.psy_kernel.specs.declared.kernel.advance.Gone.TheVariants as gone
+use Rattle.psy_kernel.specs.declared.engine.Figure.{Figure}
+use Rattle.psy_kernel.specs.declared.engine.advance.Gone.{Gone}
+use Rattle.psy_kernel.specs.declared.engine.advance.Gone.TheVariants as gone
 use Rattle.psy_kernel.specs.Acting.{AfterCycle, HasDoneBy, IsLookIn, IsOfCode}
 use Rattle.psy_kernel.specs.Cycles.{ActsIn, AreQueuesOf, AreRingsOf, IsGiven, IsNear, LooksBack, reach_by}
 use Rattle.psy_kernel.specs.Seeing.{Sight, sight_in}

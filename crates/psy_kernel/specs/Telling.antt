@@ -20,8 +20,8 @@ use Rattle.psy_dates.specs.Plans.{IsSoundFor, opened_of}
 use Rattle.psy_dates.specs.Standing.{SharedStands}
 use Rattle.psy_dates.specs.declared.seat.Phase.TheVariants as phase
 use Rattle.psy_dates.specs.declared.seat.Seat.{Seat}
-use Rattle.psy_kernel.specs.declared.kernel.Figure.{Figure}
-use Rattle.psy_kernel.specs.declared.kernel.lines.Mark.{Mark}
+use Rattle.psy_kernel.specs.declared.engine.Figure.{Figure}
+use Rattle.psy_kernel.specs.declared.engine.lines.Mark.{Mark}
 use Rattle.psy_kernel.specs.Standing.{told_from}
 use Rattle.psy_kernel.specs.Texts.{event_line}
 

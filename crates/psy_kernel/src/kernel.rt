@@ -1,59 +1,28 @@
-//! The kernel: the state of a run between two of its steps.
+//! The kernel: the processors of a run, one unit of a cycle after the other.
 
-mod advance;
 mod boot;
-mod cycle;
 mod date;
 mod lines;
+mod round;
 mod slice;
-mod stretch;
-mod summary;
+mod stage;
+mod unit;
 
-use psy_budget::Charge;
-use psy_dates::{Opening, Plan, Shared};
-use psy_history::Script;
-use psy_machine::Machine;
-use psy_ready::Ready;
+use crate::engine::Engine;
 use std::marker::Model;
 
-/// How many of an agent's actions that are due by the last date are finished or stopped, and the least slack among them, in cycles.
-#[derive(Clone, Copy, Debug)]
-struct Figure {
-    count: u64,
-    slack: Option<u64>,
-}
-
-/// The run of a plan. Contracts see how many dates and cycles of it were done, and how many lines of the last date were given. What
-/// it holds stands for the dated history there, from wherever it begins: so its lines and its summary are the history's.
+/// The run of a plan. Contracts see how many dates and cycles of it were done, how many units of the next cycle, and how many lines of the last
+/// date were given. Its lines and its summary are those of the dated history.
 #[derive(Drop)]
 pub struct Kernel {
-    plan: Plan,
-    script: Script,
-    /// The state behind which the run begins; None where it begins at date 0.
-    opening: Option<Opening>,
-    shared: Shared,
-    /// By agent.
-    machines: Vec<Machine>,
-    charges: Vec<Charge>,
-    figures: Vec<Figure>,
-    ready: Ready,
-    /// By variable, how far back its ring was reached for, and none where it never was.
-    reaches: Vec<Option<u32>>,
-    /// By stream, the greatest number of messages that it held at a date.
-    helds: Vec<u32>,
-    /// All agents, in the order of declaration.
-    declared: Vec<u32>,
-    /// How many of the script's orders have come into force.
-    passed: usize,
-    /// The agent that gets the next cycle, unless who waits or the order has changed since it was chosen.
-    chosen: Option<u32>,
-    stale: bool,
+    engine: Engine,
+    /// How many cycles all processors have done, and how many units of the next one were done: a processor may be ahead of them.
     cycles: u64,
-    /// Where the lines of the date done last go on: agents, then variables, then streams, counted through; how many messages of the stream
-    /// there were shown; and how many lines were given.
-    place: usize,
-    shown: u32,
-    given: u64,
+    units: u32,
+    /// From the first processor to the last.
+    declared: Vec<u32>,
+    /// How many of the script's rounds have come into force.
+    turned: usize,
 }
 
 impl Model for Kernel {
@@ -66,7 +35,7 @@ impl Model for Kernel {
 
     ghost coded = { Prim.hlevel (codes, expr.the_row.coded, stmt.the_row.coded) };
 
-    ghost use Rattle.psy_kernel.specs.Standing.{progress_of, KernelStands};
+    ghost use Rattle.psy_kernel.specs.Kernels.{KernelStands, progress_of};
 
     ghost view = { progress_of };
 

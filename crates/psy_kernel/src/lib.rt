@@ -3,6 +3,7 @@
 //! It may know machines, charges, dates, and the forms of lines; no text of a program, no output.
 #![tactic(auto)]
 
+mod engine;
 mod eyes;
 mod kernel;
 pub mod laws;

@@ -5,8 +5,10 @@
 pub enum Stage {
     /// The date of this number.
     DateDue(u64),
-    /// The processor cycle of this number.
+    /// The cycle of this number, no processor of which had its unit.
     CycleDue(u64),
+    /// Of the cycle of this number, which was begun, the unit of this processor.
+    UnitDue(u64, u32),
     /// Nothing: the last date was done.
     Over,
 }

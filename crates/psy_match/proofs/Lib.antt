@@ -2,3 +2,4 @@
 mod Counting
 mod LinesOfPlaces
 mod Numbered
+mod OwnHomes

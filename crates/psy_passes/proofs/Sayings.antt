@@ -13,7 +13,7 @@ use Rattle.psy_listed.specs.Names.{with_name}
 use Rattle.psy_listed.specs.Tables.{is_among}
 use Rattle.psy_listed.specs.declared.listed.Listed.{Listed}
 use Rattle.psy_scan.specs.Runs.{tail_line, tail_of}
-use Rattle.psy_passes.specs.Names.{first_other}
+use Rattle.psy_passes.specs.Names.{first_other, kept, undated}
 use Rattle.psy_passes.proofs.Firsts.{position_map}
 
 -- ---- the names of a summary
@@ -120,3 +120,30 @@ pub tails_same : (xs ys : List Note) → map says xs ≡ map says ys → tail_of
 tails_same xs ys same =
     let all : List (Form × List Said) → List ℕ = λ sayings. flat_map (λ s. tail_by s.0 s.1) sayings in
     tails_is xs ∙ ap all same ∙ sym (tails_is ys)
+
+-- ---- the notes without a date
+
+abbrev kept_by : Form → List Said → List (Form × List Said) → List (Form × List Said)
+kept_by form.StopOverrun said sayings = sayings
+kept_by form.StopTrap said sayings = sayings
+kept_by form.Value said sayings = sayings
+kept_by form.Message said sayings = sayings
+kept_by other said sayings = (other, said) ∷ sayings
+
+kept_step : (n : Note) (notes : List Note) → map says (kept n notes) ≡ kept_by (says n).0 (says n).1 (map says notes)
+kept_step (note.Infeasible len demand supply None) notes = refl
+kept_step (note.Infeasible len demand supply (Some processor)) notes = refl
+kept_step (note.Refused what number None) notes = refl
+kept_step (note.Refused what number (Some at)) notes = refl
+kept_step _ notes = refl
+
+abbrev undated_by : List (Form × List Said) → List (Form × List Said)
+undated_by [] = []
+undated_by (s ∷ sayings) = kept_by s.0 s.1 (undated_by sayings)
+
+undated_is : (xs : List Note) → map says (undated xs) ≡ undated_by (map says xs)
+undated_is [] = refl
+undated_is (n ∷ xs) = kept_step n (undated xs) ∙ ap (kept_by (says n).0 (says n).1) (undated_is xs)
+
+pub undated_same : (xs ys : List Note) → map says xs ≡ map says ys → map says (undated xs) ≡ map says (undated ys)
+undated_same xs ys same = undated_is xs ∙ ap undated_by same ∙ sym (undated_is ys)

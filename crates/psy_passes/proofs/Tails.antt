@@ -13,21 +13,10 @@ use Rattle.psy_notes.specs.Stands.{behind_agents, behind_dated, behind_streams, 
 use Rattle.psy_notes.specs.Texts.{IsText, Leads, Steps, text_of}
 use Rattle.psy_listed.specs.Listing.{added_agent, added_stream, added_variable, agents_in, streams_in, variables_in}
 use Rattle.psy_scan.specs.Runs.{tail_line, tail_of}
+use Rattle.psy_passes.specs.Names.{kept, undated}
 use Rattle.psy_passes.proofs.Firsts.{none_some}
 
--- The notes but the dated ones
-abbrev kept : Note → List Note → List Note
-kept (note.StopOverrun date agent) notes = notes
-kept (note.StopTrap date agent kind) notes = notes
-kept (note.Value date variable value) notes = notes
-kept (note.Message date stream value) notes = notes
-kept other notes = other ∷ notes
-
-abbrev pub undated : List Note → List Note
-undated [] = []
-undated (n ∷ notes) = kept n (undated notes)
-
--- Their lines
+-- The lines of the notes without a date
 text_kept : (n : Note) (notes : List Note) (rest : List ℕ) → text_of notes ≡ rest → text_of (kept n notes) ≡ tail_line n ++ rest
 text_kept (note.StopOverrun date agent) notes rest is = is
 text_kept (note.StopTrap date agent kind) notes rest is = is
@@ -137,6 +126,18 @@ leads_undated last to (n ∷ notes) leads ends = absurd (none_some leads.0 leads
 pub tail_is_text : (notes : List Note) → IsText run_begins (text_of notes) notes → IsText run_begins (tail_of notes) (undated notes)
 tail_is_text notes read =
     record { last = read.last; leads = leads_undated 0 read.last notes read.leads read.ends; ends = read.ends; whole = sym (text_undated notes) }
+
+-- All of them are without one.
+undated_kept : (n : Note) (notes : List Note) → undated notes ≡ notes → undated (kept n notes) ≡ kept n notes
+undated_kept (note.StopOverrun date agent) notes is = is
+undated_kept (note.StopTrap date agent kind) notes is = is
+undated_kept (note.Value date variable value) notes is = is
+undated_kept (note.Message date stream value) notes is = is
+undated_kept n notes is = ap (λ ns. n ∷ ns) is
+
+pub undated_twice : (notes : List Note) → undated (undated notes) ≡ undated notes
+undated_twice [] = refl
+undated_twice (n ∷ notes) = undated_kept n (undated notes) (undated_twice notes)
 
 pub names_undated : (notes : List Note)
     → (agents_in (undated notes) ≡ agents_in notes) × (variables_in (undated notes) ≡ variables_in notes) × (streams_in (undated notes) ≡ streams_in notes)

@@ -21,11 +21,11 @@ use Rattle.psy_scan.specs.declared.fault.ScanFault.TheVariants as fault
 use Rattle.psy_scan.specs.declared.reading.TheConstants.{LINES}
 use Rattle.psy_scan.specs.Runs.{Halts, IsRun, tail_of}
 use Rattle.psy_scan.proofs.lemmas.Notes.{Leads-more, text_of-more}
-use Rattle.psy_passes.specs.Names.{AreNamesOf, IsTail, first_other}
+use Rattle.psy_passes.specs.Names.{AreNamesOf, EndAs, IsTail, first_other, undated}
 use Rattle.psy_passes.specs.Outcomes.{IsFileText, IsMany}
 use Rattle.psy_passes.proofs.Firsts.{passes_where_none}
-use Rattle.psy_passes.proofs.Sayings.{agents_same, among_by, among_step, other_by, streams_same, tails_same, variables_same}
-use Rattle.psy_passes.proofs.Tails.{names_undated, tail_is_text, undated}
+use Rattle.psy_passes.proofs.Sayings.{agents_same, among_by, among_step, other_by, streams_same, tails_same, undated_same, variables_same}
+use Rattle.psy_passes.proofs.Tails.{names_undated, tail_is_text, undated_twice}
 
 -- The laws of readings
 abbrev pub NotBoth : Type 0
@@ -48,24 +48,31 @@ both_whole front text notes others read also =
     let none : found.0 ≡ [] = none_left found.0 found.2 in
     found.3 ∙ ap (λ ns. map says others ++ map says ns) none ∙ append-nil (map says others)
 
--- The names of a summary that was read from its lines
-pub names_of_tail : OneFront → (listed : Listed) (tail : List ℕ) (log : List Note) → IsText run_begins tail log → listed.agents ≡ agents_in log
-    → listed.variables ≡ variables_in log → listed.streams ≡ streams_in log → AreNamesOf listed tail
-names_of_tail front listed tail log read agents variables streams = λ notes whole is.
+-- Notes that were read from the lines of an end and a summary say what those say.
+pub ends_as : OneFront → (tail : List ℕ) (log : List Note) → IsText run_begins tail log → EndAs log tail
+ends_as front tail log read = λ notes whole is.
     let same = both_whole front (tail_of notes) log (undated notes) (subst (λ t. IsText run_begins t log) is read) (tail_is_text notes whole) in
+    undated_same log (undated notes) same ∙ ap (map says) (undated_twice notes)
+
+-- So their names are those of the summary.
+pub names_of_end : (listed : Listed) (tail : List ℕ) (log : List Note) → EndAs log tail → listed.agents ≡ agents_in log
+    → listed.variables ≡ variables_in log → listed.streams ≡ streams_in log → AreNamesOf listed tail
+names_of_end listed tail log ends agents variables streams = λ notes whole is.
+    let same = ends notes whole is in
+    let own = names_undated log in
     let names = names_undated notes in (
-      agents ∙ agents_same log (undated notes) same ∙ names.0,
-      variables ∙ variables_same log (undated notes) same ∙ names.1,
-      streams ∙ streams_same log (undated notes) same ∙ names.2,
+      agents ∙ sym own.0 ∙ agents_same (undated log) (undated notes) same ∙ names.0,
+      variables ∙ sym own.1 ∙ variables_same (undated log) (undated notes) same ∙ names.1,
+      streams ∙ sym own.2 ∙ streams_same (undated log) (undated notes) same ∙ names.2,
     )
 
 -- The same of the names that were found, unless memory ran out
-pub names_found_in : OneFront → (tail : List ℕ) (log now : List Note) (came : Result Listed Memory) → IsText run_begins tail log → now ≡ log
+pub names_found_in : (tail : List ℕ) (log now : List Note) (came : Result Listed Memory) → EndAs log tail → now ≡ log
     → IfOk came (λ listed. listed.agents ≡ agents_in now) → IfOk came (λ listed. listed.variables ≡ variables_in now)
     → IfOk came (λ listed. listed.streams ≡ streams_in now) → IfOk came (λ listed. AreNamesOf listed tail)
-names_found_in front tail log now (Ok listed) read same agents variables streams =
-    names_of_tail front listed tail log read (agents ∙ ap agents_in same) (variables ∙ ap variables_in same) (streams ∙ ap streams_in same)
-names_found_in front tail log now (Err none) read same agents variables streams = tt
+names_found_in tail log now (Ok listed) ends same agents variables streams =
+    names_of_end listed tail log ends (agents ∙ ap agents_in same) (variables ∙ ap variables_in same) (streams ∙ ap streams_in same)
+names_found_in tail log now (Err none) ends same agents variables streams = tt
 
 -- The lines of an end and a summary are in form.
 pub tail_in_form : NotBoth → (tail : List ℕ) (line : ℕ) → IsTail tail → BreaksAt run_begins tail line → ⊥

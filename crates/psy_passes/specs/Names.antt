@@ -1,7 +1,9 @@
 -- Names that a summary lists, as notes come.
-use Rattle.std.specs.Prelude.{◌≡◌, ◌⊎◌, ℕ, ◌+◌, ◌-◌, ◌^◌, Bool, true, false, not, List, [], Option, None, Some, min}
+use Rattle.std.specs.Prelude.{◌≡◌, ◌⊎◌, ℕ, ◌+◌, ◌-◌, ◌^◌, Bool, true, false, not, List, [], ◌∷◌, Option, None, Some, map, min}
 use Rattle.std.specs.List.{position}
 use Rattle.psy_log.specs.declared.note.Note.{Note}
+use Rattle.psy_log.specs.declared.note.Note.TheVariants as note
+use Rattle.psy_log.specs.Forms.{says}
 use Rattle.psy_notes.specs.Stands.{run_begins}
 use Rattle.psy_notes.specs.Texts.{IsText, text_of}
 use Rattle.psy_listed.specs.declared.listed.Listed.{Listed}
@@ -14,6 +16,24 @@ use Rattle.psy_passes.specs.declared.strict.Strict.{Strict}
 -- These are the lines of a run's end and summary.
 abbrev pub IsTail : List ℕ → Type 0
 IsTail tail = (notes : List Note) × IsText run_begins (text_of notes) notes × (tail ≡ tail_of notes)
+
+-- A note before these, where it has no date
+abbrev pub kept : Note → List Note → List Note
+kept (note.StopOverrun date agent) notes = notes
+kept (note.StopTrap date agent kind) notes = notes
+kept (note.Value date variable value) notes = notes
+kept (note.Message date stream value) notes = notes
+kept other notes = other ∷ notes
+
+-- The notes without a date: those of a run's end and summary
+abbrev pub undated : List Note → List Note
+undated [] = []
+undated (note ∷ notes) = kept note (undated notes)
+
+-- These notes have an end and a summary that say what those of each run say whose end and summary have these lines.
+abbrev pub EndAs : List Note → List ℕ → Type 0
+EndAs summary tail = (notes : List Note) → IsText run_begins (text_of notes) notes → tail ≡ tail_of notes
+    → map says (undated summary) ≡ map says (undated notes)
 
 -- These are the names that the summary of each run lists whose end and summary have these lines.
 abbrev pub AreNamesOf : Listed → List ℕ → Type 0

@@ -10,4 +10,5 @@ mod silent;
 mod strict;
 
 pub use fault::PassFault;
-pub use passes::{names_of, survey, write_text, write_told};
+pub use nowhere::Nowhere;
+pub use passes::{names_of, notes_of, survey, write_text, write_told};

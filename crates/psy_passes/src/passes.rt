@@ -10,7 +10,7 @@ ghost use Rattle.psy_listed.specs.Listing.{first_unlisted};
 ghost use Rattle.psy_listed.specs.Logs.{IsLog};
 ghost use Rattle.psy_scan.specs.Runs.{IsRun, tail_of};
 ghost use Rattle.psy_scan.specs.Telling.{Told};
-ghost use Rattle.psy_passes.specs.Names.{AreNamesOf, IsTail};
+ghost use Rattle.psy_passes.specs.Names.{AreNamesOf, EndAs, IsTail};
 ghost use Rattle.psy_passes.specs.Outcomes.{IsFileText, IsMany, IsOfForm, IsOfNames, IsOfTelling, since};
 
 use crate::fault::PassFault;
@@ -22,7 +22,7 @@ use psy_base::Memory;
 use psy_door::Sink;
 use psy_listed::Listed;
 use psy_listed::laws::found_unlisted;
-use psy_log::write_all_of;
+use psy_log::{Note, write_all_of};
 use psy_notes::laws::{one_front, one_reading};
 use psy_notes::{TextFault, read_run};
 use psy_reel::Reel;
@@ -52,17 +52,28 @@ fn summary_of<R: Reel>(alloc: Global, reel: &mut R, name: &str) -> Result<Vec<u8
     }
 }
 
+/// The notes of a run's end and summary that have these lines. The only error is want of memory.
+pub fn notes_of<'a>(alloc: Global, tail: &'a [u8]) -> Result<Vec<Note<'a>>, Memory>
+    requires { IsTail tail.now }
+    ensures { IfOk result (λ notes. EndAs notes.items tail.now) }
+{
+    one_front();
+    one_reading();
+    match read_run(alloc, tail) {
+        Ok(notes) => Ok(notes),
+        Err(TextFault::Line { .. }) => unreachable!(),
+        Err(TextFault::Memory) => Err(Memory),
+    }
+}
+
 /// The names that the summary of a run lists whose end and summary have these lines. The only error is want of memory.
 pub fn names_of<'a>(alloc: Global, tail: &'a [u8]) -> Result<Listed<'a>, Memory>
     requires { IsTail tail.now }
     ensures { IfOk result (λ listed. AreNamesOf listed tail.now) }
 {
-    one_front();
-    one_reading();
-    match read_run(alloc, tail) {
+    match notes_of(alloc, tail) {
         Ok(notes) => Listed::of(alloc, notes.as_slice()),
-        Err(TextFault::Line { .. }) => unreachable!(),
-        Err(TextFault::Memory) => Err(Memory),
+        Err(Memory) => Err(Memory),
     }
 }
 

@@ -8,6 +8,9 @@ join3 old a b c = ap (λ l. l ++ c) (append_assoc old a b) ∙ append_assoc old 
 pub join4 : (old a b c d : List ℕ) → old ++ a ++ b ++ c ++ d ≡ old ++ (a ++ b ++ c ++ d)
 join4 old a b c d = ap (λ l. l ++ d) (join3 old a b c) ∙ append_assoc old (a ++ b ++ c) d
 
+pub join_behind : (old a b c : List ℕ) → old ++ a ++ b ++ c ≡ old ++ (a ++ (b ++ c))
+join_behind old a b c = append_assoc (old ++ a) b c ∙ append_assoc old a (b ++ c)
+
 pub join5 : (old a b c d e : List ℕ) → old ++ a ++ b ++ c ++ d ++ e ≡ old ++ (a ++ b ++ c ++ d ++ e)
 join5 old a b c d e = ap (λ l. l ++ e) (join4 old a b c d) ∙ append_assoc old (a ++ b ++ c ++ d) e
 

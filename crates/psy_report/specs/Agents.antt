@@ -1,8 +1,9 @@
--- What is told of each agent.
-use Rattle.std.specs.Prelude.{ℕ, ◌*◌, ◌/◌, ◌%◌, ◌==◌, List, [], ◌++◌, codes, decimal, get_or}
+-- What is told of each agent, and of the agents of a processor.
+use Rattle.std.specs.Prelude.{ℕ, ◌*◌, ◌/◌, ◌%◌, ◌==◌, if◌then◌else◌, List, [], ◌++◌, codes, decimal, flat_map, get_or, length}
 use Rattle.std.specs.Int.{div_ceil}
-use Rattle.std.specs.List.{position_or_len}
+use Rattle.std.specs.List.{position_or_len, range_with_len}
 use Rattle.psy_base.specs.Extremes.{most_of}
+use Rattle.psy_history.specs.Processors.{processor_at, served}
 use Rattle.psy_report.specs.declared.measures.Measures.{Measures}
 use Rattle.psy_rate.specs.declared.line.Rate.{Rate}
 use Rattle.psy_rate.specs.declared.line.TheConstants.{SCALE}
@@ -34,9 +35,14 @@ budget_at unit number point = (get_or (agent_at unit number).points point no_poi
 abbrev pub share_of : ℕ → ℕ → ℕ
 share_of rate quantum = div_ceil (rate * WHOLE) (SCALE * quantum)
 
--- A share as a percentage with two decimals
-abbrev pub share_text : ℕ → List ℕ
-share_text share = codes " share " ++ decimal (share / 100) ++ codes "." ++ decimal (share / 10 % 10) ++ decimal (share % 10) ++ codes "%\n"
+-- How the line of a processor ends: with its number, but for processor 0
+abbrev pub end_text : ℕ → List ℕ
+end_text processor = if processor == 0 then codes "\n" else codes " on " ++ decimal processor ++ codes "\n"
+
+-- A share of a processor as a percentage with two decimals, and which processor that is
+abbrev pub share_text : ℕ → ℕ → List ℕ
+share_text share processor = codes " share " ++ decimal (share / 100) ++ codes "." ++ decimal (share / 10 % 10) ++ decimal (share % 10) ++ codes "%"
+    ++ end_text processor
 
 -- An agent's name and budget
 abbrev pub agent_front : List ℕ → ℕ → List ℕ
@@ -46,15 +52,23 @@ agent_front name budget = codes "agent " ++ name ++ codes " budget " ++ decimal 
 abbrev pub worst_text : ℕ → ℕ → List ℕ
 worst_text worst at = codes " worst " ++ decimal worst ++ codes " of " ++ decimal at
 
--- An agent: its budget, its greatest cost and the budget there, and its share of the processor in the long run
+-- An agent: its budget, its greatest cost and the budget there, its share of its processor in the long run, and which one that is
 abbrev pub agent_text : Whole → Measures → ℕ → List ℕ
 agent_text unit measures number =
     let costs = costs_of measures number in
     agent_front (agent_at unit number).name (agent_at unit number).budget
     ++ (worst_text (most_of costs) (budget_at unit number (worst_point costs))
-    ++ share_text (share_of (get_or measures.lines number no_rate).rate unit.quantum))
+    ++ share_text (share_of (get_or measures.lines number no_rate).rate unit.quantum) (processor_at unit number))
 
--- An agent's part of the demand over a length
+-- The agents of a processor, in the order of declaration
+abbrev pub agents_on : Whole → ℕ → List ℕ
+agents_on unit processor = served unit processor (range_with_len 0 (length unit.agents))
+
+-- An agent's part of the demand on its processor over a length
 abbrev pub part_text : Whole → Measures → ℕ → ℕ → List ℕ
 part_text unit measures length number =
     codes "part " ++ (agent_at unit number).name ++ codes " " ++ decimal (get_or (get_or measures.lists number []) length 0) ++ codes "\n"
+
+-- The parts of a processor's agents
+abbrev pub parts_text : Whole → Measures → ℕ → ℕ → List ℕ
+parts_text unit measures within processor = flat_map (part_text unit measures within) (agents_on unit processor)

@@ -1,13 +1,15 @@
--- What each agent of a program may ask for over the length of a demand that can't be supplied.
-use Rattle.std.specs.Prelude.{◌≡◌, ℕ, nat_le, if◌then◌else◌, List, [], ◌∷◌, ◌++◌, bytes_eq, codes, decimal, flat_map, get_or, length}
+-- What each agent of a processor may ask for over the length of a demand that the processor can't supply.
+use Rattle.std.specs.Prelude.{◌≡◌, ℕ, ◌<◌, ◌≤◌, nat_le, if◌then◌else◌, List, [], ◌∷◌, ◌++◌, bytes_eq, codes, decimal, flat_map, get_or}
 use Rattle.std.specs.Prelude.{Option, Some, None, MatchOption}
-use Rattle.std.specs.List.{range_with_len}
 use Rattle.psy_base.specs.declared.limits.TheConstants.{UNTIL}
+use Rattle.psy_history.specs.Processors.{processors}
 use Rattle.psy_source.specs.Programs.{IsProgram, IsRefused}
 use Rattle.psy_source.specs.declared.refusal.Refusal.{Refusal}
 use Rattle.psy_text.specs.Words.{number_of, words_of}
 use Rattle.psy_tree.specs.Parts.{agent_at}
 use Rattle.psy_tree.specs.declared.unit.Unit.{Unit as Whole}
+use Rattle.psy_report.specs.Agents.{agents_on}
+use Rattle.psy_report.specs.declared.asked.Overload.{Overload}
 use Rattle.psy_report.specs.declared.measures.Measures.{Measures}
 use Rattle.psy_report.specs.Measured.{AreMeasures, IsUnmeasured}
 
@@ -16,10 +18,22 @@ abbrev pub up_to_last : Option ℕ → Option ℕ
 up_to_last None = None
 up_to_last (Some number) = if nat_le number UNTIL then Some number else None
 
--- The length of a line that tells of a demand which can't be supplied, by its words
-abbrev pub length_told : List (List ℕ) → Option ℕ
-length_told (word ∷ length ∷ more) = if bytes_eq word (codes "infeasible") then up_to_last (number_of length) else None
-length_told _ = None
+-- A length and a processor, where there are both
+abbrev pub both : Option ℕ → Option ℕ → Option Overload
+both (Some within) (Some processor) = Some (record { within = within; processor = processor })
+both _ _ = None
+
+-- The processor that the words behind a supply tell: 0 where there are none
+abbrev pub processor_told : List (List ℕ) → Option ℕ
+processor_told [] = Some 0
+processor_told (word ∷ number ∷ []) = if bytes_eq word (codes "on") then number_of number else None
+processor_told _ = None
+
+-- The length and the processor of a line that tells of a demand which can't be supplied, by its words
+abbrev pub overload_told : List (List ℕ) → Option Overload
+overload_told (word ∷ length ∷ demand ∷ supply ∷ more) =
+    if bytes_eq word (codes "infeasible") then both (up_to_last (number_of length)) (processor_told more) else None
+overload_told _ = None
 
 -- An agent's part of the demand over a length
 abbrev pub ask_text : Whole → Measures → ℕ → ℕ → List ℕ
@@ -27,13 +41,16 @@ ask_text unit measures length number =
     codes "hint: `" ++ (agent_at unit number).name ++ codes "` may ask for "
     ++ decimal (get_or (get_or measures.lists number []) length 0) ++ codes " of them\n"
 
--- What is told of the agents of a text over a length: each one's part; nothing where the text is no program, or where a limit stands against measuring it
-pub data AreAskedBy (program : List ℕ) (within : ℕ) : List ℕ → Type 0 where
-  no_program : (refusal : Refusal) → IsRefused program refusal → AreAskedBy program within []
-  unmeasured : (unit : Whole) (refusal : Refusal) → IsProgram program unit → IsUnmeasured unit within refusal → AreAskedBy program within []
-  each_asks : (unit : Whole) (measures : Measures) → IsProgram program unit → AreMeasures unit within measures
-      → AreAskedBy program within (flat_map (ask_text unit measures within) (range_with_len 0 (length unit.agents)))
+-- What is told of the agents of a processor of a text over a length: each one's part; nothing where the text is no program or has no such processor, or
+-- where a limit stands against measuring it
+pub data AreAskedBy (program : List ℕ) (over : Overload) : List ℕ → Type 0 where
+  no_program : (refusal : Refusal) → IsRefused program refusal → AreAskedBy program over []
+  no_processor : (unit : Whole) → IsProgram program unit → processors unit ≤ over.processor → AreAskedBy program over []
+  unmeasured : (unit : Whole) (refusal : Refusal) → IsProgram program unit → over.processor < processors unit → IsUnmeasured unit over.within refusal
+      → AreAskedBy program over []
+  each_asks : (unit : Whole) (measures : Measures) → IsProgram program unit → over.processor < processors unit → AreMeasures unit over.within measures
+      → AreAskedBy program over (flat_map (ask_text unit measures over.within) (agents_on unit over.processor))
 
 -- What is told of them where a line tells of a demand that can't be supplied; nothing where it tells of something else
 abbrev pub AreAsked : List ℕ → List ℕ → List ℕ → Type 0
-AreAsked program line told = MatchOption (length_told (words_of line)) (told ≡ []) (λ within. AreAskedBy program within told)
+AreAsked program line told = MatchOption (overload_told (words_of line)) (told ≡ []) (λ over. AreAskedBy program over told)

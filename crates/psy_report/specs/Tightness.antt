@@ -1,23 +1,31 @@
--- The length over which the least of the supply is left by the demand, or over which the most is missing. Numbers are natural, so what would be subtracted
--- stands on the other side.
-use Rattle.std.specs.Prelude.{ℕ, ◌+◌, ◌*◌, ◌<◌, ◌≤◌, List, get_or}
-use Rattle.std.specs.List.{sum_by}
-
--- The demand over a length: the sum of what each list has there
-abbrev pub demand_over : List (List ℕ) → ℕ → ℕ
-demand_over lists length = sum_by (λ list. get_or list length 0) lists
+-- The length over which the least of a supply is left by a demand, or over which the most is missing. Numbers are natural, so what would be subtracted
+-- stands on the other side. A demand is told by its length.
+use Rattle.std.specs.Prelude.{◌≡◌, ℕ, ◌+◌, ◌*◌, ◌==◌, ◌<◌, ◌≤◌, if◌then◌else◌, List, get_or, length}
+use Rattle.psy_demand.specs.Demand.{demand}
+use Rattle.psy_history.specs.Processors.{processors}
+use Rattle.psy_tree.specs.declared.unit.Unit.{Unit as Whole}
+use Rattle.psy_tree.specs.Parts.{homes}
 
 -- No more is left over this length than over that one, where a tick has so many cycles.
-abbrev pub IsNoLooser : ℕ → List (List ℕ) → ℕ → ℕ → Type 0
-IsNoLooser quantum lists length other = quantum * length + demand_over lists other ≤ quantum * other + demand_over lists length
+abbrev pub IsNoLooser : ℕ → (ℕ → ℕ) → ℕ → ℕ → Type 0
+IsNoLooser quantum demand length other = quantum * length + demand other ≤ quantum * other + demand length
 
 -- Less is left over it.
-abbrev pub IsTighter : ℕ → List (List ℕ) → ℕ → ℕ → Type 0
-IsTighter quantum lists length other = quantum * length + demand_over lists other < quantum * other + demand_over lists length
+abbrev pub IsTighter : ℕ → (ℕ → ℕ) → ℕ → ℕ → Type 0
+IsTighter quantum demand length other = quantum * length + demand other < quantum * other + demand length
 
 -- The least length, of those from 1 up to the greatest, over which the least is left
-pub record IsTightest (quantum : ℕ) (lists : List (List ℕ)) (top length : ℕ) : Type 0 where
+pub record IsTightest (quantum : ℕ) (demand : ℕ → ℕ) (top length : ℕ) : Type 0 where
   pub some : 1 ≤ length
   pub within : length ≤ top
-  pub most : (other : ℕ) → 1 ≤ other → other ≤ top → IsNoLooser quantum lists length other
-  pub first : (less : ℕ) → 1 ≤ less → less < length → IsTighter quantum lists length less
+  pub most : (other : ℕ) → 1 ≤ other → other ≤ top → IsNoLooser quantum demand length other
+  pub first : (less : ℕ) → 1 ≤ less → less < length → IsTighter quantum demand length less
+
+-- The demand on a processor of a program: the sum of what the lists of its own agents have at a length
+abbrev pub demand_on : Whole → List (List ℕ) → ℕ → ℕ → ℕ
+demand_on unit lists processor = demand lists (homes unit) processor
+
+-- By processor of a program, the tightest length for the demand of its own agents; none where there is no length
+pub record AreTightest (unit : Whole) (lists : List (List ℕ)) (top : ℕ) (lengths : List ℕ) : Type 0 where
+  pub count : length lengths ≡ (if top == 0 then 0 else processors unit)
+  pub each : (processor : ℕ) → processor < length lengths → IsTightest unit.quantum (demand_on unit lists processor) top (get_or lengths processor 0)

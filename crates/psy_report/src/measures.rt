@@ -1,7 +1,6 @@
 //! All that is measured of a program.
-ghost use Rattle.std.specs.Prelude.{◌^◌, ◌<◌, ◌≤◌, IfErr, IfOk, length};
+ghost use Rattle.std.specs.Prelude.{◌≡◌, ◌^◌, ◌<◌, ◌≤◌, IfErr, IfOk, length};
 ghost use Rattle.std.specs.List.{All};
-ghost use Rattle.psy_base.specs.declared.limits.TheConstants.{AGENTS};
 ghost use Rattle.psy_meaning.specs.Units.{IsOfText};
 ghost use Rattle.psy_source.specs.Programs.{Stops};
 ghost use Rattle.psy_report.specs.Measured.{AreMeasures, IsUnmeasured};
@@ -28,14 +27,14 @@ pub struct Measures {
     pub lists: Items<Items<u64>>,
 }
 
-/// Measures a program, and its demands over the lengths up to one. It needn't be a program that the processor can run. A refusal is that of a
+/// Measures a program, and its demands over the lengths up to one. It needn't be a program that its processors can run. A refusal is that of a
 /// limit, as psyc tells it; the only other error is want of memory.
 pub fn measure(alloc: Global, unit: &Unit, top: u32) -> Result<Measures, Stop>
     requires text { IsOfText unit.now }
     ensures measures { IfOk result (AreMeasures unit.now top) }
     ensures rates { IfOk result (λ measures. All (λ line. line.rate ≤ 2 ^ 40) measures.lines) }
     ensures parts { IfOk result (λ measures. All (All (λ part. part < 2 ^ 50)) measures.lists) }
-    ensures few { IfOk result (λ measures. length measures.lists ≤ AGENTS) }
+    ensures count { IfOk result (λ measures. length measures.lists ≡ length unit.now.agents) }
     ensures refused { IfErr result (Stops (IsUnmeasured unit.now top)) }
 {
     let graphs = graphs(alloc, unit)?;

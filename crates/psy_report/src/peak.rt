@@ -1,4 +1,4 @@
-//! The greatest cost of an agent's actions, and its share of the processor.
+//! The greatest cost of an agent's actions, and its share of its processor.
 ghost use Rattle.std.specs.Prelude.{◌≡◌, ◌==◌, ◌≤◌, ◌<◌, ◌*◌, ◌^◌, length};
 ghost use Rattle.std.specs.List.{position_or_len};
 ghost use Rattle.psy_base.specs.Extremes.{most_of};
@@ -33,7 +33,7 @@ pub fn place_of(costs: &[u64], cost: u64) -> usize
     costs.len()
 }
 
-/// The share of the processor, in hundredths of a percent, that a rate asks for, rounded up.
+/// The share of a processor, in hundredths of a percent, that a rate asks for, rounded up.
 pub fn share(rate: u64, quantum: u32) -> u64
     requires rate { rate ≤ 2 ^ 40 }
     requires quantum { 1 ≤ quantum }

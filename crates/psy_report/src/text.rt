@@ -1,33 +1,33 @@
 //! The text of the report.
-ghost use Rattle.std.specs.Prelude.{◌≡◌, ◌++◌, ◌≤◌, ◌<◌, ◌^◌, IfErr, IfOk, OnOk, flat_map, get_or, length, option_map};
+ghost use Rattle.std.specs.Prelude.{◌≡◌, ◌++◌, ◌≤◌, ◌<◌, ◌^◌, IfErr, IfOk, OnOk, flat_map, get_or, length};
 ghost use Rattle.std.specs.List.{All, range_with_len};
-ghost use Rattle.psy_base.specs.declared.limits.TheConstants.{AGENTS};
+ghost use Rattle.psy_base.specs.declared.limits.TheConstants.{PROCESSORS};
 ghost use Rattle.psy_meaning.specs.Units.{IsBare, IsOfText};
 ghost use Rattle.psy_report.specs.Measured.{IsUnmeasured};
 ghost use Rattle.psy_source.specs.Programs.{Stops};
 ghost use Rattle.psy_report.specs.Reports.{IsReport, left_text, over_text, queue_text, report_text, ring_text, tight_text};
 
-use crate::agents::{add_agents, add_parts};
+use crate::agents::{add_agents, add_end, add_parts};
 use crate::depths::add_depths;
 use crate::measures::{Measures, measure};
 use crate::piece::add_named;
-use crate::tight::{demand, tightest};
+use crate::tight::{demand, tightest_of};
 use crate::warnings::{add_costs, add_inputs, add_streams, stream_name, variable_name};
 use psy_source::Stop;
 use psy_text::write::add_labelled;
 use psy_tree::Unit;
 use std::alloc::{AllocError, Global};
 
-/// Reports on a program, up to a date: its agents, the length over which the least is left, its buffers, and warnings. It needn't be a program
-/// that the processor can run. A refusal is that of a limit, as psyc tells it; the only other error is want of memory.
+/// Reports on a program, up to a date: its agents, for each processor the length over which the least is left, its buffers, and warnings. It needn't be
+/// a program that its processors can run. A refusal is that of a limit, as psyc tells it; the only other error is want of memory.
 pub fn report(alloc: Global, unit: &Unit, until: u32) -> Result<Vec<u8>, Stop>
     requires text { IsOfText unit.now }
     ensures report { IfOk result (λ text. IsReport unit.now until text.items) }
     ensures refused { IfErr result (Stops (IsUnmeasured unit.now until)) }
 {
     let measures = measure(alloc, unit, until)?;
-    let tight = tightest(measures.lists.as_slice(), unit.quantum, until);
-    match text_of(alloc, unit, &measures, tight) {
+    let tightest = tightest_of(alloc, unit, measures.lists.as_slice(), until)?;
+    match text_of(alloc, unit, &measures, tightest.as_slice()) {
         Ok(text) => Ok(text),
         Err(_) => Err(Stop::Memory),
     }
@@ -37,17 +37,18 @@ fn text_of(
     alloc: Global,
     unit: &Unit,
     measures: &Measures,
-    tight: Option<u32>,
+    tightest: &[u32],
 ) -> Result<Vec<u8>, AllocError>
     requires bare { IsBare unit.now }
     requires rates { All (λ line. line.rate ≤ 2 ^ 40) measures.now.lines }
     requires parts { All (All (λ part. part < 2 ^ 50)) measures.now.lists }
-    requires few { length measures.now.lists ≤ AGENTS }
-    ensures { IfOk result (λ text. text.items ≡ report_text unit.now measures.now tight) }
+    requires count { length measures.now.lists ≡ length unit.now.agents }
+    requires few { length tightest.now ≤ PROCESSORS }
+    ensures { IfOk result (λ text. text.items ≡ report_text unit.now measures.now tightest.now) }
 {
     let mut out = Vec::new(alloc);
     add_agents(&mut out, unit, measures)?;
-    add_tight(&mut out, unit, measures, tight)?;
+    add_tightest(&mut out, unit, measures, tightest)?;
     add_rings(&mut out, unit, measures)?;
     add_queues(&mut out, unit, measures)?;
     add_costs(&mut out, unit, measures)?;
@@ -57,26 +58,44 @@ fn text_of(
     Ok(out)
 }
 
-// Over which length the least is left, and each agent's part in its demand.
+// For each processor, over which length the least is left, and the parts of its agents in the demand.
+fn add_tightest(
+    out: &mut Vec<u8>,
+    unit: &Unit,
+    measures: &Measures,
+    tightest: &[u32],
+) -> Result<(), AllocError>
+    requires bare { IsBare unit.now }
+    requires parts { All (All (λ part. part < 2 ^ 50)) measures.now.lists }
+    requires count { length measures.now.lists ≡ length unit.now.agents }
+    requires few { length tightest.now ≤ PROCESSORS }
+    ensures { OnOk result (out.new.items ≡ out.old.items
+        ++ flat_map (λ processor. tight_text unit.now measures.now (get_or tightest.now processor 0) processor) (range_with_len 0 (length tightest.now))) }
+{
+    'processors: for (processor, within) in tightest.iter().enumerate() {
+        add_tight(out, unit, measures, *within, processor as u32)?;
+    }
+    Ok(())
+}
+
+// The length of a processor, and the parts of its agents.
 fn add_tight(
     out: &mut Vec<u8>,
     unit: &Unit,
     measures: &Measures,
-    tight: Option<u32>,
+    within: u32,
+    processor: u32,
 ) -> Result<(), AllocError>
+    requires bare { IsBare unit.now }
     requires parts { All (All (λ part. part < 2 ^ 50)) measures.now.lists }
-    requires few { length measures.now.lists ≤ AGENTS }
-    ensures { OnOk result (out.new.items ≡ out.old.items ++ tight_text unit.now measures.now tight) }
+    requires count { length measures.now.lists ≡ length unit.now.agents }
+    ensures { OnOk result (out.new.items ≡ out.old.items ++ tight_text unit.now measures.now within processor) }
 {
-    match tight {
-        None => Ok(()),
-        Some(within) => {
-            let demand = demand(measures.lists.as_slice(), within);
-            let supply = u64::from(unit.quantum) * u64::from(within);
-            add_over(out, within, supply, demand)?;
-            add_parts(out, unit, measures, within)
-        }
-    }
+    let demand = demand(unit, measures.lists.as_slice(), processor, within);
+    let supply = u64::from(unit.quantum) * u64::from(within);
+    add_over(out, within, supply, demand)?;
+    add_end(out, processor)?;
+    add_parts(out, unit, measures, within, processor)
 }
 
 // `tightest LENGTH supply CYCLES demand CYCLES left CYCLES`
@@ -93,11 +112,10 @@ fn add_left(out: &mut Vec<u8>, supply: u64, demand: u64) -> Result<(), AllocErro
     ensures { OnOk result (out.new.items ≡ out.old.items ++ left_text supply demand) }
 {
     if demand <= supply {
-        add_labelled(out, b" left ", supply - demand)?;
+        add_labelled(out, b" left ", supply - demand)
     } else {
-        add_labelled(out, b" left -", demand - supply)?;
+        add_labelled(out, b" left -", demand - supply)
     }
-    out.extend_from_slice(b"\n")
 }
 
 // A line for the ring of each variable.

@@ -1,10 +1,17 @@
-//! The length over which the least is left.
-ghost use Rattle.std.specs.Prelude.{◌≡◌, ◌+◌, ◌*◌, ◌^◌, ◌<◌, ◌≤◌, MatchOption, get_or, length, nat_lt};
+//! By processor, the length over which the least is left.
+ghost use Rattle.std.specs.Prelude.{◌≡◌, ◌+◌, ◌*◌, ◌^◌, ◌<◌, ◌≤◌, IfOk, get_or, length, nat_lt};
 ghost use Rattle.std.specs.List.{All};
-ghost use Rattle.psy_base.specs.declared.limits.TheConstants.{AGENTS};
-ghost use Rattle.psy_report.specs.Tightness.{IsTightest, demand_over};
+ghost use Rattle.psy_base.specs.declared.limits.TheConstants.{AGENTS, PROCESSORS};
+ghost use Rattle.psy_demand.specs.Demand.{demand_of};
+ghost use Rattle.psy_meaning.specs.Units.{IsBare};
+ghost use Rattle.psy_tree.specs.Parts.{homes};
+ghost use Rattle.psy_report.specs.Tightness.{AreTightest, IsTightest, demand_on};
 
-use psy_base::Items;
+use crate::lists::push;
+use psy_base::{Items, Memory};
+use psy_history::{processor_of, processors_of};
+use psy_tree::Unit;
+use std::alloc::Global;
 
 /// What a list has at a length; 0 where it isn't so long.
 pub fn part(list: &Items<u64>, within: u32) -> u64
@@ -16,28 +23,32 @@ pub fn part(list: &Items<u64>, within: u32) -> u64
     }
 }
 
-// The same, which is small.
-fn small_part(list: &Items<u64>, within: u32) -> u64
-    requires { All (λ part. part < 2 ^ 50) list.now }
-    ensures part { result ≡ get_or list.now within 0 }
-    ensures small { result < 2 ^ 50 }
+// The same of the list of an agent, which is small, where the agent is of this processor; else 0.
+fn own_part(unit: &Unit, lists: &[Items<u64>], processor: u32, within: u32, agent: u32) -> u64
+    requires count { length lists.now ≡ length unit.now.agents }
+    requires known { agent < length unit.now.agents }
+    requires small { All (All (λ part. part < 2 ^ 50)) lists.now }
+    ensures part { result ≡ demand_of lists.now (homes unit.now) processor within agent }
+    ensures small { result ≤ 2 ^ 50 }
 {
-    match list.as_slice().get(within as usize) {
-        Some(part) => *part,
-        None => 0,
+    if processor_of(unit, agent) == processor {
+        part(&lists[agent as usize], within)
+    } else {
+        0
     }
 }
 
-/// The sum of what the lists have at a length.
-pub fn demand(lists: &[Items<u64>], within: u32) -> u64
-    requires few { length lists.now ≤ AGENTS }
+/// The demand on a processor over a length.
+pub fn demand(unit: &Unit, lists: &[Items<u64>], processor: u32, within: u32) -> u64
+    requires few { length unit.now.agents ≤ AGENTS }
+    requires count { length lists.now ≡ length unit.now.agents }
     requires small { All (All (λ part. part < 2 ^ 50)) lists.now }
-    ensures sum { result ≡ demand_over lists.now within }
+    ensures sum { result ≡ demand_on unit.now lists.now processor within }
     ensures small { result ≤ AGENTS * 2 ^ 50 }
 {
     let mut sum = 0;
-    'lists: for list in lists {
-        sum += small_part(list, within);
+    'agents: for agent in 0..unit.agents.len() as u32 {
+        sum += own_part(unit, lists, processor, within, agent);
     }
     sum
 }
@@ -49,40 +60,56 @@ fn sum(first: u64, second: u64) -> u128
     u128::from(first) + u128::from(second)
 }
 
-// Whether less is left over a length than over another.
-fn is_tighter(lists: &[Items<u64>], quantum: u32, within: u32, other: u32) -> bool
-    requires few { length lists.now ≤ AGENTS }
+// Whether less of a processor's supply is left over a length than over another.
+fn is_tighter(unit: &Unit, lists: &[Items<u64>], processor: u32, within: u32, other: u32) -> bool
+    requires few { length unit.now.agents ≤ AGENTS }
+    requires count { length lists.now ≡ length unit.now.agents }
     requires small { All (All (λ part. part < 2 ^ 50)) lists.now }
-    ensures { result ≡ nat_lt (quantum * within + demand_over lists.now other) (quantum * other + demand_over lists.now within) }
+    ensures { result ≡ nat_lt (unit.now.quantum * within + demand_on unit.now lists.now processor other)
+        (unit.now.quantum * other + demand_on unit.now lists.now processor within) }
 {
-    let supply = u64::from(quantum) * u64::from(within);
-    let supply_of_other = u64::from(quantum) * u64::from(other);
-    sum(supply, demand(lists, other)) < sum(supply_of_other, demand(lists, within))
+    let supply = u64::from(unit.quantum) * u64::from(within);
+    let supply_of_other = u64::from(unit.quantum) * u64::from(other);
+    let demand_over_other = demand(unit, lists, processor, other);
+    sum(supply, demand_over_other) < sum(supply_of_other, demand(unit, lists, processor, within))
 }
 
-/// The least length, of those from 1 up to this one, over which the least is left of the supply, or the most is missing.
-pub fn tightest(lists: &[Items<u64>], quantum: u32, top: u32) -> Option<u32>
-    requires few { length lists.now ≤ AGENTS }
-    requires small { All (All (λ part. part < 2 ^ 50)) lists.now }
-    ensures { MatchOption result (top ≡ 0) (IsTightest quantum lists.now top) }
-{
-    if top == 0 {
-        return None;
-    }
-    Some(least(lists, quantum, top))
-}
-
-fn least(lists: &[Items<u64>], quantum: u32, top: u32) -> u32
-    requires few { length lists.now ≤ AGENTS }
+// The least length, of those from 1 up to this one, over which the least is left of a processor's supply, or the most is missing.
+fn tightest(unit: &Unit, lists: &[Items<u64>], processor: u32, top: u32) -> u32
+    requires few { length unit.now.agents ≤ AGENTS }
+    requires count { length lists.now ≡ length unit.now.agents }
     requires small { All (All (λ part. part < 2 ^ 50)) lists.now }
     requires some { 1 ≤ top }
-    ensures { IsTightest quantum lists.now top result }
+    ensures { IsTightest unit.now.quantum (demand_on unit.now lists.now processor) top result }
 {
     let mut least = 1;
     'lengths: for before in 1..top {
-        if is_tighter(lists, quantum, before + 1, least) {
+        if is_tighter(unit, lists, processor, before + 1, least) {
             least = before + 1;
         }
     }
     least
+}
+
+/// By processor of a program, that length for the demand of its own agents; none where there is no length. The only error is want of memory.
+pub fn tightest_of(
+    alloc: Global,
+    unit: &Unit,
+    lists: &[Items<u64>],
+    top: u32,
+) -> Result<Items<u32>, Memory>
+    requires bare { IsBare unit.now }
+    requires count { length lists.now ≡ length unit.now.agents }
+    requires small { All (All (λ part. part < 2 ^ 50)) lists.now }
+    ensures tightest { IfOk result (AreTightest unit.now lists.now top) }
+    ensures few { IfOk result (λ lengths. length lengths ≤ PROCESSORS) }
+{
+    let mut lengths = Items::new(alloc);
+    if top > 0 {
+        'processors: for processor in 0..processors_of(unit) {
+            let length = tightest(unit, lists, processor, top);
+            push(&mut lengths, length)?;
+        }
+    }
+    Ok(lengths)
 }

@@ -9,7 +9,8 @@ use Rattle.std.proofs.lemmas.Option.{slice_get_within, get_or_from_slice_get}
 use Rattle.std.proofs.Math.Nat.{eq-or-lt_of_le}
 use Rattle.psy_door.specs.Growth.{Grew, GrewByFront}
 use Rattle.psy_kernel.specs.declared.stage.Stage.TheVariants.{DateDue}
-use Rattle.psy_kernel.specs.Progress.{Progress, after_date, after_line, booted, lines_at, lines_told, stage_of, system}
+use Rattle.psy_kernel.specs.Engines.{lines_at}
+use Rattle.psy_kernel.specs.Progress.{Progress, after_date, after_line, booted, lines_told, stage_of, system}
 use Rattle.psy_kernel.specs.Texts.{lines_of, log_of, text_of}
 use Rattle.psy_dates.specs.Beginnings.{beginning_of}
 use Rattle.psy_history.specs.Actions.{System}
@@ -105,8 +106,8 @@ lines_told-after p whole =
     ∙ cond-false (nat_lt p.dates (system p).opening.dates) [] (lines_of (system p) p.dates) (le-ltb p.dates (system p).opening.dates (omega (arith, whole)))
 
 -- A run whose program, inputs and script are another's
-pub progress-parts : (p q : Progress) → p.plan ≡ q.plan → p.inputs ≡ q.inputs → p.script ≡ q.script → p.opening ≡ q.opening → p ≡ record q { dates = p.dates; cycles = p.cycles; given = p.given }
-progress-parts p q plan inputs script opening = λ i. record { plan = plan i; inputs = inputs i; script = script i; opening = opening i; dates = p.dates; cycles = p.cycles; given = p.given }
+pub progress-parts : (p q : Progress) → p.plan ≡ q.plan → p.inputs ≡ q.inputs → p.script ≡ q.script → p.opening ≡ q.opening → p.units ≡ q.units → p ≡ record q { dates = p.dates; cycles = p.cycles; given = p.given }
+progress-parts p q plan inputs script opening units = λ i. record { plan = plan i; inputs = inputs i; script = script i; opening = opening i; dates = p.dates; cycles = p.cycles; units = units i; given = p.given }
 
 -- The cycles done so far are before the next date
 pub cycles-after : (quantum dates cycles : ℕ) → cycles ≡ dates * quantum → cycles ≤ (dates + 1) * quantum

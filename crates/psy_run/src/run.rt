@@ -48,6 +48,8 @@ fn run_dates<S: Sink>(kernel: &mut Kernel, out: &mut S) -> Result<(), WriteFault
         match kernel.stage() {
             Stage::Over => return Ok(()),
             Stage::CycleDue(_) => kernel.slice(),
+            // A slice ends with a whole cycle.
+            Stage::UnitDue(..) => unreachable!(),
             Stage::DateDue(_) => {
                 kernel.date();
                 if let Err(fault) = write_date(kernel, out) {
@@ -76,6 +78,8 @@ fn pass_dates(kernel: &mut Kernel)
         match kernel.stage() {
             Stage::Over => return,
             Stage::CycleDue(_) => kernel.slice(),
+            // A slice ends with a whole cycle.
+            Stage::UnitDue(..) => unreachable!(),
             Stage::DateDue(_) => {
                 kernel.date();
                 pass_date(kernel);

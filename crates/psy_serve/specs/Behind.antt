@@ -16,7 +16,8 @@ use Rattle.psy_serve.specs.Speaking.{is_of_words, is_refusal, spoken_of}
 abbrev pub AreBytesOf : Option Files → List ℕ → List ℕ → Type 0
 AreBytesOf files name bytes = WhereTold files (λ told. (bytes ≡ bytes_under told name) ⊎ ((bytes ≡ []) × (FILE_BYTES < length (bytes_under told name))))
 
--- The explanation of a line over a text, and behind it what each agent may ask for, where the line tells of a demand that can't be supplied
+-- The explanation of a line over a text, and behind it what each agent of a processor may ask for, where the line tells of a demand that this one can't
+-- supply
 abbrev pub IsExplanation : List ℕ → List ℕ → List ℕ → List ℕ → Type 0
 IsExplanation name bytes line more =
     (text : List ℕ) × (asked : List ℕ) × Explains name bytes line text × AreAsked bytes line asked × (more ≡ text ++ asked)

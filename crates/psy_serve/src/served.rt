@@ -124,7 +124,7 @@ fn fault_of(alloc: Global, words: &[String]) -> Option<Vec<u8>>
     }
 }
 
-// The explanation of a line over these bytes of a file, and what each agent may ask for.
+// The explanation of a line over these bytes of a file, and what each agent of the processor that it tells of may ask for.
 fn explained(alloc: Global, name: &str, bytes: &[u8], line: &[u8]) -> Option<Vec<u8>>
     requires { length bytes.now ≤ FILE_BYTES }
     ensures { IfSome result (λ more. IsExplanation name.now bytes.now line.now more.items) }

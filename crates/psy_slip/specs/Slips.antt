@@ -7,6 +7,7 @@ use Rattle.psy_slip.specs.declared.slip.File.{File}
 use Rattle.psy_slip.specs.declared.slip.File.TheVariants.{Program, Inputs, Script}
 use Rattle.psy_slip.specs.Agents.{strangers, strangers_told}
 use Rattle.psy_slip.specs.Earlier.{first_like, first_repeated, first_same}
+use Rattle.psy_slip.specs.Looks.{begins_statement}
 use Rattle.psy_slip.specs.Ranges.{listing_range, statement_range}
 use Rattle.psy_slip.specs.Told.{counted, no_number, of_first, of_word, quoted}
 use Rattle.psy_text.specs.Lines.{begins_with}
@@ -99,10 +100,12 @@ listing_said words = told_or (listing_told words) (listing_slip words)
 abbrev pub listing_form : List (List ℕ) → List ℕ
 listing_form words = told_or (sign_told words) (listing_said words)
 
--- A name is no input of the program; in one with a point (46 is `.`) an agent may be named before it.
+-- A name is no input of the program; in one with a point (46 is `.`) an agent may be named before it, and one with which a line of a script begins may stand
+-- in the wrong file.
 abbrev pub no_input : List ℕ → List ℕ
 no_input name =
     if list_any (λ b. b == 46) name then codes " is no input of the program: a name stands alone, with no agent and no point before it"
+    else if begins_statement name then codes " is no input of the program: it begins a line of a script"
     else codes " is no input of the program"
 
 -- The same of the first word of a line

@@ -235,7 +235,8 @@ fn all_values(words: &[&[u8]]) -> bool
     true
 }
 
-fn begins_statement(word: &[u8]) -> bool
+/// Does a line of a script begin with this word?
+pub fn begins_statement(word: &[u8]) -> bool
     ensures { result ≡ begins_statement word.now }
 {
     word == b"stall".as_slice() || (word == b"order".as_slice() || word == b"round".as_slice())

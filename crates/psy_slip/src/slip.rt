@@ -13,6 +13,7 @@ ghost use Rattle.psy_text.specs.Words.{is_number, is_value, words_of};
 
 use crate::agents::{add_strangers_told, strangers};
 use crate::earlier::{first_like, first_repeated, first_same};
+use crate::look::begins_statement;
 use crate::range::{add_listing_range, add_statement_range};
 use crate::told::{add_count, add_of, add_of_first, add_of_first_at, add_of_word, add_quoted};
 use psy_base::Memory;
@@ -151,6 +152,8 @@ fn no_input(name: &[u8]) -> &'static [u8]
 {
     if has_byte(name, b'.') {
         b" is no input of the program: a name stands alone, with no agent and no point before it"
+    } else if begins_statement(name) {
+        b" is no input of the program: it begins a line of a script"
     } else {
         b" is no input of the program"
     }

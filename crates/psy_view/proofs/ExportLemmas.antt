@@ -8,10 +8,10 @@ use Rattle.psy_export.specs.Ending as ending
 use Rattle.psy_export.specs.Exports.{Exports, IsExportFront}
 use Rattle.psy_export.specs.declared.forms.Format.{Format}
 use Rattle.psy_export.specs.declared.forms.Format.TheVariants as format
-use Rattle.psy_view.specs.Answer.{Answers, IsExport, as_dump, as_table, exported, viewed}
+use Rattle.psy_view.specs.Answer.{Answers, IsExport, IsOfAnyLength, as_dump, as_table, exported, viewed}
 use Rattle.psy_view.specs.Asked.{AskNothing, Asks, File, Request, by_psyc, files_of}
 use Rattle.psy_view.specs.Fetching.{AreTexts, ComeTo, IsLong, IsTextOf, first}
-use Rattle.psy_view.specs.Outcome.{EndsExport, EndsUnread, IsBegun, MayAnswer, MayBegin, may_answer, may_begin, may_change, may_miss, no_room, of_long, of_none, of_text}
+use Rattle.psy_view.specs.Outcome.{EndsExport, EndsUnread, IsBegun, MayAnswer, may_answer, may_change, may_miss, no_room, of_long, of_none, of_text}
 use Rattle.psy_view.specs.Outcome.{unread_again, unread_late}
 use Rattle.psy_view.specs.Reading.{request_of_export}
 use Rattle.psy_export.specs.Refusals.{unread_line}
@@ -23,6 +23,10 @@ use Rattle.psy_view.proofs.TopLemmas.{IsOfView, ends_answered, ends_cut_short, e
 pub is_export : (name : List ℕ) (to : Format) → IsExport (request_of_export name to) name to
 is_export name format.Table = as_table name
 is_export name format.Dump = as_dump name
+
+any_length : (name : List ℕ) (to : Format) → IsOfAnyLength (request_of_export name to) name
+any_length name format.Table = refl
+any_length name format.Dump = refl
 
 come_to : (files : Option Files) (name : List ℕ) (to : Format) → ComeTo files (files_of (request_of_export name to)) (by_psyc name)
 come_to files name format.Table = first _ []
@@ -127,7 +131,7 @@ module _ (words : List (List ℕ)) (files : Option Files) (name : List ℕ) (to 
   long_read : IsLong files (by_psyc name) → (answer : ℕ) → Long answer → answer ≡ 3 → Unread
   long_read long _ (ending.answered status text exports grew same) three = absurd (not_3 status (of_export files name to status text exports) three)
   long_read long _ (ending.unread unreadable grew same) three =
-      (request_of_export name to, by_psyc name, asks, come_to files name to, unread_again to (is_export name to) long unreadable grew)
+      (request_of_export name to, by_psyc name, asks, come_to files name to, unread_again (any_length name to) long unreadable grew)
   long_read long _ (ending.left_off text unreadable front grew same) three =
       (request_of_export name to, by_psyc name, asks, come_to files name to, unread_late to text (is_export name to) long unreadable front grew)
   long_read long _ (ending.cut_short text may grew rose) three = absurd (omega (arith, three))
@@ -141,16 +145,16 @@ module _ (words : List (List ℕ)) (files : Option Files) (name : List ℕ) (to 
   export_read answer (no_room none grew) = λ three. absurd (omega (arith, three, none))
 
   abbrev Cut : Type 0
-  Cut = (text : List ℕ) × (((status : ℕ) × MayAnswer words files b a status text) ⊎ MayBegin words files text) × GrewByFront old now text
+  Cut = (text : List ℕ) × (((status : ℕ) × MayAnswer words files b a status text) ⊎ IsBegun words files text) × GrewByFront old now text
 
   begun : IsLong files (by_psyc name) → (text : List ℕ) → IsExportFront to files name text → IsBegun words files text
   begun long text front = (request_of_export name to, name, to, asks, is_export name to, long, front)
 
-  may_stand : IsLong files (by_psyc name) → (text : List ℕ) → MayStand files name to b a text → ((status : ℕ) × MayAnswer words files b a status text) ⊎ MayBegin words files text
+  may_stand : IsLong files (by_psyc name) → (text : List ℕ) → MayStand files name to b a text → ((status : ℕ) × MayAnswer words files b a status text) ⊎ IsBegun words files text
   may_stand long _ (ending.may_answer status text exports) = inl (status, may_answer status text (of_run long status text exports))
   may_stand long _ (ending.may_miss (inl rose)) = inl (3, of_miss rose)
-  may_stand long _ (ending.may_miss (inr none)) = inr (may_change _ name to asks (is_export name to) none)
-  may_stand long _ (ending.may_begin text front) = inr (may_begin text (begun long text front))
+  may_stand long _ (ending.may_miss (inr none)) = inl (3, may_change _ name asks (any_length name to) long none)
+  may_stand long _ (ending.may_begin text front) = inr (begun long text front)
 
   long_cut : IsLong files (by_psyc name) → (answer : ℕ) → Long answer → answer ≡ 4 → Rose before after × Cut
   long_cut long _ (ending.answered status text exports grew same) four = absurd (not_4 status (of_export files name to status text exports) four)

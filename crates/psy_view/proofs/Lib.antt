@@ -1,6 +1,7 @@
 -- The lemmas of this crate, by subject.
 mod AskedLemmas
 mod ExportLemmas
+mod FilmLemmas
 mod PairLemmas
 mod PictureLemmas
 mod PlanLemmas

@@ -4,18 +4,20 @@ use Rattle.psy_door.specs.Faults.{Rose}
 use Rattle.psy_door.specs.Files.{Files}
 use Rattle.psy_door.specs.Growth.{Grew, GrewByFront}
 use Rattle.psy_draw.specs.declared.window.Window.{Window}
-use Rattle.psy_draw.specs.Silences.{Silent}
+use Rattle.psy_draw.specs.Knowledge.{Knowledge, nothing}
 use Rattle.psy_export.specs.Ending.{Says}
 use Rattle.psy_export.specs.Exports.{Exports}
 use Rattle.psy_export.specs.Exports as export
 use Rattle.psy_export.specs.declared.forms.Format.{Format}
 use Rattle.psy_log.specs.declared.note.Note.{Note}
-use Rattle.psy_match.specs.Silences.{silences_in}
+use Rattle.psy_match.specs.Knowledge.{knowledge_in}
 use Rattle.psy_tree.specs.declared.unit.Unit.{Unit as Whole}
-use Rattle.psy_view.specs.Answer.{Answers, IsLimited, no_words, of_itself, viewed, too_long, exported}
-use Rattle.psy_view.specs.Asked.{File, Request, Asks, AskNothing, files_of}
-use Rattle.psy_view.specs.Fetching.{ComeTo, IsUnread, failed, long}
-use Rattle.psy_view.specs.Outcome.{EndsUnread, IsBegun, MayAnswer, MayBegin, may_answer, may_miss, Replies, unread_first, viewed_all, stopped_at}
+use Rattle.psy_view.specs.Answer.{Answers, IsFilmed, IsOfAnyLength, no_words, of_itself, viewed, too_long, exported, filmed}
+use Rattle.psy_view.specs.Answer.{of_run, breaks, has_many}
+use Rattle.psy_view.specs.Asked.{File, Request, Timeline, Table, Dump, Asks, AskNothing, by_psyc, files_of}
+use Rattle.psy_view.specs.Fetching.{ComeTo, IsLong, first}
+use Rattle.psy_view.specs.Outcome.{EndsUnread, IsBegun, MayAnswer, may_answer, may_miss, may_change, unread_again, unread_first}
+use Rattle.psy_view.specs.Outcome.{Replies, viewed_all, missed, stopped_at, filmed_all, changed}
 use Rattle.psy_export.specs.Refusals.{unread_line}
 use Rattle.psy_view.specs.Views.{ViewOf, where_told, pictured, pictured_of, unpictured_of, pictured_with, unpictured_with, dotted, no_graph, dotted_of, undotted_of}
 use Rattle.psy_view.specs.Views.{tabled, no_table, dumped, no_dump, compared, expected, IsWhere, explained, no_refusal, beyond, IsFed, with_inputs, no_inputs}
@@ -29,21 +31,27 @@ use Rattle.psy_view.specs.Views.{IsCompared, same, differs, first_breaks, second
 abbrev pub IsOfView : ℕ → Type 0
 IsOfView status = (status ≡ 0) ⊎ (status ≡ 1)
 
-of_shown : (name : List ℕ) (window : Window) (silences : List Silent) (names : List (List ℕ)) (notes : List Note) (status : ℕ) (text : List ℕ)
-    → IsShown name window silences names notes status text → IsOfView status
-of_shown name window silences names notes _ _ (drawn svg picture) = inl refl
-of_shown name window silences names notes _ _ (unlisted line first) = inr refl
-of_shown name window silences names notes _ _ (unknown place asked listed first at) = inr refl
-of_shown name window silences names notes _ _ (empty listed known none) = inr refl
+of_shown : (name : List ℕ) (window : Window) (knowledge : Knowledge) (names : List (List ℕ)) (notes : List Note) (status : ℕ) (text : List ℕ)
+    → IsShown name window knowledge names notes status text → IsOfView status
+of_shown name window knowledge names notes _ _ (drawn svg picture) = inl refl
+of_shown name window knowledge names notes _ _ (unlisted line lacks) = inr refl
+of_shown name window knowledge names notes _ _ (unknown place asked listed lacks at) = inr refl
+of_shown name window knowledge names notes _ _ (empty listed known none) = inr refl
 
 of_drawn : (name : List ℕ) (window : Window) (names : List (List ℕ)) (bytes : List ℕ) (status : ℕ) (text : List ℕ) → IsDrawn name window names bytes status text → IsOfView status
-of_drawn name window names bytes _ _ (of_notes notes status text is shows) = of_shown name window [] names notes status text shows
+of_drawn name window names bytes _ _ (of_notes notes status text is shows) = of_shown name window nothing names notes status text shows
 of_drawn name window names bytes _ _ (no_run line is) = inr refl
+
+of_filmed : (files : Option Files) (name : List ℕ) (window : Window) (names : List (List ℕ)) (status : ℕ) (text : List ℕ)
+    → IsFilmed files name window names status text → IsOfView status
+of_filmed files name window names _ _ (of_run notes status text run shows) = of_shown name window nothing names notes status text shows
+of_filmed files name window names _ _ (breaks bytes line is at) = inr refl
+of_filmed files name window names _ _ (has_many bytes is many) = inr refl
 
 of_fed : (name inputs : List ℕ) (window : Window) (names : List (List ℕ)) (notes : List Note) (unit : Whole) (fed : List ℕ) (status : ℕ) (text : List ℕ)
     → IsFed name inputs window names notes unit fed status text → IsOfView status
 of_fed name inputs window names notes unit fed _ _ (with_inputs given more status text are feed shows) =
-    of_shown name window (silences_in unit notes) names (notes ++ more) status text shows
+    of_shown name window (knowledge_in unit notes) names (notes ++ more) status text shows
 of_fed name inputs window names notes unit fed _ _ (no_inputs line told refuses tells) = inr refl
 
 of_where : (name line bytes : List ℕ) (status : ℕ) (text : List ℕ) → IsWhere name line bytes status text → IsOfView status
@@ -52,10 +60,10 @@ of_where name line bytes _ _ (no_refusal is) = inr refl
 of_where name line bytes _ _ (beyond is) = inr refl
 
 of_compared : (name other first second : List ℕ) (status : ℕ) (text : List ℕ) → IsCompared name other first second status text → IsOfView status
-of_compared name other first second _ _ (same notes is equal) = inl refl
-of_compared name other first second _ _ (differs text is) = inr refl
-of_compared name other first second _ _ (first_breaks line is) = inr refl
-of_compared name other first second _ _ (second_breaks notes line is breaks) = inr refl
+of_compared name other one two _ _ (same notes is equal) = inl refl
+of_compared name other one two _ _ (differs text is) = inr refl
+of_compared name other one two _ _ (first_breaks line is) = inr refl
+of_compared name other one two _ _ (second_breaks notes line is cut) = inr refl
 
 of_expected : (name claims log text : List ℕ) (status : ℕ) (told : List ℕ) → IsExpected name claims log text status told → IsOfView status
 of_expected name claims log text _ _ (kept notes is tried) = inl refl
@@ -67,7 +75,7 @@ of_view : (request : Request) (texts : List (List ℕ)) (status : ℕ) (text : L
 of_view _ _ _ _ (where_told name line bytes status text is) = of_where name line bytes status text is
 of_view _ _ _ _ (pictured name window names bytes status text is) = of_drawn name window names bytes status text is
 of_view _ _ _ _ (pictured_of name program window names bytes text notes unit status told pair shows) =
-    of_shown name window (silences_in unit notes) names notes status told shows
+    of_shown name window (knowledge_in unit notes) names notes status told shows
 of_view _ _ _ _ (unpictured_of name program window names bytes text told is) = inr refl
 of_view _ _ _ _ (pictured_with name program inputs window names bytes text fed notes unit status told pair is) =
     of_fed name inputs window names notes unit fed status told is
@@ -87,13 +95,13 @@ of_view _ _ _ _ (no_listing name bytes refusal text is tells) = inr refl
 of_view _ _ _ _ (reports name bytes until unit text is report) = inl refl
 of_view _ _ _ _ (no_report name bytes until refusal text is tells) = inr refl
 of_view _ _ _ _ (unmeasured name bytes until unit refusal text is cause tells) = inr refl
-of_view _ _ _ _ (compared name other first second status text is) = of_compared name other first second status text is
+of_view _ _ _ _ (compared name other one two status text is) = of_compared name other one two status text is
 of_view _ _ _ _ (expected name claims log text status told is) = of_expected name claims log text status told is
 
 pub of_export : (files : Option Files) (name : List ℕ) (to : Format) (status : ℕ) (text : List ℕ) → Exports files name to status text → IsOfView status
 of_export files name to _ _ (export.of_log bytes notes is log) = inl refl
-of_export files name to _ _ (export.no_run bytes line is breaks) = inr refl
-of_export files name to _ _ (export.has_unlisted bytes notes line is read first) = inr refl
+of_export files name to _ _ (export.no_run bytes line is cut) = inr refl
+of_export files name to _ _ (export.has_unlisted bytes notes line is read lacks) = inr refl
 of_export files name to _ _ (export.has_many bytes is many) = inr refl
 
 -- A defined answer's: 2 for words of no form, and else a view's
@@ -103,20 +111,28 @@ of_answer words files _ _ (of_itself text asks) = inr (inl refl)
 of_answer words files _ _ (viewed request texts status text asks are is) = inr (of_view request texts status text is)
 of_answer words files _ _ (too_long request file asks limited comes longer) = inr (inr refl)
 of_answer words files _ _ (exported request name to status text asks is longer exports) = inr (of_export files name to status text exports)
+of_answer words files _ _ (filmed name window names status text asks longer is) = inr (of_filmed files name window names status text is)
 
 -- The miss of a file
 abbrev Misses : List (List ℕ) → Option Files → ℕ → ℕ → List ℕ → Type 0
 Misses words files before after text =
     (request : Request) × (file : File) × Asks words request × ComeTo files (files_of request) file × Rose before after × (text ≡ unread_line file.name)
 
--- An answer's: that, or 3 where a file couldn't be read
+-- The change of a file
+abbrev Changes : List (List ℕ) → Option Files → List ℕ → Type 0
+Changes words files text =
+    (request : Request) × (name : List ℕ) × Asks words request × IsOfAnyLength request name × IsLong files (by_psyc name) × (files ≡ None)
+    × (text ≡ unread_line name)
+
+-- An answer's: that, or 3 where a file couldn't be read, or changed
 of_any : (words : List (List ℕ)) (files : Option Files) (before after status : ℕ) (text : List ℕ) → MayAnswer words files before after status text
-    → ((status ≡ 2) × AskNothing words) ⊎ (IsOfView status ⊎ ((status ≡ 3) × Misses words files before after text))
+    → ((status ≡ 2) × AskNothing words) ⊎ (IsOfView status ⊎ (((status ≡ 3) × Misses words files before after text) ⊎ ((status ≡ 3) × Changes words files text)))
 of_any words files before after _ _ (may_answer status text is) = elim (of_answer words files status text is) [
   | inl two ↦ inl two
   | inr view ↦ inr (inl view)
 ]
-of_any words files before after _ _ (may_miss request file asks comes rose) = inr (inr (refl, (request, file, asks, comes, rose, refl)))
+of_any words files before after _ _ (may_miss request file asks comes rose) = inr (inr (inl (refl, (request, file, asks, comes, rose, refl))))
+of_any words files before after _ _ (may_change request name asks any longer none) = inr (inr (inr (refl, (request, name, asks, any, longer, none, refl))))
 
 -- No answer's status is that one
 never : (k : ℕ) → k ≢ 0 → k ≢ 1 → k ≢ 2 → k ≢ 3 → (words : List (List ℕ)) (files : Option Files) (before after status : ℕ) (text : List ℕ) → MayAnswer words files before after status text → status ≢ k
@@ -124,22 +140,28 @@ never k a b c d words files before after status text may e = elim (of_any words 
   | inl two ↦ c (sym e ∙ two.0)
   | inr (inl (inl zero)) ↦ a (sym e ∙ zero)
   | inr (inl (inr one)) ↦ b (sym e ∙ one)
-  | inr (inr three) ↦ d (sym e ∙ three.0)
+  | inr (inr (inl three)) ↦ d (sym e ∙ three.0)
+  | inr (inr (inr three)) ↦ d (sym e ∙ three.0)
 ]
 
 -- ---- replies
 
-of_unread : (words : List (List ℕ)) (files : Option Files) (b a : ℕ) (request : Request) (file : File) (status : ℕ) (text : List ℕ) → Asks words request
-    → IsLimited request → ComeTo files (files_of request) file → IsUnread files b a file status text → MayAnswer words files b a status text
-of_unread words files b a request file _ _ asks limited comes (failed rose) = may_miss request file asks comes rose
-of_unread words files b a request file _ _ asks limited comes (long is) = may_answer _ _ (too_long request file asks limited comes is)
-
 -- What replies to a request may answer words that ask for it
 pub of_reply : (words : List (List ℕ)) (files : Option Files) (b a : ℕ) (request : Request) (status : ℕ) (text : List ℕ) → Asks words request
-    → IsLimited request → Replies files b a request status text → MayAnswer words files b a status text
-of_reply words files b a request _ _ asks limited (viewed_all texts status text are is) = may_answer status text (viewed request texts status text asks are is)
-of_reply words files b a request _ _ asks limited (stopped_at file status text comes unread) =
-    of_unread words files b a request file status text asks limited comes unread
+    → Replies files b a request status text → MayAnswer words files b a status text
+of_reply words files b a request _ _ asks (viewed_all texts status text are is) = may_answer status text (viewed request texts status text asks are is)
+of_reply words files b a request _ _ asks (missed file comes rose) = may_miss request file asks comes rose
+of_reply words files b a request _ _ asks (stopped_at file limited comes longer) = may_answer _ _ (too_long request file asks limited comes longer)
+of_reply words files b a request _ _ asks (filmed_all name window names status text is longer tells) =
+    may_answer status text (filmed name window names status text (subst (Asks words) is asks) longer tells)
+of_reply words files b a request _ _ asks (changed name any longer none) = may_change request name asks any longer none
+
+-- The file of a run of any length is come to first.
+come_to : (files : Option Files) (request : Request) (name : List ℕ) → IsOfAnyLength request name → ComeTo files (files_of request) (by_psyc name)
+come_to files (Timeline log window names) name is = subst (λ n. ComeTo files (files_of (Timeline log window names)) (by_psyc n)) is (first _ [])
+come_to files (Table log) name is = subst (λ n. ComeTo files (files_of (Table log)) (by_psyc n)) is (first _ [])
+come_to files (Dump log) name is = subst (λ n. ComeTo files (files_of (Dump log)) (by_psyc n)) is (first _ [])
+come_to files other name is = absurd is
 
 -- ---- the clauses
 
@@ -153,16 +175,18 @@ by_says old now before after answer status text says whole cut = elim says [
 
 -- The defined answer, or the miss of a file
 by_may : {P : Type 0} (words : List (List ℕ)) (files : Option Files) (before after status : ℕ) (text : List ℕ) → MayAnswer words files before after status text
-    → (Answers words files status text → P) → (status ≡ 3 → Rose before after → P) → P
-by_may words files before after _ _ (may_answer status text is) defined missed = defined is
-by_may words files before after _ _ (may_miss request file asks comes rose) defined missed = missed refl rose
+    → (Answers words files status text → P) → (status ≡ 3 → Rose before after → P) → (status ≡ 3 → files ≡ None → P) → P
+by_may words files before after _ _ (may_answer status text is) defined misses changes = defined is
+by_may words files before after _ _ (may_miss request file asks comes rose) defined misses changes = misses refl rose
+by_may words files before after _ _ (may_change request name asks any longer none) defined misses changes = changes refl none
 
 pub ends_answered : (words : List (List ℕ)) (files : Option Files) (b a : ℕ) (old now : Option (List ℕ)) (before after answer status : ℕ) (text : List ℕ)
     → MayAnswer words files b a status text → Says old now before after answer status text
     → answer ≢ 3 → answer ≢ 4 → answer ≢ 8 → (written : List ℕ) × Answers words files answer written × Grew old now written
 ends_answered words files b a old now before after answer status text may says three four eight =
     by_says old now before after answer status text says
-    (λ same grew. by_may words files b a status text may (λ is. (text, subst (λ s. Answers words files s text) (sym same) is, grew)) (λ miss rose. absurd (three (same ∙ miss))))
+    (λ same grew. by_may words files b a status text may (λ is. (text, subst (λ s. Answers words files s text) (sym same) is, grew)) (λ miss rose. absurd (three (same ∙ miss)))
+    (λ change none. absurd (three (same ∙ change))))
     (λ cut rose grew. absurd (four cut))
 
 pub ends_done : (words : List (List ℕ)) (files : Option Files) (b a : ℕ) (old now : Option (List ℕ)) (before after answer status : ℕ) (text : List ℕ)
@@ -170,7 +194,8 @@ pub ends_done : (words : List (List ℕ)) (files : Option Files) (b a : ℕ) (ol
     → (Rose b a → ⊥) → (Rose before after → ⊥) → ((written : List ℕ) × Answers words files answer written × Grew old now written) ⊎ ((answer ≡ 8) ⊎ ((answer ≡ 3) × (files ≡ None)))
 ends_done words files b a old now before after answer status text may says read write =
     by_says old now before after answer status text says
-    (λ same grew. by_may words files b a status text may (λ is. inl (text, subst (λ s. Answers words files s text) (sym same) is, grew)) (λ miss rose. absurd (read rose)))
+    (λ same grew. by_may words files b a status text may (λ is. inl (text, subst (λ s. Answers words files s text) (sym same) is, grew)) (λ miss rose. absurd (read rose))
+    (λ change none. inr (inr (same ∙ change, none))))
     (λ cut rose grew. absurd (write rose))
 
 pub ends_listed : (words : List (List ℕ)) (files : Option Files) (b a : ℕ) (old now : Option (List ℕ)) (before after answer status : ℕ) (text : List ℕ)
@@ -181,7 +206,8 @@ ends_listed words files b a old now before after answer status text may says two
       | inl is ↦ is.1
       | inr (inl (inl zero)) ↦ absurd (omega (arith, two, same, zero))
       | inr (inl (inr one)) ↦ absurd (omega (arith, two, same, one))
-      | inr (inr miss) ↦ let three = miss.0 in absurd (omega (arith, two, same, three))
+      | inr (inr (inl miss)) ↦ let three = miss.0 in absurd (omega (arith, two, same, three))
+      | inr (inr (inr change)) ↦ let three = change.0 in absurd (omega (arith, two, same, three))
     ])
     (λ cut rose grew. absurd (omega (arith, two, cut)))
 
@@ -194,14 +220,10 @@ ends_read words files b a old now before after answer status text may says three
       | inl is ↦ let two = is.0 in absurd (omega (arith, three, same, two))
       | inr (inl (inl zero)) ↦ absurd (omega (arith, three, same, zero))
       | inr (inl (inr one)) ↦ absurd (omega (arith, three, same, one))
-      | inr (inr miss) ↦
-          let is = miss.1 in (
-            is.0,
-            is.1,
-            is.2,
-            is.3,
-            unread_first is.4 (subst (Grew old now) is.5 grew),
-          )
+      | inr (inr (inl miss)) ↦ let is = miss.1 in (is.0, is.1, is.2, is.3, unread_first is.4 (subst (Grew old now) is.5 grew))
+      | inr (inr (inr change)) ↦
+          let is = change.1 in
+          (is.0, by_psyc is.1, is.2, come_to files is.0 is.1 is.3, unread_again is.3 is.4 (inr is.5) (subst (Grew old now) is.6 grew))
     ])
     (λ cut rose grew. absurd (omega (arith, three, cut)))
 
@@ -214,7 +236,7 @@ ends_write words files b a old now before after answer status text may says four
 
 pub ends_cut_short : (words : List (List ℕ)) (files : Option Files) (b a : ℕ) (old now : Option (List ℕ)) (before after answer status : ℕ) (text : List ℕ)
     → MayAnswer words files b a status text → Says old now before after answer status text
-    → answer ≡ 4 → (whole : List ℕ) × (((wanted : ℕ) × MayAnswer words files b a wanted whole) ⊎ MayBegin words files whole) × GrewByFront old now whole
+    → answer ≡ 4 → (whole : List ℕ) × (((wanted : ℕ) × MayAnswer words files b a wanted whole) ⊎ IsBegun words files whole) × GrewByFront old now whole
 ends_cut_short words files b a old now before after answer status text may says four =
     (text, inl (status, may), (ends_write words files b a old now before after answer status text may says four).1)
 

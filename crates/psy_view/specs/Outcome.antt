@@ -3,28 +3,39 @@ use Rattle.std.specs.Prelude.{◌≡◌, ◌⊎◌, ℕ, List, [], ◌∷◌, Op
 use Rattle.psy_door.specs.Faults.{Rose}
 use Rattle.psy_door.specs.Files.{Files}
 use Rattle.psy_door.specs.Growth.{Grew, GrewByFront}
+use Rattle.psy_draw.specs.declared.window.Window.{Window}
 use Rattle.psy_export.specs.Ending.{Ends, IsUnreadable, Says}
 use Rattle.psy_export.specs.Exports.{IsExportFront}
 use Rattle.psy_export.specs.declared.forms.Format.{Format}
-use Rattle.psy_view.specs.Answer.{Answers, IsExport}
-use Rattle.psy_view.specs.Asked.{File, Request, Asks, by_psyc, files_of}
-use Rattle.psy_view.specs.Fetching.{AreTexts, ComeTo, IsLong, IsTextOf, IsUnread}
+use Rattle.psy_view.specs.Answer.{Answers, IsExport, IsFilmed, IsLimited, IsOfAnyLength}
+use Rattle.psy_view.specs.Asked.{File, Request, Timeline, Asks, by_psyc, files_of}
+use Rattle.psy_view.specs.Fetching.{AreTexts, ComeTo, IsLong, IsTextOf}
 use Rattle.psy_view.specs.Reading.{request_of_export}
 use Rattle.psy_export.specs.Refusals.{unread_line}
+use Rattle.psy_view.specs.Refusals.{long_line}
 use Rattle.psy_view.specs.Views.{ViewOf}
 
--- The status and the text that reply to a request: those of its view; or the line of the first file that couldn't be read or is too long
+-- The status and the text that reply to a request: those of its view; the line of the first file that couldn't be read or is too long; or of the picture of
+-- a run in a file longer than is read together what is told of the run, or that the file changed since it was read, which happens to no file that is told
 pub data Replies (files : Option Files) (before after : ℕ) (request : Request) : ℕ → List ℕ → Type 0 where
   viewed_all : (texts : List (List ℕ)) (status : ℕ) (text : List ℕ) → AreTexts files (files_of request) texts → ViewOf request texts status text
       → Replies files before after request status text
-  stopped_at : (file : File) (status : ℕ) (text : List ℕ) → ComeTo files (files_of request) file → IsUnread files before after file status text
-      → Replies files before after request status text
+  missed : (file : File) → ComeTo files (files_of request) file → Rose before after → Replies files before after request 3 (unread_line file.name)
+  stopped_at : (file : File) → IsLimited request → ComeTo files (files_of request) file → IsLong files file
+      → Replies files before after request 1 (long_line file.name file.most)
+  filmed_all : (name : List ℕ) (window : Window) (names : List (List ℕ)) (status : ℕ) (text : List ℕ) → request ≡ Timeline name window names
+      → IsLong files (by_psyc name) → IsFilmed files name window names status text → Replies files before after request status text
+  changed : (name : List ℕ) → IsOfAnyLength request name → IsLong files (by_psyc name) → files ≡ None
+      → Replies files before after request 3 (unread_line name)
 
--- A status and a text that may answer the words: the defined ones, or the line of the file that couldn't be read
+-- A status and a text that may answer the words: the defined ones, or the line of the file that couldn't be read, or that changed since it was read, which
+-- happens to no file that is told
 pub data MayAnswer (words : List (List ℕ)) (files : Option Files) (before after : ℕ) : ℕ → List ℕ → Type 0 where
   may_answer : (status : ℕ) (text : List ℕ) → Answers words files status text → MayAnswer words files before after status text
   may_miss : (request : Request) (file : File) → Asks words request → ComeTo files (files_of request) file → Rose before after
       → MayAnswer words files before after 3 (unread_line file.name)
+  may_change : (request : Request) (name : List ℕ) → Asks words request → IsOfAnyLength request name → IsLong files (by_psyc name) → files ≡ None
+      → MayAnswer words files before after 3 (unread_line name)
 
 -- A text of which a front may stand where the run in a file longer than is read together couldn't be written in another form to its end
 abbrev pub IsBegun : List (List ℕ) → Option Files → List ℕ → Type 0
@@ -32,18 +43,11 @@ IsBegun words files text =
     (request : Request) × (name : List ℕ) × (to : Format) × Asks words request × IsExport request name to × IsLong files (by_psyc name)
     × IsExportFront to files name text
 
--- A text of which a front may stand where a write of it failed: such a text; or the line that says that the file changed since it was read, which happens
--- to no file that is told
-pub data MayBegin (words : List (List ℕ)) (files : Option Files) : List ℕ → Type 0 where
-  may_change : (request : Request) (name : List ℕ) (to : Format) → Asks words request → IsExport request name to → files ≡ None
-      → MayBegin words files (unread_line name)
-  may_begin : (text : List ℕ) → IsBegun words files text → MayBegin words files text
-
--- How it ends that the file of a request couldn't be read: the line that says so was written; or the file of a run in another form was read before and
--- couldn't be read again, or not as it was, and then a front of the run may stand instead
+-- How it ends that the file of a request couldn't be read: the line that says so was written; or the file of a run was read before and couldn't be read
+-- again, or not as it was, and then a front of the run in another form may stand instead
 pub data EndsUnread (files : Option Files) (before after : ℕ) (old now : Option (List ℕ)) (request : Request) (file : File) : Type 0 where
   unread_first : Rose before after → Grew old now (unread_line file.name) → EndsUnread files before after old now request file
-  unread_again : (to : Format) → IsExport request file.name to → IsLong files file → IsUnreadable files before after → Grew old now (unread_line file.name)
+  unread_again : IsOfAnyLength request file.name → IsLong files file → IsUnreadable files before after → Grew old now (unread_line file.name)
       → EndsUnread files before after old now request file
   unread_late : (to : Format) (text : List ℕ) → IsExport request file.name to → IsLong files file → IsUnreadable files before after
       → IsExportFront to files file.name text → GrewByFront old now text → EndsUnread files before after old now request file

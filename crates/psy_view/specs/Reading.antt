@@ -22,7 +22,6 @@ names_in selection = map string_bytes selection.names.now
 -- The request for a view of one file of this name
 abbrev pub request_of_one : List ℕ → One → Request
 request_of_one name (one.Where words) = Where name (line_of_words (map string_bytes words.now))
-request_of_one name (one.Timeline selection) = Timeline name selection.window (names_in selection)
 request_of_one name one.Dot = Dot name
 request_of_one name one.Flow = Flow name
 request_of_one name one.List = Listing name
@@ -51,6 +50,7 @@ request_of_export name format.Dump = Dump name
 -- The request that was read from words
 abbrev pub request_of : Read → Request
 request_of (read.One name view) = request_of_one name.now view
+request_of (read.Timeline name selection) = Timeline name.now selection.window (names_in selection)
 request_of (read.Export name to) = request_of_export name.now to
 request_of (read.Two name other view) = request_of_two name.now other.now view
 request_of (read.Fed name program inputs selection) = TimelineWith name.now program.now inputs.now selection.window (names_in selection)

@@ -23,14 +23,15 @@ use Rattle.psy_draw.specs.Folded.{folded_of}
 use Rattle.psy_draw.specs.Graph.{dot_of}
 use Rattle.psy_draw.specs.Dates.{last_date}
 use Rattle.psy_draw.specs.Listing.{first_unasked, first_unlisted}
-use Rattle.psy_draw.specs.Pictures.{IsFileOf}
+use Rattle.psy_draw.specs.Pictures.{IsPicture}
 use Rattle.psy_draw.specs.Places.{window_end}
 use Rattle.psy_draw.specs.declared.window.Window.{Window}
-use Rattle.psy_draw.specs.Silences.{Silent}
+use Rattle.psy_draw.specs.Knowledge.{Knowledge, nothing}
 use Rattle.psy_match.specs.Belonging.{foreign_in_graph, foreign_in_run}
 use Rattle.psy_match.specs.Feeding.{all_input_values, published_by}
 use Rattle.psy_match.specs.Points.{point_lines}
-use Rattle.psy_match.specs.Silences.{silences_in}
+use Rattle.psy_match.specs.Homes.{homes_in}
+use Rattle.psy_match.specs.Knowledge.{knowledge_in}
 use Rattle.psy_script.specs.Faults.{HasManyLines, IsFirst, line_number}
 use Rattle.psy_script.specs.Inputs.{AreListsOf, inputs_judge}
 use Rattle.psy_script.specs.declared.fault.LineKind.{LineKind}
@@ -50,28 +51,19 @@ use Rattle.psy_view.specs.Asked.{Request, Where, Timeline, TimelineOf, TimelineW
 use Rattle.psy_export.specs.Refusals.{unlisted_line}
 use Rattle.psy_view.specs.Refusals.{no_refusal_line, beyond_line, broken_text, unknown_line, empty_line, foreign_line, wrong_line}
 
--- A picture of a window and of these names, of a run's notes, whose names the summary lists, as it does those that were asked for, with these
--- silences and the title of this file: an SVG file of at most 2,000,000 bytes, which is the whole picture, or says that it would be too large
-pub record IsPicture (name : List ℕ) (window : Window) (silences : List Silent) (names : List (List ℕ)) (notes : List Note) (svg : List ℕ) : Type 0 where
-  pub listed : first_unlisted notes ≡ None
-  pub known : first_unasked notes names ≡ None
-  pub dated : window.from ≤ window_end window (last_date notes)
-  pub file : IsFileOf name window silences names notes svg
-  pub small : length svg ≤ 2000000
-
 -- What is told of a run with these notes, of which a window and these names are to be drawn: the picture; or that it has a name that its summary doesn't
 -- list, that the summary doesn't list a name that was asked for, or that the window is empty
-pub data IsShown (name : List ℕ) (window : Window) (silences : List Silent) (names : List (List ℕ)) (notes : List Note) : ℕ → List ℕ → Type 0 where
-  drawn : (svg : List ℕ) → IsPicture name window silences names notes svg → IsShown name window silences names notes 0 svg
-  unlisted : (line : ℕ) → first_unlisted notes ≡ Some line → IsShown name window silences names notes 1 (unlisted_line name line)
+pub data IsShown (name : List ℕ) (window : Window) (knowledge : Knowledge) (names : List (List ℕ)) (notes : List Note) : ℕ → List ℕ → Type 0 where
+  drawn : (svg : List ℕ) → IsPicture name window knowledge names notes svg → IsShown name window knowledge names notes 0 svg
+  unlisted : (line : ℕ) → first_unlisted notes ≡ Some line → IsShown name window knowledge names notes 1 (unlisted_line name line)
   unknown : (place : ℕ) (asked : List ℕ) → first_unlisted notes ≡ None → first_unasked notes names ≡ Some place → slice_get names place ≡ Some asked
-      → IsShown name window silences names notes 1 (unknown_line name asked)
+      → IsShown name window knowledge names notes 1 (unknown_line name asked)
   empty : first_unlisted notes ≡ None → first_unasked notes names ≡ None → window_end window (last_date notes) < window.from
-      → IsShown name window silences names notes 1 (empty_line name window.from window.to)
+      → IsShown name window knowledge names notes 1 (empty_line name window.from window.to)
 
 -- What is told of a text that is to be drawn: what is told of its notes; or that it isn't what `psyc run` writes
 pub data IsDrawn (name : List ℕ) (window : Window) (names : List (List ℕ)) (bytes : List ℕ) : ℕ → List ℕ → Type 0 where
-  of_notes : (notes : List Note) (status : ℕ) (text : List ℕ) → IsText run_begins bytes notes → IsShown name window [] names notes status text
+  of_notes : (notes : List Note) (status : ℕ) (text : List ℕ) → IsText run_begins bytes notes → IsShown name window nothing names notes status text
       → IsDrawn name window names bytes status text
   no_run : (line : ℕ) → BreaksAt run_begins bytes line → IsDrawn name window names bytes 1 (broken_text name line (codes "run") bytes)
 
@@ -107,8 +99,8 @@ pub data IsExpected (name claims log text : List ℕ) : ℕ → List ℕ → Typ
 abbrev pub without_feed : List ℕ → List ℕ
 without_feed line = take (length line - 1) line
 
--- What `where` tells of a line, over a text of these bytes in a file of this name: its explanation, and behind it what each agent may ask for, where the
--- line tells of a demand that can't be supplied; or why there is none
+-- What `where` tells of a line, over a text of these bytes in a file of this name: its explanation, and behind it what each agent of a processor may ask
+-- for, where the line tells of a demand that this one can't supply; or why there is none
 pub data IsWhere (name line bytes : List ℕ) : ℕ → List ℕ → Type 0 where
   explained : (text asked : List ℕ) → Explains name bytes line text → AreAsked bytes line asked → IsWhere name line bytes 0 (text ++ asked)
   no_refusal : IsNone line → IsWhere name line bytes 1 (no_refusal_line name)
@@ -166,7 +158,7 @@ AreFed unit lists notes more = flat_map published_by more ≡ all_input_values u
 -- refused
 pub data IsFed (name inputs : List ℕ) (window : Window) (names : List (List ℕ)) (notes : List Note) (unit : Whole) (fed : List ℕ) : ℕ → List ℕ → Type 0 where
   with_inputs : (lists : List (List ℤ)) (more : List Note) (status : ℕ) (told : List ℕ) → AreListsOf unit fed lists → AreFed unit lists notes more
-      → IsShown name window (silences_in unit notes) names (notes ++ more) status told → IsFed name inputs window names notes unit fed status told
+      → IsShown name window (knowledge_in unit notes) names (notes ++ more) status told → IsFed name inputs window names notes unit fed status told
   no_inputs : (line told : List ℕ) → RefusesInputs unit fed line → IsTold inputs fed line told → IsFed name inputs window names notes unit fed 1 told
 
 -- The view, of texts of these bytes, that a request asks for; of a program that is refused, what `where` tells of the line
@@ -175,7 +167,7 @@ pub data ViewOf : Request → List (List ℕ) → ℕ → List ℕ → Type 0 wh
   pictured : (name : List ℕ) (window : Window) (names : List (List ℕ)) (bytes : List ℕ) (status : ℕ) (text : List ℕ)
       → IsDrawn name window names bytes status text → ViewOf (Timeline name window names) (bytes ∷ []) status text
   pictured_of : (name program : List ℕ) (window : Window) (names : List (List ℕ)) (bytes text : List ℕ) (notes : List Note) (unit : Whole) (status : ℕ)
-      (told : List ℕ) → IsRunPair bytes text notes unit → IsShown name window (silences_in unit notes) names notes status told
+      (told : List ℕ) → IsRunPair bytes text notes unit → IsShown name window (knowledge_in unit notes) names notes status told
       → ViewOf (TimelineOf name program window names) (bytes ∷ text ∷ []) status told
   unpictured_of : (name program : List ℕ) (window : Window) (names : List (List ℕ)) (bytes text told : List ℕ)
       → IsRunUnpaired name program bytes text told → ViewOf (TimelineOf name program window names) (bytes ∷ text ∷ []) 1 told
@@ -188,7 +180,7 @@ pub data ViewOf : Request → List (List ℕ) → ℕ → List ℕ → Type 0 wh
   no_graph : (name bytes : List ℕ) (line : ℕ) → BreaksAt graph_begins bytes line
       → ViewOf (Dot name) (bytes ∷ []) 1 (broken_text name line (codes "graph") bytes)
   dotted_of : (name program bytes text : List ℕ) (notes : List Note) (unit : Whole) (lines : List (List (List ℕ))) → IsGraphPair bytes text notes unit
-      → AreLines text lines → ViewOf (DotOf name program) (bytes ∷ text ∷ []) 0 (folded_of lines notes)
+      → AreLines text lines → ViewOf (DotOf name program) (bytes ∷ text ∷ []) 0 (folded_of (homes_in unit) lines notes)
   undotted_of : (name program bytes text told : List ℕ) → IsGraphUnpaired name program bytes text told
       → ViewOf (DotOf name program) (bytes ∷ text ∷ []) 1 told
   tabled : (name bytes : List ℕ) (notes : List Note) → IsLog bytes notes → ViewOf (Table name) (bytes ∷ []) 0 (csv_of notes)

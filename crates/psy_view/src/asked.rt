@@ -17,6 +17,11 @@ pub enum Asked<'a> {
         name: &'a str,
         view: One<'a>,
     },
+    /// The picture of the run in a file.
+    Timeline {
+        name: &'a str,
+        selection: Selection<'a>,
+    },
     /// The run in a file in another form.
     Export {
         name: &'a str,
@@ -49,8 +54,6 @@ pub struct Selection<'a> {
 pub enum One<'a> {
     /// To explain the refusal that these words are, of the text in this file.
     Where { words: &'a [String] },
-    /// To draw the run in this file.
-    Timeline { selection: Selection<'a> },
     /// To draw the graphs in this file.
     Dot,
     /// To draw who feeds whom in the program in this file.
@@ -81,7 +84,7 @@ impl One<'_> {
     {
         match *self {
             One::Where { .. } | One::Flow | One::List | One::Report { .. } => FILE_BYTES,
-            One::Timeline { .. } | One::Dot => TEXT_BYTES,
+            One::Dot => TEXT_BYTES,
         }
     }
 }

@@ -6,7 +6,8 @@ ghost use Rattle.psy_meaning.specs.Units.{IsOfText};
 ghost use Rattle.psy_script.specs.Faults.{line_number};
 ghost use Rattle.psy_view.specs.Asked.{DotOf, TimelineOf, TimelineWith};
 ghost use Rattle.psy_view.specs.Reading.{names_in};
-ghost use Rattle.psy_view.specs.Views.{IsFed, IsTold, ViewOf};
+ghost use Rattle.psy_match.specs.Knowledge.{knowledge_in};
+ghost use Rattle.psy_view.specs.Views.{IsFed, IsShown, IsTold, ViewOf};
 
 use crate::asked::Selection;
 use crate::pair::{Matched, Pair, graph_of, run_of};
@@ -14,10 +15,11 @@ use crate::picture::shown;
 use crate::told::told_of_refused;
 use crate::view::View;
 use psy_base::{Memory, limits};
-use psy_draw::{dot_by_point, last_date};
+use psy_draw::{Known, dot_by_point, last_date};
 use psy_log::{Line, Note};
-use psy_match::{input_notes, point_lines, silences};
+use psy_match::{homes, input_notes, point_lines, silences};
 use psy_script::{LineKind, TextFault, read_inputs};
+use psy_tree::Unit;
 use std::alloc::{AllocError, Global};
 
 /// The graphs in a text, by the points of the program in another. The only error is want of memory.
@@ -36,10 +38,16 @@ pub fn dotted_of(
     match matched {
         Matched::Told(told) => Ok(told),
         Matched::Of(pair) => {
+            let homes = homes(alloc, &pair.program.unit)?;
             let lines = point_lines(alloc, text, pair.program.tokens.as_slice())?;
             Ok(View {
                 status: 0,
-                text: dot_by_point(alloc, pair.notes.as_slice(), lines.as_slice())?,
+                text: dot_by_point(
+                    alloc,
+                    pair.notes.as_slice(),
+                    homes.as_slice(),
+                    lines.as_slice(),
+                )?,
             })
         }
     }
@@ -62,12 +70,38 @@ pub fn drawn_of(
     let matched = run_of(alloc, name, program, bytes, text)?;
     match matched {
         Matched::Told(told) => Ok(told),
-        Matched::Of(pair) => {
-            let notes = pair.notes.as_slice();
-            let silences = silences(alloc, notes, &pair.program.unit)?;
-            shown(alloc, name, selection, notes, silences.as_slice())
-        }
+        Matched::Of(pair) => drawn_alone(alloc, name, selection, &pair),
     }
+}
+
+// The same of a run and its program.
+fn drawn_alone(alloc: Global, name: &str, selection: Selection, pair: &Pair) -> Result<View, Memory>
+    ensures { IfOk result (λ v. IsShown name.now selection.entry.window (knowledge_in pair.now.program.unit pair.now.notes.items)
+        (names_in selection.entry) pair.now.notes.items v.status v.text.items) }
+{
+    let notes = pair.notes.as_slice();
+    shown_by(alloc, name, selection, notes, notes, &pair.program.unit)
+}
+
+// The picture of notes, by the program of the run with those notes.
+fn shown_by<'a>(
+    alloc: Global,
+    name: &str,
+    selection: Selection,
+    notes: &[Note<'a>],
+    run: &[Note<'a>],
+    unit: &Unit,
+) -> Result<View, Memory>
+    ensures { IfOk result (λ v. IsShown name.now selection.entry.window (knowledge_in unit.now run.now) (names_in selection.entry) notes.now
+        v.status v.text.items) }
+{
+    let silences = silences(alloc, run, unit)?;
+    let homes = homes(alloc, unit)?;
+    let known = Known {
+        silences: silences.as_slice(),
+        homes: homes.as_slice(),
+    };
+    shown(alloc, name, selection, notes, known)
 }
 
 /// The names of a log, of its program and of its inputs.
@@ -126,14 +160,7 @@ fn drawn_by(
     };
     let more = input_notes(alloc, unit, &inputs, last_date(notes))?;
     let all = joined(alloc, notes, more.as_slice())?;
-    let silences = silences(alloc, notes, unit)?;
-    shown(
-        alloc,
-        names.log,
-        selection,
-        all.as_slice(),
-        silences.as_slice(),
-    )
+    shown_by(alloc, names.log, selection, all.as_slice(), notes, unit)
 }
 
 // Notes behind others.

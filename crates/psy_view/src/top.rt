@@ -5,15 +5,16 @@ ghost use Rattle.psy_door.specs.Growth.{Grew, GrewByFront};
 ghost use Rattle.psy_log.specs.Forms.{words_line};
 ghost use Rattle.psy_export.specs.Ending.{Says};
 ghost use Rattle.psy_words.specs.Faults.{words_told};
-ghost use Rattle.psy_view.specs.Answer.{Answers, IsLimited, IsToldBehind};
+ghost use Rattle.psy_view.specs.Answer.{Answers, IsToldBehind, IsUnexported};
 ghost use Rattle.psy_view.specs.Asked.{AskNothing, Asks, File, Request, TimelineWith, files_of};
 ghost use Rattle.psy_view.specs.Fetching.{ComeTo};
-ghost use Rattle.psy_view.specs.Outcome.{EndsUnread, IsBegun, MayAnswer, MayBegin, Replies};
+ghost use Rattle.psy_view.specs.Outcome.{EndsUnread, IsBegun, MayAnswer, Replies};
 ghost use Rattle.psy_view.specs.Reading.{names_in, request_of, request_of_export, request_of_one, request_of_two};
 
 use crate::asked::{Asked, One, Selection, TEXT_BYTES, Two};
 use crate::export::exported;
 use crate::fetching::{Fetched, fetch};
+use crate::filming::pictured;
 use crate::programs::{Names, drawn_with};
 use crate::view::{View, view_of, view_of_both};
 use crate::words::{read_text, read_words};
@@ -133,13 +134,14 @@ fn view_of_fed<F: Shelf>(
 }
 
 // What replies to a request.
-fn reply<F: Shelf>(alloc: Global, asked: &Asked, shelf: &mut F) -> Result<View, Memory>
-    requires { IsLimited (request_of asked.now) }
+fn reply<F: Reel>(alloc: Global, asked: &Asked, shelf: &mut F) -> Result<View, Memory>
+    requires { IsUnexported (request_of asked.now) }
     ensures replies { IfOk result (λ v. Replies (F.files shelf.old) (F.faults shelf.old) (F.faults shelf.new) (request_of asked.now) v.status v.text.items) }
     ensures shelf { (F.faults shelf.old ≤ F.faults shelf.new) × (F.files shelf.new ≡ F.files shelf.old) }
 {
     match asked {
         Asked::One { name, view } => view_of_one(alloc, name, view, shelf),
+        Asked::Timeline { name, selection } => pictured(alloc, name, *selection, shelf),
         Asked::Export { .. } => unreachable!(),
         Asked::Two { name, other, view } => view_of_two(alloc, name, other, view, shelf),
         Asked::Fed {
@@ -169,11 +171,11 @@ struct Run<'a> {
 
 // The run in another form that is asked for; None exactly where none is.
 fn wanted<'a>(asked: &Asked<'a>) -> Option<Run<'a>>
-    ensures { MatchOption result (IsLimited (request_of asked.now)) (λ run. request_of asked.now ≡ request_of_export run.name.now run.format) }
+    ensures { MatchOption result (IsUnexported (request_of asked.now)) (λ run. request_of asked.now ≡ request_of_export run.name.now run.format) }
 {
     match *asked {
         Asked::Export { name, format } => Some(Run { name, format }),
-        Asked::One { .. } | Asked::Two { .. } | Asked::Fed { .. } => None,
+        Asked::One { .. } | Asked::Timeline { .. } | Asked::Two { .. } | Asked::Fed { .. } => None,
     }
 }
 
@@ -199,7 +201,7 @@ pub fn psyview<F: Reel, S: Sink>(alloc: Global, words: &[String], shelf: &mut F,
     ensures write { result ≡ 4 → Rose (S.faults out.old) (S.faults out.new) }
     ensures cut_short { result ≡ 4 → (text : List ℕ)
         × (((status : ℕ) × MayAnswer (map string_bytes words.now) (F.files shelf.old) (F.faults shelf.old) (F.faults shelf.new) status text)
-        ⊎ MayBegin (map string_bytes words.now) (F.files shelf.old) text)
+        ⊎ IsBegun (map string_bytes words.now) (F.files shelf.old) text)
         × GrewByFront (S.held out.old) (S.held out.new) text }
     ensures memory { result ≡ 8 → Grew (S.held out.old) (S.held out.new) []
         ⊎ ((text : List ℕ) × IsBegun (map string_bytes words.now) (F.files shelf.old) text × GrewByFront (S.held out.old) (S.held out.new) text) }

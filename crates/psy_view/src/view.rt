@@ -8,7 +8,6 @@ ghost use Rattle.psy_view.specs.Views.{ViewOf};
 
 use crate::asked::{One, Two};
 use crate::log::{compared, expected};
-use crate::picture::drawn;
 use crate::plan::{fed, listed, reported};
 use crate::programs::{dotted_of, drawn_of};
 use crate::refusals::broken_text;
@@ -26,14 +25,12 @@ pub struct View {
 }
 
 /// The view of a file's text. The only error is want of memory.
-#[tactic(auto, using(crate::specs::Views::pictured))]
 pub fn view_of(alloc: Global, name: &str, view: &One, bytes: &[u8]) -> Result<View, Memory>
     requires { length bytes.now ≤ most_of_one view.now }
     ensures { IfOk result (λ v. ViewOf (request_of_one name.now view.now) (bytes.now ∷ []) v.status v.text.items) }
 {
     match *view {
         One::Where { words } => explained(alloc, name, words, bytes),
-        One::Timeline { selection } => drawn(alloc, name, selection, bytes),
         One::Dot => dotted(alloc, name, bytes),
         One::Flow => fed(alloc, name, bytes),
         One::List => listed(alloc, name, bytes),

@@ -53,13 +53,11 @@ fn of_two<'a>(command: &str, name: &'a str) -> Option<Asked<'a>>
     ensures { MatchOption result (AskNoView (command.now ∷ name.now ∷ [])) (λ asked. Asks (command.now ∷ name.now ∷ []) (request_of asked)) }
 {
     match command {
-        "timeline" => Some(Asked::One {
+        "timeline" => Some(Asked::Timeline {
             name,
-            view: One::Timeline {
-                selection: Selection {
-                    window: Window::WHOLE,
-                    names: &[],
-                },
+            selection: Selection {
+                window: Window::WHOLE,
+                names: &[],
             },
         }),
         "dot" => Some(Asked::One {
@@ -154,10 +152,7 @@ fn of_log<'a>(name: &'a str, words: &'a [String]) -> Option<Asked<'a>>
         (λ asked. Asks (codes "timeline" ∷ name.now ∷ map string_bytes words.now) (request_of asked)) }
 {
     let selection = selected(words)?;
-    Some(Asked::One {
-        name,
-        view: One::Timeline { selection },
-    })
+    Some(Asked::Timeline { name, selection })
 }
 
 // `timeline LOG PROG`, a file of inputs, and dates or names

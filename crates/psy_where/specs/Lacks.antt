@@ -10,26 +10,22 @@ use Rattle.psy_where.specs.declared.lack.Lack.{Lack}
 use Rattle.psy_where.specs.Notes.{IsNoteOf}
 
 -- The three numbers that are said, of that processor
-abbrev pub lack_on : List Said → Option ℕ → Lack
+abbrev pub lack_on : List Said → ℕ → Lack
 lack_on said processor = record { length = long_at said 0; demand = long_at said 1; supply = long_at said 2; processor = processor }
 
--- What is said in a line of this form, where it tells of such a demand
+-- What is said in a line of this form, where it tells of such a demand: of processor 0, where none is named
 abbrev pub lack_in : Form → List Said → Option Lack
-lack_in form.Infeasible said = Some (lack_on said None)
-lack_in form.InfeasibleOn said = Some (lack_on said (Some (short_at said 3)))
+lack_in form.Infeasible said = Some (lack_on said 0)
+lack_in form.InfeasibleOn said = Some (lack_on said (short_at said 3))
 lack_in _ said = None
 
 -- The line says this.
 abbrev pub IsLack : List ℕ → Lack → Type 0
 IsLack line lack = (note : Note) × IsNoteOf line note × (lack_in (says note).0 (says note).1 ≡ Some lack)
 
--- Who supplies: the processor, or the one that is named
-abbrev pub supplier : Option ℕ → List ℕ
-supplier None = codes "the processor"
-supplier (Some number) = codes "processor " ++ decimal number
-
 -- What it means
 abbrev pub lack_sentence : Lack → List ℕ
 lack_sentence lack =
-    codes "over " ++ decimal lack.length ++ codes " ticks, the least such length, the agents may ask for " ++ decimal lack.demand ++ codes " cycles, and "
-    ++ supplier lack.processor ++ codes " has " ++ decimal lack.supply ++ codes ": lower a budget, slow a clock down, or give the tick more cycles"
+    codes "over " ++ decimal lack.length ++ codes " ticks, the least such length, the agents of processor " ++ decimal lack.processor ++ codes " may ask for "
+    ++ decimal lack.demand ++ codes " cycles, and it has " ++ decimal lack.supply
+    ++ codes ": lower a budget, slow a clock down, or give the tick more cycles"

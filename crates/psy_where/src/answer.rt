@@ -4,7 +4,7 @@ ghost use Rattle.psy_base.specs.declared.limits.TheConstants.{FILE_BYTES};
 ghost use Rattle.psy_where.specs.declared.fault.WhereFault.{WhereFault};
 ghost use Rattle.psy_where.specs.declared.recall.What.{What};
 ghost use Rattle.psy_where.specs.Explained.{Explains, IsNone, IsBeyond, IsPlaced, explanation, sentence_line};
-ghost use Rattle.psy_where.specs.Lacks.{lack_sentence, supplier};
+ghost use Rattle.psy_where.specs.Lacks.{lack_sentence};
 ghost use Rattle.psy_where.specs.Plains.{plain_sentence};
 ghost use Rattle.psy_where.specs.Refusals.{IsPlaceOf};
 ghost use Rattle.psy_where.specs.Writings.{written_sentence};
@@ -80,11 +80,11 @@ fn lack_line(alloc: Global, name: &[u8], lack: Lack) -> Result<Vec<u8>, AllocErr
 {
     let mut sentence = Vec::from_slice(alloc, b"over ")?;
     add_number(&mut sentence, lack.length)?;
-    sentence.extend_from_slice(b" ticks, the least such length, the agents may ask for ")?;
+    sentence.extend_from_slice(b" ticks, the least such length, the agents of processor ")?;
+    add_number(&mut sentence, u64::from(lack.processor))?;
+    sentence.extend_from_slice(b" may ask for ")?;
     add_number(&mut sentence, lack.demand)?;
-    sentence.extend_from_slice(b" cycles, and ")?;
-    add_supplier(&mut sentence, lack.processor)?;
-    sentence.extend_from_slice(b" has ")?;
+    sentence.extend_from_slice(b" cycles, and it has ")?;
     add_number(&mut sentence, lack.supply)?;
     sentence.extend_from_slice(
         b": lower a budget, slow a clock down, or give the tick more cycles",
@@ -99,18 +99,6 @@ fn written_line(alloc: Global, name: &[u8], written: Written) -> Result<Vec<u8>,
     let mut sentence = Vec::from_slice(alloc, b"this line refuses nothing: ")?;
     sentence.extend_from_slice(written_words(written))?;
     sentence_line(alloc, name, sentence.as_slice())
-}
-
-fn add_supplier(out: &mut Vec<u8>, processor: Option<u32>) -> Result<(), AllocError>
-    ensures { OnOk result (out.new.items ≡ out.old.items ++ supplier processor) }
-{
-    match processor {
-        None => out.extend_from_slice(b"the processor"),
-        Some(number) => {
-            out.extend_from_slice(b"processor ")?;
-            add_number(out, u64::from(number))
-        }
-    }
 }
 
 // What is written for a refusal that tells a place in the text.

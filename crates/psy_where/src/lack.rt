@@ -5,13 +5,13 @@ ghost use Rattle.psy_where.specs.Lacks.{lack_in};
 
 use psy_log::Note;
 
-/// A demand that can't be supplied: over so many ticks so many cycles may be asked for, and so many are there; of one processor, where several are named.
+/// A demand that can't be supplied: over so many ticks so many cycles may be asked for by the agents of a processor, and so many are there.
 #[derive(Clone, Copy, Debug, PartialEq, Eq)]
 pub struct Lack {
     pub length: u64,
     pub demand: u64,
     pub supply: u64,
-    pub processor: Option<u32>,
+    pub processor: u32,
 }
 
 /// The one that a note tells.
@@ -28,7 +28,7 @@ pub fn lack_of(note: Note<'_>) -> Option<Lack>
             length,
             demand,
             supply,
-            processor,
+            processor: processor.unwrap_or(0),
         }),
         _ => None,
     }

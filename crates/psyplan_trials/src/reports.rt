@@ -55,6 +55,51 @@ ring y 1
     compare_report(&rt, rt.alloc(), EQUAL, 5, want)
 }
 
+// On processor 0 an agent asks for 12 by 2 ticks: over 2, 4, .. ticks 8, 16, .. of 20, 40, .. are left, over 1, 3, .. 10, 18, .. On processor 1 another
+// asks for 120 by 10: over 20 ticks for 240 of 200.
+const APART: &[u8] = b"tick 10; clock f = 2 * tick; clock s = 10 * tick;
+temporal v of Fast on f = 0 depth 1; temporal w of Slow on s = 0 depth 1;
+agent Fast on f budget 12 { int n = 0; body { n = n + 1; v = n; advance 1 on f; } }
+agent Slow on s processor 1 budget 120 { body { w = past(v, 0); advance 1 on s; } }";
+
+#[test]
+fn each_processor_is_reported(rt: HostRuntime) -> Result<(), Fail> {
+    let want = "agent Fast budget 12 worst 8 of 12 share 60.00%
+agent Slow budget 120 worst 4 of 120 share 120.00% on 1
+tightest 2 supply 20 demand 12 left 8
+part Fast 12
+tightest 20 supply 200 demand 240 left -40 on 1
+part Slow 240
+ring v 5
+ring w 1
+";
+    compare_report(&rt, rt.alloc(), APART, 20, want)
+}
+
+// By each tick, of 20, the agents of processor 0 ask for 10 + 5, and those of processor 2 for 10 + 15; processor 1 has none.
+const GAP: &[u8] = b"tick 20; clock c = 1 * tick;
+agent A on c budget 10 { body { advance 1 on c; } }
+agent B on c processor 2 budget 10 { body { advance 1 on c; } }
+agent C on c processor 0 budget 5 { body { advance 1 on c; } }
+agent D on c processor 2 budget 15 { body { advance 1 on c; } }";
+
+#[test]
+fn a_processor_without_agents_is_reported(rt: HostRuntime) -> Result<(), Fail> {
+    let want = "agent A budget 10 worst 2 of 10 share 50.00%
+agent B budget 10 worst 2 of 10 share 50.00% on 2
+agent C budget 5 worst 2 of 5 share 25.00%
+agent D budget 15 worst 2 of 15 share 75.00% on 2
+tightest 1 supply 20 demand 15 left 5
+part A 10
+part C 5
+tightest 1 supply 20 demand 0 left 20 on 1
+tightest 4 supply 80 demand 100 left -20 on 2
+part B 40
+part D 60
+";
+    compare_report(&rt, rt.alloc(), GAP, 4, want)
+}
+
 #[test]
 fn a_queue_is_reported(rt: HostRuntime) -> Result<(), Fail> {
     let want = "agent A budget 20 worst 8 of 20 share 40.00%

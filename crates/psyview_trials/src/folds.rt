@@ -77,7 +77,7 @@ fn the_nodes_of_a_point_are_one_box(rt: HostRuntime) -> Result<(), Fail> {
 ";
     let mut points = Items::new(rt.alloc());
     points.push(lines(rt.alloc(), &["3: agent A", "7: \"a\" \\ & b"])?)?;
-    let text = dot_by_point(rt.alloc(), &TWO, points.as_slice())?;
+    let text = dot_by_point(rt.alloc(), &TWO, &[], points.as_slice())?;
     assert_eq!(rt; text.as_slice(), want.as_bytes());
     Ok(())
 }
@@ -115,7 +115,7 @@ fn eight_dates_are_told(rt: HostRuntime) -> Result<(), Fail> {
         }
         let mut points = Items::new(rt.alloc());
         points.push(lines(rt.alloc(), &["1: agent B"])?)?;
-        let text = dot_by_point(rt.alloc(), notes.as_slice(), points.as_slice())?;
+        let text = dot_by_point(rt.alloc(), notes.as_slice(), &[], points.as_slice())?;
         let text = std::str::from_utf8(text.as_slice()).unwrap_or("");
         assert!(rt; text.contains(want), "{want}");
     }

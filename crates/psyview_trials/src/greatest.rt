@@ -1,6 +1,6 @@
 //! The greatest run that a picture is drawn of.
 use psy_base::limits;
-use psy_draw::{Window, timeline};
+use psy_draw::{Known, Window, timeline};
 use psy_log::Note;
 use std::alloc::{AllocError, Global};
 use std::process::Abort;
@@ -9,7 +9,14 @@ use std::test::Fail;
 
 // Draws these notes, and looks for these pieces in the picture.
 fn look<R: AllocGlobal + Abort>(rt: &R, notes: &[Note], pieces: &[&str]) -> Result<(), Fail> {
-    let svg = timeline(rt.alloc(), "greatest", notes, Window::WHOLE, &[], &[])?;
+    let svg = timeline(
+        rt.alloc(),
+        "greatest",
+        notes,
+        Window::WHOLE,
+        &[],
+        Known::NOTHING,
+    )?;
     let text = str::from_utf8(svg.as_slice()).unwrap_or("");
     for piece in pieces {
         assert!(rt; text.contains(*piece), "{piece}");

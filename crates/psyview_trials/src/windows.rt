@@ -1,5 +1,5 @@
 //! Parts of a run.
-use psy_draw::{DrawFault, Window, timeline};
+use psy_draw::{DrawFault, Known, Window, timeline};
 use psy_log::Note;
 use std::alloc::{AllocError, Global};
 use std::str;
@@ -70,7 +70,7 @@ fn names(alloc: Global, texts: &[&str]) -> Result<Vec<String>, AllocError> {
 #[test]
 fn a_window_begins_with_the_value_that_holds(rt: HostRuntime) -> Result<(), Fail> {
     let window = Window { from: 4, to: 14 };
-    let svg = timeline(rt.alloc(), "run.log", &RUN, window, &[], &[])?;
+    let svg = timeline(rt.alloc(), "run.log", &RUN, window, &[], Known::NOTHING)?;
     let text = str::from_utf8(svg.as_slice()).unwrap_or("");
     // 96 pixels a date: 12 stands at 768, the stop of date 6 at 192, and no message is in the window.
     let pieces = [
@@ -96,7 +96,7 @@ fn lanes_are_those_that_were_asked_for(rt: HostRuntime) -> Result<(), Fail> {
         &RUN,
         Window::WHOLE,
         asked.as_slice(),
-        &[],
+        Known::NOTHING,
     )?;
     let text = str::from_utf8(svg.as_slice()).unwrap_or("");
     assert!(rt; text.contains("<g class=\"stream\""));
@@ -116,11 +116,11 @@ fn what_is_not_there_is_refused(rt: HostRuntime) -> Result<(), Fail> {
         &RUN,
         Window::WHOLE,
         asked.as_slice(),
-        &[],
+        Known::NOTHING,
     );
     assert!(rt; matches!(unknown, Err(DrawFault::Unknown { place: 1 })));
     for window in [late, turned] {
-        let empty = timeline(rt.alloc(), "run.log", &RUN, window, &[], &[]);
+        let empty = timeline(rt.alloc(), "run.log", &RUN, window, &[], Known::NOTHING);
         assert!(rt; matches!(empty, Err(DrawFault::Empty)));
     }
     Ok(())

@@ -1,93 +1,37 @@
 //! The kernel before its first date.
-ghost use Rattle.std.specs.Prelude.{◌≡◌, ◌^◌, ◌<◌, ◌≤◌, ℕ, List, [], map, length, IfOk};
+ghost use Rattle.std.specs.Prelude.{◌≡◌, ◌<◌, IfOk};
 ghost use Rattle.std.specs.List.{AllPairs, range_with_len};
-ghost use Rattle.psy_base.specs.declared.limits.TheConstants.{AGENTS};
-ghost use Rattle.psy_budget.specs.declared.charge.Stall.{Stall as stall};
-ghost use Rattle.psy_dates.specs.Plans.{IsPlan, system_of};
-ghost use Rattle.psy_dates.specs.Standing.{SharedStands};
+ghost use Rattle.psy_dates.specs.Plans.{IsPlan};
 ghost use Rattle.psy_history.specs.Compiled.{AreInputs};
-ghost use Rattle.psy_kernel.specs.Progress.{booted, stage_of};
-ghost use Rattle.psy_history.specs.Scripts.{IsScript, StallBefore, stalls_of};
-ghost use Rattle.psy_kernel.specs.Standing.{AreInForce};
-ghost use Rattle.psy_kernel.specs.Starting.{AreNew, first_charge};
+ghost use Rattle.psy_history.specs.Scripts.{IsScript};
+ghost use Rattle.psy_kernel.specs.Kernels.{AreTurned};
+ghost use Rattle.psy_kernel.specs.Progress.{booted};
 
-use super::{Figure, Kernel};
-use crate::stage::Stage;
-use psy_base::{Items, Memory};
-use psy_budget::{Charge, Stall};
-use psy_code::Code;
-use psy_dates::{Plan, Shared};
-use psy_history::laws::{fitting, reaches};
-use psy_history::{Inputs, Order, Script};
-use psy_machine::Machine;
-use psy_ready::Ready;
+use super::Kernel;
+use crate::engine::Engine;
+use psy_base::Memory;
+use psy_dates::Plan;
+use psy_history::{Inputs, Round, Script, processors_of};
 use std::alloc::Global;
 
-/// By agent, its machine, which hasn't started.
-fn machines_of(alloc: Global, code: &Code) -> Result<Vec<Machine>, Memory>
-    requires { length code.now.agents ≤ AGENTS }
-    ensures count { IfOk result (λ machines. length machines.items ≡ length code.now.agents) }
-    ensures new { IfOk result (λ machines. AreNew code.now machines.items) }
-{
-    let mut machines = Vec::new(alloc);
-    'agents: for agent in 0..code.agents.len() {
-        machines.push(Machine::new(alloc, code, agent as u32)?)?;
-    }
-    Ok(machines)
-}
-
-/// The stalls of an agent.
-fn stalls_of(alloc: Global, script: &Script, agent: u32) -> Result<Items<Stall>, Memory>
-    ensures { IfOk result (λ stalls. stalls ≡ stalls_of script.now agent) }
-{
-    let all = script.stalls.as_slice();
-    let mut stalls = Items::new(alloc);
-    for stall in all {
-        if stall.agent == agent {
-            stalls.push(*stall)?;
-        }
-    }
-    Ok(stalls)
-}
-
-/// The charge of an agent none of whose actions has started.
-fn charge_of(alloc: Global, script: &Script, agent: u32) -> Result<Charge, Memory>
-    requires { AllPairs StallBefore script.now.stalls }
-    ensures { IfOk result (λ charge. charge ≡ first_charge script.now agent) }
-{
-    Ok(Charge::new(stalls_of(alloc, script, agent)?))
-}
-
-/// By agent, its charge, none of whose actions has started.
-fn charges_of(alloc: Global, script: &Script, agents: u32) -> Result<Vec<Charge>, Memory>
-    requires { AllPairs StallBefore script.now.stalls }
-    ensures { IfOk result (λ charges. charges.items ≡ map (first_charge script.now) (range_with_len 0 agents)) }
-{
-    let mut charges = Vec::new(alloc);
-    for agent in 0..agents {
-        charges.push(charge_of(alloc, script, agent)?)?;
-    }
-    Ok(charges)
-}
-
-/// So many agents, in the order of declaration.
-fn declared_of(alloc: Global, agents: u32) -> Result<Vec<u32>, Memory>
-    ensures { IfOk result (λ declared. declared.items ≡ range_with_len 0 agents) }
+/// So many processors, from the first to the last.
+fn declared_of(alloc: Global, processors: u32) -> Result<Vec<u32>, Memory>
+    ensures { IfOk result (λ declared. declared.items ≡ range_with_len 0 processors) }
 {
     let mut declared = Vec::new(alloc);
-    for agent in 0..agents {
-        declared.push(agent)?;
+    for processor in 0..processors {
+        declared.push(processor)?;
     }
     Ok(declared)
 }
 
-/// How many orders are in force from cycle 0 on.
-fn passed_first(orders: &[Order]) -> usize
-    requires { AllPairs (λ o p. o.cycle < p.cycle) orders.now }
-    ensures { AreInForce orders.now result 0 }
+/// How many rounds are in force from cycle 0 on.
+fn turned_first(rounds: &[Round]) -> usize
+    requires { AllPairs (λ r q. r.cycle < q.cycle) rounds.now }
+    ensures { AreTurned rounds.now result 0 }
 {
-    match orders.first() {
-        Some(order) => usize::from(order.cycle == 0),
+    match rounds.first() {
+        Some(round) => usize::from(round.cycle == 0),
         None => 0,
     }
 }
@@ -100,66 +44,15 @@ impl Kernel {
         requires script { IsScript plan.unit script }
         ensures { IfOk result (λ kernel. kernel ≡ booted plan inputs.lists script) }
     {
-        fitting();
-        reaches();
-        let agents = plan.unit.agents.len() as u32;
-        let machines = machines_of(alloc, &plan.code)?;
-        let charges = charges_of(alloc, &script, agents)?;
-        let figures = vec![in alloc; Figure {
-            count: 0,
-            slack: None
-        }; agents as usize]?;
-        let ready = Ready::new(alloc, agents)?;
-        let reached = vec![in alloc; None; plan.unit.variables.len()]?;
-        let helds = vec![in alloc; 0; plan.unit.streams.len()]?;
-        let declared = declared_of(alloc, agents)?;
-        let passed = passed_first(script.orders.as_slice());
-        let shared = Shared::new(alloc, &plan, inputs)?;
+        let declared = declared_of(alloc, processors_of(&plan.unit))?;
+        let turned = turned_first(script.rounds.as_slice());
+        let engine = Engine::boot(alloc, plan, inputs, script)?;
         Ok(Kernel {
-            plan,
-            script,
-            opening: None,
-            shared,
-            machines,
-            charges,
-            figures,
-            ready,
-            reaches: reached,
-            helds,
-            declared,
-            passed,
-            chosen: None,
-            stale: true,
+            engine,
             cycles: 0,
-            place: 0,
-            shown: 0,
-            given: 0,
+            units: 0,
+            declared,
+            turned,
         })
-    }
-
-    /// How many dates were done.
-    pub(super) fn dates(&self) -> u64
-        ensures dates { result ≡ self.now.dates }
-        ensures few { result ≤ 2 ^ 32 }
-    {
-        let _until = self.plan.until;
-        match self.shared.date {
-            Some(date) => date + 1,
-            None => 0,
-        }
-    }
-
-    /// What is due next.
-    pub fn stage(&self) -> Stage
-        ensures { result ≡ stage_of self.now }
-    {
-        let dates = self.dates();
-        if dates == u64::from(self.plan.until) + 1 {
-            return Stage::Over;
-        }
-        if self.cycles == dates * u64::from(self.plan.unit.quantum) {
-            return Stage::DateDue(dates);
-        }
-        Stage::CycleDue(self.cycles)
     }
 }

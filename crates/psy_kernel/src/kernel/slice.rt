@@ -1,41 +1,16 @@
-//! A slice: the cycles up to the first change.
-ghost use Rattle.std.specs.Prelude.{◌≡◌, ◌≢◌, ℕ, ◌+◌, ◌*◌, ◌<◌, ◌≤◌, Some, length, slice_get};
-ghost use Rattle.psy_dates.specs.Standing.{dates_done};
-ghost use Rattle.psy_history.specs.declared.told.Order.{Order};
+//! A slice: the cycles up to the first change on any processor.
+ghost use Rattle.std.specs.Prelude.{◌≡◌, ◌≢◌, ℕ, ◌*◌, ◌<◌, ◌≤◌};
 ghost use Rattle.psy_kernel.specs.Progress.{stage_of};
 ghost use Rattle.psy_kernel.specs.Slices.{IsSliceEnd};
 
 use super::Kernel;
+use super::round::turned_by;
 use crate::stage::Stage;
-use psy_history::Order;
-
-/// The first cycle of the date that comes next in a run up to a date.
-fn first_cycle(date: Option<u64>, quantum: u32, until: u32) -> u64
-    requires { dates_done date ≤ until }
-    ensures most { until ≤ 4294967295 }
-    ensures first { result ≡ dates_done date * quantum }
-{
-    match date {
-        Some(date) => (date + 1) * u64::from(quantum),
-        None => 0,
-    }
-}
-
-/// The cycle of the next order where it comes before another cycle, and else that one.
-fn order_or(orders: &[Order], passed: usize, date: u64) -> u64
-    ensures no_later { result ≤ date }
-    ensures ahead { (o : Order) → slice_get orders.now passed ≡ Some o → result ≤ o.cycle }
-    ensures at { result < date → (o : Order) × (slice_get orders.now passed ≡ Some o) × (o.cycle ≡ result) }
-{
-    if passed < orders.len() && orders[passed].cycle < date {
-        return orders[passed].cycle;
-    }
-    date
-}
+use psy_history::laws::one_of_them;
 
 impl Kernel {
-    /// Does the cycles that are due up to the first change: the next date is due, an action is finished or stopped, or another order comes
-    /// into force. It takes no memory.
+    /// Does the cycles that are due up to the first change on any processor: the next date is due, an action is finished or stopped, or another
+    /// order comes into force. Each processor goes up to its own first change, and is ahead until the others come there. It takes no memory.
     pub fn slice(&mut self)
         requires { stage_of self.old ≡ Stage.CycleDue self.old.cycles }
         ensures state { self.new ≡ record self.old { cycles = self.new.cycles } }
@@ -46,8 +21,14 @@ impl Kernel {
         ensures filled { (t : ℕ) → self.new.cycles ≡ t * self.old.plan.unit.quantum → stage_of self.new ≡ Stage.DateDue t }
         ensures inside { ((t : ℕ) → self.new.cycles ≢ t * self.old.plan.unit.quantum) → stage_of self.new ≡ Stage.CycleDue self.new.cycles }
     {
-        let date = first_cycle(self.shared.date, self.plan.unit.quantum, self.plan.until);
-        let end = order_or(self.script.orders.as_slice(), self.passed, date);
-        self.give(end - self.cycles);
+        one_of_them();
+        let cycles = self.cycles;
+        'processors: for processor in 0..self.engine.processors() {
+            if self.engine.done_on(processor) == cycles {
+                self.engine.go_ahead(processor);
+            }
+        }
+        self.cycles = self.engine.least_done();
+        self.turned = turned_by(self.engine.rounds(), self.turned, self.cycles);
     }
 }

@@ -1,14 +1,8 @@
 -- What is left of the proof of `passes::names_of`.
-use Rattle.std.proofs.Common.{ap, Err}
-use Rattle.psy_passes.proofs.Twice.{names_found_in, tail_in_form}
+use Rattle.psy_passes.proofs.Twice.{names_found_in}
 use Rattle.psy_passes.proofs.passes.names_of.Goals as goal
-
-pub unreachable-requires : goal.unreachable-requires
-unreachable-requires c =
-    tail_in_form c.one_reading.ensures.not_both c.args.tail.now c.in-Err-Line.field-0-0 c.requires
-    (c.in-Err-Line.ensures.line c.in-Err-Line.field-0-0 (ap Err c.in-Err-Line.field-0-is))
 
 pub returns-in-Ok : goal.returns-in-Ok
 returns-in-Ok c =
-    names_found_in c.one_front.ensures c.args.tail.now c.in-Ok.notes.items c.as_slice.result.now c.of.result c.in-Ok.ensures.notes c.as_slice.ensures.value
+    names_found_in c.args.tail.now c.in-Ok.notes.items c.as_slice.result.now c.of.result c.in-Ok.ensures c.as_slice.ensures.value
     c.of.ensures.agents c.of.ensures.variables c.of.ensures.streams

@@ -1,8 +1,11 @@
 -- What each loop of `agents::add_parts` keeps.
 use Rattle.std.proofs.Common.{◌≡◌, ◌++◌}
+use Rattle.std.specs.Prelude.{◌==◌}
+use Rattle.psy_history.specs.Processors.{processor_at}
 use Rattle.psy_report.specs.Agents.{part_text}
-use Rattle.psy_feed.proofs.lemmas.Ranges.{lines_below}
+use Rattle.psy_report.proofs.Own.{own_below}
 use Rattle.psy_report.proofs.agents.add_parts.Given as goal
 
 abbrev pub invariant-agents : goal.invariant-agents
-invariant-agents l = l.out.items ≡ l.fn.out.items ++ lines_below (part_text l.unit l.measures l.within) l.number
+invariant-agents l =
+    l.out.items ≡ l.fn.out.items ++ own_below (part_text l.unit l.measures l.within) (λ agent. processor_at l.unit agent == l.processor) l.number

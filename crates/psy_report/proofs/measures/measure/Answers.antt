@@ -32,5 +32,5 @@ returns-clause-parts c =
     all_of (AreWeights c.args.top) (All (λ part. part < 2 ^ 50)) (λ graph list are. are.small) c.in_ok-graphs.graphs c.in_ok-lists.lists
     c.in_ok-lists.ensures.lists
 
-pub returns-clause-few : goal.returns-clause-few
-returns-clause-few c = omega (arith, c.in_ok-lists.ensures.lists.count, c.in_ok-graphs.ensures.graphs.count, c.requires.text.bare.agent_limit)
+pub returns-clause-count : goal.returns-clause-count
+returns-clause-count c = omega (arith, c.in_ok-lists.ensures.lists.count, c.in_ok-graphs.ensures.graphs.count)

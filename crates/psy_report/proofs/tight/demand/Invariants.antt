@@ -1,7 +1,12 @@
 -- What each loop of `tight::demand` keeps.
-use Rattle.std.proofs.Common.{◌≡◌, ◌*◌, ◌^◌, ◌≤◌, take}
-use Rattle.psy_report.specs.Tightness.{demand_over}
+use Rattle.std.proofs.Common.{◌≡◌, ◌*◌, ◌^◌, ◌≤◌, sum_by}
+use Rattle.std.specs.List.{range_with_len}
+use Rattle.psy_demand.specs.Demand.{demand_of}
+use Rattle.psy_tree.specs.Parts.{homes}
 use Rattle.psy_report.proofs.tight.demand.Given as goal
 
-abbrev pub invariant-lists : goal.invariant-lists
-invariant-lists l = (l.sum ≡ demand_over (take l.list-index l.lists) l.within) × (l.sum ≤ l.list-index * 2 ^ 50)
+abbrev pub invariant-agents : goal.invariant-agents
+invariant-agents l = record {
+  sum : l.sum ≡ sum_by (demand_of l.lists (homes l.unit) l.processor l.within) (range_with_len 0 l.agent);
+  small : l.sum ≤ l.agent * 2 ^ 50;
+}

@@ -1,13 +1,12 @@
 -- What is left of the proof of `programs::drawn_by`.
-use Rattle.std.proofs.Common.{◌≡◌, ◌++◌, ℕ, List, Err, Some, map, ap, sym, subst, ◌∙◌}
+use Rattle.std.proofs.Common.{◌≡◌, ◌++◌, List, Err, Some, ap, sym, subst, ◌∙◌}
 use Rattle.std.specs.Prelude.{codes}
 use Rattle.psy_log.specs.Forms.{line_of, refused_line}
 use Rattle.psy_script.specs.Faults.{line_number}
 use Rattle.psy_log.specs.declared.note.Note.{Note}
 use Rattle.psy_draw.specs.Dates.{last_date}
-use Rattle.psy_draw.specs.Silences.{Silent, silent_of}
 use Rattle.psy_match.specs.Feeding.{all_input_values}
-use Rattle.psy_match.specs.Silences.{silences_in}
+use Rattle.psy_match.specs.Knowledge.{knowledge_in}
 use Rattle.psy_view.specs.Reading.{names_in}
 use Rattle.psy_view.specs.Views.{AreFed, IsFed, IsShown, IsTold, RefusesInputs, at_line, many_lines, no_inputs, with_inputs}
 use Rattle.psy_view.proofs.PlanLemmas.{line_by, refused_as, shown_as}
@@ -55,10 +54,10 @@ returns c =
     c.in_ok-more.ensures ∙ ap (all_input_values unit lists) (c.last_date.ensures ∙ ap last_date c.as_slice-notes.ensures.value) in
     let all : c.in_ok-all.all.items ≡ notes ++ more =
     c.in_ok-all.ensures ∙ ap (λ (ns : List Note). ns ++ c.as_slice.result.now) c.as_slice-notes.ensures.value ∙ ap (λ (ns : List Note). notes ++ ns) c.as_slice.ensures.value in
-    let silent : map silent_of c.as_slice-3.result.now ≡ silences_in unit notes =
-    ap (map silent_of) c.as_slice-3.ensures.value ∙ c.in_ok-silences.ensures ∙ ap (silences_in unit) c.as_slice-notes.ensures.value in
-    shown_as (IsShown log window (map silent_of c.as_slice-3.result.now) names c.as_slice-2.result.now)
-    (IsFed log c.args.names.inputs.now window names notes unit fed) c.shown.result c.shown.ensures
+    let told = c.as_slice-notes.result.now in
+    let drawn = c.as_slice-2.result.now in
+    shown_as (IsShown log window (knowledge_in unit told) names drawn) (IsFed log c.args.names.inputs.now window names notes unit fed)
+    c.shown_by.result c.shown_by.ensures
     (λ status text is. with_inputs lists more status text c.in-Ok.ensures.lists are
-    (subst (λ (ns : List Note). IsShown log window (silences_in unit notes) names ns status text) (c.as_slice-2.ensures.value ∙ all)
-    (subst (λ (ss : List Silent). IsShown log window ss names c.as_slice-2.result.now status text) silent is)))
+    (subst (λ (ns : List Note). IsShown log window (knowledge_in unit notes) names ns status text) (c.as_slice-2.ensures.value ∙ all)
+    (subst (λ (ns : List Note). IsShown log window (knowledge_in unit ns) names drawn status text) c.as_slice-notes.ensures.value is)))

@@ -56,22 +56,22 @@ pub returns-in-Some-wanted-clause-words : goal.returns-in-Some-wanted-clause-wor
 returns-in-Some-wanted-clause-words g c nothing = absurd (nothing.0 _ c.in-Some-read_words.ensures)
 
 pub returns-in-Ok-clause-answered : goal.returns-in-Ok-clause-answered
-returns-in-Ok-clause-answered g c = ends_answered _ _ _ _ _ _ _ _ _ _ _ (of_reply _ _ _ _ _ _ _ c.in-Some-read_words.ensures c.in_default-wanted.ensures c.in-Ok.ensures.replies) (rw c.as_slice.ensures.value at c.say-in-Ok.ensures.said)
+returns-in-Ok-clause-answered g c = ends_answered _ _ _ _ _ _ _ _ _ _ _ (of_reply _ _ _ _ _ _ _ c.in-Some-read_words.ensures c.in-Ok.ensures.replies) (rw c.as_slice.ensures.value at c.say-in-Ok.ensures.said)
 
 pub returns-in-Ok-clause-done : goal.returns-in-Ok-clause-done
-returns-in-Ok-clause-done g c = ends_done _ _ _ _ _ _ _ _ _ _ _ (of_reply _ _ _ _ _ _ _ c.in-Some-read_words.ensures c.in_default-wanted.ensures c.in-Ok.ensures.replies) (rw c.as_slice.ensures.value at c.say-in-Ok.ensures.said)
+returns-in-Ok-clause-done g c = ends_done _ _ _ _ _ _ _ _ _ _ _ (of_reply _ _ _ _ _ _ _ c.in-Some-read_words.ensures c.in-Ok.ensures.replies) (rw c.as_slice.ensures.value at c.say-in-Ok.ensures.said)
 
 pub returns-in-Ok-clause-listed : goal.returns-in-Ok-clause-listed
-returns-in-Ok-clause-listed g c = ends_listed _ _ _ _ _ _ _ _ _ _ _ (of_reply _ _ _ _ _ _ _ c.in-Some-read_words.ensures c.in_default-wanted.ensures c.in-Ok.ensures.replies) (rw c.as_slice.ensures.value at c.say-in-Ok.ensures.said)
+returns-in-Ok-clause-listed g c = ends_listed _ _ _ _ _ _ _ _ _ _ _ (of_reply _ _ _ _ _ _ _ c.in-Some-read_words.ensures c.in-Ok.ensures.replies) (rw c.as_slice.ensures.value at c.say-in-Ok.ensures.said)
 
 pub returns-in-Ok-clause-read : goal.returns-in-Ok-clause-read
-returns-in-Ok-clause-read g c = ends_read _ _ _ _ _ _ _ _ _ _ _ (of_reply _ _ _ _ _ _ _ c.in-Some-read_words.ensures c.in_default-wanted.ensures c.in-Ok.ensures.replies) (rw c.as_slice.ensures.value at c.say-in-Ok.ensures.said)
+returns-in-Ok-clause-read g c = ends_read _ _ _ _ _ _ _ _ _ _ _ (of_reply _ _ _ _ _ _ _ c.in-Some-read_words.ensures c.in-Ok.ensures.replies) (rw c.as_slice.ensures.value at c.say-in-Ok.ensures.said)
 
 pub returns-in-Ok-clause-write : goal.returns-in-Ok-clause-write
-returns-in-Ok-clause-write g c four = (ends_write _ _ _ _ _ _ _ _ _ _ _ (of_reply _ _ _ _ _ _ _ c.in-Some-read_words.ensures c.in_default-wanted.ensures c.in-Ok.ensures.replies) (rw c.as_slice.ensures.value at c.say-in-Ok.ensures.said) four).0
+returns-in-Ok-clause-write g c four = (ends_write _ _ _ _ _ _ _ _ _ _ _ (of_reply _ _ _ _ _ _ _ c.in-Some-read_words.ensures c.in-Ok.ensures.replies) (rw c.as_slice.ensures.value at c.say-in-Ok.ensures.said) four).0
 
 pub returns-in-Ok-clause-memory : goal.returns-in-Ok-clause-memory
-returns-in-Ok-clause-memory g c = ends_for_memory _ _ _ _ _ _ _ _ _ _ _ (of_reply _ _ _ _ _ _ _ c.in-Some-read_words.ensures c.in_default-wanted.ensures c.in-Ok.ensures.replies) (rw c.as_slice.ensures.value at c.say-in-Ok.ensures.said)
+returns-in-Ok-clause-memory g c = ends_for_memory _ _ _ _ _ _ _ _ _ _ _ (of_reply _ _ _ _ _ _ _ c.in-Some-read_words.ensures c.in-Ok.ensures.replies) (rw c.as_slice.ensures.value at c.say-in-Ok.ensures.said)
 
 pub returns-in-Ok-clause-cut_short : goal.returns-in-Ok-clause-cut_short
-returns-in-Ok-clause-cut_short g c = ends_cut_short _ _ _ _ _ _ _ _ _ _ _ (of_reply _ _ _ _ _ _ _ c.in-Some-read_words.ensures c.in_default-wanted.ensures c.in-Ok.ensures.replies) (rw c.as_slice.ensures.value at c.say-in-Ok.ensures.said)
+returns-in-Ok-clause-cut_short g c = ends_cut_short _ _ _ _ _ _ _ _ _ _ _ (of_reply _ _ _ _ _ _ _ c.in-Some-read_words.ensures c.in-Ok.ensures.replies) (rw c.as_slice.ensures.value at c.say-in-Ok.ensures.said)

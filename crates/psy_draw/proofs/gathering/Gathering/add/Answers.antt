@@ -5,6 +5,7 @@ use Rattle.std.specs.List.{flat_map}
 use Rattle.std.proofs.lemmas.List.{flat_map_more}
 use Rattle.psy_draw.specs.Columns.{is_there, is_there_still}
 use Rattle.psy_draw.specs.Gathering.{AreColumns, AreStops, values_behind}
+use Rattle.psy_draw.specs.Homes.{housed_of}
 use Rattle.psy_draw.specs.Lanes.{message_values, messages_within, values_within}
 use Rattle.psy_draw.specs.Planning.{stop_lanes}
 use Rattle.psy_draw.specs.Scales.{place_by}
@@ -16,7 +17,7 @@ returns-clause-gathers c = λ values notes known gathers.
     let scale = c.args.by.scale.now in
     let place = place_by scale in
     let note = c.args.note.now in
-    let stops = stop_lanes scale.to (map string_bytes c.args.by.names.now) in
+    let stops = stop_lanes scale.to (map housed_of c.args.by.homes.now) (map string_bytes c.args.by.names.now) in
     let value = values_within scale.from scale.to in
     let message = messages_within scale.from scale.to in
     record {

@@ -2,24 +2,26 @@
 use Rattle.std.proofs.Common.{map, take, ◌∙◌, arith}
 use Rattle.std.specs.Prelude.{string_bytes}
 use Rattle.psy_draw.specs.Gathering.{Gathers, is_known}
+use Rattle.psy_draw.specs.Homes.{housed_of}
 use Rattle.psy_draw.proofs.Fed.{all_at, of_all, one_more}
 use Rattle.psy_draw.proofs.gathering.Gathering.add_all.Goals as goal
 
 pub loop-note-preserved : goal.loop-note-preserved
 loop-note-preserved c =
     let scale = c.args.by.scale.now in
+    let homes = map housed_of c.args.by.homes.now in
     let names = map string_bytes c.args.by.names.now in
     let notes = c.args.notes.now in
     let so_far = c.loop-note.invariant in
     record {
       variables = c.in_ok-add.ensures.variables ∙ so_far.variables;
       streams = c.in_ok-add.ensures.streams ∙ so_far.streams;
-      gathers = λ values known gathers. one_more (λ ns. Gathers scale names values ns c.add.new.self) notes c.loop-note.note-index _ c.loop-note-test.true
+      gathers = λ values known gathers. one_more (λ ns. Gathers scale homes names values ns c.add.new.self) notes c.loop-note.note-index _ c.loop-note-test.true
           (c.in_ok-add.ensures.gathers values (take c.loop-note.note-index notes)
           (all_at (is_known c.args.by.agents.now) notes c.loop-note.note-index _ c.loop-note-test.true known) (so_far.gathers values known gathers));
     }
 
 pub returns-clause-gathers : goal.returns-clause-gathers
 returns-clause-gathers c = λ values known gathers.
-    of_all (λ ns. Gathers c.args.by.scale.now (map string_bytes c.args.by.names.now) values ns c.loop-note.self) c.args.notes.now c.loop-note.note-index
+    of_all (λ ns. Gathers c.args.by.scale.now (map housed_of c.args.by.homes.now) (map string_bytes c.args.by.names.now) values ns c.loop-note.self) c.args.notes.now c.loop-note.note-index
     (omega (arith, c.loop-note-test.false)) (c.loop-note.invariant.gathers values known gathers)

@@ -7,7 +7,7 @@ use Rattle.psy_draw.specs.Scales.{place_by}
 use Rattle.psy_draw.proofs.gathering.Gathering.of.Goals as goal
 
 pub returns-clause-none : goal.returns-clause-none
-returns-clause-none c = λ values are.
+returns-clause-none c = λ homes values are.
     let place = place_by c.args.scale.now in
     record {
       stops = subst (AreStops place [] c.new.result.lanes.items) (sym c.new.ensures.room) (subst (Are place []) (sym c.new.ensures.lanes) tt);

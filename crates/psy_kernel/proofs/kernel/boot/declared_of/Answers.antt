@@ -3,8 +3,8 @@ use Rattle.std.proofs.Common.{◌≡◌, [], ◌∷◌, ◌++◌, sym, ap, ◌�
 use Rattle.psy_kernel.proofs.Booted.{range_more}
 use Rattle.psy_kernel.proofs.kernel.boot.declared_of.Goals as goal
 
-pub loop-agent-preserved : goal.loop-agent-preserved
-loop-agent-preserved c =
-    let agent = c.loop-agent.agent in
-    let pushed : c.push.new.self.items ≡ c.loop-agent.declared.items ++ agent ∷ [] = c.in_ok-push.ensures.items in
-    pushed ∙ ap (λ agents. agents ++ agent ∷ []) c.loop-agent.invariant ∙ sym (range_more 0 agent agent (omega arith))
+pub loop-processor-preserved : goal.loop-processor-preserved
+loop-processor-preserved c =
+    let processor = c.loop-processor.processor in
+    let pushed : c.push.new.self.items ≡ c.loop-processor.declared.items ++ processor ∷ [] = c.in_ok-push.ensures.items in
+    pushed ∙ ap (λ processors. processors ++ processor ∷ []) c.loop-processor.invariant ∙ sym (range_more 0 processor processor (omega arith))

@@ -1,0 +1,4 @@
+-- The definitions of this crate, by subject.
+pub mod Causes
+pub mod Films
+pub mod Walks

@@ -1,0 +1,20 @@
+-- What each loop of `engine::lines::tell_next` keeps.
+use Rattle.std.proofs.Common.{◌≡◌, ℕ, ◌-◌, ◌≤◌, List, Option}
+use Rattle.psy_budget.specs.declared.charge.Stall.{Stall}
+use Rattle.psy_history.specs.Actions.{Opening}
+use Rattle.psy_history.specs.Schedule.{Turn}
+use Rattle.psy_dates.specs.Plans.{opened_of}
+use Rattle.psy_kernel.specs.Standing.{told_from}
+use Rattle.psy_kernel.specs.Telling.{StandsBehind}
+use Rattle.psy_kernel.proofs.engine.lines.tell_next.Given as goal
+
+abbrev pub invariant-walking : goal.invariant-walking
+invariant-walking l = record {
+  within : l.at ≤ l.places;
+  line : l.line ≡ l.fn.line;
+  told : (opening : Opening) (stalls : ℕ → List Stall) (turns : ℕ → List (Option Turn)) → StandsBehind l.plan opening stalls turns l.date l.shared
+      → told_from (opened_of l.plan opening l.shared.inputs.lists stalls) l.date l.at 0 ≡ told_from (opened_of l.plan opening l.shared.inputs.lists stalls) l.date l.fn.place 0;
+}
+
+abbrev pub decreases-walking : goal.decreases-walking
+decreases-walking l = l.places - l.at

@@ -1,0 +1,72 @@
+-- What is left of the proof of `engine::stretch::burst`.
+use Rattle.std.proofs.Common.{◌≡◌, ℕ, ◌+◌, ◌≤◌, refl, subst, arith}
+use Rattle.psy_dates.specs.Plans.{opened_of}
+use Rattle.psy_machine.specs.declared.machine.Step.TheVariants as step
+use Rattle.psy_machine.specs.Stepping.{Answers}
+use Rattle.psy_kernel.specs.Stretches.{IsOnWay}
+use Rattle.psy_kernel.proofs.Bursts.{Pays, able, done, near, none_kept, one_kept, others_now, over, permitted, reached_now, still_kept}
+use Rattle.psy_kernel.proofs.engine.stretch.burst.Goals as goal
+
+pub steps-init : goal.steps-init
+steps-init c = record {
+  within = omega arith;
+  kept = none_kept (Pays c.args.most) c.args.plan.now c.args.start c.args.date c.args.most c.args.machine.now c.args.eyes.now c.args.reaches.now.items c.requires.of;
+}
+
+pub step-step-requires-clause-able : goal.step-step-requires-clause-able
+step-step-requires-clause-able c = let w = c.requires.given in able (still_kept c.steps.invariant.kept) c.steps-test.true refl w.0 w.1 w.2 w.3 w.4 (w.5, w.6)
+
+pub step-step-requires-clause-permitted : goal.step-step-requires-clause-permitted
+step-step-requires-clause-permitted c = let w = c.requires.given in permitted (still_kept c.steps.invariant.kept) c.steps-test.true refl w.0 w.1 w.2 w.3 w.4 (w.5, w.6)
+
+pub note-requires-clause-near : goal.note-requires-clause-near
+note-requires-clause-near c = let w = c.requires.given in near (still_kept c.steps.invariant.kept) c.steps-test.true refl w.0 w.1 w.2 w.3 w.4 (w.5, w.6) c.step-step.new.look c.step-step.ensures.window
+
+pub steps-preserved : goal.steps-preserved
+steps-preserved c = record {
+  within = omega (arith, c.steps-test.true);
+  kept = one_kept (still_kept c.steps.invariant.kept) c.steps-test.true refl c.step-step.new.look c.step-step.ensures.window c.step-step.ensures.kept c.note.new.reaches.items c.note.ensures.reaching c.note.ensures.reached c.step-step.new.self c.step-step.ensures.machine (subst (Answers _) c.in-Went.is c.step-step.ensures.answer);
+}
+
+pub returns-in-Ended-clause-after : goal.returns-in-Ended-clause-after
+returns-in-Ended-clause-after c = λ opening inputs stalls r had may pays other.
+    over (still_kept c.steps.invariant.kept) c.steps-test.true refl opening inputs stalls r had (may, pays) c.step-step.new.look c.step-step.ensures.window c.step-step.ensures.kept c.step-step.new.self c.step-step.ensures.machine
+    (step.Ended c.in-Ended.point) (subst (Answers _) c.in-Ended.is c.step-step.ensures.answer)
+
+pub returns-in-Ended-clause-did : goal.returns-in-Ended-clause-did
+returns-in-Ended-clause-did c = λ opening inputs stalls r had may pays other.
+    done (still_kept c.steps.invariant.kept) c.steps-test.true refl opening inputs stalls r had (may, pays) c.step-step.new.look c.step-step.ensures.window c.step-step.ensures.kept c.step-step.new.self c.step-step.ensures.machine
+    (step.Ended c.in-Ended.point) (subst (Answers _) c.in-Ended.is c.step-step.ensures.answer)
+
+pub returns-in-Trapped-clause-after : goal.returns-in-Trapped-clause-after
+returns-in-Trapped-clause-after c = λ opening inputs stalls r had may pays other.
+    over (still_kept c.steps.invariant.kept) c.steps-test.true refl opening inputs stalls r had (may, pays) c.step-step.new.look c.step-step.ensures.window c.step-step.ensures.kept c.step-step.new.self c.step-step.ensures.machine
+    (step.Trapped c.in-Trapped.kind) (subst (Answers _) c.in-Trapped.is c.step-step.ensures.answer)
+
+pub returns-in-Ended-clause-reached : goal.returns-in-Ended-clause-reached
+returns-in-Ended-clause-reached c = λ opening inputs stalls r had may pays reach are variable at.
+    reached_now (still_kept c.steps.invariant.kept) c.steps-test.true refl c.step-step.new.look c.step-step.ensures.window c.step-step.ensures.kept c.note.new.reaches.items c.note.ensures.reaching c.note.ensures.reached opening inputs stalls r had (may, pays) reach are variable at
+
+pub returns-in-Ended-clause-others : goal.returns-in-Ended-clause-others
+returns-in-Ended-clause-others c = λ stream other.
+    others_now (still_kept c.steps.invariant.kept) c.steps-test.true refl c.step-step.new.look c.step-step.ensures.window c.step-step.ensures.kept c.note.new.reaches.items c.note.ensures.reaching c.note.ensures.reached stream other
+
+pub returns-in-Trapped-clause-reached : goal.returns-in-Trapped-clause-reached
+returns-in-Trapped-clause-reached c = λ opening inputs stalls r had may pays reach are variable at.
+    reached_now (still_kept c.steps.invariant.kept) c.steps-test.true refl c.step-step.new.look c.step-step.ensures.window c.step-step.ensures.kept c.note.new.reaches.items c.note.ensures.reaching c.note.ensures.reached opening inputs stalls r had (may, pays) reach are variable at
+
+pub returns-in-Trapped-clause-others : goal.returns-in-Trapped-clause-others
+returns-in-Trapped-clause-others c = λ stream other.
+    others_now (still_kept c.steps.invariant.kept) c.steps-test.true refl c.step-step.new.look c.step-step.ensures.window c.step-step.ensures.kept c.note.new.reaches.items c.note.ensures.reaching c.note.ensures.reached stream other
+
+-- All of them are done
+all_done : (count most : ℕ) → count ≤ most → most ≤ count → count ≡ most
+all_done count most a b = omega (arith, a, b)
+
+pub returns-clause-on_way : goal.returns-clause-on_way
+returns-clause-on_way c = λ opening inputs stalls r had may pays went.
+    subst (λ n. IsOnWay (opened_of c.args.plan.now opening inputs stalls) c.args.plan.now.code r (had + n) c.steps.machine c.steps.eyes.outbox.now.sends c.steps.eyes.taken.now.items)
+    (all_done c.steps.count c.args.most c.steps.invariant.within c.steps-test.false) (c.steps.invariant.kept.on_way opening inputs stalls r had (may, pays))
+
+pub returns-clause-reached : goal.returns-clause-reached
+returns-clause-reached c = λ opening inputs stalls r had may pays. c.steps.invariant.kept.reached opening inputs stalls r had (may, pays)

@@ -1,6 +1,0 @@
--- What each loop of `kernel::lines::next_mover` keeps.
-use Rattle.psy_kernel.proofs.Skipped.{Skips}
-use Rattle.psy_kernel.proofs.kernel.lines.next_mover.Given as goal
-
-abbrev pub invariant-movers : goal.invariant-movers
-invariant-movers l = Skips l.movers l.agents l.place l.at

@@ -1,0 +1,55 @@
+-- When a kernel stands for its run: the units of the cycle that comes next, and the processors that are ahead of it.
+use Rattle.std.specs.Prelude.{◌≡◌, ◌==◌, ℕ, ◌+◌, ◌-◌, ◌<◌, ◌≤◌, if◌then◌else◌, List, get_or, length, Some, slice_get, take}
+use Rattle.std.specs.List.{list_any, range_with_len}
+use Rattle.psy_dates.specs.Plans.{IsPlan}
+use Rattle.psy_history.specs.Processors.{processors}
+use Rattle.psy_history.specs.Scripts.{IsScript, round_of}
+use Rattle.psy_history.specs.declared.told.Round.{Round}
+use Rattle.psy_kernel.specs.Engines.{IsAhead, next_date}
+use Rattle.psy_kernel.specs.Progress.{Progress}
+use Rattle.psy_kernel.specs.Standing.{InTick}
+use Rattle.psy_kernel.specs.declared.kernel.Kernel.TheInside.{Inside}
+
+-- How far the run is
+abbrev pub progress_of : Inside → Progress
+progress_of k = record {
+  plan = k.engine.plan;
+  inputs = k.engine.inputs;
+  script = k.engine.script;
+  opening = k.engine.opening;
+  dates = k.engine.dates;
+  cycles = k.cycles;
+  units = k.units;
+  given = k.engine.given;
+}
+
+-- The processors that had their unit of the cycle that comes next: the first of its round
+abbrev pub had_unit : Progress → List ℕ
+had_unit p = take p.units (round_of p.plan.unit p.script p.cycles)
+
+-- How many cycles of a processor were done: one more where it had its unit of the cycle that comes next
+abbrev pub cycles_on : Progress → ℕ → ℕ
+cycles_on p processor = if list_any (λ n. n == processor) (had_unit p) then p.cycles + 1 else p.cycles
+
+-- The round of the last of so many rounds that have come into force, and the first one where none has
+abbrev pub round_by : List ℕ → List Round → ℕ → List ℕ
+round_by declared rounds turned = if turned == 0 then declared else (get_or rounds (turned - 1) (record { cycle = 0; processors = declared })).processors
+
+-- So many of the rounds have come into force by a cycle, and the others haven't.
+pub record AreTurned (rounds : List Round) (turned cycle : ℕ) : Type 0 where
+  pub within : turned ≤ length rounds
+  pub come : (place : ℕ) (r : Round) → slice_get rounds place ≡ Some r → place < turned → r.cycle ≤ cycle
+  pub ahead : (place : ℕ) (r : Round) → slice_get rounds place ≡ Some r → turned ≤ place → cycle < r.cycle
+
+-- Each processor did the cycles that it is to have done, or is ahead, at its first change behind them; which can be seen nowhere before the others are
+-- there too.
+pub record KernelStands (k : Inside) : Type 0 where
+  pub plan : IsPlan k.engine.plan
+  pub script : IsScript k.engine.plan.unit k.engine.script
+  pub in_tick : InTick k.engine.plan.unit.quantum k.engine.plan.until k.engine.dates k.cycles
+  pub units : k.units < processors k.engine.plan.unit
+  pub inside : 1 ≤ k.units → k.cycles < next_date k.engine
+  pub served : length k.engine.done ≡ processors k.engine.plan.unit
+  pub ahead : (processor done : ℕ) → slice_get k.engine.done processor ≡ Some done → IsAhead k.engine processor (cycles_on (progress_of k) processor) done
+  pub declared : k.declared.items ≡ range_with_len 0 (processors k.engine.plan.unit)
+  pub turned : AreTurned k.engine.script.rounds k.turned k.cycles
