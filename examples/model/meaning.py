@@ -2,12 +2,11 @@
 import copy
 from dataclasses import dataclass, field
 
-BITS = 32
 
-
-def wrap(value):
-    value &= (1 << BITS) - 1
-    return value - (1 << BITS) if value >> (BITS - 1) else value
+def wrap(value, width):
+    """What is left of a value in so many bits, as a signed number."""
+    value &= (1 << width) - 1
+    return value - (1 << width) if value >> (width - 1) else value
 
 
 def quotient(a, b):
@@ -19,8 +18,6 @@ BINARY = {
     "*": lambda a, b: a * b,
     "+": lambda a, b: a + b,
     "-": lambda a, b: a - b,
-    "<<": lambda a, b: a << (b & 31),
-    ">>": lambda a, b: a >> (b & 31),
     "/": quotient,
     "%": lambda a, b: a - quotient(a, b) * b,
     "<": lambda a, b: int(a < b),
@@ -33,6 +30,7 @@ BINARY = {
     "^": lambda a, b: a ^ b,
     "|": lambda a, b: a | b,
 }
+SHIFTS = {"<<": lambda a, distance: a << distance, ">>": lambda a, distance: a >> distance}
 UNARY = {"-": lambda a: -a, "~": lambda a: ~a, "!": lambda a: int(a == 0)}
 
 
@@ -121,11 +119,17 @@ class Execution:
         return value
 
     def value(self, expression, frame):
-        return getattr(self, "value_of_" + expression[0])(*expression[1:], frame)
+        kind, _, *parts = expression
+        return getattr(self, "value_of_" + kind)(*parts, frame)
 
     def value_of_number(self, number, frame):
         self.tick()
-        return wrap(number)
+        return number
+
+    def value_of_cast(self, width, operand, frame):
+        a = self.value(operand, frame)
+        self.tick()
+        return wrap(a, width)
 
     def value_of_name(self, name, frame):
         self.tick()
@@ -156,12 +160,12 @@ class Execution:
         self.action.taken.append(message)
         return message.value
 
-    def value_of_unary(self, operator, operand, frame):
+    def value_of_unary(self, operator, width, operand, frame):
         a = self.value(operand, frame)
         self.tick()
-        return wrap(UNARY[operator](a))
+        return wrap(UNARY[operator](a), width)
 
-    def value_of_binary(self, operator, left, right, frame):
+    def value_of_binary(self, operator, width, left, right, frame):
         a = self.value(left, frame)
         if operator in ("&&", "||"):
             self.tick()
@@ -174,7 +178,9 @@ class Execution:
         self.tick()
         if operator in ("/", "%") and b == 0:
             raise Trap("divide")
-        return wrap(BINARY[operator](a, b))
+        if operator in SHIFTS:
+            return wrap(SHIFTS[operator](a, b % width), width)
+        return wrap(BINARY[operator](a, b), width)
 
     def value_of_call(self, name, arguments, frame):
         values = [self.value(argument, frame) for argument in arguments]

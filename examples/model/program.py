@@ -1,12 +1,16 @@
-"""Reads a lawful program, its inputs and its script. What the rules forbid isn't judged here."""
+"""Reads a lawful program, its inputs and its script. Of what the rules forbid only first values outside their types are judged here."""
 import re
 from dataclasses import dataclass, field
 
 COMMENT = re.compile(r"/\*.*?\*/|//[^\n]*", re.S)
 TOKEN = re.compile(r"[A-Za-z_]\w*|\d+|<<|>>|<=|>=|==|!=|&&|\|\||[;{}()\[\],=+\-*/%<>&^|~!]")
 
+TYPES = {"int": 32, "int8": 8, "int16": 16, "int32": 32, "int64": 64}  # a type is told by its width
+INT = 32
+
 # binary operators, loosest first
 LEVELS = [["||"], ["&&"], ["|"], ["^"], ["&"], ["==", "!="], ["<", "<=", ">", ">="], ["<<", ">>"], ["+", "-"], ["*", "/", "%"]]
+TRUTHS = ("||", "&&", "==", "!=", "<", "<=", ">", ">=")  # those that give 1 or 0, as an int
 
 
 @dataclass(frozen=True)
@@ -86,8 +90,36 @@ class Program:
         return [[name for name, agent in self.agents.items() if agent.processor == number] for number in range(count)]
 
 
+class Refused(Exception):
+    """The line with which psyc refuses a program."""
+
+
+def width_of(expression):
+    """The width of an expression's type, which stands behind its kind."""
+    return expression[1]
+
+
+def unary(operator, operand):
+    done_at = width_of(operand)
+    return ("unary", INT if operator == "!" else done_at, operator, done_at, operand)
+
+
+def binary(operator, left, right):
+    """Both operands are taken as of the wider of their types."""
+    done_at = max(width_of(left), width_of(right))
+    return ("binary", INT if operator in TRUTHS else done_at, operator, done_at, left, right)
+
+
+def into(width, expression):
+    """The expression as of a type: narrowed where its own is wider. Widening does nothing but to give it that type."""
+    if width < width_of(expression):
+        return ("cast", width, width, expression)
+    kind, _, *parts = expression
+    return (kind, width, *parts)
+
+
 class Parser:
-    """Recursive descent. Statements and expressions are tuples: the kind, and its parts."""
+    """Recursive descent. Statements are tuples: the kind, and its parts. So are expressions, with the width of their type behind the kind."""
 
     def __init__(self, text):
         self.tokens = TOKEN.findall(COMMENT.sub(" ", text))
@@ -95,6 +127,8 @@ class Parser:
         self.program = Program()
         self.agent = None  # the one whose body is read
         self.budget = 0
+        self.types = {}  # of the variables and arrays of the agent or function that is read; what has no type here is an int
+        self.out_of_range = []  # the tokens of first values that their types don't have
 
     def peek(self):
         return self.tokens[self.at] if self.at < len(self.tokens) else None
@@ -138,6 +172,8 @@ class Parser:
             items.append(self.item())
         for item in sorted(items, key=lambda read: read[0]):
             item[1]()
+        if self.out_of_range:
+            raise Refused(f"refused rule 12 at {min(self.out_of_range)}")
         return self.program
 
     def item(self):
@@ -207,16 +243,22 @@ class Parser:
 
     def declarations(self):
         """Variables with their first values; an array has a list."""
-        declared = {}
-        while self.accept("int"):
-            name = self.next()
+        declared, self.types = {}, {}
+        while self.peek() in TYPES:
+            width, name = TYPES[self.next()], self.next()
+            self.types[name] = width
             if self.accept("["):
                 declared[name] = [0] * self.number()
                 self.expect("]")
             else:
                 declared[name] = self.behind("=", self.first_value)
+                if not -(1 << (width - 1)) <= declared[name] < 1 << (width - 1):
+                    self.out_of_range.append(self.at - 1)
             self.expect(";")
         return declared
+
+    def type_of(self, name):
+        return self.types.get(name, INT)
 
     def block(self):
         self.expect("{")
@@ -249,7 +291,7 @@ class Parser:
 
     def simple(self, word):
         if word == "send":
-            value = self.expression()
+            value = into(INT, self.expression())
             stream = self.behind("to", self.next)
             delay = self.behind("after", self.number)
             return ("send", value, stream, delay, self.behind("on", self.clock))
@@ -260,55 +302,57 @@ class Parser:
             self.agent.points.append(Point(count, clock, budget))
             return ("advance", len(self.agent.points) - 1)
         if word == "return":
-            return ("return", self.expression())
+            return ("return", into(INT, self.expression()))
         index = None
         if self.accept("["):
             index = self.expression()
             self.expect("]")
-        return ("set", word, index, self.behind("=", self.expression))
+        return ("set", word, index, into(self.type_of(word), self.behind("=", self.expression)))
 
     def expression(self, level=0):
         if level == len(LEVELS):
             return self.unary()
         read = self.expression(level + 1)
         while self.peek() in LEVELS[level]:
-            read = ("binary", self.next(), read, self.expression(level + 1))
+            read = binary(self.next(), read, self.expression(level + 1))
         return read
 
     def unary(self):
         if self.peek() in ("-", "~", "!"):
-            return ("unary", self.next(), self.unary())
+            return unary(self.next(), self.unary())
         token = self.next()
         if token == "(":
             read = self.expression()
             self.expect(")")
             return read
         if token.isdigit():
-            return ("number", int(token))
+            return ("number", INT, int(token))
+        if token in TYPES:
+            return into(TYPES[token], self.in_brackets())
         if token == "past":
             self.expect("(")
             name = self.next()
             back = self.behind(",", self.number)
             self.expect(")")
-            return ("past", name, back)
+            return ("past", INT, name, back)
         if token in ("ready", "take"):
             self.expect("(")
             name = self.next()
             self.expect(")")
-            return (token, name)
+            return (token, INT, name)
         if self.accept("["):
             index = self.expression()
             self.expect("]")
-            return ("cell", token, index)
+            return ("cell", self.type_of(token), token, index)
         if self.accept("("):
-            return ("call", token, self.arguments())
-        return ("name", token)
+            return ("call", INT, token, self.arguments())
+        return ("name", self.type_of(token), token)
 
     def arguments(self):
         read = []
         while not self.accept(")"):
             self.accept(",")
-            read.append(self.expression())
+            read.append(into(INT, self.expression()))
         return read
 
 

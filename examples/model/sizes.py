@@ -10,7 +10,7 @@ AT_LEAST = 200  # dates that are looked at, where the clocks' periods are short
 def looks_of(part):
     """The variables that an expression, or the parts of a statement that are expressions, look at."""
     if isinstance(part, tuple) and part[0] == "past":
-        return {part[1]}
+        return {part[2]}
     if isinstance(part, (tuple, list)):
         return set().union(*[looks_of(inner) for inner in part])
     return set()

@@ -1,5 +1,5 @@
 -- The widths that a number may have, and what an operator asks of its width.
-use Rattle.std.specs.Prelude.{◌≡◌, ℕ, ◌==◌, if◌then◌else◌}
+use Rattle.std.specs.Prelude.{◌≡◌, ℕ, ◌==◌, Bool, nat_lt, if◌then◌else◌}
 use Rattle.std.specs.Int.{Width, w8, w16, w32, w64}
 use mir.Val.{bits}
 use Rattle.psy_arith.specs.declared.width.Width.{Width as Named}
@@ -19,3 +19,11 @@ of_type named.W8 = w8
 of_type named.W16 = w16
 of_type named.W32 = w32
 of_type named.W64 = w64
+
+-- The first type has fewer bits than the second.
+abbrev pub is_narrower : Named → Named → Bool
+is_narrower v w = nat_lt (bits (of_type v)) (bits (of_type w))
+
+-- The wider of two types.
+abbrev pub wider : Named → Named → Named
+wider v w = if is_narrower v w then w else v

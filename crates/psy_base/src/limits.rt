@@ -34,9 +34,6 @@ pub const WORD_BYTES: usize = 32;
 /// The value of a number in the program's text.
 pub const LITERAL: u32 = 2_147_483_647;
 
-/// Ticks of a clock's period.
-pub const PERIOD: u32 = 10_000;
-
 /// Cycles of a tick.
 pub const QUANTUM: u32 = 1_000_000;
 
@@ -133,7 +130,6 @@ mod tests {
         }
         let numbers = [
             (LITERAL, 2_147_483_647, "value of a number"),
-            (PERIOD, 10_000, "ticks of a period"),
             (QUANTUM, 1_000_000, "cycles of a tick"),
             (BUDGET, 1_000_000, "cycles of a budget"),
             (DEPTH, 1_024, "dates looked back"),

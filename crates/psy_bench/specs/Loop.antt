@@ -1,6 +1,7 @@
 -- The code of a loop, and how its machine stands at each of its places.
 use Rattle.std.specs.Prelude.{◌≡◌, ℕ, ◌≤◌, List, [], ◌∷◌, Option, Some, None, ℤ, pos, ⊤}
 use Rattle.psy_arith.specs.declared.operators.Op2.TheVariants as op
+use Rattle.psy_arith.specs.declared.width.Width.TheVariants as width
 use Rattle.psy_code.specs.declared.code.Code.{Code}
 use Rattle.psy_code.specs.declared.code.AgentCode.{AgentCode}
 use Rattle.psy_code.specs.declared.code.CopyInit.{CopyInit}
@@ -16,12 +17,12 @@ use Rattle.psy_bench.specs.declared.still.Still.{Still}
 -- The instructions of the agent, and behind them those of the function
 abbrev pub instrs : List Instr
 instrs =
-    instr.Zero 0 ∷ instr.Load 0 ∷ instr.Push (pos 8) ∷ instr.Binary op.Lt ∷ instr.Guard 0 8 ∷ instr.JumpZero 21 ∷
-    instr.Load 1 ∷ instr.Load 0 ∷ instr.Call 0 ∷ instr.Binary op.Add ∷ instr.Store 1 ∷ instr.Load 0 ∷
-    instr.Push (pos 3) ∷ instr.Binary op.And ∷ instr.Load 1 ∷ instr.StoreCell 2 4 ∷ instr.Load 0 ∷
-    instr.Push (pos 1) ∷ instr.Binary op.Add ∷ instr.Store 0 ∷ instr.Jump 1 ∷ instr.Push (pos 0) ∷
+    instr.Zero 0 ∷ instr.Load 0 ∷ instr.Push (pos 8) ∷ instr.Binary op.Lt width.W32 ∷ instr.Guard 0 8 ∷ instr.JumpZero 21 ∷
+    instr.Load 1 ∷ instr.Load 0 ∷ instr.Call 0 ∷ instr.Binary op.Add width.W32 ∷ instr.Store 1 ∷ instr.Load 0 ∷
+    instr.Push (pos 3) ∷ instr.Binary op.And width.W32 ∷ instr.Load 1 ∷ instr.StoreCell 2 4 ∷ instr.Load 0 ∷
+    instr.Push (pos 1) ∷ instr.Binary op.Add width.W32 ∷ instr.Store 0 ∷ instr.Jump 1 ∷ instr.Push (pos 0) ∷
     instr.Store 0 ∷ instr.Load 1 ∷ instr.StoreCopy 0 ∷ instr.Advance 1 ∷ instr.Jump 0 ∷ instr.Load 0 ∷
-    instr.Push (pos 3) ∷ instr.Binary op.Mul ∷ instr.Load 1 ∷ instr.Binary op.Sub ∷ instr.Return ∷ []
+    instr.Push (pos 3) ∷ instr.Binary op.Mul width.W32 ∷ instr.Load 1 ∷ instr.Binary op.Sub width.W32 ∷ instr.Return ∷ []
 
 -- The agent's one working copy, 0 at first
 abbrev pub first_copy : CopyInit

@@ -1,10 +1,11 @@
 //! The code that the benchmark runs: a loop of arithmetic.
 ghost use Rattle.std.specs.Prelude.{◌≡◌, ◌≢◌, IfOk};
 ghost use Rattle.psy_arith.specs.declared.operators.Op2.TheVariants.{AndAnd, OrOr};
+ghost use Rattle.psy_arith.specs.declared.width.Width.TheVariants.{W32};
 ghost use Rattle.psy_code.specs.declared.instr.Instr.TheVariants as instr;
 ghost use Rattle.psy_bench.specs.Loop.{instrs, loop_code};
 
-use psy_arith::Op2;
+use psy_arith::{Op2, Width};
 use psy_base::{Items, Memory};
 use psy_code::{AgentCode, Binary, Code, CopyInit, FunctionCode, Instr};
 use std::alloc::Global;
@@ -12,9 +13,9 @@ use std::alloc::Global;
 // The instruction of an operator that takes both its operands
 fn binary(op: Op2) -> Instr
     requires { (op ≢ AndAnd) × (op ≢ OrOr) }
-    ensures { result ≡ instr.Binary op }
+    ensures { result ≡ instr.Binary op W32 }
 {
-    Instr::Binary(Binary::new(op).unwrap())
+    Instr::Binary(Binary::new(op).unwrap(), Width::W32)
 }
 
 // The agent's instructions, and behind them those of the function

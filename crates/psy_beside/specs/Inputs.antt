@@ -3,14 +3,14 @@ use Rattle.std.specs.Prelude.{ℕ, nat_le, if◌then◌else◌, List, [], ◌∷
 use Rattle.psy_slip.specs.Told.{quoted}
 use Rattle.psy_tree.specs.declared.token.Token.{Token}
 use Rattle.psy_tree.specs.declared.token.Word.{Word}
-use Rattle.psy_tree.specs.declared.token.Word.TheVariants.{Agent, Clock, Input, Int, Stream, Temporal}
+use Rattle.psy_tree.specs.declared.token.Word.TheVariants.{Agent, Clock, Input, Int, Int8, Int16, Int32, Int64, Stream, Temporal}
 use Rattle.psy_beside.specs.Declared.{declared, is_declared}
 
 -- ---- what else a name is
 
 -- The words that declare something else than an input
 abbrev pub OTHERS : List Word
-OTHERS = Temporal ∷ Stream ∷ Agent ∷ Clock ∷ Int ∷ []
+OTHERS = Temporal ∷ Stream ∷ Agent ∷ Clock ∷ Int ∷ Int8 ∷ Int16 ∷ Int32 ∷ Int64 ∷ []
 
 -- The first of them with which the program declares a name
 abbrev pub other_word : List ℕ → List Token → Option Word

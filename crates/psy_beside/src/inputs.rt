@@ -17,6 +17,10 @@ pub fn other_word(name: &[u8], tokens: &[Token]) -> Option<Word>
         Word::Agent,
         Word::Clock,
         Word::Int,
+        Word::Int8,
+        Word::Int16,
+        Word::Int32,
+        Word::Int64,
     ]
     .iter()
     .copied()

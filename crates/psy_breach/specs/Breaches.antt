@@ -1,7 +1,6 @@
 -- What is told of a token at which a rule is broken, by the number of the rule.
 use Rattle.std.specs.Prelude.{ℕ, ◌==◌, if◌then◌else◌, List, [], ◌∷◌, ◌++◌, codes, drop, take}
 use Rattle.psy_tree.specs.declared.token.Token.{Token}
-use Rattle.psy_breach.specs.Kinds.{before}
 use Rattle.psy_breach.specs.Loops.{endless_told, mixed_told, quiet_told}
 use Rattle.psy_breach.specs.Names.{calls_told, owner_told, receiver_told, twice_told, unknown_told}
 use Rattle.psy_breach.specs.Numbers.{clock_told, deep_told, range_told}
@@ -21,7 +20,7 @@ breach_told text tokens front back rule =
     else if rule == 9 then quiet_told
     else if rule == 10 then calls_told text tokens front back
     else if rule == 11 then clock_told back
-    else if rule == 12 then range_told (before front 1)
+    else if rule == 12 then range_told front
     else []
 
 -- The line in which something is told, where it is

@@ -1,5 +1,5 @@
--- Declarations among tokens. Each is seen as the tokens from its first on: in a program a word that begins one stands nowhere else, and `int` only there and
--- before parameters.
+-- Declarations among tokens. Each is seen as the tokens from its first on: in a program a word that begins one stands nowhere else, and that of a type only
+-- there, before parameters, and before the bracket of a cast.
 use Rattle.std.specs.Prelude.{ℕ, ◌==◌, Bool, true, false, not, ◌&&◌, nat_lt, if◌then◌else◌, List, [], ◌∷◌, slice_get, Option, None, Some}
 use Rattle.std.specs.Str.{bytes_eq}
 use Rattle.psy_tree.specs.declared.token.Kind.{Kind}
@@ -17,9 +17,9 @@ use Rattle.psy_breach.specs.declared.declared.How.TheVariants.{Same, Near}
 use Rattle.psy_breach.specs.Kinds.{is_sign, name_at}
 use Rattle.psy_near.specs.Near.{is_near}
 
--- What `int` and a name declare, by the token behind them
-abbrev pub sort_of_int : Option Token → Sort
-sort_of_int third = if is_sign third signs.OpenRound then Function else if is_sign third signs.OpenSquare then Array else Variable
+-- What a type and a name declare, by the token behind them
+abbrev pub sort_of_typed : Option Token → Sort
+sort_of_typed third = if is_sign third signs.OpenRound then Function else if is_sign third signs.OpenSquare then Array else Variable
 
 -- What a word and a name declare, by the token behind them
 abbrev pub sort_of_word : Word → Option Token → Option Sort
@@ -28,7 +28,11 @@ sort_of_word words.Temporal third = Some Temporal
 sort_of_word words.Input third = Some Input
 sort_of_word words.Stream third = Some Stream
 sort_of_word words.Agent third = Some Agent
-sort_of_word words.Int third = Some (sort_of_int third)
+sort_of_word words.Int third = Some (sort_of_typed third)
+sort_of_word words.Int8 third = Some (sort_of_typed third)
+sort_of_word words.Int16 third = Some (sort_of_typed third)
+sort_of_word words.Int32 third = Some (sort_of_typed third)
+sort_of_word words.Int64 third = Some (sort_of_typed third)
 sort_of_word _ third = None
 
 -- The same of two tokens, by their kinds

@@ -1,6 +1,7 @@
 -- What is told of numbers: of one out of its range, of one that reaches back too far, and of those of a clock.
 use Rattle.std.specs.Prelude.{ℕ, ◌-◌, ◌==◌, nat_le, if◌then◌else◌, List, [], ◌∷◌, ◌++◌, codes, decimal, slice_get, Option, None, Some}
-use Rattle.psy_base.specs.declared.limits.TheConstants.{ADVANCE, AFTER, BUDGET, CELLS, DEPTH, KEEP, PERIOD, PROCESSORS, QUANTUM, TURNS}
+use Rattle.psy_base.specs.declared.limits.TheConstants.{ADVANCE, AFTER, BUDGET, CELLS, DEPTH, KEEP, PROCESSORS, QUANTUM, TURNS}
+use Rattle.psy_clock.specs.declared.clock.TheConstants.{PERIOD}
 use Rattle.psy_tree.specs.declared.token.Kind.{Kind}
 use Rattle.psy_tree.specs.declared.token.Kind.TheVariants as kinds
 use Rattle.psy_tree.specs.declared.token.Sign.TheVariants as signs
@@ -46,16 +47,44 @@ word_told word = word_told_by word (word_range word)
 unfoldable pub cells_told : List ℕ
 cells_told = codes "an array has from 1 to " ++ decimal CELLS ++ codes " cells"
 
--- The range of the number behind a token, by its kind: the only sign behind which one is out of its range is that of an array.
-abbrev pub token_told : Kind → List ℕ
-token_told (kinds.Word word) = word_told word
-token_told (kinds.Sign sign) = cells_told
-token_told _ = []
+-- The range of the values of a type, where a number of the text can lie outside it
+abbrev pub values_words : Word → List ℕ
+values_words words.Int8 = codes "the values of an `int8` go from -128 to 127: begin with one of them, or take a wider type"
+values_words words.Int16 = codes "the values of an `int16` go from -32768 to 32767: begin with one of them, or take a wider type"
+values_words _ = []
+
+-- The same by the kind of the type's token
+abbrev pub values_told_of : Kind → List ℕ
+values_told_of (kinds.Word word) = values_words word
+values_told_of _ = []
 
 -- The same of a token that may be there
-abbrev pub range_told : Option Token → List ℕ
-range_told None = []
-range_told (Some token) = token_told token.kind
+abbrev pub values_told : Option Token → List ℕ
+values_told None = []
+values_told (Some token) = values_told_of token.kind
+
+-- The type of a variable, by the tokens before its first value, as in `TYPE NAME =`, with a minus behind that or without one
+abbrev pub type_before : List Token → Option Token
+type_before front = if is_sign (before front 1) signs.Minus then before front 4 else before front 3
+
+-- The range of the number behind a sign, by the tokens up to that: of the cells of an array, or of a first value
+abbrev pub sign_told : List Token → List ℕ
+sign_told front = if is_sign (before front 1) signs.OpenSquare then cells_told else values_told (type_before front)
+
+-- The range of the number behind some tokens, by the kind of the last of them
+abbrev pub token_told : List Token → Kind → List ℕ
+token_told front (kinds.Word word) = word_told word
+token_told front (kinds.Sign sign) = sign_told front
+token_told front _ = []
+
+-- The same, where there is one
+abbrev pub range_told_by : List Token → Option Token → List ℕ
+range_told_by front None = []
+range_told_by front (Some token) = token_told front token.kind
+
+-- The range of the number behind these tokens
+abbrev pub range_told : List Token → List ℕ
+range_told front = range_told_by front (before front 1)
 
 -- ---- how far `past` reaches
 

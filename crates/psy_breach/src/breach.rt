@@ -5,7 +5,6 @@ ghost use Rattle.psy_breach.specs.Breaches.{breach_hint, breach_told, hint_line}
 use crate::loops::mixed_told;
 use crate::names::{add_calls, add_owner, add_receiver, add_twice, add_unknown};
 use crate::numbers::{add_clock, add_deep, add_range};
-use crate::token::before;
 use crate::wrong::add_wrong;
 use psy_base::Memory;
 use psy_tree::Token;
@@ -70,7 +69,7 @@ fn add_breach(
         ),
         10 => add_calls(out, text, tokens, front, back),
         11 => add_clock(out, back),
-        12 => add_range(out, before(front, 1)),
+        12 => add_range(out, front),
         _ => Ok(()),
     }
 }

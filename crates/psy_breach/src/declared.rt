@@ -2,7 +2,7 @@
 ghost use Rattle.std.specs.Prelude.{◌≡◌, ℕ};
 ghost use Rattle.std.specs.Option.{option_copied};
 ghost use Rattle.psy_breach.specs.Declarations.{declares, declares_as, earlier, first_declared, is_head, is_like, is_local, is_same, last_head, name_of};
-ghost use Rattle.psy_breach.specs.Declarations.{place_of, reached, reaches, sort_at, sort_of, sort_of_int, sort_of_kinds, sort_of_word};
+ghost use Rattle.psy_breach.specs.Declarations.{place_of, reached, reaches, sort_at, sort_of, sort_of_kinds, sort_of_typed, sort_of_word};
 
 use crate::token::{is_sign, name_at};
 use psy_near::is_near;
@@ -74,13 +74,15 @@ fn sort_of_word(word: Word, third: Option<&Token>) -> Option<Sort>
         Word::Input => Some(Sort::Input),
         Word::Stream => Some(Sort::Stream),
         Word::Agent => Some(Sort::Agent),
-        Word::Int => Some(sort_of_int(third)),
+        Word::Int | Word::Int8 | Word::Int16 | Word::Int32 | Word::Int64 => Some(sort_of_typed(
+            third,
+        )),
         _ => None,
     }
 }
 
-fn sort_of_int(third: Option<&Token>) -> Sort
-    ensures { result ≡ sort_of_int (option_copied third.entry) }
+fn sort_of_typed(third: Option<&Token>) -> Sort
+    ensures { result ≡ sort_of_typed (option_copied third.entry) }
 {
     if is_sign(third, Sign::OpenRound) {
         Sort::Function

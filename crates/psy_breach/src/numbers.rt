@@ -3,14 +3,14 @@ ghost use Rattle.std.specs.Prelude.{◌≡◌, ◌++◌, OnOk};
 ghost use Rattle.std.specs.Option.{option_copied};
 ghost use Rattle.psy_breach.specs.Numbers.{cells_told, clock_told, clock_told_by, clock_told_where, deep_told};
 ghost use Rattle.psy_breach.specs.Numbers.{deep_told_of, depth_told, depth_words, number_behind, parent_told, period_told};
-ghost use Rattle.psy_breach.specs.Numbers.{range_told, range_words, shift_of, shift_told, tick_told, token_told, word_range, word_told};
+ghost use Rattle.psy_breach.specs.Numbers.{range_told, range_told_by, range_words, shift_of, shift_told, sign_told, tick_told, token_told};
+ghost use Rattle.psy_breach.specs.Numbers.{type_before, values_told, values_told_of, values_words, word_range, word_told};
 
 use crate::declared::{How, reached};
 use crate::token::{before, is_sign, is_word, name_at, number_at};
 use crate::told::{add_counted, add_quoted};
-use psy_base::limits::{
-    ADVANCE, AFTER, BUDGET, CELLS, DEPTH, KEEP, PERIOD, PROCESSORS, QUANTUM, TURNS,
-};
+use psy_base::limits::{ADVANCE, AFTER, BUDGET, CELLS, DEPTH, KEEP, PROCESSORS, QUANTUM, TURNS};
+use psy_clock::PERIOD;
 use psy_text::write::add_number;
 use psy_token::word_spelling;
 use psy_tree::{Kind, Sign, Token, Word};
@@ -64,23 +64,81 @@ fn word_range(word: Word) -> Option<Bounds>
     }
 }
 
-/// Adds the range of the number behind this token.
-pub fn add_range(out: &mut Vec<u8>, token: Option<&Token>) -> Result<(), AllocError>
-    ensures { OnOk result (out.new.items ≡ out.old.items ++ range_told (option_copied token.entry)) }
+/// Adds the range of the number behind these tokens.
+pub fn add_range(out: &mut Vec<u8>, front: &[Token]) -> Result<(), AllocError>
+    ensures { OnOk result (out.new.items ≡ out.old.items ++ range_told front.now) }
+{
+    add_range_by(out, front, before(front, 1))
+}
+
+fn add_range_by(out: &mut Vec<u8>, front: &[Token], token: Option<&Token>) -> Result<(), AllocError>
+    ensures { OnOk result (out.new.items ≡ out.old.items ++ range_told_by front.now (option_copied token.entry)) }
 {
     match token {
-        Some(token) => add_token_range(out, &token.kind),
+        Some(token) => add_token_range(out, front, &token.kind),
         None => Ok(()),
     }
 }
 
-fn add_token_range(out: &mut Vec<u8>, kind: &Kind) -> Result<(), AllocError>
-    ensures { OnOk result (out.new.items ≡ out.old.items ++ token_told kind.now) }
+fn add_token_range(out: &mut Vec<u8>, front: &[Token], kind: &Kind) -> Result<(), AllocError>
+    ensures { OnOk result (out.new.items ≡ out.old.items ++ token_told front.now kind.now) }
 {
     match kind {
         Kind::Word(word) => add_word_range(out, *word),
-        Kind::Sign(_) => add_cells_range(out),
+        Kind::Sign(_) => add_sign_range(out, front),
         _ => Ok(()),
+    }
+}
+
+fn add_sign_range(out: &mut Vec<u8>, front: &[Token]) -> Result<(), AllocError>
+    ensures { OnOk result (out.new.items ≡ out.old.items ++ sign_told front.now) }
+{
+    if is_sign(before(front, 1), Sign::OpenSquare) {
+        add_cells_range(out)
+    } else {
+        out.extend_from_slice(values_of(type_before(front)))
+    }
+}
+
+// The type of a variable, by the tokens before its first value.
+fn type_before(front: &[Token]) -> Option<&Token>
+    ensures { option_copied result ≡ type_before front.now }
+{
+    if is_sign(before(front, 1), Sign::Minus) {
+        before(front, 4)
+    } else {
+        before(front, 3)
+    }
+}
+
+// What is told of the values of a type.
+fn values_of(token: Option<&Token>) -> &'static [u8]
+    ensures { result.now ≡ values_told (option_copied token.entry) }
+{
+    match token {
+        Some(token) => values_of_kind(&token.kind),
+        None => b"",
+    }
+}
+
+fn values_of_kind(kind: &Kind) -> &'static [u8]
+    ensures { result.now ≡ values_told_of kind.now }
+{
+    match kind {
+        Kind::Word(word) => values_words(*word),
+        _ => b"",
+    }
+}
+
+fn values_words(word: Word) -> &'static [u8]
+    ensures { result.now ≡ values_words word }
+{
+    match word {
+        Word::Int8 =>
+            b"the values of an `int8` go from -128 to 127: begin with one of them, or take a wider type",
+        Word::Int16 =>
+            b"the values of an `int16` go from -32768 to 32767: begin with one of them, or take a wider type",
+        _ => b"",
     }
 }
 

@@ -18,6 +18,7 @@ use Rattle.psy_meaning.specs.Units.{IsBare, IsBareAgent, IsBareFunction, IsBareS
 use Rattle.psy_byhand.specs.Counters.{nexts, unit_of}
 use Rattle.psy_byhand.specs.Laps.{agent_of, tenth, variable_of}
 use Rattle.psy_byhand.proofs.CounterRuns.{code, goes_well, ways}
+use Rattle.psy_byhand.proofs.Holding.{none_fit}
 use Rattle.psy_byhand.proofs.LapGraph.{ComesAgain, is_tenth, met}
 use Rattle.psy_byhand.proofs.LapParts.{bare_agent, bare_variable, is_name, zero_fits}
 use Rattle.psy_byhand.proofs.LapPoints.{by_one, next_for, no_look_for, no_send_for}
@@ -54,7 +55,7 @@ module _ (quantum budget : ℕ) (cycles : Within 1 QUANTUM quantum) (granted : W
   its_code : (agent : ℕ) → agent < 1 → IsAgentCodeFor (unit_of quantum budget) agent (agent_code_at code agent)
   its_code zero less = record {
     points = refl;
-    cells = All-nil (FitsSigned w32);
+    cells = none_fit (agent_of 65 budget);
     copies = refl;
     inits = All-cons (λ c. FitsSigned w32 c.init) (record { variable = 0; init = pos 0 }) [] zero_fits (All-nil (λ c. FitsSigned w32 c.init));
   }

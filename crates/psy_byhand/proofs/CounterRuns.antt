@@ -5,6 +5,7 @@ use Rattle.std.specs.Int.{w32, int_wrap}
 use Rattle.std.proofs.lemmas.Int.{SFits-int_wrap}
 use Rattle.psy_arith.specs.declared.operators.Op2.{Op2}
 use Rattle.psy_arith.specs.declared.operators.Op2.TheVariants.{Add}
+use Rattle.psy_arith.specs.declared.width.Width.TheVariants.{W32}
 use Rattle.psy_base.specs.declared.ways.Ways.{Ways as WayLists}
 use Rattle.psy_code.specs.declared.code.Code.{Code}
 use Rattle.psy_code.specs.declared.instr.Instr.{Instr}
@@ -24,7 +25,7 @@ use Rattle.psy_byhand.proofs.LapGraph.{one_there}
 
 -- Its instructions, with any operator
 abbrev pub counting : Op2 → List Instr
-counting op = instr.LoadCopy 0 ∷ instr.Push (pos 1) ∷ instr.Binary op ∷ instr.StoreCopy 0 ∷ instr.Advance 1 ∷ []
+counting op = instr.LoadCopy 0 ∷ instr.Push (pos 1) ∷ instr.Binary op W32 ∷ instr.StoreCopy 0 ∷ instr.Advance 1 ∷ []
 
 abbrev pub code : Code
 code = code_of (counting Add)
@@ -40,14 +41,18 @@ module _ (quantum budget : ℕ) where
   -- ---- an action, from the head and from the `advance`
 
   module _ (value : ℤ) (view : View) where
+    -- What comes of the operator, and what is left of it in the copy
     abbrev sum : ℤ
-    sum = int_wrap w32 (value +ℤ pos 1)
+    sum = int_wrap w32 (int_wrap w32 value +ℤ int_wrap w32 (pos 1))
+
+    abbrev kept : ℤ
+    kept = int_wrap w32 sum
 
     abbrev after : ℕ → ℕ → Run
     after point = run_from code 0 point (holding value) view
 
-    ended : MayCarry (unit_of quantum budget) code 0 (holding sum)
-    ended = may_hold (unit_of quantum budget) code 0 refl refl sum (SFits-int_wrap w32 (value +ℤ pos 1))
+    ended : MayCarry (unit_of quantum budget) code 0 (holding kept)
+    ended = may_hold (unit_of quantum budget) code 0 refl refl kept (SFits-int_wrap w32 sum)
 
     stands_0 : (n : ℕ) → StandsWell system (Listed ways) code 0 0 (after 0 n)
     stands_0 zero = (1, one_there, λ stream n most. omega arith)

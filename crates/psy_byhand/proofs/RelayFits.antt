@@ -19,6 +19,7 @@ use Rattle.psy_meaning.specs.Timing.{MayStart}
 use Rattle.psy_meaning.specs.Units.{IsBare, IsBareAgent, IsBareFunction, IsBareStream, IsBareVariable, IsName, Within}
 use Rattle.psy_byhand.specs.Laps.{agent_of, tenth, variable_of}
 use Rattle.psy_byhand.specs.Relays.{nexts, stream, unit_of}
+use Rattle.psy_byhand.proofs.Holding.{none_fit}
 use Rattle.psy_byhand.proofs.LapGraph.{ComesAgain, is_tenth, met, one_there}
 use Rattle.psy_byhand.proofs.LapParts.{bare_agent, bare_variable, is_name, zero_fits}
 use Rattle.psy_byhand.proofs.LapPoints.{by_two, look_for, next_for, no_look_for, no_send_for}
@@ -69,10 +70,10 @@ module _ (quantum budget : ℕ) (cycles : Within 1 QUANTUM quantum) (granted : W
   }
 
   its_code : (agent : ℕ) → agent < 2 → IsAgentCodeFor (unit_of quantum budget) agent (agent_code_at code agent)
-  its_code zero less = record { points = refl; cells = All-nil (FitsSigned w32); copies = refl; inits = All-nil (λ c. FitsSigned w32 c.init) }
+  its_code zero less = record { points = refl; cells = none_fit (agent_of 65 budget); copies = refl; inits = All-nil (λ c. FitsSigned w32 c.init) }
   its_code (suc zero) less = record {
     points = refl;
-    cells = All-nil (FitsSigned w32);
+    cells = none_fit (agent_of 66 budget);
     copies = refl;
     inits = All-cons (λ c. FitsSigned w32 c.init) (record { variable = 0; init = pos 0 }) [] zero_fits (All-nil (λ c. FitsSigned w32 c.init));
   }

@@ -8,6 +8,7 @@ use Rattle.std.proofs.lemmas.List.Elements.{All-head}
 use Rattle.std.proofs.lemmas.List.Sums.{sum_by-cons}
 use Rattle.psy_arith.specs.declared.operators.Op2.{Op2}
 use Rattle.psy_arith.specs.declared.operators.Op2.TheVariants.{Add}
+use Rattle.psy_arith.specs.declared.width.Width.TheVariants.{W32}
 use Rattle.psy_arith.specs.declared.operators.Trap.{Trap}
 use Rattle.psy_base.specs.declared.limits.TheConstants.{SENDS}
 use Rattle.psy_base.specs.declared.ways.SendWay.{SendWay}
@@ -25,7 +26,7 @@ use Rattle.psy_history.specs.Openings.{MayCarry}
 use Rattle.psy_history.specs.Regular.{MayAsk}
 use Rattle.psy_history.specs.Runs.{GoesWell, StandsWell, run_from}
 use Rattle.psy_history.specs.Ways.{IsSentBy, sends_in}
-use Rattle.psy_meaning.specs.Alike.{AllFit, IsViewOf, is_there}
+use Rattle.psy_meaning.specs.Alike.{IsViewOf, is_there}
 use Rattle.psy_meaning.specs.KnownWays.{Listed, most_in}
 use Rattle.psy_byhand.specs.Laps.{variable_of}
 use Rattle.psy_byhand.specs.Relays.{code_of, nexts, unit_of}
@@ -36,7 +37,7 @@ use Rattle.psy_byhand.proofs.LapGraph.{one_there}
 abbrev pub relaying : Op2 → List Instr
 relaying op =
     instr.Past 0 0 ∷ instr.Send 0 0 0 ∷ instr.Advance 1 ∷
-    instr.Take 0 ∷ instr.Push (pos 1) ∷ instr.Binary op ∷ instr.StoreCopy 0 ∷ instr.Advance 1 ∷ []
+    instr.Take 0 ∷ instr.Push (pos 1) ∷ instr.Binary op W32 ∷ instr.StoreCopy 0 ∷ instr.Advance 1 ∷ []
 
 abbrev pub code : Code
 code = code_of (relaying Add)
@@ -70,12 +71,12 @@ module _ (quantum budget : ℕ) where
 
   -- ---- the first agent
 
-  module _ (value : ℤ) (fits : FitsSigned w32 value) (messages : List (Option (List ℤ))) where
+  module _ (value : ℤ) (messages : List (Option (List ℤ))) where
     abbrev view : View
     view = record { pasts = (value ∷ []) ∷ []; messages = messages }
 
     abbrev sent : Sent
-    sent = record { stream = 0; value = value; after = 0; clock = 0 }
+    sent = record { stream = 0; value = int_wrap w32 value; after = 0; clock = 0 }
 
     abbrev after : ℕ → ℕ → Run
     after point = run_from code 0 point empty view
@@ -107,7 +108,7 @@ module _ (quantum budget : ℕ) where
     looked = (0, omega arith, refl)
 
     is_sent_by : IsSentBy (Listed ways) (unit_of quantum budget) sent
-    is_sent_by = record { fits = record { stream = omega arith; clock = omega arith; after = omega arith; value = fits }; named = refl; soon = omega arith }
+    is_sent_by = record { fits = record { stream = omega arith; clock = omega arith; after = omega arith; value = SFits-int_wrap w32 value }; named = refl; soon = omega arith }
 
     asks_0 : (n : ℕ) (t : RunState) → after 0 n ≡ Running t → Asks 0 0 t
     asks_0 zero t e = asks_as 0 0 _ t e (variable_of 1, refl, omega arith, looked)
@@ -122,22 +123,22 @@ module _ (quantum budget : ℕ) where
     asks_1 (suc (suc (suc n))) t e = absurd (over 0 1 _ _ t e)
 
   -- A view has one value of the variable.
-  one_value : (pasts : List (List ℤ)) → map length pasts ≡ 1 ∷ [] → All AllFit pasts → (value : ℤ) × FitsSigned w32 value × (pasts ≡ (value ∷ []) ∷ [])
-  one_value [] e fit = absurd cc
-  one_value ([] ∷ pasts) e fit = absurd cc
-  one_value ((value ∷ []) ∷ []) e fit = (value, All-head (FitsSigned w32) value [] (All-head AllFit (value ∷ []) [] fit), refl)
-  one_value ((value ∷ []) ∷ more ∷ pasts) e fit = absurd cc
-  one_value ((value ∷ second ∷ values) ∷ pasts) e fit = absurd cc
+  one_value : (pasts : List (List ℤ)) → map length pasts ≡ 1 ∷ [] → (value : ℤ) × (pasts ≡ (value ∷ []) ∷ [])
+  one_value [] e = absurd cc
+  one_value ([] ∷ pasts) e = absurd cc
+  one_value ((value ∷ []) ∷ []) e = (value, refl)
+  one_value ((value ∷ []) ∷ more ∷ pasts) e = absurd cc
+  one_value ((value ∷ second ∷ values) ∷ pasts) e = absurd cc
 
   pub sender_goes : (point : ℕ) (carried : Carried) (view : View) → (point ≡ 0) ⊎ (point ≡ 1) → MayCarry (unit_of quantum budget) code 0 carried → IsViewOf (unit_of quantum budget) 0 view → GoesWell system (Listed ways) code 0 point carried view
   sender_goes point carried view point_is may sees =
       let none = is_empty (unit_of quantum budget) code 0 refl refl carried may in
-      let (value, fits, pasts) = one_value view.pasts sees.depths sees.values in
+      let (value, pasts) = one_value view.pasts sees.depths in
       subst (λ c. GoesWell system (Listed ways) code 0 point c view) (sym none)
       (subst (λ ps. GoesWell system (Listed ways) code 0 point empty (record { pasts = ps; messages = view.messages })) (sym pasts)
       (elim point_is [
-        | inl e ↦ subst (λ p. GoesWell system (Listed ways) code 0 p empty (record { pasts = (value ∷ []) ∷ []; messages = view.messages })) (sym e) (record { stands = λ n most. stands_0 value fits view.messages n; asks = λ n t early run. asks_0 value fits view.messages n t run })
-        | inr e ↦ subst (λ p. GoesWell system (Listed ways) code 0 p empty (record { pasts = (value ∷ []) ∷ []; messages = view.messages })) (sym e) (record { stands = λ n most. stands_1 value fits view.messages n; asks = λ n t early run. asks_1 value fits view.messages n t run })
+        | inl e ↦ subst (λ p. GoesWell system (Listed ways) code 0 p empty (record { pasts = (value ∷ []) ∷ []; messages = view.messages })) (sym e) (record { stands = λ n most. stands_0 value view.messages n; asks = λ n t early run. asks_0 value view.messages n t run })
+        | inr e ↦ subst (λ p. GoesWell system (Listed ways) code 0 p empty (record { pasts = (value ∷ []) ∷ []; messages = view.messages })) (sym e) (record { stands = λ n most. stands_1 value view.messages n; asks = λ n t early run. asks_1 value view.messages n t run })
       ]))
 
   -- ---- the second agent
@@ -145,6 +146,10 @@ module _ (quantum budget : ℕ) where
   module _ (value : ℤ) (fits : FitsSigned w32 value) (pasts : List (List ℤ)) where
     abbrev begun : List ℤ → ℕ → ℕ → Run
     begun messages point = run_from code 1 point (holding value) (record { pasts = pasts; messages = Some messages ∷ [] })
+
+    -- A message, and 1
+    abbrev sum : ℤ → ℤ
+    sum m = int_wrap w32 (int_wrap w32 m +ℤ int_wrap w32 (pos 1))
 
     carries : (v : ℤ) → FitsSigned w32 v → MayCarry (unit_of quantum budget) code 1 (holding v)
     carries v fit = may_hold (unit_of quantum budget) code 1 refl refl v fit
@@ -167,7 +172,7 @@ module _ (quantum budget : ℕ) where
     stands_on (m ∷ messages) (suc (suc zero)) = (1, one_there, λ stream n most. omega arith)
     stands_on (m ∷ messages) (suc (suc (suc zero))) = (1, one_there, λ stream n most. omega arith)
     stands_on (m ∷ messages) (suc (suc (suc (suc zero)))) = (1, one_there, λ stream n most. omega arith)
-    stands_on (m ∷ messages) (suc (suc (suc (suc (suc n))))) = (one_there, λ stream n most. omega arith, carries (int_wrap w32 (m +ℤ pos 1)) (SFits-int_wrap w32 (m +ℤ pos 1)))
+    stands_on (m ∷ messages) (suc (suc (suc (suc (suc n))))) = (one_there, λ stream n most. omega arith, carries (int_wrap w32 (sum m)) (SFits-int_wrap w32 (sum m)))
 
     trapped : (kind : Trap) (s t : RunState) → TrappedBy kind s ≡ Running t → ⊥
     trapped kind s t e = cc

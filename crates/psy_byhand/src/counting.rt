@@ -6,6 +6,7 @@ ghost use Rattle.psy_dates.specs.Plans.{IsPlan};
 ghost use Rattle.psy_meaning.specs.Units.{Within};
 
 use crate::parts::{add, agent, name, one, onwards, tenth, variable};
+use psy_arith::Width;
 use psy_base::{Items, Memory, Sizes};
 use psy_clock::laws::distances;
 use psy_code::{AgentCode, Code, CopyInit, Instr};
@@ -83,7 +84,7 @@ pub fn counter(alloc: Global, quantum: u32, budget: u32, until: u32) -> Result<P
     let instrs = [
         Instr::LoadCopy(0),
         Instr::Push(1),
-        Instr::Binary(add()),
+        Instr::Binary(add(), Width::W32),
         Instr::StoreCopy(0),
         Instr::Advance(1),
     ];

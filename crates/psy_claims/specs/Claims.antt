@@ -4,7 +4,7 @@ use Rattle.std.specs.List.{list_any}
 use Rattle.psy_text.specs.Lines.{is_skipped}
 use Rattle.psy_text.specs.Words.{words_of}
 use Rattle.psy_log.specs.declared.note.Note.{Note}
-use Rattle.psy_listed.specs.Listing.{streams_in, variables_in}
+use Rattle.psy_passes.specs.Listing.{streams_in, variables_in}
 use Rattle.psy_assert.specs.declared.terms.Assertion.{Assertion}
 use Rattle.psy_assert.specs.declared.terms.Claim.{Claim}
 use Rattle.psy_assert.specs.declared.terms.Claim.TheVariants as claim

@@ -1,7 +1,7 @@
 //! What one line asserts.
 ghost use Rattle.std.specs.Prelude.{◌≡◌, ℕ, List, Err, IfOk};
 ghost use Rattle.psy_log.specs.declared.note.Note.{Note};
-ghost use Rattle.psy_listed.specs.Listing.{streams_in, variables_in};
+ghost use Rattle.psy_passes.specs.Listing.{streams_in, variables_in};
 ghost use Rattle.psy_claims.specs.Claims.{IsWrong, Says, is_named};
 ghost use Rattle.psy_claims.specs.declared.fault.ClaimFault.TheVariants.{Line};
 ghost use Rattle.psy_claims.specs.declared.fault.Slip.{Slip as Wrong};
@@ -10,7 +10,7 @@ use crate::claimed::Claimed;
 use crate::fault::{ClaimFault, Slip};
 use crate::words::read_words;
 use psy_assert::Claim;
-use psy_listed::Listed;
+use psy_passes::Listed;
 use psy_text::line::is_skipped;
 use psy_text::word::words_of;
 use std::alloc::Global;

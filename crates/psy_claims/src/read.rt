@@ -2,7 +2,7 @@
 ghost use Rattle.std.specs.Prelude.{◌≡◌, ◌++◌, ℕ, List, Err, IfOk, OnOk, option_to_list};
 ghost use Rattle.psy_text.specs.Lines.{lines_of};
 ghost use Rattle.psy_log.specs.declared.note.Note.{Note};
-ghost use Rattle.psy_listed.specs.Listing.{streams_in, variables_in};
+ghost use Rattle.psy_passes.specs.Listing.{streams_in, variables_in};
 ghost use Rattle.psy_claims.specs.Claims.{Say, WrongAt};
 ghost use Rattle.psy_claims.specs.declared.fault.ClaimFault.TheVariants.{Line};
 ghost use Rattle.psy_claims.specs.declared.fault.Slip.{Slip as Wrong};
@@ -10,7 +10,7 @@ ghost use Rattle.psy_claims.specs.declared.fault.Slip.{Slip as Wrong};
 use crate::claimed::Claimed;
 use crate::fault::ClaimFault;
 use crate::line::read_line;
-use psy_listed::Listed;
+use psy_passes::Listed;
 use psy_text::line::cut_line;
 use std::alloc::{AllocError, Global};
 

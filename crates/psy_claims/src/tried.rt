@@ -1,7 +1,7 @@
 //! Assertions, tried on a run.
 ghost use Rattle.std.specs.Prelude.{◌≡◌, ℕ, Err, IfOk, option_map};
 ghost use Rattle.psy_text.specs.Lines.{lines_of};
-ghost use Rattle.psy_listed.specs.Listing.{streams_in, variables_in};
+ghost use Rattle.psy_passes.specs.Listing.{streams_in, variables_in};
 ghost use Rattle.psy_claims.specs.Claims.{WrongAt};
 ghost use Rattle.psy_claims.specs.Outcome.{IsTried, first_failing, is_kept};
 ghost use Rattle.psy_claims.specs.declared.fault.ClaimFault.TheVariants.{Line};
@@ -12,8 +12,8 @@ use crate::claimed::Claimed;
 use crate::fault::ClaimFault;
 use crate::read::read_claims;
 use psy_assert::{Verdict, judge};
-use psy_listed::Log;
 use psy_log::Note;
+use psy_passes::Log;
 use std::alloc::Global;
 
 /// Tries the assertions of a text, the file of which has this name, on a run: what is told of the first that it doesn't keep, none where it

@@ -1,7 +1,7 @@
 -- The dates of clocks, how many stand up to a time, and which come after it.
 use Rattle.std.specs.Prelude.{◌≡◌, ℕ, ◌+◌, ◌-◌, ◌*◌, ◌<◌, ◌≤◌, List, map, nat_le, nat_lt}
 use Rattle.std.specs.List.{count_by, range_with_len}
-use Rattle.psy_base.specs.declared.limits.TheConstants.{PERIOD}
+use Rattle.psy_clock.specs.declared.clock.TheConstants.{PERIOD}
 use Rattle.psy_clock.specs.declared.clock.Clock.{Clock}
 
 -- A lawful clock: its first date is below its period, which is at most 10,000 ticks.

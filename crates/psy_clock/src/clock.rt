@@ -3,8 +3,10 @@ ghost use Rattle.std.specs.Prelude.{◌≡◌, ℕ, ◌+◌, ◌-◌, ◌*◌, �
 ghost use Rattle.std.specs.Result.{IsErrOf};
 ghost use Rattle.psy_clock.specs.Dates.{IsClock, IsDate, IsAfter, IsFrom, date, count, count_below, after_date, from_date, derived};
 
-use psy_base::limits::{ADVANCE, AFTER, PERIOD};
 use thiserror::Error;
+
+/// The most ticks of a clock's period.
+pub const PERIOD: u32 = 10_000;
 
 /// A clock. Its dates are `first`, `first + period`, `first + 2 * period` and so on, in ticks.
 #[derive(Clone, Copy, Debug, PartialEq, Eq)]
@@ -64,7 +66,6 @@ impl Clock {
     pub fn after(self, t: u64, k: u32) -> u64
         requires clock { IsClock self }
         requires some { 1 ≤ k }
-        requires few { k ≤ ADVANCE }
         requires early { t ≤ 2 ^ 40 }
         ensures after { IsAfter self t k result }
         ensures value { result ≡ after_date self t k }
@@ -75,7 +76,6 @@ impl Clock {
     /// The `k`-th date at or above `t`, counted from 0.
     pub fn from_date(self, t: u64, k: u32) -> u64
         requires clock { IsClock self }
-        requires few { k ≤ AFTER }
         requires early { t ≤ 2 ^ 40 }
         ensures from { IsFrom self t k result }
         ensures value { result ≡ from_date self t k }
@@ -108,7 +108,7 @@ impl Clock {
     /// Date number `i`, from 0.
     fn at(self, i: u64) -> u64
         requires clock { IsClock self }
-        requires few { i ≤ 2 ^ 41 }
+        requires few { i ≤ 2 ^ 42 }
         ensures { result ≡ date self i }
     {
         u64::from(self.first) + i * u64::from(self.period)

@@ -5,4 +5,4 @@
 mod clock;
 pub mod laws;
 
-pub use clock::{Clock, ClockFault, derive};
+pub use clock::{Clock, ClockFault, PERIOD, derive};

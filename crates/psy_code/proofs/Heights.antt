@@ -1,14 +1,18 @@
 -- How many operands an instruction pops and pushes.
 use Rattle.std.proofs.Common.{◌≡◌, refl, sym, ap, subst, arith}
 use Rattle.std.specs.Prelude.{ℕ, ◌+◌, ◌==◌, nat_lt, Bool, true, false, T, not, if◌then◌else◌, List, [], ◌∷◌, length, Option, Some, None, slice_get, ℤ, ⊤}
-use Rattle.std.specs.Int.{w32}
+use Rattle.std.specs.Int.{int_wrap}
 use Rattle.psy_arith.specs.declared.operators.Op1.TheVariants as one
 use Rattle.psy_arith.specs.declared.operators.Op2.{Op2}
 use Rattle.psy_arith.specs.declared.operators.Op2.TheVariants as op
 use Rattle.psy_arith.specs.declared.operators.Trap.{Trap}
 use Rattle.psy_arith.specs.declared.operators.Trap.TheVariants as trap
 use Rattle.psy_arith.specs.declared.table.Row.{Row}
-use Rattle.psy_arith.specs.Operators.{is_zero, truth, value1, value2}
+use Rattle.psy_arith.specs.declared.width.Width.{Width}
+use Rattle.psy_arith.specs.declared.width.Width.TheVariants as widths
+use Rattle.psy_arith.specs.Operators.{is_zero, truth}
+use Rattle.psy_arith.specs.Types.{taken1, taken2}
+use Rattle.psy_arith.specs.Widths.{of_type}
 use Rattle.psy_arith.specs.Tables.{row_of}
 use Rattle.psy_code.specs.declared.code.AgentCode.{AgentCode}
 use Rattle.psy_code.specs.declared.code.Code.{Code}
@@ -86,8 +90,9 @@ module _ (code : Code) (agent : AgentCode) (view : View) (m : Machine) where
       from [] = tt {0}
       from (c ∷ cs) = refl
 
-  g_binary : (operator : Op2) → Grows 2 1 (length m.operands) (binary operator m)
-  g_binary operator = g_two 2 1 _ (λ a b below e. g_trap 2 1 (length m.operands) trap.Divide (value2 w32 operator a b) _ (λ v. omega (arith, e)))
+  g_binary : (operator : Op2) (width : Width) → Grows 2 1 (length m.operands) (binary operator width m)
+  g_binary operator width =
+      g_two 2 1 _ (λ a b below e. g_trap 2 1 (length m.operands) trap.Divide (taken2 (of_type width) operator a b) _ (λ v. omega (arith, e)))
 
   g_one : (f : ℤ → ℤ) → Grows 1 1 (length m.operands) (with_top m.operands (λ a rest. onward (f a ∷ rest) m))
   g_one f = g_top 1 1 m.operands _ (λ a below e. omega (arith, e))
@@ -122,12 +127,28 @@ module _ (code : Code) (agent : AgentCode) (view : View) (m : Machine) where
   grows (instr.Call function) h = differ h
   grows instr.Return h = g_return
   grows (instr.Advance point) h = g_need 0 0 (length m.operands) (slice_get agent.points point) _ (λ place. tt {0})
-  grows (instr.Unary one.Neg) h = g_one (value1 w32 one.Neg)
-  grows (instr.Unary one.Flip) h = g_one (value1 w32 one.Flip)
-  grows (instr.Unary one.Not) h = g_one (value1 w32 one.Not)
-  -- the line below is tried at each other operator
-  grows (instr.Binary op.Mul) h = g_binary op.Mul
-  grows (instr.Binary operator) h = g_binary operator
+  grows (instr.Unary one.Not width) h = g_one (taken1 (of_type width) one.Not)
+  grows (instr.Unary one.Neg widths.W8) h = g_one (taken1 (of_type widths.W8) one.Neg)
+  grows (instr.Unary one.Flip widths.W8) h = g_one (taken1 (of_type widths.W8) one.Flip)
+  grows (instr.Unary one.Neg widths.W16) h = g_one (taken1 (of_type widths.W16) one.Neg)
+  grows (instr.Unary one.Flip widths.W16) h = g_one (taken1 (of_type widths.W16) one.Flip)
+  grows (instr.Unary one.Neg widths.W32) h = g_one (taken1 (of_type widths.W32) one.Neg)
+  grows (instr.Unary one.Flip widths.W32) h = g_one (taken1 (of_type widths.W32) one.Flip)
+  grows (instr.Unary one.Neg widths.W64) h = g_one (taken1 (of_type widths.W64) one.Neg)
+  grows (instr.Unary one.Flip widths.W64) h = g_one (taken1 (of_type widths.W64) one.Flip)
+  grows (instr.Cast widths.W8) h = g_one (int_wrap (of_type widths.W8))
+  grows (instr.Cast widths.W16) h = g_one (int_wrap (of_type widths.W16))
+  grows (instr.Cast widths.W32) h = g_one (int_wrap (of_type widths.W32))
+  grows (instr.Cast widths.W64) h = g_one (int_wrap (of_type widths.W64))
+  -- a line with `operator` is tried at each other operator
+  grows (instr.Binary op.Mul widths.W8) h = g_binary op.Mul widths.W8
+  grows (instr.Binary operator widths.W8) h = g_binary operator widths.W8
+  grows (instr.Binary op.Mul widths.W16) h = g_binary op.Mul widths.W16
+  grows (instr.Binary operator widths.W16) h = g_binary operator widths.W16
+  grows (instr.Binary op.Mul widths.W32) h = g_binary op.Mul widths.W32
+  grows (instr.Binary operator widths.W32) h = g_binary operator widths.W32
+  grows (instr.Binary op.Mul widths.W64) h = g_binary op.Mul widths.W64
+  grows (instr.Binary operator widths.W64) h = g_binary operator widths.W64
 
   pub heights : (i : Instr) (n : Machine) (r : Row) → is_plain i ≡ true → row_of (byte_of i) rows ≡ Some r → does code agent view i m ≡ Went n → length n.operands + r.pops ≡ length m.operands + r.pushes
   heights i n r h e d = subst (Grows r.pops r.pushes (length m.operands)) d (subst (λ (x : Row). Grows x.pops x.pushes (length m.operands) (does code agent view i m)) (ap or_row e) (grows i h))

@@ -2,10 +2,12 @@
 use Rattle.std.proofs.Common.{◌≡◌, refl, ap, subst, ◌∙◌, length-set}
 use Rattle.std.specs.Prelude.{ℕ, zero, suc, ◌+◌, ◌%◌, ◌^◌, ◌==◌, nat_le, Bool, true, false, if◌then◌else◌, List, [], ◌∷◌, map, length, slice_get, slice_set, Option, Some, None, ℤ, ⊤}
 use Rattle.std.proofs.lemmas.Option.{slice_get_within, get_or_from_slice_get}
-use Rattle.std.specs.Int.{w32}
+use Rattle.std.specs.Int.{w32, int_wrap}
 use Rattle.psy_arith.specs.declared.operators.Trap.{Trap}
 use Rattle.psy_arith.specs.declared.operators.Trap.TheVariants as trap
-use Rattle.psy_arith.specs.Operators.{is_zero, value2}
+use Rattle.psy_arith.specs.Operators.{is_zero}
+use Rattle.psy_arith.specs.Types.{taken2}
+use Rattle.psy_arith.specs.Widths.{of_type}
 use Rattle.psy_code.specs.declared.code.AgentCode.{AgentCode}
 use Rattle.psy_code.specs.declared.code.Code.{Code}
 use Rattle.psy_code.specs.declared.code.FunctionCode.{FunctionCode}
@@ -125,7 +127,7 @@ module _ (code : Code) (agent : AgentCode) (m : Machine) where
   leaves view (instr.LoadCell base cells) = l_top m.operands _ (λ index rest. l_trap trap.Index (index_in cells index) _ (λ i. l_load (base + i) rest))
   leaves view (instr.StoreCell base cells) = l_top m.operands _ (λ v below. l_top below _ (λ index rest. l_trap trap.Index (index_in cells index) _ (λ i. l_store (base + i) v rest)))
   leaves view (instr.LoadCopy variable) = l_need (copy_of variable m.copies) _ (λ v. alike refl refl)
-  leaves view (instr.StoreCopy variable) = l_top m.operands _ (λ v rest. l_copy variable v rest)
+  leaves view (instr.StoreCopy variable) = l_top m.operands _ (λ v rest. l_copy variable (int_wrap w32 v) rest)
   leaves view (instr.Past variable back) = l_need (past_of view variable back) _ (λ v. alike refl refl)
   leaves view (instr.Ready stream) = l_need (messages_of view stream) _ (λ messages. alike refl refl)
   leaves view (instr.Take stream) = l_need (messages_of view stream) _ (λ messages. l_trap trap.Take (first_of messages) _ (λ v. alike refl refl))
@@ -140,8 +142,10 @@ module _ (code : Code) (agent : AgentCode) (m : Machine) where
   leaves view (instr.Call function) = l_need (slice_get code.functions function) _ l_call
   leaves view instr.Return = l_top m.operands _ (λ v rest. l_back m.calls)
   leaves view (instr.Advance point) = l_advance point
-  leaves view (instr.Binary operator) = l_top m.operands _ (λ b below. l_top below _ (λ a rest. l_trap trap.Divide (value2 w32 operator a b) _ (λ v. alike refl refl)))
-  leaves view (instr.Unary operator) = l_top m.operands _ (λ a rest. alike refl refl)
+  leaves view (instr.Binary operator width) =
+      l_top m.operands _ (λ b below. l_top below _ (λ a rest. l_trap trap.Divide (taken2 (of_type width) operator a b) _ (λ v. alike refl refl)))
+  leaves view (instr.Unary operator width) = l_top m.operands _ (λ a rest. alike refl refl)
+  leaves view (instr.Cast width) = l_top m.operands _ (λ a rest. alike refl refl)
 
   l_within : (next : Next) → Leaves agent m next → Leaves agent m (within agent next)
   l_within (Went n) h = l_if (has_room agent n) (Went n) Stuck h (tt {0})

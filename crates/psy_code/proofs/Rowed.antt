@@ -2,6 +2,7 @@
 use Rattle.std.specs.Prelude.{◌≡◌, Some}
 use Rattle.std.proofs.Common.{refl}
 use Rattle.psy_arith.specs.declared.operators.Op1.TheVariants as one
+use Rattle.psy_arith.specs.declared.width.Width.TheVariants as widths
 use Rattle.psy_arith.specs.declared.operators.Op2.TheVariants as op
 use Rattle.psy_arith.specs.declared.table.Row.{Row}
 use Rattle.psy_arith.specs.Tables.{row_of}
@@ -31,9 +32,25 @@ has_row (instr.Guard c b) = (_, refl)
 has_row (instr.Call f) = (_, refl)
 has_row instr.Return = (_, refl)
 has_row (instr.Advance p) = (_, refl)
--- The line below is tried at each other operator
-has_row (instr.Binary op.Mul) = (_, refl)
-has_row (instr.Binary operator) = (_, refl)
-has_row (instr.Unary one.Neg) = (_, refl)
-has_row (instr.Unary one.Flip) = (_, refl)
-has_row (instr.Unary one.Not) = (_, refl)
+-- A line with `operator` is tried at each other operator
+has_row (instr.Binary op.Mul widths.W8) = (_, refl)
+has_row (instr.Binary operator widths.W8) = (_, refl)
+has_row (instr.Binary op.Mul widths.W16) = (_, refl)
+has_row (instr.Binary operator widths.W16) = (_, refl)
+has_row (instr.Binary op.Mul widths.W32) = (_, refl)
+has_row (instr.Binary operator widths.W32) = (_, refl)
+has_row (instr.Binary op.Mul widths.W64) = (_, refl)
+has_row (instr.Binary operator widths.W64) = (_, refl)
+has_row (instr.Unary one.Not width) = (_, refl)
+has_row (instr.Unary one.Neg widths.W8) = (_, refl)
+has_row (instr.Unary one.Flip widths.W8) = (_, refl)
+has_row (instr.Unary one.Neg widths.W16) = (_, refl)
+has_row (instr.Unary one.Flip widths.W16) = (_, refl)
+has_row (instr.Unary one.Neg widths.W32) = (_, refl)
+has_row (instr.Unary one.Flip widths.W32) = (_, refl)
+has_row (instr.Unary one.Neg widths.W64) = (_, refl)
+has_row (instr.Unary one.Flip widths.W64) = (_, refl)
+has_row (instr.Cast widths.W8) = (_, refl)
+has_row (instr.Cast widths.W16) = (_, refl)
+has_row (instr.Cast widths.W32) = (_, refl)
+has_row (instr.Cast widths.W64) = (_, refl)

@@ -1,12 +1,15 @@
 -- What code does: the state of an agent's machine after each instruction.
 use Rattle.std.specs.Prelude.{ℕ, zero, suc, ◌+◌, ◌%◌, ◌^◌, Bool, not, ◌&&◌, nat_lt, nat_le, ◌==◌, if◌then◌else◌, List, [], ◌∷◌, ◌++◌, map, reverse}
 use Rattle.std.specs.Prelude.{take, drop, replicate, length, Option, Some, None, slice_get, slice_index_or, slice_set, ℤ, pos, negsuc}
-use Rattle.std.specs.Int.{w32}
+use Rattle.std.specs.Int.{w32, int_wrap}
 use Rattle.psy_arith.specs.declared.operators.Op1.{Op1}
 use Rattle.psy_arith.specs.declared.operators.Op2.{Op2}
 use Rattle.psy_arith.specs.declared.operators.Trap.{Trap}
 use Rattle.psy_arith.specs.declared.operators.Trap.TheVariants as trap
-use Rattle.psy_arith.specs.Operators.{truth, is_zero, value1, value2}
+use Rattle.psy_arith.specs.declared.width.Width.{Width}
+use Rattle.psy_arith.specs.Operators.{truth, is_zero}
+use Rattle.psy_arith.specs.Types.{taken1, taken2}
+use Rattle.psy_arith.specs.Widths.{of_type}
 use Rattle.psy_base.specs.declared.limits.TheConstants.{OPEN_CALLS}
 use Rattle.psy_code.specs.declared.code.Code.{Code}
 use Rattle.psy_code.specs.declared.code.AgentCode.{AgentCode}
@@ -157,10 +160,10 @@ load_cell base cells m = with_top m.operands (λ index rest. or_trap trap.Index 
 abbrev pub store_cell : ℕ → ℕ → Machine → Next
 store_cell base cells m = with_two m.operands (λ index v rest. or_trap trap.Index (index_in cells index) (λ i. store (base + i) v rest m))
 
--- The value on top into the working copy of a variable
+-- The value on top, taken modulo 2 ^ 32, as signed, into the working copy of a variable
 abbrev pub store_copy : ℕ → Machine → Next
 store_copy variable m = with_top m.operands (λ v rest. need (copy_of variable m.copies)
-    (λ old. onward rest (record m { copies = with_copy variable v m.copies })))
+    (λ old. onward rest (record m { copies = with_copy variable (int_wrap w32 v) m.copies })))
 
 -- The first of a stream's messages
 abbrev pub take_first : List ℤ → Machine → Next
@@ -216,13 +219,17 @@ cleared frame = record frame { counters = replicate (length frame.counters) 0 }
 abbrev pub begun_at : ℕ → Machine → Machine
 begun_at place m = record m { place = place; operands = []; home = cleared m.home; calls = [] }
 
--- An operator on the two values on top, the lower one being its left side
-abbrev pub binary : Op2 → Machine → Next
-binary operator m = with_two m.operands (λ a b rest. or_trap trap.Divide (value2 w32 operator a b) (λ v. onward (v ∷ rest) m))
+-- An operator at a width, at which it takes the two values on top, the lower one being its left side
+abbrev pub binary : Op2 → Width → Machine → Next
+binary operator width m = with_two m.operands (λ a b rest. or_trap trap.Divide (taken2 (of_type width) operator a b) (λ v. onward (v ∷ rest) m))
 
--- An operator on the value on top
-abbrev pub unary : Op1 → Machine → Next
-unary operator m = with_top m.operands (λ a rest. onward (value1 w32 operator a ∷ rest) m)
+-- An operator at a width, at which it takes the value on top
+abbrev pub unary : Op1 → Width → Machine → Next
+unary operator width m = with_top m.operands (λ a rest. onward (taken1 (of_type width) operator a ∷ rest) m)
+
+-- The value on top, taken modulo 2 ^ bits, as signed
+abbrev pub cast : Width → Machine → Next
+cast width m = with_top m.operands (λ a rest. onward (int_wrap (of_type width) a ∷ rest) m)
 
 -- ---- one instruction
 
@@ -249,8 +256,9 @@ does code agent view (instr.Guard counter bound) m = guard counter bound m
 does code agent view (instr.Call function) m = need (slice_get code.functions function) (λ f. call f m)
 does code agent view instr.Return m = with_top m.operands (λ v rest. back_from m.calls m)
 does code agent view (instr.Advance point) m = need (slice_get agent.points point) (λ place. Ended point (begun_at place m))
-does code agent view (instr.Binary operator) m = binary operator m
-does code agent view (instr.Unary operator) m = unary operator m
+does code agent view (instr.Binary operator width) m = binary operator width m
+does code agent view (instr.Unary operator width) m = unary operator width m
+does code agent view (instr.Cast width) m = cast width m
 
 -- How many cells and counters the open calls have.
 abbrev pub cells_in_calls : List OpenCall → ℕ
@@ -274,12 +282,12 @@ instr_at code m = slice_get code.instrs m.place
 abbrev pub next_of : Code → AgentCode → View → Machine → Next
 next_of code agent view m = need (instr_at code m) (λ i. within agent (does code agent view i m))
 
--- What an instruction asks of the world.
+-- What an instruction asks of the world. A message is sent modulo 2 ^ 32, as signed.
 abbrev pub call_by : Instr → List ℤ → Option Call
 call_by (instr.Past variable back) operands = Some (Past variable back)
 call_by (instr.Ready stream) operands = Some (Ready stream)
 call_by (instr.Take stream) operands = Some (Take stream)
-call_by (instr.Send stream after clock) (v ∷ below) = Some (Send (record { stream = stream; value = v; after = after; clock = clock }))
+call_by (instr.Send stream after clock) (v ∷ below) = Some (Send (record { stream = stream; value = int_wrap w32 v; after = after; clock = clock }))
 call_by i operands = None
 
 -- What the next instruction asks of the world.

@@ -1,9 +1,9 @@
 //! The instructions of the machine.
-ghost use Rattle.std.specs.Prelude.{◌≡◌, ◌≢◌, ◌⊎◌, MatchOption};
+ghost use Rattle.std.specs.Prelude.{◌≡◌, ◌≢◌, ◌≤◌, ◌⊎◌, MatchOption};
 ghost use Rattle.psy_arith.specs.declared.operators.Op2.TheVariants.{AndAnd, OrOr};
-ghost use Rattle.psy_code.specs.Rows.{byte_of, byte_of_operator};
+ghost use Rattle.psy_code.specs.Rows.{binary_from, byte_of, byte_of_cast, byte_of_unary, number_of_operator};
 
-use psy_arith::{Op1, Op2};
+use psy_arith::{Op1, Op2, Width};
 use std::marker::Model;
 
 /// An operator that takes both its operands from the stack. `&&` and `||` are none of these: their
@@ -46,36 +46,71 @@ impl Binary {
         self.op
     }
 
-    /// The byte of the instruction.
-    fn byte(self) -> u8
-        ensures { result ≡ byte_of_operator self }
+    /// The number of the operator among those of its width.
+    fn number(self) -> u8
+        ensures same { result ≡ number_of_operator self }
+        ensures few { result ≤ 15 }
     {
-        macro_rules! bytes {
-            ($($name:ident => $byte:literal;)*) => {
-                match self.op {
-                    $(Op2::$name => $byte,)*
-                    Op2::AndAnd | Op2::OrOr => unreachable!(),
-                }
-            };
+        match self.op {
+            Op2::Mul => 0,
+            Op2::Div => 1,
+            Op2::Rem => 2,
+            Op2::Add => 3,
+            Op2::Sub => 4,
+            Op2::Shl => 5,
+            Op2::Shr => 6,
+            Op2::Lt => 7,
+            Op2::Le => 8,
+            Op2::Gt => 9,
+            Op2::Ge => 10,
+            Op2::Eq => 11,
+            Op2::Ne => 12,
+            Op2::And => 13,
+            Op2::Xor => 14,
+            Op2::Or => 15,
+            Op2::AndAnd | Op2::OrOr => unreachable!(),
         }
-        bytes! {
-            Mul => 0x20;
-            Div => 0x21;
-            Rem => 0x22;
-            Add => 0x23;
-            Sub => 0x24;
-            Shl => 0x25;
-            Shr => 0x26;
-            Lt => 0x27;
-            Le => 0x28;
-            Gt => 0x29;
-            Ge => 0x2A;
-            Eq => 0x2B;
-            Ne => 0x2C;
-            And => 0x2D;
-            Xor => 0x2E;
-            Or => 0x2F;
-        }
+    }
+}
+
+/// The byte of the first operator on two operands of a width.
+fn binary_from(width: Width) -> u8
+    ensures same { result ≡ binary_from width }
+    ensures most { result ≤ 96 }
+{
+    match width {
+        Width::W8 => 0x40,
+        Width::W16 => 0x50,
+        Width::W32 => 0x20,
+        Width::W64 => 0x60,
+    }
+}
+
+/// The byte of an operator on one operand.
+fn byte_of_unary(operator: Op1, width: Width) -> u8
+    ensures { result ≡ byte_of_unary operator width }
+{
+    match (operator, width) {
+        (Op1::Not, _) => 0x32,
+        (Op1::Neg, Width::W8) => 0x70,
+        (Op1::Flip, Width::W8) => 0x71,
+        (Op1::Neg, Width::W16) => 0x72,
+        (Op1::Flip, Width::W16) => 0x73,
+        (Op1::Neg, Width::W32) => 0x30,
+        (Op1::Flip, Width::W32) => 0x31,
+        (Op1::Neg, Width::W64) => 0x74,
+        (Op1::Flip, Width::W64) => 0x75,
+    }
+}
+
+/// The byte of a cast.
+fn byte_of_cast(width: Width) -> u8
+    ensures { result ≡ byte_of_cast width }
+{
+    match width {
+        Width::W8 => 0x33,
+        Width::W16 => 0x34,
+        Width::W32 | Width::W64 => 0x35,
     }
 }
 
@@ -124,10 +159,12 @@ pub enum Instr {
     Return,
     /// Ends the action; the agent goes on at a point.
     Advance(u32),
-    /// Pops two operands and pushes the operator's value.
-    Binary(Binary),
-    /// Pops an operand and pushes the operator's value.
-    Unary(Op1),
+    /// Pops two operands and pushes the operator's value at a width.
+    Binary(Binary, Width),
+    /// Pops an operand and pushes the operator's value at a width.
+    Unary(Op1, Width),
+    /// Pops a value and pushes what is left of it at a width, as a signed number.
+    Cast(Width),
 }
 
 impl Instr {
@@ -164,10 +201,9 @@ impl Instr {
             Instr::Call(..) => 0x13;
             Instr::Return => 0x14;
             Instr::Advance(..) => 0x15;
-            Instr::Binary(operator) => operator.byte();
-            Instr::Unary(Op1::Neg) => 0x30;
-            Instr::Unary(Op1::Flip) => 0x31;
-            Instr::Unary(Op1::Not) => 0x32;
+            Instr::Binary(operator, width) => binary_from(*width) + operator.number();
+            Instr::Unary(operator, width) => byte_of_unary(*operator, *width);
+            Instr::Cast(width) => byte_of_cast(*width);
         }
     }
 }

@@ -1,6 +1,6 @@
 //! Bytes and rows of instructions.
 use crate::{Binary, Instr, instructions};
-use psy_arith::{Op1, Op2, Row};
+use psy_arith::{Op1, Op2, Row, Width};
 
 #[test]
 fn an_instruction_has_its_byte_and_its_row(rt: HostRuntime) {
@@ -52,9 +52,19 @@ fn an_instruction_has_its_byte_and_its_row(rt: HostRuntime) {
         (Instr::Call(6), 0x13, 0, 0),
         (Instr::Return, 0x14, 1, 1),
         (Instr::Advance(1), 0x15, 0, 0),
-        (Instr::Unary(Op1::Neg), 0x30, 1, 1),
-        (Instr::Unary(Op1::Flip), 0x31, 1, 1),
-        (Instr::Unary(Op1::Not), 0x32, 1, 1),
+        (Instr::Unary(Op1::Neg, Width::W32), 0x30, 1, 1),
+        (Instr::Unary(Op1::Flip, Width::W32), 0x31, 1, 1),
+        (Instr::Unary(Op1::Not, Width::W32), 0x32, 1, 1),
+        (Instr::Unary(Op1::Not, Width::W8), 0x32, 1, 1),
+        (Instr::Cast(Width::W8), 0x33, 1, 1),
+        (Instr::Cast(Width::W16), 0x34, 1, 1),
+        (Instr::Cast(Width::W32), 0x35, 1, 1),
+        (Instr::Unary(Op1::Neg, Width::W8), 0x70, 1, 1),
+        (Instr::Unary(Op1::Flip, Width::W8), 0x71, 1, 1),
+        (Instr::Unary(Op1::Neg, Width::W16), 0x72, 1, 1),
+        (Instr::Unary(Op1::Flip, Width::W16), 0x73, 1, 1),
+        (Instr::Unary(Op1::Neg, Width::W64), 0x74, 1, 1),
+        (Instr::Unary(Op1::Flip, Width::W64), 0x75, 1, 1),
     ] {
         assert_eq!(rt; instr.byte(), byte, "byte of {instr:?}");
         assert_eq!(rt;
@@ -63,7 +73,7 @@ fn an_instruction_has_its_byte_and_its_row(rt: HostRuntime) {
             "row of {instr:?}"
         );
     }
-    for byte in [0x00, 0x16, 0x1F, 0x33, 0xFF] {
+    for byte in [0x00, 0x16, 0x1F, 0x36, 0x3F, 0x76, 0xFF] {
         assert_eq!(rt; table.find(byte), None, "no instruction has {byte}");
     }
 }
@@ -91,20 +101,27 @@ fn a_binary_operator_has_its_byte(rt: HostRuntime) {
     ] {
         let operator = Binary::new(op).expect(&rt, "an instruction's operator");
         assert_eq!(rt; operator.op(), op, "operator of {operator:?}");
-        assert_eq!(rt;
-            Instr::Binary(operator).byte(),
-            byte,
-            "byte of {operator:?}"
-        );
-        assert_eq!(rt;
-            table.find(byte),
-            Some(Row {
+        for (width, byte) in [
+            (Width::W32, byte),
+            (Width::W8, byte + 0x20),
+            (Width::W16, byte + 0x30),
+            (Width::W64, byte + 0x40),
+        ] {
+            assert_eq!(rt;
+                Instr::Binary(operator, width).byte(),
                 byte,
-                pops: 2,
-                pushes: 1
-            }),
-            "row of {op:?}"
-        );
+                "byte of {operator:?} at {width:?}"
+            );
+            assert_eq!(rt;
+                table.find(byte),
+                Some(Row {
+                    byte,
+                    pops: 2,
+                    pushes: 1
+                }),
+                "row of {op:?} at {width:?}"
+            );
+        }
     }
     for op in [Op2::AndAnd, Op2::OrOr] {
         assert_eq!(rt; Binary::new(op), None, "no instruction has {op:?}");

@@ -73,9 +73,9 @@ foreign_at token = foreign_of (name_at token)
 abbrev pub small_at : Option Token → Option Terminal
 small_at token = small_of (name_at token)
 
--- What stands around a place, by what begins there, and the tokens two before it, before it, at it, behind it, and behind that
-unfoldable pub around_of : Option Terminal → Option Token → Option Token → Option Token → Option Token → Option Token → Around
-around_of starter earlier before here behind further = record {
+-- What stands around a place, by what begins there, and the tokens three before it, two before it, before it, at it, behind it, and behind that
+unfoldable pub around_of : Option Terminal → Option Token → Option Token → Option Token → Option Token → Option Token → Option Token → Around
+around_of starter earliest earlier before here behind further = record {
   starter = starter;
   earlier = terminal_at earlier;
   before = terminal_at before;
@@ -85,6 +85,7 @@ around_of starter earlier before here behind further = record {
   is_joined_earlier = is_joined earlier before;
   is_joined_before = is_joined before here;
   is_joined_behind = is_joined here behind;
+  foreign_earliest = foreign_at earliest;
   foreign_earlier = foreign_at earlier;
   foreign_before = foreign_at before;
   foreign_here = foreign_at here;
@@ -95,5 +96,5 @@ around_of starter earlier before here behind further = record {
 -- What stands around a place
 abbrev pub around : List Token → ℕ → Around
 around tokens at =
-    around_of (starter_at (take at tokens)) (last_token (but_last (take at tokens))) (last_token (take at tokens))
-    (token_behind tokens at 0) (token_behind tokens at 1) (token_behind tokens at 2)
+    around_of (starter_at (take at tokens)) (last_token (but_last (but_last (take at tokens)))) (last_token (but_last (take at tokens)))
+    (last_token (take at tokens)) (token_behind tokens at 0) (token_behind tokens at 1) (token_behind tokens at 2)

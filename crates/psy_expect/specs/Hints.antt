@@ -8,7 +8,7 @@ use Rattle.psy_expect.specs.declared.around.Around.{Around}
 use Rattle.psy_expect.specs.declared.foreign.Foreign.{Foreign}
 use Rattle.psy_expect.specs.declared.foreign.Foreign.TheVariants as foreign
 use Rattle.psy_expect.specs.declared.hint.Hint.{Hint}
-use Rattle.psy_expect.specs.declared.hint.Hint.TheVariants.{DeclarationInBody, DeclarationBehindBody, Width, Modifier, Void, FunctionWord, NoFor}
+use Rattle.psy_expect.specs.declared.hint.Hint.TheVariants.{DeclarationInBody, DeclarationBehindBody, Width, Types, NoType, Modifier, Void, FunctionWord, NoFor}
 use Rattle.psy_expect.specs.declared.hint.Hint.TheVariants.{OtherLoop, Jump, Switch, ElseIf, Else, SmallLetters, Then, Times, Logical, Wait, ValueAlone}
 use Rattle.psy_expect.specs.declared.hint.Hint.TheVariants.{TickAsClock, Increment, Compound, LessOrEqual, Unlike, Power, UnaryPlus, Square, Global}
 use Rattle.psy_expect.specs.declared.hint.Hint.TheVariants.{NoValue, NameAlone, Chain, Comparison, Assignment, OneByOne, Call, Prototype, Brackets}
@@ -18,11 +18,11 @@ use Rattle.psy_expect.specs.declared.hint.Hint.TheVariants.{FormTemporal, FormIn
 use Rattle.psy_expect.specs.declared.hint.Hint.TheVariants.{FormAdvance, FormAssign, FunctionInside, Print, NotEqual, NoResult, BodyMissing}
 use Rattle.psy_expect.specs.declared.hint.Hint.TheVariants.{Ended, BodyEnded, SecondTick, SecondBody, InsideAgent, NoSemicolon, LookName, Cast, ReservedCall}
 use Rattle.psy_expect.specs.declared.hint.Hint.TheVariants.{NoParameters, Structure, External, IncrementWithin, Arrow, Pointer, Sizeof, MaxAlone}
-use Rattle.psy_expect.specs.declared.hint.Hint.TheVariants.{Round, AdvanceAlone, Signed, Block, LoopComparison}
+use Rattle.psy_expect.specs.declared.hint.Hint.TheVariants.{Round, AdvanceAlone, Signed, Block, LoopComparison, FormType}
 use Rattle.psy_expect.specs.declared.hint.Hint.TheVariants.{Constant, Repeats, Cells, Dimension, FunctionArray, Period, FirstTemporal, FirstInput, Depth}
 use Rattle.psy_expect.specs.declared.terminal.Terminal.{Terminal}
 use Rattle.psy_expect.specs.declared.terminal.Terminal.TheVariants.{Word, Name, Number, Sign}
-use Rattle.psy_expect.specs.declared.group.Group.TheVariants.{Statement, Expression, Operator}
+use Rattle.psy_expect.specs.declared.group.Group.TheVariants.{Statement, Expression, Operator, TypeName}
 use Rattle.psy_expect.specs.Phrases.{same, has, members}
 
 -- It is there, and this terminal
@@ -54,7 +54,7 @@ is_foreign None g = false
 abbrev pub is_some_few : List Terminal → Bool
 is_some_few mends = not (length mends == 0) && (nat_le (length mends) 3 || has mends (Sign signs.Percent))
 
--- The words of types that there aren't
+-- The words of types other than `int`
 abbrev pub WIDTHS : List Terminal
 WIDTHS = Word words.Int8 ∷ Word words.Int16 ∷ Word words.Int32 ∷ Word words.Int64 ∷ []
 
@@ -72,7 +72,9 @@ LOOKS = Word words.Past ∷ Word words.Ready ∷ Word words.Take ∷ []
 
 -- What begins a value that isn't a number alone
 abbrev pub VALUES : List Terminal
-VALUES = Word words.Past ∷ Word words.Ready ∷ Word words.Take ∷ Name ∷ Sign signs.OpenRound ∷ Sign signs.Minus ∷ []
+VALUES =
+    Word words.Int ∷ Word words.Int8 ∷ Word words.Int16 ∷ Word words.Int32 ∷ Word words.Int64 ∷ Word words.Past ∷ Word words.Ready ∷ Word words.Take
+    ∷ Name ∷ Sign signs.OpenRound ∷ Sign signs.Minus ∷ []
 
 -- The operators that another language joins with `=`
 abbrev pub JOINED : List Terminal
@@ -103,9 +105,32 @@ abbrev pub OPENINGS : List Terminal
 OPENINGS =
     Sign signs.Assign ∷ Sign signs.OpenRound ∷ Sign signs.OpenSquare ∷ Sign signs.Comma ∷ Word words.Return ∷ Word words.Send ∷ []
 
--- The words of types
-abbrev pub TYPES : List Terminal
-TYPES = Word words.Int ∷ Word words.Int8 ∷ Word words.Int16 ∷ Word words.Int32 ∷ Word words.Int64 ∷ []
+-- The words that begin a declaration in which no type is written
+abbrev pub UNTYPED : List Terminal
+UNTYPED = Word words.Input ∷ Word words.Stream ∷ Word words.Temporal ∷ []
+
+-- This word of a type is there, or another
+abbrev pub is_type : Option Terminal → Bool
+is_type there = is_among there (members TypeName)
+
+-- The word of a type is here, and what stands behind it is no cast's bracket
+abbrev pub is_typed : Around → Bool
+is_typed a = is_type a.here && not (is a.behind (Sign signs.OpenRound))
+
+-- A variable of another type than `int` is declared outside of agents and functions
+abbrev pub is_typed_outside : Around → List Terminal → Bool
+is_typed_outside a told =
+    has told (Word words.Agent) && (is_among a.further ENDINGS && (is_among a.here WIDTHS || is_foreign a.foreign_here foreign.TypeWord))
+
+-- A type is here, in a declaration in which none is written, or before one
+abbrev pub is_type_in_vain : Around → List Terminal → Bool
+is_type_in_vain a told = is_type a.here && ((has told Name && is_among a.starter UNTYPED) || is_among a.behind UNTYPED)
+
+-- Another type than `int` is here, where there is `int` alone
+abbrev pub is_width : Around → List Terminal → Bool
+is_width a told =
+    (is_among a.here WIDTHS || is_foreign a.foreign_here foreign.TypeWord)
+    && (has told (Word words.Int) && not (has told (Word words.Int8) || is_typed_outside a told))
 
 -- An expression begins here, and with no name
 abbrev pub is_nameless : Option Terminal → Bool
@@ -114,9 +139,9 @@ is_nameless here = is_among here (members Expression) && not (is here Name)
 -- A function begins here among statements or behind a body, or its parameters are here, inside an agent or another function
 abbrev pub is_function_inside : Around → List Terminal → Bool
 is_function_inside a told =
-    (is a.here (Word words.Int) && (is a.further (Sign signs.OpenRound) && has told (Sign signs.CloseBrace)))
-    || (is a.here (Sign signs.OpenRound) && (is a.starter (Word words.Int)
-    && (has told (Sign signs.Assign) && (is a.behind (Word words.Int) || is a.behind (Sign signs.CloseRound)))))
+    (is_typed a && (is a.further (Sign signs.OpenRound) && has told (Sign signs.CloseBrace)))
+    || (is a.here (Sign signs.OpenRound) && (is_type a.starter
+    && (has told (Sign signs.Assign) && (is_type a.behind || is a.behind (Sign signs.CloseRound)))))
 
 -- A statement begins here, or an `else`
 abbrev pub is_statement : Option Terminal → Bool
@@ -161,23 +186,23 @@ is_arrow a =
     (is a.here (Sign signs.Greater) && (is a.before (Sign signs.Minus) && a.is_joined_before))
     || (is a.here (Sign signs.Minus) && (is a.behind (Sign signs.Greater) && a.is_joined_behind))
 
--- `*` or `&` stands where a statement may begin, or behind a type, or where a value begins
+-- `*` or `&` stands where a statement may begin, or behind a type in a declaration or in brackets, or where a value begins
 abbrev pub is_pointer : Around → List Terminal → Bool
 is_pointer a told =
     (is a.here (Sign signs.Star) || is a.here (Sign signs.Amp))
-    && (has told (Word words.If) || ((is_among a.before TYPES && has told Name) || (is_among a.before OPENINGS && has told (Sign signs.Tilde))))
+    && (has told (Word words.If) || ((is_type a.before && (has told Name || is a.earlier (Sign signs.OpenRound)))
+    || (is_among a.before OPENINGS && has told (Sign signs.Tilde))))
 
 -- What stands in the brackets of `sizeof`, or behind it
 abbrev pub is_size : Around → List Terminal → Bool
 is_size a told =
-    (is_foreign a.foreign_earlier foreign.Size && is a.before (Sign signs.OpenRound))
-    || (is_foreign a.foreign_before foreign.Size && has told (Sign signs.Plus))
+    (is_foreign a.foreign_earliest foreign.Size && is_type a.before)
+    || ((is_foreign a.foreign_earlier foreign.Size && is a.before (Sign signs.OpenRound))
+    || (is_foreign a.foreign_before foreign.Size && has told (Sign signs.Plus)))
 
--- A type stands in brackets where a value may begin
+-- Where a value may begin stands a type without a cast's bracket behind it
 abbrev pub is_cast : Around → List Terminal → Bool
-is_cast a told =
-    is_among a.here TYPES
-    && (is a.before (Sign signs.OpenRound) && (is a.behind (Sign signs.CloseRound) && (has told (Sign signs.Tilde) && not (has told (Sign signs.CloseRound)))))
+is_cast a told = is_type a.before && has told (Sign signs.OpenRound)
 
 -- Behind brackets with another language's word for a type a value begins
 abbrev pub is_cast_by_name : Around → List Terminal → Bool
@@ -214,12 +239,13 @@ is_end here = is here (Sign signs.Semicolon) || (is here (Sign signs.CloseBrace)
 -- left out
 abbrev pub fits : Hint → Around → List Terminal → List Terminal → Bool → Bool
 fits FunctionInside a told mends extra = is_function_inside a told
-fits DeclarationInBody a told mends extra = is a.here (Word words.Int) && has told (Word words.If)
-fits DeclarationBehindBody a told mends extra = is a.here (Word words.Int) && has told (Sign signs.CloseBrace)
-fits Width a told mends extra =
-    (is_among a.here WIDTHS && (has told (Word words.Int) || has told (Word words.If)))
-    || ((is_foreign a.foreign_here foreign.TypeWord && has told (Word words.Int))
-    || (is_foreign a.foreign_before foreign.TypeWord && has told (Sign signs.Assign)))
+fits DeclarationInBody a told mends extra = is_typed a && has told (Word words.If)
+fits DeclarationBehindBody a told mends extra = is_typed a && has told (Sign signs.CloseBrace)
+fits NoType a told mends extra = extra && is_type_in_vain a told
+fits Width a told mends extra = is_width a told
+fits Types a told mends extra =
+    (is_foreign a.foreign_here foreign.TypeWord && has told (Word words.Int8))
+    || (is_foreign a.foreign_before foreign.TypeWord && has told (Sign signs.Assign))
 fits Constant a told mends extra =
     (is_foreign a.foreign_here foreign.Constant && has told (Word words.Agent)) || ((is_foreign a.foreign_here foreign.Enumeration && has told (Word words.Int))
     || (is_foreign a.foreign_before foreign.Enumeration && has told (Sign signs.Assign)))
@@ -245,7 +271,7 @@ fits Logical a told mends extra =
     (is_foreign a.foreign_here foreign.Logical && has told (Sign signs.Plus)) || (is_foreign a.foreign_before foreign.Logical && has told (Sign signs.Plus))
 fits Wait a told mends extra = is_foreign a.foreign_before foreign.Wait && has told (Sign signs.Assign)
 fits Print a told mends extra = is_foreign a.foreign_before foreign.Print && has told (Sign signs.Assign)
-fits ValueAlone a told mends extra = is_among a.here LOOKS && has told (Word words.If)
+fits ValueAlone a told mends extra = (is_among a.here LOOKS || is_type a.here) && has told (Word words.If)
 fits TickAsClock a told mends extra = is a.here (Word words.Tick) && is a.before (Word words.On)
 fits IncrementWithin a told mends extra = is_step_within a told
 fits Increment a told mends extra = is_twice a (Sign signs.Plus) || is_twice a (Sign signs.Minus)
@@ -263,13 +289,14 @@ fits UnaryPlus a told mends extra = is a.here (Sign signs.Plus) && has told (Sig
 fits Sizeof a told mends extra = is_size a told
 fits Square a told mends extra = has mends (Sign signs.CloseSquare)
 fits Cells a told mends extra =
-    (is a.starter (Word words.Int) && ((is a.before (Sign signs.CloseSquare) && is a.here (Sign signs.Assign))
+    (is_type a.starter && ((is a.before (Sign signs.CloseSquare) && is a.here (Sign signs.Assign))
     || (is a.here (Sign signs.CloseSquare) && is a.behind (Sign signs.Assign))))
-    || ((is a.starter (Word words.Int) || is a.starter Name) && (is a.before (Sign signs.Assign) && is a.here (Sign signs.OpenBrace)))
+    || ((is_type a.starter || is a.starter Name) && (is a.before (Sign signs.Assign) && is a.here (Sign signs.OpenBrace)))
 fits Dimension a told mends extra = is a.before (Sign signs.CloseSquare) && is a.here (Sign signs.OpenSquare)
 fits Global a told mends extra =
-    is a.starter (Word words.Int) && (has told (Sign signs.OpenRound) && (is_among a.here ENDINGS && not (has told (Sign signs.Semicolon))))
-fits NoValue a told mends extra = is_end a.here && (is a.starter (Word words.Int) && has told (Sign signs.Assign))
+    (is a.starter (Word words.Int) && (has told (Sign signs.OpenRound) && (is_among a.here ENDINGS && not (has told (Sign signs.Semicolon)))))
+    || is_typed_outside a told
+fits NoValue a told mends extra = is_end a.here && (is_type a.starter && has told (Sign signs.Assign))
 fits NameAlone a told mends extra =
     is a.here (Sign signs.Semicolon) && (is a.before Name && (is a.starter Name && has told (Sign signs.Assign)))
 fits NoResult a told mends extra = is a.before (Word words.Return) && (is a.here (Sign signs.Semicolon) || is a.here (Sign signs.CloseBrace))
@@ -279,9 +306,9 @@ fits Comparison a told mends extra = is a.here (Sign signs.Assign) && has told (
 fits Assignment a told mends extra = is a.here (Sign signs.Equal) && has told (Sign signs.Assign)
 fits OneByOne a told mends extra = is a.here (Sign signs.Comma) && (has told (Sign signs.Assign) || has told (Sign signs.Semicolon))
 fits Call a told mends extra =
-    is a.before Name && (is a.here (Sign signs.OpenRound) && (has told (Sign signs.Assign) && not (is a.starter (Word words.Int))))
+    is a.before Name && (is a.here (Sign signs.OpenRound) && (has told (Sign signs.Assign) && not (is_type a.starter)))
 fits Prototype a told mends extra = is a.here (Sign signs.Semicolon) && (is a.starter (Word words.Int) && has told (Sign signs.OpenBrace))
-fits LeaveOut a told mends extra = extra && (is a.here (Sign signs.Comma) || (is a.here (Word words.Int) && has told Name))
+fits LeaveOut a told mends extra = extra && (is a.here (Sign signs.Comma) || (is_type a.here && has told Name))
 fits EmptyCondition a told mends extra = is a.here (Sign signs.Semicolon) && (is_among a.starter CONDITIONS && has told (Sign signs.OpenBrace))
 fits BodyMissing a told mends extra = is a.here (Sign signs.CloseBrace) && has told (Word words.Body)
 fits Extra a told mends extra =
@@ -318,7 +345,7 @@ fits Signed a told mends extra = is a.here (Sign signs.Minus) && is_number_alone
 fits NumberAlone a told mends extra = is_number_alone a told
 fits SemicolonAtEnd a told mends extra =
     (is_nothing a.here || (is_reserved a.here || (is a.here Name || is a.here (Sign signs.CloseBrace)))) && has told (Sign signs.Semicolon)
-fits FunctionArray a told mends extra = is a.starter (Word words.Int) && (is a.before Name && is a.here (Sign signs.OpenSquare))
+fits FunctionArray a told mends extra = is_type a.starter && (is a.before Name && is a.here (Sign signs.OpenSquare))
 fits Period a told mends extra = is a.starter (Word words.Clock) && has told (Sign signs.Assign)
 fits FirstTemporal a told mends extra = is a.starter (Word words.Temporal) && has told (Sign signs.Assign)
 fits FirstInput a told mends extra = is a.starter (Word words.Input) && has told (Sign signs.Assign)
@@ -330,6 +357,7 @@ fits FormInput a told mends extra = is a.starter (Word words.Input)
 fits FormStream a told mends extra = is a.starter (Word words.Stream)
 fits FormAgent a told mends extra = is a.starter (Word words.Agent)
 fits FormInt a told mends extra = is a.starter (Word words.Int)
+fits FormType a told mends extra = is_among a.starter WIDTHS
 fits FormIf a told mends extra = is a.starter (Word words.If)
 fits FormWhile a told mends extra = is a.starter (Word words.While)
 fits FormSend a told mends extra = is a.starter (Word words.Send)
@@ -339,14 +367,15 @@ fits FormAssign a told mends extra = is a.starter Name && has told (Sign signs.A
 -- The rules, in their order
 abbrev pub RULES : List Hint
 RULES =
-    FunctionInside ∷ DeclarationInBody ∷ DeclarationBehindBody ∷ Width ∷ Constant ∷ Modifier ∷ NoParameters ∷ Void ∷ FunctionWord ∷ Structure ∷ External
-    ∷ NoFor ∷ OtherLoop ∷ Jump ∷ Switch ∷ ElseIf ∷ Else ∷ SmallLetters ∷ Then ∷ Times ∷ Logical ∷ Wait ∷ Print ∷ ValueAlone ∷ TickAsClock ∷ IncrementWithin
-    ∷ Increment ∷ Compound ∷ LessOrEqual ∷ NotEqual ∷ Unlike ∷ Power ∷ Arrow ∷ Pointer ∷ UnaryPlus ∷ Sizeof ∷ Cast ∷ Square ∷ Cells ∷ Dimension ∷ Global
-    ∷ NoValue ∷ NameAlone ∷ NoResult ∷ Chain ∷ LoopComparison ∷ Comparison ∷ Assignment ∷ OneByOne ∷ Call ∷ Prototype ∷ Brackets ∷ Round ∷ MaxAlone
-    ∷ AdvanceAlone ∷ Signed ∷ NumberAlone ∷ LeaveOut ∷ EmptyCondition ∷ BodyMissing ∷ Extra ∷ Braces ∷ After ∷ NoStatement ∷ Ended ∷ Outside ∷ Repeats
-    ∷ NoBody ∷ BodyEnded ∷ SecondTick ∷ SecondBody ∷ InsideAgent ∷ Back ∷ Close ∷ ElseAlone ∷ Semicolon ∷ FormTick ∷ NoSemicolon ∷ Missing ∷ Block
-    ∷ LookName ∷ ReservedCall ∷ Reserved ∷ SemicolonAtEnd ∷ FunctionArray ∷ Period ∷ FirstTemporal ∷ FirstInput ∷ Depth ∷ FormClock ∷ FormTemporal
-    ∷ FormInput ∷ FormStream ∷ FormAgent ∷ FormInt ∷ FormIf ∷ FormWhile ∷ FormSend ∷ FormAdvance ∷ FormAssign ∷ []
+    FunctionInside ∷ DeclarationInBody ∷ DeclarationBehindBody ∷ NoType ∷ Width ∷ Types ∷ Constant ∷ Modifier ∷ NoParameters ∷ Void ∷ FunctionWord
+    ∷ Structure ∷ External ∷ NoFor ∷ OtherLoop ∷ Jump ∷ Switch ∷ ElseIf ∷ Else ∷ SmallLetters ∷ Then ∷ Times ∷ Logical ∷ Wait ∷ Print ∷ ValueAlone
+    ∷ TickAsClock ∷ IncrementWithin ∷ Increment ∷ Compound ∷ LessOrEqual ∷ NotEqual ∷ Unlike ∷ Power ∷ Arrow ∷ Pointer ∷ UnaryPlus ∷ Sizeof ∷ Cast
+    ∷ Square ∷ Cells ∷ Dimension ∷ Global ∷ NoValue ∷ NameAlone ∷ NoResult ∷ Chain ∷ LoopComparison ∷ Comparison ∷ Assignment ∷ OneByOne ∷ Call
+    ∷ Prototype ∷ Brackets ∷ Round ∷ MaxAlone ∷ AdvanceAlone ∷ Signed ∷ NumberAlone ∷ LeaveOut ∷ EmptyCondition ∷ BodyMissing ∷ Extra ∷ Braces ∷ After
+    ∷ NoStatement ∷ Ended ∷ Outside ∷ Repeats ∷ NoBody ∷ BodyEnded ∷ SecondTick ∷ SecondBody ∷ InsideAgent ∷ Back ∷ Close ∷ ElseAlone ∷ Semicolon
+    ∷ FormTick ∷ NoSemicolon ∷ Missing ∷ Block ∷ LookName ∷ ReservedCall ∷ Reserved ∷ SemicolonAtEnd ∷ FunctionArray ∷ Period ∷ FirstTemporal
+    ∷ FirstInput ∷ Depth ∷ FormClock ∷ FormTemporal ∷ FormInput ∷ FormStream ∷ FormAgent ∷ FormInt ∷ FormType ∷ FormIf ∷ FormWhile ∷ FormSend
+    ∷ FormAdvance ∷ FormAssign ∷ []
 
 -- The first rule that fits
 abbrev pub hint_of : Around → List Terminal → List Terminal → Bool → Option Hint
@@ -357,13 +386,15 @@ abbrev pub hint_words : Hint → List ℕ
 hint_words FunctionInside = codes "a function stands outside of agents and of other functions: put it above, or add the `}` that is missing further up"
 hint_words DeclarationInBody = codes "variables are declared before the statements: those of an agent before `body`, those of a function at its head"
 hint_words DeclarationBehindBody = codes "behind `body` nothing stands in an agent: variables are declared before it; before a function a `}` is missing"
-hint_words Width = codes "the only type is `int`"
+hint_words NoType = codes "temporal variables, inputs and messages are always `int`, and no type is written: leave it out"
+hint_words Width = codes "a function's result and its parameters are always `int`; variables and arrays may be of another type, as in `int8 n = 0;`"
+hint_words Types = codes "the types are `int8`, `int16`, `int32`, `int64`, and `int`, which is `int32`"
 hint_words Constant = codes "there are no named constants: write the number, or a function that returns it, as in `int limit() { return 5; }`"
 hint_words Modifier = codes "there is no `const`, `static` or the like: leave it out; an agent's variables keep their values from action to action"
 hint_words NoParameters = codes "a function without parameters is written with nothing in its brackets, as in `int f() { return 0; }`: leave `void` out"
 hint_words Void = codes "each function gives a value: write `int f(..) { .. return ..; }`"
 hint_words FunctionWord = codes "a function begins with `int`, as in `int f(int a) { return a; }`"
-hint_words Structure = codes "there is no `struct` and no `typedef`: each value is an `int`, and an agent has arrays of them, as in `int a[4];`"
+hint_words Structure = codes "there is no `struct` and no `typedef`: each value is a number, and an agent has arrays of them, as in `int a[4];`"
 hint_words External = codes "a program is one file, and takes nothing from others: leave this out, and declare here what it needs"
 hint_words NoFor = codes "there is no `for`: count in a `while (..) max N { .. }`"
 hint_words OtherLoop = codes "the only loop is `while (..) max N { .. }`; a `body` begins again by itself"
@@ -430,7 +461,8 @@ hint_words Semicolon = codes "a `;` is missing before this"
 hint_words Missing = []
 hint_words Block = codes "a block stands behind a condition or `else` alone: leave this `{` and its `}` out"
 hint_words LookName = codes "`past`, `ready` and `take` have a name alone in their brackets, as in `past(v, 0) + 1`"
-hint_words Cast = codes "there are no casts, and each value is an `int`: leave the type and its brackets out"
+hint_words Cast =
+    codes "a cast has the value in brackets behind the type, as in `int8(v)`; the types are `int8`, `int16`, `int32`, `int64` and `int`"
 hint_words ReservedCall =
     codes "this word is reserved, and no function has it as its name: declare one of another name, as in `int larger(int a, int b) { .. }`"
 hint_words Reserved = codes "this word is reserved, and can't be a name: choose another"
@@ -456,6 +488,7 @@ hint_words FormAgent =
     codes "an agent is declared as in `agent A on c budget 90 { int n = 0; body { n = n + 1; advance 1 on c; } }`; `processor 1` may stand before `budget`"
 hint_words FormInt =
     codes "`int` begins a function, as in `int f(int a, int b) { return a; }`, a variable, as in `int n = 0;`, and in an agent an array, as in `int a[4];`"
+hint_words FormType = codes "a type begins a variable, as in `int8 n = 0;`, and in an agent an array, as in `int8 a[4];`"
 hint_words FormIf = codes "an `if` is written as in `if (v > 0) { v = 0; } else { v = 1; }`"
 hint_words FormWhile = codes "a loop is written as in `while (v > 0) max 10 { v = v - 1; }`"
 hint_words FormSend = codes "a message is sent as in `send v to s after 0 on c;`"

@@ -10,7 +10,7 @@ use Rattle.psy_tree.specs.Lexemes.{word_spelling, sign_spelling}
 use Rattle.psy_expect.specs.declared.terminal.Terminal.{Terminal}
 use Rattle.psy_expect.specs.declared.terminal.Terminal.TheVariants.{Word, Name, Number, Sign}
 use Rattle.psy_expect.specs.declared.group.Group.{Group}
-use Rattle.psy_expect.specs.declared.group.Group.TheVariants.{Declaration, Statement, Expression, Operator}
+use Rattle.psy_expect.specs.declared.group.Group.TheVariants.{Declaration, Statement, Expression, Operator, TypeName}
 use Rattle.psy_expect.specs.declared.phrase.Phrase.{Phrase}
 use Rattle.psy_expect.specs.declared.phrase.Phrase.TheVariants.{Whole, Own}
 
@@ -26,17 +26,18 @@ same _ _ = false
 abbrev pub has : List Terminal → Terminal → Bool
 has told t = list_any (λ u. same u t) told
 
--- The terminals with which a declaration, a statement, an expression and what follows an operand begin
+-- The terminals with which a declaration, a statement, an expression and what follows an operand begin, and the words of types
 abbrev pub members : Group → List Terminal
 members Declaration = Word words.Agent ∷ Word words.Clock ∷ Word words.Input ∷ Word words.Int ∷ Word words.Stream ∷ Word words.Temporal ∷ []
 members Statement = Word words.Advance ∷ Word words.If ∷ Word words.Return ∷ Word words.Send ∷ Word words.While ∷ Name ∷ []
 members Expression =
-    Word words.Past ∷ Word words.Ready ∷ Word words.Take ∷ Name ∷ Number ∷ Sign signs.OpenRound ∷ Sign signs.Minus ∷ Sign signs.Tilde ∷ Sign signs.Bang
-    ∷ []
+    Word words.Int ∷ Word words.Int8 ∷ Word words.Int16 ∷ Word words.Int32 ∷ Word words.Int64 ∷ Word words.Past ∷ Word words.Ready ∷ Word words.Take
+    ∷ Name ∷ Number ∷ Sign signs.OpenRound ∷ Sign signs.Minus ∷ Sign signs.Tilde ∷ Sign signs.Bang ∷ []
 members Operator =
     Sign signs.Plus ∷ Sign signs.Minus ∷ Sign signs.Star ∷ Sign signs.Slash ∷ Sign signs.Percent ∷ Sign signs.ShiftLeft ∷ Sign signs.ShiftRight
     ∷ Sign signs.Less ∷ Sign signs.LessEqual ∷ Sign signs.Greater ∷ Sign signs.GreaterEqual ∷ Sign signs.Equal ∷ Sign signs.NotEqual
     ∷ Sign signs.Amp ∷ Sign signs.Caret ∷ Sign signs.Bar ∷ Sign signs.AmpAmp ∷ Sign signs.BarBar ∷ []
+members TypeName = Word words.Int ∷ Word words.Int8 ∷ Word words.Int16 ∷ Word words.Int32 ∷ Word words.Int64 ∷ []
 
 -- A group's words
 abbrev pub group_words : Group → List ℕ
@@ -44,6 +45,7 @@ group_words Declaration = codes "a declaration"
 group_words Statement = codes "a statement"
 group_words Expression = codes "an expression"
 group_words Operator = codes "an operator"
+group_words TypeName = codes "a type"
 
 -- The terminal that is told for its whole group
 abbrev pub lead : Group → Terminal
@@ -51,6 +53,7 @@ lead Declaration = Word words.Agent
 lead Statement = Word words.Advance
 lead Expression = Word words.Past
 lead Operator = Sign signs.Plus
+lead TypeName = Word words.Int
 
 -- All of these terminals are among those that are told
 abbrev pub are_told : List Terminal → List Terminal → Bool
@@ -60,9 +63,9 @@ are_told told terminals = list_all (λ t. has told t) terminals
 abbrev pub stands : List Terminal → Terminal → Group → Bool
 stands told t group = are_told told (members group) && has (members group) t
 
--- The first group that stands, of declarations, statements, expressions and operators
+-- The first group that stands, of declarations, statements, expressions, operators and types
 unfoldable pub group_of : List Terminal → Terminal → Option Group
-group_of told t = find (λ group. stands told t group) (Declaration ∷ Statement ∷ Expression ∷ Operator ∷ [])
+group_of told t = find (λ group. stands told t group) (Declaration ∷ Statement ∷ Expression ∷ Operator ∷ TypeName ∷ [])
 
 -- A terminal's own words: `a name`, `a number`, or its spelling in quotes
 abbrev pub own_words : Terminal → List ℕ

@@ -27,7 +27,9 @@ pub struct Around {
     pub is_joined_before: bool,
     /// Does the token behind it begin one byte behind that here?
     pub is_joined_behind: bool,
-    /// What word of another language the name two before the place is.
+    /// What word of another language the name three before the place is.
+    pub foreign_earliest: Option<Foreign>,
+    /// The same of the name two before the place.
     pub foreign_earlier: Option<Foreign>,
     /// The same of the name before the place.
     pub foreign_before: Option<Foreign>,
@@ -47,6 +49,7 @@ pub fn stands_around(tokens: &[Token], at: usize) -> Around
     let (front, back) = tokens.split_at(at);
     around_of(
         starter_at(front),
+        last_of(but_last(but_last(front))),
         last_of(but_last(front)),
         last_of(front),
         token_at(back, 0),
@@ -59,14 +62,15 @@ pub fn stands_around(tokens: &[Token], at: usize) -> Around
 #[tactic(auto, unfolding(crate::specs::Arounds::around_of))]
 fn around_of(
     starter: Option<Terminal>,
+    earliest: Option<&Token>,
     earlier: Option<&Token>,
     before: Option<&Token>,
     here: Option<&Token>,
     behind: Option<&Token>,
     further: Option<&Token>,
 ) -> Around
-    ensures { result ≡ around_of starter (option_copied earlier.entry) (option_copied before.entry) (option_copied here.entry) (option_copied behind.entry)
-        (option_copied further.entry) }
+    ensures { result ≡ around_of starter (option_copied earliest.entry) (option_copied earlier.entry) (option_copied before.entry) (option_copied here.entry)
+        (option_copied behind.entry) (option_copied further.entry) }
 {
     Around {
         starter,
@@ -78,6 +82,7 @@ fn around_of(
         is_joined_earlier: is_joined(earlier, before),
         is_joined_before: is_joined(before, here),
         is_joined_behind: is_joined(here, behind),
+        foreign_earliest: foreign_at(earliest),
         foreign_earlier: foreign_at(earlier),
         foreign_before: foreign_at(before),
         foreign_here: foreign_at(here),

@@ -2,8 +2,8 @@
 ghost use Rattle.std.specs.Prelude.{◌≡◌};
 ghost use Rattle.psy_expect.specs.Hints.{fits, has_ended, is, is_among, is_called, is_end, is_foreign, is_function_inside, is_look, is_loop};
 ghost use Rattle.psy_expect.specs.Hints.{is_modifier, is_nameless, is_nothing, is_one_behind, is_reserved, is_some_few, is_statement, is_twice};
-ghost use Rattle.psy_expect.specs.Hints.{begins_foreign, has_minuses, is_arrow, is_behind, is_cast, is_cast_by_name, is_number_alone};
-ghost use Rattle.psy_expect.specs.Hints.{is_pointer, is_round_missing, is_size, is_step_within};
+ghost use Rattle.psy_expect.specs.Hints.{begins_foreign, has_minuses, is_arrow, is_behind, is_cast, is_cast_by_name, is_number_alone, is_type};
+ghost use Rattle.psy_expect.specs.Hints.{is_pointer, is_round_missing, is_size, is_step_within, is_type_in_vain, is_typed, is_typed_outside, is_width};
 
 use crate::around::Around;
 use crate::foreign::Foreign;
@@ -42,7 +42,12 @@ const LOOKS: [Terminal; 3] = [
     Terminal::Word(Word::Take),
 ];
 
-const VALUES: [Terminal; 6] = [
+const VALUES: [Terminal; 11] = [
+    Terminal::Word(Word::Int),
+    Terminal::Word(Word::Int8),
+    Terminal::Word(Word::Int16),
+    Terminal::Word(Word::Int32),
+    Terminal::Word(Word::Int64),
     Terminal::Word(Word::Past),
     Terminal::Word(Word::Ready),
     Terminal::Word(Word::Take),
@@ -93,12 +98,10 @@ const OPENINGS: [Terminal; 6] = [
     Terminal::Word(Word::Send),
 ];
 
-const TYPES: [Terminal; 5] = [
-    Terminal::Word(Word::Int),
-    Terminal::Word(Word::Int8),
-    Terminal::Word(Word::Int16),
-    Terminal::Word(Word::Int32),
-    Terminal::Word(Word::Int64),
+const UNTYPED: [Terminal; 3] = [
+    Terminal::Word(Word::Input),
+    Terminal::Word(Word::Stream),
+    Terminal::Word(Word::Temporal),
 ];
 
 /// Does the rule fit a place with this around it, where these terminals may stand, and the program goes on where one of those is put before it, or where it
@@ -108,16 +111,14 @@ pub fn fits(hint: Hint, a: Around, told: &[Terminal], mends: &[Terminal], is_ext
 {
     match hint {
         Hint::FunctionInside => is_function_inside(a, told),
-        Hint::DeclarationInBody => is(a.here, Terminal::Word(Word::Int))
-            && has(told, Terminal::Word(Word::If)),
-        Hint::DeclarationBehindBody => is(a.here, Terminal::Word(Word::Int))
-            && has(told, Terminal::Sign(Sign::CloseBrace)),
-        Hint::Width => (is_among(a.here, &WIDTHS)
-            && (has(told, Terminal::Word(Word::Int)) || has(told, Terminal::Word(Word::If))))
-            || ((is_foreign(a.foreign_here, Foreign::TypeWord)
-                && has(told, Terminal::Word(Word::Int)))
-                || (is_foreign(a.foreign_before, Foreign::TypeWord)
-                    && has(told, Terminal::Sign(Sign::Assign)))),
+        Hint::DeclarationInBody => is_typed(a) && has(told, Terminal::Word(Word::If)),
+        Hint::DeclarationBehindBody => is_typed(a) && has(told, Terminal::Sign(Sign::CloseBrace)),
+        Hint::NoType => is_extra && is_type_in_vain(a, told),
+        Hint::Width => is_width(a, told),
+        Hint::Types => (is_foreign(a.foreign_here, Foreign::TypeWord)
+            && has(told, Terminal::Word(Word::Int8)))
+            || (is_foreign(a.foreign_before, Foreign::TypeWord)
+                && has(told, Terminal::Sign(Sign::Assign))),
         Hint::Constant => (is_foreign(a.foreign_here, Foreign::Constant)
             && has(told, Terminal::Word(Word::Agent)))
             || ((is_foreign(a.foreign_here, Foreign::Enumeration)
@@ -164,7 +165,8 @@ pub fn fits(hint: Hint, a: Around, told: &[Terminal], mends: &[Terminal], is_ext
             && has(told, Terminal::Sign(Sign::Assign)),
         Hint::Print => is_foreign(a.foreign_before, Foreign::Print)
             && has(told, Terminal::Sign(Sign::Assign)),
-        Hint::ValueAlone => is_among(a.here, &LOOKS) && has(told, Terminal::Word(Word::If)),
+        Hint::ValueAlone => (is_among(a.here, &LOOKS) || is_type(a.here))
+            && has(told, Terminal::Word(Word::If)),
         Hint::TickAsClock => is(a.here, Terminal::Word(Word::Tick))
             && is(a.before, Terminal::Word(Word::On)),
         Hint::IncrementWithin => is_step_within(a, told),
@@ -190,22 +192,22 @@ pub fn fits(hint: Hint, a: Around, told: &[Terminal], mends: &[Terminal], is_ext
             && has(told, Terminal::Sign(Sign::Tilde)),
         Hint::Sizeof => is_size(a, told),
         Hint::Square => has(mends, Terminal::Sign(Sign::CloseSquare)),
-        Hint::Cells => (is(a.starter, Terminal::Word(Word::Int))
+        Hint::Cells => (is_type(a.starter)
             && ((is(a.before, Terminal::Sign(Sign::CloseSquare))
                 && is(a.here, Terminal::Sign(Sign::Assign)))
                 || (is(a.here, Terminal::Sign(Sign::CloseSquare))
                     && is(a.behind, Terminal::Sign(Sign::Assign)))))
-            || ((is(a.starter, Terminal::Word(Word::Int)) || is(a.starter, Terminal::Name))
+            || ((is_type(a.starter) || is(a.starter, Terminal::Name))
                 && (is(a.before, Terminal::Sign(Sign::Assign))
                     && is(a.here, Terminal::Sign(Sign::OpenBrace)))),
         Hint::Dimension => is(a.before, Terminal::Sign(Sign::CloseSquare))
             && is(a.here, Terminal::Sign(Sign::OpenSquare)),
-        Hint::Global => is(a.starter, Terminal::Word(Word::Int))
+        Hint::Global => (is(a.starter, Terminal::Word(Word::Int))
             && (has(told, Terminal::Sign(Sign::OpenRound))
-                && (is_among(a.here, &ENDINGS) && !has(told, Terminal::Sign(Sign::Semicolon)))),
+                && (is_among(a.here, &ENDINGS) && !has(told, Terminal::Sign(Sign::Semicolon)))))
+            || is_typed_outside(a, told),
         Hint::NoValue => is_end(a.here)
-            && (is(a.starter, Terminal::Word(Word::Int))
-                && has(told, Terminal::Sign(Sign::Assign))),
+            && (is_type(a.starter) && has(told, Terminal::Sign(Sign::Assign))),
         Hint::NameAlone => is(a.here, Terminal::Sign(Sign::Semicolon))
             && (is(a.before, Terminal::Name)
                 && (is(a.starter, Terminal::Name) && has(told, Terminal::Sign(Sign::Assign)))),
@@ -227,14 +229,13 @@ pub fn fits(hint: Hint, a: Around, told: &[Terminal], mends: &[Terminal], is_ext
                 || has(told, Terminal::Sign(Sign::Semicolon))),
         Hint::Call => is(a.before, Terminal::Name)
             && (is(a.here, Terminal::Sign(Sign::OpenRound))
-                && (has(told, Terminal::Sign(Sign::Assign))
-                    && !is(a.starter, Terminal::Word(Word::Int)))),
+                && (has(told, Terminal::Sign(Sign::Assign)) && !is_type(a.starter))),
         Hint::Prototype => is(a.here, Terminal::Sign(Sign::Semicolon))
             && (is(a.starter, Terminal::Word(Word::Int))
                 && has(told, Terminal::Sign(Sign::OpenBrace))),
         Hint::LeaveOut => is_extra
             && (is(a.here, Terminal::Sign(Sign::Comma))
-                || (is(a.here, Terminal::Word(Word::Int)) && has(told, Terminal::Name))),
+                || (is_type(a.here) && has(told, Terminal::Name))),
         Hint::EmptyCondition => is(a.here, Terminal::Sign(Sign::Semicolon))
             && (is_among(a.starter, &CONDITIONS) && has(told, Terminal::Sign(Sign::OpenBrace))),
         Hint::BodyMissing => is(a.here, Terminal::Sign(Sign::CloseBrace))
@@ -295,7 +296,7 @@ pub fn fits(hint: Hint, a: Around, told: &[Terminal], mends: &[Terminal], is_ext
             || (is_reserved(a.here)
                 || (is(a.here, Terminal::Name) || is(a.here, Terminal::Sign(Sign::CloseBrace)))))
             && has(told, Terminal::Sign(Sign::Semicolon)),
-        Hint::FunctionArray => is(a.starter, Terminal::Word(Word::Int))
+        Hint::FunctionArray => is_type(a.starter)
             && (is(a.before, Terminal::Name) && is(a.here, Terminal::Sign(Sign::OpenSquare))),
         Hint::Period => is(a.starter, Terminal::Word(Word::Clock))
             && has(told, Terminal::Sign(Sign::Assign)),
@@ -316,6 +317,7 @@ pub fn fits(hint: Hint, a: Around, told: &[Terminal], mends: &[Terminal], is_ext
         Hint::FormStream => is(a.starter, Terminal::Word(Word::Stream)),
         Hint::FormAgent => is(a.starter, Terminal::Word(Word::Agent)),
         Hint::FormInt => is(a.starter, Terminal::Word(Word::Int)),
+        Hint::FormType => is_among(a.starter, &WIDTHS),
         Hint::FormIf => is(a.starter, Terminal::Word(Word::If)),
         Hint::FormWhile => is(a.starter, Terminal::Word(Word::While)),
         Hint::FormSend => is(a.starter, Terminal::Word(Word::Send)),
@@ -338,14 +340,54 @@ fn is_twice(a: Around, sign: Terminal) -> bool
 fn is_function_inside(a: Around, told: &[Terminal]) -> bool
     ensures { result ≡ is_function_inside a told.now }
 {
-    (is(a.here, Terminal::Word(Word::Int))
+    (is_typed(a)
         && (is(a.further, Terminal::Sign(Sign::OpenRound))
             && has(told, Terminal::Sign(Sign::CloseBrace))))
         || (is(a.here, Terminal::Sign(Sign::OpenRound))
-            && (is(a.starter, Terminal::Word(Word::Int))
+            && (is_type(a.starter)
                 && (has(told, Terminal::Sign(Sign::Assign))
-                    && (is(a.behind, Terminal::Word(Word::Int))
-                        || is(a.behind, Terminal::Sign(Sign::CloseRound))))))
+                    && (is_type(a.behind) || is(a.behind, Terminal::Sign(Sign::CloseRound))))))
+}
+
+// Is a word of a type there?
+fn is_type(there: Option<Terminal>) -> bool
+    ensures { result ≡ is_type there }
+{
+    is_among(there, members(Group::TypeName))
+}
+
+// Is the word of a type here, and no bracket of a cast behind it?
+fn is_typed(a: Around) -> bool
+    ensures { result ≡ is_typed a }
+{
+    is_type(a.here) && !is(a.behind, Terminal::Sign(Sign::OpenRound))
+}
+
+// Is a variable of another type than `int` declared outside of agents and functions?
+fn is_typed_outside(a: Around, told: &[Terminal]) -> bool
+    ensures { result ≡ is_typed_outside a told.now }
+{
+    has(told, Terminal::Word(Word::Agent))
+        && (is_among(a.further, &ENDINGS)
+            && (is_among(a.here, &WIDTHS) || is_foreign(a.foreign_here, Foreign::TypeWord)))
+}
+
+// Is a type here, in a declaration in which none is written, or before one?
+fn is_type_in_vain(a: Around, told: &[Terminal]) -> bool
+    ensures { result ≡ is_type_in_vain a told.now }
+{
+    is_type(a.here)
+        && ((has(told, Terminal::Name) && is_among(a.starter, &UNTYPED))
+            || is_among(a.behind, &UNTYPED))
+}
+
+// Is another type than `int` here, where there is `int` alone?
+fn is_width(a: Around, told: &[Terminal]) -> bool
+    ensures { result ≡ is_width a told.now }
+{
+    (is_among(a.here, &WIDTHS) || is_foreign(a.foreign_here, Foreign::TypeWord))
+        && (has(told, Terminal::Word(Word::Int))
+            && !(has(told, Terminal::Word(Word::Int8)) || is_typed_outside(a, told)))
 }
 
 // Does a statement begin here, or an `else`?
@@ -481,13 +523,14 @@ fn is_arrow(a: Around) -> bool
             && (is(a.behind, Terminal::Sign(Sign::Greater)) && a.is_joined_behind))
 }
 
-// Does `*` or `&` stand where a statement may begin, or behind a type, or where a value begins?
+// Does `*` or `&` stand where a statement may begin, or behind a type in a declaration or in brackets, or where a value begins?
 fn is_pointer(a: Around, told: &[Terminal]) -> bool
     ensures { result ≡ is_pointer a told.now }
 {
     (is(a.here, Terminal::Sign(Sign::Star)) || is(a.here, Terminal::Sign(Sign::Amp)))
         && (has(told, Terminal::Word(Word::If))
-            || ((is_among(a.before, &TYPES) && has(told, Terminal::Name))
+            || ((is_type(a.before)
+                && (has(told, Terminal::Name) || is(a.earlier, Terminal::Sign(Sign::OpenRound))))
                 || (is_among(a.before, &OPENINGS) && has(told, Terminal::Sign(Sign::Tilde)))))
 }
 
@@ -495,19 +538,18 @@ fn is_pointer(a: Around, told: &[Terminal]) -> bool
 fn is_size(a: Around, told: &[Terminal]) -> bool
     ensures { result ≡ is_size a told.now }
 {
-    (is_foreign(a.foreign_earlier, Foreign::Size) && is(a.before, Terminal::Sign(Sign::OpenRound)))
-        || (is_foreign(a.foreign_before, Foreign::Size) && has(told, Terminal::Sign(Sign::Plus)))
+    (is_foreign(a.foreign_earliest, Foreign::Size) && is_type(a.before))
+        || ((is_foreign(a.foreign_earlier, Foreign::Size)
+            && is(a.before, Terminal::Sign(Sign::OpenRound)))
+            || (is_foreign(a.foreign_before, Foreign::Size)
+                && has(told, Terminal::Sign(Sign::Plus))))
 }
 
-// Does a type stand in brackets where a value may begin?
+// Does a type stand where a value may begin, without a cast's bracket behind it?
 fn is_cast(a: Around, told: &[Terminal]) -> bool
     ensures { result ≡ is_cast a told.now }
 {
-    is_among(a.here, &TYPES)
-        && (is(a.before, Terminal::Sign(Sign::OpenRound))
-            && (is(a.behind, Terminal::Sign(Sign::CloseRound))
-                && (has(told, Terminal::Sign(Sign::Tilde))
-                    && !has(told, Terminal::Sign(Sign::CloseRound)))))
+    is_type(a.before) && has(told, Terminal::Sign(Sign::OpenRound))
 }
 
 // Does a value begin behind brackets with another language's word for a type?

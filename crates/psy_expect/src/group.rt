@@ -5,20 +5,22 @@ ghost use Rattle.psy_expect.specs.Phrases.{are_told, group_of, group_words, has,
 use crate::terminal::Terminal;
 use psy_tree::{Sign, Word};
 
-/// A group of terminals: those with which a declaration, a statement or an expression begins, or the operators.
+/// A group of terminals: those with which a declaration, a statement or an expression begins, the operators, or the words of types.
 #[derive(Clone, Copy, Debug, PartialEq, Eq)]
 pub enum Group {
     Declaration,
     Statement,
     Expression,
     Operator,
+    TypeName,
 }
 
-const GROUPS: [Group; 4] = [
+const GROUPS: [Group; 5] = [
     Group::Declaration,
     Group::Statement,
     Group::Expression,
     Group::Operator,
+    Group::TypeName,
 ];
 
 const DECLARATION: [Terminal; 6] = [
@@ -39,7 +41,12 @@ const STATEMENT: [Terminal; 6] = [
     Terminal::Name,
 ];
 
-const EXPRESSION: [Terminal; 9] = [
+const EXPRESSION: [Terminal; 14] = [
+    Terminal::Word(Word::Int),
+    Terminal::Word(Word::Int8),
+    Terminal::Word(Word::Int16),
+    Terminal::Word(Word::Int32),
+    Terminal::Word(Word::Int64),
     Terminal::Word(Word::Past),
     Terminal::Word(Word::Ready),
     Terminal::Word(Word::Take),
@@ -72,6 +79,14 @@ const OPERATOR: [Terminal; 18] = [
     Terminal::Sign(Sign::BarBar),
 ];
 
+const TYPE_NAMES: [Terminal; 5] = [
+    Terminal::Word(Word::Int),
+    Terminal::Word(Word::Int8),
+    Terminal::Word(Word::Int16),
+    Terminal::Word(Word::Int32),
+    Terminal::Word(Word::Int64),
+];
+
 /// The terminals of a group.
 pub fn members(group: Group) -> &'static [Terminal]
     ensures { result.now ≡ members group }
@@ -81,6 +96,7 @@ pub fn members(group: Group) -> &'static [Terminal]
         Group::Statement => &STATEMENT,
         Group::Expression => &EXPRESSION,
         Group::Operator => &OPERATOR,
+        Group::TypeName => &TYPE_NAMES,
     }
 }
 
@@ -93,6 +109,7 @@ pub fn group_words(group: Group) -> &'static [u8]
         Group::Statement => b"a statement",
         Group::Expression => b"an expression",
         Group::Operator => b"an operator",
+        Group::TypeName => b"a type",
     }
 }
 
@@ -105,6 +122,7 @@ pub fn lead(group: Group) -> Terminal
         Group::Statement => Terminal::Word(Word::Advance),
         Group::Expression => Terminal::Word(Word::Past),
         Group::Operator => Terminal::Sign(Sign::Plus),
+        Group::TypeName => Terminal::Word(Word::Int),
     }
 }
 

@@ -15,8 +15,12 @@ pub enum Hint {
     DeclarationInBody,
     /// A variable is declared behind a body, or a function inside an agent.
     DeclarationBehindBody,
-    /// `int8`, `float` and their kin are no types.
+    /// A type where none is written.
+    NoType,
+    /// `int8`, `float` and their kin where there is `int` alone.
     Width,
+    /// Another language's word for a type.
+    Types,
     /// A named constant.
     Constant,
     /// `const`, `static` and their kin.
@@ -165,7 +169,7 @@ pub enum Hint {
     Block,
     /// An expression where `past`, `ready` and `take` want a name.
     LookName,
-    /// A type in brackets before a value.
+    /// A cast in the form of another language.
     Cast,
     /// A reserved word that is called.
     ReservedCall,
@@ -199,6 +203,8 @@ pub enum Hint {
     FormAgent,
     /// The forms of what `int` begins.
     FormInt,
+    /// The forms of what another type begins.
+    FormType,
     /// The form of an `if`.
     FormIf,
     /// The form of a loop.
@@ -211,11 +217,13 @@ pub enum Hint {
     FormAssign,
 }
 
-const HINTS: [Hint; 100] = [
+const HINTS: [Hint; 103] = [
     Hint::FunctionInside,
     Hint::DeclarationInBody,
     Hint::DeclarationBehindBody,
+    Hint::NoType,
     Hint::Width,
+    Hint::Types,
     Hint::Constant,
     Hint::Modifier,
     Hint::NoParameters,
@@ -307,6 +315,7 @@ const HINTS: [Hint; 100] = [
     Hint::FormStream,
     Hint::FormAgent,
     Hint::FormInt,
+    Hint::FormType,
     Hint::FormIf,
     Hint::FormWhile,
     Hint::FormSend,
@@ -341,7 +350,12 @@ pub fn hint_words(hint: Hint) -> &'static [u8]
             b"variables are declared before the statements: those of an agent before `body`, those of a function at its head",
         Hint::DeclarationBehindBody =>
             b"behind `body` nothing stands in an agent: variables are declared before it; before a function a `}` is missing",
-        Hint::Width => b"the only type is `int`",
+        Hint::NoType =>
+            b"temporal variables, inputs and messages are always `int`, and no type is written: leave it out",
+        Hint::Width =>
+            b"a function's result and its parameters are always `int`; variables and arrays may be of another type, as in `int8 n = 0;`",
+        Hint::Types =>
+            b"the types are `int8`, `int16`, `int32`, `int64`, and `int`, which is `int32`",
         Hint::Constant =>
             b"there are no named constants: write the number, or a function that returns it, as in `int limit() { return 5; }`",
         Hint::Modifier =>
@@ -351,7 +365,7 @@ pub fn hint_words(hint: Hint) -> &'static [u8]
         Hint::Void => b"each function gives a value: write `int f(..) { .. return ..; }`",
         Hint::FunctionWord => b"a function begins with `int`, as in `int f(int a) { return a; }`",
         Hint::Structure =>
-            b"there is no `struct` and no `typedef`: each value is an `int`, and an agent has arrays of them, as in `int a[4];`",
+            b"there is no `struct` and no `typedef`: each value is a number, and an agent has arrays of them, as in `int a[4];`",
         Hint::External =>
             b"a program is one file, and takes nothing from others: leave this out, and declare here what it needs",
         Hint::NoFor => b"there is no `for`: count in a `while (..) max N { .. }`",
@@ -445,7 +459,7 @@ pub fn hint_words(hint: Hint) -> &'static [u8]
         Hint::LookName =>
             b"`past`, `ready` and `take` have a name alone in their brackets, as in `past(v, 0) + 1`",
         Hint::Cast =>
-            b"there are no casts, and each value is an `int`: leave the type and its brackets out",
+            b"a cast has the value in brackets behind the type, as in `int8(v)`; the types are `int8`, `int16`, `int32`, `int64` and `int`",
         Hint::ReservedCall =>
             b"this word is reserved, and no function has it as its name: declare one of another name, as in `int larger(int a, int b) { .. }`",
         Hint::Reserved => b"this word is reserved, and can't be a name: choose another",
@@ -478,6 +492,8 @@ pub fn hint_words(hint: Hint) -> &'static [u8]
             b"an agent is declared as in `agent A on c budget 90 { int n = 0; body { n = n + 1; advance 1 on c; } }`; `processor 1` may stand before `budget`",
         Hint::FormInt =>
             b"`int` begins a function, as in `int f(int a, int b) { return a; }`, a variable, as in `int n = 0;`, and in an agent an array, as in `int a[4];`",
+        Hint::FormType =>
+            b"a type begins a variable, as in `int8 n = 0;`, and in an agent an array, as in `int8 a[4];`",
         Hint::FormIf => b"an `if` is written as in `if (v > 0) { v = 0; } else { v = 1; }`",
         Hint::FormWhile => b"a loop is written as in `while (v > 0) max 10 { v = v - 1; }`",
         Hint::FormSend => b"a message is sent as in `send v to s after 0 on c;`",

@@ -6,10 +6,10 @@ use Rattle.psy_door.specs.Growth.{Grew, GrewByFront}
 use Rattle.psy_log.specs.declared.note.Note.{Note}
 use Rattle.psy_notes.specs.Stands.{run_begins}
 use Rattle.psy_notes.specs.Texts.{BreaksAt, IsText, text_of}
-use Rattle.psy_listed.specs.Listing.{first_unlisted}
-use Rattle.psy_listed.specs.Logs.{IsLog}
-use Rattle.psy_scan.specs.Runs.{IsRun}
-use Rattle.psy_scan.proofs.lemmas.Growth.{front_nothing}
+use Rattle.psy_passes.specs.Listing.{first_unlisted}
+use Rattle.psy_passes.specs.Logs.{IsLog}
+use Rattle.psy_passes.specs.Runs.{IsRun}
+use Rattle.psy_passes.proofs.lemmas.Growth.{front_nothing}
 use Rattle.psy_passes.specs.Outcomes.{IsFileText, IsMany, IsOfTelling}
 use Rattle.psy_passes.specs.declared.fault.PassFault.{PassFault}
 use Rattle.psy_passes.specs.declared.fault.PassFault.TheVariants as fault

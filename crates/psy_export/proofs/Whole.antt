@@ -7,10 +7,10 @@ use Rattle.psy_log.specs.Forms.{says}
 use Rattle.psy_notes.specs.declared.stand.Stand.{Stand}
 use Rattle.psy_notes.specs.Stands.{run_begins}
 use Rattle.psy_notes.specs.Texts.{IsText, Leads, text_of}
-use Rattle.psy_listed.specs.Listing.{agents_in, streams_in, variables_in}
-use Rattle.psy_listed.specs.Logs.{IsLog}
+use Rattle.psy_passes.specs.Listing.{agents_in, streams_in, variables_in}
+use Rattle.psy_passes.specs.Logs.{IsLog}
 use Rattle.psy_passes.specs.Outcomes.{Begins}
-use Rattle.psy_scan.specs.Runs.{IsRun}
+use Rattle.psy_passes.specs.Runs.{IsRun}
 use Rattle.psy_table.specs.Rows.{columns_of, heading}
 use Rattle.psy_table.specs.Streams.{csv_under}
 use Rattle.psy_wave.specs.Heads.{head}

@@ -4,10 +4,10 @@ use Rattle.psy_door.specs.Files.{Files}
 use Rattle.psy_log.specs.declared.note.Note.{Note}
 use Rattle.psy_notes.specs.Stands.{run_begins}
 use Rattle.psy_notes.specs.Texts.{BreaksAt, IsText, text_of}
-use Rattle.psy_listed.specs.Listing.{first_unlisted}
-use Rattle.psy_listed.specs.Logs.{IsLog}
+use Rattle.psy_passes.specs.Listing.{first_unlisted}
+use Rattle.psy_passes.specs.Logs.{IsLog}
 use Rattle.psy_passes.specs.Outcomes.{IsFileText, IsMany}
-use Rattle.psy_scan.specs.Runs.{IsRun}
+use Rattle.psy_passes.specs.Runs.{IsRun}
 use Rattle.psy_table.specs.Rows.{csv_of}
 use Rattle.psy_table.specs.Streams.{TableFront}
 use Rattle.psy_wave.specs.Changes.{vcd_of}

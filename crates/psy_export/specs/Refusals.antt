@@ -1,6 +1,6 @@
 -- The lines that are written where a run can't be exported. Names stand in them as they are shown on a screen.
 use Rattle.std.specs.Prelude.{ℕ, List, ◌++◌, codes, decimal}
-use Rattle.psy_scan.specs.declared.reading.TheConstants.{LINES}
+use Rattle.psy_passes.specs.declared.reading.TheConstants.{LINES}
 use Rattle.psy_show.specs.Lines.{shown}
 
 -- The file can't be read

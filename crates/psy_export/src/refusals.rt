@@ -4,7 +4,7 @@ ghost use Rattle.psy_show.specs.Lines.{shown};
 ghost use Rattle.psy_export.specs.Refusals.{broken_line, many_line, more_line, unlisted_line, unread_line};
 
 use itoa::Buffer;
-use psy_scan::LINES;
+use psy_passes::LINES;
 use psy_show::shown;
 use psy_text::write::joined;
 use std::alloc::{AllocError, Global};

@@ -17,8 +17,9 @@ in_step (Expr-F.Copy variable) = refl
 in_step (Expr-F.Cell slot index) = refl
 in_step (Expr-F.Ready stream) = refl
 in_step (Expr-F.Take stream) = refl
-in_step (Expr-F.Unary operator operand) = refl
-in_step (Expr-F.Binary operator left right) = refl
+in_step (Expr-F.Unary operator width operand) = refl
+in_step (Expr-F.Binary operator width left right) = refl
+in_step (Expr-F.Cast width operand) = refl
 in_step (Expr-F.Call function arguments) = refl
 
 in_expr : (e : Expr) → expr_backs 0 e ≡ expr_pasts e

@@ -10,8 +10,9 @@ use Rattle.psy_history.specs.Feeding.{all_pasts}
 abbrev pub expr_backs_step : ℕ → Expr-F (List ℕ) → List ℕ
 expr_backs_step least (Expr-F.Past variable back) = if nat_le least back then variable ∷ [] else []
 expr_backs_step least (Expr-F.Cell slot index) = index
-expr_backs_step least (Expr-F.Unary operator operand) = operand
-expr_backs_step least (Expr-F.Binary operator left right) = left ++ right
+expr_backs_step least (Expr-F.Unary operator width operand) = operand
+expr_backs_step least (Expr-F.Binary operator width left right) = left ++ right
+expr_backs_step least (Expr-F.Cast width operand) = operand
 expr_backs_step least (Expr-F.Call function arguments) = all_pasts arguments
 expr_backs_step least _ = []
 

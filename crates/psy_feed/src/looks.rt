@@ -13,8 +13,10 @@ fn expr_looks(expr: &Expr, variable: u32, least: u32) -> bool
     match expr {
         Expr::Past(own, back) => least <= *back && *own == variable,
         Expr::Cell(_, index) => expr_looks(index.get(), variable, least),
-        Expr::Unary(_, operand) => expr_looks(operand.get(), variable, least),
-        Expr::Binary(_, left, right) => {
+        Expr::Unary(_, _, operand) | Expr::Cast(_, operand) => {
+            expr_looks(operand.get(), variable, least)
+        }
+        Expr::Binary(_, _, left, right) => {
             expr_looks(left.get(), variable, least) || expr_looks(right.get(), variable, least)
         }
         Expr::Call(_, arguments) => exprs_look(arguments.as_slice(), variable, least),

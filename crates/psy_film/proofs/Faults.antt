@@ -6,8 +6,8 @@ use Rattle.psy_door.specs.Files.{Files}
 use Rattle.psy_log.specs.declared.note.Note.{Note}
 use Rattle.psy_notes.specs.Stands.{run_begins}
 use Rattle.psy_notes.specs.Texts.{BreaksAt}
-use Rattle.psy_listed.specs.Listing as listing
-use Rattle.psy_scan.specs.Runs.{IsRun}
+use Rattle.psy_passes.specs.Listing as listing
+use Rattle.psy_passes.specs.Runs.{IsRun}
 use Rattle.psy_passes.specs.Outcomes.{IsFileText, IsMany, IsOfTelling}
 use Rattle.psy_passes.specs.declared.fault.PassFault.{PassFault}
 use Rattle.psy_passes.specs.declared.fault.PassFault.TheVariants as pass

@@ -8,11 +8,11 @@ use Rattle.psy_door.specs.Files.{Files}
 use Rattle.psy_log.specs.declared.note.Note.{Note}
 use Rattle.psy_log.specs.declared.note.Note.TheVariants as note
 use Rattle.psy_log.specs.Forms.{says}
-use Rattle.psy_listed.specs.Listing.{added_agent, added_stream, added_variable}
-use Rattle.psy_listed.specs.Listing as listing
-use Rattle.psy_listed.specs.Names.{with_name}
-use Rattle.psy_passes.specs.Names.{EndAs, kept}
-use Rattle.psy_passes.specs.Names as passes
+use Rattle.psy_passes.specs.Listing.{added_agent, added_stream, added_variable}
+use Rattle.psy_passes.specs.Listing as listing
+use Rattle.psy_passes.specs.Names.{with_name}
+use Rattle.psy_passes.specs.NameChecks.{EndAs, kept}
+use Rattle.psy_passes.specs.NameChecks as passes
 use Rattle.psy_draw.specs.Gathering.{is_dated, undated}
 use Rattle.psy_draw.specs.Listing.{ends_agent, ends_stream, ends_variable, first_unlisted, is_listed}
 use Rattle.psy_draw.specs.Sayings.{HasSummary}

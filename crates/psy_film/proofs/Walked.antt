@@ -5,7 +5,7 @@ use Rattle.std.specs.List.{list_all}
 use Rattle.std.proofs.lemmas.Bool.{and_parts}
 use Rattle.std.proofs.lemmas.List.Folds.{list_all-append}
 use Rattle.psy_log.specs.declared.note.Note.{Note}
-use Rattle.psy_scan.specs.Telling.{Told, told_nothing, told_more}
+use Rattle.psy_passes.specs.Telling.{Told, told_nothing, told_more}
 use Rattle.psy_draw.specs.Columns.{Dated}
 use Rattle.psy_draw.specs.Gathering.{Counts, Gathers, is_known}
 use Rattle.psy_draw.specs.Homes.{housed_of}

@@ -3,7 +3,7 @@ ghost use Rattle.psy_film.specs.Walks.{CountsOn};
 
 use psy_draw::Outset;
 use psy_log::Note;
-use psy_scan::{Tell, TellFault};
+use psy_passes::{Tell, TellFault};
 
 /// Takes in notes for what must be known before their values are drawn, of a picture that begins at this date. It tells nothing.
 #[derive(Drop)]

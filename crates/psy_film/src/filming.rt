@@ -3,8 +3,8 @@ ghost use Rattle.std.specs.Prelude.{◌≡◌, ◌≤◌, List, None, true, min,
 ghost use Rattle.std.specs.List.{list_all};
 ghost use Rattle.psy_base.specs.declared.limits.TheConstants.{UNTIL};
 ghost use Rattle.psy_log.specs.declared.note.Note.{Note as Said};
-ghost use Rattle.psy_passes.specs.Names.{EndAs};
-ghost use Rattle.psy_scan.specs.Runs.{IsRun};
+ghost use Rattle.psy_passes.specs.NameChecks.{EndAs};
+ghost use Rattle.psy_passes.specs.Runs.{IsRun};
 ghost use Rattle.psy_draw.specs.Gathering.{Counts, Gathers, asks_stream, asks_variable, first_values, is_known};
 ghost use Rattle.psy_draw.specs.Listing.{Lists, first_unasked};
 ghost use Rattle.psy_draw.specs.Pictures.{IsPicture};

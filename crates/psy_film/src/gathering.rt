@@ -4,7 +4,7 @@ ghost use Rattle.psy_film.specs.Walks.{GathersOn};
 use psy_base::Memory;
 use psy_draw::{Gathering, Outset, Stops};
 use psy_log::Note;
-use psy_scan::{Tell, TellFault};
+use psy_passes::{Tell, TellFault};
 
 /// Takes in notes for the lanes of a picture, and once more for what was known of them before. It tells nothing.
 #[derive(Drop)]

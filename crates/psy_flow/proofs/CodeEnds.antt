@@ -45,8 +45,9 @@ ends_is (instr.Zero counter) point h = absurd (false≢true h)
 ends_is (instr.Guard counter bound) point h = absurd (false≢true h)
 ends_is (instr.Call function) point h = absurd (false≢true h)
 ends_is instr.Return point h = absurd (false≢true h)
-ends_is (instr.Binary operator) point h = absurd (false≢true h)
-ends_is (instr.Unary operator) point h = absurd (false≢true h)
+ends_is (instr.Binary operator width) point h = absurd (false≢true h)
+ends_is (instr.Unary operator width) point h = absurd (false≢true h)
+ends_is (instr.Cast width) point h = absurd (false≢true h)
 
 there_is : (o : Option Instr) (point : ℕ) → end_of o point ≡ true → o ≡ Some (instr.Advance point)
 there_is None point h = absurd (false≢true h)
@@ -75,8 +76,9 @@ no_end (instr.Zero counter) not point = refl
 no_end (instr.Guard counter bound) not point = refl
 no_end (instr.Call function) not point = refl
 no_end instr.Return not point = refl
-no_end (instr.Binary operator) not point = refl
-no_end (instr.Unary operator) not point = refl
+no_end (instr.Binary operator width) not point = refl
+no_end (instr.Unary operator width) not point = refl
+no_end (instr.Cast width) not point = refl
 
 advance_ends : (point : ℕ) → ends_at (instr.Advance point) point ≡ true
 advance_ends point = grind arith

@@ -125,8 +125,9 @@ module _ (g : Gauge) (ways : ℕ → Way) (calls : ℕ → ℕ) (all : (f : ℕ)
   step_most (Expr-F.Past variable back) = most_looking g variable back
   step_most (Expr-F.Ready stream) = most_one g
   step_most (Expr-F.Take stream) = most_one g
-  step_most (Expr-F.Unary operator operand) = most_then operand.0 one (in_step g) operand.1 (most_one g)
-  step_most (Expr-F.Binary operator left right) = most_binary g operator (expr_way ways left.0) (expr_way ways right.0) (expr_most g calls left.0) (expr_most g calls right.0) left.1 right.1
+  step_most (Expr-F.Unary operator width operand) = most_then operand.0 one (in_step g) operand.1 (most_one g)
+  step_most (Expr-F.Cast width operand) = most_then operand.0 one (in_step g) operand.1 (most_one g)
+  step_most (Expr-F.Binary operator width left right) = most_binary g operator (expr_way ways left.0) (expr_way ways right.0) (expr_most g calls left.0) (expr_most g calls right.0) left.1 right.1
   step_most (Expr-F.Call function arguments) =
       most_both g (ways_through (expr_way ways) (map tree arguments)) (both one (ways function)) (total (map (expr_most g calls) (map tree arguments))) (in_step g + calls function) (most_through arguments)
       (most_both g one (ways function) (in_step g) (calls function) (most_one g) (all function))

@@ -57,8 +57,9 @@ goes_if (instr.Guard counter bound) place next h = only_next next place h
 goes_if (instr.Call function) place next h = only_next next place h
 goes_if instr.Return place next h = none next h
 goes_if (instr.Advance point) place next h = none next h
-goes_if (instr.Binary operator) place next h = only_next next place h
-goes_if (instr.Unary operator) place next h = only_next next place h
+goes_if (instr.Binary operator width) place next h = only_next next place h
+goes_if (instr.Unary operator width) place next h = only_next next place h
+goes_if (instr.Cast width) place next h = only_next next place h
 
 pub one_of : (i : Instr) (place next : ℕ) → GoesOn i place next → IsOneOf next i place
 one_of (instr.Push number) place next h = inl (ap Some h)
@@ -82,5 +83,6 @@ one_of (instr.Guard counter bound) place next h = inl (ap Some h)
 one_of (instr.Call function) place next h = inl (ap Some h)
 one_of instr.Return place next h = absurd h
 one_of (instr.Advance point) place next h = absurd h
-one_of (instr.Binary operator) place next h = inl (ap Some h)
-one_of (instr.Unary operator) place next h = inl (ap Some h)
+one_of (instr.Binary operator width) place next h = inl (ap Some h)
+one_of (instr.Unary operator width) place next h = inl (ap Some h)
+one_of (instr.Cast width) place next h = inl (ap Some h)

@@ -137,8 +137,9 @@ module _ (R : ℕ → ℕ → Type 0) (same : (n : ℕ) → R n n) (sums : (a b 
 
     expr_step : (y : Expr-F Known) → R (expr_most_step g a (map-Expr Expr ℕ (expr_most g a) (map-Expr Known Expr tree y))) (expr_most_step g b (map-Expr Expr ℕ (expr_most g b) (map-Expr Known Expr tree y)))
     expr_step (Expr-F.Cell slot index) = one_more (expr_most g a index.0) (expr_most g b index.0) (in_step g) index.1
-    expr_step (Expr-F.Unary operator operand) = one_more (expr_most g a operand.0) (expr_most g b operand.0) (in_step g) operand.1
-    expr_step (Expr-F.Binary operator left right) = binary_related operator (expr_most g a left.0) (expr_most g b left.0) (expr_most g a right.0) (expr_most g b right.0) left.1 right.1
+    expr_step (Expr-F.Unary operator width operand) = one_more (expr_most g a operand.0) (expr_most g b operand.0) (in_step g) operand.1
+    expr_step (Expr-F.Cast width operand) = one_more (expr_most g a operand.0) (expr_most g b operand.0) (in_step g) operand.1
+    expr_step (Expr-F.Binary operator width left right) = binary_related operator (expr_most g a left.0) (expr_most g b left.0) (expr_most g a right.0) (expr_most g b right.0) left.1 right.1
     expr_step (Expr-F.Call function arguments) = sums _ _ _ _ (total_related arguments) (sums _ _ _ _ (same (in_step g)) (calls function))
     expr_step (Expr-F.Past variable back) = same (in_look g variable)
     expr_step (Expr-F.Number number) = same (in_step g)

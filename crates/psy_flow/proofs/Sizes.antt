@@ -63,10 +63,13 @@ module _ (functions : List Depth) (most : Depth) (below : Below most (deepest fu
   expr_step_sized (Expr-F.Cell slot index) =
       let inner : P index.0 = index.1 in
       record { bounded = record { operands = omega (arith, inner.bounded.operands); cells = inner.bounded.cells }; some = omega arith }
-  expr_step_sized (Expr-F.Unary operator operand) =
+  expr_step_sized (Expr-F.Unary operator width operand) =
       let inner : P operand.0 = operand.1 in
       record { bounded = record { operands = omega (arith, inner.bounded.operands); cells = inner.bounded.cells }; some = omega arith }
-  expr_step_sized (Expr-F.Binary operator left right) = binary_sized operator (depth left.0) (depth right.0) (expr_size left.0) (expr_size right.0) left.1 right.1
+  expr_step_sized (Expr-F.Cast width operand) =
+      let inner : P operand.0 = operand.1 in
+      record { bounded = record { operands = omega (arith, inner.bounded.operands); cells = inner.bounded.cells }; some = omega arith }
+  expr_step_sized (Expr-F.Binary operator width left right) = binary_sized operator (depth left.0) (depth right.0) (expr_size left.0) (expr_size right.0) left.1 right.1
   expr_step_sized (Expr-F.Call function arguments) =
       let inner = stacked_bounded 0 arguments in
       let callee = below_at most functions function below in

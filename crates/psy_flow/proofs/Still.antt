@@ -112,8 +112,9 @@ module _ (sc : Scope) (no_depths : sc.depths ≡ []) (no_sends : sc.sends ≡ fa
   expr_step (Expr-F.Past variable back) (depth, got, less) = absurd (none-some depth (ap (λ ds. slice_get ds variable) (sym no_depths) ∙ got))
   expr_step (Expr-F.Ready stream) h = still_one
   expr_step (Expr-F.Take stream) h = still_one
-  expr_step (Expr-F.Unary operator operand) h = still_both (expr_way ways operand.0) one (operand.1 h) still_one
-  expr_step (Expr-F.Binary operator left right) h = still_binary operator (expr_way ways left.0) (expr_way ways right.0) (left.1 h.0) (right.1 h.1)
+  expr_step (Expr-F.Unary operator width operand) h = still_both (expr_way ways operand.0) one (operand.1 h) still_one
+  expr_step (Expr-F.Cast width operand) h = still_both (expr_way ways operand.0) one (operand.1 h) still_one
+  expr_step (Expr-F.Binary operator width left right) h = still_binary operator (expr_way ways left.0) (expr_way ways right.0) (left.1 h.0) (right.1 h.1)
   expr_step (Expr-F.Call function arguments) h =
       still_both (ways_through (expr_way ways) (map tree arguments)) (both one (ways function)) (still_through arguments h.1) (still_both one (ways function) still_one (all function))
 

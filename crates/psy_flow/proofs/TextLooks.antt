@@ -109,8 +109,9 @@ module _ (variable : ℕ) where
 
   expr_step : (y : Expr-F Known) → let x = map-Expr Known Expr tree y in Each Other (expr_looks_step (map-Expr Expr (List ℕ) expr_looks x)) → expr_most_step g calls (map-Expr Expr ℕ (expr_most g calls) x) ≡ 0
   expr_step (Expr-F.Cell slot index) h = omega (arith, index.1 h)
-  expr_step (Expr-F.Unary operator operand) h = omega (arith, operand.1 h)
-  expr_step (Expr-F.Binary operator left right) h =
+  expr_step (Expr-F.Unary operator width operand) h = omega (arith, operand.1 h)
+  expr_step (Expr-F.Cast width operand) h = omega (arith, operand.1 h)
+  expr_step (Expr-F.Binary operator width left right) h =
       none_binary operator (expr_most g calls left.0) (expr_most g calls right.0) (left.1 (each-first Other (expr_looks left.0) (expr_looks right.0) h))
       (right.1 (each-second Other (expr_looks left.0) (expr_looks right.0) h))
   expr_step (Expr-F.Call function arguments) h = omega (arith, none_in arguments h)

@@ -8,6 +8,7 @@ use Rattle.std.proofs.lemmas.List.{length-replicate, map-append}
 use Rattle.std.proofs.lemmas.List.Folds.{list_any_at}
 use Rattle.std.proofs.lemmas.Option.{same_Some, slice_get-get_or}
 use Rattle.psy_arith.specs.declared.operators.Op2.{Op2}
+use Rattle.psy_arith.specs.declared.width.Width.{Width}
 use Rattle.psy_tree.specs.declared.unit.Expr.{Expr, fold-roll-Expr}
 use Rattle.psy_tree.specs.declared.unit.Expr.TheVariants as expr
 use Rattle.psy_tree.specs.declared.unit.Expr.TheOpen.{Expr-F}
@@ -51,8 +52,9 @@ marks_more marks before after ns more all e f g = f ∙ ap (λ ms. marked_at ms 
 looks_roll : (x : Stmt-F Stmt) → stmt_looks (roll-Stmt x) ≡ stmt_looks_step (map-Stmt Stmt (List ℕ) stmt_looks x)
 looks_roll x = fold-roll-Stmt (List ℕ) stmt_looks_step x
 
-pub looks_binary : (operator : Op2) (left right : Expr) → expr_looks (expr.Binary operator left right) ≡ expr_looks left ++ expr_looks right
-looks_binary operator left right = ap expr_looks (sym (expr.rolls-Binary operator left right)) ∙ fold-roll-Expr (List ℕ) expr_looks_step (Expr-F.Binary operator left right)
+pub looks_binary : (operator : Op2) (width : Width) (left right : Expr) → expr_looks (expr.Binary operator width left right) ≡ expr_looks left ++ expr_looks right
+looks_binary operator width left right =
+    ap expr_looks (sym (expr.rolls-Binary operator width left right)) ∙ fold-roll-Expr (List ℕ) expr_looks_step (Expr-F.Binary operator width left right)
 
 pub looks_set_cell : (slot : ℕ) (index value : Expr) → stmt_looks (stmt.SetCell slot index value) ≡ expr_looks index ++ expr_looks value
 looks_set_cell slot index value = ap stmt_looks (sym (stmt.rolls-SetCell slot index value)) ∙ looks_roll (Stmt-F.SetCell slot index value)

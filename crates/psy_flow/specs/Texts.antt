@@ -19,8 +19,9 @@ joined = flat_map (λ numbers. numbers)
 abbrev pub expr_looks_step : Expr-F (List ℕ) → List ℕ
 expr_looks_step (Expr-F.Past variable back) = variable ∷ []
 expr_looks_step (Expr-F.Cell slot index) = index
-expr_looks_step (Expr-F.Unary operator operand) = operand
-expr_looks_step (Expr-F.Binary operator left right) = left ++ right
+expr_looks_step (Expr-F.Unary operator width operand) = operand
+expr_looks_step (Expr-F.Cast width operand) = operand
+expr_looks_step (Expr-F.Binary operator width left right) = left ++ right
 expr_looks_step (Expr-F.Call function arguments) = joined arguments
 expr_looks_step _ = []
 

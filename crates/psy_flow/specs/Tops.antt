@@ -60,8 +60,9 @@ binary_most g operator left right = left + (right + in_step g)
 abbrev pub expr_most_step : Gauge → (ℕ → ℕ) → Expr-F ℕ → ℕ
 expr_most_step g calls (Expr-F.Cell slot index) = index + in_step g
 expr_most_step g calls (Expr-F.Past variable back) = in_look g variable
-expr_most_step g calls (Expr-F.Unary operator operand) = operand + in_step g
-expr_most_step g calls (Expr-F.Binary operator left right) = binary_most g operator left right
+expr_most_step g calls (Expr-F.Unary operator width operand) = operand + in_step g
+expr_most_step g calls (Expr-F.Cast width operand) = operand + in_step g
+expr_most_step g calls (Expr-F.Binary operator width left right) = binary_most g operator left right
 expr_most_step g calls (Expr-F.Call function arguments) = total arguments + (in_step g + calls function)
 expr_most_step g calls _ = in_step g
 

@@ -32,11 +32,11 @@ pub fn most_of_expr(gauge: Gauge, row: &[u64], expr: &Expr) -> u64
             gauge.sum(index, step)
         }
         Expr::Past(variable, _) => gauge.look(*variable),
-        Expr::Unary(_, operand) => {
+        Expr::Unary(_, _, operand) | Expr::Cast(_, operand) => {
             let operand = most_of_expr(gauge, row, operand.get());
             gauge.sum(operand, step)
         }
-        Expr::Binary(operator, left, right) => {
+        Expr::Binary(operator, _, left, right) => {
             let left = most_of_expr(gauge, row, left.get());
             let right = most_of_expr(gauge, row, right.get());
             most_of_binary(gauge, *operator, left, right)

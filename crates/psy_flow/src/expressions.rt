@@ -42,8 +42,10 @@ pub fn depth_of_expr(functions: &[Depths], expr: &Expr) -> Depths
 {
     match expr {
         Expr::Cell(_, index) => depth_of_expr(functions, index.get()),
-        Expr::Unary(_, operand) => depth_of_expr(functions, operand.get()),
-        Expr::Binary(operator, left, right) => {
+        Expr::Unary(_, _, operand) | Expr::Cast(_, operand) => {
+            depth_of_expr(functions, operand.get())
+        }
+        Expr::Binary(operator, _, left, right) => {
             let left = depth_of_expr(functions, left.get());
             let right = depth_of_expr(functions, right.get());
             depth_of_binary(*operator, left, right)

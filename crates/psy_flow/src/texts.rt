@@ -18,8 +18,8 @@ fn mark_looks_of(looked: &mut Items<bool>, expr: &Expr)
     match expr {
         Expr::Past(variable, _) => mark(looked, *variable),
         Expr::Cell(_, index) => mark_looks_of(looked, index.get()),
-        Expr::Unary(_, operand) => mark_looks_of(looked, operand.get()),
-        Expr::Binary(_, left, right) => {
+        Expr::Unary(_, _, operand) | Expr::Cast(_, operand) => mark_looks_of(looked, operand.get()),
+        Expr::Binary(_, _, left, right) => {
             mark_looks_of(looked, left.get());
             mark_looks_of(looked, right.get());
         }

@@ -2,9 +2,10 @@
 use Rattle.std.proofs.Common.{◌≡◌, refl, sym, ap, subst, ◌∙◌, inl, inr, arith}
 use mathlib.Core.Logic.{⊎_elim}
 use Rattle.std.specs.Prelude.{ℕ, zero, suc, ◌+◌, ◌<◌, ◌≤◌, ◌==◌, max, nat_le, Bool, true, false, List, [], ◌∷◌, ◌++◌, map, reverse, take, drop, replicate, length, slice_get, slice_index_or, Option, Some, ℤ, pos, ⊤, ◌⊎◌}
-use Rattle.std.proofs.lemmas.List.{length-append, length-replicate, append-nil, append_assoc}
+use Rattle.std.proofs.lemmas.List.{length-append, length-map, length-replicate, append-nil, append_assoc}
 use Rattle.std.proofs.Math.Seq.{take-append_seam, drop-append_seam}
 use Rattle.psy_tree.specs.declared.unit.FunctionDecl.{FunctionDecl}
+use Rattle.psy_tree.specs.declared.unit.LocalDecl.{LocalDecl}
 use Rattle.psy_code.specs.declared.code.Code.{Code}
 use Rattle.psy_code.specs.declared.code.AgentCode.{AgentCode}
 use Rattle.psy_code.specs.declared.code.FunctionCode.{FunctionCode}
@@ -80,6 +81,10 @@ module _ (whole : Code) (its : AgentCode) where
     abbrev inner : Context → State → List ℕ → ℕ → Context
     inner k s counters p = Inside (home_in k s.store counters) (copies_in k s.store) (p + 1) (calls_in k s.store counters)
 
+    -- The values with which its locals begin
+    abbrev locals : List ℤ
+    locals = map (λ (l : LocalDecl). l.init) decl.locals
+
     abbrev first_counters : List ℕ
     first_counters = replicate (loops_in decl.stmts) 0
 
@@ -96,7 +101,7 @@ module _ (whole : Code) (its : AgentCode) where
         (λ variable has. no_some variable has.1) (λ e. (home_in k s.store counters, copies_in k s.store, p + 1, calls_in k s.store counters, refl)) (λ point less. absurd (omega (arith, less)))
         decl.stmts (sound sc.depths sc.streams) 0 place operands first_counters (begun arguments s) (has-first whole.instrs place (stmts_code (function_layout decl) decl.stmts 0 place) (instr.Push (pos 0) ∷ (instr.Return ∷ [])) h)
         (omega (arith, small)) (omega arith) (length-replicate {A = ℕ} (loops_in decl.stmts) 0)
-        (record { slots = lengths_single (arguments ++ decl.locals) ∙ ap (λ n. replicate n 1) (length-append arguments decl.locals ∙ omega (arith, params)); copies = refl; pasts = shape.pasts; streams = shape.streams }) room
+        (record { slots = lengths_single (arguments ++ locals) ∙ ap (λ n. replicate n 1) (length-append arguments locals ∙ omega (arith, params, length-map decl.locals (λ (l : LocalDecl). l.init))); copies = refl; pasts = shape.pasts; streams = shape.streams }) room
 
     -- ---- back in the caller
 
@@ -147,12 +152,12 @@ module _ (whole : Code) (its : AgentCode) where
         let m = machine_in k p (pushed arguments operands) s.store counters in
         let fits : nat_le decl.params (length (pushed arguments operands)) ≡ true = grind (arith, params, pushed_length arguments operands) in
         let make = λ (ops cells : List ℤ). Went (record { place = place; operands = ops; home = home_in k s.store counters; calls = record { frame = record { cells = cells; counters = first_counters }; back = p + 1 } ∷ calls_in k s.store counters; copies = copies_in k s.store }) in
-        let taken = λ (n : ℕ). reverse (take n (pushed arguments operands)) ++ decl.locals in
+        let taken = λ (n : ℕ). reverse (take n (pushed arguments operands)) ++ locals in
         ap (λ (o : Option FunctionCode). code.need o (λ g. code.call g m)) entry
         ∙ rw fits (ap (λ n. make (drop n (pushed arguments operands)) (taken n)) (sym params)
         ∙ ap (λ ops. make ops (taken (length arguments))) (rest arguments operands)
-        ∙ ap (λ l. make operands (l ++ decl.locals)) (front arguments operands)
-        ∙ ap (make operands) (sym (joined_single (arguments ++ decl.locals))))
+        ∙ ap (λ l. make operands (l ++ locals)) (front arguments operands)
+        ∙ ap (make operands) (sym (joined_single (arguments ++ locals))))
 
     -- What is asked of a function's statements: they are sound whatever the variables and streams.
     abbrev SoundBody : Type 0
@@ -180,7 +185,7 @@ module _ (whole : Code) (its : AgentCode) where
         let first = by_one whole its (at k p (pushed arguments operands) s counters) start
         (went whole its (at k p (pushed arguments operands) s counters) (instr.Call number) (machine_in j place operands (function_frame decl arguments) first_counters) here (call_goes k s counters number p place arguments operands stands.entry params)
         (has_room_by its (machine_in j place operands (function_frame decl arguments) first_counters) (omega (arith, inside.stack))
-        (omega (arith, room.frames, cells_used k s.store counters, ap length (joined_single (arguments ++ decl.locals)), length-append arguments decl.locals, params, length-replicate {A = ℕ} (loops_in decl.stmts) 0)) (omega (arith, room.calls, depth_used k s.store counters)))) in
+        (omega (arith, room.frames, cells_used k s.store counters, ap length (joined_single (arguments ++ locals)), length-append arguments locals, length-map decl.locals (λ (l : LocalDecl). l.init), params, length-replicate {A = ℕ} (loops_in decl.stmts) 0)) (omega (arith, room.calls, depth_used k s.store counters)))) in
         got_leads whole its sc k (p + 1) operands counters s (at k p (pushed arguments operands) s counters) start (callee callees decl arguments (cost_1 s)) first
         (back_got k sc s counters p q operands start (acts_by callees decl.stmts (begun arguments s)) body.0 body.1.0 shape
         (record { stack = omega (arith, inside.stack); frames = omega (arith, inside.frames); calls = inside.calls })

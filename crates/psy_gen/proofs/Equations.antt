@@ -4,6 +4,7 @@ use Rattle.std.specs.Prelude.{◌⊎◌, Option, Some, None, ℤ, ◌≤◌}
 use Rattle.psy_arith.specs.declared.operators.Op1.{Op1}
 use Rattle.psy_arith.specs.declared.operators.Op2.{Op2}
 use Rattle.psy_arith.specs.declared.operators.Op2.TheVariants as op
+use Rattle.psy_arith.specs.declared.width.Width.{Width}
 use Rattle.psy_code.specs.declared.instr.Instr.{Instr}
 use Rattle.psy_code.specs.declared.instr.Instr.TheVariants as instr
 use Rattle.psy_tree.specs.declared.unit.Expr.{Expr, roll-Expr, map-Expr, para-roll-Expr, fold-roll-Expr}
@@ -50,17 +51,21 @@ code_ready layout stream p = code_rolled layout (expr.Ready stream) (Expr-F.Read
 pub code_take : (layout : Layout) (stream p : ℕ) → expr_code layout (expr.Take stream) p ≡ instr.Take stream ∷ []
 code_take layout stream p = code_rolled layout (expr.Take stream) (Expr-F.Take stream) p (expr.rolls-Take stream)
 
-pub code_unary : (layout : Layout) (o : Op1) (e : Expr) (p : ℕ) → expr_code layout (expr.Unary o e) p ≡ expr_code layout e p ++ instr.Unary o ∷ []
-code_unary layout o e p = code_rolled layout (expr.Unary o e) (Expr-F.Unary o e) p (expr.rolls-Unary o e)
+pub code_unary : (layout : Layout) (o : Op1) (w : Width) (e : Expr) (p : ℕ) → expr_code layout (expr.Unary o w e) p ≡ expr_code layout e p ++ instr.Unary o w ∷ []
+code_unary layout o w e p = code_rolled layout (expr.Unary o w e) (Expr-F.Unary o w e) p (expr.rolls-Unary o w e)
 
-pub code_binary : (layout : Layout) (o : Op2) (l r : Expr) (p : ℕ) → expr_code layout (expr.Binary o l r) p ≡ binary_code o (operand layout l) (operand layout r) p
-code_binary layout o l r p = code_rolled layout (expr.Binary o l r) (Expr-F.Binary o l r) p (expr.rolls-Binary o l r)
+pub code_cast : (layout : Layout) (w : Width) (e : Expr) (p : ℕ) → expr_code layout (expr.Cast w e) p ≡ expr_code layout e p ++ instr.Cast w ∷ []
+code_cast layout w e p = code_rolled layout (expr.Cast w e) (Expr-F.Cast w e) p (expr.rolls-Cast w e)
+
+pub code_binary : (layout : Layout) (o : Op2) (w : Width) (l r : Expr) (p : ℕ) → expr_code layout (expr.Binary o w l r) p ≡ binary_code o w (operand layout l) (operand layout r) p
+code_binary layout o w l r p = code_rolled layout (expr.Binary o w l r) (Expr-F.Binary o w l r) p (expr.rolls-Binary o w l r)
 
 -- An operator that evaluates both its sides
-pub binary_eager : (o : Op2) (l r : Operand) (p : ℕ) → (o ≡ op.AndAnd → ⊥) → (o ≡ op.OrOr → ⊥) → binary_code o l r p ≡ l.1 p ++ (r.1 (p + expr_size l.0) ++ instr.Binary o ∷ [])
-binary_eager op.AndAnd l r p x y = elim (x refl) [ ]
-binary_eager op.OrOr l r p x y = elim (y refl) [ ]
-binary_eager o l r p x y = refl
+pub binary_eager : (o : Op2) (w : Width) (l r : Operand) (p : ℕ) → (o ≡ op.AndAnd → ⊥) → (o ≡ op.OrOr → ⊥)
+    → binary_code o w l r p ≡ l.1 p ++ (r.1 (p + expr_size l.0) ++ instr.Binary o w ∷ [])
+binary_eager op.AndAnd w l r p x y = elim (x refl) [ ]
+binary_eager op.OrOr w l r p x y = elim (y refl) [ ]
+binary_eager o w l r p x y = refl
 
 pub code_call : (layout : Layout) (function : ℕ) (arguments : List Expr) (p : ℕ) → expr_code layout (expr.Call function arguments) p ≡ arguments_code (map (operand layout) arguments) (instr.Call function ∷ []) p
 code_call layout function arguments p = code_rolled layout (expr.Call function arguments) (Expr-F.Call function arguments) p (expr.rolls-Call function arguments)
@@ -74,11 +79,14 @@ size_rolled e x is = ap expr_size (sym is) ∙ size_roll x
 pub size_cell : (slot : ℕ) (index : Expr) → expr_size (expr.Cell slot index) ≡ expr_size index + 1
 size_cell slot index = size_rolled (expr.Cell slot index) (Expr-F.Cell slot index) (expr.rolls-Cell slot index)
 
-pub size_unary : (o : Op1) (e : Expr) → expr_size (expr.Unary o e) ≡ expr_size e + 1
-size_unary o e = size_rolled (expr.Unary o e) (Expr-F.Unary o e) (expr.rolls-Unary o e)
+pub size_unary : (o : Op1) (w : Width) (e : Expr) → expr_size (expr.Unary o w e) ≡ expr_size e + 1
+size_unary o w e = size_rolled (expr.Unary o w e) (Expr-F.Unary o w e) (expr.rolls-Unary o w e)
 
-pub size_binary : (o : Op2) (l r : Expr) → expr_size (expr.Binary o l r) ≡ expr_size l + (expr_size r + binary_size o)
-size_binary o l r = size_rolled (expr.Binary o l r) (Expr-F.Binary o l r) (expr.rolls-Binary o l r)
+pub size_cast : (w : Width) (e : Expr) → expr_size (expr.Cast w e) ≡ expr_size e + 1
+size_cast w e = size_rolled (expr.Cast w e) (Expr-F.Cast w e) (expr.rolls-Cast w e)
+
+pub size_binary : (o : Op2) (w : Width) (l r : Expr) → expr_size (expr.Binary o w l r) ≡ expr_size l + (expr_size r + binary_size o)
+size_binary o w l r = size_rolled (expr.Binary o w l r) (Expr-F.Binary o w l r) (expr.rolls-Binary o w l r)
 
 -- A test and the truth of the right side
 pub size_lazy : (o : Op2) → (o ≡ op.AndAnd) ⊎ (o ≡ op.OrOr) → binary_size o ≡ 2

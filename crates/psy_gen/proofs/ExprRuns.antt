@@ -2,12 +2,15 @@
 use Rattle.std.proofs.Common.{◌≡◌, refl, sym, ap, subst, ◌∙◌, arith}
 use Rattle.std.specs.Prelude.{ℕ, ◌+◌, ◌<◌, ◌≤◌, max, nat_lt, Bool, true, false, not, if◌then◌else◌, List, [], ◌∷◌, ◌++◌, map, length, slice_get, slice_index_or, Option, Some, None, ℤ, pos}
 use Rattle.std.proofs.lemmas.List.{length-append}
-use Rattle.std.specs.Int.{w32}
+use Rattle.std.specs.Int.{int_wrap}
 use Rattle.psy_arith.specs.declared.operators.Op1.{Op1}
 use Rattle.psy_arith.specs.declared.operators.Op2.{Op2}
 use Rattle.psy_arith.specs.declared.operators.Op2.TheVariants as op
 use Rattle.psy_arith.specs.declared.operators.Trap.TheVariants as trap
-use Rattle.psy_arith.specs.Operators.{truth, is_zero, value1, value2}
+use Rattle.psy_arith.specs.declared.width.Width.{Width}
+use Rattle.psy_arith.specs.Operators.{truth, is_zero}
+use Rattle.psy_arith.specs.Types.{taken1, taken2}
+use Rattle.psy_arith.specs.Widths.{of_type}
 use Rattle.psy_tree.specs.declared.unit.FunctionDecl.{FunctionDecl}
 use Rattle.psy_tree.specs.declared.unit.Expr.{Expr, roll-Expr, fold-roll-Expr, para-roll-Expr, rec-roll-Expr, map-Expr, ind-Expr}
 use Rattle.psy_tree.specs.declared.unit.Expr.TheOpen.{Expr-F}
@@ -149,10 +152,23 @@ module _ (whole : Code) (its : AgentCode) (sc : Scope) (k : Context) (callees : 
       (runs p operands counters s (has-first whole.instrs p (c p) (i ∷ []) h) (omega (arith, small)) shape room)
       (λ v t same sh. next v (p + n) operands counters s t (behind c n p (i ∷ []) sized h).0 same sh r))
 
-  unary_runs : (operator : Op1) (c : Emit) (n : ℕ) (d : Depth) (ev : Eval) → Goes c n d ev → Runs (λ p. c p ++ instr.Unary operator ∷ []) (n + 1) d (λ s. and_then (ev s) (λ a t. Value (value1 w32 operator a) (cost_1 t)))
-  unary_runs operator c n d ev goes =
-      operand_runs c n d ev (instr.Unary operator) (λ a t. Value (value1 w32 operator a) (cost_1 t)) goes
-      (λ a q operands counters before t here same sh r. value_step (instr.Unary operator) (value1 w32 operator a) before t (cost_1 t) q operands (a ∷ operands) counters (length operands + 1) here refl refl same (ticked t sh) r (omega arith))
+  unary_runs : (operator : Op1) (width : Width) (c : Emit) (n : ℕ) (d : Depth) (ev : Eval) → Goes c n d ev
+      → Runs (λ p. c p ++ instr.Unary operator width ∷ []) (n + 1) d (λ s. and_then (ev s) (λ a t. Value (taken1 (of_type width) operator a) (cost_1 t)))
+  unary_runs operator width c n d ev goes =
+      let i = instr.Unary operator width in
+      operand_runs c n d ev i (λ a t. Value (taken1 (of_type width) operator a) (cost_1 t)) goes
+      (λ a q operands counters before t here same sh r.
+      value_step i (taken1 (of_type width) operator a) before t (cost_1 t) q operands (a ∷ operands) counters (length operands + 1) here refl refl same
+      (ticked t sh) r (omega arith))
+
+  cast_runs : (width : Width) (c : Emit) (n : ℕ) (d : Depth) (ev : Eval) → Goes c n d ev
+      → Runs (λ p. c p ++ instr.Cast width ∷ []) (n + 1) d (λ s. and_then (ev s) (λ a t. Value (int_wrap (of_type width) a) (cost_1 t)))
+  cast_runs width c n d ev goes =
+      let i = instr.Cast width in
+      operand_runs c n d ev i (λ a t. Value (int_wrap (of_type width) a) (cost_1 t)) goes
+      (λ a q operands counters before t here same sh r.
+      value_step i (int_wrap (of_type width) a) before t (cost_1 t) q operands (a ∷ operands) counters (length operands + 1) here refl refl same
+      (ticked t sh) r (omega arith))
 
   element_step : (slot cells : ℕ) → slice_get sc.layout slot ≡ Some cells → (index : ℤ) (q : ℕ) (operands : List ℤ) (counters : List ℕ) (before t : State)
       → slice_get whole.instrs q ≡ Some (instr.LoadCell (base_of sc.layout slot) (cells_in_slot sc.layout slot)) → t.store ≡ before.store → Shape sc t
@@ -175,20 +191,21 @@ module _ (whole : Code) (its : AgentCode) (sc : Scope) (k : Context) (callees : 
 
   -- ---- two operands
 
-  applied_step : (operator : Op2) (a b : ℤ) (q : ℕ) (operands : List ℤ) (counters : List ℕ) (before t : State)
-      → slice_get whole.instrs q ≡ Some (instr.Binary operator) → t.store ≡ before.store → Shape sc t
-      → Room its k (frame_size before.store counters) (length operands + 1) 0 more → GotAfter whole its sc k (q + 1) operands counters before (at k q (b ∷ (a ∷ operands)) t counters) (applied operator a b t)
-  applied_step operator a b q operands counters before t here same sh r = from (value2 w32 operator a b) refl
+  applied_step : (operator : Op2) (width : Width) (a b : ℤ) (q : ℕ) (operands : List ℤ) (counters : List ℕ) (before t : State)
+      → slice_get whole.instrs q ≡ Some (instr.Binary operator width) → t.store ≡ before.store → Shape sc t
+      → Room its k (frame_size before.store counters) (length operands + 1) 0 more → GotAfter whole its sc k (q + 1) operands counters before (at k q (b ∷ (a ∷ operands)) t counters) (applied operator width a b t)
+  applied_step operator width a b q operands counters before t here same sh r = from (taken2 (of_type width) operator a b) refl
     where
-      from : (o : Option ℤ) → value2 w32 operator a b ≡ o → GotAfter whole its sc k (q + 1) operands counters before (at k q (b ∷ (a ∷ operands)) t counters) (or_stop trap.Divide o t (λ v. Value v (cost_1 t)))
-      from None f = traps whole its k sc q (b ∷ (a ∷ operands)) counters t (instr.Binary operator) trap.Divide here (rw f refl)
+      from : (o : Option ℤ) → taken2 (of_type width) operator a b ≡ o → GotAfter whole its sc k (q + 1) operands counters before (at k q (b ∷ (a ∷ operands)) t counters) (or_stop trap.Divide o t (λ v. Value v (cost_1 t)))
+      from None f = traps whole its k sc q (b ∷ (a ∷ operands)) counters t (instr.Binary operator width) trap.Divide here (rw f refl)
       from (Some v) f =
-          value_step (instr.Binary operator) v before t (cost_1 t) q operands (b ∷ (a ∷ operands)) counters (length operands + 1) here (rw f refl) refl same (ticked t sh) r (omega arith)
+          value_step (instr.Binary operator width) v before t (cost_1 t) q operands (b ∷ (a ∷ operands)) counters (length operands + 1) here (rw f refl) refl same (ticked t sh) r (omega arith)
 
-  both_runs : (operator : Op2) → (cl cr : Emit) (nl nr : ℕ) (dl dr : Depth) (el er : Eval) → Goes cl nl dl el → Goes cr nr dr er
-      → Runs (λ p. cl p ++ (cr (p + nl) ++ instr.Binary operator ∷ [])) (nl + (nr + 1)) (deeper dl (on_top_of 1 dr)) (λ s. and_then (el s) (λ a t. and_then (er t) (λ b u. applied operator a b u)))
-  both_runs operator cl cr nl nr dl dr el er (lsized, ldeep, lruns) (rsized, rdeep, rruns) p operands counters s h small shape room =
-      let i = instr.Binary operator in
+  both_runs : (operator : Op2) (width : Width) → (cl cr : Emit) (nl nr : ℕ) (dl dr : Depth) (el er : Eval) → Goes cl nl dl el → Goes cr nr dr er
+      → Runs (λ p. cl p ++ (cr (p + nl) ++ instr.Binary operator width ∷ [])) (nl + (nr + 1)) (deeper dl (on_top_of 1 dr))
+      (λ s. and_then (el s) (λ a t. and_then (er t) (λ b u. applied operator width a b u)))
+  both_runs operator width cl cr nl nr dl dr el er (lsized, ldeep, lruns) (rsized, rdeep, rruns) p operands counters s h small shape room =
+      let i = instr.Binary operator width in
       let d = deeper dl (on_top_of 1 dr) in
       let left = has-first whole.instrs p (cl p) (cr (p + nl) ++ i ∷ []) h in
       let right = behind cl nl p (cr (p + nl) ++ i ∷ []) lsized h in
@@ -203,7 +220,7 @@ module _ (whole : Code) (its : AgentCode) (sc : Scope) (k : Context) (callees : 
       (got_before whole its sc k (p + nl + nr) (a ∷ operands) counters s t (at k (p + nl) (a ∷ operands) t counters) (er t) same
       (rruns (p + nl) (a ∷ operands) counters t (has-first whole.instrs (p + nl) (cr (p + nl)) (i ∷ []) right) (omega (arith, small)) sh
       (room_in s.store t.store counters (length (a ∷ operands) + dr.operands) dr.cells same (fewer (frame_size s.store counters) (length operands + d.operands) (length (a ∷ operands) + dr.operands) d.cells dr.cells room (omega arith) (omega arith)))))
-      (λ b u same' sh'. applied_step operator a b (p + nl + nr) operands counters s u last.0 same' sh' r1)))
+      (λ b u same' sh'. applied_step operator width a b (p + nl + nr) operands counters s u last.0 same' sh' r1)))
 
   -- `&&` and `||`
   abbrev end_of : ℕ → ℕ → ℕ → ℕ
@@ -369,33 +386,33 @@ module _ (whole : Code) (its : AgentCode) (sc : Scope) (k : Context) (callees : 
       Sized c n × (1 ≤ d.operands) × (sound_expr_step sc Expr (λ e. e) (IsSoundExpr sc) x → Runs c n d (expr_step callees (map-Expr Expr Eval (eval callees) x)))
 
   module _ (calls : CallsRun) (home : AtHome) where
-    both_layer : (operator : Op2) → (l r : Known) → let n = expr_size l.0 + (expr_size r.0 + 1) in let c : Emit = (λ p. expr_code sc.layout l.0 p ++ (expr_code sc.layout r.0 (p + expr_size l.0) ++ instr.Binary operator ∷ [])) in
+    both_layer : (operator : Op2) (width : Width) (l r : Known) → let n = expr_size l.0 + (expr_size r.0 + 1) in let c : Emit = (λ p. expr_code sc.layout l.0 p ++ (expr_code sc.layout r.0 (p + expr_size l.0) ++ instr.Binary operator width ∷ [])) in
         let d = deeper (expr_depth depths l.0) (on_top_of 1 (expr_depth depths r.0)) in
-        Sized c n × (1 ≤ d.operands) × (IsSoundExpr sc l.0 × IsSoundExpr sc r.0 → Runs c n d (λ s. and_then (eval callees l.0 s) (λ a t. and_then (eval callees r.0 t) (λ b u. applied operator a b u))))
-    both_layer operator l r = (
-      λ p. length-append (expr_code sc.layout l.0 p) _ ∙ omega (arith, l.1.0 p, len-one (expr_code sc.layout r.0 (p + expr_size l.0)) (instr.Binary operator) (expr_size r.0) (r.1.0 (p + expr_size l.0))),
+        Sized c n × (1 ≤ d.operands) × (IsSoundExpr sc l.0 × IsSoundExpr sc r.0 → Runs c n d (λ s. and_then (eval callees l.0 s) (λ a t. and_then (eval callees r.0 t) (λ b u. applied operator width a b u))))
+    both_layer operator width l r = (
+      λ p. length-append (expr_code sc.layout l.0 p) _ ∙ omega (arith, l.1.0 p, len-one (expr_code sc.layout r.0 (p + expr_size l.0)) (instr.Binary operator width) (expr_size r.0) (r.1.0 (p + expr_size l.0))),
       omega (arith, l.1.1),
-      λ sound. both_runs operator (expr_code sc.layout l.0) (expr_code sc.layout r.0) (expr_size l.0) (expr_size r.0) (expr_depth depths l.0) (expr_depth depths r.0) (eval callees l.0) (eval callees r.0) (goes_of l sound.0) (goes_of r sound.1),
+      λ sound. both_runs operator width (expr_code sc.layout l.0) (expr_code sc.layout r.0) (expr_size l.0) (expr_size r.0) (expr_depth depths l.0) (expr_depth depths r.0) (eval callees l.0) (eval callees r.0) (goes_of l sound.0) (goes_of r sound.1),
     )
 
     lazy_sized : (test : ℕ → Instr) (l r : Known) → Sized (λ p. expr_code sc.layout l.0 p ++ (test (p + expr_size l.0 + 1 + expr_size r.0 + 1) ∷ (expr_code sc.layout r.0 (p + expr_size l.0 + 1) ++ instr.Truth ∷ []))) (expr_size l.0 + (expr_size r.0 + 2))
     lazy_sized test l r p =
         length-append (expr_code sc.layout l.0 p) _ ∙ omega (arith, l.1.0 p, len-one (expr_code sc.layout r.0 (p + expr_size l.0 + 1)) instr.Truth (expr_size r.0) (r.1.0 (p + expr_size l.0 + 1)))
 
-    binary_layer : (operator : Op2) (l r : Known) → Layer (Expr-F.Binary operator l.0 r.0)
-    binary_layer op.AndAnd l r = (
+    binary_layer : (operator : Op2) (width : Width) (l r : Known) → Layer (Expr-F.Binary operator width l.0 r.0)
+    binary_layer op.AndAnd width l r = (
       lazy_sized instr.AndTest l r,
       omega (arith, l.1.1),
       λ sound. lazy_runs instr.AndTest (expr_code sc.layout l.0) (expr_code sc.layout r.0) (expr_size l.0) (expr_size r.0) (expr_depth depths l.0) (expr_depth depths r.0) (eval callees l.0) (eval callees r.0) _ (goes_of l sound.0) (goes_of r sound.1)
           (λ v q operands counters before t here h small same sh room. and_choice (expr_code sc.layout r.0) (expr_size r.0) (expr_depth depths r.0) (eval callees r.0) (goes_of r sound.1) v q operands counters before t here h small same sh room),
     )
-    binary_layer op.OrOr l r = (
+    binary_layer op.OrOr width l r = (
       lazy_sized instr.OrTest l r,
       omega (arith, l.1.1),
       λ sound. lazy_runs instr.OrTest (expr_code sc.layout l.0) (expr_code sc.layout r.0) (expr_size l.0) (expr_size r.0) (expr_depth depths l.0) (expr_depth depths r.0) (eval callees l.0) (eval callees r.0) _ (goes_of l sound.0) (goes_of r sound.1)
           (λ v q operands counters before t here h small same sh room. or_choice (expr_code sc.layout r.0) (expr_size r.0) (expr_depth depths r.0) (eval callees r.0) (goes_of r sound.1) v q operands counters before t here h small same sh room),
     )
-    binary_layer operator l r = both_layer operator l r
+    binary_layer operator width l r = both_layer operator width l r
 
     layer_runs : (y : Expr-F Known) → Layer (map-Expr Known Expr tree y)
     layer_runs (Expr-F.Number number) = (λ p. refl, omega arith, λ sound. number_runs number)
@@ -409,12 +426,17 @@ module _ (whole : Code) (its : AgentCode) (sc : Scope) (k : Context) (callees : 
     layer_runs (Expr-F.Past variable back) = (λ p. refl, omega arith, λ sound. past_runs variable back sound)
     layer_runs (Expr-F.Ready stream) = (λ p. refl, omega arith, λ sound. ready_runs stream sound)
     layer_runs (Expr-F.Take stream) = (λ p. refl, omega arith, λ sound. take_runs stream sound)
-    layer_runs (Expr-F.Unary operator operand) = (
-      λ p. len-one (expr_code sc.layout operand.0 p) (instr.Unary operator) (expr_size operand.0) (operand.1.0 p),
+    layer_runs (Expr-F.Unary operator width operand) = (
+      λ p. len-one (expr_code sc.layout operand.0 p) (instr.Unary operator width) (expr_size operand.0) (operand.1.0 p),
       operand.1.1,
-      λ sound. unary_runs operator (expr_code sc.layout operand.0) (expr_size operand.0) (expr_depth depths operand.0) (eval callees operand.0) (goes_of operand sound),
+      λ sound. unary_runs operator width (expr_code sc.layout operand.0) (expr_size operand.0) (expr_depth depths operand.0) (eval callees operand.0) (goes_of operand sound),
     )
-    layer_runs (Expr-F.Binary operator left right) = binary_layer operator left right
+    layer_runs (Expr-F.Cast width operand) = (
+      λ p. len-one (expr_code sc.layout operand.0 p) (instr.Cast width) (expr_size operand.0) (operand.1.0 p),
+      operand.1.1,
+      λ sound. cast_runs width (expr_code sc.layout operand.0) (expr_size operand.0) (expr_depth depths operand.0) (eval callees operand.0) (goes_of operand sound),
+    )
+    layer_runs (Expr-F.Binary operator width left right) = binary_layer operator width left right
     layer_runs (Expr-F.Call function arguments) =
         (λ p. args_sized arguments (instr.Call function ∷ []) p, omega arith, λ sound. call_runs calls function arguments sound.0 sound.1)
 

@@ -3,6 +3,7 @@ use Rattle.std.proofs.Common.{◌≡◌, ℕ, ◌+◌, ◌≤◌, List, [], ◌�
 use Rattle.std.specs.Prelude.{Some, None}
 use Rattle.psy_arith.specs.declared.operators.Op2.{Op2}
 use Rattle.psy_arith.specs.declared.operators.Op2.TheVariants as op
+use Rattle.psy_arith.specs.declared.width.Width.{Width}
 use Rattle.psy_code.specs.declared.instr.Instr.{Instr}
 use Rattle.psy_code.specs.declared.instr.Instr.TheVariants as instr
 use Rattle.psy_tree.specs.declared.unit.Expr.{Expr, roll-Expr, map-Expr, ind-Expr}
@@ -30,10 +31,10 @@ module _ (layout : Layout) where
       let middle = p + expr_size l.0 + 1 in
       simp length-append (omega (arith, l.1 p, r.1 middle))
 
-  binary_length : (o : Op2) (l r : Known) (p : ℕ) → length (binary_code o (operand layout l.0) (operand layout r.0) p) ≡ expr_size l.0 + (expr_size r.0 + binary_size o)
-  binary_length op.AndAnd l r p = lazy_length instr.AndTest l r p
-  binary_length op.OrOr l r p = lazy_length instr.OrTest l r p
-  binary_length o l r p = simp length-append (omega (arith, l.1 p, r.1 (p + expr_size l.0)))
+  binary_length : (o : Op2) (w : Width) (l r : Known) (p : ℕ) → length (binary_code o w (operand layout l.0) (operand layout r.0) p) ≡ expr_size l.0 + (expr_size r.0 + binary_size o)
+  binary_length op.AndAnd w l r p = lazy_length instr.AndTest l r p
+  binary_length op.OrOr w l r p = lazy_length instr.OrTest l r p
+  binary_length o w l r p = simp length-append (omega (arith, l.1 p, r.1 (p + expr_size l.0)))
 
   arguments_length : (ks : List Known) (behind : List Instr) (p : ℕ) → length (arguments_code (map (operand layout) (map tree ks)) behind p) ≡ total (map expr_size (map tree ks)) + length behind
   arguments_length [] behind p = omega arith
@@ -48,8 +49,9 @@ module _ (layout : Layout) where
   step_length (Expr-F.Past variable back) p = refl
   step_length (Expr-F.Ready stream) p = refl
   step_length (Expr-F.Take stream) p = refl
-  step_length (Expr-F.Unary o e) p = simp length-append (omega (arith, e.1 p))
-  step_length (Expr-F.Binary o l r) p = binary_length o l r p
+  step_length (Expr-F.Unary o w e) p = simp length-append (omega (arith, e.1 p))
+  step_length (Expr-F.Cast w e) p = simp length-append (omega (arith, e.1 p))
+  step_length (Expr-F.Binary o w l r) p = binary_length o w l r p
   step_length (Expr-F.Call function arguments) p = arguments_length arguments (instr.Call function ∷ []) p
 
   layer : (y : Expr-F Known) → Measured (roll-Expr (map-Expr Known Expr tree y))

@@ -5,6 +5,7 @@ use Rattle.std.proofs.lemmas.List.{drop_more}
 use Rattle.std.proofs.Math.Seq.{set-append_seam}
 use Rattle.psy_arith.specs.declared.operators.Op2.{Op2}
 use Rattle.psy_arith.specs.declared.operators.Op2.TheVariants as op
+use Rattle.psy_arith.specs.declared.width.Width.{Width}
 use Rattle.psy_code.specs.declared.instr.Instr.{Instr}
 use Rattle.psy_code.specs.declared.instr.Instr.TheVariants as instr
 use Rattle.psy_tree.specs.declared.unit.Expr.{Expr}
@@ -83,11 +84,11 @@ module _ (layout : Layout) where
       ∙ ap (λ n. c0 ++ (expr_code layout l p ++ test n ∷ right)) to_end
       ∙ ap (λ n. c0 ++ (expr_code layout l p ++ test (p + expr_size l + 1 + expr_size r + 1) ∷ (expr_code layout r n ++ instr.Truth ∷ []))) to_middle
 
-  pub patch_either : (o : Op2) (x : Instr) (l r : Expr) (c0 c1 c2 c3 c4 : List Instr) (at : ℕ) → (o ≡ op.AndAnd) ⊎ (o ≡ op.OrOr) → (o ≡ op.AndAnd → x ≡ instr.AndTest (length c4)) → (o ≡ op.OrOr → x ≡ instr.OrTest (length c4)) →
+  pub patch_either : (o : Op2) (w : Width) (x : Instr) (l r : Expr) (c0 c1 c2 c3 c4 : List Instr) (at : ℕ) → (o ≡ op.AndAnd) ⊎ (o ≡ op.OrOr) → (o ≡ op.AndAnd → x ≡ instr.AndTest (length c4)) → (o ≡ op.OrOr → x ≡ instr.OrTest (length c4)) →
       c1 ≡ c0 ++ expr_code layout l (length c0) → at ≡ length c1 → c2 ≡ c1 ++ instr.Jump 0 ∷ [] → c3 ≡ c2 ++ expr_code layout r (length c2) → c4 ≡ c3 ++ instr.Truth ∷ [] →
-      slice_set c4 at x ≡ c0 ++ binary_code o (operand layout l) (operand layout r) (length c0)
-  patch_either o x l r c0 c1 c2 c3 c4 at (inl is) and or e1 m e2 e3 e4 = rw (and is, is) (patch_lazy instr.AndTest l r c0 c1 c2 c3 c4 at e1 m e2 e3 e4)
-  patch_either o x l r c0 c1 c2 c3 c4 at (inr is) and or e1 m e2 e3 e4 = rw (or is, is) (patch_lazy instr.OrTest l r c0 c1 c2 c3 c4 at e1 m e2 e3 e4)
+      slice_set c4 at x ≡ c0 ++ binary_code o w (operand layout l) (operand layout r) (length c0)
+  patch_either o w x l r c0 c1 c2 c3 c4 at (inl is) and or e1 m e2 e3 e4 = rw (and is, is) (patch_lazy instr.AndTest l r c0 c1 c2 c3 c4 at e1 m e2 e3 e4)
+  patch_either o w x l r c0 c1 c2 c3 c4 at (inr is) and or e1 m e2 e3 e4 = rw (or is, is) (patch_lazy instr.OrTest l r c0 c1 c2 c3 c4 at e1 m e2 e3 e4)
 
   pub then_operator : (l r : Expr) (x : Instr) (c0 c1 c2 c3 : List Instr) →
       c1 ≡ c0 ++ expr_code layout l (length c0) → c2 ≡ c1 ++ expr_code layout r (length c1) → c3 ≡ c2 ++ x ∷ [] →

@@ -3,6 +3,7 @@ use Rattle.std.proofs.Common.{◌≡◌, refl, sym, ap, subst, ◌∙◌, arith}
 use Rattle.std.specs.Prelude.{ℕ, zero, suc, ◌+◌, ◌-◌, ◌%◌, ◌^◌, ◌<◌, ◌≤◌, ◌==◌, nat_lt, Bool, true, false, if◌then◌else◌, List, [], ◌∷◌, ◌++◌, map, length, slice_get, slice_set, Option, Some, None, ℤ, ⊤}
 use Rattle.std.proofs.lemmas.List.{length-append, map-id}
 use Rattle.std.proofs.Math.Nat.{mod-eq_of_lt}
+use Rattle.std.specs.Int.{w32, int_wrap}
 use Rattle.psy_arith.specs.declared.operators.Trap.TheVariants as trap
 use Rattle.psy_arith.specs.Operators.{is_zero}
 use Rattle.psy_tree.specs.declared.unit.Expr.{Expr}
@@ -102,7 +103,7 @@ module _ (whole : Code) (its : AgentCode) (sc : Scope) (k : Context) (callees : 
   AtHome = (variable : ℕ) → HasCopy sc variable → k ≡ Home
 
   copy_goes : (variable : ℕ) (v : ℤ) (q c : ℕ) (operands : List ℤ) (counters : List ℕ) (t : State) → (k : Context) → k ≡ Home → copy_of variable t.store.copies ≡ Some (copy_at t.store variable)
-      → code.store_copy variable (machine_in k q (v ∷ operands) t.store counters) ≡ Went (machine_in k (q + 1) operands (with_copy_at variable v (cost_1 t)).store counters)
+      → code.store_copy variable (machine_in k q (v ∷ operands) t.store counters) ≡ Went (machine_in k (q + 1) operands (with_copy_at variable (int_wrap w32 v) (cost_1 t)).store counters)
   copy_goes variable v q c operands counters t Home e found = rw found refl
   copy_goes variable v q c operands counters t (Inside home copies back outer) e found = not_home home copies back outer e
     where
@@ -114,21 +115,21 @@ module _ (whole : Code) (its : AgentCode) (sc : Scope) (k : Context) (callees : 
       not_home home copies back outer e = absurd (omega (arith, ap is_home e))
 
   copy_runs : AtHome → (variable : ℕ) (e : Expr) → ExprKnown e → HasCopy sc variable → IsSoundExpr sc e
-      → StmtRuns (λ c p. expr_code sc.layout e p ++ instr.StoreCopy variable ∷ []) (expr_size e + 1) 0 (expr_depth depths e) (λ s. with_value (eval callees e s) (λ v t. Falls (with_copy_at variable v (cost_1 t))))
+      → StmtRuns (λ c p. expr_code sc.layout e p ++ instr.StoreCopy variable ∷ []) (expr_size e + 1) 0 (expr_depth depths e) (λ s. with_value (eval callees e s) (λ v t. Falls (with_copy_at variable (int_wrap w32 v) (cost_1 t))))
   copy_runs home variable e known has sound =
-      valued_runs e (instr.StoreCopy variable) (λ v t. Falls (with_copy_at variable v (cost_1 t))) known sound
+      valued_runs e (instr.StoreCopy variable) (λ v t. Falls (with_copy_at variable (int_wrap w32 v) (cost_1 t))) known sound
       (λ v q c operands counters t here sh len room.
-      falls_step (instr.StoreCopy variable) q (q + 1) c (v ∷ operands) operands counters counters t (with_copy_at variable v (cost_1 t)) here
+      falls_step (instr.StoreCopy variable) q (q + 1) c (v ∷ operands) operands counters counters t (with_copy_at variable (int_wrap w32 v) (cost_1 t)) here
       (copy_goes variable v q c operands counters t k (home variable has) (copy_is sc t.store variable sh.copies has)) refl
-      (record { slots = sh.slots; copies = variables-set t.store.copies variable v ∙ sh.copies; pasts = sh.pasts; streams = sh.streams }) (keeps_same c counters) len (less (length operands + 1) (length operands) 0 0 room (omega arith) (omega arith)))
+      (record { slots = sh.slots; copies = variables-set t.store.copies variable (int_wrap w32 v) ∙ sh.copies; pasts = sh.pasts; streams = sh.streams }) (keeps_same c counters) len (less (length operands + 1) (length operands) 0 0 room (omega arith) (omega arith)))
 
   send_runs : (stream after clock : ℕ) (e : Expr) → ExprKnown e → IsSoundExpr sc e
       → StmtRuns (λ c p. expr_code sc.layout e p ++ instr.Send stream after clock ∷ []) (expr_size e + 1) 0 (expr_depth depths e)
-      (λ s. with_value (eval callees e s) (λ v t. Falls (asking (Send (record { stream = stream; value = v; after = after; clock = clock })) t)))
+      (λ s. with_value (eval callees e s) (λ v t. Falls (asking (Send (record { stream = stream; value = int_wrap w32 v; after = after; clock = clock })) t)))
   send_runs stream after clock e known sound =
       valued_runs e (instr.Send stream after clock) _ known sound
       (λ v q c operands counters t here sh len room.
-      falls_step (instr.Send stream after clock) q (q + 1) c (v ∷ operands) operands counters counters t (asking (Send (record { stream = stream; value = v; after = after; clock = clock })) t) here refl refl
+      falls_step (instr.Send stream after clock) q (q + 1) c (v ∷ operands) operands counters counters t (asking (Send (record { stream = stream; value = int_wrap w32 v; after = after; clock = clock })) t) here refl refl
       (record { slots = sh.slots; copies = sh.copies; pasts = sh.pasts; streams = sh.streams }) (keeps_same c counters) len (less (length operands + 1) (length operands) 0 0 room (omega arith) (omega arith)))
 
   -- Values are returned from functions alone.

@@ -4,6 +4,7 @@ use Rattle.std.specs.Prelude.{ℕ, ◌+◌, List, [], ◌∷◌, ◌++◌, map, 
 use Rattle.std.specs.List.{flat_map}
 use Rattle.psy_arith.specs.declared.operators.Op2.{Op2}
 use Rattle.psy_arith.specs.declared.operators.Op2.TheVariants as op
+use Rattle.psy_arith.specs.declared.width.Width.{Width}
 use Rattle.psy_tree.specs.declared.unit.Unit.{Unit as Whole}
 use Rattle.psy_tree.specs.declared.unit.AgentDecl.{AgentDecl}
 use Rattle.psy_tree.specs.declared.unit.FunctionDecl.{FunctionDecl}
@@ -51,11 +52,11 @@ lazy_code test left right p =
     let middle = p + expr_size left.0 + 1 in
     left.1 p ++ (test (middle + expr_size right.0 + 1) ∷ (right.1 middle ++ instr.Truth ∷ []))
 
--- Both operands, and the operator
-abbrev pub binary_code : Op2 → Operand → Operand → Emit
-binary_code op.AndAnd left right p = lazy_code instr.AndTest left right p
-binary_code op.OrOr left right p = lazy_code instr.OrTest left right p
-binary_code operator left right p = left.1 p ++ (right.1 (p + expr_size left.0) ++ instr.Binary operator ∷ [])
+-- Both operands, and the operator at its width
+abbrev pub binary_code : Op2 → Width → Operand → Operand → Emit
+binary_code op.AndAnd width left right p = lazy_code instr.AndTest left right p
+binary_code op.OrOr width left right p = lazy_code instr.OrTest left right p
+binary_code operator width left right p = left.1 p ++ (right.1 (p + expr_size left.0) ++ instr.Binary operator width ∷ [])
 
 -- All arguments, from left to right, and what stands behind them
 abbrev pub arguments_code : List Operand → List Instr → Emit
@@ -71,9 +72,10 @@ expr_code_step layout (Expr-F.Cell slot index) p = index.1 p ++ instr.LoadCell (
 expr_code_step layout (Expr-F.Past variable back) p = instr.Past variable back ∷ []
 expr_code_step layout (Expr-F.Ready stream) p = instr.Ready stream ∷ []
 expr_code_step layout (Expr-F.Take stream) p = instr.Take stream ∷ []
-expr_code_step layout (Expr-F.Unary operator operand) p = operand.1 p ++ instr.Unary operator ∷ []
-expr_code_step layout (Expr-F.Binary operator left right) p = binary_code operator left right p
+expr_code_step layout (Expr-F.Unary operator width operand) p = operand.1 p ++ instr.Unary operator width ∷ []
+expr_code_step layout (Expr-F.Binary operator width left right) p = binary_code operator width left right p
 expr_code_step layout (Expr-F.Call function arguments) p = arguments_code arguments (instr.Call function ∷ []) p
+expr_code_step layout (Expr-F.Cast width operand) p = operand.1 p ++ instr.Cast width ∷ []
 
 -- The code of an expression
 abbrev pub expr_code : Layout → Expr → Emit
@@ -205,7 +207,7 @@ function_size f = stmts_size f.stmts + 2
 
 -- What a call begins with, where the function's code begins at a place
 abbrev pub function_entry : FunctionDecl → ℕ → FunctionCode
-function_entry f p = record { entry = p; params = f.params; locals = f.locals; counters = loops_in f.stmts }
+function_entry f p = record { entry = p; params = f.params; locals = map (λ l. l.init) f.locals; counters = loops_in f.stmts }
 
 -- By slot of an agent, how many cells it has
 abbrev pub agent_layout : AgentDecl → Layout

@@ -1,5 +1,5 @@
 -- How much room code asks for: as much as the statements hold at most.
-use Rattle.std.specs.Prelude.{◌≡◌, ℕ, length, Some, slice_get}
+use Rattle.std.specs.Prelude.{◌≡◌, ℕ, length, map, Some, slice_get}
 use Rattle.psy_tree.specs.declared.unit.AgentDecl.{AgentDecl}
 use Rattle.psy_tree.specs.declared.unit.FunctionDecl.{FunctionDecl}
 use Rattle.psy_tree.specs.declared.unit.Unit.{Unit as Whole}
@@ -17,10 +17,10 @@ pub record HasAgentRoom (unit : Whole) (agent : AgentDecl) (its : AgentCode) : T
   -- Counters: one for each bounded loop of its body
   pub counters : its.counters ≡ loops_in agent.stmts
 
--- The room of a call: its parameters, its locals, and a counter for each bounded loop
+-- The room of a call: its parameters, its locals with their first values, and a counter for each bounded loop
 pub record HasCallRoom (f : FunctionDecl) (its : FunctionCode) : Type 0 where
   pub params : its.params ≡ f.params
-  pub locals : its.locals ≡ f.locals
+  pub locals : its.locals ≡ map (λ l. l.init) f.locals
   pub counters : its.counters ≡ loops_in f.stmts
 
 -- Each agent and each function of a unit has its room.

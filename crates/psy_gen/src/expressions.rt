@@ -47,16 +47,16 @@ pub fn emit_expr(code: &mut Instrs, layout: &Layout, expr: &Expr) -> Result<(), 
         }),
         Expr::Ready(stream) => code.push(Instr::Ready(*stream)),
         Expr::Take(stream) => code.push(Instr::Take(*stream)),
-        Expr::Unary(op, operand) => {
+        Expr::Unary(op, width, operand) => {
             emit_expr(code, layout, operand.get())?;
-            code.push(Instr::Unary(*op))
+            code.push(Instr::Unary(*op, *width))
         }
-        Expr::Binary(op, left, right) => {
+        Expr::Binary(op, width, left, right) => {
             emit_expr(code, layout, left.get())?;
             match Binary::new(*op) {
                 Some(operator) => {
                     emit_expr(code, layout, right.get())?;
-                    code.push(Instr::Binary(operator))
+                    code.push(Instr::Binary(operator, *width))
                 }
                 None => {
                     let test = code.hold()?;
@@ -70,6 +70,10 @@ pub fn emit_expr(code: &mut Instrs, layout: &Layout, expr: &Expr) -> Result<(), 
         Expr::Call(function, arguments) => {
             emit_exprs(code, layout, arguments.as_slice())?;
             code.push(Instr::Call(*function))
+        }
+        Expr::Cast(width, operand) => {
+            emit_expr(code, layout, operand.get())?;
+            code.push(Instr::Cast(*width))
         }
     }
 }

@@ -1,6 +1,6 @@
 //! The code of functions.
 
-ghost use Rattle.std.specs.Prelude.{◌≡◌, ◌+◌, ◌<◌, ◌^◌, ◌++◌, length, replicate, IfOk, OnOk};
+ghost use Rattle.std.specs.Prelude.{◌≡◌, ◌+◌, ◌<◌, ◌^◌, ◌++◌, map, length, replicate, IfOk, OnOk};
 ghost use Rattle.std.specs.List.{All};
 ghost use Rattle.psy_meaning.specs.Units.{IsBareFunction};
 ghost use Rattle.psy_gen.specs.Emission.{codes_from, function_code, function_layout, function_size, functions_size, function_entry, function_entries};
@@ -10,7 +10,7 @@ use crate::layout::Layout;
 use crate::statements::{Body, emit_stmts};
 use psy_base::{Items, Memory};
 use psy_code::{FunctionCode, Instr};
-use psy_tree::FunctionDecl;
+use psy_tree::{FunctionDecl, LocalDecl};
 use std::alloc::Global;
 
 /// A cell for each parameter, and then for each local.
@@ -26,6 +26,17 @@ fn layout_of(alloc: Global, function: &FunctionDecl) -> Result<Layout, Memory>
         layout.add(1)?;
     }
     Ok(layout)
+}
+
+/// The values with which locals begin.
+fn first_values(alloc: Global, locals: &[LocalDecl]) -> Result<Items<i32>, Memory>
+    ensures { IfOk result (λ values. values ≡ map (λ l. l.init) locals.now) }
+{
+    let mut values = Items::new(alloc);
+    for local in locals {
+        values.push(local.init)?;
+    }
+    Ok(values)
 }
 
 fn emit_function(
@@ -50,7 +61,7 @@ fn emit_function(
     Ok(FunctionCode {
         entry,
         params: function.params,
-        locals: Items::from_slice(alloc, function.locals.as_slice())?,
+        locals: first_values(alloc, function.locals.as_slice())?,
         counters: body.loops,
     })
 }

@@ -1,6 +1,7 @@
 -- How far dates lie from each other, and what an agent's dates are counted by.
 use Rattle.std.specs.Prelude.{◌≡◌, ℕ, zero, suc, ◌*◌, ◌/◌, ◌≤◌, ◌%◌, List, [], ◌∷◌}
-use Rattle.psy_base.specs.declared.limits.TheConstants.{ADVANCE, PERIOD}
+use Rattle.psy_base.specs.declared.limits.TheConstants.{ADVANCE}
+use Rattle.psy_clock.specs.declared.clock.TheConstants.{PERIOD}
 use Rattle.psy_graph.specs.declared.cycle.TheConstants.{FAR}
 use Rattle.psy_graph.specs.declared.times.Times.{Times}
 use Rattle.psy_meaning.specs.Timing.{Timing}

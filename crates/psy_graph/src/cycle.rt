@@ -2,7 +2,7 @@
 
 ghost use Rattle.std.specs.Prelude.{◌≡◌, ◌≤◌};
 ghost use Rattle.std.specs.Int.{IsGcd};
-ghost use Rattle.psy_base.specs.declared.limits.TheConstants.{PERIOD};
+ghost use Rattle.psy_clock.specs.declared.clock.TheConstants.{PERIOD};
 ghost use Rattle.psy_graph.specs.declared.cycle.TheConstants.{FAR};
 ghost use Rattle.psy_graph.specs.Graphs.{IsTimed};
 ghost use Rattle.psy_graph.specs.Steps.{timing_by, joined, IsModulus};

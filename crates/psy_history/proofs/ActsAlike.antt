@@ -1,13 +1,16 @@
 -- What an action rests on, of what variables published: those alone that its text looks at.
 use Rattle.std.proofs.Common.{◌≡◌, ℕ, zero, suc, ◌+◌, Bool, true, false, List, [], ◌∷◌, ◌++◌, map, length, Option, Some, None, refl, sym, ap, ◌∙◌, subst}
 use Rattle.std.specs.Prelude.{◌==◌, if◌then◌else◌, not, slice_get, ℤ, pos}
-use Rattle.std.specs.Int.{w32}
+use Rattle.std.specs.Int.{w32, int_wrap}
 use Rattle.std.specs.List.{Contains}
 use Rattle.std.proofs.lemmas.Option.{get_or_from_slice_get}
 use Rattle.psy_arith.specs.declared.operators.Op2.{Op2}
 use Rattle.psy_arith.specs.declared.operators.Op2.TheVariants as op
 use Rattle.psy_arith.specs.declared.operators.Trap.TheVariants as trap
-use Rattle.psy_arith.specs.Operators.{truth, is_zero, value1, value2}
+use Rattle.psy_arith.specs.declared.width.Width.{Width}
+use Rattle.psy_arith.specs.Operators.{truth, is_zero}
+use Rattle.psy_arith.specs.Types.{taken1, taken2}
+use Rattle.psy_arith.specs.Widths.{of_type}
 use Rattle.psy_code.specs.declared.look.Sent.{Sent}
 use Rattle.psy_code.specs.Execution.{index_in}
 use Rattle.psy_code.specs.Views.{View, Past, Ready, Take, Send, found_in, past_of, count_as_value, next_in, nothing_done}
@@ -67,22 +70,22 @@ module _ (pasts others : List (List ℤ)) (Sees : ℕ → Type 0) (agree : (vari
         (λ v. Value v (asking (Take stream) (seeing pasts held))) (λ v. Value v (asking (Take stream) (seeing others held)))
         (λ v. both_give v (after (asking (Take stream)) held))
 
-    applied_alike : (operator : Op2) (a b : ℤ) → Alike (applied operator a b)
-    applied_alike operator a b held =
-        got_or_stop pasts others trap.Divide (value2 w32 operator a b) held (λ v. Value v (cost_1 (seeing pasts held))) (λ v. Value v (cost_1 (seeing others held))) (λ v. both_give v (one held))
+    applied_alike : (operator : Op2) (width : Width) (a b : ℤ) → Alike (applied operator width a b)
+    applied_alike operator width a b held =
+        got_or_stop pasts others trap.Divide (taken2 (of_type width) operator a b) held (λ v. Value v (cost_1 (seeing pasts held))) (λ v. Value v (cost_1 (seeing others held))) (λ v. both_give v (one held))
 
     truth_alike : {got other : Got} → GotAlike pasts others got other → GotAlike pasts others (truth_of got) (truth_of other)
     truth_alike h = got_then pasts others (λ v s. Value (truth (not (is_zero v))) (cost_1 s)) h (λ v held. both_give (truth (not (is_zero v))) (one held))
 
-    binary_alike : (operator : Op2) (left right : Eval) → Alike left → Alike right → Alike (binary operator left right)
-    binary_alike op.AndAnd left right p q held =
+    binary_alike : (operator : Op2) (width : Width) (left right : Eval) → Alike left → Alike right → Alike (binary operator width left right)
+    binary_alike op.AndAnd width left right p q held =
         got_then pasts others (λ a t. if is_zero a then Value (pos 0) (cost_1 t) else truth_of (right (cost_1 t))) (p held)
         (λ a k. got_choice pasts others (is_zero a) (both_give (pos 0) (one k)) (truth_alike (q (one k))))
-    binary_alike op.OrOr left right p q held =
+    binary_alike op.OrOr width left right p q held =
         got_then pasts others (λ a t. if is_zero a then truth_of (right (cost_1 t)) else Value (pos 1) (cost_1 t)) (p held)
         (λ a k. got_choice pasts others (is_zero a) (truth_alike (q (one k))) (both_give (pos 1) (one k)))
-    binary_alike operator left right p q held =
-        got_then pasts others (λ a t. and_then (right t) (λ b u. applied operator a b u)) (p held) (λ a k. got_then pasts others (λ b u. applied operator a b u) (q k) (λ b l. applied_alike operator a b l))
+    binary_alike operator width left right p q held =
+        got_then pasts others (λ a t. and_then (right t) (λ b u. applied operator width a b u)) (p held) (λ a k. got_then pasts others (λ b u. applied operator width a b u) (q k) (λ b l. applied_alike operator width a b l))
 
     in_order_alike : (ks : List Given) → Each Sees (all_pasts (map expr_pasts (map expr ks))) → (go : List ℤ → State → Got) → ((vs : List ℤ) → Alike (go vs)) → Alike (λ s. in_order (map (eval callees) (map expr ks)) s go)
     in_order_alike [] e go h held = h [] held
@@ -106,9 +109,12 @@ module _ (pasts others : List (List ℤ)) (Sees : ℕ → Type 0) (agree : (vari
     expr_alike_step (Expr-F.Past variable back) h held = past_alike variable back h.0 held
     expr_alike_step (Expr-F.Ready stream) h held = both_give (count_as_value (messages_at (seeing pasts held).view stream)) (after (asking (Ready stream)) held)
     expr_alike_step (Expr-F.Take stream) h held = take_alike stream held
-    expr_alike_step (Expr-F.Unary operator operand) h held = got_then pasts others (λ a t. Value (value1 w32 operator a) (cost_1 t)) (operand.1 h held) (λ a k. both_give (value1 w32 operator a) (one k))
-    expr_alike_step (Expr-F.Binary operator left right) h held =
-        binary_alike operator (eval callees left.0) (eval callees right.0) (left.1 (each-first Sees (expr_pasts left.0) (expr_pasts right.0) h)) (right.1 (each-second Sees (expr_pasts left.0) (expr_pasts right.0) h)) held
+    expr_alike_step (Expr-F.Unary operator width operand) h held =
+        got_then pasts others (λ a t. Value (taken1 (of_type width) operator a) (cost_1 t)) (operand.1 h held) (λ a k. both_give (taken1 (of_type width) operator a) (one k))
+    expr_alike_step (Expr-F.Cast width operand) h held =
+        got_then pasts others (λ a t. Value (int_wrap (of_type width) a) (cost_1 t)) (operand.1 h held) (λ a k. both_give (int_wrap (of_type width) a) (one k))
+    expr_alike_step (Expr-F.Binary operator width left right) h held =
+        binary_alike operator width (eval callees left.0) (eval callees right.0) (left.1 (each-first Sees (expr_pasts left.0) (expr_pasts right.0) h)) (right.1 (each-second Sees (expr_pasts left.0) (expr_pasts right.0) h)) held
     expr_alike_step (Expr-F.Call function arguments) h held = in_order_alike arguments h (λ values t. callees function values (cost_1 t)) (λ values k. all function values (one k)) held
 
     expr_layer : (y : Expr-F Given) → P (roll-Expr (map-Expr Given Expr expr y))
@@ -168,7 +174,7 @@ module _ (pasts others : List (List ℤ)) (Sees : ℕ → Type 0) (agree : (vari
     stmt_same_step : (y : Stmt-F Known) → let x = map-Stmt Known Stmt tree y in Each Sees (stmt_pasts_step (map-Stmt Stmt (List ℕ) stmt_pasts x)) → Same (stmt_step callees (map-Stmt Stmt Act (act_by callees) x))
     stmt_same_step (Stmt-F.Set slot value) h held = out_value pasts others (λ v t. Falls (with_slot slot 0 v (cost_1 t))) (expr_alike value h held) (λ v k. both_fall (after (λ s. with_slot slot 0 v (cost_1 s)) k))
     stmt_same_step (Stmt-F.SetCopy variable value) h held =
-        out_value pasts others (λ v t. Falls (with_copy_at variable v (cost_1 t))) (expr_alike value h held) (λ v k. both_fall (after (λ s. with_copy_at variable v (cost_1 s)) k))
+        out_value pasts others (λ v t. Falls (with_copy_at variable (int_wrap w32 v) (cost_1 t))) (expr_alike value h held) (λ v k. both_fall (after (λ s. with_copy_at variable (int_wrap w32 v) (cost_1 s)) k))
     stmt_same_step (Stmt-F.SetCell slot index value) h held =
         let first = each-first Sees (expr_pasts index) (expr_pasts value) h in
         let second = each-second Sees (expr_pasts index) (expr_pasts value) h in
@@ -191,7 +197,7 @@ module _ (pasts others : List (List ℤ)) (Sees : ℕ → Type 0) (agree : (vari
         let inner = pasts_in (map tree body) in
         choose_same test (all_of (map (act_by callees) (map tree body))) Falls (each-first Sees (expr_pasts test) inner h) (all_same body (each-second Sees (expr_pasts test) inner h)) falls_same held
     stmt_same_step (Stmt-F.Send value stream late clock) h held =
-        let sent : ℤ → Sent = λ v. record { stream = stream; value = v; after = late; clock = clock } in
+        let sent : ℤ → Sent = λ v. record { stream = stream; value = int_wrap w32 v; after = late; clock = clock } in
         out_value pasts others (λ v t. Falls (asking (Send (sent v)) t)) (expr_alike value h held) (λ v k. both_fall (after (asking (Send (sent v))) k))
     stmt_same_step (Stmt-F.Advance point) h held = both_halt (Ended point (cost_1 (seeing pasts held))) (Ended point (cost_1 (seeing others held))) (both_end point (one held))
     stmt_same_step (Stmt-F.Return value) h held = out_value pasts others (λ v t. Returns v (cost_1 t)) (expr_alike value h held) (λ v k. both_return v (one k))

@@ -1,21 +1,18 @@
 -- What an agent may carry is a store of it, its cells joined; and the other way round.
-use Rattle.std.proofs.Common.{◌≡◌, ℕ, ◌<◌, All, List, [], ◌∷◌, ◌++◌, map, length, refl, sym, ap, ap₂, ◌∙◌, arith}
-use Rattle.std.specs.Prelude.{ℤ, FitsSigned, drop, take}
-use Rattle.std.specs.Int.{w32}
+use Rattle.std.proofs.Common.{◌≡◌, ℕ, ◌<◌, List, [], ◌∷◌, ◌++◌, map, length, refl, sym, ap, ap₂, subst, ◌∙◌, arith}
+use Rattle.std.specs.Prelude.{ℤ, drop, take}
 use Rattle.std.specs.List.{flat_map}
 use Rattle.std.proofs.lemmas.List.{length-append, length-drop, length-take-le, take-append-drop}
-use Rattle.std.proofs.lemmas.List.Elements.{All-cons, All-contains, All-drop, All-nil, All-take}
 use Rattle.psy_code.specs.declared.code.Code.{Code}
 use Rattle.psy_tree.specs.declared.unit.AgentDecl.{AgentDecl}
 use Rattle.psy_tree.specs.declared.unit.Unit.{Unit as Whole}
-use Rattle.psy_meaning.specs.Alike.{AllFit, IsStoreOf, first_slots}
+use Rattle.psy_meaning.specs.Alike.{FitSlots, IsStoreOf, first_slots}
 use Rattle.psy_history.specs.Executors.{Carried, carried_in, cut, store_of}
 use Rattle.psy_tree.specs.Parts.{agent_at}
 use Rattle.psy_meaning.specs.States.{Store}
 use Rattle.psy_history.specs.Compiled.{IsCompiled}
 use Rattle.psy_history.specs.Openings.{MayCarry}
-use Rattle.psy_history.proofs.Cuts.{lengths_of}
-use Rattle.psy_history.proofs.Members.{all_flat_map}
+use Rattle.psy_history.proofs.Cuts.{lengths_of, store_back}
 use Rattle.psy_history.proofs.Stores.{AreStoreLaws, Carries, alike}
 
 -- Lists one behind the other
@@ -42,10 +39,6 @@ same_joined (x ∷ xs) (y ∷ ys) e =
     let rest : map length xs ≡ map length ys = cc in
     omega (arith, first, same_joined xs ys rest, length-append x (joined xs), length-append y (joined ys))
 
-all_cut : (lengths : List ℕ) (cells : List ℤ) → AllFit cells → All AllFit (cut lengths cells)
-all_cut [] cells all = All-nil AllFit
-all_cut (n ∷ lengths) cells all = All-cons AllFit (take n cells) (cut lengths (drop n cells)) (All-take (FitsSigned w32) n cells all) (all_cut lengths (drop n cells) (All-drop (FitsSigned w32) n cells all))
-
 module _ (unit : Whole) (code : Code) (nexts : List (List (List ℕ))) (laws : AreStoreLaws unit code) (compiled : IsCompiled unit code nexts) (agent : ℕ) (less : agent < length unit.agents) where
   abbrev decl : AgentDecl
   decl = agent_at unit agent
@@ -61,7 +54,7 @@ module _ (unit : Whole) (code : Code) (nexts : List (List (List ℕ))) (laws : A
         store = store_of decl carried;
         holds = record {
           slots = ap (map length) same ∙ lengths;
-          values = all_cut (map (λ s. s.cells) decl.slots) cells may.values;
+          values = may.values;
           variables = may.variables;
           copies = may.copies;
         };
@@ -72,7 +65,7 @@ module _ (unit : Whole) (code : Code) (nexts : List (List (List ℕ))) (laws : A
   pub may_carry : (store : Store) → IsStoreOf unit agent decl store → MayCarry unit code agent (carried_in store)
   may_carry store holds = record {
     cells = same_joined store.slots (first_slots decl) holds.slots ∙ sym (ap length (alike unit code nexts laws compiled agent less).cells);
-    values = all_flat_map (FitsSigned w32) (λ cells. cells) store.slots (λ cells there. All-contains AllFit store.slots cells holds.values there);
+    values = subst (λ (s : Store). FitSlots (map (λ s. s.width) decl.slots) s.slots) (sym (store_back unit agent decl store holds)) holds.values;
     variables = holds.variables;
     copies = holds.copies;
   }

@@ -83,8 +83,9 @@ module _ (Sees : ℕ → Type 0) where
     expr_step (Expr-F.Past variable back) h = no_look variable back h
     expr_step (Expr-F.Ready stream) h = tt
     expr_step (Expr-F.Take stream) h = tt
-    expr_step (Expr-F.Unary operator operand) h = operand.1 h
-    expr_step (Expr-F.Binary operator left right) h = each-append Sees (expr_pasts left.0) (expr_pasts right.0) (left.1 h.0) (right.1 h.1)
+    expr_step (Expr-F.Unary operator width operand) h = operand.1 h
+    expr_step (Expr-F.Cast width operand) h = operand.1 h
+    expr_step (Expr-F.Binary operator width left right) h = each-append Sees (expr_pasts left.0) (expr_pasts right.0) (left.1 h.0) (right.1 h.1)
     expr_step (Expr-F.Call function arguments) h = none_among arguments h.1
 
     expr_layer : (y : Expr-F Seen) → P (roll-Expr (map-Expr Seen Expr expr y))

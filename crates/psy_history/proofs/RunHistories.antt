@@ -22,10 +22,11 @@ use Rattle.psy_history.specs.Openings.{IsHeldBefore, MayCarry}
 use Rattle.psy_history.specs.Runs.{IsRun}
 use Rattle.psy_history.specs.Ways.{IsSentBy}
 use Rattle.psy_meaning.specs.KnownWays.{Ways}
+use Rattle.psy_history.proofs.Cuts.{zeros_fit}
 use Rattle.psy_history.proofs.Growth.{at_each_date}
 use Rattle.psy_history.proofs.Numbers.{few, were_started}
 use Rattle.psy_history.proofs.RunActions.{AreRunLaws, IsReady, by_way, goes_on, leaves, of_unit, regular, sends, some_next}
-use Rattle.psy_history.proofs.Seeing.{LeavesFit, MessageFits, all_made, sees, zero_fits}
+use Rattle.psy_history.proofs.Seeing.{LeavesFit, MessageFits, sees, zero_fits}
 use Rattle.psy_history.proofs.Timings.{ends_late}
 use Rattle.psy_history.proofs.SendWeights.{SendsByWay}
 
@@ -122,7 +123,7 @@ module _ (s : System) (ways : Ways) (code : Code) (laws : AreRunLaws code) (run 
         carried,
         record {
           cells = length-map-range_with_len (λ n. pos 0) 0 (length (agent_code_at code agent).cells);
-          values = all_made (FitsSigned w32) (λ n. pos 0) numbers (λ n. zero_fits);
+          values = zeros_fit (agent_at s.unit agent) numbers;
           variables = map-map (λ (c : Copy). c.variable) (λ (c : Copy). record { variable = c.variable; value = pos 0 }) firsts;
           copies = All-map (λ (c : Copy). FitsSigned w32 c.value) (λ (c : Copy). record { variable = c.variable; value = pos 0 }) firsts (λ i d less. zero_fits);
         },

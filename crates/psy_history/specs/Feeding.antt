@@ -24,8 +24,9 @@ all_pasts = flat_map (λ variables. variables)
 abbrev pub expr_pasts_step : Expr-F (List ℕ) → List ℕ
 expr_pasts_step (Expr-F.Past variable back) = variable ∷ []
 expr_pasts_step (Expr-F.Cell slot index) = index
-expr_pasts_step (Expr-F.Unary operator operand) = operand
-expr_pasts_step (Expr-F.Binary operator left right) = left ++ right
+expr_pasts_step (Expr-F.Unary operator width operand) = operand
+expr_pasts_step (Expr-F.Binary operator width left right) = left ++ right
+expr_pasts_step (Expr-F.Cast width operand) = operand
 expr_pasts_step (Expr-F.Call function arguments) = all_pasts arguments
 expr_pasts_step _ = []
 

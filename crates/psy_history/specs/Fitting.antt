@@ -1,5 +1,5 @@
 -- Code that fits a program, whatever made it: what a run of it needs is said of the code itself, by ways that are given as lists.
-use Rattle.std.specs.Prelude.{◌≡◌, ℕ, ◌<◌, List, [], map, length, FitsSigned, ℤ}
+use Rattle.std.specs.Prelude.{◌≡◌, ℕ, ◌<◌, List, [], map, length, FitsSigned}
 use Rattle.std.specs.Int.{w32}
 use Rattle.std.specs.List.{All}
 use Rattle.psy_base.specs.declared.ways.Ways.{Ways as WayLists}
@@ -11,22 +11,19 @@ use Rattle.psy_tree.specs.Parts.{agent_at}
 use Rattle.psy_history.specs.Actions.{System, timing}
 use Rattle.psy_history.specs.Compiled.{coded}
 use Rattle.psy_history.specs.Executors.{Carried, agent_code_at}
-use Rattle.psy_history.specs.Openings.{MayCarry}
+use Rattle.psy_history.specs.Openings.{FitCells, MayCarry}
 use Rattle.psy_history.specs.Runs.{GoesWell}
-use Rattle.psy_meaning.specs.Alike.{AllFit, IsViewOf, first_copies}
+use Rattle.psy_meaning.specs.Alike.{IsViewOf, first_copies}
 use Rattle.psy_meaning.specs.KnownWays.{Listed}
 use Rattle.psy_meaning.specs.ListedWays.{AreWaysFor}
 use Rattle.psy_meaning.specs.Timing.{MayStart}
 use Rattle.psy_meaning.specs.Units.{IsBare}
 
--- The first values of a cell and of a copy are of 32 bits: those of the slots and variables that there are, whose type is `int`.
-abbrev pub FitSlots : List ℤ → Type 0
-FitSlots cells = AllFit cells
-
--- An agent's code has a place for each of its points, and a copy of each variable that it owns; its cells and copies begin in range.
+-- An agent's code has a place for each of its points, and a copy of each variable that it owns; its cells begin in the ranges of
+-- their slots' types, and its copies with values of 32 bits.
 pub record IsAgentCodeFor (unit : Whole) (agent : ℕ) (its : AgentCode) : Type 0 where
   pub points : length its.points ≡ length (agent_at unit agent).points
-  pub cells : FitSlots its.cells
+  pub cells : FitCells (agent_at unit agent) its.cells
   pub copies : map (λ c. c.variable) its.copies ≡ map (λ c. c.variable) (first_copies unit agent)
   pub inits : All (λ c. FitsSigned w32 c.init) its.copies
 

@@ -7,20 +7,27 @@ use Rattle.psy_base.specs.declared.message.Message.{Message}
 use Rattle.psy_clock.specs.Dates.{count}
 use Rattle.psy_code.specs.declared.code.Code.{Code}
 use Rattle.psy_queue.specs.Order.{comes_before}
+use Rattle.psy_tree.specs.declared.unit.AgentDecl.{AgentDecl}
 use Rattle.psy_tree.specs.declared.unit.Unit.{Unit as Whole}
+use Rattle.psy_tree.specs.Parts.{agent_at}
 use Rattle.psy_history.specs.Actions.{Next, System, first_action, publishing, stream_of, timing, variable_of}
-use Rattle.psy_history.specs.Executors.{Carried, agent_code_at, copy_in}
-use Rattle.psy_meaning.specs.Alike.{AllFit, first_copies}
+use Rattle.psy_history.specs.Executors.{Carried, agent_code_at, copy_in, cut}
+use Rattle.psy_meaning.specs.Alike.{AllFit, FitSlots, first_copies}
 use Rattle.psy_meaning.specs.Timing.{first_date}
 use Rattle.psy_history.specs.Regular.{MayStartAlike}
 use Rattle.psy_meaning.specs.KnownWays.{Ways}
 use Rattle.psy_meaning.specs.QueueSizes.{IsQueueSize}
 use Rattle.psy_meaning.specs.RingSizes.{IsRingSize}
 
--- What an agent may carry: as many cells as its code has, and copies of the variables that it owns, with values of 32 bits
+-- Where the program has a slot for a cell, the cell has the range of the slot's type.
+abbrev pub FitCells : AgentDecl → List ℤ → Type 0
+FitCells agent cells = FitSlots (map (λ s. s.width) agent.slots) (cut (map (λ s. s.cells) agent.slots) cells)
+
+-- What an agent may carry: as many cells as its code has, with values of their slots' types, and copies of the variables that it
+-- owns, with values of 32 bits
 pub record MayCarry (unit : Whole) (code : Code) (agent : ℕ) (carried : Carried) : Type 0 where
   pub cells : length carried.cells ≡ length (agent_code_at code agent).cells
-  pub values : AllFit carried.cells
+  pub values : FitCells (agent_at unit agent) carried.cells
   pub variables : map (λ c. c.variable) carried.copies ≡ map (λ c. c.variable) (first_copies unit agent)
   pub copies : All (λ c. FitsSigned w32 c.value) carried.copies
 

@@ -2,11 +2,12 @@
 use Rattle.std.proofs.Common.{◌≡◌, ◌∙◌, ◌+◌, ◌<◌, ◌==◌, ℕ, zero, suc, ℤ, Bool, true, false, List, [], ◌∷◌, Option, None, Some, length, refl, sym, ap}
 use Rattle.std.proofs.Common.{subst, nat_lt, arith}
 use Rattle.std.specs.Prelude.{if◌then◌else◌, slice_get}
-use Rattle.std.specs.Int.{w32}
 use Rattle.std.proofs.lemmas.Option.{none-some, same_Some}
 use Rattle.psy_arith.specs.declared.operators.Trap.{Trap}
 use Rattle.psy_arith.specs.declared.operators.Trap.TheVariants as trap
-use Rattle.psy_arith.specs.Operators.{is_zero, value2}
+use Rattle.psy_arith.specs.Operators.{is_zero}
+use Rattle.psy_arith.specs.Types.{taken2}
+use Rattle.psy_arith.specs.Widths.{of_type}
 use Rattle.psy_code.specs.declared.code.AgentCode.{AgentCode}
 use Rattle.psy_code.specs.declared.code.Code.{Code}
 use Rattle.psy_code.specs.declared.instr.Instr.{Instr}
@@ -83,8 +84,10 @@ module _ (code : Code) (agent : AgentCode) (view : View) (m : Machine) where
   goes_to (instr.Call function) p e = absurd (none-some p e)
   goes_to instr.Return p e = absurd (none-some p e)
   goes_to (instr.Advance point) p e = absurd (none-some p e)
-  goes_to (instr.Binary operator) p e = t_two p m.operands _ (λ a b below. t_trap p trap.Divide (value2 w32 operator a b) _ (λ v. same_Some (m.place + 1) p e))
-  goes_to (instr.Unary operator) p e = t_top p m.operands _ (λ a below. same_Some (m.place + 1) p e)
+  goes_to (instr.Binary operator width) p e =
+      t_two p m.operands _ (λ a b below. t_trap p trap.Divide (taken2 (of_type width) operator a b) _ (λ v. same_Some (m.place + 1) p e))
+  goes_to (instr.Unary operator width) p e = t_top p m.operands _ (λ a below. same_Some (m.place + 1) p e)
+  goes_to (instr.Cast width) p e = t_top p m.operands _ (λ a below. same_Some (m.place + 1) p e)
 
   next_goes : (i : Instr) (p : ℕ) → slice_get code.instrs m.place ≡ Some i → only_next i m.place ≡ Some p → GoesTo p (next_of code agent view m)
   next_goes i p at e = subst (λ (found : Option Instr). GoesTo p (need found (λ i. within agent (does code agent view i m)))) (sym at)

@@ -1,10 +1,14 @@
 -- The text of each instruction: its name, and what it names. Places and cells go by their numbers; variables, streams, clocks and functions by their names.
 use Rattle.std.specs.Prelude.{ℕ, List, [], ◌++◌, Option, None, Some, codes, decimal, get_or, slice_get}
 use Rattle.std.specs.Fmt.{signed_decimal}
+use mir.Val.{bits}
 use Rattle.psy_arith.specs.declared.operators.Op1.{Op1}
 use Rattle.psy_arith.specs.declared.operators.Op1.TheVariants as one
 use Rattle.psy_arith.specs.declared.operators.Op2.{Op2}
 use Rattle.psy_arith.specs.declared.operators.Op2.TheVariants as op
+use Rattle.psy_arith.specs.declared.width.Width.{Width}
+use Rattle.psy_arith.specs.declared.width.Width.TheVariants as width
+use Rattle.psy_arith.specs.Widths.{of_type}
 use Rattle.psy_code.specs.declared.instr.Instr.{Instr}
 use Rattle.psy_code.specs.declared.instr.Instr.TheVariants as instr
 use Rattle.psy_tree.specs.declared.unit.FunctionDecl.{FunctionDecl}
@@ -35,6 +39,16 @@ abbrev pub unary_name : Op1 → List ℕ
 unary_name one.Neg = codes "neg"
 unary_name one.Flip = codes "flip"
 unary_name one.Not = codes "not"
+
+-- Behind the name of an operator stands its width, where that isn't 32.
+abbrev pub width_text : Width → List ℕ
+width_text width.W32 = []
+width_text at = codes " " ++ decimal (bits (of_type at))
+
+-- `not` is one instruction for all widths.
+abbrev pub unary_text : Op1 → Width → List ℕ
+unary_text one.Not at = unary_name one.Not
+unary_text operator at = unary_name operator ++ width_text at
 
 -- The name of a clock, and of a function, by number
 abbrev pub clock_name : Whole → ℕ → List ℕ
@@ -74,5 +88,6 @@ instr_text unit (instr.Guard counter bound) = two_text (codes "guard ") counter 
 instr_text unit (instr.Call function) = codes "call " ++ function_name unit function
 instr_text unit instr.Return = codes "return"
 instr_text unit (instr.Advance point) = codes "advance " ++ decimal point
-instr_text unit (instr.Binary operator) = binary_name operator
-instr_text unit (instr.Unary operator) = unary_name operator
+instr_text unit (instr.Binary operator at) = binary_name operator ++ width_text at
+instr_text unit (instr.Unary operator at) = unary_text operator at
+instr_text unit (instr.Cast at) = codes "cast " ++ decimal (bits (of_type at))

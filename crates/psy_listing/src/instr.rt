@@ -1,11 +1,12 @@
 //! The text of an instruction.
 ghost use Rattle.std.specs.Prelude.{◌≡◌, ◌++◌, OnOk};
-ghost use Rattle.psy_listing.specs.Instructions.{instr_text};
+ghost use Rattle.psy_listing.specs.Instructions.{instr_text, unary_text, width_text};
 
 use crate::names::{
     binary_word, clock_word, function_word, stream_word, unary_word, variable_word,
 };
 use crate::piece::{add_labelled, add_named, add_signed, add_two};
+use psy_arith::{Op1, Width};
 use psy_code::Instr;
 use psy_tree::Unit;
 use std::alloc::AllocError;
@@ -46,8 +47,9 @@ pub fn add_instr(out: &mut Vec<u8>, unit: &Unit, instr: Instr) -> Result<(), All
         Instr::Call(function) => add_named(out, b"call ", function_word(unit, function)),
         Instr::Return => out.extend_from_slice(b"return"),
         Instr::Advance(point) => add_labelled(out, b"advance ", u64::from(point)),
-        Instr::Binary(operator) => out.extend_from_slice(binary_word(operator.op())),
-        Instr::Unary(operator) => out.extend_from_slice(unary_word(operator)),
+        Instr::Binary(operator, width) => add_at_width(out, binary_word(operator.op()), width),
+        Instr::Unary(operator, width) => add_unary(out, operator, width),
+        Instr::Cast(width) => add_labelled(out, b"cast ", u64::from(width.bits())),
     }
 }
 
@@ -76,4 +78,25 @@ fn add_send(
     add_named(out, b"send ", stream_word(unit, stream))?;
     add_labelled(out, b" after ", u64::from(after))?;
     add_named(out, b" on ", clock_word(unit, clock))
+}
+
+// An operator with one operand; `not` is one for all widths.
+fn add_unary(out: &mut Vec<u8>, operator: Op1, width: Width) -> Result<(), AllocError>
+    ensures { OnOk result (out.new.items ≡ out.old.items ++ unary_text operator width) }
+{
+    match operator {
+        Op1::Not => out.extend_from_slice(unary_word(operator)),
+        Op1::Neg | Op1::Flip => add_at_width(out, unary_word(operator), width),
+    }
+}
+
+// The name of an operator, and behind it its width, where that isn't 32.
+fn add_at_width(out: &mut Vec<u8>, name: &[u8], width: Width) -> Result<(), AllocError>
+    ensures { OnOk result (out.new.items ≡ out.old.items ++ name.now ++ width_text width) }
+{
+    out.extend_from_slice(name)?;
+    match width {
+        Width::W32 => Ok(()),
+        Width::W8 | Width::W16 | Width::W64 => add_labelled(out, b" ", u64::from(width.bits())),
+    }
 }

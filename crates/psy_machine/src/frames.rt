@@ -1,5 +1,5 @@
 //! The frames of an agent and of its open calls: cells and counters.
-ghost use Rattle.std.specs.Prelude.{◌≡◌, ◌+◌, ◌<◌, ◌≤◌, [], ◌∷◌, ◌++◌, length, replicate, slice_get, slice_set, Some, IfOk};
+ghost use Rattle.std.specs.Prelude.{◌≡◌, ◌+◌, ◌<◌, ◌≤◌, [], ◌∷◌, ◌++◌, length, replicate, slice_get, slice_set, vec_capacity, Some, IfOk};
 ghost use Rattle.psy_base.specs.declared.limits.TheConstants.{OPEN_CALLS};
 ghost use Rattle.psy_code.specs.Execution.{OpenCall, cells_in_calls, cleared};
 ghost use Rattle.psy_machine.specs.Parts.{present_in, with_present};
@@ -25,7 +25,7 @@ struct Header {
 /// The frame of an agent and those of its open calls, one behind the other, in room that was reserved.
 #[derive(Debug, Drop)]
 pub struct Frames {
-    cells: Vec<i32>,
+    cells: Vec<i64>,
     counters: Vec<u32>,
     headers: Vec<Header>,
     /// Where the innermost frame begins.
@@ -61,7 +61,7 @@ impl Frames {
             counters: counters as usize,
         };
         let mut all_cells = Vec::with_capacity(alloc, home_end.cells + room as usize)?;
-        all_cells.extend_from_slice(cells)?;
+        put_all(&mut all_cells, cells);
         let mut all_counters = Vec::with_capacity(alloc, home_end.counters + room as usize)?;
         all_counters.resize(home_end.counters, 0)?;
         Ok(Frames {
@@ -79,7 +79,7 @@ impl Frames {
 
     /// A cell of the innermost frame.
     #[inline(always)]
-    pub fn cell(&self, number: usize) -> i32
+    pub fn cell(&self, number: usize) -> i64
         requires { number < length (present_in self.now).cells }
         ensures { slice_get (present_in self.now).cells number ≡ Some result }
     {
@@ -87,7 +87,7 @@ impl Frames {
     }
 
     #[inline(always)]
-    pub fn set_cell(&mut self, number: usize, value: i32)
+    pub fn set_cell(&mut self, number: usize, value: i64)
         requires { number < length (present_in self.old).cells }
         ensures { let frame = present_in self.old in
             self.new ≡ with_present (record frame { cells = slice_set frame.cells number value }) self.old }
@@ -116,7 +116,7 @@ impl Frames {
     }
 
     /// Opens a call, with its arguments and locals as its cells.
-    pub fn open(&mut self, arguments: &[i32], locals: &[i32], counters: u32, back: usize)
+    pub fn open(&mut self, arguments: &[i64], locals: &[i32], counters: u32, back: usize)
         requires room { length arguments.now + length locals.now + counters + cells_in_calls self.old.calls ≤ self.old.room }
         requires calls { length self.old.calls < OPEN_CALLS }
         ensures { self.new ≡ record self.old {
@@ -135,7 +135,7 @@ impl Frames {
             counters: self.counters.len(),
         };
         self.cells.extend_from_slice(arguments).unwrap();
-        self.cells.extend_from_slice(locals).unwrap();
+        put_all(&mut self.cells, locals);
         let end = self.counters.len() + counters as usize;
         self.counters.resize(end, 0).unwrap();
     }
@@ -165,5 +165,16 @@ impl Frames {
             cells: 0,
             counters: 0,
         };
+    }
+}
+
+/// Puts first values behind cells, in room that was reserved.
+fn put_all(cells: &mut Vec<i64>, values: &[i32])
+    requires { length cells.old.items + length values.now ≤ vec_capacity cells.old }
+    ensures items { cells.new.items ≡ cells.old.items ++ values.now }
+    ensures capacity { vec_capacity cells.new ≡ vec_capacity cells.old }
+{
+    for value in values {
+        cells.push_reserved(i64::from(*value));
     }
 }

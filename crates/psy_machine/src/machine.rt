@@ -11,6 +11,7 @@ mod values;
 
 use crate::copies::Copies;
 use crate::frames::Frames;
+use crate::machine::values::low_32;
 use crate::operands::Operands;
 use psy_arith::Trap;
 use psy_base::Memory;
@@ -88,7 +89,8 @@ impl Machine {
         ensures kept { L.Keeps look.old look.new }
     {
         let agent = &code.agents.as_slice()[self.agent as usize];
-        let instr = code.instrs.as_slice()[self.place];
+        // by reference: each kind of instruction reads no more of it than it needs
+        let instr = &code.instrs.as_slice()[self.place];
         self.act(code, agent, instr, look)
     }
 
@@ -102,18 +104,18 @@ impl Machine {
 
     /// Executes an instruction of the agent.
     #[inline(always)]
-    fn act<L: Look>(&mut self, code: &Code, agent: &AgentCode, instr: Instr, look: &mut L) -> Step
+    fn act<L: Look>(&mut self, code: &Code, agent: &AgentCode, instr: &Instr, look: &mut L) -> Step
         requires able { CanDo self.old
-            (does code.now agent.now (L.window look.old).view instr self.old.machine) }
-        requires permitted { PermitsAll (L.window look.old) (call_by instr self.old.machine.operands) }
-        ensures did { Did (does code.now agent.now (L.window look.old).view instr self.old.machine)
+            (does code.now agent.now (L.window look.old).view instr.now self.old.machine) }
+        requires permitted { PermitsAll (L.window look.old) (call_by instr.now self.old.machine.operands) }
+        ensures did { Did (does code.now agent.now (L.window look.old).view instr.now self.old.machine)
             self.old self.new result }
         ensures window { L.window look.new
-            ≡ window_after (L.window look.old) (call_by instr self.old.machine.operands) }
+            ≡ window_after (L.window look.old) (call_by instr.now self.old.machine.operands) }
         ensures kept { L.Keeps look.old look.new }
     {
-        match instr {
-            Instr::Push(number) => self.push(number),
+        match *instr {
+            Instr::Push(number) => self.push(i64::from(number)),
             Instr::Load(cell) => self.load(cell),
             Instr::Store(cell) => self.store(cell),
             Instr::LoadCell { base, cells } => self.load_cell(base, cells),
@@ -122,14 +124,14 @@ impl Machine {
             Instr::StoreCopy(variable) => self.store_copy(variable),
             Instr::Past { variable, back } => {
                 let value = look.past(variable, back);
-                self.push(value)
+                self.push(i64::from(value))
             }
             Instr::Ready(stream) => {
                 let count = look.ready(stream);
-                self.push(count.cast_signed())
+                self.push(i64::from(count.cast_signed()))
             }
             Instr::Take(stream) => match look.take(stream) {
-                Some(value) => self.push(value),
+                Some(value) => self.push(i64::from(value)),
                 None => Step::Trapped(Trap::Take),
             },
             Instr::Send {
@@ -137,7 +139,7 @@ impl Machine {
                 after,
                 clock,
             } => {
-                let value = self.operands.pop();
+                let value = low_32(self.operands.pop());
                 look.send(stream, value, after, clock);
                 self.go_on()
             }
@@ -151,8 +153,9 @@ impl Machine {
             Instr::Call(number) => self.call(&code.functions.as_slice()[number as usize]),
             Instr::Return => self.leave(),
             Instr::Advance(point) => self.advance(agent, point),
-            Instr::Binary(operator) => self.binary(operator.op()),
-            Instr::Unary(operator) => self.unary(operator),
+            Instr::Binary(operator, width) => self.binary(operator.op(), width),
+            Instr::Unary(operator, width) => self.unary(operator, width),
+            Instr::Cast(width) => self.cast(width),
         }
     }
 }

@@ -7,7 +7,7 @@ use std::marker::Model;
 /// The operands of a machine, the last one on top, in room that was reserved.
 #[derive(Debug, Drop)]
 pub struct Operands {
-    values: Vec<i32>,
+    values: Vec<i64>,
 }
 
 impl Model for Operands {
@@ -30,7 +30,7 @@ impl Operands {
     }
 
     #[inline(always)]
-    pub fn top(&self) -> i32
+    pub fn top(&self) -> i64
         requires { 0 < length self.now.values }
         ensures { self.now.values ≡ result ∷ drop 1 self.now.values }
     {
@@ -39,7 +39,7 @@ impl Operands {
 
     /// The operand below the top.
     #[inline(always)]
-    pub fn below_top(&self) -> i32
+    pub fn below_top(&self) -> i64
         requires { 1 < length self.now.values }
         ensures { drop 1 self.now.values ≡ result ∷ drop 2 self.now.values }
     {
@@ -47,7 +47,7 @@ impl Operands {
     }
 
     #[inline(always)]
-    pub fn set_top(&mut self, value: i32)
+    pub fn set_top(&mut self, value: i64)
         requires { 0 < length self.old.values }
         ensures { self.new ≡ record self.old { values = value ∷ drop 1 self.old.values } }
     {
@@ -56,7 +56,7 @@ impl Operands {
     }
 
     #[inline(always)]
-    pub fn push(&mut self, value: i32)
+    pub fn push(&mut self, value: i64)
         requires { length self.old.values < self.old.room }
         ensures { self.new ≡ record self.old { values = value ∷ self.old.values } }
     {
@@ -64,7 +64,7 @@ impl Operands {
     }
 
     #[inline(always)]
-    pub fn pop(&mut self) -> i32
+    pub fn pop(&mut self) -> i64
         requires { 0 < length self.old.values }
         ensures value { self.old.values ≡ result ∷ drop 1 self.old.values }
         ensures rest { self.new ≡ record self.old { values = drop 1 self.old.values } }
@@ -73,7 +73,7 @@ impl Operands {
     }
 
     /// The last operands, in the order in which they were pushed.
-    pub fn last(&self, count: usize) -> &[i32]
+    pub fn last(&self, count: usize) -> &[i64]
         requires { count ≤ length self.now.values }
         ensures { result.now ≡ reverse (take count self.now.values) }
     {

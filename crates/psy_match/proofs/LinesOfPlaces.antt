@@ -5,7 +5,7 @@ use Rattle.psy_match.specs.declared.point.TheConstants.{LINE_COLUMNS}
 use Rattle.psy_match.specs.Points.{point_line}
 use Rattle.psy_show.specs.Lines.{shown_in}
 use Rattle.psy_text.specs.Lines.{without_return}
-use Rattle.psy_where.specs.Places.{line_front}
+use Rattle.psy_spot.specs.Spots.{line_front}
 
 -- The line, by what stands before a place and from there on
 abbrev line_by : List ℕ → List ℕ → List ℕ

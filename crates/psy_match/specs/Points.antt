@@ -7,7 +7,7 @@ use Rattle.psy_tree.specs.declared.token.Kind.{Kind}
 use Rattle.psy_tree.specs.declared.token.Kind.TheVariants as kind
 use Rattle.psy_tree.specs.declared.token.Token.{Token}
 use Rattle.psy_tree.specs.declared.token.Word.TheVariants as words
-use Rattle.psy_where.specs.Places.{behind_at, line_at}
+use Rattle.psy_spot.specs.Spots.{behind_at, line_at}
 
 -- The token begins an agent.
 abbrev pub is_agent : Kind → Bool

@@ -5,10 +5,10 @@ ghost use Rattle.psy_match.specs.Points.{advances, is_advance, is_agent, point_l
 
 use psy_base::{Items, Memory, Text};
 use psy_show::add_shown_in;
+use psy_spot::spot_at;
 use psy_text::line::without_return;
 use psy_text::write::add_number;
 use psy_tree::{Kind, Token, Word};
-use psy_where::spot_at;
 use std::alloc::Global;
 
 /// The columns of a line that are told, at most.

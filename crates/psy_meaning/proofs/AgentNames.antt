@@ -16,11 +16,12 @@ use Rattle.psy_tree.specs.declared.reach.Asks.TheVariants as asks
 use Rattle.psy_tree.specs.declared.reach.Found.{Found}
 use Rattle.psy_tree.specs.declared.reach.Found.TheVariants as found
 use Rattle.psy_tree.specs.declared.rules.RuleKind.TheVariants as kind
+use Rattle.psy_tree.specs.declared.unit.Slots.{Slots}
 use Rattle.psy_tree.specs.declared.unit.VarDecl.{VarDecl}
 use Rattle.psy_tree.specs.declared.unit.StreamDecl.{StreamDecl}
 use Rattle.psy_tree.specs.declared.unit.AgentDecl.{AgentDecl}
-use Rattle.psy_tree.specs.Scope.{Site, local_slot, own_slots, slots_at, stands_for, item_at}
-use Rattle.psy_tree.specs.Places.{Uses, Ranges, cells_places}
+use Rattle.psy_tree.specs.Scope.{Site, SlotName, local_slot, own_slots, slots_at, stands_for, item_at}
+use Rattle.psy_tree.specs.Places.{Uses, Ranges, local_place}
 use Rattle.std.specs.Option.{is_none}
 use Rattle.psy_tree.specs.Rules.{NoFault, is_clock, is_agent, is_function, is_stream, is_temporal, has_params, declared_depth, in_agent, slot_is_array, owner_elsewhere, receiver_elsewhere, reaches, unsuited, below}
 use Rattle.psy_tree.specs.Stands.{unit_of, inside_of, counting, is_variable, number_of_item, number_at, slot_number, slot_of, variables, streams}
@@ -32,6 +33,7 @@ use Rattle.psy_tree.proofs.lemmas.Numbers.{flat_map-each, length-each, gives_str
 use Rattle.psy_tree.proofs.lemmas.Lists.{slice_get-behind}
 use Rattle.psy_tree.proofs.lemmas.Faultless.{Fine, fine_head, in_range, number_below, asks_clock, asks_target}
 use Rattle.psy_meaning.proofs.SoundExprs.{HasValue, Suits}
+use Rattle.psy_meaning.proofs.TypedExprs.{widths_at}
 use Rattle.psy_tree.proofs.lemmas.Standing.{second_false, temporal_is, stream_is, function_is, agent_here}
 
 -- ---- slots
@@ -41,17 +43,22 @@ cells_of locals = map (λ s. s.cells) (map slot_of locals)
 
 scalar_at : (locals : List Local) (k : ℕ) → slot_is_array false (slice_get (map local_slot locals) k) ≡ true → (cells : ℕ) × (slice_get (cells_of locals) k ≡ Some cells) × (0 < cells)
 scalar_at [] k h = cc
-scalar_at (local.Scalar name init ∷ ls) zero h = (1, refl, omega arith)
-scalar_at (local.Array name cells ∷ ls) zero h = cc
+scalar_at (local.Scalar width name init ∷ ls) zero h = (1, refl, omega arith)
+scalar_at (local.Array width name cells ∷ ls) zero h = cc
 scalar_at (l ∷ ls) (suc k) h = scalar_at ls k h
 
-array_at : (site : Site) (locals : List Local) (k : ℕ) → Each (Fine site) (cells_places locals) → slot_is_array true (slice_get (map local_slot locals) k) ≡ true
+array_at : (site : Site) (locals : List Local) (k : ℕ) → Each (Fine site) (map local_place locals) → slot_is_array true (slice_get (map local_slot locals) k) ≡ true
     → (cells : ℕ) × (slice_get (cells_of locals) k ≡ Some cells) × (0 < cells)
 array_at site [] k c h = cc
-array_at site (local.Scalar name init ∷ ls) zero c h = cc
-array_at site (local.Array name cells ∷ ls) zero c h = (cells.value, refl, omega (arith, (in_range site cells 1 256 c.0).0))
-array_at site (local.Scalar name init ∷ ls) (suc k) c h = array_at site ls k c h
-array_at site (local.Array name cells ∷ ls) (suc k) c h = array_at site ls k c.1 h
+array_at site (local.Scalar width name init ∷ ls) zero c h = cc
+array_at site (local.Array width name cells ∷ ls) zero c h = (cells.value, refl, omega (arith, (in_range site cells 1 256 c.0).0))
+array_at site (l ∷ ls) (suc k) c h = array_at site ls k c.1 h
+
+-- The unit's slots have the types of the text.
+slot_types : (locals : List Local) → map (λ (s : Slots). s.width) (map slot_of locals) ≡ map (λ (s : SlotName). s.width) (map local_slot locals)
+slot_types [] = refl
+slot_types (local.Scalar width name init ∷ ls) = ap (λ ws. width ∷ ws) (slot_types ls)
+slot_types (local.Array width name cells ∷ ls) = ap (λ ws. width ∷ ws) (slot_types ls)
 
 -- ---- copies
 
@@ -87,7 +94,7 @@ past_of items _ back known deep = cc
 
 -- ---- the scope of an agent
 
-module _ (raw : Raw) (fault : NoFault raw) (k : ℕ) (name clock : Name) (processor : Option Lit) (budget : Lit) (locals : List Local) (body : ℕ) (stmts : List RawStmt) (agent : AgentDecl) (own : slice_get raw.items k ≡ Some (item.Agent name clock processor budget locals body stmts)) (slots : agent.slots ≡ map slot_of locals) (cells : Each (Fine (inside_of raw.items k)) (cells_places locals)) where
+module _ (raw : Raw) (fault : NoFault raw) (k : ℕ) (name clock : Name) (processor : Option Lit) (budget : Lit) (locals : List Local) (body : ℕ) (stmts : List RawStmt) (agent : AgentDecl) (own : slice_get raw.items k ≡ Some (item.Agent name clock processor budget locals body stmts)) (slots : agent.slots ≡ map slot_of locals) (cells : Each (Fine (inside_of raw.items k)) (map local_place locals)) where
   abbrev site : Site
   site = inside_of raw.items k
 
@@ -171,8 +178,13 @@ module _ (raw : Raw) (fault : NoFault raw) (k : ℕ) (name clock : Name) (proces
     delay = (in_range site after 0 1024 d).1;
   }
 
+  widths_are : scope.widths ≡ widths_at site
+  widths_are =
+      ap (map (λ (s : Slots). s.width)) slots ∙ slot_types locals ∙ ap (map (λ (s : SlotName). s.width)) (sym slots_are)
+
   pub agent_suits : Suits site scope
   agent_suits = record {
+    widths = widths_are;
     values = λ n c. value_in (stands_for site n.text) (c kind.Unknown) (c kind.WrongKind) (c kind.NotOwner);
     cells = λ n c. cell_in (stands_for site n.text) (c kind.Unknown) (c kind.WrongKind);
     pasts = λ token n back a c l. past_in (stands_for site n.text) back.value (c kind.Unknown) (c kind.WrongKind) (l kind.TooDeep);

@@ -18,10 +18,10 @@ use Rattle.psy_tree.specs.declared.unit.Unit.{Unit as Whole}
 use Rattle.psy_tree.specs.declared.unit.Point.{Point}
 use Rattle.psy_tree.specs.declared.unit.AgentDecl.{AgentDecl}
 use Rattle.psy_tree.specs.Scope.{Site, item_name, slots_of, scalar, local_slot}
-use Rattle.psy_tree.specs.Places.{Place, Uses, Ranges, HasBody, budget_places, processor_places, head_places, slot_places, cells_places, stmts_places}
+use Rattle.psy_tree.specs.Places.{Place, Uses, Ranges, HasBody, budget_places, processor_places, head_places, slot_places, local_place, stmts_places}
 use Rattle.psy_tree.specs.Paths.{quiet_list}
 use Rattle.psy_tree.specs.Rules.{NoFault, is_clock, is_agent, is_function, is_stream}
-use Rattle.psy_tree.specs.Stands.{Stands, unit_of, counting, is_variable, clock_names, variables, streams, functions, agents, agent_with, named_processor, slot_of, local_value, agent_budget, head_point, global_number, budget_of, inside_of, stmts_of, each_from}
+use Rattle.psy_tree.specs.Stands.{Stands, unit_of, counting, is_variable, clock_names, variables, streams, functions, agents, agent_with, named_processor, slot_of, local_of, agent_budget, head_point, global_number, budget_of, inside_of, stmts_of, each_from}
 use Rattle.psy_meaning.specs.Units.{Within, IsName, IsBareVariable, IsBareStream, IsBareFunction, IsBareSlot, IsBarePoint, HasHead, IsBareAgent, IsBare}
 use Rattle.psy_tree.proofs.lemmas.Among.{Among, among_left, among_right}
 use Rattle.psy_tree.proofs.lemmas.Limits.{NonePasses, few_clocks, few_agents, few_variables, few_streams, few_functions, names_of, points_within}
@@ -51,14 +51,14 @@ one P a h = All-cons P a [] h (All-nil P)
 
 -- ---- declarations
 
-slots_bare : (site : Site) (locals : List Local) → All IsName (map (λ s. s.name.text) (map local_slot locals)) → AllFine site (cells_places locals) → All IsBareSlot (map slot_of locals)
+slots_bare : (site : Site) (locals : List Local) → All IsName (map (λ s. s.name.text) (map local_slot locals)) → AllFine site (map local_place locals) → All IsBareSlot (map slot_of locals)
 slots_bare site [] names h = All-nil IsBareSlot
-slots_bare site (local.Scalar name init ∷ locals) names h =
-    All-cons IsBareSlot (slot_of (local.Scalar name init)) (map slot_of locals)
+slots_bare site (local.Scalar width name init ∷ locals) names h =
+    All-cons IsBareSlot (slot_of (local.Scalar width name init)) (map slot_of locals)
     (record { name = All-head IsName name.text _ names; cells = (omega arith, omega arith) })
-    (slots_bare site locals (All-tail IsName name.text _ names) h)
-slots_bare site (local.Array name cells ∷ locals) names h =
-    All-cons IsBareSlot (slot_of (local.Array name cells)) (map slot_of locals)
+    (slots_bare site locals (All-tail IsName name.text _ names) (λ p there. h p (inr there)))
+slots_bare site (local.Array width name cells ∷ locals) names h =
+    All-cons IsBareSlot (slot_of (local.Array width name cells)) (map slot_of locals)
     (record { name = All-head IsName name.text _ names; cells = in_range site cells 1 256 (h (Ranges cells 1 256) (inl refl)) })
     (slots_bare site locals (All-tail IsName name.text _ names) (λ p there. h p (inr there)))
 
@@ -125,7 +125,7 @@ module _ (raw : Raw) (none : NoFault raw) (few : NonePasses raw.items) (names : 
           length-append (map scalar params) (map local_slot locals),
           length-map params scalar,
           length-map locals local_slot,
-          length-map locals local_value,
+          length-map locals local_of,
         );
       })
   function k _ own = All-nil IsBareFunction
@@ -153,8 +153,8 @@ module _ (raw : Raw) (none : NoFault raw) (few : NonePasses raw.items) (names : 
       let head : Point = head_point (global_number is_clock raw.items clock) budget.value in
       let its : Within 1 1000000 budget.value = number k i budget 1 1000000 own (inr (inr (among_right (Ranges budget 1 1000000) (processor_places processor) (Ranges budget 1 1000000 ∷ []) (inl refl)))) in
       let behind : List Place = stmts_places stmts ++ HasBody body (quiet_list stmts) ∷ [] in
-      let inside : AllFine site (cells_places locals ++ behind) = λ p there. fine_inside raw none k i p own (among_right p (slot_places 0 (slots_of i)) (cells_places locals ++ behind) there) in
-      let fines : AllFine site (stmts_places stmts) = λ p there. inside p (among_right p (cells_places locals) behind (among_left p (stmts_places stmts) (HasBody body (quiet_list stmts) ∷ []) there)) in
+      let inside : AllFine site (map local_place locals ++ behind) = λ p there. fine_inside raw none k i p own (among_right p (slot_places 0 (slots_of i)) (map local_place locals ++ behind) there) in
+      let fines : AllFine site (stmts_places stmts) = λ p there. inside p (among_right p (map local_place locals) behind (among_left p (stmts_places stmts) (HasBody body (quiet_list stmts) ∷ []) there)) in
       let acts : Adds (IsBarePoint (unit_of raw)) (head ∷ []) (stmts_of site stmts (head ∷ [])).1 = stmts_add site (IsBarePoint (unit_of raw)) (point k (Some i) own its) stmts fines (head ∷ []) in
       let a : AgentDecl = agent_with raw.items name clock processor budget locals (stmts_of site stmts (head ∷ [])) in
       one (IsBareAgent (unit_of raw)) a (record {
@@ -162,7 +162,7 @@ module _ (raw : Raw) (none : NoFault raw) (few : NonePasses raw.items) (names : 
         clock = clock_number k i clock own (inr (inl refl));
         processor = processor_number k i processor own (λ p there. inr (inr (among_left p (processor_places processor) (Ranges budget 1 1000000 ∷ []) there)));
         budget = its;
-        slots = slots_bare site locals (All-tail IsName name.text _ (All-flat_map IsName names_in raw.items k i names own)) (λ p there. inside p (among_left p (cells_places locals) behind there));
+        slots = slots_bare site locals (All-tail IsName name.text _ (All-flat_map IsName names_in raw.items k i names own)) (λ p there. inside p (among_left p (map local_place locals) behind there));
         names = omega (arith, names_of raw.items few k i own, length-map locals local_slot, length-map locals slot_of);
         points = subst (λ ps. HasHead a ps (IsBarePoint (unit_of raw))) (sym acts.1) (refl, acts.2);
         limit = omega (arith, points_of site stmts (head ∷ []), points_within raw.items few k i own);

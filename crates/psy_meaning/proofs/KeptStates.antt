@@ -1,21 +1,24 @@
--- States of an action that keep a store's shape, hold numbers of 32 bits, and did what an agent may do.
-use Rattle.std.proofs.Common.{◌≡◌, ℕ, zero, suc, Bool, true, false, List, [], ◌∷◌, map, length, Option, Some, None, refl, ap, ◌∙◌}
-use Rattle.std.specs.Prelude.{◌==◌, if◌then◌else◌, slice_get, slice_set, slice_index_or, ℤ, pos, FitsSigned}
+-- States of an action that keep a store's shape, hold numbers of their types, and did what an agent may do.
+use Rattle.std.proofs.Common.{◌≡◌, ℕ, zero, suc, ◌≤◌, Bool, true, false, List, [], ◌∷◌, map, length, Option, Some, None, refl, ap, subst, ◌∙◌, arith}
+use Rattle.std.specs.Prelude.{◌==◌, if◌then◌else◌, get_or, slice_get, slice_set, slice_index_or, ℤ, pos, FitsSigned}
 use Rattle.std.specs.Int.{w32}
 use Rattle.std.specs.List.{All}
 use Rattle.std.specs.Option.{IfSome}
 use Rattle.std.proofs.lemmas.List.{length-set}
 use Rattle.std.proofs.lemmas.List.Elements.{All-nil, All-cons, All-head, All-tail, All-set, All-push, All-drop}
+use Rattle.std.proofs.lemmas.Option.{none-some, same_Some, get_or_from_slice_get}
 use Rattle.std.proofs.Math.Seq.{map-set_same}
+use Rattle.psy_arith.specs.declared.width.Width.{Width}
+use Rattle.psy_arith.specs.declared.width.Width.TheVariants.{W32}
 use Rattle.psy_code.specs.declared.look.Sent.{Sent}
 use Rattle.psy_code.specs.Execution.{Copy, copy_of, with_copy}
 use Rattle.psy_code.specs.Views.{View, Deeds, Past, Ready, Take, Send, found_in, past_of, messages_of, first_of, without_first, next_in, taken_from, tick}
 use Rattle.psy_tree.specs.declared.unit.Unit.{Unit as Whole}
-use Rattle.psy_meaning.specs.Alike.{AllFit, MessagesFit}
+use Rattle.psy_meaning.specs.Alike.{AllFit, FitSlots, MessagesFit}
 use Rattle.psy_meaning.specs.Kept.{IsLookOf, Receives, IsSentOf, AreDeedsOf}
 use Rattle.psy_meaning.specs.States.{Store, State, cells_at, value_at, with_slot, copy_at, with_copy_at, value_or_zero, cost_1, asking}
 use Rattle.psy_meaning.specs.Statements.{in_store}
-use Rattle.psy_meaning.proofs.KeptValues.{Fits, zero_fits}
+use Rattle.psy_meaning.proofs.KeptValues.{Fits, Has, zero_fits, zero_has}
 
 -- ---- lists
 
@@ -29,24 +32,56 @@ all_get P [] i h = tt
 all_get P (x ∷ xs) zero h = All-head P x xs h
 all_get P (x ∷ xs) (suc i) h = all_get P xs i (All-tail P x xs h)
 
+-- ---- slots
+
+-- A slot more in front
+pub fit-cons : (width : Width) (cells : List ℤ) (widths : List Width) (slots : List (List ℤ)) → All (Has width) cells → FitSlots widths slots → FitSlots (width ∷ widths) (cells ∷ slots)
+fit-cons width cells widths slots a h zero w cs e g = subst (λ (x : Width). All (Has x) cs) (same_Some width w e) (subst (All (Has width)) (same_Some cells cs g) a)
+fit-cons width cells widths slots a h (suc k) w cs e g = h k w cs e g
+
+-- The cells of a slot
+cells_fit : (widths : List Width) (slots : List (List ℤ)) (slot : ℕ) (width : Width) → slice_get widths slot ≡ Some width → FitSlots widths slots → All (Has width) (slice_index_or slots slot [])
+cells_fit widths [] slot width w h = All-nil (Has width)
+cells_fit widths (c ∷ cs) zero width w h = h 0 width c w refl
+cells_fit [] (c ∷ cs) (suc k) width w h = absurd (none-some width w)
+cells_fit (x ∷ xs) (c ∷ cs) (suc k) width w h = cells_fit xs cs k width w (λ j. h (suc j))
+
+-- Other cells in a slot
+set_fits : (widths : List Width) (slots : List (List ℤ)) (slot : ℕ) (new : List ℤ) → ((width : Width) → slice_get widths slot ≡ Some width → All (Has width) new) → FitSlots widths slots → FitSlots widths (slice_set slots slot new)
+set_fits widths [] slot new p h k width cells w e = h k width cells w e
+set_fits widths (c ∷ cs) zero new p h zero width cells w e = subst (All (Has width)) (same_Some new cells e) (p width w)
+set_fits widths (c ∷ cs) zero new p h (suc k) width cells w e = h (suc k) width cells w e
+set_fits widths (c ∷ cs) (suc i) new p h zero width cells w e = h 0 width cells w e
+set_fits [] (c ∷ cs) (suc i) new p h (suc k) width cells w e = absurd (none-some width w)
+set_fits (x ∷ xs) (c ∷ cs) (suc i) new p h (suc k) width cells w e = set_fits xs cs i new p (λ j. h (suc j)) k width cells w e
+
+value_in_fits : (widths : List Width) (slots : List (List ℤ)) (slot cell : ℕ) → length slots ≤ length widths → FitSlots widths slots → Has (get_or widths slot W32) (slice_index_or (slice_index_or slots slot []) cell (pos 0))
+value_in_fits widths [] slot cell many h = zero_has (get_or widths slot W32)
+value_in_fits [] (c ∷ cs) slot cell many h = absurd (omega (arith, many))
+value_in_fits (x ∷ xs) (c ∷ cs) zero cell many h = all_or (Has x) c cell (pos 0) (zero_has x) (h 0 x c refl refl)
+value_in_fits (x ∷ xs) (c ∷ cs) (suc k) cell many h = value_in_fits xs cs k cell (omega (arith, many)) (λ j. h (suc j))
+
 -- ---- a store
 
--- A store with so many cells by slot and copies of these variables, and with values of 32 bits
-pub record IsShaped (layout names : List ℕ) (store : Store) : Type 0 where
-  pub slots : map length store.slots ≡ layout
-  pub values : All AllFit store.slots
-  pub variables : map (λ c. c.variable) store.copies ≡ names
+-- What a state keeps: how many cells each slot has, the variables of the copies, and whether it is watched what was done
+pub record Shape : Type 0 where
+  pub layout : List ℕ
+  pub names : List ℕ
+  pub watched : Bool
+
+-- A store with so many cells by slot and copies of these variables, with values of the slots' types and copies of 32 bits
+pub record IsShaped (widths : List Width) (shape : Shape) (store : Store) : Type 0 where
+  pub slots : map length store.slots ≡ shape.layout
+  pub many : length store.slots ≤ length widths
+  pub values : FitSlots widths store.slots
+  pub variables : map (λ c. c.variable) store.copies ≡ shape.names
   pub copies : All (λ c. FitsSigned w32 c.value) store.copies
 
 abbrev pub FitsCopy : Copy → Type 0
 FitsCopy c = FitsSigned w32 c.value
 
--- The cells of a slot
-cells_fit : (store : Store) (slot : ℕ) → All AllFit store.slots → AllFit (cells_at store slot)
-cells_fit store slot h = all_or AllFit store.slots slot [] (All-nil Fits) h
-
-pub value_fits : (store : Store) (slot cell : ℕ) → All AllFit store.slots → Fits (value_at store slot cell)
-value_fits store slot cell h = all_or Fits (cells_at store slot) cell (pos 0) zero_fits (cells_fit store slot h)
+pub value_fits : (widths : List Width) (shape : Shape) (store : Store) (slot cell : ℕ) → IsShaped widths shape store → Has (get_or widths slot W32) (value_at store slot cell)
+value_fits widths shape store slot cell h = value_in_fits widths store.slots slot cell h.many h.values
 
 copies_fit : (b : Bool) (c : Copy) (variable : ℕ) (rest : List Copy) → FitsCopy c → Fits (value_or_zero (copy_of variable rest)) → Fits (value_or_zero (if b then Some c.value else copy_of variable rest))
 copies_fit true c variable rest f g = f
@@ -125,72 +160,76 @@ taken_fits view stream h = record {
 
 -- ---- states
 
-module _ (unit : Whole) (number : ℕ) where
-  -- A state with a store of this shape, a view of such values, and deeds that the agent may do
-  pub record IsFine (layout names : List ℕ) (s : State) : Type 0 where
-    pub store : IsShaped layout names s.store
+module _ (unit : Whole) (number : ℕ) (widths : List Width) (shape : Shape) where
+  -- A state with a store of this shape, a view of such values, and deeds that the agent may do, where they are watched
+  pub record IsFine (s : State) : Type 0 where
+    pub store : IsShaped widths shape s.store
     pub view : ViewFits s.view
-    pub deeds : AreDeedsOf unit number s.deeds
+    pub deeds : shape.watched ≡ true → AreDeedsOf unit number s.deeds
 
-  module _ (layout names : List ℕ) where
-    abbrev pub Fine : State → Type 0
-    Fine s = IsFine layout names s
+  abbrev pub Fine : State → Type 0
+  Fine s = IsFine s
 
-    ticked : (deeds : Deeds) → AreDeedsOf unit number deeds → AreDeedsOf unit number (tick deeds)
-    ticked deeds h = record { looks = h.looks; takes = h.takes; sends = h.sends }
+  ticked : (deeds : Deeds) → AreDeedsOf unit number deeds → AreDeedsOf unit number (tick deeds)
+  ticked deeds h = record { looks = h.looks; takes = h.takes; sends = h.sends }
 
-    pub fine_cost : (s : State) → Fine s → Fine (cost_1 s)
-    fine_cost s h = record { store = h.store; view = h.view; deeds = ticked s.deeds h.deeds }
+  pub fine_cost : (s : State) → Fine s → Fine (cost_1 s)
+  fine_cost s h = record { store = h.store; view = h.view; deeds = λ w. ticked s.deeds (h.deeds w) }
 
-    pub fine_past : (s : State) (variable back : ℕ) → ((n : ℕ) → IsLookOf unit (record { number = n; variable = variable; back = back })) → Fine s → Fine (asking (Past variable back) s)
-    fine_past s variable back look h = record {
-      store = h.store;
-      view = h.view;
-      deeds = record { looks = All-push (IsLookOf unit) s.deeds.looks _ h.deeds.looks (look s.deeds.steps); takes = h.deeds.takes; sends = h.deeds.sends };
-    }
+  pub fine_past : (s : State) (variable back : ℕ) → ((n : ℕ) → IsLookOf unit (record { number = n; variable = variable; back = back })) → Fine s → Fine (asking (Past variable back) s)
+  fine_past s variable back look h = record {
+    store = h.store;
+    view = h.view;
+    deeds = λ w. let did = h.deeds w in record { looks = All-push (IsLookOf unit) s.deeds.looks _ did.looks (look s.deeds.steps); takes = did.takes; sends = did.sends };
+  }
 
-    pub fine_ready : (s : State) (stream : ℕ) → Fine s → Fine (asking (Ready stream) s)
-    fine_ready s stream h = record { store = h.store; view = h.view; deeds = ticked s.deeds h.deeds }
+  pub fine_ready : (s : State) (stream : ℕ) → Fine s → Fine (asking (Ready stream) s)
+  fine_ready s stream h = record { store = h.store; view = h.view; deeds = λ w. ticked s.deeds (h.deeds w) }
 
-    pub fine_take : (s : State) (stream : ℕ) → Receives unit number stream → Fine s → Fine (asking (Take stream) s)
-    fine_take s stream receives h = record {
-      store = h.store;
-      view = taken_fits s.view stream h.view;
-      deeds = record { looks = h.deeds.looks; takes = All-push (Receives unit number) s.deeds.takes stream h.deeds.takes receives; sends = h.deeds.sends };
-    }
+  pub fine_take : (s : State) (stream : ℕ) → Receives unit number stream → Fine s → Fine (asking (Take stream) s)
+  fine_take s stream receives h = record {
+    store = h.store;
+    view = taken_fits s.view stream h.view;
+    deeds = λ w. let did = h.deeds w in record { looks = did.looks; takes = All-push (Receives unit number) s.deeds.takes stream did.takes receives; sends = did.sends };
+  }
 
-    pub fine_send : (s : State) (sent : Sent) → IsSentOf unit sent → Fine s → Fine (asking (Send sent) s)
-    fine_send s sent is h = record {
-      store = h.store;
-      view = h.view;
-      deeds = record { looks = h.deeds.looks; takes = h.deeds.takes; sends = All-push (IsSentOf unit) s.deeds.sends sent h.deeds.sends is };
-    }
+  pub fine_send : (s : State) (sent : Sent) → IsSentOf unit sent → Fine s → Fine (asking (Send sent) s)
+  fine_send s sent is h = record {
+    store = h.store;
+    view = h.view;
+    deeds = λ w. let did = h.deeds w in record { looks = did.looks; takes = did.takes; sends = All-push (IsSentOf unit) s.deeds.sends sent did.sends is };
+  }
 
-    pub fine_slot : (s : State) (slot cell : ℕ) (v : ℤ) → Fits v → Fine s → Fine (with_slot slot cell v s)
-    fine_slot s slot cell v f h =
-        let cells = cells_at s.store slot in
-        record {
-          store = record {
-            slots = map-set_same length s.store.slots slot (slice_set cells cell v) [] (length-set cells cell v) ∙ h.store.slots;
-            values = All-set AllFit s.store.slots slot (slice_set cells cell v) (All-set Fits cells cell v f (cells_fit s.store slot h.store.values)) h.store.values;
-            variables = h.store.variables;
-            copies = h.store.copies;
-          };
-          view = h.view;
-          deeds = h.deeds;
-        }
+  pub fine_slot : (s : State) (slot cell : ℕ) (v : ℤ) → Has (get_or widths slot W32) v → Fine s → Fine (with_slot slot cell v s)
+  fine_slot s slot cell v f h =
+      let cells = cells_at s.store slot in
+      let new = slice_set cells cell v in
+      let fit : (width : Width) → slice_get widths slot ≡ Some width → All (Has width) new =
+      λ width w. All-set (Has width) cells cell v (subst (λ (x : Width). Has x v) (get_or_from_slice_get widths slot width W32 w) f) (cells_fit widths s.store.slots slot width w h.store.values) in
+      record {
+        store = record {
+          slots = map-set_same length s.store.slots slot new [] (length-set cells cell v) ∙ h.store.slots;
+          many = omega (arith, length-set s.store.slots slot new, h.store.many);
+          values = set_fits widths s.store.slots slot new fit h.store.values;
+          variables = h.store.variables;
+          copies = h.store.copies;
+        };
+        view = h.view;
+        deeds = h.deeds;
+      }
 
-    pub fine_copy : (s : State) (variable : ℕ) (v : ℤ) → Fits v → Fine s → Fine (with_copy_at variable v s)
-    fine_copy s variable v f h = record {
-      store = record {
-        slots = h.store.slots;
-        values = h.store.values;
-        variables = with_names variable v s.store.copies ∙ h.store.variables;
-        copies = with_fit variable v s.store.copies f h.store.copies;
-      };
-      view = h.view;
-      deeds = h.deeds;
-    }
+  pub fine_copy : (s : State) (variable : ℕ) (v : ℤ) → Fits v → Fine s → Fine (with_copy_at variable v s)
+  fine_copy s variable v f h = record {
+    store = record {
+      slots = h.store.slots;
+      many = h.store.many;
+      values = h.store.values;
+      variables = with_names variable v s.store.copies ∙ h.store.variables;
+      copies = with_fit variable v s.store.copies f h.store.copies;
+    };
+    view = h.view;
+    deeds = h.deeds;
+  }
 
-    pub fine_in : (store : Store) (s : State) → IsShaped layout names store → ViewFits s.view → AreDeedsOf unit number s.deeds → Fine (in_store store s)
-    fine_in store s shaped view deeds = record { store = shaped; view = view; deeds = deeds }
+  pub fine_in : (store : Store) (s : State) → IsShaped widths shape store → ViewFits s.view → (shape.watched ≡ true → AreDeedsOf unit number s.deeds) → Fine (in_store store s)
+  fine_in store s shaped view deeds = record { store = shaped; view = view; deeds = deeds }

@@ -1,24 +1,40 @@
--- Numbers of 32 bits: what the operators, counts and casts give.
-use Rattle.std.proofs.Common.{◌≡◌, ℕ, suc, ◌-◌, ◌^◌, ◌<◌, ◌≤◌, Bool, true, false, refl, arith}
-use Rattle.std.specs.Prelude.{ℤ, pos, negsuc, int_rem, FitsSigned, nat_lt}
-use Rattle.std.specs.Int.{w32, cast_signed, int_shr}
+-- Numbers in the ranges of types: what counts, casts and truths give, and what the laws of the operators say.
+use Rattle.std.proofs.Common.{◌≡◌, ℕ, suc, ◌-◌, ◌<◌, ◌≤◌, Bool, true, false, refl, arith}
+use Rattle.std.specs.Prelude.{ℤ, pos, negsuc, FitsSigned, nat_lt}
+use Rattle.std.specs.Int.{w32, cast_signed}
 use Rattle.std.specs.Option.{IfSome}
-use Rattle.std.proofs.lemmas.Int.{SFits-int_wrap}
-use Rattle.std.proofs.Math.Dec.{ltb}
 use Rattle.std.proofs.Math.Facts.{sfits_lit}
-use lib.Signed.{mag_rem, mag_shr}
 use mir.Val.{sel}
 use Rattle.psy_arith.specs.declared.operators.Op1.{Op1}
-use Rattle.psy_arith.specs.declared.operators.Op1.TheVariants as one
 use Rattle.psy_arith.specs.declared.operators.Op2.{Op2}
-use Rattle.psy_arith.specs.declared.operators.Op2.TheVariants as two
-use Rattle.psy_arith.specs.Operators.{truth, is_zero, distance, quotient, remainder, value1, value2}
+use Rattle.psy_arith.specs.declared.width.Width.{Width}
+use Rattle.psy_arith.specs.declared.width.Width.TheVariants.{W8, W16, W32, W64}
+use Rattle.psy_arith.specs.Operators.{truth}
+use Rattle.psy_arith.specs.Types.{taken1, taken2, type1, type2}
+use Rattle.psy_arith.specs.Widths.{is_narrower, of_type}
 
 abbrev pub Fits : ℤ → Type 0
 Fits v = FitsSigned w32 v
 
+-- A number in the range of a type
+abbrev pub Has : Width → ℤ → Type 0
+Has width v = FitsSigned (of_type width) v
+
+-- What the law `types` of the operators says: what an operator gives has the range of its type, and a number of a type has
+-- that of each type that isn't narrower.
+pub record Ranges : Type 0 where
+  pub two : (width : Width) (operator : Op2) (a b : ℤ) → IfSome (taken2 (of_type width) operator a b) (Has (type2 operator width))
+  pub one : (width : Width) (operator : Op1) (a : ℤ) → Has (type1 operator width) (taken1 (of_type width) operator a)
+  pub wider : (narrow wide : Width) (a : ℤ) → is_narrower wide narrow ≡ false → Has narrow a → Has wide a
+
+pub zero_has : (width : Width) → Has width (pos 0)
+zero_has W8 = sfits_lit tt
+zero_has W16 = sfits_lit tt
+zero_has W32 = sfits_lit tt
+zero_has W64 = sfits_lit tt
+
 pub zero_fits : Fits (pos 0)
-zero_fits = sfits_lit tt
+zero_fits = zero_has W32
 
 pub one_fits : Fits (pos 1)
 one_fits = sfits_lit tt
@@ -34,42 +50,3 @@ cast_fits n = cast_by (nat_lt n 2147483648) n refl
 pub truth_fits : (b : Bool) → Fits (truth b)
 truth_fits true = one_fits
 truth_fits false = zero_fits
-
-rem_fits : (a b : ℤ) → Fits a → Fits (int_rem a b)
-rem_fits a b f = record { sfits = omega (arith, mag_rem a b, f.sfits) }
-
-shr_fits : (a : ℤ) (n : ℕ) → Fits a → Fits (int_shr a n)
-shr_fits a n f = record { sfits = omega (arith, mag_shr a (2 ^ n), f.sfits) }
-
-pub value1_fits : (operator : Op1) (a : ℤ) → Fits (value1 w32 operator a)
-value1_fits one.Neg a = SFits-int_wrap w32 _
-value1_fits one.Flip a = cast_fits _
-value1_fits one.Not a = truth_fits (is_zero a)
-
-quotient_fits : (a b : ℤ) (t : Bool) → is_zero b ≡ t → IfSome (quotient w32 a b) Fits
-quotient_fits a b true e = rw e tt
-quotient_fits a b false e = rw e (cast_fits _)
-
-remainder_fits : (a b : ℤ) (t : Bool) → is_zero b ≡ t → Fits a → IfSome (remainder a b) Fits
-remainder_fits a b true e f = rw e tt
-remainder_fits a b false e f = rw e (rem_fits a b f)
-
-pub value2_fits : (operator : Op2) (a b : ℤ) → Fits a → IfSome (value2 w32 operator a b) Fits
-value2_fits two.Mul a b f = SFits-int_wrap w32 _
-value2_fits two.Div a b f = quotient_fits a b (is_zero b) refl
-value2_fits two.Rem a b f = remainder_fits a b (is_zero b) refl f
-value2_fits two.Add a b f = SFits-int_wrap w32 _
-value2_fits two.Sub a b f = SFits-int_wrap w32 _
-value2_fits two.Shl a b f = cast_fits _
-value2_fits two.Shr a b f = shr_fits a (distance w32 b) f
-value2_fits two.Lt a b f = truth_fits _
-value2_fits two.Le a b f = truth_fits _
-value2_fits two.Gt a b f = truth_fits _
-value2_fits two.Ge a b f = truth_fits _
-value2_fits two.Eq a b f = truth_fits _
-value2_fits two.Ne a b f = truth_fits _
-value2_fits two.And a b f = cast_fits _
-value2_fits two.Xor a b f = cast_fits _
-value2_fits two.Or a b f = cast_fits _
-value2_fits two.AndAnd a b f = truth_fits _
-value2_fits two.OrOr a b f = truth_fits _

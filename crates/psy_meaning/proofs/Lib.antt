@@ -30,5 +30,6 @@ mod SoundWays
 mod StatementRuns
 mod Suited
 mod TextNames
+mod TypedExprs
 mod WayEnds
 pub mod lemmas

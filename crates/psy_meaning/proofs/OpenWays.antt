@@ -70,8 +70,9 @@ module _ (ways : ℕ → Way) (all : (number : ℕ) → Open (ways number)) wher
   open_layer (Expr-F.Past variable back) = open_looking variable back
   open_layer (Expr-F.Ready stream) = open_one
   open_layer (Expr-F.Take stream) = open_one
-  open_layer (Expr-F.Unary operator operand) = open_both (way operand) one operand.1 open_one
-  open_layer (Expr-F.Binary operator left right) = open_binary operator (way left) (way right) left.1 right.1
+  open_layer (Expr-F.Unary operator width operand) = open_both (way operand) one operand.1 open_one
+  open_layer (Expr-F.Cast width operand) = open_both (way operand) one operand.1 open_one
+  open_layer (Expr-F.Binary operator width left right) = open_binary operator (way left) (way right) left.1 right.1
   open_layer (Expr-F.Call function arguments) =
       open_both (ways_through way arguments) (both one (ways function)) (open_through way arguments (λ k. k.1)) (open_both one (ways function) open_one (all function))
 

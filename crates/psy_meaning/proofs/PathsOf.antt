@@ -3,6 +3,7 @@ use Rattle.std.proofs.Common.{◌≡◌, ℕ, zero, suc, ◌+◌, Bool, true, fa
 use Rattle.std.specs.Prelude.{nat_lt, Option}
 use Rattle.std.specs.List.{list_any, list_all, range_with_len}
 use Rattle.std.proofs.lemmas.List.{length-append}
+use Rattle.psy_arith.specs.declared.width.Width.TheVariants.{W32}
 use Rattle.psy_tree.specs.declared.raw.Lit.{Lit}
 use Rattle.psy_tree.specs.declared.raw.RawStmt.{RawStmt, ind-RawStmt, roll-RawStmt, map-RawStmt, fold-roll-RawStmt}
 use Rattle.psy_tree.specs.declared.raw.RawStmt.TheOpen.{RawStmt-F}
@@ -14,7 +15,7 @@ use Rattle.psy_tree.specs.declared.unit.Stmt.{Stmt, roll-Stmt, map-Stmt, fold-ro
 use Rattle.psy_tree.specs.declared.unit.Stmt.TheOpen.{Stmt-F}
 use Rattle.psy_tree.specs.Scope.{Site, stands_for}
 use Rattle.psy_tree.specs.Paths.{advances, advances_step as raw_advances_step, advances_list, quiet as raw_quiet, quiet_step as raw_quiet_step, quiet_list as raw_quiet_list}
-use Rattle.psy_tree.specs.Stands.{Numbering, and_more, expr_of, set_by, while_of, stmt_step, stmt_of, stmts_of}
+use Rattle.psy_tree.specs.Stands.{Numbering, and_more, expr_of, expr_into, width_at, set_by, while_of, stmt_step, stmt_of, stmts_of}
 use Rattle.psy_meaning.specs.Paths.{one_of, all_quiet, holds, holds_step, holds_advance, advances_step, advances_of, advances_in, quiet, quiet_step, quiet_list}
 use Rattle.psy_tree.proofs.lemmas.Advances.{positive_sum}
 
@@ -106,8 +107,8 @@ module _ (site : Site) where
 
   step_is : (y : RawStmt-F Known) (points : List Point) → let x = map-RawStmt Known RawStmt tree y in
       Is (raw_advances_step (map-RawStmt RawStmt ℕ advances x)) (raw_quiet_step (map-RawStmt RawStmt Bool raw_quiet x)) points (stmt_step site (map-RawStmt RawStmt (Numbering Stmt) (stmt_of site) x) points)
-  step_is (RawStmt-F.Set name value) points = set_is site (stands_for site name.text) (expr_of site value) points
-  step_is (RawStmt-F.SetCell name index value) points = rolled (Stmt-F.SetCell _ (expr_of site index) (expr_of site value)) 0 true points points refl refl (omega arith) refl
+  step_is (RawStmt-F.Set name value) points = set_is site (stands_for site name.text) (expr_into site (width_at site (stands_for site name.text)) value) points
+  step_is (RawStmt-F.SetCell name index value) points = rolled (Stmt-F.SetCell _ (expr_of site index) _) 0 true points points refl refl (omega arith) refl
   step_is (RawStmt-F.If test branch None) points = if_is (expr_of site test) (advances_list (map tree branch)) (raw_quiet_list (map tree branch)) points (stmts_of site (map tree branch) points) (are_known branch points)
   step_is (RawStmt-F.If test branch (Some other)) points =
       let b : List Stmt × List Point = stmts_of site (map tree branch) points in
@@ -115,10 +116,10 @@ module _ (site : Site) where
       (stmts_of site (map tree branch) points) (stmts_of site (map tree other) b.1) (are_known branch points) (are_known other b.1)
   step_is (RawStmt-F.While token test most body) points =
       while_is most (expr_of site test) (advances_list (map tree body)) (raw_quiet_list (map tree body)) points (stmts_of site (map tree body) points) (are_known body points)
-  step_is (RawStmt-F.Send token value stream after clock) points = rolled (Stmt-F.Send (expr_of site value) _ after.value _) 0 true points points refl refl (omega arith) refl
+  step_is (RawStmt-F.Send token value stream after clock) points = rolled (Stmt-F.Send (expr_into site W32 value) _ after.value _) 0 true points points refl refl (omega arith) refl
   step_is (RawStmt-F.Advance token count clock budget) points =
       rolled (Stmt-F.Advance (length points)) 1 false points (stmt_step site (RawStmt-F.Advance token count clock budget) points).1 refl refl (length-append points _) refl
-  step_is (RawStmt-F.Return token value) points = rolled (Stmt-F.Return (expr_of site value)) 0 true points points refl refl (omega arith) refl
+  step_is (RawStmt-F.Return token value) points = rolled (Stmt-F.Return (expr_into site W32 value)) 0 true points points refl refl (omega arith) refl
 
   same : (n m : ℕ) (q p : Bool) (points : List Point) (a b : Stmt × List Point) → n ≡ m → q ≡ p → a ≡ b → Is m p points b → Is n q points a
   same n m q p points a b e f g h = subst (λ k. Is k q points a) (sym e) (subst (λ z. Is m z points a) (sym f) (subst (Is m p points) (sym g) h))

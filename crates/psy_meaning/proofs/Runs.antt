@@ -5,8 +5,10 @@ use Rattle.psy_arith.specs.declared.operators.Op2.{Op2}
 use Rattle.psy_arith.specs.declared.operators.Op2.TheVariants as op
 use Rattle.psy_arith.specs.declared.operators.Trap.{Trap}
 use Rattle.psy_arith.specs.declared.operators.Trap.TheVariants as trap
-use Rattle.psy_arith.specs.Operators.{is_zero, truth, value2}
-use Rattle.std.specs.Int.{w32}
+use Rattle.psy_arith.specs.declared.width.Width.{Width}
+use Rattle.psy_arith.specs.Operators.{is_zero, truth}
+use Rattle.psy_arith.specs.Types.{taken2}
+use Rattle.psy_arith.specs.Widths.{of_type}
 use Rattle.psy_code.specs.Execution.{index_in}
 use Rattle.psy_tree.specs.declared.unit.Expr.{Expr, roll-Expr, fold-roll-Expr, rec-roll-Expr, map-Expr, ind-Expr}
 use Rattle.psy_tree.specs.declared.unit.Expr.TheOpen.{Expr-F}
@@ -65,8 +67,8 @@ module _ (callees : ℕ → Callee) (ways : ℕ → Way) (all : AllAlong callees
   got_or_stop kind None s go h = let t = cost_1 s in (met t, refl, front_same (met t))
   got_or_stop kind (Some x) s go h = h x
 
-  applied_along : (operator : Op2) (a b : ℤ) (s : State) → GotBy one (met s) (applied operator a b s)
-  applied_along operator a b s = got_or_stop trap.Divide (value2 w32 operator a b) s (λ v. Value v (cost_1 s)) (λ v. refl)
+  applied_along : (operator : Op2) (width : Width) (a b : ℤ) (s : State) → GotBy one (met s) (applied operator width a b s)
+  applied_along operator width a b s = got_or_stop trap.Divide (taken2 (of_type width) operator a b) s (λ v. Value v (cost_1 s)) (λ v. refl)
 
   element_along : (slot : ℕ) (index : ℤ) (s : State) → GotBy one (met s) (element slot index s)
   element_along slot index s = got_or_stop trap.Index (index_in (length (cells_at s.store slot)) index) s (λ i. Value (value_at s.store slot i) (cost_1 s)) (λ i. refl)
@@ -74,9 +76,9 @@ module _ (callees : ℕ → Callee) (ways : ℕ → Way) (all : AllAlong callees
   truth_along : (got : Got) (way : Way) (m : Meter) → GotBy way m got → GotBy (both way one) m (truth_of got)
   truth_along got way m g = got_then way one m got (λ v s. Value (truth (not (is_zero v))) (cost_1 s)) open_one g (λ v t. refl)
 
-  both_along : (operator : Op2) (left right : Eval) (l r : Way) → Open r → Along left l → Along right r → (s : State) → GotBy (both l (both r one)) (met s) (and_then (left s) (λ a t. and_then (right t) (λ b u. applied operator a b u)))
-  both_along operator left right l r o p q s =
-      got_then l (both r one) (met s) (left s) _ (open_both r one o open_one) (p s) (λ a t. got_then r one (met t) (right t) _ open_one (q t) (λ b u. applied_along operator a b u))
+  both_along : (operator : Op2) (width : Width) (left right : Eval) (l r : Way) → Open r → Along left l → Along right r → (s : State) → GotBy (both l (both r one)) (met s) (and_then (left s) (λ a t. and_then (right t) (λ b u. applied operator width a b u)))
+  both_along operator width left right l r o p q s =
+      got_then l (both r one) (met s) (left s) _ (open_both r one o open_one) (p s) (λ a t. got_then r one (met t) (right t) _ open_one (q t) (λ b u. applied_along operator width a b u))
 
   got_right : (this that : Way) (m : Meter) (got : Got) → GotBy that m got → GotBy (either this that) m got
   got_right this that m (Value v t) g = inr g
@@ -99,10 +101,10 @@ module _ (callees : ℕ → Callee) (ways : ℕ → Way) (all : AllAlong callees
   or_along true right r q t = evaluated right r q t
   or_along false right r q t = not_evaluated (pos 1) r t
 
-  binary_along : (operator : Op2) (left right : Eval) (l r : Way) → Open r → Along left l → Along right r → Along (binary operator left right) (binary_way operator l r)
-  binary_along op.AndAnd left right l r o p q s = got_then l (lazy r) (met s) (left s) _ (open_lazy r) (p s) (λ a t. and_along (is_zero a) right r q t)
-  binary_along op.OrOr left right l r o p q s = got_then l (lazy r) (met s) (left s) _ (open_lazy r) (p s) (λ a t. or_along (is_zero a) right r q t)
-  binary_along operator left right l r o p q s = both_along operator left right l r o p q s
+  binary_along : (operator : Op2) (width : Width) (left right : Eval) (l r : Way) → Open r → Along left l → Along right r → Along (binary operator width left right) (binary_way operator l r)
+  binary_along op.AndAnd width left right l r o p q s = got_then l (lazy r) (met s) (left s) _ (open_lazy r) (p s) (λ a t. and_along (is_zero a) right r q t)
+  binary_along op.OrOr width left right l r o p q s = got_then l (lazy r) (met s) (left s) _ (open_lazy r) (p s) (λ a t. or_along (is_zero a) right r q t)
+  binary_along operator width left right l r o p q s = both_along operator width left right l r o p q s
 
   together : (a b c : Way) (m : Meter) (got : Got) → GotBy (both a (both b c)) m got → GotBy (both (both a b) c) m got
   together a b c m (Value v t) (n, p, (k, q, r)) = (k, (n, p, q), r)
@@ -124,8 +126,9 @@ module _ (callees : ℕ → Callee) (ways : ℕ → Way) (all : AllAlong callees
   step_along (Expr-F.Past variable back) s = refl
   step_along (Expr-F.Ready stream) s = refl
   step_along (Expr-F.Take stream) s = got_or_stop trap.Take (next_in s.view stream) s (λ v. Value v (asking (Take stream) s)) (λ v. refl)
-  step_along (Expr-F.Unary operator operand) s = got_then (expr_way ways operand.0) one (met s) (eval callees operand.0 s) _ open_one (operand.1 s) (λ a t. refl)
-  step_along (Expr-F.Binary operator left right) s = binary_along operator (eval callees left.0) (eval callees right.0) (expr_way ways left.0) (expr_way ways right.0) (goes right.0) left.1 right.1 s
+  step_along (Expr-F.Unary operator width operand) s = got_then (expr_way ways operand.0) one (met s) (eval callees operand.0 s) _ open_one (operand.1 s) (λ a t. refl)
+  step_along (Expr-F.Cast width operand) s = got_then (expr_way ways operand.0) one (met s) (eval callees operand.0 s) _ open_one (operand.1 s) (λ a t. refl)
+  step_along (Expr-F.Binary operator width left right) s = binary_along operator width (eval callees left.0) (eval callees right.0) (expr_way ways left.0) (expr_way ways right.0) (goes right.0) left.1 right.1 s
   step_along (Expr-F.Call function arguments) s =
       in_order_along arguments s (λ values t. callees function values (cost_1 t)) (both one (ways function)) (open_both one (ways function) open_one (all function).0)
       (λ values t. got_further one (met t) (met (cost_1 t)) (ways function) (callees function values (cost_1 t)) refl ((all function).1 values (cost_1 t)))

@@ -128,8 +128,9 @@ module _ (Fine : Sending → Type 0) where
     keeps_layer (Expr-F.Past variable back) = keeps_looking variable back
     keeps_layer (Expr-F.Ready stream) = keeps_one
     keeps_layer (Expr-F.Take stream) = keeps_one
-    keeps_layer (Expr-F.Unary operator operand) = keeps_both (way operand) one operand.1 keeps_one
-    keeps_layer (Expr-F.Binary operator left right) = keeps_binary operator (way left) (way right) left.1 right.1
+    keeps_layer (Expr-F.Unary operator width operand) = keeps_both (way operand) one operand.1 keeps_one
+    keeps_layer (Expr-F.Cast width operand) = keeps_both (way operand) one operand.1 keeps_one
+    keeps_layer (Expr-F.Binary operator width left right) = keeps_binary operator (way left) (way right) left.1 right.1
     keeps_layer (Expr-F.Call function arguments) =
         keeps_both (ways_through way arguments) (both one (ways function)) (keeps_through way arguments (λ k. k.1)) (keeps_both one (ways function) keeps_one (all function))
 

@@ -18,7 +18,7 @@ use Rattle.psy_tree.specs.Scope.{Site}
 use Rattle.psy_tree.specs.Stands.{stmt_of, stmts_of, functions, agents, each_from, inside_of, head_point, global_number, unit_of, Stands}
 use Rattle.psy_tree.specs.Paths.{total}
 use Rattle.psy_meaning.specs.Sizes.{binary_size, stmts_size, unit_size}
-use Rattle.psy_meaning.proofs.Lowered.{size, sizes, weight, weights, size_number, size_var, size_cell, size_past, size_ready, size_take, size_unary, size_binary, size_call, size_set, size_set_cell, size_if, size_if_else, size_timed, size_bounded, size_send, size_advance, size_return}
+use Rattle.psy_meaning.proofs.Lowered.{size, sizes, weight, weights, size_number, size_var, size_cell, size_past, size_ready, size_take, size_unary, size_binary, size_cast, sizes-cons, size_call, size_set, size_set_cell, size_if, size_if_else, size_timed, size_bounded, size_send, size_advance, size_return}
 use Rattle.psy_tree.proofs.lemmas.TokenCounts.{length_of_numbered}
 use Rattle.psy_tree.proofs.lemmas.Tails.{length-Behind, behind_both, behind_start, behind_parent, behind_shift, behind_params, behind_locals, agent_locals}
 
@@ -34,7 +34,8 @@ module _ (site : Site) where
     expr_few (grammar.Expr.variable {x = x}) = omega (arith, size_var site x)
     expr_few (grammar.Expr.cell {x = x} {index = index} h) = omega (arith, size_cell site x index, expr_few h)
     expr_few (grammar.Expr.call_of_none {f = f}) = omega (arith, size_call site f [])
-    expr_few (grammar.Expr.call {f = f} {first = e} {others = es} h o) = omega (arith, size_call site f (e ∷ es), expr_few h, others_few o)
+    expr_few (grammar.Expr.call {f = f} {first = e} {others = es} h o) = omega (arith, size_call site f (e ∷ es), sizes-cons site e es, expr_few h, others_few o)
+    expr_few (grammar.Expr.cast {width = width} {e = e} is h) = omega (arith, size_cast site width e, expr_few h)
     expr_few (grammar.Expr.past {x = x} {back = back} {n = n}) = omega (arith, size_past site n x back)
     expr_few (grammar.Expr.ready {x = x} {n = n}) = omega (arith, size_ready site n x)
     expr_few (grammar.Expr.take {x = x} {n = n}) = omega (arith, size_take site n x)
@@ -45,7 +46,7 @@ module _ (site : Site) where
 
     others_few : {ts rest : List Numbered} {es : List RawExpr} → Others ts es rest → sizes site es + 2 * length rest ≤ 2 * length ts
     others_few grammar.Others.no_more = omega arith
-    others_few (grammar.Others.one_more h o) = omega (arith, expr_few h, others_few o)
+    others_few (grammar.Others.one_more {e = e} {others = es} h o) = omega (arith, sizes-cons site e es, expr_few h, others_few o)
 
   mutual
     stmt_few : {ts rest : List Numbered} {s : RawStmt} → Stmt ts s rest → (points : List Point) → weight site s points + 2 * length rest ≤ 2 * length ts

@@ -1,7 +1,9 @@
 -- Statements without a fault are sound where names without a fault stand for what can be named.
 use Rattle.std.proofs.Common.{◌≡◌, refl, sym, ap, subst, ◌∙◌, arith}
-use Rattle.std.specs.Prelude.{ℕ, ◌+◌, ◌≤◌, Bool, true, false, not, ◌&&◌, ◌||◌, nat_lt, is_some, List, [], ◌∷◌, ◌++◌, map, take, length, Option, Some, None}
+use Rattle.std.specs.Prelude.{ℕ, ◌+◌, ◌≤◌, Bool, true, false, not, ◌&&◌, ◌||◌, get_or, nat_lt, is_some, List, [], ◌∷◌, ◌++◌, map, take, length, Option, Some, None}
 use Rattle.std.proofs.lemmas.List.{map-id}
+use Rattle.psy_arith.specs.declared.width.Width.{Width}
+use Rattle.psy_arith.specs.declared.width.Width.TheVariants.{W32}
 use Rattle.psy_tree.specs.declared.raw.Lit.{Lit}
 use Rattle.psy_tree.specs.declared.raw.RawExpr.{RawExpr}
 use Rattle.psy_tree.specs.declared.raw.RawStmt.{RawStmt, roll-RawStmt, map-RawStmt, ind-RawStmt, fold-roll-RawStmt, para-roll-RawStmt}
@@ -10,7 +12,6 @@ use Rattle.psy_tree.specs.declared.reach.Asks.TheVariants as asks
 use Rattle.psy_tree.specs.declared.reach.Found.{Found}
 use Rattle.psy_tree.specs.declared.reach.Found.TheVariants as found
 use Rattle.psy_tree.specs.declared.rules.RuleKind.TheVariants as kind
-use Rattle.psy_tree.specs.declared.unit.Expr.{Expr}
 use Rattle.psy_tree.specs.declared.unit.Point.{Point}
 use Rattle.psy_tree.specs.declared.unit.Stmt.{Stmt}
 use Rattle.psy_tree.specs.declared.unit.Stmt.TheOpen.{Stmt-F}
@@ -18,15 +19,16 @@ use Rattle.psy_tree.specs.Scope.{Site, stands_for}
 use Rattle.psy_tree.specs.Places.{Place, Uses, Ranges, Loops, joined, expr_places, most_places, stmt_places, stmt_places_step, stmts_places}
 use Rattle.psy_tree.specs.Paths.{advances, advances_step, advances_list, quiet_list as raw_quiet_list}
 use Rattle.psy_tree.specs.Rules.{is_clock, is_stream}
-use Rattle.psy_tree.specs.Stands.{Numbering, counting, is_variable, number_at, slot_number, expr_of, set_by, while_of, stmt_step, stmt_of, stmts_of}
+use Rattle.psy_tree.specs.Stands.{Numbering, counting, is_variable, number_at, slot_number, width_at, expr_of, expr_into, set_by, while_of, stmt_step, stmt_of, stmts_of}
 use Rattle.psy_meaning.specs.Paths.{holds_advance, quiet_list}
-use Rattle.psy_meaning.specs.Sound.{Scope, Each, IsSoundExpr, IsSoundStmt, AreSound}
+use Rattle.psy_meaning.specs.Sound.{Scope, GoesInto, Each, IsSoundExpr, IsSoundStmt, AreSound}
 use Rattle.psy_tree.proofs.lemmas.Lists.{map_firsts}
 use Rattle.psy_meaning.proofs.PathsOf.{holds_of, quiet_of, points_of}
 use Rattle.psy_meaning.proofs.lemmas.Eaches.{each-first, each-second}
 use Rattle.psy_tree.proofs.lemmas.Faultless.{in_range, Fine}
 use Rattle.psy_meaning.proofs.lemmas.SoundParts.{stmt_sound}
-use Rattle.psy_meaning.proofs.SoundExprs.{HasValue, Suits, sound_exprs}
+use Rattle.psy_meaning.proofs.SoundExprs.{HasValue, Suits, goes_into, sound_exprs, sound_into}
+use Rattle.psy_meaning.proofs.TypedExprs.{widths_at, cell_width, value_width}
 
 without_max : (advances quiet : Bool) → (not false && not advances) ≡ false → (advances && (false || quiet)) ≡ false → quiet ≡ false
 without_max true quiet g h = h
@@ -56,10 +58,25 @@ module _ (site : Site) (scope : Scope) (suits : Suits site scope) where
   exprs : (e : RawExpr) → Each (Fine site) (expr_places e) → IsSoundExpr scope (expr_of site e)
   exprs = sound_exprs site scope suits
 
-  set_sound : (f : Option Found) (value : Expr) → HasValue site scope f → IsSoundExpr scope value → IsSoundStmt scope (set_by site f value)
-  set_sound None value h e = stmt_sound scope (Stmt-F.Set (slot_number None) value) (h, e)
-  set_sound (Some (found.Slot k)) value h e = stmt_sound scope (Stmt-F.Set k value) (h, e)
-  set_sound (Some (found.Item k)) value h e = stmt_sound scope (Stmt-F.SetCopy (counting is_variable (take k site.items)) value) (h, e)
+  -- A value that goes where one of a type is asked for, which it fits
+  intos : (width : Width) (e : RawExpr) → Each (Fine site) (expr_places e) → IsSoundExpr scope (expr_into site width e)
+  intos = sound_into site scope suits
+
+  goes : (width : Width) (e : RawExpr) → Each (Fine site) (expr_places e) → GoesInto scope width (expr_into site width e)
+  goes = goes_into site scope suits
+
+  -- The scope has the types of the site's slots.
+  width_in : (width : Width) (slot : ℕ) → width ≡ get_or (widths_at site) slot W32 → width ≡ get_or scope.widths slot W32
+  width_in width slot e = e ∙ ap (λ ws. get_or ws slot W32) (sym suits.widths)
+
+  set_sound : (f : Option Found) (e : RawExpr) → HasValue site scope f → Each (Fine site) (expr_places e) → IsSoundStmt scope (set_by site f (expr_into site (width_at site f) e))
+  set_sound None e has h = absurd has
+  set_sound (Some (found.Slot k)) e has h =
+      let width = width_at site (Some (found.Slot k)) in
+      let value = expr_into site width e in
+      stmt_sound scope (Stmt-F.Set k value) (has, intos width e h, subst (λ w. GoesInto scope w value) (width_in width k (value_width site k)) (goes width e h))
+  set_sound (Some (found.Item k)) e has h =
+      stmt_sound scope (Stmt-F.SetCopy (counting is_variable (take k site.items)) (expr_into site W32 e)) (has, intos W32 e h, goes W32 e h)
 
   all_in : (ks : List Known) → Each (Fine site) (inner (map tree ks)) → (points : List Point) → length points + advances_list (map tree ks) ≤ scope.points → Each (IsSoundStmt scope) (stmts_of site (map tree ks) points).0
   all_in [] h points room = tt
@@ -85,10 +102,15 @@ module _ (site : Site) (scope : Scope) (suits : Suits site scope) where
   layer_sound : (y : RawStmt-F Known) → let x = map-RawStmt Known RawStmt tree y in
       Each (Fine site) (stmt_places_step (map-RawStmt RawStmt (RawStmt × List Place) with_places x)) → (points : List Point) → length points + advances_step (map-RawStmt RawStmt ℕ advances x) ≤ scope.points
       → IsSoundStmt scope (stmt_step site (map-RawStmt RawStmt (Numbering Stmt) (stmt_of site) x) points).0
-  layer_sound (RawStmt-F.Set name value) h points room = set_sound (stands_for site name.text) (expr_of site value) (suits.values name h.0) (exprs value h.1)
+  layer_sound (RawStmt-F.Set name value) h points room = set_sound (stands_for site name.text) value (suits.values name h.0) h.1
   layer_sound (RawStmt-F.SetCell name index value) h points room =
-      stmt_sound scope (Stmt-F.SetCell (slot_number (stands_for site name.text)) (expr_of site index) (expr_of site value))
-      (suits.cells name h.0, exprs index (each-first (Fine site) (expr_places index) (expr_places value) h.1), exprs value (each-second (Fine site) (expr_places index) (expr_places value) h.1))
+      let slot = slot_number (stands_for site name.text) in
+      let width = width_at site (stands_for site name.text) in
+      let stored = expr_into site width value in
+      let first = each-first (Fine site) (expr_places index) (expr_places value) h.1 in
+      let second = each-second (Fine site) (expr_places index) (expr_places value) h.1 in
+      stmt_sound scope (Stmt-F.SetCell slot (expr_of site index) stored)
+      (suits.cells name h.0, exprs index first, intos width value second, subst (λ w. GoesInto scope w stored) (width_in width slot (cell_width site name h.0)) (goes width value second))
   layer_sound (RawStmt-F.If test branch None) h points room =
       let raws = map tree branch in
       stmt_sound scope (Stmt-F.If (expr_of site test) (stmts_of site raws points).0 None)
@@ -117,11 +139,13 @@ module _ (site : Site) (scope : Scope) (suits : Suits site scope) where
       (subst (λ ss. Fine site (loop ss)) (map_firsts stmt_places raws) last.0)
       points room
   layer_sound (RawStmt-F.Send token value stream after clock) h points room =
-      let behind = each-second (Fine site) (expr_places value) (Uses stream asks.Target ∷ (Ranges after 0 1024 ∷ (Uses clock asks.Clock ∷ []))) h.1 in
-      stmt_sound scope (Stmt-F.Send (expr_of site value) (number_at is_stream site stream) after.value (number_at is_clock site clock))
-      (suits.sends token stream after clock h.0 behind.0 behind.1.0 behind.1.1.0, exprs value (each-first (Fine site) (expr_places value) (Uses stream asks.Target ∷ (Ranges after 0 1024 ∷ (Uses clock asks.Clock ∷ []))) h.1))
+      let last = Uses stream asks.Target ∷ (Ranges after 0 1024 ∷ (Uses clock asks.Clock ∷ [])) in
+      let first = each-first (Fine site) (expr_places value) last h.1 in
+      let behind = each-second (Fine site) (expr_places value) last h.1 in
+      stmt_sound scope (Stmt-F.Send (expr_into site W32 value) (number_at is_stream site stream) after.value (number_at is_clock site clock))
+      (suits.sends token stream after clock h.0 behind.0 behind.1.0 behind.1.1.0, intos W32 value first, goes W32 value first)
   layer_sound (RawStmt-F.Advance token count clock budget) h points room = stmt_sound scope (Stmt-F.Advance (length points)) (omega (arith, room))
-  layer_sound (RawStmt-F.Return token value) h points room = stmt_sound scope (Stmt-F.Return (expr_of site value)) (suits.returns token h.0, exprs value h.1)
+  layer_sound (RawStmt-F.Return token value) h points room = stmt_sound scope (Stmt-F.Return (expr_into site W32 value)) (suits.returns token h.0, intos W32 value h.1, goes W32 value h.1)
 
   layer : (y : RawStmt-F Known) → P (roll-RawStmt (map-RawStmt Known RawStmt tree y))
   layer y h points room =

@@ -2,7 +2,6 @@
 use Rattle.std.proofs.Common.{◌≡◌, ℕ, suc, ◌+◌, Bool, List, [], ◌∷◌, ◌++◌, map, take, length, Option, Some, refl, sym, ap, subst, ◌∙◌, arith, append-nil}
 use Rattle.std.specs.Prelude.{slice_get}
 use Rattle.std.specs.List.{range_with_len}
-use Rattle.std.proofs.lemmas.List.{length-map}
 use Rattle.std.proofs.lemmas.List.FromFn.{length-range_with_len}
 use Rattle.std.proofs.lemmas.Option.{slice_get_within, get_or_from_slice_get}
 use Rattle.psy_tree.specs.declared.raw.Name.{Name}
@@ -17,11 +16,11 @@ use Rattle.psy_tree.specs.declared.unit.Unit.{Unit as Whole}
 use Rattle.psy_tree.specs.declared.unit.FunctionDecl.{FunctionDecl}
 use Rattle.psy_tree.specs.declared.unit.AgentDecl.{AgentDecl}
 use Rattle.psy_tree.specs.Scope.{slots_of}
-use Rattle.psy_tree.specs.Places.{HasBody, inside_places, slot_places, cells_places, stmts_places, body_places}
+use Rattle.psy_tree.specs.Places.{HasBody, inside_places, slot_places, local_place, stmts_places, body_places}
 use Rattle.psy_tree.specs.Paths.{advances_list, quiet_list as raw_quiet_list}
 use Rattle.psy_tree.specs.Rules.{NoFault, is_agent, is_clock, is_function}
-use Rattle.psy_tree.specs.Stands.{Stands, unit_of, inside_of, counting, global_number, head_point, local_value, agent_with, stmts_of, functions, agents, each_from}
-use Rattle.psy_meaning.specs.Sound.{AreSound, function_scope, AreSoundFunctions, agent_scope, IsSoundAgent, IsSoundUnit}
+use Rattle.psy_tree.specs.Stands.{Stands, unit_of, inside_of, counting, global_number, head_point, local_of, agent_with, stmts_of, functions, agents, each_from}
+use Rattle.psy_meaning.specs.Sound.{Each, AreSound, function_scope, AreSoundFunctions, agent_scope, IsSoundAgent, IsSoundUnit}
 use Rattle.psy_tree.proofs.lemmas.Advances.{function_quiet}
 use Rattle.psy_tree.proofs.lemmas.Numbers.{each_from_more, length-each, gives_functions}
 use Rattle.psy_tree.proofs.lemmas.Limits.{few_functions}
@@ -42,22 +41,32 @@ module _ (raw : Raw) (fault : NoFault raw) where
   before k = each_from (functions raw.items) 0 (take k raw.items)
 
   abbrev function_of : ℕ → Name → List Name → List Local → List RawStmt → FunctionDecl
-  function_of k name params locals stmts = record { name = name.text; params = length params; locals = map local_value locals; stmts = (stmts_of (inside_of raw.items k) stmts []).0 }
+  function_of k name params locals stmts = record { name = name.text; params = length params; locals = map local_of locals; stmts = (stmts_of (inside_of raw.items k) stmts []).0 }
+
+  -- What stands behind the names inside a function has no fault.
+  inside_function : (k : ℕ) (name : Name) (params : List Name) (locals : List Local) (stmts : List RawStmt) → slice_get raw.items k ≡ Some (item.Function name params locals stmts)
+      → Each (Fine (inside_of raw.items k)) (map local_place locals ++ stmts_places stmts)
+  inside_function k name params locals stmts own =
+      let i = item.Function name params locals stmts in
+      let site = inside_of raw.items k in
+      each-second (Fine site) (slot_places 0 (slots_of i)) (body_places i) (each-among (Fine site) (inside_places i) (λ p there. fine_inside raw fault k i p own there))
+
+  function_locals : (k : ℕ) (name : Name) (params : List Name) (locals : List Local) (stmts : List RawStmt) → slice_get raw.items k ≡ Some (item.Function name params locals stmts)
+      → Each (Fine (inside_of raw.items k)) (map local_place locals)
+  function_locals k name params locals stmts own = each-first (Fine (inside_of raw.items k)) (map local_place locals) (stmts_places stmts) (inside_function k name params locals stmts own)
 
   function_sound : (k : ℕ) (name : Name) (params : List Name) (locals : List Local) (stmts : List RawStmt) (depths : List ℕ) (streams : List Bool) → slice_get raw.items k ≡ Some (item.Function name params locals stmts)
       → AreSound (function_scope (before k) depths streams (function_of k name params locals stmts)) (stmts_of (inside_of raw.items k) stmts []).0
   function_sound k name params locals stmts depths streams own =
-      let i = item.Function name params locals stmts in
       let f = function_of k name params locals stmts in
       let site = inside_of raw.items k in
-      let inside = each-among (Fine site) (inside_places i) (λ p there. fine_inside raw fault k i p own there) in
-      let behind = each-second (Fine site) (slot_places 0 (slots_of i)) (body_places i) inside in
-      sound_stmts site (function_scope (before k) depths streams f) (function_suits raw.items k name params locals stmts f depths streams own (omega (arith, length-map locals local_value)))
-      stmts (each-second (Fine site) (cells_places locals) (stmts_places stmts) behind) [] (omega (arith, function_quiet raw k name params locals stmts fault own))
+      let fines = each-second (Fine site) (map local_place locals) (stmts_places stmts) (inside_function k name params locals stmts own) in
+      sound_stmts site (function_scope (before k) depths streams f) (function_suits raw.items k name params locals stmts f depths streams own refl refl)
+      stmts fines [] (omega (arith, function_quiet raw k name params locals stmts fault own))
 
   -- what one declaration gives, in front of others
   one_sound : (k : ℕ) (i : Item) (rest : List FunctionDecl) → slice_get raw.items k ≡ Some i → AreSoundFunctions (before k ++ functions raw.items k i) rest → AreSoundFunctions (before k) (functions raw.items k i ++ rest)
-  one_sound k (item.Function name params locals stmts) rest own h = (record { stmts = λ depths streams. function_sound k name params locals stmts depths streams own; locals = locals_fit locals }, h)
+  one_sound k (item.Function name params locals stmts) rest own h = (record { stmts = λ depths streams. function_sound k name params locals stmts depths streams own; locals = locals_fit (inside_of raw.items k) locals (function_locals k name params locals stmts own) }, h)
   one_sound k _ rest own h = subst (λ l. AreSoundFunctions l rest) (append-nil (before k)) h
 
   functions_sound : (k : ℕ) (xs : List Item) → ((j : ℕ) → slice_get raw.items (k + j) ≡ slice_get xs j) → AreSoundFunctions (before k) (each_from (functions raw.items) k xs)
@@ -85,8 +94,8 @@ module _ (raw : Raw) (fault : NoFault raw) where
       let last = HasBody body (raw_quiet_list stmts) ∷ [] in
       let inside = each-among (Fine site) (inside_places i) (λ p there. fine_inside raw fault k i p own there) in
       let behind = each-second (Fine site) (slot_places 0 (slots_of i)) (body_places i) inside in
-      let cells = each-first (Fine site) (cells_places locals) (stmts_places stmts ++ last) behind in
-      let below = each-second (Fine site) (cells_places locals) (stmts_places stmts ++ last) behind in
+      let cells = each-first (Fine site) (map local_place locals) (stmts_places stmts ++ last) behind in
+      let below = each-second (Fine site) (map local_place locals) (stmts_places stmts ++ last) behind in
       let ends = (each-second (Fine site) (stmts_places stmts) last below).0 in
       let count = points_of site stmts (head ∷ []) in
       let order = numbers_of site stmts (head ∷ []) in
@@ -97,7 +106,7 @@ module _ (raw : Raw) (fault : NoFault raw) where
         ends = quiet_of site stmts (head ∷ []) ∙ ends kind.NoAdvance;
         points = omega (arith, count, many);
         numbered = order ∙ ap (range_with_len 1) (sym many);
-        values = slots_fit locals;
+        values = slots_fit site locals cells;
       }
 
   agent_of : (k : ℕ) (i : Item) (agent : AgentDecl) → slice_get raw.items k ≡ Some i → agents raw.items k i ≡ agent ∷ [] → IsSoundAgent (unit_of raw) (counting is_agent (take k raw.items)) agent

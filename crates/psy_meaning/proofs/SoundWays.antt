@@ -134,8 +134,9 @@ module _ (Fines : Meter → Type 0) (steps : (m : Meter) → Fines m → Fines (
     keeps_layer (Expr-F.Past variable back) h = keeps_looking variable back h
     keeps_layer (Expr-F.Ready stream) h = keeps_one
     keeps_layer (Expr-F.Take stream) h = keeps_one
-    keeps_layer (Expr-F.Unary operator operand) h = keeps_both (expr_way ways operand.0) one (operand.1 h) keeps_one
-    keeps_layer (Expr-F.Binary operator left right) h = keeps_binary operator (expr_way ways left.0) (expr_way ways right.0) (left.1 h.0) (right.1 h.1)
+    keeps_layer (Expr-F.Unary operator width operand) h = keeps_both (expr_way ways operand.0) one (operand.1 h) keeps_one
+    keeps_layer (Expr-F.Cast width operand) h = keeps_both (expr_way ways operand.0) one (operand.1 h) keeps_one
+    keeps_layer (Expr-F.Binary operator width left right) h = keeps_binary operator (expr_way ways left.0) (expr_way ways right.0) (left.1 h.0) (right.1 h.1)
     keeps_layer (Expr-F.Call function arguments) h =
         keeps_both (ways_through (expr_way ways) (map expr arguments)) (both one (ways function)) (keeps_through arguments h.1) (keeps_both one (ways function) keeps_one (all function))
 

@@ -2,6 +2,7 @@
 use Rattle.std.proofs.Common.{refl, sym, ap, subst, inl, inr}
 use Rattle.std.proofs.lemmas.List.{map-append}
 use Rattle.std.specs.Prelude.{ℕ, zero, suc, ◌+◌, length, Bool, true, false, if◌then◌else◌, List, [], ◌∷◌, map, Option, Some, None, ℤ}
+use Rattle.std.specs.Int.{w32, int_wrap}
 use Rattle.psy_arith.specs.declared.operators.Trap.{Trap}
 use Rattle.psy_arith.specs.declared.operators.Trap.TheVariants as trap
 use Rattle.psy_arith.specs.Operators.{is_zero}
@@ -183,7 +184,7 @@ module _ (callees : ℕ → Callee) (ways : ℕ → Way) (all : AllAlong callees
 
   step_along : (y : Stmt-F Known) → ActsAlong (stmt_step callees (map-Stmt Stmt Act (act_by callees) (map-Stmt Known Stmt tree y))) (course_step ways Stmt (λ y. y) (course_by ways) (map-Stmt Known Stmt tree y))
   step_along (Stmt-F.Set slot value) s = valued value (λ v t. with_slot slot 0 v (cost_1 t)) (λ v t. refl) s
-  step_along (Stmt-F.SetCopy variable value) s = valued value (λ v t. with_copy_at variable v (cost_1 t)) (λ v t. refl) s
+  step_along (Stmt-F.SetCopy variable value) s = valued value (λ v t. with_copy_at variable (int_wrap w32 v) (cost_1 t)) (λ v t. refl) s
   step_along (Stmt-F.SetCell slot index value) s = set_cell_along slot index value s
   step_along (Stmt-F.If test branch None) s = choose_along (eval callees test) (expr_way ways test) _ Falls (courses_through (course_by ways) (map tree branch)) (falling here) (leads (map tree branch)) (known test) (all_along branch) (λ t. refl) s
   step_along (Stmt-F.If test branch (Some other)) s =
@@ -197,7 +198,7 @@ module _ (callees : ℕ → Callee) (ways : ℕ → Way) (all : AllAlong callees
   step_along (Stmt-F.Send value stream after clock) s =
       let send : Sending = record { stream = stream; after = after; clock = clock } in
       out_falling (expr_way ways value) (sending send) (met s) _
-      (out_value (expr_way ways value) (falling (sending send)) (met s) (eval callees value s) _ (leads_falling (sending send) (open_sending send)) (known value s) (λ v t. sent_along (record { stream = stream; value = v; after = after; clock = clock }) t))
+      (out_value (expr_way ways value) (falling (sending send)) (met s) (eval callees value s) _ (leads_falling (sending send) (open_sending send)) (known value s) (λ v t. sent_along (record { stream = stream; value = int_wrap w32 v; after = after; clock = clock }) t))
   step_along (Stmt-F.Advance point) s = (refl, refl)
   step_along (Stmt-F.Return value) s =
       out_returning (expr_way ways value) one (met s) _ (out_value (expr_way ways value) (returning one) (met s) (eval callees value s) _ (leads_returning one open_one) (known value s) (λ v t. refl))

@@ -60,8 +60,8 @@ abbrev Named : SlotName → Type 0
 Named s = IsName s.name.text
 
 local_named : {ts rest : List Numbered} {x : Local} → AgentLocal ts x rest → Lawful ts → Named (local_slot x)
-local_named (grammar.AgentLocal.variable (grammar.FunctionLocal.scalar h)) lawful = lawful.1.0
-local_named grammar.AgentLocal.array lawful = lawful.1.0
+local_named (grammar.AgentLocal.variable (grammar.FunctionLocal.scalar is h)) lawful = lawful.1.0
+local_named (grammar.AgentLocal.array is) lawful = lawful.1.0
 
 locals_named : {ts rest : List Numbered} {xs : List Local} → Many AgentLocal ts xs rest → Lawful ts → All Named (map local_slot xs)
 locals_named grammar.Many.none lawful = All-nil Named

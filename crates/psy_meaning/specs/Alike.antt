@@ -3,6 +3,8 @@ use Rattle.std.specs.Prelude.{◌≡◌, ℕ, ◌+◌, ◌<◌, ◌==◌, if◌t
 use Rattle.std.specs.Prelude.{false, slice_get, ℤ, FitsSigned, ⊤}
 use Rattle.std.specs.Int.{w32}
 use Rattle.std.specs.List.{All, flat_map}
+use Rattle.psy_arith.specs.declared.width.Width.{Width}
+use Rattle.psy_arith.specs.Widths.{of_type}
 use Rattle.psy_tree.specs.declared.unit.Unit.{Unit as Whole}
 use Rattle.psy_tree.specs.declared.unit.VarDecl.{VarDecl}
 use Rattle.psy_tree.specs.declared.unit.AgentDecl.{AgentDecl}
@@ -42,10 +44,15 @@ first_store unit number agent = record { slots = first_slots agent; copies = fir
 abbrev pub AllFit : List ℤ → Type 0
 AllFit values = All (FitsSigned w32) values
 
--- A store of the agent: its slots and copies, with values of 32 bits
+-- Each cell of a slot has the range of the slot's type.
+abbrev pub FitSlots : List Width → List (List ℤ) → Type 0
+FitSlots widths slots = (slot : ℕ) (width : Width) (cells : List ℤ) → slice_get widths slot ≡ Some width → slice_get slots slot ≡ Some cells
+    → All (FitsSigned (of_type width)) cells
+
+-- A store of the agent: its slots, with values of their types, and its copies, with values of 32 bits
 pub record IsStoreOf (unit : Whole) (number : ℕ) (agent : AgentDecl) (store : Store) : Type 0 where
   pub slots : map length store.slots ≡ map length (first_slots agent)
-  pub values : All AllFit store.slots
+  pub values : FitSlots (map (λ s. s.width) agent.slots) store.slots
   pub variables : map (λ c. c.variable) store.copies ≡ map (λ c. c.variable) (first_copies unit number)
   pub copies : All (λ c. FitsSigned w32 c.value) store.copies
 

@@ -51,8 +51,9 @@ binary_depth operator left right = deeper left (on_top_of 1 right)
 -- An expression's depth, once those of its parts and of the functions are known
 abbrev pub expr_depth_step : List Depth → Expr-F Depth → Depth
 expr_depth_step functions (Expr-F.Cell slot index) = index
-expr_depth_step functions (Expr-F.Unary operator operand) = operand
-expr_depth_step functions (Expr-F.Binary operator left right) = binary_depth operator left right
+expr_depth_step functions (Expr-F.Unary operator width operand) = operand
+expr_depth_step functions (Expr-F.Cast width operand) = operand
+expr_depth_step functions (Expr-F.Binary operator width left right) = binary_depth operator left right
 expr_depth_step functions (Expr-F.Call function arguments) = deeper one_deep (deeper (stacked 0 arguments) (slice_index_or functions function shallow))
 expr_depth_step functions _ = one_deep
 

@@ -2,7 +2,8 @@
 -- long a message may take to be visible.
 use Rattle.std.specs.Prelude.{◌≡◌, ◌⊎◌, ℕ, ◌+◌, ◌-◌, ◌*◌, ◌<◌, ◌≤◌, List, [], map, length, get_or, Some, slice_get, ◌↔◌}
 use Rattle.std.specs.List.{All, AllPairs, Contains}
-use Rattle.psy_base.specs.declared.limits.TheConstants.{AFTER, PERIOD, SENDS}
+use Rattle.psy_base.specs.declared.limits.TheConstants.{AFTER, SENDS}
+use Rattle.psy_clock.specs.declared.clock.TheConstants.{PERIOD}
 use Rattle.psy_base.specs.declared.ways.SendWay.{SendWay}
 use Rattle.psy_base.specs.declared.ways.Ways.{Ways}
 use Rattle.psy_tree.specs.declared.unit.AgentDecl.{AgentDecl}

@@ -18,8 +18,9 @@ binary_size operator = 1
 -- The size of an expression, once those of its parts are known
 abbrev pub expr_size_step : Expr-F ℕ → ℕ
 expr_size_step (Expr-F.Cell slot index) = index + 1
-expr_size_step (Expr-F.Unary operator operand) = operand + 1
-expr_size_step (Expr-F.Binary operator left right) = left + (right + binary_size operator)
+expr_size_step (Expr-F.Unary operator width operand) = operand + 1
+expr_size_step (Expr-F.Cast width operand) = operand + 1
+expr_size_step (Expr-F.Binary operator width left right) = left + (right + binary_size operator)
 expr_size_step (Expr-F.Call function arguments) = total arguments + 1
 expr_size_step _ = 1
 

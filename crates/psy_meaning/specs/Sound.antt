@@ -1,23 +1,29 @@
 -- What expressions and statements may name where they stand.
 use Rattle.std.specs.Prelude.{◌≡◌, ℕ, ◌<◌, ◌≤◌, Bool, true, false, ◌==◌, List, [], ◌∷◌, ◌++◌, ◌+◌, map, replicate, length, Option, Some, None}
-use Rattle.std.specs.Prelude.{slice_get, FitsSigned, ⊤}
+use Rattle.std.specs.Prelude.{slice_get, get_or, FitsSigned, ⊤}
 use Rattle.std.specs.Int.{w32}
 use Rattle.std.specs.List.{All, range_with_len}
+use Rattle.psy_arith.specs.declared.width.Width.{Width}
+use Rattle.psy_arith.specs.declared.width.Width.TheVariants.{W32}
+use Rattle.psy_arith.specs.Types.{type1, type2}
+use Rattle.psy_arith.specs.Widths.{is_narrower, of_type}
 use Rattle.psy_base.specs.declared.limits.TheConstants.{AFTER, FUNCTIONS, TURNS}
 use Rattle.psy_tree.specs.declared.unit.Unit.{Unit as Whole}
 use Rattle.psy_tree.specs.declared.unit.AgentDecl.{AgentDecl}
 use Rattle.psy_tree.specs.declared.unit.FunctionDecl.{FunctionDecl}
-use Rattle.psy_tree.specs.declared.unit.Expr.{Expr, rec-Expr}
+use Rattle.psy_tree.specs.declared.unit.Expr.{Expr, fold-Expr, rec-Expr}
 use Rattle.psy_tree.specs.declared.unit.Expr.TheOpen.{Expr-F}
 use Rattle.psy_tree.specs.declared.unit.Stmt.{Stmt, rec-Stmt}
 use Rattle.psy_tree.specs.declared.unit.Stmt.TheOpen.{Stmt-F}
-use Rattle.psy_meaning.specs.Alike.{first_copies, AllFit}
+use Rattle.psy_meaning.specs.Alike.{first_copies}
 use Rattle.psy_meaning.specs.Paths.{advances_in, holds_advance, quiet_list}
 
 -- What can be named in an agent or a function.
 pub record Scope : Type 0 where
   -- by slot, how many cells it has
   pub layout : List ℕ
+  -- by slot, the type of its cells
+  pub widths : List Width
   -- the temporal variables that the agent owns
   pub copies : List ℕ
   -- by variable, how many of its dates can be looked back
@@ -62,6 +68,28 @@ pub record CanSend (scope : Scope) (stream after clock : ℕ) : Type 0 where
   pub by : clock < scope.clocks
   pub delay : after ≤ AFTER
 
+-- The type that an expression gives by its form, once those of its parts are known: that of the text, or a narrower one, since
+-- widening leaves no node
+abbrev pub width_step : List Width → Expr-F Width → Width
+width_step widths (Expr-F.Slot slot) = get_or widths slot W32
+width_step widths (Expr-F.Cell slot index) = get_or widths slot W32
+width_step widths (Expr-F.Unary operator width operand) = type1 operator width
+width_step widths (Expr-F.Binary operator width left right) = type2 operator width
+width_step widths (Expr-F.Cast width operand) = width
+width_step widths _ = W32
+
+-- The type that an expression gives by its form, where the slots have these types
+abbrev pub expr_width : List Width → Expr → Width
+expr_width widths = fold-Expr Width (width_step widths)
+
+-- An expression that can stand where a value of this type goes: its own type isn't wider.
+abbrev pub GoesInto : Scope → Width → Expr → Type 0
+GoesInto scope width value = is_narrower width (expr_width scope.widths value) ≡ false
+
+-- An expression that can stand where a value of a slot goes
+abbrev pub GoesIntoSlot : Scope → ℕ → Expr → Type 0
+GoesIntoSlot scope slot value = GoesInto scope (get_or scope.widths slot W32) value
+
 -- Each of them is sound.
 abbrev pub Each : {X : Type 0} → (X → Type 0) → List X → Type 0
 Each sound [] = ⊤
@@ -76,11 +104,13 @@ sound_expr_step scope X tree sound (Expr-F.Cell slot index) = HasSlot scope slot
 sound_expr_step scope X tree sound (Expr-F.Past variable back) = HasPast scope variable back
 sound_expr_step scope X tree sound (Expr-F.Ready stream) = HasStream scope stream
 sound_expr_step scope X tree sound (Expr-F.Take stream) = HasStream scope stream
-sound_expr_step scope X tree sound (Expr-F.Unary operator operand) = sound operand
-sound_expr_step scope X tree sound (Expr-F.Binary operator left right) = sound left × sound right
+sound_expr_step scope X tree sound (Expr-F.Unary operator width operand) = sound operand
+sound_expr_step scope X tree sound (Expr-F.Binary operator width left right) = sound left × sound right
 sound_expr_step scope X tree sound (Expr-F.Call function arguments) = HasFunction scope function (length arguments) × Each sound arguments
+    × Each (λ x. GoesInto scope W32 (tree x)) arguments
+sound_expr_step scope X tree sound (Expr-F.Cast width operand) = sound operand
 
--- All that an expression names can be named.
+-- All that an expression names can be named, and arguments are of type `int`.
 abbrev pub IsSoundExpr : Scope → Expr → Type 0
 IsSoundExpr scope = rec-Expr (Type 0) (sound_expr_step scope)
 
@@ -94,18 +124,20 @@ EachOr sound (Some xs) = Each sound xs
 -- A statement is sound, once it is known which of its parts are. A loop without bound ends the action in each turn, and a
 -- bounded one in none.
 abbrev pub sound_stmt_step : Scope → (X : Type 0) → (X → Stmt) → (X → Type 0) → Stmt-F X → Type 0
-sound_stmt_step scope X tree sound (Stmt-F.Set slot value) = HasSlot scope slot × IsSoundExpr scope value
-sound_stmt_step scope X tree sound (Stmt-F.SetCopy variable value) = HasCopy scope variable × IsSoundExpr scope value
+sound_stmt_step scope X tree sound (Stmt-F.Set slot value) = HasSlot scope slot × IsSoundExpr scope value × GoesIntoSlot scope slot value
+sound_stmt_step scope X tree sound (Stmt-F.SetCopy variable value) = HasCopy scope variable × IsSoundExpr scope value × GoesInto scope W32 value
 sound_stmt_step scope X tree sound (Stmt-F.SetCell slot index value) = HasSlot scope slot × IsSoundExpr scope index × IsSoundExpr scope value
+    × GoesIntoSlot scope slot value
 sound_stmt_step scope X tree sound (Stmt-F.If test branch other) = IsSoundExpr scope test × Each sound branch × EachOr sound other
 sound_stmt_step scope X tree sound (Stmt-F.Bounded test most body) = IsSoundExpr scope test × ((1 ≤ most) × (most ≤ TURNS)) × Each sound body
     × (holds_advance (map tree body) ≡ false)
 sound_stmt_step scope X tree sound (Stmt-F.Timed test body) = IsSoundExpr scope test × (quiet_list (map tree body) ≡ false) × Each sound body
-sound_stmt_step scope X tree sound (Stmt-F.Send value stream after clock) = CanSend scope stream after clock × IsSoundExpr scope value
+sound_stmt_step scope X tree sound (Stmt-F.Send value stream after clock) =
+    CanSend scope stream after clock × IsSoundExpr scope value × GoesInto scope W32 value
 sound_stmt_step scope X tree sound (Stmt-F.Advance point) = point < scope.points
-sound_stmt_step scope X tree sound (Stmt-F.Return value) = (scope.returns ≡ true) × IsSoundExpr scope value
+sound_stmt_step scope X tree sound (Stmt-F.Return value) = (scope.returns ≡ true) × IsSoundExpr scope value × GoesInto scope W32 value
 
--- All that a statement names can be named.
+-- All that a statement names can be named, and a value that it stores, sends or returns is of the type of where it goes.
 abbrev pub IsSoundStmt : Scope → Stmt → Type 0
 IsSoundStmt scope = rec-Stmt (Type 0) (sound_stmt_step scope)
 
@@ -118,6 +150,7 @@ abbrev pub function_scope : List FunctionDecl → List ℕ → List Bool → Fun
 function_scope above depths streams f =
     record {
       layout = replicate (f.params + length f.locals) 1;
+      widths = replicate f.params W32 ++ map (λ l. l.width) f.locals;
       copies = [];
       depths = depths;
       streams = streams;
@@ -130,10 +163,10 @@ function_scope above depths streams f =
 
 -- ---- units
 
--- A function names what it can name, whatever the variables and streams, and its locals begin with numbers of 32 bits.
+-- A function names what it can name, whatever the variables and streams, and its locals begin with numbers of their types.
 pub record IsSoundFunction (above : List FunctionDecl) (f : FunctionDecl) : Type 0 where
   pub stmts : (depths : List ℕ) (streams : List Bool) → AreSound (function_scope above depths streams f) f.stmts
-  pub locals : AllFit f.locals
+  pub locals : All (λ l. FitsSigned (of_type l.width) l.init) f.locals
 
 -- Functions are sound, where each calls those above it.
 abbrev pub AreSoundFunctions : List FunctionDecl → List FunctionDecl → Type 0
@@ -144,6 +177,7 @@ AreSoundFunctions above (f ∷ rest) = IsSoundFunction above f × AreSoundFuncti
 abbrev pub agent_scope : Whole → ℕ → AgentDecl → Scope
 agent_scope unit number agent = record {
   layout = map (λ s. s.cells) agent.slots;
+  widths = map (λ s. s.width) agent.slots;
   copies = map (λ c. c.variable) (first_copies unit number);
   depths = map (λ v. v.depth) unit.variables;
   streams = map (λ s. s.receiver == number) unit.streams;
@@ -161,10 +195,10 @@ pub record IsSoundAgent (unit : Whole) (number : ℕ) (agent : AgentDecl) : Type
   pub ends : quiet_list agent.stmts ≡ false
   pub points : length agent.points ≡ length (advances_in agent.stmts) + 1
   pub numbered : advances_in agent.stmts ≡ range_with_len 1 (length (advances_in agent.stmts))
-  -- its variables and arrays begin with numbers of 32 bits
-  pub values : All (λ s. FitsSigned w32 s.init) agent.slots
+  -- its variables and arrays begin with numbers of their types
+  pub values : All (λ s. FitsSigned (of_type s.width) s.init) agent.slots
 
--- A unit whose statements name what they can name, and whose first values are numbers of 32 bits
+-- A unit whose statements name what they can name, and whose first values are numbers of their types
 pub record IsSoundUnit (unit : Whole) : Type 0 where
   pub functions : AreSoundFunctions [] unit.functions
   pub few : length unit.functions ≤ FUNCTIONS

@@ -1,5 +1,6 @@
 -- What statements do, and functions.
 use Rattle.std.specs.Prelude.{ℕ, zero, suc, ◌+◌, ◌==◌, if◌then◌else◌, List, [], ◌∷◌, ◌++◌, map, length, Option, Some, None, ℤ, pos}
+use Rattle.std.specs.Int.{w32, int_wrap}
 use Rattle.psy_arith.specs.declared.operators.Trap.TheVariants as trap
 use Rattle.psy_arith.specs.Operators.{is_zero}
 use Rattle.psy_code.specs.Views.{Send}
@@ -39,17 +40,17 @@ turns zero test body s = with_value (test s) (λ v t. if is_zero v then Falls (c
 turns (suc more) test body s = with_value (test s) (λ v t. if is_zero v then Falls (cost_1 (cost_1 t))
     else then_do (body (cost_1 (cost_1 t))) (λ u. turns more test body (cost_1 u)))
 
--- What a statement does, once each of its parts is known to do something.
+-- What a statement does, once each of its parts is known to do something. A working copy and a message have 32 bits.
 abbrev pub stmt_step : (ℕ → Callee) → Stmt-F Act → Act
 stmt_step callees (Stmt-F.Set slot value) s = with_value (eval callees value s) (λ v t. Falls (with_slot slot 0 v (cost_1 t)))
-stmt_step callees (Stmt-F.SetCopy variable value) s = with_value (eval callees value s) (λ v t. Falls (with_copy_at variable v (cost_1 t)))
+stmt_step callees (Stmt-F.SetCopy variable value) s = with_value (eval callees value s) (λ v t. Falls (with_copy_at variable (int_wrap w32 v) (cost_1 t)))
 stmt_step callees (Stmt-F.SetCell slot index value) s = with_value (eval callees index s)
     (λ i t. with_value (eval callees value t) (λ v u. set_element slot i v u))
 stmt_step callees (Stmt-F.If test branch other) s = branches (eval callees test) (all_of branch) other s
 stmt_step callees (Stmt-F.Bounded test most body) s = turns most (eval callees test) (all_of body) (cost_1 s)
 stmt_step callees (Stmt-F.Timed test body) s = choose (eval callees test) (all_of body) Falls s
 stmt_step callees (Stmt-F.Send value stream after clock) s =
-    with_value (eval callees value s) (λ v t. Falls (asking (Send (record { stream = stream; value = v; after = after; clock = clock })) t))
+    with_value (eval callees value s) (λ v t. Falls (asking (Send (record { stream = stream; value = int_wrap w32 v; after = after; clock = clock })) t))
 stmt_step callees (Stmt-F.Advance point) s = Halts (Ended point (cost_1 s))
 stmt_step callees (Stmt-F.Return value) s = with_value (eval callees value s) (λ v t. Returns v (cost_1 t))
 
@@ -65,7 +66,7 @@ acts_by callees stmts = all_of (map (act_by callees) stmts)
 
 -- A function's parameters and locals: each slot has one cell.
 abbrev pub function_frame : FunctionDecl → List ℤ → Store
-function_frame function arguments = record { slots = map (λ v. v ∷ []) (arguments ++ function.locals); copies = [] }
+function_frame function arguments = record { slots = map (λ v. v ∷ []) (arguments ++ map (λ l. l.init) function.locals); copies = [] }
 
 -- The state with another store.
 abbrev pub in_store : Store → State → State

@@ -92,8 +92,9 @@ expr_way_step callees X tree way (Expr-F.Cell slot index) = both (way index) one
 expr_way_step callees X tree way (Expr-F.Past variable back) = looking variable back
 expr_way_step callees X tree way (Expr-F.Ready stream) = one
 expr_way_step callees X tree way (Expr-F.Take stream) = one
-expr_way_step callees X tree way (Expr-F.Unary operator operand) = both (way operand) one
-expr_way_step callees X tree way (Expr-F.Binary operator left right) = binary_way operator (way left) (way right)
+expr_way_step callees X tree way (Expr-F.Unary operator width operand) = both (way operand) one
+expr_way_step callees X tree way (Expr-F.Cast width operand) = both (way operand) one
+expr_way_step callees X tree way (Expr-F.Binary operator width left right) = binary_way operator (way left) (way right)
 expr_way_step callees X tree way (Expr-F.Call function arguments) = both (ways_through way arguments) (both one (callees function))
 
 -- The ways of an expression.

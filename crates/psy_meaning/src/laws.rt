@@ -1,27 +1,35 @@
 //! Laws of the definitions, each the contract of a function that does nothing.
 
-ghost use Rattle.std.specs.Prelude.{◌≡◌, ◌<◌, ◌≤◌, ◌*◌, ℕ, List, length, slice_get, Some};
+ghost use Rattle.std.specs.Prelude.{◌≡◌, ◌<◌, ◌≤◌, ◌*◌, ℕ, ℤ, List, false, length, map, slice_get, FitsSigned, Some};
 ghost use Rattle.std.specs.List.{Contains};
 ghost use Rattle.psy_arith.specs.declared.operators.Trap.{Trap};
+ghost use Rattle.psy_arith.specs.Widths.{is_narrower, of_type};
 ghost use Rattle.psy_base.specs.declared.limits.TheConstants.{AFTER, FILE_BYTES};
 ghost use Rattle.psy_tree.specs.declared.raw.Raw.{Raw};
+ghost use Rattle.psy_tree.specs.declared.raw.RawExpr.{RawExpr};
+ghost use Rattle.psy_tree.specs.declared.rules.RuleKind.{RuleKind};
 ghost use Rattle.psy_tree.specs.declared.token.Token.{Token};
 ghost use Rattle.psy_tree.specs.declared.unit.AgentDecl.{AgentDecl};
+ghost use Rattle.psy_tree.specs.declared.unit.Expr.{Expr};
 ghost use Rattle.psy_tree.specs.declared.unit.FunctionDecl.{FunctionDecl};
 ghost use Rattle.psy_tree.specs.declared.unit.Unit.{Unit as Whole};
 ghost use Rattle.psy_tree.specs.Grammar.{Spells};
-ghost use Rattle.psy_tree.specs.Stands.{Stands};
+ghost use Rattle.psy_tree.specs.Places.{Place, expr_places};
+ghost use Rattle.psy_tree.specs.Rules.{is_fault};
+ghost use Rattle.psy_tree.specs.Scope.{Site, own_slots};
+ghost use Rattle.psy_tree.specs.Stands.{Stands, typed_of};
 ghost use Rattle.psy_tree.specs.Tokens.{TokensOf};
 ghost use Rattle.psy_code.specs.Views.{Looked, View, nothing_done};
 ghost use Rattle.psy_meaning.specs.Alike.{IsStoreOf, IsViewOf, begun, first_store};
+ghost use Rattle.psy_meaning.specs.Expressions.{eval};
 ghost use Rattle.psy_meaning.specs.Flow.{IsNext};
 ghost use Rattle.psy_meaning.specs.Kept.{IsAdvanceOf, IsKept, IsLookOf};
 ghost use Rattle.psy_meaning.specs.Sendings.{sendings_in};
-ghost use Rattle.psy_meaning.specs.States.{State, Store, Final, Ended, Trapped, Halts};
+ghost use Rattle.psy_meaning.specs.States.{State, Store, Final, Ended, Trapped, Halts, Value};
 ghost use Rattle.psy_meaning.specs.Rest.{rest};
 ghost use Rattle.psy_meaning.specs.Sizes.{unit_size};
-ghost use Rattle.psy_meaning.specs.Sound.{IsSoundUnit};
-ghost use Rattle.psy_meaning.specs.Statements.{Piece, act};
+ghost use Rattle.psy_meaning.specs.Sound.{IsSoundExpr, IsSoundUnit, agent_scope, expr_width};
+ghost use Rattle.psy_meaning.specs.Statements.{Piece, act, callees_of};
 ghost use Rattle.psy_meaning.specs.Paths.{NoneAdvances};
 ghost use Rattle.psy_meaning.specs.Units.{IsOfText};
 ghost use Rattle.psy_meaning.specs.Ways.{Meter, Sending, IsWay, IsFrontOf, met_by};
@@ -92,7 +100,24 @@ pub fn keeps()
         → (final : Final) × (act unit.functions (rest agent.stmts point) (begun store view) ≡ Halts final) × IsKept unit number agent final }
     ensures first { (unit : Whole) (number : ℕ) (agent : AgentDecl) → IsSoundUnit unit → slice_get unit.agents number ≡ Some agent
         → IsStoreOf unit number agent (first_store unit number agent) }
-{}
+{
+    psy_arith::laws::types();
+}
+
+/// An expression gives a value of its type: where an agent of a sound unit has a store and a view of it, the value of an
+/// expression has the range of the expression's type. And that type isn't wider than the one that the text gives, where the
+/// names of the text have no fault.
+pub fn typed()
+    ensures value { (unit : Whole) (number : ℕ) (agent : AgentDecl) (s t : State) (e : Expr) (v : ℤ) → IsSoundUnit unit
+        → slice_get unit.agents number ≡ Some agent → IsStoreOf unit number agent s.store → IsViewOf unit number s.view
+        → IsSoundExpr (agent_scope unit number agent) e → eval (callees_of unit.functions) e s ≡ Value v t
+        → FitsSigned (of_type (expr_width (map (λ s. s.width) agent.slots) e)) v }
+    ensures text { (site : Site) (e : RawExpr)
+        → ((place : Place) (kind : RuleKind) → Contains (expr_places e) place → is_fault kind site place ≡ false)
+        → is_narrower (typed_of site e).width (expr_width (map (λ s. s.width) (own_slots site)) (typed_of site e).expr) ≡ false }
+{
+    psy_arith::laws::types();
+}
 
 /// The statements of a unit that a program's tree stands for name what they can name, and no function of it holds an
 /// `advance`.

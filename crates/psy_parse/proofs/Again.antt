@@ -9,9 +9,9 @@ use Rattle.psy_tree.specs.declared.token.Sign.TheVariants as signs
 use Rattle.psy_tree.specs.declared.raw.RawExpr.{RawExpr}
 use Rattle.psy_tree.specs.declared.raw.RawExpr.TheVariants.{Binary}
 use Rattle.psy_tree.specs.Grammar.{Numbered, sign, unary_of, binary_of, Expr, Others}
-use Rattle.psy_tree.specs.Grammar.Expr.{number, variable, cell, call_of_none, call, past, ready, take, in_parentheses, unary, tighter, binary}
+use Rattle.psy_tree.specs.Grammar.Expr.{number, variable, cell, call_of_none, call, past, ready, take, cast, in_parentheses, unary, tighter, binary}
 use Rattle.psy_tree.specs.Grammar.Others.{no_more, one_more}
-use Rattle.psy_parse.specs.Reading.{given, name_at, number_at, after_number, after_word, after_sign, word_at, sign_at, unary_at_front, binary_at_front, in_brackets_at, past_at, args_at, behind_name_at, primary_at, operand_at, expr_at, climb_at, others_at}
+use Rattle.psy_parse.specs.Reading.{given, name_at, number_at, after_number, after_word, after_sign, after_type, word_at, sign_at, unary_at_front, binary_at_front, in_brackets_at, past_at, cast_at, args_at, behind_name_at, primary_at, operand_at, expr_at, climb_at, others_at}
 
 -- What follows an expression of operators of levels below this one
 pub record Closed (level : ℕ) (rest : List Numbered) : Type 0 where
@@ -29,6 +29,7 @@ mutual
   shorter past = omega arith
   shorter ready = omega arith
   shorter take = omega arith
+  shorter (cast e h) = omega (arith, shorter h)
   shorter (in_parentheses h) = omega (arith, shorter h)
   shorter (unary e h) = omega (arith, shorter h)
   shorter (tighter h) = shorter h
@@ -54,6 +55,7 @@ opens_with (call h o) = refl
 opens_with past = refl
 opens_with ready = refl
 opens_with take = refl
+opens_with (cast e h) = refl
 opens_with (in_parentheses h) = refl
 opens_with (unary {op = op} {s = s} {n = n} {ts = ts} e h) = unary_open s n op ts e
 opens_with (tighter h) = opens_with h
@@ -108,7 +110,7 @@ closed_by : {level : ℕ} {rest : List Numbered} → binary_at_front level rest 
 closed_by a b c = record { operator = a; round = b; square = c }
 
 operand_again : (n : ℕ) (H : Complete n) {ts rest : List Numbered} {e : RawExpr} → Expr 0 ts e rest → length ts ≤ n → Closed 0 rest → operand_at (expr_at n) (others_at n) ts ≡ Ok (e, rest)
-unfolding operand_at primary_at behind_name_at args_at past_at in_brackets_at name_at number_at after_number after_word after_sign word_at sign_at unary_at_front binary_at_front
+unfolding operand_at primary_at behind_name_at args_at past_at cast_at in_brackets_at name_at number_at after_number after_word after_sign after_type word_at sign_at unary_at_front binary_at_front
 operand_again n H number le c = refl
 operand_again n H variable le c = rw (c.square, c.round) refl
 operand_again n H (cell h) le c = rw (H.expr _ _ _ _ h (omega arith) (closed_by refl refl refl)) refl
@@ -117,6 +119,7 @@ operand_again n H (call {first = first} h o) le c = rw (opens_with h, H.expr _ _
 operand_again n H past le c = refl
 operand_again n H ready le c = refl
 operand_again n H take le c = refl
+operand_again n H (cast e h) le c = rw (e, H.expr _ _ _ _ h (omega arith) (closed_by refl refl refl)) refl
 operand_again n H (in_parentheses h) le c = rw (H.expr _ _ _ _ h (omega arith) (closed_by refl refl refl)) refl
 operand_again n H (unary e h) le c = rw (e, H.expr _ _ _ _ h (omega arith) c) refl
 

@@ -1,7 +1,9 @@
 -- Each program that is spelled is read again.
-use Rattle.std.proofs.Common.{◌≡◌, ℕ, zero, suc, ◌+◌, ◌<◌, ◌≤◌, List, [], ◌∷◌, ◌++◌, length, Option, None, Result, Ok, Err, Bool, true, false, refl, sym, ap, ◌∙◌, append_assoc, arith}
+use Rattle.std.proofs.Common.{◌≡◌, ℕ, zero, suc, ◌+◌, ◌<◌, ◌≤◌, List, [], ◌∷◌, ◌++◌, length, Option, Some, None, Result, Ok, Err, Bool, true, false, refl, sym, ap, ◌∙◌, append_assoc, arith}
 use Rattle.std.proofs.lemmas.List.{append-nil}
+use Rattle.psy_arith.specs.declared.width.Width.{Width}
 use Rattle.psy_tree.specs.declared.token.Token.{Token}
+use Rattle.psy_tree.specs.declared.token.Word.{Word}
 use Rattle.psy_tree.specs.declared.token.Word.TheVariants as words
 use Rattle.psy_tree.specs.declared.token.Sign.TheVariants as signs
 use Rattle.psy_tree.specs.declared.raw.Name.{Name}
@@ -10,9 +12,9 @@ use Rattle.psy_tree.specs.declared.raw.Init.{Init}
 use Rattle.psy_tree.specs.declared.raw.Raw.{Raw}
 use Rattle.psy_tree.specs.declared.raw.Local.{Local}
 use Rattle.psy_tree.specs.declared.raw.Item.{Item}
-use Rattle.psy_tree.specs.Grammar.{Numbered, numbered, named, numeral, word, sign, Start, FunctionLocal, AgentLocal, Many, Further, Params, Parent, Shift, Declaration, Program, Spells}
+use Rattle.psy_tree.specs.Grammar.{Numbered, numbered, named, numeral, word, sign, type_of, Start, FunctionLocal, AgentLocal, Many, Further, Params, Parent, Shift, Declaration, Program, Spells}
 use Rattle.psy_tree.specs.Grammar as grammar
-use Rattle.psy_parse.specs.Reading.{name_at, number_at, after_number, after_word, after_sign, word_at, sign_at, start_at, array_at, scalar_at, local_at, locals_at, param_at, further_at, params_at, parent_at, shift_at, optional_at, clock_at, temporal_at, input_at, stream_at, function_at, agent_at, declaration_at, program_at, is_end, quantum_at, text_at}
+use Rattle.psy_parse.specs.Reading.{name_at, number_at, after_number, after_word, after_sign, after_type, word_at, sign_at, start_at, array_at, scalar_at, local_at, locals_at, param_at, further_at, params_at, parent_at, shift_at, optional_at, clock_at, temporal_at, input_at, stream_at, function_at, agent_at, declaration_at, program_at, is_end, quantum_at, text_at}
 use Rattle.psy_parse.proofs.Numbers.{length_of_numbered}
 use Rattle.psy_parse.proofs.AgainStmts.{shorter_block, block_begins, block_again}
 
@@ -32,35 +34,36 @@ abbrev OneLocal : Bool → List Numbered → Local → List Numbered → Type 0
 OneLocal false = FunctionLocal
 OneLocal true = AgentLocal
 
--- A local behind its first word is read again
+-- A local behind the word of its type is read again
 data LocalAgain (arrays : Bool) : List Numbered → Local → List Numbered → Type 0 where
-  again : {n : ℕ} {x : Local} {ts rest : List Numbered} → length rest < length ts → local_at arrays ts ≡ Ok (x, rest) → LocalAgain arrays (word n words.Int ∷ ts) x rest
+  again : {width : Width} {w : Word} {n : ℕ} {x : Local} {ts rest : List Numbered} → type_of w ≡ Some width → length rest < length ts → local_at arrays width ts ≡ Ok (x, rest)
+      → LocalAgain arrays (word n w ∷ ts) x rest
 
 variable_again : {ts rest : List Numbered} {x : Local} → FunctionLocal ts x rest → LocalAgain false ts x rest
 unfolding local_at scalar_at name_at sign_at after_sign
-variable_again (grammar.FunctionLocal.scalar h) = again (omega (arith, shorter_start h)) (rw (start_again h) refl)
+variable_again (grammar.FunctionLocal.scalar e h) = again e (omega (arith, shorter_start h)) (rw (start_again h) refl)
 
 declared_again : {ts rest : List Numbered} {x : Local} → AgentLocal ts x rest → LocalAgain true ts x rest
 unfolding local_at scalar_at array_at name_at number_at after_number sign_at after_sign
-declared_again (grammar.AgentLocal.variable (grammar.FunctionLocal.scalar h)) = again (omega (arith, shorter_start h)) (rw (start_again h) refl)
-declared_again grammar.AgentLocal.array = again (omega arith) refl
+declared_again (grammar.AgentLocal.variable (grammar.FunctionLocal.scalar e h)) = again e (omega (arith, shorter_start h)) (rw (start_again h) refl)
+declared_again (grammar.AgentLocal.array e) = again e (omega arith) refl
 
 local_again : (arrays : Bool) {ts rest : List Numbered} {x : Local} → OneLocal arrays ts x rest → LocalAgain arrays ts x rest
 local_again false h = variable_again h
 local_again true h = declared_again h
 
 shorter_local : {arrays : Bool} {ts rest : List Numbered} {x : Local} → LocalAgain arrays ts x rest → length rest < length ts
-shorter_local (again lt e) = omega arith
+shorter_local (again is lt e) = omega arith
 
 shorter_locals : (arrays : Bool) {ts rest : List Numbered} {xs : List Local} → Many (OneLocal arrays) ts xs rest → length rest ≤ length ts
 shorter_locals arrays grammar.Many.none = omega arith
 shorter_locals arrays (grammar.Many.more h m) = omega (arith, shorter_local (local_again arrays h), shorter_locals arrays m)
 
 local_step : (arrays : Bool) (n : ℕ) (front : List Local) {ts us : List Numbered} {x : Local} → LocalAgain arrays ts x us → locals_at arrays (suc n) front ts ≡ locals_at arrays n (front ++ x ∷ []) us
-unfolding locals_at after_word
-local_step arrays n front (again lt e) = rw e refl
+unfolding locals_at after_type
+local_step arrays n front (again is lt e) = rw (is, e) refl
 
-locals_again : (arrays : Bool) (n : ℕ) (front : List Local) {ts rest : List Numbered} {xs : List Local} → Many (OneLocal arrays) ts xs rest → length ts < n → after_word words.Int rest ≡ None → locals_at arrays n front ts ≡ Ok (front ++ xs, rest)
+locals_again : (arrays : Bool) (n : ℕ) (front : List Local) {ts rest : List Numbered} {xs : List Local} → Many (OneLocal arrays) ts xs rest → length ts < n → after_type rest ≡ None → locals_at arrays n front ts ≡ Ok (front ++ xs, rest)
 unfolding locals_at
 locals_again arrays zero front m lt none = absurd (omega arith)
 locals_again arrays (suc n) front {rest = rest} grammar.Many.none lt none = rw none (ap (λ (all : List Local). Ok (all, rest)) (sym (append-nil front)))
@@ -121,13 +124,13 @@ shorter_declaration (grammar.Declaration.agent m b) = omega (arith, shorter_loca
 shorter_declaration (grammar.Declaration.agent_on_processor m b) = omega (arith, shorter_locals true m, shorter_block b)
 
 declaration_again : (n : ℕ) {ts rest : List Numbered} {x : Item} → Declaration ts x rest → length ts ≤ n → declaration_at n ts ≡ Ok (x, rest)
-unfolding declaration_at clock_at temporal_at input_at stream_at function_at agent_at optional_at name_at number_at after_number word_at after_word sign_at after_sign
+unfolding declaration_at clock_at temporal_at input_at stream_at function_at agent_at optional_at name_at number_at after_number word_at after_word after_type sign_at after_sign
 declaration_again n (grammar.Declaration.clock p s) le = rw (parent_again p, shift_again s) refl
 declaration_again n (grammar.Declaration.temporal h) le = rw (start_again h) refl
 declaration_again n (grammar.Declaration.input h) le = rw (start_again h) refl
 declaration_again n grammar.Declaration.stream le = refl
 declaration_again n (grammar.Declaration.function p m b) le =
-    rw (params_again n p (omega arith), locals_again false n [] m (omega (arith, shorter_params p)) (block_begins b).no_int, block_again n [] b (omega (arith, shorter_params p, shorter_locals false m))) refl
+    rw (params_again n p (omega arith), locals_again false n [] m (omega (arith, shorter_params p)) (block_begins b).no_type, block_again n [] b (omega (arith, shorter_params p, shorter_locals false m))) refl
 declaration_again n (grammar.Declaration.agent m b) le =
     rw (locals_again true n [] m (omega arith) refl, block_again n [] b (omega (arith, shorter_locals true m))) refl
 declaration_again n (grammar.Declaration.agent_on_processor m b) le =

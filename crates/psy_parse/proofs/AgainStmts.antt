@@ -8,7 +8,7 @@ use Rattle.psy_tree.specs.declared.raw.RawStmt.{RawStmt}
 use Rattle.psy_tree.specs.Grammar.{Numbered, Expr, Stmt, Block}
 use Rattle.psy_tree.specs.Grammar.Stmt.{set, set_cell, if_alone, if_else, while_timed, while_bounded, send, advance, advance_budget, return}
 use Rattle.psy_tree.specs.Grammar.Block.{close, next}
-use Rattle.psy_parse.specs.Reading.{name_at, number_at, after_number, after_word, after_sign, word_at, sign_at, binary_at_front, optional_at, expr_at, test_at, block_in_braces_at, if_at, while_at, send_at, advance_at, return_at, set_at, set_cell_at, stmt_at, block_at}
+use Rattle.psy_parse.specs.Reading.{name_at, number_at, after_number, after_word, after_sign, after_type, word_at, sign_at, binary_at_front, optional_at, expr_at, test_at, block_in_braces_at, if_at, while_at, send_at, advance_at, return_at, set_at, set_cell_at, stmt_at, block_at}
 use Rattle.psy_parse.proofs.Again.{shorter, complete}
 
 mutual
@@ -31,24 +31,24 @@ mutual
 -- What a statement doesn't begin with
 pub record Begins (ts : List Numbered) : Type 0 where
   pub no_else : after_word words.Else ts ≡ None
-  pub no_int : after_word words.Int ts ≡ None
+  pub no_type : after_type ts ≡ None
 
 stmt_begins : {ts rest : List Numbered} {s : RawStmt} → Stmt ts s rest → Begins ts
-unfolding after_word
-stmt_begins (set h) = record { no_else = refl; no_int = refl }
-stmt_begins (set_cell h g) = record { no_else = refl; no_int = refl }
-stmt_begins (if_alone h b) = record { no_else = refl; no_int = refl }
-stmt_begins (if_else h b o) = record { no_else = refl; no_int = refl }
-stmt_begins (while_timed h b) = record { no_else = refl; no_int = refl }
-stmt_begins (while_bounded h b) = record { no_else = refl; no_int = refl }
-stmt_begins (send h) = record { no_else = refl; no_int = refl }
-stmt_begins advance = record { no_else = refl; no_int = refl }
-stmt_begins advance_budget = record { no_else = refl; no_int = refl }
-stmt_begins (return h) = record { no_else = refl; no_int = refl }
+unfolding after_word after_type
+stmt_begins (set h) = record { no_else = refl; no_type = refl }
+stmt_begins (set_cell h g) = record { no_else = refl; no_type = refl }
+stmt_begins (if_alone h b) = record { no_else = refl; no_type = refl }
+stmt_begins (if_else h b o) = record { no_else = refl; no_type = refl }
+stmt_begins (while_timed h b) = record { no_else = refl; no_type = refl }
+stmt_begins (while_bounded h b) = record { no_else = refl; no_type = refl }
+stmt_begins (send h) = record { no_else = refl; no_type = refl }
+stmt_begins advance = record { no_else = refl; no_type = refl }
+stmt_begins advance_budget = record { no_else = refl; no_type = refl }
+stmt_begins (return h) = record { no_else = refl; no_type = refl }
 
 pub block_begins : {ts rest : List Numbered} {body : List RawStmt} → Block ts body rest → Begins ts
-unfolding after_word
-block_begins close = record { no_else = refl; no_int = refl }
+unfolding after_word after_type
+block_begins close = record { no_else = refl; no_type = refl }
 block_begins (next s b) = stmt_begins s
 
 no_brace : {ts rest : List Numbered} {s : RawStmt} → Stmt ts s rest → after_sign signs.CloseBrace ts ≡ None

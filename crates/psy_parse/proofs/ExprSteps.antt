@@ -12,10 +12,10 @@ use Rattle.psy_tree.specs.declared.raw.RawExpr.{RawExpr}
 use Rattle.psy_tree.specs.declared.raw.RawExpr.TheVariants.{Number, Ready, Take, Binary, Call}
 use Rattle.psy_tree.specs.Grammar.{Numbered, named, numeral, word, sign, binary_of, Expr, Others}
 use Rattle.psy_tree.specs.Grammar as grammar
-use Rattle.psy_parse.specs.Reading.{given, Reads, binary_at_front, in_brackets_at, past_at, args_at, behind_name_at, primary_at, operand_at, expr_at, climb_at, others_at}
+use Rattle.psy_parse.specs.Reading.{given, Reads, binary_at_front, in_brackets_at, past_at, cast_at, args_at, behind_name_at, primary_at, operand_at, expr_at, climb_at, others_at}
 use Rattle.psy_parse.proofs.Again.{is_none}
 use Rattle.psy_parse.proofs.Steps.{Front, through, Anything, Whatever, Ends, Step, Part, Listed, listed, nothing_listed, one_listed, done_step, out_of_turns, weaker_step, bind_step, last_step}
-use Rattle.psy_parse.proofs.Heads.{sign_step, number_step, name_step, given_sign, given_word, given_number, given_unary, given_binary}
+use Rattle.psy_parse.proofs.Heads.{TypeWord, sign_step, number_step, name_step, given_sign, given_word, given_type, given_number, given_unary, given_binary}
 
 -- Levels
 
@@ -92,6 +92,11 @@ module _ (expr expr' : ℕ → Reads RawExpr) (others others' : List RawExpr →
     past_steps n =
         sign_step _ _ _ (λ _. name_step _ _ (λ x. sign_step _ _ _ (λ _. number_step _ _ (λ k. sign_step _ _ _ (λ _. done_step ends (omega arith) (λ us _. tt) (λ rest. grammar.Expr.past))))))
 
+    cast_steps : (t : TypeWord) → Step pre (Whatever (Expr 0)) Anything ts other 1 (suc enough) (λ us. word t.number t.word_of ∷ us) 1 Anything (cast_at (expr 10) t.width) (cast_at (expr' 10) t.width)
+    unfolding cast_at
+    cast_steps t =
+        sign_step _ _ _ (λ _. bind_step _ _ (expr_part 10) (omega arith) (λ m e is. sign_step _ _ _ (λ _. done_step ends (omega arith) (λ us _. tt) (λ rest. grammar.Expr.cast t.is (is _)))))
+
     behind_name_steps : (x : Name) → Step pre (Whatever (Expr 0)) Anything ts other 1 (suc enough) (λ us. named x ∷ us) 1 Anything (behind_name_at (expr 10) others x) (behind_name_at (expr' 10) others' x)
     unfolding behind_name_at
     behind_name_steps x =
@@ -103,11 +108,12 @@ module _ (expr expr' : ℕ → Reads RawExpr) (others others' : List RawExpr →
     unfolding primary_at
     primary_steps =
         given_sign _ _ _ _ _ (λ _. bind_step _ _ (expr_part 10) (omega arith) (λ m e is. sign_step _ _ _ (λ _. done_step ends (omega arith) (λ us _. tt) (λ rest. grammar.Expr.in_parentheses (is _)))))
+        (given_type _ _ _ _ (λ t. cast_steps t)
         (given_word _ _ _ _ _ (λ n. past_steps n)
         (given_word _ _ _ _ _ (λ n. bind_step _ _ (in_brackets_part enough) (omega arith) (λ m x is. done_step ends (omega arith) (λ us _. tt) (λ rest. ready_of (is rest))))
         (given_word _ _ _ _ _ (λ n. bind_step _ _ (in_brackets_part enough) (omega arith) (λ m x is. done_step ends (omega arith) (λ us _. tt) (λ rest. take_of (is rest))))
         (given_number _ _ _ _ (λ k. done_step ends (omega arith) (λ us _. tt) (λ rest. grammar.Expr.number))
-        (name_step _ _ (λ x. behind_name_steps x))))))
+        (name_step _ _ (λ x. behind_name_steps x)))))))
 
   operand_part : Part (Whatever (Expr 0)) Anything 1 (suc enough) (operand_at expr others) (operand_at expr' others')
   unfolding operand_at

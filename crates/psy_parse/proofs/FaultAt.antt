@@ -1,8 +1,7 @@
 -- Where reading can't go on, there is the token at fault.
-use Rattle.std.proofs.Common.{◌≡◌, ℕ, zero, suc, ◌+◌, ◌-◌, ◌<◌, ◌≤◌, List, [], ◌∷◌, ◌++◌, length, take, drop, Result, Ok, Err, refl, sym, ap, subst, ◌∙◌, append_assoc, arith}
+use Rattle.std.proofs.Common.{◌≡◌, ℕ, suc, ◌+◌, ◌-◌, ◌<◌, ◌≤◌, List, [], ◌∷◌, ◌++◌, length, take, drop, Result, Ok, Err, refl, sym, ap, subst, ◌∙◌, append_assoc, arith}
 use Rattle.std.proofs.lemmas.List.{length-append, length-take-le, take_at, take_all, take-take, take-append-drop}
 use Rattle.psy_tree.specs.declared.token.Token.{Token}
-use Rattle.psy_tree.specs.declared.token.Kind.{Kind}
 use Rattle.psy_tree.specs.declared.raw.Raw.{Raw}
 use Rattle.psy_tree.specs.Grammar.{Numbered, numbered, Spells}
 use Rattle.psy_tree.specs.Grammar as grammar

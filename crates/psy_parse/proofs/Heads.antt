@@ -4,6 +4,7 @@ use Rattle.std.proofs.lemmas.Bool.{leb-false}
 use denote.Enum.Bare.{sameb, same_true, true_same}
 use Rattle.psy_arith.specs.declared.operators.Op1.{Op1}
 use Rattle.psy_arith.specs.declared.operators.Op2.{Op2}
+use Rattle.psy_arith.specs.declared.width.Width.{Width}
 use Rattle.psy_tree.specs.declared.token.Kind.TheVariants as kinds
 use Rattle.psy_tree.specs.declared.token.Word.{Word}
 use Rattle.psy_tree.specs.declared.token.Sign.{Sign}
@@ -11,8 +12,8 @@ use Rattle.psy_tree.specs.contracts.token.Word as word_kind
 use Rattle.psy_tree.specs.contracts.token.Sign as sign_kind
 use Rattle.psy_tree.specs.declared.raw.Name.{Name}
 use Rattle.psy_tree.specs.declared.raw.Lit.{Lit}
-use Rattle.psy_tree.specs.Grammar.{Numbered, named, numeral, word, sign, unary_of, binary_of}
-use Rattle.psy_parse.specs.Reading.{◌>>=◌, given, or_stuck, name_at, number_at, after_number, after_word, after_sign, word_at, sign_at, unary_at_front, binary_at_front}
+use Rattle.psy_tree.specs.Grammar.{Numbered, named, numeral, word, sign, type_of, unary_of, binary_of}
+use Rattle.psy_parse.specs.Reading.{◌>>=◌, given, or_stuck, name_at, number_at, after_number, after_word, after_sign, after_type, word_at, sign_at, unary_at_front, binary_at_front}
 use Rattle.psy_parse.proofs.Again.{found_above}
 use Rattle.psy_parse.proofs.Steps.{Front, SameHead, same_head, through, Anything, Step, Seen, here, elsewhere, Looks, Met, met, missed, Meets, must_step, given_step, given_step_with}
 
@@ -80,6 +81,39 @@ word_looks w = record {
   by : (us : List Numbered) → Seen (after_word w) (λ n. word n w) (λ n us. (n, us)) us (after_word w us)
   by [] = nothing_left refl
   by ((n, kinds.Word r) ∷ us) = word_seen w r n us
+  by ((n, kinds.Sign s) ∷ us) = passed_over _ us (λ vs. refl)
+  by ((n, kinds.Name x) ∷ us) = passed_over _ us (λ vs. refl)
+  by ((n, kinds.Number v) ∷ us) = passed_over _ us (λ vs. refl)
+
+-- Types
+
+-- A word that names a type
+pub record TypeWord : Type 0 where
+  pub number : ℕ
+  pub word_of : Word
+  pub width : Width
+  pub is : type_of word_of ≡ Some width
+
+abbrev typed : List Numbered → Option Width → Option (Width × List Numbered)
+typed us o = given o (λ width. Some (width, us)) None
+
+type_seen : (w : Word) (n : ℕ) (us : List Numbered) → Seen after_type (λ (t : TypeWord). word t.number t.word_of) (λ t us. (t.width, us)) (word n w ∷ us) (after_type (word n w ∷ us))
+unfolding after_type
+type_seen w n us =
+    elim (type_of w) as (λ o. type_of w ≡ o → Seen after_type (λ (t : TypeWord). word t.number t.word_of) (λ t us. (t.width, us)) (word n w ∷ us) (typed us o)) [
+      | Some width ↦ λ e. here (record { number = n; word_of = w; width = width; is = e })
+      | None ↦ λ e. passed_over (word n w) us (λ vs. ap (typed vs) e)
+    ] refl
+
+type_looks : Looks after_type (λ (t : TypeWord). word t.number t.word_of) (λ t us. (t.width, us))
+unfolding after_type
+type_looks = record {
+  finds = λ t us. ap (typed us) t.is;
+  seen = by;
+} where
+  by : (us : List Numbered) → Seen after_type (λ (t : TypeWord). word t.number t.word_of) (λ t us. (t.width, us)) us (after_type us)
+  by [] = nothing_left refl
+  by ((n, kinds.Word w) ∷ us) = type_seen w n us
   by ((n, kinds.Sign s) ∷ us) = passed_over _ us (λ vs. refl)
   by ((n, kinds.Name x) ∷ us) = passed_over _ us (λ vs. refl)
   by ((n, kinds.Number v) ∷ us) = passed_over _ us (λ vs. refl)
@@ -229,6 +263,13 @@ module _ {A : Type 0} {pre : Front} {R : Front → A → Type 0} {E : List Numbe
       → Step pre R E ts other takes bound mid c F g g'
       → Step pre R E ts other takes bound mid c F (λ us. given (after_word w us) f (g us)) (λ us. given (after_word w us) f' (g' us))
   given_word w f f' g g' h k = given_step _ _ _ f f' g g' (word_looks w) h k
+
+  -- the word of a type, or else
+  pub given_type : (f f' : Width × List Numbered → Result (A × List Numbered) ℕ) (g g' : List Numbered → Result (A × List Numbered) ℕ)
+      → ((t : TypeWord) → Step pre R E ts other takes bound (λ us. mid (word t.number t.word_of ∷ us)) (suc c) Anything (λ us. f (t.width, us)) (λ us. f' (t.width, us)))
+      → Step pre R E ts other takes bound mid c F g g'
+      → Step pre R E ts other takes bound mid c F (λ us. given (after_type us) f (g us)) (λ us. given (after_type us) f' (g' us))
+  given_type f f' g g' h k = given_step _ _ _ f f' g g' type_looks h k
 
   -- a number, or else
   pub given_number : (f f' : Lit × List Numbered → Result (A × List Numbered) ℕ) (g g' : List Numbered → Result (A × List Numbered) ℕ)

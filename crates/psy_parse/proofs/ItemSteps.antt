@@ -1,5 +1,6 @@
 -- Each step of a declaration and of a program that is read.
-use Rattle.std.proofs.Common.{◌≡◌, ℕ, zero, suc, ◌≤◌, List, [], ◌∷◌, ◌++◌, Option, Result, Ok, Err, Bool, true, false, cond, refl, sym, ap, ◌∙◌, arith}
+use Rattle.std.proofs.Common.{◌≡◌, ℕ, zero, suc, ◌≤◌, List, [], ◌∷◌, ◌++◌, Option, Some, Result, Ok, Err, Bool, true, false, cond, refl, sym, ap, ◌∙◌, arith}
+use Rattle.psy_arith.specs.declared.width.Width.{Width}
 use Rattle.psy_tree.specs.declared.token.Kind.TheVariants as kinds
 use Rattle.psy_tree.specs.declared.token.Word.TheVariants as words
 use Rattle.psy_tree.specs.declared.token.Sign.TheVariants as signs
@@ -10,11 +11,11 @@ use Rattle.psy_tree.specs.declared.raw.RawStmt.{RawStmt}
 use Rattle.psy_tree.specs.declared.raw.Raw.{Raw}
 use Rattle.psy_tree.specs.declared.raw.Item.{Item}
 use Rattle.psy_tree.specs.declared.raw.Item.TheVariants.{Agent}
-use Rattle.psy_tree.specs.Grammar.{Numbered, named, numeral, word, sign, Start, FunctionLocal, AgentLocal, Many, Further, Params, Parent, Shift, Block, Declaration, Program}
+use Rattle.psy_tree.specs.Grammar.{Numbered, named, numeral, word, sign, type_of, Start, FunctionLocal, AgentLocal, Many, Further, Params, Parent, Shift, Block, Declaration, Program}
 use Rattle.psy_tree.specs.Grammar as grammar
 use Rattle.psy_parse.specs.Reading.{◌>>=◌, Reads, stuck, name_at, start_at, array_at, scalar_at, local_at, locals_at, param_at, further_at, params_at, parent_at, shift_at, clock_at, temporal_at, input_at, stream_at, function_at, agent_at, declaration_at, program_at, is_end, quantum_at, text_at}
 use Rattle.psy_parse.proofs.Steps.{Front, through, Anything, Whatever, Ends, Step, Part, Listed, listed, nothing_listed, one_listed, IsText, text, done_step, stuck_step, out_of_turns, same_step, bind_step, last_step, end_step}
-use Rattle.psy_parse.proofs.Heads.{sign_step, word_step, number_step, name_step, given_sign, given_word}
+use Rattle.psy_parse.proofs.Heads.{TypeWord, sign_step, word_step, number_step, name_step, given_sign, given_word, given_type}
 use Rattle.psy_parse.proofs.StmtSteps.{Optional, without, with_number, optional_part, block_part}
 
 start_part : (enough : ℕ) → Part (Whatever Start) Anything 1 enough start_at start_at
@@ -30,36 +31,42 @@ abbrev OneLocal : Bool → List Numbered → Local → List Numbered → Type 0
 OneLocal false = FunctionLocal
 OneLocal true = AgentLocal
 
--- A local behind its first word
-abbrev BehindInt : Bool → Front → Local → Type 0
-BehindInt arrays mid x = (n : ℕ) (rest : List Numbered) → OneLocal arrays (word n words.Int ∷ mid rest) x rest
+-- A local behind a word that names its type
+abbrev BehindType : Bool → Width → Front → Local → Type 0
+BehindType arrays width mid x = (t : TypeWord) → t.width ≡ width → (rest : List Numbered) → OneLocal arrays (word t.number t.word_of ∷ mid rest) x rest
 
-module _ (enough : ℕ) (pre : Front) {ts : List Numbered} {other : Reads Local} where
-  scalar_steps : (arrays : Bool) → Ends pre (BehindInt arrays) → ((ts rest : List Numbered) (l : Local) → FunctionLocal ts l rest → OneLocal arrays ts l rest)
-      → (x : Name) → Step pre (BehindInt arrays) Anything ts other 1 enough (λ us. named x ∷ us) 1 Anything (scalar_at x) (scalar_at x)
+-- Its word names that type
+names_it : (t : TypeWord) (width : Width) → t.width ≡ width → type_of t.word_of ≡ Some width
+names_it t width e = t.is ∙ ap (λ (v : Width). Some v) e
+
+module _ (enough : ℕ) (pre : Front) {ts : List Numbered} {other : Reads Local} (width : Width) where
+  scalar_steps : (arrays : Bool) → Ends pre (BehindType arrays width) → ((ts rest : List Numbered) (l : Local) → FunctionLocal ts l rest → OneLocal arrays ts l rest)
+      → (x : Name) → Step pre (BehindType arrays width) Anything ts other 1 enough (λ us. named x ∷ us) 1 Anything (scalar_at width x) (scalar_at width x)
   unfolding scalar_at
   scalar_steps arrays ends one x =
-      sign_step _ _ _ (λ _. bind_step _ _ (start_part enough) (omega arith) (λ _ i is. sign_step _ _ _ (λ _. done_step ends (omega arith) (λ us _. tt) (λ n rest. one _ _ _ (grammar.FunctionLocal.scalar (is _))))))
+      sign_step _ _ _ (λ _. bind_step _ _ (start_part enough) (omega arith) (λ _ i is. sign_step _ _ _ (λ _.
+      done_step ends (omega arith) (λ us _. tt) (λ t e rest. one _ _ _ (grammar.FunctionLocal.scalar (names_it t width e) (is _))))))
 
-  array_steps : Ends pre (BehindInt true) → (x : Name) (m : ℕ) → Step pre (BehindInt true) Anything ts other 1 enough (λ us. named x ∷ sign m signs.OpenSquare ∷ us) 2 Anything (array_at x) (array_at x)
+  array_steps : Ends pre (BehindType true width) → (x : Name) (m : ℕ)
+      → Step pre (BehindType true width) Anything ts other 1 enough (λ us. named x ∷ sign m signs.OpenSquare ∷ us) 2 Anything (array_at width x) (array_at width x)
   unfolding array_at
   array_steps ends x m =
-      number_step _ _ (λ k. sign_step _ _ _ (λ _. sign_step _ _ _ (λ _. done_step ends (omega arith) (λ us _. tt) (λ n rest. grammar.AgentLocal.array))))
+      number_step _ _ (λ k. sign_step _ _ _ (λ _. sign_step _ _ _ (λ _. done_step ends (omega arith) (λ us _. tt) (λ t e rest. grammar.AgentLocal.array (names_it t width e)))))
 
-local_part : (arrays : Bool) (enough : ℕ) → Part (BehindInt arrays) Anything 1 enough (local_at arrays) (local_at arrays)
+local_part : (arrays : Bool) (width : Width) (enough : ℕ) → Part (BehindType arrays width) Anything 1 enough (local_at arrays width) (local_at arrays width)
 unfolding local_at
-local_part false enough pre ends ts = name_step _ _ (λ x. scalar_steps enough pre false ends (λ _ _ _ l. l) x)
-local_part true enough pre ends ts =
-    name_step _ _ (λ x. given_sign _ _ _ _ _ (λ m. array_steps enough pre ends x m) (scalar_steps enough pre true ends (λ _ _ _ l. grammar.AgentLocal.variable l) x))
+local_part false width enough pre ends ts = name_step _ _ (λ x. scalar_steps enough pre width false ends (λ _ _ _ l. l) x)
+local_part true width enough pre ends ts =
+    name_step _ _ (λ x. given_sign _ _ _ _ _ (λ m. array_steps enough pre width ends x m) (scalar_steps enough pre width true ends (λ _ _ _ l. grammar.AgentLocal.variable l) x))
 
 locals_parts : (arrays : Bool) (n m : ℕ) → n ≤ m → (front : List Local) → Part (Listed (Whatever (Many (OneLocal arrays))) front) Anything 0 n (locals_at arrays n front) (locals_at arrays m front)
 unfolding locals_at
 locals_parts arrays zero m le front pre ends ts = out_of_turns (ends (λ us. us) front (nothing_listed front (λ rest. grammar.Many.none))) (omega arith)
 locals_parts arrays (suc n) zero le front pre ends ts = absurd (omega arith)
 locals_parts arrays (suc n) (suc m) le front pre ends ts =
-    given_word _ _ _ _ _ (λ k. bind_step _ _ (local_part arrays (suc n)) (omega arith) (λ one x is.
+    given_type _ _ _ _ (λ t. bind_step _ _ (local_part arrays t.width (suc n)) (omega arith) (λ one x is.
     last_step ends (locals_parts arrays n m (omega arith) (front ++ x ∷ [])) (omega arith) (omega arith) (λ us _. tt)
-    (λ _ all l. one_listed front x (λ us. word k words.Int ∷ one us) (λ others o rest. grammar.Many.more (is k _) (o rest)) l)))
+    (λ _ all l. one_listed front x (λ us. word t.number t.word_of ∷ one us) (λ others o rest. grammar.Many.more (is t refl _) (o rest)) l)))
     (done_step ends (omega arith) (λ us _. tt) (nothing_listed front (λ rest. grammar.Many.none)))
 
 all_locals : (arrays : Bool) {mid : Front} {all : List Local} → Listed (Whatever (Many (OneLocal arrays))) [] mid all → Whatever (Many (OneLocal arrays)) mid all

@@ -4,6 +4,7 @@ use Rattle.std.specs.Prelude.{if◌then◌else◌}
 use denote.Enum.Bare.{sameb}
 use Rattle.psy_arith.specs.declared.operators.Op1.{Op1}
 use Rattle.psy_arith.specs.declared.operators.Op2.{Op2}
+use Rattle.psy_arith.specs.declared.width.Width.{Width}
 use Rattle.psy_tree.specs.declared.token.Kind.TheVariants as kinds
 use Rattle.psy_tree.specs.declared.token.Word.{Word}
 use Rattle.psy_tree.specs.declared.token.Word.TheVariants as words
@@ -22,8 +23,8 @@ use Rattle.psy_tree.specs.declared.raw.Local.TheVariants.{Scalar, Array}
 use Rattle.psy_tree.specs.declared.raw.RawStmt.{RawStmt}
 use Rattle.psy_tree.specs.declared.raw.RawStmt.TheVariants.{Set, SetCell, If, While, Send, Advance, Return}
 use Rattle.psy_tree.specs.declared.raw.RawExpr.{RawExpr}
-use Rattle.psy_tree.specs.declared.raw.RawExpr.TheVariants.{Number, Var, Cell, Past, Ready, Take, Unary, Binary, Call}
-use Rattle.psy_tree.specs.Grammar.{Numbered, numbered, unary_of, binary_of}
+use Rattle.psy_tree.specs.declared.raw.RawExpr.TheVariants.{Number, Var, Cell, Past, Ready, Take, Unary, Binary, Call, Cast}
+use Rattle.psy_tree.specs.Grammar.{Numbered, numbered, type_of, unary_of, binary_of}
 use Rattle.psy_parse.specs.declared.cursor.Cursor.{Cursor}
 use Rattle.psy_parse.specs.declared.fault.Failure.{Failure}
 use Rattle.psy_parse.specs.declared.fault.Failure.TheVariants as faults
@@ -104,6 +105,11 @@ word_at w ts = or_stuck ts (after_word w ts)
 unfoldable pub sign_at : Sign → List Numbered → Result (List Numbered) ℕ
 sign_at s ts = or_stuck ts (after_sign s ts)
 
+-- The type that the word at the front names and the tokens behind it, if one of those words stands there
+unfoldable pub after_type : List Numbered → Option (Width × List Numbered)
+after_type ((n, kinds.Word w) ∷ ts) = given (type_of w) (λ width. Some (width, ts)) None
+after_type _ = None
+
 -- The operator before an operand and the tokens behind it, if one stands at the front
 unfoldable pub unary_at_front : List Numbered → Option (Op1 × List Numbered)
 unary_at_front ((n, kinds.Sign s) ∷ ts) = given (unary_of s) (λ op. Some (op, ts)) None
@@ -147,6 +153,14 @@ past_at n ts = do
   ws ← sign_at signs.CloseRound k.1
   Ok (Past n x.0 k.0, ws)
 
+-- `TYPE(E)` behind its first word
+unfoldable pub cast_at : Reads RawExpr → Width → Reads RawExpr
+cast_at expr width ts = do
+  us ← sign_at signs.OpenRound ts
+  e ← expr us
+  vs ← sign_at signs.CloseRound e.1
+  Ok (Cast width e.0, vs)
+
 -- `E, E)`: the arguments of a call, of which there may be none, and the closing bracket
 unfoldable pub args_at : Reads RawExpr → (List RawExpr → Reads (List RawExpr)) → Reads (List RawExpr)
 args_at expr others ts =
@@ -160,15 +174,16 @@ behind_name_at expr others x ts =
     (given (after_sign signs.OpenRound ts) (λ us. args_at expr others us >>= λ es. Ok (Call x es.0, es.1))
     (Ok (Var x, ts)))
 
--- An operand with no operators before it: `(E)`, `past`, `ready`, `take`, a number, or what begins with a name
+-- An operand with no operators before it: `(E)`, a cast, `past`, `ready`, `take`, a number, or what begins with a name
 unfoldable pub primary_at : Reads RawExpr → (List RawExpr → Reads (List RawExpr)) → Reads RawExpr
 primary_at expr others ts =
     given (after_sign signs.OpenRound ts) (λ us. expr us >>= λ e. sign_at signs.CloseRound e.1 >>= λ vs. Ok (e.0, vs))
+    (given (after_type ts) (λ t. cast_at expr t.0 t.1)
     (given (after_word words.Past ts) (λ w. past_at w.0 w.1)
     (given (after_word words.Ready ts) (λ w. in_brackets_at w.1 >>= λ x. Ok (Ready w.0 x.0, x.1))
     (given (after_word words.Take ts) (λ w. in_brackets_at w.1 >>= λ x. Ok (Take w.0 x.0, x.1))
     (given (after_number ts) (λ k. Ok (Number k.0, k.1))
-    (name_at ts >>= λ x. behind_name_at expr others x.0 x.1)))))
+    (name_at ts >>= λ x. behind_name_at expr others x.0 x.1))))))
 
 -- An operand with the operators before it
 unfoldable pub operand_at : (ℕ → Reads RawExpr) → (List RawExpr → Reads (List RawExpr)) → Reads RawExpr
@@ -299,33 +314,33 @@ start_at ts =
     given (after_sign signs.Minus ts) (λ us. number_at us >>= λ k. Ok (record { minus = true; value = k.0 }, k.1))
     (number_at ts >>= λ k. Ok (record { minus = false; value = k.0 }, k.1))
 
--- `int NAME[N];` behind its opening bracket
-unfoldable pub array_at : Name → Reads Local
-array_at x ts = do
+-- `TYPE NAME[N];` behind its opening bracket
+unfoldable pub array_at : Width → Name → Reads Local
+array_at width x ts = do
   k ← number_at ts
   us ← sign_at signs.CloseSquare k.1
   vs ← sign_at signs.Semicolon us
-  Ok (Array x k.0, vs)
+  Ok (Array width x k.0, vs)
 
--- `int NAME = FIRST;` behind its name
-unfoldable pub scalar_at : Name → Reads Local
-scalar_at x ts = do
+-- `TYPE NAME = FIRST;` behind its name
+unfoldable pub scalar_at : Width → Name → Reads Local
+scalar_at width x ts = do
   us ← sign_at signs.Assign ts
   i ← start_at us
   vs ← sign_at signs.Semicolon i.1
-  Ok (Scalar x i.0, vs)
+  Ok (Scalar width x i.0, vs)
 
--- A local behind its first word
-unfoldable pub local_at : Bool → Reads Local
-local_at arrays ts = do
+-- A local behind its first word, which names its type
+unfoldable pub local_at : Bool → Width → Reads Local
+local_at arrays width ts = do
   x ← name_at ts
-  given (if arrays then after_sign signs.OpenSquare x.1 else None) (λ us. array_at x.0 us) (scalar_at x.0 x.1)
+  given (if arrays then after_sign signs.OpenSquare x.1 else None) (λ us. array_at width x.0 us) (scalar_at width x.0 x.1)
 
 -- The locals behind these
 unfoldable pub locals_at : Bool → ℕ → List Local → Reads (List Local)
 locals_at arrays zero front ts = stuck ts
 locals_at arrays (suc n) front ts =
-    given (after_word words.Int ts) (λ w. local_at arrays w.1 >>= λ x. locals_at arrays n (front ++ x.0 ∷ []) x.1)
+    given (after_type ts) (λ t. local_at arrays t.0 t.1 >>= λ x. locals_at arrays n (front ++ x.0 ∷ []) x.1)
     (Ok (front, ts))
 
 -- `int NAME`, a parameter

@@ -1,12 +1,14 @@
 //! How expressions are read.
-ghost use Rattle.psy_parse.specs.Reading.{Gives, left, in_brackets_at, past_at, args_at, behind_name_at, primary_at, operand_at, expr_at, climb_at, others_at};
+ghost use Rattle.psy_parse.specs.Reading.{Gives, left, in_brackets_at, past_at, cast_at, args_at, behind_name_at, primary_at, operand_at, expr_at, climb_at};
+ghost use Rattle.psy_parse.specs.Reading.{others_at};
 
 use crate::cursor::Cursor;
 use crate::fault::Failure;
 use crate::reader::{
-    after_number, after_sign, after_word, binary_operator, name, number, sign, stuck,
+    after_number, after_sign, after_type, after_word, binary_operator, name, number, sign, stuck,
     unary_operator,
 };
+use psy_arith::Width;
 use psy_base::{Boxed, Items};
 use psy_tree::{Name, RawExpr, Sign, Word};
 use std::alloc::Global;
@@ -90,6 +92,9 @@ fn primary<'a>(
         let rest = sign(rest, Sign::CloseRound)?;
         return Ok((inner, rest));
     }
+    if let Some((width, rest)) = after_type(cursor) {
+        return cast(alloc, depth, width, rest);
+    }
     if let Some((token, rest)) = after_word(cursor, Word::Past) {
         return past(alloc, token, rest);
     }
@@ -106,6 +111,23 @@ fn primary<'a>(
     }
     let (name, rest) = name(alloc, cursor)?;
     behind_name(alloc, depth, name, rest)
+}
+
+/// What stands behind the word of a type that an expression is cast to.
+#[cycle(expr)]
+#[tactic(auto, unfolding(crate::specs::Reading::cast_at))]
+fn cast<'a>(
+    alloc: Global,
+    depth: usize,
+    width: Width,
+    cursor: Cursor<'a>,
+) -> Result<(RawExpr, Cursor<'a>), Failure>
+    ensures { Gives (λ x. (x.0, left x.1)) result (cast_at (expr_at depth 10) width (left cursor.entry)) }
+{
+    let rest = sign(cursor, Sign::OpenRound)?;
+    let (inner, rest) = expr(alloc, depth, LEVELS, rest)?;
+    let rest = sign(rest, Sign::CloseRound)?;
+    Ok((RawExpr::Cast(width, Boxed::new(alloc, inner)?), rest))
 }
 
 /// A variable, a cell of an array or a call, by what stands behind the name.

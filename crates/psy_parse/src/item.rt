@@ -7,9 +7,10 @@ ghost use Rattle.psy_parse.specs.Reading.{program_at, quantum_at, text_at};
 use crate::cursor::Cursor;
 use crate::fault::Failure;
 use crate::reader::{
-    after_sign, after_word, at_end, name, number, optional_number, sign, stuck, word,
+    after_sign, after_type, after_word, at_end, name, number, optional_number, sign, stuck, word,
 };
 use crate::stmt::block;
+use psy_arith::Width;
 use psy_base::Items;
 use psy_tree::{Init, Item, Lit, Local, Name, Raw, Sign, Word};
 use std::alloc::Global;
@@ -311,54 +312,55 @@ fn locals<'a>(
     let mut rest = cursor;
     while depth > 0 {
         depth -= 1;
-        let Some((_, after)) = after_word(rest, Word::Int) else {
+        let Some((width, after)) = after_type(rest) else {
             return Ok((locals, rest));
         };
-        let (next, after) = local(alloc, arrays, after)?;
+        let (next, after) = local(alloc, arrays, width, after)?;
         locals.push(next)?;
         rest = after;
     }
     Err(stuck(rest))
 }
 
-/// A local, behind the word `int`.
+/// A local, behind the word of its type.
 #[tactic(auto, unfolding(crate::specs::Reading::local_at))]
 fn local<'a>(
     alloc: Global,
     arrays: bool,
+    width: Width,
     cursor: Cursor<'a>,
 ) -> Result<(Local, Cursor<'a>), Failure>
-    ensures { Gives (λ x. (x.0, left x.1)) result (local_at arrays (left cursor.entry)) }
+    ensures { Gives (λ x. (x.0, left x.1)) result (local_at arrays width (left cursor.entry)) }
 {
     let (name, rest) = name(alloc, cursor)?;
     if arrays {
         if let Some(rest) = after_sign(rest, Sign::OpenSquare) {
-            return array(name, rest);
+            return array(width, name, rest);
         }
     }
-    scalar(name, rest)
+    scalar(width, name, rest)
 }
 
 /// The rest of an array's declaration, behind its opening bracket.
 #[tactic(auto, unfolding(crate::specs::Reading::array_at))]
-fn array<'a>(name: Name, cursor: Cursor<'a>) -> Result<(Local, Cursor<'a>), Failure>
-    ensures { Gives (λ x. (x.0, left x.1)) result (array_at name (left cursor.entry)) }
+fn array<'a>(width: Width, name: Name, cursor: Cursor<'a>) -> Result<(Local, Cursor<'a>), Failure>
+    ensures { Gives (λ x. (x.0, left x.1)) result (array_at width name (left cursor.entry)) }
 {
     let (cells, rest) = number(cursor)?;
     let rest = sign(rest, Sign::CloseSquare)?;
     let rest = sign(rest, Sign::Semicolon)?;
-    Ok((Local::Array(name, cells), rest))
+    Ok((Local::Array(width, name, cells), rest))
 }
 
 /// The rest of a variable's declaration.
 #[tactic(auto, unfolding(crate::specs::Reading::scalar_at))]
-fn scalar<'a>(name: Name, cursor: Cursor<'a>) -> Result<(Local, Cursor<'a>), Failure>
-    ensures { Gives (λ x. (x.0, left x.1)) result (scalar_at name (left cursor.entry)) }
+fn scalar<'a>(width: Width, name: Name, cursor: Cursor<'a>) -> Result<(Local, Cursor<'a>), Failure>
+    ensures { Gives (λ x. (x.0, left x.1)) result (scalar_at width name (left cursor.entry)) }
 {
     let rest = sign(cursor, Sign::Assign)?;
     let (init, rest) = start(rest)?;
     let rest = sign(rest, Sign::Semicolon)?;
-    Ok((Local::Scalar(name, init), rest))
+    Ok((Local::Scalar(width, name, init), rest))
 }
 
 /// A first value.

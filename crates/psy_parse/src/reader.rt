@@ -1,12 +1,12 @@
 //! How single tokens are read.
 ghost use Rattle.std.specs.Prelude.{◌≡◌, [], ◌∷◌, length, MatchOption};
 ghost use Rattle.psy_parse.specs.Reading.{Gives, Finds, left, name_at, number_at, word_at, sign_at, after_word, after_sign, after_number};
-ghost use Rattle.psy_parse.specs.Reading.{unary_at_front, binary_at_front, is_end, optional_at};
-ghost use Rattle.psy_tree.specs.Grammar.{unary_of, binary_of};
+ghost use Rattle.psy_parse.specs.Reading.{after_type, unary_at_front, binary_at_front, is_end, optional_at};
+ghost use Rattle.psy_tree.specs.Grammar.{type_of, unary_of, binary_of};
 
 use crate::cursor::Cursor;
 use crate::fault::Failure;
-use psy_arith::{Op1, Op2};
+use psy_arith::{Op1, Op2, Width};
 use psy_base::Text;
 use psy_tree::{Kind, Lit, Name, Sign, Word};
 use std::alloc::Global;
@@ -125,6 +125,21 @@ pub fn sign<'a>(cursor: Cursor<'a>, sign: Sign) -> Result<Cursor<'a>, Failure>
     after_sign(cursor, sign).ok_or(stuck(cursor))
 }
 
+/// The type that the word names which stands here, if one does, and what is behind it.
+#[tactic(auto, unfolding(crate::specs::Reading::after_type))]
+pub fn after_type<'a>(cursor: Cursor<'a>) -> Option<(Width, Cursor<'a>)>
+    ensures { Finds (λ x. (x.0, left x.1)) result (after_type (left cursor.entry)) }
+{
+    let Some((kind, rest)) = first(cursor) else {
+        return None;
+    };
+    let Kind::Word(here) = kind else {
+        return None;
+    };
+    let width = type_of(*here)?;
+    Some((width, rest))
+}
+
 /// The operator before an operand that stands here, if one does, and what is behind it.
 #[tactic(auto, unfolding(crate::specs::Reading::unary_at_front))]
 pub fn unary_operator<'a>(cursor: Cursor<'a>) -> Option<(Op1, Cursor<'a>)>
@@ -157,6 +172,19 @@ pub fn binary_operator<'a>(cursor: Cursor<'a>, level: u32) -> Option<(u32, Op2, 
         return None;
     }
     Some((own, op, rest))
+}
+
+/// The type that this word names.
+pub fn type_of(word: Word) -> Option<Width>
+    ensures { result ≡ type_of word }
+{
+    match word {
+        Word::Int | Word::Int32 => Some(Width::W32),
+        Word::Int8 => Some(Width::W8),
+        Word::Int16 => Some(Width::W16),
+        Word::Int64 => Some(Width::W64),
+        _ => None,
+    }
 }
 
 /// The operator before an operand that this sign is.

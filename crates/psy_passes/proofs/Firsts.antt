@@ -3,7 +3,7 @@ use Rattle.std.proofs.Common.{◌≡◌, ◌≢◌, ◌∙◌, refl, sym, ap, su
 use Rattle.std.specs.List.{position, position_from, list_all}
 use Rattle.std.proofs.lemmas.Bool.{false≢true}
 use Rattle.std.proofs.lemmas.Iterator.Adapters.{position_from-zero}
-use Rattle.psy_passes.specs.Names.{with_next}
+use Rattle.psy_passes.specs.NameChecks.{with_next}
 
 -- The first place, where one more element comes
 abbrev with_end : Option ℕ → Bool → ℕ → Option ℕ

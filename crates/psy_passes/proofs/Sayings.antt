@@ -8,12 +8,12 @@ use Rattle.psy_log.specs.declared.note.Note.{Note}
 use Rattle.psy_log.specs.declared.note.Note.TheVariants as note
 use Rattle.psy_log.specs.Forms.{says}
 use Rattle.psy_log.specs.Table.{Said, long, name, line}
-use Rattle.psy_listed.specs.Listing.{added_agent, added_stream, added_variable, agents_in, streams_in, variables_in}
-use Rattle.psy_listed.specs.Names.{with_name}
-use Rattle.psy_listed.specs.Tables.{is_among}
-use Rattle.psy_listed.specs.declared.listed.Listed.{Listed}
-use Rattle.psy_scan.specs.Runs.{tail_line, tail_of}
-use Rattle.psy_passes.specs.Names.{first_other, kept, undated}
+use Rattle.psy_passes.specs.Listing.{added_agent, added_stream, added_variable, agents_in, streams_in, variables_in}
+use Rattle.psy_passes.specs.Names.{with_name}
+use Rattle.psy_passes.specs.Tables.{is_among}
+use Rattle.psy_passes.specs.declared.listed.Listed.{Listed}
+use Rattle.psy_passes.specs.Runs.{tail_line, tail_of}
+use Rattle.psy_passes.specs.NameChecks.{first_other, kept, undated}
 use Rattle.psy_passes.proofs.Firsts.{position_map}
 
 -- ---- the names of a summary

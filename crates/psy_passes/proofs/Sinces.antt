@@ -3,14 +3,14 @@ use Rattle.std.proofs.Common.{◌≡◌, ◌≢◌, ◌∙◌, refl, ap, ℕ, Li
 use Rattle.psy_door.specs.Files.{Files}
 use Rattle.psy_log.specs.declared.note.Note.{Note}
 use Rattle.psy_notes.specs.Texts.{text_of}
-use Rattle.psy_listed.specs.Logs.{IsLog}
-use Rattle.psy_scan.specs.declared.fault.ScanFault.{ScanFault}
-use Rattle.psy_scan.specs.declared.fault.ScanFault.TheVariants as scan
-use Rattle.psy_scan.specs.Runs.{IsRun, tail_of}
+use Rattle.psy_passes.specs.Logs.{IsLog}
+use Rattle.psy_passes.specs.declared.scan_fault.ScanFault.{ScanFault}
+use Rattle.psy_passes.specs.declared.scan_fault.ScanFault.TheVariants as scan
+use Rattle.psy_passes.specs.Runs.{IsRun, tail_of}
 use Rattle.psy_passes.specs.declared.fault.PassFault.{PassFault}
 use Rattle.psy_passes.specs.declared.fault.PassFault.TheVariants as fault
 use Rattle.psy_passes.specs.declared.strict.Strict.{Strict}
-use Rattle.psy_passes.specs.Names.{AreNamesOf, RefusesOther, TellsListed}
+use Rattle.psy_passes.specs.NameChecks.{AreNamesOf, RefusesOther, TellsListed}
 use Rattle.psy_passes.specs.Outcomes.{IsOfNames, IsOfTelling, since}
 use Rattle.psy_passes.proofs.Surveyed.{ChangedSince, FoundUnlisted, HaltsAt, changed_line, changed_many, changed_name, unrefused}
 use Rattle.psy_passes.proofs.Twice.{NotBoth, OneFront}

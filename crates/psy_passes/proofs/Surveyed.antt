@@ -10,18 +10,18 @@ use Rattle.psy_log.specs.Forms.{line_of}
 use Rattle.psy_notes.specs.declared.stand.Stand.{Stand}
 use Rattle.psy_notes.specs.Stands.{run_begins}
 use Rattle.psy_notes.specs.Texts.{IsText, Leads, text_of}
-use Rattle.psy_listed.specs.declared.listed.Listed.{Listed}
-use Rattle.psy_listed.specs.Listing.{agents_in, first_unlisted, streams_in, variables_in}
-use Rattle.psy_listed.specs.Logs.{IsLog}
-use Rattle.psy_listed.specs.Tables.{is_among}
-use Rattle.psy_scan.specs.declared.fault.ScanFault.{ScanFault}
-use Rattle.psy_scan.specs.declared.fault.ScanFault.TheVariants as fault
-use Rattle.psy_scan.specs.Runs.{Halts, IsRun, tail_of}
-use Rattle.psy_scan.specs.Telling.{Told, told_nothing}
-use Rattle.psy_scan.proofs.lemmas.Growth.{front_nothing, front_whole}
-use Rattle.psy_passes.specs.declared.names.NameCheck.{NameCheck}
+use Rattle.psy_passes.specs.declared.listed.Listed.{Listed}
+use Rattle.psy_passes.specs.Listing.{agents_in, first_unlisted, streams_in, variables_in}
+use Rattle.psy_passes.specs.Logs.{IsLog}
+use Rattle.psy_passes.specs.Tables.{is_among}
+use Rattle.psy_passes.specs.declared.scan_fault.ScanFault.{ScanFault}
+use Rattle.psy_passes.specs.declared.scan_fault.ScanFault.TheVariants as fault
+use Rattle.psy_passes.specs.Runs.{Halts, IsRun, tail_of}
+use Rattle.psy_passes.specs.Telling.{Told, told_nothing}
+use Rattle.psy_passes.proofs.lemmas.Growth.{front_nothing, front_whole}
+use Rattle.psy_passes.specs.declared.name_check.NameCheck.{NameCheck}
 use Rattle.psy_passes.specs.declared.strict.Strict.{Strict}
-use Rattle.psy_passes.specs.Names.{AreNamesOf, Looks, RefusesOther, TellsListed, first_other}
+use Rattle.psy_passes.specs.NameChecks.{AreNamesOf, Looks, RefusesOther, TellsListed, first_other}
 use Rattle.psy_passes.specs.Outcomes.{IsFileText}
 use Rattle.psy_passes.proofs.Firsts.{none_mapped}
 use Rattle.psy_passes.proofs.Tellers.{names_found, strictly_told}

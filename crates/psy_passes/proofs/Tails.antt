@@ -11,9 +11,9 @@ use Rattle.psy_notes.specs.declared.stand.Stand.{Stand}
 use Rattle.psy_notes.specs.declared.stand.Stand.TheVariants as stand
 use Rattle.psy_notes.specs.Stands.{behind_agents, behind_dated, behind_streams, behind_variables, may_be_dated, may_end, next_stand, run_begins, where_so}
 use Rattle.psy_notes.specs.Texts.{IsText, Leads, Steps, text_of}
-use Rattle.psy_listed.specs.Listing.{added_agent, added_stream, added_variable, agents_in, streams_in, variables_in}
-use Rattle.psy_scan.specs.Runs.{tail_line, tail_of}
-use Rattle.psy_passes.specs.Names.{kept, undated}
+use Rattle.psy_passes.specs.Listing.{added_agent, added_stream, added_variable, agents_in, streams_in, variables_in}
+use Rattle.psy_passes.specs.Runs.{tail_line, tail_of}
+use Rattle.psy_passes.specs.NameChecks.{kept, undated}
 use Rattle.psy_passes.proofs.Firsts.{none_some}
 
 -- The lines of the notes without a date

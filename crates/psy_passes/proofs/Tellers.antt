@@ -1,13 +1,13 @@
 -- What tellers have told of notes in a row.
 use Rattle.std.proofs.Common.{◌≡◌, ◌∙◌, refl, sym, ap, subst, ℕ, ◌+◌, ◌-◌, ◌^◌, ◌≤◌, min, Bool, true, List, [], ◌∷◌, ◌++◌, length, Option, None, option_map, length-append, arith}
 use Rattle.psy_log.specs.declared.note.Note.{Note}
-use Rattle.psy_listed.specs.declared.listed.Listed.{Listed}
-use Rattle.psy_listed.specs.Tables.{is_among}
-use Rattle.psy_scan.specs.declared.reading.TheConstants.{LINES}
-use Rattle.psy_scan.specs.Telling.{Told, told_nothing, told_more}
-use Rattle.psy_passes.specs.declared.names.NameCheck.{NameCheck}
+use Rattle.psy_passes.specs.declared.listed.Listed.{Listed}
+use Rattle.psy_passes.specs.Tables.{is_among}
+use Rattle.psy_passes.specs.declared.reading.TheConstants.{LINES}
+use Rattle.psy_passes.specs.Telling.{Told, told_nothing, told_more}
+use Rattle.psy_passes.specs.declared.name_check.NameCheck.{NameCheck}
 use Rattle.psy_passes.specs.declared.strict.Strict.{Strict}
-use Rattle.psy_passes.specs.Names.{Looks, TellsListed, first_other, with_next}
+use Rattle.psy_passes.specs.NameChecks.{Looks, TellsListed, first_other, with_next}
 use Rattle.psy_passes.proofs.Firsts.{all_more, number_more}
 
 -- What was found of the names of notes

@@ -13,15 +13,15 @@ use Rattle.psy_log.specs.Table.{Said}
 use Rattle.psy_notes.specs.declared.stand.Stand.{Stand}
 use Rattle.psy_notes.specs.Stands.{run_begins}
 use Rattle.psy_notes.specs.Texts.{BreaksAt, IsText, Leads, Steps, text_of}
-use Rattle.psy_listed.specs.declared.listed.Listed.{Listed}
-use Rattle.psy_listed.specs.Listing.{agents_in, streams_in, variables_in}
-use Rattle.psy_listed.specs.Tables.{is_among}
-use Rattle.psy_scan.specs.declared.fault.ScanFault.{ScanFault}
-use Rattle.psy_scan.specs.declared.fault.ScanFault.TheVariants as fault
-use Rattle.psy_scan.specs.declared.reading.TheConstants.{LINES}
-use Rattle.psy_scan.specs.Runs.{Halts, IsRun, tail_of}
-use Rattle.psy_scan.proofs.lemmas.Notes.{Leads-more, text_of-more}
-use Rattle.psy_passes.specs.Names.{AreNamesOf, EndAs, IsTail, first_other, undated}
+use Rattle.psy_passes.specs.declared.listed.Listed.{Listed}
+use Rattle.psy_passes.specs.Listing.{agents_in, streams_in, variables_in}
+use Rattle.psy_passes.specs.Tables.{is_among}
+use Rattle.psy_passes.specs.declared.scan_fault.ScanFault.{ScanFault}
+use Rattle.psy_passes.specs.declared.scan_fault.ScanFault.TheVariants as fault
+use Rattle.psy_passes.specs.declared.reading.TheConstants.{LINES}
+use Rattle.psy_passes.specs.Runs.{Halts, IsRun, tail_of}
+use Rattle.psy_passes.proofs.lemmas.Notes.{Leads-more, text_of-more}
+use Rattle.psy_passes.specs.NameChecks.{AreNamesOf, EndAs, IsTail, first_other, undated}
 use Rattle.psy_passes.specs.Outcomes.{IsFileText, IsMany}
 use Rattle.psy_passes.proofs.Firsts.{passes_where_none}
 use Rattle.psy_passes.proofs.Sayings.{agents_same, among_by, among_step, other_by, streams_same, tails_same, undated_same, variables_same}

@@ -5,11 +5,11 @@ use Rattle.psy_log.specs.declared.note.Note.{Note}
 use Rattle.psy_notes.specs.declared.stand.Stand.{Stand}
 use Rattle.psy_notes.specs.Stands.{run_begins}
 use Rattle.psy_notes.specs.Texts.{Leads, text_of}
-use Rattle.psy_listed.specs.Logs.{IsLog}
-use Rattle.psy_scan.specs.declared.reading.TheConstants.{LINES}
-use Rattle.psy_scan.specs.Runs.{IsRun}
-use Rattle.psy_scan.specs.declared.fault.ScanFault.{ScanFault}
-use Rattle.psy_scan.specs.declared.fault.ScanFault.TheVariants as scan
+use Rattle.psy_passes.specs.Logs.{IsLog}
+use Rattle.psy_passes.specs.declared.reading.TheConstants.{LINES}
+use Rattle.psy_passes.specs.Runs.{IsRun}
+use Rattle.psy_passes.specs.declared.scan_fault.ScanFault.{ScanFault}
+use Rattle.psy_passes.specs.declared.scan_fault.ScanFault.TheVariants as scan
 use Rattle.psy_passes.specs.declared.fault.PassFault.{PassFault}
 use Rattle.psy_passes.specs.declared.fault.PassFault.TheVariants as fault
 

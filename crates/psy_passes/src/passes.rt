@@ -6,27 +6,26 @@ ghost use Rattle.psy_log.specs.declared.note.Note.{Note as Said};
 ghost use Rattle.psy_notes.specs.declared.stand.Stand.{Stand};
 ghost use Rattle.psy_notes.specs.Stands.{run_begins};
 ghost use Rattle.psy_notes.specs.Texts.{BreaksAt, Leads, text_of};
-ghost use Rattle.psy_listed.specs.Listing.{first_unlisted};
-ghost use Rattle.psy_listed.specs.Logs.{IsLog};
-ghost use Rattle.psy_scan.specs.Runs.{IsRun, tail_of};
-ghost use Rattle.psy_scan.specs.Telling.{Told};
-ghost use Rattle.psy_passes.specs.Names.{AreNamesOf, EndAs, IsTail};
+ghost use Rattle.psy_passes.specs.Listing.{first_unlisted};
+ghost use Rattle.psy_passes.specs.Logs.{IsLog};
+ghost use Rattle.psy_passes.specs.Runs.{IsRun, tail_of};
+ghost use Rattle.psy_passes.specs.Telling.{Told};
+ghost use Rattle.psy_passes.specs.NameChecks.{AreNamesOf, EndAs, IsTail};
 ghost use Rattle.psy_passes.specs.Outcomes.{IsFileText, IsMany, IsOfForm, IsOfNames, IsOfTelling, since};
 
 use crate::fault::PassFault;
-use crate::names::NameCheck;
+use crate::laws::found_unlisted;
+use crate::name_check::NameCheck;
 use crate::nowhere::Nowhere;
 use crate::silent::Silent;
 use crate::strict::Strict;
+use crate::{Listed, ScanFault, Tell, scan};
 use psy_base::Memory;
 use psy_door::Sink;
-use psy_listed::Listed;
-use psy_listed::laws::found_unlisted;
 use psy_log::{Note, write_all_of};
 use psy_notes::laws::{one_front, one_reading};
 use psy_notes::{TextFault, read_run};
 use psy_reel::Reel;
-use psy_scan::{ScanFault, Tell, scan};
 use std::alloc::Global;
 
 // The lines of the end and of the summary of the run in the file with this name, each of whose lines is in form.

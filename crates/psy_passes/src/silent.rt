@@ -1,8 +1,8 @@
 //! Nothing is told of notes.
 ghost use Rattle.std.specs.Prelude.{◌≡◌, [], ⊤};
 
+use crate::{Tell, TellFault};
 use psy_log::Note;
-use psy_scan::{Tell, TellFault};
 
 /// Tells nothing of any note.
 #[derive(Drop)]

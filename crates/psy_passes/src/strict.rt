@@ -1,9 +1,8 @@
 //! Notes with other names than those listed are refused.
-ghost use Rattle.psy_passes.specs.Names.{RefusesOther, TellsListed};
+ghost use Rattle.psy_passes.specs.NameChecks.{RefusesOther, TellsListed};
 
-use psy_listed::Listed;
+use crate::{Listed, Tell, TellFault};
 use psy_log::Note;
-use psy_scan::{Tell, TellFault};
 
 /// Tells what another tells, and refuses notes with a name that isn't listed.
 #[derive(Drop)]

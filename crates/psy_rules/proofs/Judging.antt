@@ -29,6 +29,14 @@ judged_more f site xs i x l m n h e before here =
     here ∙ ap (judged_all site (f x)) before ∙ sym (judged_all_append site (joined (map f (take i xs))) (f x) l)
     ∙ sym (ap (λ ps. judged_all site ps l) (joined_more f xs i x h e))
 
+-- One more of the things whose places are judged, each of which has one
+pub judged_next : {X : Type 0} (f : X → Place) (site : Site) (xs : List X) (i : ℕ) (x : X) (l m n : Option RuleAt) → i < length xs → get_or xs i x ≡ x →
+    m ≡ judged_all site (map f (take i xs)) l → n ≡ judged site (f x) m → n ≡ judged_all site (map f (take (i + 1) xs)) l
+judged_next f site xs i x l m n h e before here =
+    here ∙ ap (judged site (f x)) before ∙ sym (judged_all_append site (map f (take i xs)) (f x ∷ []) l)
+    ∙ sym (ap (λ ys. judged_all site (map f ys) l) (take_more xs i x h ∙ ap (λ y. take i xs ++ y ∷ []) e)
+    ∙ ap (λ ps. judged_all site ps l) (map-append f (take i xs) (x ∷ [])))
+
 all-append : (bs : List Bool) (b : Bool) → all (bs ++ b ∷ []) ≡ (all bs && b)
 all-append [] true = refl
 all-append [] false = refl

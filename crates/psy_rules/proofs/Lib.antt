@@ -12,3 +12,4 @@ mod Lowering
 mod Counting
 mod Room
 mod Wholes
+mod Paths

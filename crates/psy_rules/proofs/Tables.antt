@@ -11,7 +11,7 @@ use Rattle.psy_tree.specs.declared.raw.Item.{Item}
 use Rattle.psy_tree.specs.declared.raw.Name.{Name}
 use Rattle.psy_tree.specs.declared.reach.Found.{Found}
 use Rattle.psy_tree.specs.declared.reach.Found.TheVariants as found
-use Rattle.psy_tree.specs.Scope.{Entry, SlotName, Site, first_named, item_entries, slot_entries, item_name, own_slots, stands_for, stands_globally}
+use Rattle.psy_tree.specs.Scope.{Entry, SlotName, Site, scalar, first_named, item_entries, slot_entries, item_name, own_slots, stands_for, stands_globally}
 use Rattle.psy_tree.proofs.lemmas.Entries.{item_entries-append, entries_split}
 use Rattle.psy_rules.specs.Finding.{up_to}
 use Rattle.psy_rules.specs.Tables.{StandsFor, added, as_slots}
@@ -210,13 +210,12 @@ stands-items_more items i x table new text h l e t n q =
 
 slots_more : {X : Type 0} (now : X → Name) (names : List X) (i : ℕ) (x : X) → i < length names → get_or names i x ≡ x → slot_entries 0 (as_slots (map now (take (i + 1) names))) ≡ slot_entries 0 (as_slots (map now (take i names))) ++ record { text = (now x).text; found = found.Slot i } ∷ []
 slots_more now names i x h e =
-    let as_slot : Name → SlotName = λ n. record { name = n; array = false } in
     let len1 : length (map now (take i names)) ≡ length (take i names) = length-map (take i names) now in
-    let len2 : length (map as_slot (map now (take i names))) ≡ length (map now (take i names)) = length-map (map now (take i names)) as_slot in
+    let len2 : length (map scalar (map now (take i names))) ≡ length (map now (take i names)) = length-map (map now (take i names)) scalar in
     let len : 0 + length (as_slots (map now (take i names))) ≡ i = omega (arith, length-take i names) in
     ap (λ ns. slot_entries 0 (as_slots (map now ns))) (take_more names i x h ∙ ap (λ y. take i names ++ y ∷ []) e)
     ∙ ap (λ ns. slot_entries 0 (as_slots ns)) (map-append now (take i names) (x ∷ []))
-    ∙ ap (slot_entries 0) (map-append as_slot (map now (take i names)) (now x ∷ []))
+    ∙ ap (slot_entries 0) (map-append scalar (map now (take i names)) (now x ∷ []))
     ∙ slot_entries-append 0 (as_slots (map now (take i names))) (as_slots (now x ∷ []))
     ∙ ap (λ n. slot_entries 0 (as_slots (map now (take i names))) ++ slot_entries n (as_slots (now x ∷ []))) len
 

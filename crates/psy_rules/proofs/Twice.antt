@@ -7,17 +7,14 @@ use Rattle.std.proofs.lemmas.List.{take_more, map-append, length-map, length-tak
 use Rattle.std.proofs.lemmas.List.Folds.{list_any-append}
 use Rattle.std.proofs.lemmas.Bool.{lt-ltb, le-ltb}
 use Rattle.std.proofs.lemmas.Bool.Decides.{leb_tells}
-use Rattle.psy_base.specs.declared.limits.TheConstants.{CELLS}
 use Rattle.psy_clock.specs.declared.clock.Clock.{Clock}
 use Rattle.psy_tree.specs.declared.raw.Name.{Name}
-use Rattle.psy_tree.specs.declared.raw.Local.{Local}
-use Rattle.psy_tree.specs.declared.raw.Local.TheVariants as local
 use Rattle.psy_tree.specs.declared.raw.Item.{Item}
 use Rattle.psy_tree.specs.declared.raw.Item.TheVariants as item
 use Rattle.psy_tree.specs.declared.reach.Found.{Found}
 use Rattle.psy_tree.specs.declared.reach.Found.TheVariants as found
 use Rattle.psy_tree.specs.Scope.{Entry, SlotName, Site, first_named, item_entries, slot_entries, item_name, own_slots, own_item, slots_of, stands_globally}
-use Rattle.psy_tree.specs.Places.{NamesSlot, Ranges, cells_places}
+use Rattle.psy_tree.specs.Places.{NamesSlot}
 use Rattle.psy_tree.specs.Rules.{declares, names_slot, sound_parent, sound_clocks, sound, clock_at_fault, sound_found}
 use Rattle.psy_rules.specs.Finding.{up_to, item_below, slot_below}
 use Rattle.psy_rules.specs.Tables.{StandsFor, HasInner, added}
@@ -136,14 +133,6 @@ clock_same items table known (item.Function name params locals stmts) h = refl
 clock_same items table known (item.Agent name clock processor budget locals body stmts) h = refl
 
 -- ---- loops
-
-cells_places-append : (xs ys : List Local) → cells_places (xs ++ ys) ≡ cells_places xs ++ cells_places ys
-cells_places-append [] ys = refl
-cells_places-append (local.Scalar name init ∷ xs) ys = cells_places-append xs ys
-cells_places-append (local.Array name cells ∷ xs) ys = ap (λ ps. Ranges cells 1 CELLS ∷ ps) (cells_places-append xs ys)
-
-pub cells_more : (xs : List Local) (i : ℕ) (x : Local) → i < length xs → get_or xs i x ≡ x → cells_places (take (i + 1) xs) ≡ cells_places (take i xs) ++ cells_places (x ∷ [])
-cells_more xs i x h e = ap cells_places (take_more xs i x h ∙ ap (λ y. take i xs ++ y ∷ []) e) ∙ cells_places-append (take i xs) (x ∷ [])
 
 name_places-append : (k : ℕ) (xs ys : List Name) → name_places k (xs ++ ys) ≡ name_places k xs ++ name_places (k + length xs) ys
 name_places-append k [] ys = ap (λ n. name_places n ys) (omega arith)

@@ -1,10 +1,10 @@
 -- What tables of names stand for.
-use Rattle.std.specs.Prelude.{◌≡◌, ℕ, Bool, false, if◌then◌else◌, List, [], ◌∷◌, ◌++◌, map, is_some}
+use Rattle.std.specs.Prelude.{◌≡◌, ℕ, Bool, if◌then◌else◌, List, [], ◌∷◌, ◌++◌, map, is_some}
 use Rattle.std.specs.List.{list_any}
 use Rattle.psy_tree.specs.declared.raw.Name.{Name}
 use Rattle.psy_tree.specs.declared.raw.Item.{Item}
 use Rattle.psy_tree.specs.declared.reach.Found.{Found}
-use Rattle.psy_tree.specs.Scope.{Entry, SlotName, first_named, slots_of}
+use Rattle.psy_tree.specs.Scope.{Entry, SlotName, first_named, scalar, slots_of}
 use Rattle.psy_tree.specs.Rules.{names_slot}
 
 -- The table has, for each name, the first of these declarations.
@@ -19,9 +19,9 @@ added table text what = if is_some (first_named text table) then table else tabl
 abbrev pub slot_names : List SlotName → List Name
 slot_names slots = map (λ s. s.name) slots
 
--- As slots that are no arrays
+-- As the slots of parameters
 abbrev pub as_slots : List Name → List SlotName
-as_slots names = map (λ n. record { name = n; array = false }) names
+as_slots names = map scalar names
 
 -- A name stands inside one of these declarations.
 abbrev pub is_inner : List ℕ → List Item → Bool

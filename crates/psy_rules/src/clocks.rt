@@ -7,8 +7,7 @@ ghost use Rattle.psy_tree.specs.Rules as rules;
 ghost use Rattle.psy_rules.specs.Clocks.{parent_clock, clock_of, faulty};
 
 use crate::names::Names;
-use psy_base::limits::PERIOD;
-use psy_clock::{Clock, derive};
+use psy_clock::{Clock, PERIOD, derive};
 use psy_tree::{Found, Item, Lit, Name};
 use sqlite_items::at;
 

@@ -17,8 +17,8 @@ use crate::slots::{slot_names, slot_table};
 use crate::statements::lower_stmts;
 use psy_base::{Items, Memory, Text};
 use psy_tree::{
-    AgentDecl, FunctionDecl, Init, Item, Lit, Local, Name, Point, RawStmt, Slots, StreamDecl,
-    VarDecl,
+    AgentDecl, FunctionDecl, Init, Item, Lit, Local, LocalDecl, Name, Point, RawStmt, Slots,
+    StreamDecl, VarDecl,
 };
 use std::alloc::Global;
 
@@ -167,40 +167,48 @@ pub fn streams(alloc: Global, program: &Program<'_>) -> Result<Items<StreamDecl>
     Ok(streams)
 }
 
-fn local_value(local: &Local) -> i32
-    ensures { result ≡ stands.local_value local.now }
+fn local_decl(local: &Local) -> LocalDecl
+    ensures { result ≡ stands.local_of local.now }
 {
     match local {
-        Local::Scalar(_, init) => first_value(*init),
-        Local::Array(_, _) => 0,
+        Local::Scalar(width, _, init) => LocalDecl {
+            init: first_value(*init),
+            width: *width,
+        },
+        Local::Array(width, _, _) => LocalDecl {
+            init: 0,
+            width: *width,
+        },
     }
 }
 
-fn local_values(alloc: Global, locals: &[Local]) -> Result<Items<i32>, Memory>
-    ensures { IfOk result (λ v. v ≡ map stands.local_value locals.now) }
+fn local_decls(alloc: Global, locals: &[Local]) -> Result<Items<LocalDecl>, Memory>
+    ensures { IfOk result (λ v. v ≡ map stands.local_of locals.now) }
 {
-    let mut values = Items::new(alloc);
+    let mut decls = Items::new(alloc);
     for local in locals {
-        values.push(local_value(local))?;
+        decls.push(local_decl(local))?;
     }
-    Ok(values)
+    Ok(decls)
 }
 
 fn slot(alloc: Global, local: &Local) -> Result<Slots, Memory>
     ensures { IfOk result (λ v. v ≡ stands.slot_of local.now) }
 {
     match local {
-        Local::Scalar(name, init) => Ok(Slots {
+        Local::Scalar(width, name, init) => Ok(Slots {
             name: copy(alloc, &name.text)?,
             cells: 1,
             init: first_value(*init),
             array: false,
+            width: *width,
         }),
-        Local::Array(name, cells) => Ok(Slots {
+        Local::Array(width, name, cells) => Ok(Slots {
             name: copy(alloc, &name.text)?,
             cells: cells.value,
             init: 0,
             array: true,
+            width: *width,
         }),
     }
 }
@@ -270,7 +278,7 @@ fn function(
             Ok(Some(FunctionDecl {
                 name: copy(alloc, &name.text)?,
                 params: params.len() as u32,
-                locals: local_values(alloc, locals.as_slice())?,
+                locals: local_decls(alloc, locals.as_slice())?,
                 stmts: body(alloc, program, at, item, 0, stmts.as_slice(), &mut points)?,
             }))
         }

@@ -1,6 +1,6 @@
 //! The faults of a program's declarations.
 
-ghost use Rattle.std.specs.Prelude.{◌≡◌, ◌+◌, ◌≤◌, ◌^◌, ◌||◌, ◌++◌, ◌∷◌, [], ℕ, Bool, false, List, Some, None, map, take, length, slice_get, IfOk};
+ghost use Rattle.std.specs.Prelude.{◌≡◌, ◌+◌, ◌≤◌, ◌^◌, ◌||◌, ◌++◌, ℕ, Bool, false, List, Some, None, map, take, length, slice_get, IfOk};
 ghost use Rattle.std.specs.Prelude.{OnOk, is_some};
 ghost use Rattle.std.specs.List.{list_any};
 ghost use Rattle.std.specs.Str.{bytes_eq};
@@ -23,9 +23,10 @@ use crate::scope::{Scope, is_up_to};
 use crate::slots::{item_name, slot_names, slot_table};
 use crate::uses::{judge_range, judge_use};
 use crate::walk::walk_stmts;
+use psy_arith::Width;
 use psy_base::{Memory, limits};
 use psy_clock::Clock;
-use psy_tree::{Asks, Found, Item, Lit, Local, Name, Raw, RuleKind};
+use psy_tree::{Asks, Found, Init, Item, Lit, Local, Name, Raw, RuleKind};
 use std::alloc::Global;
 
 /// A declaration of number less than `limit`.
@@ -163,8 +164,9 @@ fn judge_slot(scope: &Scope<'_>, k: usize, name: &Name, least: &mut Least)
     least.note(is_slot_twice(scope, k, name), RuleKind::Twice, name.token);
 }
 
-fn judge_cells(locals: &[Local], least: &mut Least)
-    ensures { (site : Site) → least.new.fault ≡ judged_all site (places.cells_places locals.now) least.old.fault }
+/// Notes the first values and the numbers of cells that are outside their range.
+fn judge_locals(locals: &[Local], least: &mut Least)
+    ensures { (site : Site) → least.new.fault ≡ judged_all site (map places.local_place locals.now) least.old.fault }
 {
     for local in locals {
         judge_local(local, least);
@@ -172,11 +174,33 @@ fn judge_cells(locals: &[Local], least: &mut Least)
 }
 
 fn judge_local(local: &Local, least: &mut Least)
-    ensures { (site : Site) → least.new.fault ≡ judged_all site (places.cells_places (local.now ∷ [])) least.old.fault }
+    ensures { (site : Site) → least.new.fault ≡ judged site (places.local_place local.now) least.old.fault }
 {
-    if let Local::Array(_, cells) = local {
-        judge_range(*cells, 1, limits::CELLS, least);
+    match local {
+        Local::Scalar(width, _, init) => judge_first(*width, *init, least),
+        Local::Array(_, _, cells) => judge_range(*cells, 1, limits::CELLS, least),
     }
+}
+
+/// Notes whether a first value is outside the range of its type.
+#[tactic(auto, unfolding(crate::specs::Judged::judged))]
+fn judge_first(width: Width, init: Init, least: &mut Least)
+    ensures { (site : Site) → least.new.fault
+        ≡ judged site (places.Ranges init.value 0 (places.greatest_first width init.minus)) least.old.fault }
+{
+    least.note(
+        greatest_first(width, init.minus) < u64::from(init.value.value),
+        RuleKind::BadNumber,
+        init.value.token,
+    );
+}
+
+/// The greatest number that may stand in a first value of a type: behind a minus one more than without.
+fn greatest_first(width: Width, minus: bool) -> u64
+    ensures { result ≡ places.greatest_first width minus }
+{
+    let beyond = 1u64 << (width.bits() - 1);
+    if minus { beyond } else { beyond - 1 }
 }
 
 #[tactic(auto, unfolding(crate::specs::Judged::judged))]
@@ -194,7 +218,7 @@ fn judge_body(scope: &Scope<'_>, item: &Item, least: &mut Least)
 {
     match item {
         Item::Function { locals, stmts, .. } => {
-            judge_cells(locals.as_slice(), least);
+            judge_locals(locals.as_slice(), least);
             let _paths = walk_stmts(scope, stmts.as_slice(), least);
         }
         Item::Agent {
@@ -203,7 +227,7 @@ fn judge_body(scope: &Scope<'_>, item: &Item, least: &mut Least)
             stmts,
             ..
         } => {
-            judge_cells(locals.as_slice(), least);
+            judge_locals(locals.as_slice(), least);
             let paths = walk_stmts(scope, stmts.as_slice(), least);
             judge_paths(*body_token, paths.quiet, least);
         }

@@ -3,11 +3,13 @@ ghost use Rattle.std.specs.Prelude.{◌≡◌, slice_get, option_map};
 ghost use Rattle.std.specs.Option.{option_copied};
 ghost use Rattle.psy_tree.specs.Scope.{stands_for, stands_globally, item_at, own_slots};
 ghost use Rattle.psy_tree.specs.Rules as rules;
+ghost use Rattle.psy_tree.specs.Stands.{width_of_slot, width_at};
 ghost use Rattle.psy_rules.specs.Sites.{site_of, IsScope};
 ghost use Rattle.psy_rules.specs.Finding.{up_to};
 
 use crate::names::Names;
-use crate::slots::slot_array;
+use crate::slots::{slot_array, slot_width};
+use psy_arith::Width;
 use psy_base::Text;
 use psy_tree::{Found, Item};
 use sqlite_items::at;
@@ -90,6 +92,29 @@ impl Scope<'_> {
         ensures { result ≡ rules.slot_is_array array (slice_get (own_slots (site_of self.now)) k) }
     {
         self.slot_array(k) == Some(array)
+    }
+
+    /// The type of slot `k`, `int` where there is no such slot.
+    fn slot_width(&self, k: usize) -> Width
+        ensures { result ≡ width_of_slot (slice_get (own_slots (site_of self.now)) k) }
+    {
+        if !self.inside {
+            return Width::W32;
+        }
+        match at(self.items, self.at) {
+            Some(item) => slot_width(item, k),
+            None => Width::W32,
+        }
+    }
+
+    /// The type of what was found: a slot has its own, and a temporal variable is an `int`.
+    pub fn width(&self, found: Option<Found>) -> Width
+        ensures { result ≡ width_at (site_of self.now) found }
+    {
+        match found {
+            Some(Found::Slot(k)) => self.slot_width(k),
+            _ => Width::W32,
+        }
     }
 }
 

@@ -3,10 +3,12 @@ ghost use Rattle.std.specs.Prelude.{◌≡◌, ◌+◌, ℕ, ◌^◌, ◌-◌, [
 ghost use Rattle.std.specs.Option.{option_copied};
 ghost use Rattle.psy_tree.specs.Scope as spec;
 ghost use Rattle.psy_tree.specs.Scope.{slots_of, item_entries, slot_entries};
+ghost use Rattle.psy_tree.specs.Stands.{width_of_slot};
 ghost use Rattle.psy_rules.specs.Tables.{StandsFor, slot_names as names_of, as_slots};
 ghost use Rattle.psy_tree.specs.Scope.{item_params, item_locals};
 
 use crate::names::Names;
+use psy_arith::Width;
 use psy_base::Memory;
 use psy_tree::{Found, Item, Local, Name};
 use sqlite_items::at;
@@ -30,8 +32,8 @@ fn local_name(local: &Local) -> &Name
     ensures { result.now ≡ (spec.local_slot local.now).name }
 {
     match local {
-        Local::Scalar(name, _) => name,
-        Local::Array(name, _) => name,
+        Local::Scalar(_, name, _) => name,
+        Local::Array(_, name, _) => name,
     }
 }
 
@@ -91,8 +93,29 @@ fn local_array(local: Option<&Local>) -> Option<bool>
 {
     match local {
         None => None,
-        Some(Local::Scalar(_, _)) => Some(false),
-        Some(Local::Array(_, _)) => Some(true),
+        Some(Local::Scalar(_, _, _)) => Some(false),
+        Some(Local::Array(_, _, _)) => Some(true),
+    }
+}
+
+/// The type of slot `k`, `int` where there is no such slot.
+pub fn slot_width(item: &Item, k: usize) -> Width
+    ensures { result ≡ width_of_slot (slice_get (slots_of item.now) k) }
+{
+    let params = params_of(item).len();
+    if k < params {
+        return Width::W32;
+    }
+    local_width(at(locals_of(item), k - params))
+}
+
+fn local_width(local: Option<&Local>) -> Width
+    ensures { result ≡ width_of_slot (option_map spec.local_slot (option_copied local.entry)) }
+{
+    match local {
+        None => Width::W32,
+        Some(Local::Scalar(width, _, _)) => *width,
+        Some(Local::Array(width, _, _)) => *width,
     }
 }
 

@@ -7,7 +7,8 @@ ghost use Rattle.psy_tree.specs.Paths as paths;
 ghost use Rattle.psy_tree.specs.Stands as stands;
 ghost use Rattle.psy_rules.specs.Lowered.{site, IsNumbered};
 
-use crate::expressions::{Numbered, lower_expr};
+use crate::expressions::{Numbered, lower_expr, lower_into};
+use psy_arith::Width;
 use psy_base::limits::POINTS;
 use psy_base::{Items, Memory};
 use psy_tree::{Expr, Found, Lit, Name, Point, RawStmt, Stmt};
@@ -84,14 +85,14 @@ fn lower_stmt(
 {
     match stmt {
         RawStmt::Set(name, value) => {
-            let value = lower_expr(alloc, numbered, value)?;
+            let value = lower_into(alloc, numbered, numbered.width(name), value)?;
             Ok(set_stmt(numbered, name, value))
         }
-        RawStmt::SetCell(name, index, value) => {
-            let index = lower_expr(alloc, numbered, index)?;
-            let value = lower_expr(alloc, numbered, value)?;
-            Ok(Stmt::SetCell(numbered.slot(name), index, value))
-        }
+        RawStmt::SetCell(name, index, value) => Ok(Stmt::SetCell(
+            numbered.slot(name),
+            lower_expr(alloc, numbered, index)?,
+            lower_into(alloc, numbered, numbered.width(name), value)?,
+        )),
         RawStmt::If(test, branch, other) => {
             let test = lower_expr(alloc, numbered, test)?;
             let branch = lower_stmts(alloc, numbered, branch.as_slice(), points)?;
@@ -120,7 +121,7 @@ fn lower_stmt(
             clock,
             ..
         } => Ok(Stmt::Send {
-            value: lower_expr(alloc, numbered, value)?,
+            value: lower_into(alloc, numbered, Width::W32, value)?,
             stream: numbered.stream(stream),
             after: after.value,
             clock: numbered.clock(clock),
@@ -131,7 +132,12 @@ fn lower_stmt(
             budget,
             ..
         } => advance_stmt(numbered, *count, clock, *budget, points),
-        RawStmt::Return { value, .. } => Ok(Stmt::Return(lower_expr(alloc, numbered, value)?)),
+        RawStmt::Return { value, .. } => Ok(Stmt::Return(lower_into(
+            alloc,
+            numbered,
+            Width::W32,
+            value,
+        )?)),
     }
 }
 

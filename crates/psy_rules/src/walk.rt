@@ -88,6 +88,7 @@ pub fn walk_expr(scope: &Scope<'_>, expr: &RawExpr, least: &mut Least)
             judge_use(scope, name, Asks::Call(arguments.len()), least);
             walk_exprs(scope, arguments.as_slice(), least);
         }
+        RawExpr::Cast(_, operand) => walk_expr(scope, operand.get(), least),
     }
 }
 
@@ -149,7 +150,7 @@ fn judge_advance(
 }
 
 #[cycle(stmt)]
-#[tactic(auto, using(crate::proofs::Judging::judged_all_append, psy_tree::proofs::lemmas::Lists::map_firsts, psy_tree::proofs::lemmas::Lists::map_seconds, psy_tree::proofs::lemmas::Advances::positive_sum))]
+#[tactic(auto, using(crate::proofs::Paths::judged_all_append, crate::proofs::Paths::positive_sum, crate::proofs::Paths::firsts, crate::proofs::Paths::seconds))]
 fn walk_stmt(scope: &Scope<'_>, stmt: &RawStmt, least: &mut Least) -> Paths
     requires { IsScope scope.now }
     ensures least { least.new.fault ≡ judged_all (site_of scope.now) (stmt_places stmt.now) least.old.fault }

@@ -7,7 +7,8 @@ use Rattle.std.proofs.lemmas.List.Elements.{All-get_or, Contains-append_left, Co
 use Rattle.std.proofs.lemmas.Nat.{mul-le}
 use Rattle.std.proofs.lemmas.Option.{slice_get_read}
 use Rattle.psy_base.specs.declared.edge.Edge.{Edge}
-use Rattle.psy_base.specs.declared.limits.TheConstants.{ADVANCE, PERIOD}
+use Rattle.psy_base.specs.declared.limits.TheConstants.{ADVANCE}
+use Rattle.psy_clock.specs.declared.clock.TheConstants.{PERIOD}
 use Rattle.psy_clock.specs.declared.clock.Clock.{Clock}
 use Rattle.psy_clock.specs.Dates.{IsClock, after_date}
 use Rattle.psy_tree.specs.declared.unit.AgentDecl.{AgentDecl}

@@ -5,7 +5,7 @@ ghost use Rattle.std.specs.Int.{IsGcd};
 ghost use Rattle.std.specs.List.{All};
 ghost use Rattle.psy_clock.specs.Dates.{IsClock};
 ghost use Rattle.psy_meaning.specs.Graph.{IsCycle};
-ghost use Rattle.psy_base.specs.declared.limits.TheConstants.{PERIOD};
+ghost use Rattle.psy_clock.specs.declared.clock.TheConstants.{PERIOD};
 ghost use Rattle.psy_sizes.specs.Windows.{timing_by};
 
 use psy_clock::Clock;

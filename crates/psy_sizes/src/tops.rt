@@ -1,7 +1,8 @@
 //! For how many dates a message of a stream may be held.
 
 ghost use Rattle.std.specs.Prelude.{◌*◌, ◌<◌, ◌≤◌, length};
-ghost use Rattle.psy_base.specs.declared.limits.TheConstants.{ADVANCE, PERIOD};
+ghost use Rattle.psy_base.specs.declared.limits.TheConstants.{ADVANCE};
+ghost use Rattle.psy_clock.specs.declared.clock.TheConstants.{PERIOD};
 ghost use Rattle.psy_base.specs.Extremes.{IsGreatest};
 ghost use Rattle.psy_meaning.specs.KnownWays.{Listed};
 ghost use Rattle.psy_meaning.specs.ListedWays.{AreWaysFor};

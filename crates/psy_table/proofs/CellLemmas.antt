@@ -5,8 +5,8 @@ use Rattle.std.proofs.Math.ListN.{drop_of_length-le}
 use Rattle.std.proofs.Math.Seq.{take-length}
 use Rattle.std.proofs.lemmas.List.{get_or-map, map-append, map-set, take_more_set}
 use Rattle.std.proofs.lemmas.Grind.{replicate_next}
-use Rattle.psy_listed.specs.Names.{AreDistinct, changed}
-use Rattle.psy_listed.proofs.lemmas.Distinct.{changed_at, place_is, unchanged}
+use Rattle.psy_passes.specs.Names.{AreDistinct, changed}
+use Rattle.psy_passes.proofs.lemmas.Distinct.{changed_at, place_is, unchanged}
 use Rattle.psy_table.specs.CellsState.{CellsState, cells_of}
 
 -- Cells of the same names and texts are the same.

@@ -2,8 +2,8 @@
 use Rattle.std.proofs.Common.{◌≡◌, ℕ, ◌+◌, ◌<◌, List, [], ◌∷◌, ◌++◌, drop, get_or, length, sym, ap, ◌∙◌, append_assoc}
 use Rattle.std.proofs.lemmas.List.{drop_more}
 use Rattle.psy_log.specs.declared.note.Note.{Note}
-use Rattle.psy_listed.specs.declared.listed.Listed.{Listed}
-use Rattle.psy_listed.specs.Listing.{agents_in, streams_in, variables_in}
+use Rattle.psy_passes.specs.declared.listed.Listed.{Listed}
+use Rattle.psy_passes.specs.Listing.{agents_in, streams_in, variables_in}
 use Rattle.psy_table.specs.Rows.{Columns, columns_of, csv_of, ended_by, heading, row_of, rows, today_of}
 use Rattle.psy_table.specs.Stands.{columns_in}
 

@@ -10,12 +10,12 @@ use Rattle.psy_notes.specs.declared.stand.Stand.{Stand}
 use Rattle.psy_notes.specs.declared.stand.Stand.TheVariants as stand
 use Rattle.psy_notes.specs.Stands.{may_be_dated, may_end, next_stand, run_begins, where_so}
 use Rattle.psy_notes.specs.Texts.{IsText, Leads, Steps, text_of}
-use Rattle.psy_listed.specs.declared.listed.Listed.{Listed}
-use Rattle.psy_listed.specs.Logs.{IsLog}
-use Rattle.psy_scan.specs.Runs.{IsRun, tail_of}
-use Rattle.psy_scan.specs.Telling.{Told, told_nothing, told_more}
-use Rattle.psy_scan.proofs.lemmas.Growth.{front_behind, front_longer, grew_more}
-use Rattle.psy_passes.specs.Names.{AreNamesOf}
+use Rattle.psy_passes.specs.declared.listed.Listed.{Listed}
+use Rattle.psy_passes.specs.Logs.{IsLog}
+use Rattle.psy_passes.specs.Runs.{IsRun, tail_of}
+use Rattle.psy_passes.specs.Telling.{Told, told_nothing, told_more}
+use Rattle.psy_passes.proofs.lemmas.Growth.{front_behind, front_longer, grew_more}
+use Rattle.psy_passes.specs.NameChecks.{AreNamesOf}
 use Rattle.psy_passes.specs.Outcomes.{Begins, IsFileText}
 use Rattle.psy_table.specs.declared.rows.RowTeller.{RowTeller}
 use Rattle.psy_table.specs.declared.table.Table.{Table}

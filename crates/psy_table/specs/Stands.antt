@@ -1,7 +1,7 @@
 -- What the tables in memory stand for.
 use Rattle.std.specs.Prelude.{◌≡◌, ℕ, List, ◌++◌, codes, decimal}
 use Rattle.psy_log.specs.declared.note.Note.{Note}
-use Rattle.psy_listed.specs.declared.listed.Listed.{Listed}
+use Rattle.psy_passes.specs.declared.listed.Listed.{Listed}
 use Rattle.psy_table.specs.declared.table.Table.{Table}
 use Rattle.psy_table.specs.Cells.{messages_text, stop_text, value_text}
 use Rattle.psy_table.specs.CellsState.{cells_of}

@@ -1,11 +1,11 @@
 //! A text for each of different names.
 ghost use Rattle.std.specs.Prelude.{◌≡◌, ◌<◌, [], List, ℕ, ◌++◌, IfOk, OnOk, length, map, replicate, set, slice_index_or};
-ghost use Rattle.psy_listed.specs.Names.{changed};
+ghost use Rattle.psy_passes.specs.Names.{changed};
 ghost use Rattle.psy_table.specs.Cells.{joined};
 ghost use Rattle.psy_table.specs.Fields.{fields};
 ghost use Rattle.psy_table.specs.CellsState.{cells_of};
 
-use psy_listed::Names;
+use psy_passes::Names;
 use std::alloc::{AllocError, Global};
 use std::marker::Model;
 

@@ -8,7 +8,7 @@ ghost use Rattle.psy_table.specs.Streams.{TellsRow, ended_before, ended_row};
 use crate::table::Table;
 use crate::text::{date_of, is_that};
 use psy_log::Note;
-use psy_scan::{Tell, TellFault};
+use psy_passes::{Tell, TellFault};
 use std::alloc::AllocError;
 
 /// Tells the row of each date, once a note comes that isn't of it.

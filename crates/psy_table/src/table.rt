@@ -9,8 +9,8 @@ ghost use Rattle.psy_table.specs.Stands.{TableStands, columns_in, row_in};
 use crate::cells::Cells;
 use itoa::Buffer;
 use psy_arith::Trap;
-use psy_listed::Listed;
 use psy_log::Note;
+use psy_passes::Listed;
 use psy_text::write::add_number;
 use std::alloc::{AllocError, Global};
 

@@ -3,17 +3,17 @@ ghost use Rattle.std.specs.Prelude.{◌≡◌, ◌∷◌, ◌++◌, [], ℕ, Lis
 ghost use Rattle.psy_log.specs.declared.note.Note.{Note};
 ghost use Rattle.psy_notes.specs.Stands.{run_begins};
 ghost use Rattle.psy_notes.specs.Texts.{BreaksAt, IsText};
-ghost use Rattle.psy_listed.specs.declared.fault.LogFault.TheVariants.{Line, Unlisted};
-ghost use Rattle.psy_listed.specs.Listing.{first_unlisted};
-ghost use Rattle.psy_listed.specs.Logs.{IsLog};
+ghost use Rattle.psy_passes.specs.declared.log_fault.LogFault.TheVariants.{Line, Unlisted};
+ghost use Rattle.psy_passes.specs.Listing.{first_unlisted};
+ghost use Rattle.psy_passes.specs.Logs.{IsLog};
 ghost use Rattle.psy_table.specs.Fields.{fields, spelled};
 ghost use Rattle.psy_table.specs.Rows.{Columns, csv_of, date_of, ended_by, goes_on, heading, is_that, row_of, rows, today_of};
 ghost use Rattle.psy_table.specs.Stands.{TableStands, columns_in};
 
 use crate::field::add_field;
 use crate::table::Table;
-use psy_listed::{Listed, LogFault, Names, read_log};
 use psy_log::Note;
+use psy_passes::{Listed, LogFault, Names, read_log};
 use std::alloc::{AllocError, Global};
 
 /// The table of the run whose log `psyc run` wrote: a row for each date at which something is told, with the value of each variable then,

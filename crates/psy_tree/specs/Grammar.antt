@@ -5,6 +5,8 @@ use Rattle.psy_arith.specs.declared.operators.Op1.{Op1}
 use Rattle.psy_arith.specs.declared.operators.Op1.TheVariants.{Neg, Flip, Not}
 use Rattle.psy_arith.specs.declared.operators.Op2.{Op2}
 use Rattle.psy_arith.specs.declared.operators.Op2.TheVariants as operators
+use Rattle.psy_arith.specs.declared.width.Width.{Width}
+use Rattle.psy_arith.specs.declared.width.Width.TheVariants.{W8, W16, W32, W64}
 use Rattle.psy_tree.specs.declared.token.Token.{Token}
 use Rattle.psy_tree.specs.declared.token.Kind.{Kind}
 use Rattle.psy_tree.specs.declared.token.Kind.TheVariants as kinds
@@ -23,7 +25,7 @@ use Rattle.psy_tree.specs.declared.raw.Local.TheVariants.{Scalar, Array}
 use Rattle.psy_tree.specs.declared.raw.RawStmt.{RawStmt}
 use Rattle.psy_tree.specs.declared.raw.RawStmt.TheVariants.{Set, SetCell, If, While, Send, Advance, Return}
 use Rattle.psy_tree.specs.declared.raw.RawExpr.{RawExpr}
-use Rattle.psy_tree.specs.declared.raw.RawExpr.TheVariants.{Number, Var, Cell, Past, Ready, Take, Unary, Binary, Call}
+use Rattle.psy_tree.specs.declared.raw.RawExpr.TheVariants.{Number, Var, Cell, Past, Ready, Take, Unary, Binary, Call, Cast}
 
 -- A token without its place: its number in the text, and what it is
 abbrev pub Numbered : Type 0
@@ -49,6 +51,15 @@ word n w = (n, kinds.Word w)
 -- Token number n, where it is a sign
 abbrev pub sign : ℕ → Sign → Numbered
 sign n s = (n, kinds.Sign s)
+
+-- The type that a word names; `int` is `int32`.
+abbrev pub type_of : Word → Option Width
+type_of words.Int = Some W32
+type_of words.Int8 = Some W8
+type_of words.Int16 = Some W16
+type_of words.Int32 = Some W32
+type_of words.Int64 = Some W64
+type_of _ = None
 
 -- The operator before an operand
 abbrev pub unary_of : Sign → Option Op1
@@ -99,6 +110,9 @@ mutual
         → Expr 0 (word n words.Ready ∷ sign a signs.OpenRound ∷ named x ∷ sign b signs.CloseRound ∷ rest) (Ready n x) rest
     take : {x : Name} {n a b : ℕ} {rest : List Numbered}
         → Expr 0 (word n words.Take ∷ sign a signs.OpenRound ∷ named x ∷ sign b signs.CloseRound ∷ rest) (Take n x) rest
+    cast : {width : Width} {w : Word} {e : RawExpr} {n a b : ℕ} {ts rest : List Numbered}
+        → type_of w ≡ Some width → Expr 10 ts e (sign b signs.CloseRound ∷ rest)
+        → Expr 0 (word n w ∷ sign a signs.OpenRound ∷ ts) (Cast width e) rest
     -- parentheses leave no node
     in_parentheses : {e : RawExpr} {a b : ℕ} {ts rest : List Numbered}
         → Expr 10 ts e (sign b signs.CloseRound ∷ rest)
@@ -167,18 +181,19 @@ pub data Start : List Numbered → Init → List Numbered → Type 0 where
   plain : {k : Lit} {rest : List Numbered} → Start (numeral k ∷ rest) (record { minus = false; value = k }) rest
   negated : {k : Lit} {n : ℕ} {rest : List Numbered} → Start (sign n signs.Minus ∷ numeral k ∷ rest) (record { minus = true; value = k }) rest
 
--- The local of a function: a variable with its first value
+-- The local of a function: a variable with its type and its first value
 pub data FunctionLocal : List Numbered → Local → List Numbered → Type 0 where
-  scalar : {x : Name} {init : Init} {n a b : ℕ} {ts rest : List Numbered}
-      → Start ts init (sign b signs.Semicolon ∷ rest)
-      → FunctionLocal (word n words.Int ∷ named x ∷ sign a signs.Assign ∷ ts) (Scalar x init) rest
+  scalar : {width : Width} {w : Word} {x : Name} {init : Init} {n a b : ℕ} {ts rest : List Numbered}
+      → type_of w ≡ Some width → Start ts init (sign b signs.Semicolon ∷ rest)
+      → FunctionLocal (word n w ∷ named x ∷ sign a signs.Assign ∷ ts) (Scalar width x init) rest
 
 -- The local of an agent: a variable, or an array with its number of cells
 pub data AgentLocal : List Numbered → Local → List Numbered → Type 0 where
   variable : {x : Local} {ts rest : List Numbered} → FunctionLocal ts x rest → AgentLocal ts x rest
-  array : {x : Name} {cells : Lit} {n a b c : ℕ} {rest : List Numbered}
-      → AgentLocal (word n words.Int ∷ named x ∷ sign a signs.OpenSquare ∷ numeral cells ∷ sign b signs.CloseSquare ∷ sign c signs.Semicolon ∷ rest)
-      (Array x cells) rest
+  array : {width : Width} {w : Word} {x : Name} {cells : Lit} {n a b c : ℕ} {rest : List Numbered}
+      → type_of w ≡ Some width
+      → AgentLocal (word n w ∷ named x ∷ sign a signs.OpenSquare ∷ numeral cells ∷ sign b signs.CloseSquare ∷ sign c signs.Semicolon ∷ rest)
+      (Array width x cells) rest
 
 -- None or more locals, one after another
 pub data Many (One : List Numbered → Local → List Numbered → Type 0) : List Numbered → List Local → List Numbered → Type 0 where

@@ -1,5 +1,8 @@
 -- The places of a program that rules speak of, each with where it stands.
-use Rattle.std.specs.Prelude.{ℕ, ◌+◌, ◌-◌, Bool, true, false, nat_lt, List, [], ◌∷◌, ◌++◌, map, length, Option, Some, None, is_some}
+use Rattle.std.specs.Prelude.{ℕ, ◌+◌, ◌-◌, ◌^◌, Bool, true, false, nat_lt, if◌then◌else◌, List, [], ◌∷◌, ◌++◌, map, length, Option, Some, None, is_some}
+use mir.Val.{bits}
+use Rattle.psy_arith.specs.declared.width.Width.{Width}
+use Rattle.psy_arith.specs.Widths.{of_type}
 use Rattle.psy_base.specs.declared.limits.TheConstants.{QUANTUM, BUDGET, DEPTH, KEEP, ADVANCE, AFTER, TURNS, CELLS, PROCESSORS}
 use Rattle.psy_tree.specs.declared.raw.Name.{Name}
 use Rattle.psy_tree.specs.declared.raw.Lit.{Lit}
@@ -74,6 +77,7 @@ expr_places_step (RawExpr-F.Ready token name) = Acts token ∷ (Uses name asks.M
 expr_places_step (RawExpr-F.Take token name) = Acts token ∷ (Uses name asks.Messages ∷ [])
 expr_places_step (RawExpr-F.Unary op operand) = operand
 expr_places_step (RawExpr-F.Binary op left right) = left ++ right
+expr_places_step (RawExpr-F.Cast width operand) = operand
 expr_places_step (RawExpr-F.Call name arguments) = Uses name (asks.Call (length arguments)) ∷ joined arguments
 
 -- All places of an expression
@@ -138,16 +142,19 @@ abbrev pub slot_places : ℕ → List SlotName → List Place
 slot_places k [] = []
 slot_places k (s ∷ ss) = NamesSlot k s.name ∷ slot_places (k + 1) ss
 
--- Of the numbers of cells of the arrays among local declarations
-abbrev pub cells_places : List Local → List Place
-cells_places [] = []
-cells_places (local.Scalar name init ∷ ls) = cells_places ls
-cells_places (local.Array name cells ∷ ls) = Ranges cells 1 CELLS ∷ cells_places ls
+-- The greatest number that may stand in a first value of a type: behind a minus one more than without
+abbrev pub greatest_first : Width → Bool → ℕ
+greatest_first width minus = if minus then 2 ^ (bits (of_type width) - 1) else 2 ^ (bits (of_type width) - 1) - 1
 
--- Of an agent's or a function's arrays and statements, and of an agent's word `body`
+-- Of a local declaration: the number of its first value, which has the range of its type, or of its cells
+abbrev pub local_place : Local → Place
+local_place (local.Scalar width name init) = Ranges init.value 0 (greatest_first width init.minus)
+local_place (local.Array width name cells) = Ranges cells 1 CELLS
+
+-- Of an agent's or a function's local declarations and statements, and of an agent's word `body`
 abbrev pub body_places : Item → List Place
-body_places (item.Function name params locals stmts) = cells_places locals ++ stmts_places stmts
-body_places (item.Agent name clock processor budget locals body stmts) = cells_places locals ++ (stmts_places stmts ++ HasBody body (quiet_list stmts) ∷ [])
+body_places (item.Function name params locals stmts) = map local_place locals ++ stmts_places stmts
+body_places (item.Agent name clock processor budget locals body stmts) = map local_place locals ++ (stmts_places stmts ++ HasBody body (quiet_list stmts) ∷ [])
 body_places _ = []
 
 -- Of what stands inside its braces, the names of its slots first

@@ -4,7 +4,7 @@ use Rattle.std.specs.Prelude.{◌∷◌, ◌++◌, take, length, Option, Some, N
 use Rattle.std.specs.List.{Contains, list_any}
 use Rattle.std.specs.Str.{bytes_eq}
 use Rattle.std.specs.Option.{is_none}
-use Rattle.psy_base.specs.declared.limits.TheConstants.{PERIOD}
+use Rattle.psy_clock.specs.declared.clock.TheConstants.{PERIOD}
 use Rattle.psy_clock.specs.declared.clock.Clock.{Clock}
 use Rattle.psy_clock.specs.Dates.{IsClock, derived}
 use Rattle.psy_tree.specs.declared.raw.Name.{Name}

@@ -1,6 +1,8 @@
 -- The declarations of a program, and which of them a name stands for.
 use Rattle.std.specs.Prelude.{ℕ, ◌+◌, Bool, true, false, if◌then◌else◌, List, [], ◌∷◌, ◌++◌, map, take, drop, Option, Some, None, slice_get}
 use Rattle.std.specs.Str.{bytes_eq}
+use Rattle.psy_arith.specs.declared.width.Width.{Width}
+use Rattle.psy_arith.specs.declared.width.Width.TheVariants.{W32}
 use Rattle.psy_tree.specs.declared.raw.Name.{Name}
 use Rattle.psy_tree.specs.declared.raw.Local.{Local}
 use Rattle.psy_tree.specs.declared.raw.Local.TheVariants as local
@@ -36,19 +38,20 @@ item_stmts (item.Function name params locals stmts) = stmts
 item_stmts (item.Agent name clock processor budget locals body stmts) = stmts
 item_stmts _ = []
 
--- A parameter, variable or array, and whether it is an array.
+-- A parameter, variable or array, whether it is an array, and its type.
 pub record SlotName : Type 0 where
   pub name : Name
   pub array : Bool
+  pub width : Width
 
--- The slot of a scalar with this name.
+-- The slot of a parameter with this name, which is of type `int`.
 abbrev pub scalar : Name → SlotName
-scalar name = record { name = name; array = false }
+scalar name = record { name = name; array = false; width = W32 }
 
 -- The slot of a local declaration.
 abbrev pub local_slot : Local → SlotName
-local_slot (local.Scalar name init) = record { name = name; array = false }
-local_slot (local.Array name cells) = record { name = name; array = true }
+local_slot (local.Scalar width name init) = record { name = name; array = false; width = width }
+local_slot (local.Array width name cells) = record { name = name; array = true; width = width }
 
 -- The parameters, variables and arrays of an agent or a function, in order.
 abbrev pub slots_of : Item → List SlotName

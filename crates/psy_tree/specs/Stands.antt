@@ -3,6 +3,11 @@ use Rattle.std.specs.Prelude.{◌≡◌, ℕ, ◌+◌, Bool, true, false, nat_lt
 use Rattle.std.specs.Prelude.{option_to_list, slice_get, ℤ, pos}
 use Rattle.std.specs.List.{count_by, find, list_any, flat_map}
 use Rattle.std.specs.Int.{w32, cast_signed, int_wrapping_neg}
+use Rattle.psy_arith.specs.declared.operators.Op2.{Op2}
+use Rattle.psy_arith.specs.declared.width.Width.{Width}
+use Rattle.psy_arith.specs.declared.width.Width.TheVariants.{W32}
+use Rattle.psy_arith.specs.Types.{type1, type2}
+use Rattle.psy_arith.specs.Widths.{is_narrower, wider}
 use Rattle.psy_base.specs.declared.limits.TheConstants.{CLOCKS, AGENTS, VARIABLES, STREAMS, FUNCTIONS, NAMES, POINTS}
 use Rattle.psy_tree.specs.declared.raw.Name.{Name}
 use Rattle.psy_tree.specs.declared.raw.Lit.{Lit}
@@ -24,6 +29,7 @@ use Rattle.psy_tree.specs.declared.unit.Unit.{Unit as Whole}
 use Rattle.psy_tree.specs.declared.unit.VarDecl.{VarDecl}
 use Rattle.psy_tree.specs.declared.unit.StreamDecl.{StreamDecl}
 use Rattle.psy_tree.specs.declared.unit.FunctionDecl.{FunctionDecl}
+use Rattle.psy_tree.specs.declared.unit.LocalDecl.{LocalDecl}
 use Rattle.psy_tree.specs.declared.unit.AgentDecl.{AgentDecl}
 use Rattle.psy_tree.specs.declared.unit.Slots.{Slots}
 use Rattle.psy_tree.specs.declared.unit.Point.{Point}
@@ -32,7 +38,7 @@ use Rattle.psy_tree.specs.declared.unit.Expr.TheOpen.{Expr-F}
 use Rattle.psy_tree.specs.declared.unit.Stmt.{Stmt, roll-Stmt}
 use Rattle.psy_tree.specs.declared.unit.Stmt.TheOpen.{Stmt-F}
 use Rattle.psy_tree.specs.Paths.{advances_list}
-use Rattle.psy_tree.specs.Scope.{Site, slots_of, stands_for, stands_globally}
+use Rattle.psy_tree.specs.Scope.{Site, SlotName, own_slots, slots_of, stands_for, stands_globally}
 use Rattle.psy_tree.specs.Rules.{is_clock, is_agent, is_function, is_stream, sound_clocks, NoFault}
 
 -- ---- counts and their limits
@@ -99,6 +105,31 @@ abbrev pub slot_number : Option Found → ℕ
 slot_number (Some (found.Slot k)) = k
 slot_number _ = 0
 
+-- ---- types (ISO C 6.3.1.3, 6.5.4; nothing is promoted to `int`)
+
+-- The type of a slot, `int` where there is none.
+abbrev pub width_of_slot : Option SlotName → Width
+width_of_slot None = W32
+width_of_slot (Some slot) = slot.width
+
+-- The type of what a name stands for at a site: a slot has its own, and a temporal variable is an `int`.
+abbrev pub width_at : Site → Option Found → Width
+width_at site (Some (found.Slot k)) = width_of_slot (slice_get (own_slots site) k)
+width_at site _ = W32
+
+-- An expression of the unit, and the type that the text gives it.
+pub record Typed : Type 0 where
+  pub expr : Expr
+  pub width : Width
+
+-- An expression of type `int`.
+abbrev pub int_typed : Expr → Typed
+int_typed e = record { expr = e; width = W32 }
+
+-- Where a value of a type goes: narrowed where that type is narrower than the expression's own. Widening leaves no node.
+abbrev pub into : Width → Typed → Expr
+into width e = if is_narrower width e.width then roll-Expr (Expr-F.Cast width e.expr) else e.expr
+
 -- ---- expressions
 
 -- A slot, or a variable that the agent owns
@@ -106,21 +137,38 @@ abbrev pub value_of : Site → Option Found → Expr
 value_of site (Some (found.Item k)) = roll-Expr (Expr-F.Copy (counting is_variable (take k site.items)))
 value_of site f = roll-Expr (Expr-F.Slot (slot_number f))
 
--- An expression, given those that its parts stand for
-abbrev pub expr_step : Site → RawExpr-F Expr → Expr
-expr_step site (RawExpr-F.Number number) = roll-Expr (Expr-F.Number (signed number))
-expr_step site (RawExpr-F.Var name) = value_of site (stands_for site name.text)
-expr_step site (RawExpr-F.Cell name index) = roll-Expr (Expr-F.Cell (slot_number (stands_for site name.text)) index)
-expr_step site (RawExpr-F.Past token name back) = roll-Expr (Expr-F.Past (number_at is_variable site name) back.value)
-expr_step site (RawExpr-F.Ready token name) = roll-Expr (Expr-F.Ready (number_at is_stream site name))
-expr_step site (RawExpr-F.Take token name) = roll-Expr (Expr-F.Take (number_at is_stream site name))
-expr_step site (RawExpr-F.Unary op operand) = roll-Expr (Expr-F.Unary op operand)
-expr_step site (RawExpr-F.Binary op left right) = roll-Expr (Expr-F.Binary op left right)
-expr_step site (RawExpr-F.Call name arguments) = roll-Expr (Expr-F.Call (number_at is_function site name) arguments)
+-- An operator on two operands is done in the wider of their types.
+abbrev pub binary_of_typed : Op2 → Width → Expr → Expr → Typed
+binary_of_typed op width left right = record { expr = roll-Expr (Expr-F.Binary op width left right); width = type2 op width }
 
--- What an expression of the program's text stands for at a site
+-- An expression with its type, given those that its parts stand for
+abbrev pub expr_step : Site → RawExpr-F Typed → Typed
+expr_step site (RawExpr-F.Number number) = int_typed (roll-Expr (Expr-F.Number (signed number)))
+expr_step site (RawExpr-F.Var name) = record { expr = value_of site (stands_for site name.text); width = width_at site (stands_for site name.text) }
+expr_step site (RawExpr-F.Cell name index) = record {
+  expr = roll-Expr (Expr-F.Cell (slot_number (stands_for site name.text)) index.expr);
+  width = width_at site (stands_for site name.text);
+}
+expr_step site (RawExpr-F.Past token name back) = int_typed (roll-Expr (Expr-F.Past (number_at is_variable site name) back.value))
+expr_step site (RawExpr-F.Ready token name) = int_typed (roll-Expr (Expr-F.Ready (number_at is_stream site name)))
+expr_step site (RawExpr-F.Take token name) = int_typed (roll-Expr (Expr-F.Take (number_at is_stream site name)))
+expr_step site (RawExpr-F.Unary op operand) =
+    record { expr = roll-Expr (Expr-F.Unary op operand.width operand.expr); width = type1 op operand.width }
+expr_step site (RawExpr-F.Binary op left right) = binary_of_typed op (wider left.width right.width) left.expr right.expr
+expr_step site (RawExpr-F.Call name arguments) = int_typed (roll-Expr (Expr-F.Call (number_at is_function site name) (map (into W32) arguments)))
+expr_step site (RawExpr-F.Cast width operand) = record { expr = into width operand; width = width }
+
+-- What an expression of the program's text stands for at a site, with its type
+abbrev pub typed_of : Site → RawExpr → Typed
+typed_of site = fold-RawExpr Typed (expr_step site)
+
+-- What an index or a test stands for at a site, which may have any type
 abbrev pub expr_of : Site → RawExpr → Expr
-expr_of site = fold-RawExpr Expr (expr_step site)
+expr_of site e = (typed_of site e).expr
+
+-- What an expression stands for at a site where a value of a type is asked for
+abbrev pub expr_into : Site → Width → RawExpr → Expr
+expr_into site width e = into width (typed_of site e)
 
 -- ---- statements: each with the points before it, and these with its own behind them
 
@@ -151,7 +199,7 @@ abbrev pub budget_of : Site → Option Lit → ℕ
 budget_of site None = agent_budget (slice_get site.items site.at)
 budget_of site (Some budget) = budget.value
 
--- An assignment to a variable that the agent owns, or else to a slot.
+-- An assignment to a variable that the agent owns, or else to a slot, of a value that has its type.
 abbrev pub set_by : Site → Option Found → Expr → Stmt
 set_by site (Some (found.Item k)) value = roll-Stmt (Stmt-F.SetCopy (counting is_variable (take k site.items)) value)
 set_by site f value = roll-Stmt (Stmt-F.Set (slot_number f) value)
@@ -163,9 +211,13 @@ while_of (Some most) test body = roll-Stmt (Stmt-F.Bounded test most.value body)
 
 -- A statement, given what the statements inside it stand for
 abbrev pub stmt_step : Site → RawStmt-F (Numbering Stmt) → Numbering Stmt
-stmt_step site (RawStmt-F.Set name value) points = (set_by site (stands_for site name.text) (expr_of site value), points)
-stmt_step site (RawStmt-F.SetCell name index value) points =
-    (roll-Stmt (Stmt-F.SetCell (slot_number (stands_for site name.text)) (expr_of site index) (expr_of site value)), points)
+stmt_step site (RawStmt-F.Set name value) points =
+    (set_by site (stands_for site name.text) (expr_into site (width_at site (stands_for site name.text)) value), points)
+stmt_step site (RawStmt-F.SetCell name index value) points = (
+  roll-Stmt (Stmt-F.SetCell (slot_number (stands_for site name.text)) (expr_of site index)
+      (expr_into site (width_at site (stands_for site name.text)) value)),
+  points,
+)
 stmt_step site (RawStmt-F.If test branch None) points =
     with_value (λ ss. roll-Stmt (Stmt-F.If (expr_of site test) ss None)) (in_turn branch points)
 stmt_step site (RawStmt-F.If test branch (Some other)) points =
@@ -173,12 +225,12 @@ stmt_step site (RawStmt-F.If test branch (Some other)) points =
 stmt_step site (RawStmt-F.While token test most body) points =
     with_value (while_of most (expr_of site test)) (in_turn body points)
 stmt_step site (RawStmt-F.Send token value stream after clock) points =
-    (roll-Stmt (Stmt-F.Send (expr_of site value) (number_at is_stream site stream) after.value (number_at is_clock site clock)), points)
+    (roll-Stmt (Stmt-F.Send (expr_into site W32 value) (number_at is_stream site stream) after.value (number_at is_clock site clock)), points)
 stmt_step site (RawStmt-F.Advance token count clock budget) points = (
   roll-Stmt (Stmt-F.Advance (length points)),
   points ++ record { count = count.value; clock = number_at is_clock site clock; budget = budget_of site budget } ∷ [],
 )
-stmt_step site (RawStmt-F.Return token value) points = (roll-Stmt (Stmt-F.Return (expr_of site value)), points)
+stmt_step site (RawStmt-F.Return token value) points = (roll-Stmt (Stmt-F.Return (expr_into site W32 value)), points)
 
 -- What a statement of the program's text stands for at a site
 abbrev pub stmt_of : Site → RawStmt → Numbering Stmt
@@ -192,13 +244,13 @@ stmts_of site stmts = in_turn (map (stmt_of site) stmts)
 
 -- An agent's local with its cells: a variable has one, with its first value, and those of an array begin at 0.
 abbrev pub slot_of : Local → Slots
-slot_of (local.Scalar name init) = record { name = name.text; cells = 1; init = first_value init; array = false }
-slot_of (local.Array name cells) = record { name = name.text; cells = cells.value; init = pos 0; array = true }
+slot_of (local.Scalar width name init) = record { name = name.text; cells = 1; init = first_value init; array = false; width = width }
+slot_of (local.Array width name cells) = record { name = name.text; cells = cells.value; init = pos 0; array = true; width = width }
 
--- The first value of a local, 0 where it is an array.
-abbrev pub local_value : Local → ℤ
-local_value (local.Scalar name init) = first_value init
-local_value (local.Array name cells) = pos 0
+-- A function's local: its first value, 0 where it is an array, and its type.
+abbrev pub local_of : Local → LocalDecl
+local_of (local.Scalar width name init) = record { init = first_value init; width = width }
+local_of (local.Array width name cells) = record { init = pos 0; width = width }
 
 -- The name of a clock, where the declaration is one.
 abbrev pub clock_names : Item → List (List ℕ)
@@ -233,7 +285,7 @@ inside_of items k = record { items = items; at = k; inside = true }
 -- The function that declaration number k is, where it is one.
 abbrev pub functions : List Item → ℕ → Item → List FunctionDecl
 functions items k (item.Function name params locals stmts) =
-    record { name = name.text; params = length params; locals = map local_value locals; stmts = (stmts_of (inside_of items k) stmts []).0 } ∷ []
+    record { name = name.text; params = length params; locals = map local_of locals; stmts = (stmts_of (inside_of items k) stmts []).0 } ∷ []
 functions items k _ = []
 
 -- Point 0 is the head of the body.

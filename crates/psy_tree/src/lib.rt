@@ -15,4 +15,6 @@ pub use raw::{Init, Item, Lit, Local, Name, Raw, RawExpr, RawStmt};
 pub use reach::{Asks, Found};
 pub use rules::{Count, RuleKind};
 pub use token::{Kind, Sign, Token, Word};
-pub use unit::{AgentDecl, Expr, FunctionDecl, Point, Slots, Stmt, StreamDecl, Unit, VarDecl};
+pub use unit::{
+    AgentDecl, Expr, FunctionDecl, LocalDecl, Point, Slots, Stmt, StreamDecl, Unit, VarDecl,
+};

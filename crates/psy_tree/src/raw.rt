@@ -1,5 +1,5 @@
 //! The tree of a program's text, with names as they are written.
-use psy_arith::{Op1, Op2};
+use psy_arith::{Op1, Op2, Width};
 use psy_base::{Boxed, Items, Text};
 
 /// A name as written, and the number of its token.
@@ -77,11 +77,12 @@ pub enum Item {
     },
 }
 
-/// A local declaration: a variable with its first value, or an array with its number of cells.
+/// A local declaration, with its type: a variable with its first value, or an array with its number of
+/// cells.
 #[derive(Debug, Drop)]
 pub enum Local {
-    Scalar(Name, Init),
-    Array(Name, Lit),
+    Scalar(Width, Name, Init),
+    Array(Width, Name, Lit),
 }
 
 /// A statement. A token number is that of the statement's first word.
@@ -128,4 +129,6 @@ pub enum RawExpr {
     Unary(Op1, Boxed<RawExpr>),
     Binary(Op2, Boxed<RawExpr>, Boxed<RawExpr>),
     Call(Name, Items<RawExpr>),
+    /// To the type of a width.
+    Cast(Width, Boxed<RawExpr>),
 }

@@ -1,5 +1,5 @@
 //! A program whose names are numbers.
-use psy_arith::{Op1, Op2};
+use psy_arith::{Op1, Op2, Width};
 use psy_base::{Boxed, Items, Text};
 use psy_clock::Clock;
 
@@ -39,23 +39,30 @@ pub struct StreamDecl {
     pub clock: u32,
 }
 
-/// A function. Its slots are its parameters and then its locals, of which only the first values are
-/// kept.
+/// A local variable of a function: its first value and its type.
+#[derive(Clone, Copy, Debug, PartialEq, Eq)]
+pub struct LocalDecl {
+    pub init: i32,
+    pub width: Width,
+}
+
+/// A function. Its slots are its parameters, which are of 32 bits, and then its locals.
 #[derive(Debug, Drop)]
 pub struct FunctionDecl {
     pub name: Text,
     pub params: u32,
-    pub locals: Items<i32>,
+    pub locals: Items<LocalDecl>,
     pub stmts: Items<Stmt>,
 }
 
-/// A variable or an array of an agent.
+/// A variable or an array of an agent, with the width of its values.
 #[derive(Debug, Drop)]
 pub struct Slots {
     pub name: Text,
     pub cells: u32,
     pub init: i32,
     pub array: bool,
+    pub width: Width,
 }
 
 /// Where an action begins: the head of the body, or an `advance`, with the count and the clock of that
@@ -114,7 +121,11 @@ pub enum Expr {
     Past(u32, u32),
     Ready(u32),
     Take(u32),
-    Unary(Op1, Boxed<Expr>),
-    Binary(Op2, Boxed<Expr>, Boxed<Expr>),
+    /// At a width, at which the operand is taken.
+    Unary(Op1, Width, Boxed<Expr>),
+    /// At a width, at which both operands are taken.
+    Binary(Op2, Width, Boxed<Expr>, Boxed<Expr>),
     Call(u32, Items<Expr>),
+    /// Narrowed to a width.
+    Cast(Width, Boxed<Expr>),
 }

@@ -7,3 +7,4 @@ mod flow;
 mod processors;
 mod tokens;
 mod trees;
+mod widths;

@@ -14,7 +14,7 @@ use Rattle.psy_log.specs.declared.note.Note.{Note}
 use Rattle.psy_notes.specs.Stands.{run_begins}
 use Rattle.psy_notes.specs.Texts.{BreaksAt}
 use Rattle.psy_passes.specs.Outcomes.{IsFileText, IsMany}
-use Rattle.psy_scan.specs.Runs.{IsRun}
+use Rattle.psy_passes.specs.Runs.{IsRun}
 use Rattle.psy_words.specs.Faults.{words_told}
 use Rattle.psy_view.specs.Refusals.{long_line}
 use Rattle.psy_view.specs.Views.{IsShown, ViewOf}

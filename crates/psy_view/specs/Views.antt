@@ -8,10 +8,10 @@ use Rattle.psy_text.specs.Lines.{lines_of}
 use Rattle.psy_notes.specs.Stands.{run_begins, graph_begins}
 use Rattle.psy_notes.specs.declared.stand.Stand.{Stand}
 use Rattle.psy_notes.specs.Texts.{IsText, BreaksAt}
-use Rattle.psy_listed.specs.declared.fault.LogFault.{LogFault}
-use Rattle.psy_listed.specs.declared.fault.LogFault.TheVariants as fault
-use Rattle.psy_listed.specs.Listing as listing
-use Rattle.psy_listed.specs.Logs.{IsLog}
+use Rattle.psy_passes.specs.declared.log_fault.LogFault.{LogFault}
+use Rattle.psy_passes.specs.declared.log_fault.LogFault.TheVariants as fault
+use Rattle.psy_passes.specs.Listing as listing
+use Rattle.psy_passes.specs.Logs.{IsLog}
 use Rattle.psy_table.specs.Rows.{csv_of}
 use Rattle.psy_wave.specs.Changes.{vcd_of}
 use Rattle.psy_differ.specs.Differences.{Differs}

@@ -1,7 +1,7 @@
 //! Views of logs: tables, dumps, comparisons, and assertions.
 ghost use Rattle.std.specs.Prelude.{◌≡◌, ◌∷◌, [], ℕ, List, IfOk};
-ghost use Rattle.psy_listed.specs.Listing.{streams_in, variables_in};
-ghost use Rattle.psy_listed.specs.Logs.{IsLog};
+ghost use Rattle.psy_passes.specs.Listing.{streams_in, variables_in};
+ghost use Rattle.psy_passes.specs.Logs.{IsLog};
 ghost use Rattle.psy_view.specs.Asked.{Dump, Table};
 ghost use Rattle.psy_view.specs.Views.{IsCompared, IsExpected, IsFaultOf, IsNoLog, ViewOf};
 
@@ -11,7 +11,7 @@ use psy_base::Memory;
 use psy_claims::{ClaimFault, expect};
 use psy_differ::{DiffFault, diff};
 use psy_export::unlisted_line;
-use psy_listed::{Log, LogFault, read_log};
+use psy_passes::{Log, LogFault, read_log};
 use psy_table::csv;
 use psy_wave::vcd;
 use std::alloc::Global;

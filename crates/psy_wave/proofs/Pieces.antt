@@ -1,7 +1,7 @@
 -- Texts that grow by pieces.
 use Rattle.std.proofs.Common.{◌≡◌, ℕ, ◌+◌, ◌-◌, ◌<◌, suc, List, [], ◌++◌, ap, ◌∙◌, append_assoc, arith}
 use Rattle.psy_log.specs.declared.note.Note.{Note}
-use Rattle.psy_listed.specs.Listing.{agents_in, streams_in, variables_in}
+use Rattle.psy_passes.specs.Listing.{agents_in, streams_in, variables_in}
 use Rattle.psy_wave.specs.Changes.{changes, vcd_of}
 use Rattle.psy_wave.specs.Heads.{first_scalar, first_scalars, first_vector, first_vectors, head}
 

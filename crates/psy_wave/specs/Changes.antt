@@ -3,7 +3,7 @@ use Rattle.std.specs.Prelude.{ℕ, ℤ, ◌==◌, List, [], ◌∷◌, ◌++◌,
 use Rattle.std.specs.List.{position}
 use Rattle.psy_log.specs.declared.note.Note.{Note}
 use Rattle.psy_log.specs.declared.note.Note.TheVariants as note
-use Rattle.psy_listed.specs.Listing.{agents_in, streams_in, variables_in}
+use Rattle.psy_passes.specs.Listing.{agents_in, streams_in, variables_in}
 use Rattle.psy_wave.specs.Codes.{code, word_digits}
 use Rattle.psy_wave.specs.Heads.{head}
 

@@ -2,7 +2,7 @@
 use Rattle.std.specs.Prelude.{◌≡◌, ◌⊎◌, ℕ, List, [], ◌++◌, Option}
 use Rattle.psy_door.specs.Files.{Files}
 use Rattle.psy_log.specs.declared.note.Note.{Note}
-use Rattle.psy_listed.specs.Listing.{agents_in, streams_in, variables_in}
+use Rattle.psy_passes.specs.Listing.{agents_in, streams_in, variables_in}
 use Rattle.psy_passes.specs.Outcomes.{Begins}
 use Rattle.psy_wave.specs.declared.teller.ChangeTeller.{ChangeTeller}
 use Rattle.psy_wave.specs.Changes.{change, changes, later, stamp, time_of}

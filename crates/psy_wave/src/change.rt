@@ -3,8 +3,8 @@ ghost use Rattle.std.specs.Prelude.{◌≡◌, ◌++◌, OnOk};
 ghost use Rattle.psy_wave.specs.Changes.{change, message, raised, time_of, value_change};
 
 use crate::line::{add_scalar, add_vector};
-use psy_listed::Listed;
 use psy_log::Note;
+use psy_passes::Listed;
 use std::alloc::AllocError;
 
 /// Adds what a note changes.

@@ -4,7 +4,7 @@ ghost use Rattle.psy_wave.specs.Heads.{declared, declared_from, definitions, hea
 ghost use Rattle.psy_wave.specs.Heads.{first_scalar, first_scalars, first_values, first_vector, first_vectors};
 
 use crate::line::{add_code, add_scalar};
-use psy_listed::{Listed, Names};
+use psy_passes::{Listed, Names};
 use std::alloc::AllocError;
 
 /// Adds the declarations of all that is dumped, and the first values.

@@ -3,9 +3,8 @@ ghost use Rattle.psy_wave.specs.Streams.{TellsChange};
 
 use crate::change::{add_change, time_of};
 use crate::text::{add_stamp, later};
-use psy_listed::Listed;
 use psy_log::Note;
-use psy_scan::{Tell, TellFault};
+use psy_passes::{Listed, Tell, TellFault};
 
 /// Tells what each note changes, with the time before the first change of each date.
 #[derive(Drop)]

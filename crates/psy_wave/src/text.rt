@@ -3,15 +3,15 @@ ghost use Rattle.std.specs.Prelude.{◌≡◌, ◌++◌, ℕ, List, Some, IfOk, 
 ghost use Rattle.psy_log.specs.declared.note.Note.{Note};
 ghost use Rattle.psy_notes.specs.Stands.{run_begins};
 ghost use Rattle.psy_notes.specs.Texts.{BreaksAt, IsText};
-ghost use Rattle.psy_listed.specs.declared.fault.LogFault.TheVariants.{Line, Unlisted};
-ghost use Rattle.psy_listed.specs.Listing.{first_unlisted};
-ghost use Rattle.psy_listed.specs.Logs.{IsLog};
+ghost use Rattle.psy_passes.specs.declared.log_fault.LogFault.TheVariants.{Line, Unlisted};
+ghost use Rattle.psy_passes.specs.Listing.{first_unlisted};
+ghost use Rattle.psy_passes.specs.Logs.{IsLog};
 ghost use Rattle.psy_wave.specs.Changes.{changes, later, stamp, vcd_of};
 
 use crate::change::{add_change, time_of};
 use crate::header::add_head;
-use psy_listed::{Listed, LogFault, read_log};
 use psy_log::Note;
+use psy_passes::{Listed, LogFault, read_log};
 use psy_text::write::add_number;
 use std::alloc::{AllocError, Global};
 

@@ -5,8 +5,9 @@ use Rattle.std.proofs.lemmas.Bool.{not-true, not-false, cases_lt}
 use Rattle.std.proofs.lemmas.List.{get_or-drop}
 use Rattle.std.proofs.lemmas.List.Sums.{prefix_len-le-length, prefix_len_passes, prefix_len_stops, suffix_len-take_yes, suffix_len-take_no, count_by_more_yes, count_by_more_no}
 use Rattle.psy_tree.specs.Lexemes.{is_in_line}
-use Rattle.psy_where.specs.Places.{line_at, column_at, IsLinePlace}
-use Rattle.psy_where.proofs.LinesBack.{length-line_back}
+use Rattle.psy_where.specs.Places.{IsLinePlace}
+use Rattle.psy_spot.specs.Spots.{line_at, column_at}
+use Rattle.psy_spot.proofs.lemmas.LinesBack.{length-line_back}
 
 -- ---- one byte more
 

@@ -21,8 +21,8 @@ use Rattle.psy_where.specs.declared.indent.Line.{Line}
 use Rattle.psy_where.specs.declared.indent.Opening.{Opening}
 use Rattle.psy_where.specs.declared.indent.Pair.{Pair}
 use Rattle.psy_where.specs.Indents.{first_pair, line_of, line_start, opening_of, pair_by, pair_of}
-use Rattle.psy_where.specs.Places.{before_at}
-use Rattle.psy_where.proofs.LinesBack.{length-line_back}
+use Rattle.psy_spot.specs.Spots.{before_at}
+use Rattle.psy_spot.proofs.lemmas.LinesBack.{length-line_back}
 use Rattle.psy_where.proofs.OpenPlaces.{innermost, open_places, opened, places-closed, places-more}
 
 -- ---- places

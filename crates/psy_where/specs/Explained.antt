@@ -7,7 +7,8 @@ use Rattle.psy_text.specs.Lines.{without_return}
 use Rattle.psy_where.specs.declared.recall.What.{What}
 use Rattle.psy_where.specs.declared.recall.What.TheVariants.{Inputs, Script}
 use Rattle.psy_where.specs.declared.recall.Refusal.{Refusal}
-use Rattle.psy_where.specs.Places.{line_at, before_at, behind_at, told_column}
+use Rattle.psy_where.specs.Places.{told_column}
+use Rattle.psy_spot.specs.Spots.{line_at, before_at, behind_at}
 use Rattle.psy_where.specs.Refusals.{IsNoRefusal, IsPlaceOf, IsRefusal}
 use Rattle.psy_where.specs.declared.lack.Lack.{Lack}
 use Rattle.psy_where.specs.declared.plain.Plain.{Plain}

@@ -13,7 +13,8 @@ use Rattle.psy_where.specs.declared.byte.ByteSlip.TheVariants.{Nested}
 use Rattle.psy_where.specs.declared.indent.Pair.{Pair}
 use Rattle.psy_where.specs.declared.recall.What.TheVariants.{Lex, Parse, Rule, Inputs, Script}
 use Rattle.psy_where.specs.declared.recall.Refusal.{Refusal}
-use Rattle.psy_where.specs.Places.{line_at, told_column}
+use Rattle.psy_where.specs.Places.{told_column}
+use Rattle.psy_spot.specs.Spots.{line_at}
 use Rattle.psy_where.specs.Bytes.{byte_words, closes_first, slip_of}
 use Rattle.psy_where.specs.Indents.{first_pair}
 
@@ -42,7 +43,7 @@ abbrev pub lex_words : ℕ → List ℕ → List ℕ → List ℕ
 lex_words number front back =
     if number == 1 then byte_words (slip_of front back)
     else if number == 2 then codes "choose a shorter name"
-    else if number == 3 then codes "a value has 32 bits, from -2147483648 to 2147483647"
+    else if number == 3 then codes "a number of the text is at most 2147483647; a greater value is computed, in 64 bits as in `int64(1) << 40`"
     else codes "a comment that begins with `/*` ends with `*/`"
 
 -- What is told of a line in a file of inputs or in a script, behind the bytes of earlier lines: the word at fault, and what the file looks like

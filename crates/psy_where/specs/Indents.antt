@@ -9,7 +9,7 @@ use Rattle.psy_expect.specs.Braces.{brace_of, open_brace}
 use Rattle.psy_where.specs.declared.indent.Line.{Line}
 use Rattle.psy_where.specs.declared.indent.Opening.{Opening}
 use Rattle.psy_where.specs.declared.indent.Pair.{Pair}
-use Rattle.psy_where.specs.Places.{before_at}
+use Rattle.psy_spot.specs.Spots.{before_at}
 
 -- A blank or a tab
 abbrev pub is_space : ℕ → Bool

@@ -2,11 +2,11 @@
 ghost use Rattle.std.specs.Prelude.{◌≡◌, ◌++◌, ◌≤◌, IfOk, OnOk, length};
 ghost use Rattle.psy_base.specs.declared.limits.TheConstants.{FILE_BYTES};
 ghost use Rattle.psy_where.specs.Helps.{brace_help, brace_line, pair_help, pair_line};
-ghost use Rattle.psy_where.specs.Places.{before_at, line_at};
+ghost use Rattle.psy_spot.specs.Spots.{before_at, line_at};
 
 use crate::indent::Pair;
-use crate::spot::{Spot, spot_at};
 use psy_show::chars_len;
+use psy_spot::{Spot, spot_at};
 use psy_text::write::add_labelled;
 use std::alloc::{AllocError, Global};
 

@@ -66,7 +66,8 @@ fn lex_words(number: u32, front: &[u8], back: &[u8]) -> &'static [u8]
     match number {
         1 => byte_words(slip_of(front, back)),
         2 => b"choose a shorter name",
-        3 => b"a value has 32 bits, from -2147483648 to 2147483647",
+        3 =>
+            b"a number of the text is at most 2147483647; a greater value is computed, in 64 bits as in `int64(1) << 40`",
         _ => b"a comment that begins with `/*` ends with `*/`",
     }
 }

@@ -4,9 +4,9 @@ ghost use Rattle.std.specs.List.{prefix_len};
 ghost use Rattle.psy_tree.specs.Tokens.{TokensOf};
 ghost use Rattle.psy_where.specs.Indents.{first_pair, is_space, line_from, line_of, pair_of};
 
-use crate::scan::back_len;
 use psy_base::Memory;
 use psy_expect::{Brace, brace_of};
+use psy_spot::back_len;
 use psy_tree::Token;
 use std::alloc::Global;
 

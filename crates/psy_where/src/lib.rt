@@ -16,9 +16,7 @@ mod place;
 mod plain;
 mod program;
 mod recall;
-mod scan;
 mod sentence;
-mod spot;
 mod with_feed;
 mod written;
 
@@ -31,5 +29,4 @@ pub use limit::Limit;
 pub use plain::{Plain, plain_of};
 pub use program::beside;
 pub use recall::{Refusal, What};
-pub use spot::{Spot, spot_at};
 pub use written::Written;

@@ -1,6 +1,6 @@
 //! The operators at each width, with its corners.
-use super::{apply1, apply2, narrow};
-use crate::{Op1, Op2, Trap};
+use super::{apply1, apply2, narrow, narrowed, operate1, operate2};
+use crate::{Op1, Op2, Trap, Width};
 
 #[test]
 fn two_operands_of_eight_bits(rt: HostRuntime) {
@@ -368,4 +368,87 @@ fn numbers_are_narrowed(rt: HostRuntime) {
         assert_eq!(rt; narrow::<32>(a), thirty_two, "{a} in 32 bits");
         assert_eq!(rt; narrow::<64>(a), a, "{a} in 64 bits");
     }
+}
+
+#[test]
+fn both_operands_are_taken_at_the_width(rt: HostRuntime) {
+    let cases = [
+        (Width::W8, Op2::Add, 300, 1, Ok(45)),
+        (Width::W8, Op2::Add, 127, 1, Ok(-128)),
+        (Width::W8, Op2::Lt, 128, 127, Ok(1)),
+        (Width::W8, Op2::Div, 1, 256, Err(Trap::Divide)),
+        (Width::W16, Op2::Add, 32_767, 1, Ok(-32_768)),
+        (Width::W16, Op2::Shl, 1, 17, Ok(2)),
+        (Width::W32, Op2::Add, (1 << 32) + 5, 1, Ok(6)),
+        (Width::W32, Op2::Lt, 1 << 32, 1, Ok(1)),
+        (Width::W32, Op2::Rem, 7, 1 << 32, Err(Trap::Divide)),
+        (Width::W64, Op2::Add, i64::MAX, 1, Ok(i64::MIN)),
+        (Width::W64, Op2::Div, i64::MIN, -1, Ok(i64::MIN)),
+        (Width::W64, Op2::Shl, 1, 64, Ok(1)),
+    ];
+    for (width, op, a, b, want) in cases {
+        assert_eq!(rt;
+            operate2(width, op, a, b),
+            want,
+            "{op:?} of {a} and {b} at {width:?}"
+        );
+    }
+}
+
+#[test]
+fn one_operand_is_taken_at_the_width(rt: HostRuntime) {
+    let cases = [
+        (Width::W8, Op1::Neg, 128, -128),
+        (Width::W8, Op1::Neg, 127, -127),
+        (Width::W8, Op1::Not, 256, 0),
+        (Width::W16, Op1::Flip, 65_536, -1),
+        (Width::W32, Op1::Neg, 1 << 31, -(1 << 31)),
+        (Width::W32, Op1::Not, 1 << 32, 0),
+        (Width::W64, Op1::Neg, i64::MIN, i64::MIN),
+        (Width::W64, Op1::Flip, 0, -1),
+        (Width::W64, Op1::Not, 0, 1),
+    ];
+    for (width, op, a, want) in cases {
+        assert_eq!(rt; operate1(width, op, a), want, "{op:?} of {a} at {width:?}");
+    }
+}
+
+#[test]
+fn a_number_is_narrowed_to_a_width(rt: HostRuntime) {
+    let cases = [
+        (Width::W8, 200, -56),
+        (Width::W8, -129, 127),
+        (Width::W16, 40_000, -25_536),
+        (Width::W32, 1 << 31, -(1 << 31)),
+        (Width::W64, i64::MAX, i64::MAX),
+    ];
+    for (width, a, want) in cases {
+        assert_eq!(rt; narrowed(width, a), want, "{a} at {width:?}");
+    }
+}
+
+#[test]
+fn the_wider_of_two_widths(rt: HostRuntime) {
+    for (a, b, narrower, wider) in [
+        (Width::W8, Width::W16, true, Width::W16),
+        (Width::W64, Width::W32, false, Width::W64),
+        (Width::W32, Width::W32, false, Width::W32),
+    ] {
+        assert_eq!(rt; a.is_narrower(b), narrower, "{a:?} and {b:?}");
+        assert_eq!(rt; a.wider(b), wider, "{a:?} and {b:?}");
+    }
+}
+
+#[test]
+fn what_an_operator_gives_has_a_type(rt: HostRuntime) {
+    for (op, want) in [
+        (Op2::Shr, Width::W8),
+        (Op2::Or, Width::W8),
+        (Op2::Ge, Width::W32),
+        (Op2::AndAnd, Width::W32),
+    ] {
+        assert_eq!(rt; Width::W8.after_two(op), want, "{op:?}");
+    }
+    assert_eq!(rt; Width::W64.after_one(Op1::Not), Width::W32, "!");
+    assert_eq!(rt; Width::W64.after_one(Op1::Flip), Width::W64, "~");
 }

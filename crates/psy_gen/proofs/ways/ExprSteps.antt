@@ -3,6 +3,7 @@ use Rattle.std.proofs.Common.{◌≡◌, ℕ, ◌+◌, List, [], ◌∷◌, ◌+
 use Rattle.std.specs.Prelude.{slice_get}
 use Rattle.psy_arith.specs.declared.operators.Op2.{Op2}
 use Rattle.psy_arith.specs.declared.operators.Op2.TheVariants as op
+use Rattle.psy_arith.specs.declared.width.Width.{Width}
 use Rattle.psy_code.specs.declared.instr.Instr.{Instr}
 use Rattle.psy_code.specs.declared.instr.Instr.TheVariants as instr
 use Rattle.psy_tree.specs.declared.unit.Expr.{Expr, roll-Expr, map-Expr, ind-Expr}
@@ -51,15 +52,15 @@ module _ (instrs : List Instr) (layout : Layout) where
       (steps_then instrs p (p + n) (p + n + 1) (k.1 p (has-first instrs p (expr_code layout k.0 p) (i ∷ []) h))
       (one_step i (p + n) is (expr_behind instrs layout k.0 p (i ∷ []) h).0))
 
-  eager : (o : Op2) (l r : Known) (p : ℕ) → HasAt instrs p (expr_code layout l.0 p ++ (expr_code layout r.0 (p + expr_size l.0) ++ instr.Binary o ∷ []))
+  eager : (o : Op2) (w : Width) (l r : Known) (p : ℕ) → HasAt instrs p (expr_code layout l.0 p ++ (expr_code layout r.0 (p + expr_size l.0) ++ instr.Binary o w ∷ []))
       → Steps instrs p (p + (expr_size l.0 + (expr_size r.0 + 1)))
-  eager o l r p h =
+  eager o w l r p h =
       let a = expr_size l.0 in
-      let code = expr_code layout r.0 (p + a) ++ instr.Binary o ∷ [] in
+      let code = expr_code layout r.0 (p + a) ++ instr.Binary o w ∷ [] in
       let place : p + a + (expr_size r.0 + 1) ≡ p + (a + (expr_size r.0 + 1)) = omega arith in
       steps_to instrs p (p + a + (expr_size r.0 + 1)) (p + (a + (expr_size r.0 + 1))) place
       (steps_then instrs p (p + a) (p + a + (expr_size r.0 + 1)) (l.1 p (has-first instrs p (expr_code layout l.0 p) code h))
-      (then_one r (instr.Binary o) (p + a) (tt {0}) (expr_behind instrs layout l.0 p code h)))
+      (then_one r (instr.Binary o w) (p + a) (tt {0}) (expr_behind instrs layout l.0 p code h)))
 
   lazy : (test : ℕ → Instr) (forks : (to : ℕ) → Forks (test to) to) (l r : Known) (p : ℕ)
       → HasAt instrs p (expr_code layout l.0 p ++
@@ -78,11 +79,11 @@ module _ (instrs : List Instr) (layout : Layout) where
       (steps_then instrs (p + a) middle (middle + (b + 1)) (steps_one instrs (test to) (p + a) there.0 (fork_next (test to) (p + a) to (forks to)))
       (then_one r instr.Truth middle (tt {0}) there.1)))
 
-  binary : (o : Op2) (l r : Known) (p : ℕ) → HasAt instrs p (binary_code o (operand layout l.0) (operand layout r.0) p)
+  binary : (o : Op2) (w : Width) (l r : Known) (p : ℕ) → HasAt instrs p (binary_code o w (operand layout l.0) (operand layout r.0) p)
       → Steps instrs p (p + (expr_size l.0 + (expr_size r.0 + binary_size o)))
-  binary op.AndAnd l r p h = lazy instr.AndTest (λ to. refl) l r p h
-  binary op.OrOr l r p h = lazy instr.OrTest (λ to. refl) l r p h
-  binary o l r p h = eager o l r p h
+  binary op.AndAnd w l r p h = lazy instr.AndTest (λ to. refl) l r p h
+  binary op.OrOr w l r p h = lazy instr.OrTest (λ to. refl) l r p h
+  binary o w l r p h = eager o w l r p h
 
   step : (y : Expr-F Known) (p : ℕ) → let x = map-Expr Known Expr tree y in HasAt instrs p
       (expr_code_step layout (map-Expr Expr Operand (operand layout) x) p) → Steps instrs p (p + expr_size_step (map-Expr Expr ℕ expr_size x))
@@ -93,8 +94,9 @@ module _ (instrs : List Instr) (layout : Layout) where
   step (Expr-F.Past variable back) p h = steps_one instrs (instr.Past variable back) p h.0 refl
   step (Expr-F.Ready stream) p h = one_step (instr.Ready stream) p (tt {0}) h.0
   step (Expr-F.Take stream) p h = one_step (instr.Take stream) p (tt {0}) h.0
-  step (Expr-F.Unary operator operand) p h = then_one operand (instr.Unary operator) p (tt {0}) h
-  step (Expr-F.Binary operator left right) p h = binary operator left right p h
+  step (Expr-F.Unary operator width operand) p h = then_one operand (instr.Unary operator width) p (tt {0}) h
+  step (Expr-F.Cast width operand) p h = then_one operand (instr.Cast width) p (tt {0}) h
+  step (Expr-F.Binary operator width left right) p h = binary operator width left right p h
   step (Expr-F.Call function arguments) p h =
       let n = total (map expr_size (map tree arguments)) in
       let place : p + n + 1 ≡ p + (n + 1) = omega arith in

@@ -2,6 +2,7 @@
 use Rattle.std.proofs.Common.{◌≡◌, ℕ, ◌+◌, List, [], ◌∷◌, ◌++◌, map, refl, sym, subst, arith}
 use Rattle.psy_arith.specs.declared.operators.Op2.{Op2}
 use Rattle.psy_arith.specs.declared.operators.Op2.TheVariants as op
+use Rattle.psy_arith.specs.declared.width.Width.{Width}
 use Rattle.psy_code.specs.declared.instr.Instr.{Instr}
 use Rattle.psy_code.specs.declared.instr.Instr.TheVariants as instr
 use Rattle.psy_tree.specs.declared.unit.Expr.{Expr, roll-Expr, map-Expr, rec-roll-Expr, ind-Expr}
@@ -80,20 +81,20 @@ module _ (instrs : List Instr) (its : Measure) (layout : Layout) (calls : ℕ �
 
   -- ---- operators
 
-  eager : (o : Op2) (l r : Known) (mode : Mode) (p : ℕ) → Allows its mode
-      → HasAt instrs p (expr_code layout l.0 p ++ (expr_code layout r.0 (p + expr_size l.0) ++ instr.Binary o ∷ []))
+  eager : (o : Op2) (w : Width) (l r : Known) (mode : Mode) (p : ℕ) → Allows its mode
+      → HasAt instrs p (expr_code layout l.0 p ++ (expr_code layout r.0 (p + expr_size l.0) ++ instr.Binary o w ∷ []))
       → S mode (both (expr_way calls l.0) (both (expr_way calls r.0) one)) p (p + (expr_size l.0 + (expr_size r.0 + 1)))
-  eager o l r mode p allows h =
+  eager o w l r mode p allows h =
       let a = expr_size l.0 in
       let b = expr_size r.0 in
-      let code = expr_code layout r.0 (p + a) ++ instr.Binary o ∷ [] in
+      let code = expr_code layout r.0 (p + a) ++ instr.Binary o w ∷ [] in
       let there = expr_behind instrs layout l.0 p code h in
-      let last = expr_behind instrs layout r.0 (p + a) (instr.Binary o ∷ []) there in
+      let last = expr_behind instrs layout r.0 (p + a) (instr.Binary o w ∷ []) there in
       let place : p + a + (b + 1) ≡ p + (a + (b + 1)) = omega arith in
       placed_at mode (both (expr_way calls l.0) (both (expr_way calls r.0) one)) p (p + a + (b + 1)) (p + (a + (b + 1))) place
       (same_both instrs its mode (expr_way calls l.0) (both (expr_way calls r.0) one) p (p + a) (p + a + (b + 1))
       (l.1 mode p allows (has-first instrs p (expr_code layout l.0 p) code h))
-      (then_plain r mode (p + a) (instr.Binary o) allows (same_plain instrs its mode (instr.Binary o) (p + a + b) (tt {0}) last.0) there))
+      (then_plain r mode (p + a) (instr.Binary o w) allows (same_plain instrs its mode (instr.Binary o w) (p + a + b) (tt {0}) last.0) there))
 
   lazy : (test : ℕ → Instr) (forks : (to : ℕ) → Forks (test to) to) (l r : Known) (mode : Mode) (p : ℕ) → Allows its mode
       → HasAt instrs p (expr_code layout l.0 p ++
@@ -116,11 +117,11 @@ module _ (instrs : List Instr) (its : Measure) (layout : Layout) (calls : ℕ �
       (l.1 mode p allows (has-first instrs p (expr_code layout l.0 p) (test to ∷ behind_test) h))
       (same_fork instrs its mode (test to) here (both (expr_way calls r.0) one) (p + a) to to there.0 (forks to) (same_here instrs its mode to) right))
 
-  binary : (o : Op2) (l r : Known) (mode : Mode) (p : ℕ) → Allows its mode → HasAt instrs p (binary_code o (operand layout l.0) (operand layout r.0) p)
+  binary : (o : Op2) (w : Width) (l r : Known) (mode : Mode) (p : ℕ) → Allows its mode → HasAt instrs p (binary_code o w (operand layout l.0) (operand layout r.0) p)
       → S mode (binary_way o (expr_way calls l.0) (expr_way calls r.0)) p (p + (expr_size l.0 + (expr_size r.0 + binary_size o)))
-  binary op.AndAnd l r mode p allows h = lazy instr.AndTest (λ to. refl) l r mode p allows h
-  binary op.OrOr l r mode p allows h = lazy instr.OrTest (λ to. refl) l r mode p allows h
-  binary o l r mode p allows h = eager o l r mode p allows h
+  binary op.AndAnd w l r mode p allows h = lazy instr.AndTest (λ to. refl) l r mode p allows h
+  binary op.OrOr w l r mode p allows h = lazy instr.OrTest (λ to. refl) l r mode p allows h
+  binary o w l r mode p allows h = eager o w l r mode p allows h
 
   -- ---- all expressions
 
@@ -139,11 +140,15 @@ module _ (instrs : List Instr) (its : Measure) (layout : Layout) (calls : ℕ �
   step (Expr-F.Past variable back) mode p allows h = same_look mode variable back p allows h
   step (Expr-F.Ready stream) mode p allows h = leaf (instr.Ready stream) mode p (tt {0}) h
   step (Expr-F.Take stream) mode p allows h = leaf (instr.Take stream) mode p (tt {0}) h
-  step (Expr-F.Unary operator operand) mode p allows h =
-      then_plain operand mode p (instr.Unary operator) allows
-      (same_plain instrs its mode (instr.Unary operator) (p + expr_size operand.0) (tt {0})
-      (expr_behind instrs layout operand.0 p (instr.Unary operator ∷ []) h).0) h
-  step (Expr-F.Binary operator left right) mode p allows h = binary operator left right mode p allows h
+  step (Expr-F.Unary operator width operand) mode p allows h =
+      then_plain operand mode p (instr.Unary operator width) allows
+      (same_plain instrs its mode (instr.Unary operator width) (p + expr_size operand.0) (tt {0})
+      (expr_behind instrs layout operand.0 p (instr.Unary operator width ∷ []) h).0) h
+  step (Expr-F.Cast width operand) mode p allows h =
+      then_plain operand mode p (instr.Cast width) allows
+      (same_plain instrs its mode (instr.Cast width) (p + expr_size operand.0) (tt {0})
+      (expr_behind instrs layout operand.0 p (instr.Cast width ∷ []) h).0) h
+  step (Expr-F.Binary operator width left right) mode p allows h = binary operator width left right mode p allows h
   step (Expr-F.Call function arguments) mode p allows h =
       let n = total (map expr_size (map tree arguments)) in
       let way = ways_through (expr_way calls) (map tree arguments) in

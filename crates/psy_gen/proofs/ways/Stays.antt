@@ -6,6 +6,7 @@ use Rattle.std.proofs.Math.Nat.{eq-or-lt_of_le}
 use Rattle.std.proofs.lemmas.Option.{slice_get_within}
 use Rattle.psy_arith.specs.declared.operators.Op2.{Op2}
 use Rattle.psy_arith.specs.declared.operators.Op2.TheVariants as op
+use Rattle.psy_arith.specs.declared.width.Width.{Width}
 use Rattle.psy_code.specs.declared.instr.Instr.{Instr}
 use Rattle.psy_code.specs.declared.instr.Instr.TheVariants as instr
 use Rattle.psy_tree.specs.declared.unit.AgentDecl.{AgentDecl}
@@ -108,14 +109,14 @@ module _ (unit : Whole) (number : ℕ) (agent : AgentDecl) (low high : ℕ) wher
         behind k.0 p (arguments_code (map (operand layout) (map tree ks)) rest (p + n)) (k.1 p above (omega (arith, below)) sound.0)
         (through ks rest (p + n) (omega (arith, above)) (omega (arith, below)) sound.1 (subst (λ q. Stays q rest) place h))
 
-    eager : (o : Op2) (l r : Known) (p : ℕ) → low ≤ p → p + (expr_size l.0 + (expr_size r.0 + 1)) ≤ high → IsSoundExpr sc l.0 → IsSoundExpr sc r.0
-        → Stays p (expr_code layout l.0 p ++ (expr_code layout r.0 (p + expr_size l.0) ++ instr.Binary o ∷ []))
-    eager o l r p above below first second =
+    eager : (o : Op2) (w : Width) (l r : Known) (p : ℕ) → low ≤ p → p + (expr_size l.0 + (expr_size r.0 + 1)) ≤ high → IsSoundExpr sc l.0 → IsSoundExpr sc r.0
+        → Stays p (expr_code layout l.0 p ++ (expr_code layout r.0 (p + expr_size l.0) ++ instr.Binary o w ∷ []))
+    eager o w l r p above below first second =
         let a = expr_size l.0 in
         let b = expr_size r.0 in
-        behind l.0 p (expr_code layout r.0 (p + a) ++ instr.Binary o ∷ []) (l.1 p above (omega (arith, below)) first)
-        (behind r.0 (p + a) (instr.Binary o ∷ []) (r.1 (p + a) (omega (arith, above)) (omega (arith, below)) second)
-        (plain (instr.Binary o) (p + a + b) (tt {0}) (omega (arith, above)) (omega (arith, below)), tt {0}))
+        behind l.0 p (expr_code layout r.0 (p + a) ++ instr.Binary o w ∷ []) (l.1 p above (omega (arith, below)) first)
+        (behind r.0 (p + a) (instr.Binary o w ∷ []) (r.1 (p + a) (omega (arith, above)) (omega (arith, below)) second)
+        (plain (instr.Binary o w) (p + a + b) (tt {0}) (omega (arith, above)) (omega (arith, below)), tt {0}))
 
     lazy : (test : ℕ → Instr) (forks : (to : ℕ) → Forks (test to) to) (l r : Known) (p : ℕ) → low ≤ p → p + (expr_size l.0 + (expr_size r.0 + 2)) ≤ high
         → IsSoundExpr sc l.0 → IsSoundExpr sc r.0
@@ -132,12 +133,12 @@ module _ (unit : Whole) (number : ℕ) (agent : AgentDecl) (low high : ℕ) wher
               (plain instr.Truth (middle + b) (tt {0}) (omega (arith, above)) (omega (arith, below)), tt {0}),
         )
 
-    binary : (o : Op2) (l r : Known) (p : ℕ) → low ≤ p → p + (expr_size l.0 + (expr_size r.0 + binary_size o)) ≤ high → IsSoundExpr sc l.0
+    binary : (o : Op2) (w : Width) (l r : Known) (p : ℕ) → low ≤ p → p + (expr_size l.0 + (expr_size r.0 + binary_size o)) ≤ high → IsSoundExpr sc l.0
         → IsSoundExpr sc r.0
-        → Stays p (binary_code o (operand layout l.0) (operand layout r.0) p)
-    binary op.AndAnd l r p above below first second = lazy instr.AndTest (λ to. refl) l r p above below first second
-    binary op.OrOr l r p above below first second = lazy instr.OrTest (λ to. refl) l r p above below first second
-    binary o l r p above below first second = eager o l r p above below first second
+        → Stays p (binary_code o w (operand layout l.0) (operand layout r.0) p)
+    binary op.AndAnd w l r p above below first second = lazy instr.AndTest (λ to. refl) l r p above below first second
+    binary op.OrOr w l r p above below first second = lazy instr.OrTest (λ to. refl) l r p above below first second
+    binary o w l r p above below first second = eager o w l r p above below first second
 
     leaf : (i : Instr) (p : ℕ) → IsPlain i → low ≤ p → p + 1 ≤ high → Stays p (i ∷ [])
     leaf i p is above below = (plain i p is above below, tt {0})
@@ -161,10 +162,13 @@ module _ (unit : Whole) (number : ℕ) (agent : AgentDecl) (low high : ℕ) wher
     )
     step (Expr-F.Ready stream) p above below sound = leaf (instr.Ready stream) p (tt {0}) above below
     step (Expr-F.Take stream) p above below sound = leaf (instr.Take stream) p (tt {0}) above below
-    step (Expr-F.Unary operator operand) p above below sound =
-        behind operand.0 p (instr.Unary operator ∷ []) (operand.1 p above (omega (arith, below)) sound)
-        (leaf (instr.Unary operator) (p + expr_size operand.0) (tt {0}) (omega (arith, above)) (omega (arith, below)))
-    step (Expr-F.Binary operator left right) p above below sound = binary operator left right p above below sound.0 sound.1
+    step (Expr-F.Unary operator width operand) p above below sound =
+        behind operand.0 p (instr.Unary operator width ∷ []) (operand.1 p above (omega (arith, below)) sound)
+        (leaf (instr.Unary operator width) (p + expr_size operand.0) (tt {0}) (omega (arith, above)) (omega (arith, below)))
+    step (Expr-F.Cast width operand) p above below sound =
+        behind operand.0 p (instr.Cast width ∷ []) (operand.1 p above (omega (arith, below)) sound)
+        (leaf (instr.Cast width) (p + expr_size operand.0) (tt {0}) (omega (arith, above)) (omega (arith, below)))
+    step (Expr-F.Binary operator width left right) p above below sound = binary operator width left right p above below sound.0 sound.1
     step (Expr-F.Call function arguments) p above below sound =
         through arguments (instr.Call function ∷ []) p above (omega (arith, below)) sound.1
         (leaf (instr.Call function) (p + total (map expr_size (map tree arguments))) (tt {0}) (omega (arith, above)) (omega (arith, below)))

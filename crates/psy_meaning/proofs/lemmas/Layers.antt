@@ -19,8 +19,9 @@ natural_expr ways X v k (Expr-F.Cell slot index) = refl
 natural_expr ways X v k (Expr-F.Past variable back) = refl
 natural_expr ways X v k (Expr-F.Ready stream) = refl
 natural_expr ways X v k (Expr-F.Take stream) = refl
-natural_expr ways X v k (Expr-F.Unary operator operand) = refl
-natural_expr ways X v k (Expr-F.Binary operator left right) = refl
+natural_expr ways X v k (Expr-F.Unary operator width operand) = refl
+natural_expr ways X v k (Expr-F.Binary operator width left right) = refl
+natural_expr ways X v k (Expr-F.Cast width operand) = refl
 natural_expr ways X v k (Expr-F.Call function arguments) = ap (λ w. both w (both one (ways function))) (through-map v k arguments)
 
 courses-map : {X : Type 0} (v : X → Stmt) (k : Stmt → Course) (xs : List X) → courses_through (λ x. k (v x)) xs ≡ courses_through k (map v xs)

@@ -2,12 +2,13 @@
 use Rattle.std.proofs.Common.{◌≡◌, refl, sym, ap, subst, ◌∙◌}
 use Rattle.std.specs.Prelude.{◌≤◌, false, map, length, Some, None, ⊤}
 use Rattle.std.proofs.lemmas.List.{length-map, map-id}
+use Rattle.psy_arith.specs.declared.width.Width.TheVariants.{W32}
 use Rattle.psy_tree.specs.declared.unit.Expr.{Expr, roll-Expr, map-Expr, rec-roll-Expr}
 use Rattle.psy_tree.specs.declared.unit.Expr.TheOpen.{Expr-F}
 use Rattle.psy_tree.specs.declared.unit.Stmt.{Stmt, roll-Stmt, map-Stmt, rec-roll-Stmt}
 use Rattle.psy_tree.specs.declared.unit.Stmt.TheOpen.{Stmt-F}
 use Rattle.psy_meaning.specs.Paths.{holds_advance, quiet_list}
-use Rattle.psy_meaning.specs.Sound.{Scope, HasFunction, Each, sound_expr_step, sound_stmt_step, IsSoundExpr, IsSoundStmt}
+use Rattle.psy_meaning.specs.Sound.{Scope, HasFunction, GoesInto, Each, sound_expr_step, sound_stmt_step, IsSoundExpr, IsSoundStmt}
 use Rattle.psy_meaning.proofs.lemmas.Eaches.{each-map}
 
 pub exprs_natural : (sc : Scope) (X : Type 0) (v : X → Expr) (f : Expr → Type 0) (x : Expr-F X) → sound_expr_step sc X v (λ p. f (v p)) x ≡ sound_expr_step sc Expr (λ y. y) f (map-Expr X Expr v x)
@@ -18,10 +19,13 @@ exprs_natural sc X v f (Expr-F.Cell slot index) = refl
 exprs_natural sc X v f (Expr-F.Past variable back) = refl
 exprs_natural sc X v f (Expr-F.Ready stream) = refl
 exprs_natural sc X v f (Expr-F.Take stream) = refl
-exprs_natural sc X v f (Expr-F.Unary operator operand) = refl
-exprs_natural sc X v f (Expr-F.Binary operator left right) = refl
+exprs_natural sc X v f (Expr-F.Unary operator width operand) = refl
+exprs_natural sc X v f (Expr-F.Binary operator width left right) = refl
+exprs_natural sc X v f (Expr-F.Cast width operand) = refl
 exprs_natural sc X v f (Expr-F.Call function arguments) =
-    ap (λ n. HasFunction sc function n × Each (λ x. f (v x)) arguments) (sym (length-map arguments v)) ∙ ap (λ t. HasFunction sc function (length (map v arguments)) × t) (each-map v f arguments)
+    ap (λ n. HasFunction sc function n × Each (λ x. f (v x)) arguments × Each (λ x. GoesInto sc W32 (v x)) arguments) (sym (length-map arguments v))
+    ∙ ap (λ t. HasFunction sc function (length (map v arguments)) × t × Each (λ x. GoesInto sc W32 (v x)) arguments) (each-map v f arguments)
+    ∙ ap (λ t. HasFunction sc function (length (map v arguments)) × Each f (map v arguments) × t) (each-map v (GoesInto sc W32) arguments)
 
 pub stmts_natural : (sc : Scope) (X : Type 0) (v : X → Stmt) (f : Stmt → Type 0) (x : Stmt-F X) → sound_stmt_step sc X v (λ p. f (v p)) x ≡ sound_stmt_step sc Stmt (λ y. y) f (map-Stmt X Stmt v x)
 stmts_natural sc X v f (Stmt-F.Set slot value) = refl

@@ -14,7 +14,7 @@ use Rattle.psy_tree.specs.declared.raw.Item.TheVariants as item
 use Rattle.psy_tree.specs.declared.raw.Raw.{Raw}
 use Rattle.psy_tree.specs.declared.rules.RuleKind.TheVariants as kind
 use Rattle.psy_tree.specs.Scope.{slots_of}
-use Rattle.psy_tree.specs.Places.{Place, Acts, Loops, expr_places, most_places, stmt_places, stmts_places, slot_places, cells_places, inside_places}
+use Rattle.psy_tree.specs.Places.{Place, Acts, Loops, expr_places, most_places, stmt_places, stmts_places, slot_places, local_place, inside_places}
 use Rattle.psy_tree.specs.Paths.{advances, advances_step, advances_list, quiet_list}
 use Rattle.psy_tree.specs.Rules.{NoFault, is_function}
 use Rattle.psy_tree.proofs.lemmas.Among.{Among, among_right}
@@ -117,8 +117,8 @@ no_act raw k name params locals stmts sound own h =
     let f : Item = item.Function name params locals stmts in
     let there : (t : ℕ) × Among (Acts t) (stmts_places stmts) = act_of (stmts_places stmts) h in
     let inner : Among (Acts there.0) (inside_places f) =
-    among_right (Acts there.0) (slot_places 0 (slots_of f)) (cells_places locals ++ stmts_places stmts)
-    (among_right (Acts there.0) (cells_places locals) (stmts_places stmts) there.1) in
+    among_right (Acts there.0) (slot_places 0 (slots_of f)) (map local_place locals ++ stmts_places stmts)
+    (among_right (Acts there.0) (map local_place locals) (stmts_places stmts) there.1) in
     false≢true (sym (fine_inside raw sound k f (Acts there.0) own inner kind.WrongKind) ∙ ap is_function own)
 
 none_left : (n a : ℕ) → n ≤ a → (0 < a → ⊥) → n ≡ 0

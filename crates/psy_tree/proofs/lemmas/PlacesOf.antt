@@ -5,6 +5,7 @@ use Rattle.psy_base.specs.declared.limits.TheConstants.{AFTER, ADVANCE}
 use Rattle.psy_arith.specs.declared.operators.Op2.{Op2}
 use Rattle.psy_tree.specs.declared.raw.Name.{Name}
 use Rattle.psy_tree.specs.declared.raw.Lit.{Lit}
+use Rattle.psy_arith.specs.declared.width.Width.{Width}
 use Rattle.psy_tree.specs.declared.raw.RawExpr.{RawExpr, fold-roll-RawExpr}
 use Rattle.psy_tree.specs.declared.raw.RawExpr.TheVariants as expr
 use Rattle.psy_tree.specs.declared.raw.RawExpr.TheOpen.{RawExpr-F}
@@ -18,6 +19,9 @@ use Rattle.psy_tree.proofs.lemmas.Lists.{map_firsts, map_seconds}
 
 pub places_binary : (op : Op2) (l : RawExpr) (r : RawExpr) → expr_places (expr.Binary op l r) ≡ expr_places l ++ expr_places r
 places_binary op l r = ap expr_places (sym (expr.rolls-Binary op l r)) ∙ fold-roll-RawExpr (List Place) expr_places_step (RawExpr-F.Binary op l r)
+
+pub places_cast : (width : Width) (e : RawExpr) → expr_places (expr.Cast width e) ≡ expr_places e
+places_cast width e = ap expr_places (sym (expr.rolls-Cast width e)) ∙ fold-roll-RawExpr (List Place) expr_places_step (RawExpr-F.Cast width e)
 
 pub places_call : (name : Name) (es : List RawExpr) → expr_places (expr.Call name es) ≡ Uses name (asks.Call (length (map expr_places es))) ∷ joined (map expr_places es)
 places_call name es = ap expr_places (sym (expr.rolls-Call name es)) ∙ fold-roll-RawExpr (List Place) expr_places_step (RawExpr-F.Call name es)

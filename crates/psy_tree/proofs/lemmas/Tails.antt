@@ -44,6 +44,7 @@ mutual
   behind_expr grammar.Expr.past = there (there (there (there (there (there here)))))
   behind_expr grammar.Expr.ready = there (there (there (there here)))
   behind_expr grammar.Expr.take = there (there (there (there here)))
+  behind_expr (grammar.Expr.cast is h) = there (there (behind_one (behind_expr h)))
   behind_expr (grammar.Expr.in_parentheses h) = there (behind_one (behind_expr h))
   behind_expr (grammar.Expr.unary is h) = there (behind_expr h)
   behind_expr (grammar.Expr.tighter h) = behind_expr h
@@ -75,11 +76,11 @@ behind_start grammar.Start.plain = there here
 behind_start grammar.Start.negated = there (there here)
 
 behind_function_local : {ts rest : List Numbered} {x : Local} → FunctionLocal ts x rest → Behind ts rest
-behind_function_local (grammar.FunctionLocal.scalar h) = there (there (there (behind_one (behind_start h))))
+behind_function_local (grammar.FunctionLocal.scalar is h) = there (there (there (behind_one (behind_start h))))
 
 pub behind_local : {ts rest : List Numbered} {x : Local} → AgentLocal ts x rest → Behind ts rest
 behind_local (grammar.AgentLocal.variable h) = behind_function_local h
-behind_local grammar.AgentLocal.array = there (there (there (there (there (there here)))))
+behind_local (grammar.AgentLocal.array is) = there (there (there (there (there (there here)))))
 
 -- A function's locals are spelled as those of an agent
 pub agent_locals : {ts rest : List Numbered} {xs : List Local} → Many FunctionLocal ts xs rest → Many AgentLocal ts xs rest

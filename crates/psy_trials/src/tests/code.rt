@@ -1,6 +1,6 @@
 //! The code of small programs.
 use crate::texts::unit_of;
-use psy_arith::{Op1, Op2};
+use psy_arith::{Op1, Op2, Width};
 use psy_code::{Binary, Code, CopyInit, Instr};
 use psy_gen::generate;
 use std::alloc::AllocGlobal;
@@ -34,20 +34,26 @@ const STREAM: &str =
 const TWO: &str =
     "agent A on c budget 99 { body { advance 1 on c; } } agent B on c budget 99 { body { advance 1 on c; } }";
 
-// The code of a program that begins with its clock.
-fn code_of(rt: &(impl Abort + AllocGlobal), rest: &str) -> Result<Code, Fail> {
+/// The code of a program that begins with its clock.
+pub fn code_of(rt: &(impl Abort + AllocGlobal), rest: &str) -> Result<Code, Fail> {
     let text = format!(in rt.alloc(); "tick 10; clock c = 1 * tick; {rest}")?;
     let unit = unit_of(rt, text.as_str())?;
     Ok(generate(rt.alloc(), &unit)?)
 }
 
-// The instruction of an operator that takes both its operands.
-fn binary(rt: &impl Abort, op: Op2) -> Instr {
-    Instr::Binary(Binary::new(op).expect(rt, "an operator that takes both its operands"))
+/// The instruction of an operator that takes both its operands, at a width.
+pub fn binary_at(rt: &impl Abort, op: Op2, width: Width) -> Instr {
+    let operator = Binary::new(op).expect(rt, "an operator that takes both its operands");
+    Instr::Binary(operator, width)
 }
 
-// Compares the code, and where the actions of the last agent begin.
-fn compare(
+// The same at 32 bits.
+fn binary(rt: &impl Abort, op: Op2) -> Instr {
+    binary_at(rt, op, Width::W32)
+}
+
+/// Compares the code, and where the actions of the last agent begin.
+pub fn compare(
     rt: &(impl Abort + AllocGlobal),
     text: &str,
     instrs: &[Instr],
@@ -116,7 +122,7 @@ fn choices(rt: HostRuntime) -> Result<(), Fail> {
         binary(&rt, Op2::Lt),
         Instr::JumpZero(7),
         Instr::Push(1),
-        Instr::Unary(Op1::Neg),
+        Instr::Unary(Op1::Neg, Width::W32),
         Instr::Store(0),
         Instr::Advance(1),
         Instr::Jump(0),

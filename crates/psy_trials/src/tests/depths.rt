@@ -22,7 +22,7 @@ fn depth_in(rt: &(impl Abort + AllocGlobal), text: &str, agent: u32) -> Result<D
 fn compare(rt: &(impl Abort + AllocGlobal), functions: &str, cases: &[Case]) -> Result<(), Fail> {
     for &(stmts, operands, cells) in cases {
         let text = format!(in rt.alloc();
-            "{HEAD} {functions} agent A on c budget 9 {{ int x = 0; int a[4]; body {{ {stmts} advance 1 on c; }} }}"
+            "{HEAD} {functions} agent A on c budget 9 {{ int x = 0; int8 b = 0; int a[4]; body {{ {stmts} advance 1 on c; }} }}"
         )?;
         let depths = depth_in(rt, text.as_str(), 0)?;
         assert_eq!(rt; depths, Depths { operands, cells }, "{stmts}");
@@ -45,6 +45,21 @@ fn operators_hold_their_left_side(rt: HostRuntime) -> Result<(), Fail> {
             ("v = -(1 + ~2);", 2, 0),
             ("v = a[1 + (2 + 3)];", 3, 0),
             ("v = 1 + past(v, 0) + ready(s);", 2, 0),
+        ],
+    )
+}
+
+#[test]
+fn a_narrowing_holds_its_operand(rt: HostRuntime) -> Result<(), Fail> {
+    compare(
+        &rt,
+        "int f(int p, int q) { int64 k = 2; return k + (p + q); }",
+        &[
+            ("b = 1;", 1, 0),
+            ("b = 1 + (2 + 3);", 3, 0),
+            ("v = 1 + int16(2 + 3);", 3, 0),
+            // The arguments, and in the call what `return` narrows
+            ("v = f(1, int8(2));", 3, 3),
         ],
     )
 }

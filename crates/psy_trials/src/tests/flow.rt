@@ -22,7 +22,7 @@ fn unit_with(rt: &(impl Abort + AllocGlobal), stmts: &str) -> Result<Unit, Fail>
     ensures { IfOk result (λ unit. IsOfText unit) }
 {
     let text = format!(in rt.alloc();
-        "{HEAD} {FUNCTIONS} agent A on c budget 14 {{ int n = 0; body {{ {stmts} }} }}"
+        "{HEAD} {FUNCTIONS} agent A on c budget 14 {{ int n = 0; int8 m = 0; int64 t = 0; body {{ {stmts} }} }}"
     )?;
     unit_of(rt, text.as_str())
 }
@@ -37,7 +37,7 @@ fn first_agent<'a>(rt: &impl Abort, unit: &'a Unit) -> &'a AgentDecl
 }
 
 /// Statements, and from each point the points that follow and the greatest cost.
-const POINTS: [(&str, &[(&[u32], u64)]); 7] = [
+const POINTS: [(&str, &[(&[u32], u64)]); 9] = [
     ("n = n + 1; v = n; advance 1 on c;", &[(&[1], 7), (&[1], 8)]),
     (
         "n = n + 1; v = n; if (n < 2) { advance 3 on c; } else { advance 1 on c; }",
@@ -56,6 +56,13 @@ const POINTS: [(&str, &[(&[u32], u64)]); 7] = [
     (
         "while (n) max 3 { send n to s after 0 on c; } advance 1 on c;",
         &[(&[1], 23), (&[1], 24)],
+    ),
+    // The sum has 3 and is narrowed for 1 more; `v` has room for what is narrower.
+    ("m = m + 1; v = m; advance 1 on c;", &[(&[1], 8), (&[1], 9)]),
+    // Each statement narrows for 1: as it says, for an argument, and for `v`.
+    (
+        "n = int16(n); n = f(t); v = t; advance 1 on c;",
+        &[(&[1], 15), (&[1], 16)],
     ),
     // The call of f: 2 for the test, and 2 to return; that of g: 2 calls of 1 + 1 + 4, the sum, the return.
     (

@@ -2,7 +2,7 @@
 use Rattle.std.proofs.Common.{◌≡◌, ◌+◌, ◌≤◌, List, length}
 use Rattle.psy_text.specs.Lines.{lines_of}
 use Rattle.psy_log.specs.declared.note.Note.{Note}
-use Rattle.psy_listed.specs.Listing.{streams_in, variables_in}
+use Rattle.psy_passes.specs.Listing.{streams_in, variables_in}
 use Rattle.psy_claims.proofs.LinesSaid.{SaidFrom, WrongFrom}
 use Rattle.psy_claims.proofs.read.read_claims.Given as goal
 

@@ -2,7 +2,7 @@
 use Rattle.std.proofs.Common.{List, Err, IfErr, IfOk, ap, map, sym, subst, ◌∙◌}
 use Rattle.std.specs.Prelude.{string_bytes}
 use Rattle.psy_log.specs.declared.note.Note.{Note}
-use Rattle.psy_scan.specs.Runs.{IsRun}
+use Rattle.psy_passes.specs.Runs.{IsRun}
 use Rattle.psy_draw.specs.Knowledge.{knowledge_of}
 use Rattle.psy_draw.specs.Pictures.{IsPicture}
 use Rattle.psy_film.specs.Causes.{IsCause}

@@ -1,7 +1,7 @@
 -- What is left of the proof of `filming::filmed`.
 use Rattle.std.proofs.Common.{map, refl, sym, subst, ◌∙◌}
 use Rattle.std.specs.Prelude.{string_bytes}
-use Rattle.psy_passes.specs.Names.{EndAs}
+use Rattle.psy_passes.specs.NameChecks.{EndAs}
 use Rattle.psy_film.proofs.Names.{has_summary, unlisted_same}
 use Rattle.psy_film.proofs.filming.filmed.Goals as goal
 

@@ -12,9 +12,9 @@ mark_looks_of-returns-in-Binary t c =
     let right = c.in-Binary.right in
     let between = c.mark_looks_of-in-Binary.new.looked in
     rw c.in-Binary.is
-    (marks_more marks between c.mark_looks_of-in-Binary-2.new.looked (expr_looks left) (expr_looks right) (expr_looks (expr.Binary c.in-Binary.field-0 left right))
+    (marks_more marks between c.mark_looks_of-in-Binary-2.new.looked (expr_looks left) (expr_looks right) (expr_looks (expr.Binary c.in-Binary.field-0 c.in-Binary.field-1 left right))
     (c.mark_looks_of-in-Binary.ensures ∙ ap (λ e. marked_at marks (expr_looks e)) c.get-in-Binary.ensures)
-    (c.mark_looks_of-in-Binary-2.ensures ∙ ap (λ e. marked_at between (expr_looks e)) c.get-in-Binary-2.ensures) (looks_binary c.in-Binary.field-0 left right))
+    (c.mark_looks_of-in-Binary-2.ensures ∙ ap (λ e. marked_at between (expr_looks e)) c.get-in-Binary-2.ensures) (looks_binary c.in-Binary.field-0 c.in-Binary.field-1 left right))
 
 pub mark_looks_of_all-loop-expr-preserved : goal.mark_looks_of_all-loop-expr-preserved
 mark_looks_of_all-loop-expr-preserved t c =

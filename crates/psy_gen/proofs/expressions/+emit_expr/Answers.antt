@@ -5,7 +5,7 @@ use Rattle.psy_tree.specs.declared.unit.Expr.{Expr, the_lemmas}
 use Rattle.psy_tree.specs.Paths.{total}
 use Rattle.psy_meaning.specs.Sizes.{expr_size}
 use Rattle.psy_gen.specs.Emission.{exprs_code}
-use Rattle.psy_gen.proofs.Equations.{operand, code_number, code_slot, code_copy, code_cell, code_past, code_ready, code_take, code_unary, code_binary, code_call, arguments_behind, binary_eager, size_binary, size_lazy}
+use Rattle.psy_gen.proofs.Equations.{operand, code_number, code_slot, code_copy, code_cell, code_past, code_ready, code_take, code_unary, code_cast, code_binary, code_call, arguments_behind, binary_eager, size_binary, size_lazy}
 use Rattle.psy_gen.proofs.Patches.{then_one, patch_either, then_operator, exprs_more, drop_read, behind_expr, behind_one}
 use Rattle.psy_gen.proofs.Small.{exprs_left}
 use Rattle.psy_gen.proofs.expressions.+emit_expr.Goals as goal
@@ -36,6 +36,10 @@ pub emit_expr-returns-in_ok-emit_expr-in-Unary : goal.emit_expr-returns-in_ok-em
 emit_expr-returns-in_ok-emit_expr-in-Unary t c =
     rw (c.in-Unary.is, code_unary, ← c.get-in-Unary.ensures) (on_ok_weaker c.push-in-Unary.result (then_one _ _ _ _ _ c.in_ok-emit_expr-in-Unary.ensures) c.push-in-Unary.ensures)
 
+pub emit_expr-returns-in_ok-emit_expr-in-Cast : goal.emit_expr-returns-in_ok-emit_expr-in-Cast
+emit_expr-returns-in_ok-emit_expr-in-Cast t c =
+    rw (c.in-Cast.is, code_cast, ← c.get-in-Cast.ensures) (on_ok_weaker c.push-in-Cast.result (then_one _ _ _ _ _ c.in_ok-emit_expr-in-Cast.ensures) c.push-in-Cast.ensures)
+
 pub emit_expr-returns-in_ok-emit_exprs-in-Call : goal.emit_expr-returns-in_ok-emit_exprs-in-Call
 emit_expr-returns-in_ok-emit_exprs-in-Call t c =
     rw (c.in-Call.is, code_call, arguments_behind, ← c.as_slice.ensures) (on_ok_weaker c.push-in-Call.result (then_one _ _ _ _ _ c.in_ok-emit_exprs-in-Call.ensures) c.push-in-Call.ensures)
@@ -49,14 +53,14 @@ pub emit_expr-returns-in_ok-push-in-None : goal.emit_expr-returns-in_ok-push-in-
 emit_expr-returns-in_ok-push-in-None t c =
     let new = rw c.in-None.is at c.new.ensures in
     rw (c.set.ensures, c.in-Binary.is, code_binary, ← c.get-in-Binary.ensures, ← c.get-in-None.ensures)
-    (patch_either c.args.layout.now c.in-Binary.op c.lazy_test.result _ _ _ _ _ _ _ _ new (rw c.place.ensures at c.lazy_test.ensures.and) (rw c.place.ensures at c.lazy_test.ensures.or) c.in_ok-emit_expr-in-Binary.ensures c.in_ok-test-in-None.ensures.place c.in_ok-test-in-None.ensures.held c.in_ok-emit_expr-in-None.ensures c.in_ok-push-in-None.ensures)
+    (patch_either c.args.layout.now c.in-Binary.op c.in-Binary.width c.lazy_test.result _ _ _ _ _ _ _ _ new (rw c.place.ensures at c.lazy_test.ensures.and) (rw c.place.ensures at c.lazy_test.ensures.or) c.in_ok-emit_expr-in-Binary.ensures c.in_ok-test-in-None.ensures.place c.in_ok-test-in-None.ensures.held c.in_ok-emit_expr-in-None.ensures c.in_ok-push-in-None.ensures)
 
 pub emit_expr-returns-in_ok-emit_expr-in-Some : goal.emit_expr-returns-in_ok-emit_expr-in-Some
 emit_expr-returns-in_ok-emit_expr-in-Some t c =
     let layout = c.args.layout.now in
     let p = length c.args.code.now in
     let new = rw c.in-Some.is at c.new.ensures in
-    let eager = binary_eager c.in-Binary.op (operand layout c.in-Binary.left) (operand layout c.in-Binary.right) p new.1.0 new.1.1 in
+    let eager = binary_eager c.in-Binary.op c.in-Binary.width (operand layout c.in-Binary.left) (operand layout c.in-Binary.right) p new.1.0 new.1.1 in
     rw (c.in-Binary.is, code_binary, eager, ← c.get-in-Binary.ensures, ← c.get-in-Some.ensures, ← new.0)
     (on_ok_weaker c.push-in-Some.result (then_operator layout _ _ _ _ _ _ _ c.in_ok-emit_expr-in-Binary.ensures c.in_ok-emit_expr-in-Some.ensures) c.push-in-Some.ensures)
 
@@ -64,7 +68,7 @@ emit_expr-returns-in_ok-emit_expr-in-Some t c =
 
 pub emit_expr-hold-requires : goal.emit_expr-hold-requires
 emit_expr-hold-requires t c =
-    omega (arith, c.requires, ap expr_size c.in-Binary.is, size_binary c.in-Binary.op c.in-Binary.left c.in-Binary.right, size_lazy c.in-Binary.op (rw c.in-None.is at c.new.ensures), ap expr_size c.get-in-Binary.ensures, behind_expr _ _ _ _ c.in_ok-emit_expr-in-Binary.ensures)
+    omega (arith, c.requires, ap expr_size c.in-Binary.is, size_binary c.in-Binary.op c.in-Binary.width c.in-Binary.left c.in-Binary.right, size_lazy c.in-Binary.op (rw c.in-None.is at c.new.ensures), ap expr_size c.get-in-Binary.ensures, behind_expr _ _ _ _ c.in_ok-emit_expr-in-Binary.ensures)
 
 pub emit_expr-emit_expr-requires-in-None : goal.emit_expr-emit_expr-requires-in-None
 emit_expr-emit_expr-requires-in-None t c = (
@@ -73,7 +77,7 @@ emit_expr-emit_expr-requires-in-None t c = (
     arith,
     c.requires,
     ap expr_size c.in-Binary.is,
-    size_binary c.in-Binary.op c.in-Binary.left c.in-Binary.right,
+    size_binary c.in-Binary.op c.in-Binary.width c.in-Binary.left c.in-Binary.right,
     size_lazy c.in-Binary.op (rw c.in-None.is at c.new.ensures),
     ap expr_size c.get-in-Binary.ensures,
     ap expr_size c.get-in-None.ensures,
@@ -88,7 +92,7 @@ emit_expr-place-requires t c =
       arith,
       c.requires,
       ap expr_size c.in-Binary.is,
-      size_binary c.in-Binary.op c.in-Binary.left c.in-Binary.right,
+      size_binary c.in-Binary.op c.in-Binary.width c.in-Binary.left c.in-Binary.right,
       size_lazy c.in-Binary.op (rw c.in-None.is at c.new.ensures),
       ap expr_size c.get-in-Binary.ensures,
       ap expr_size c.get-in-None.ensures,
@@ -100,7 +104,7 @@ emit_expr-place-requires t c =
 
 pub emit_expr-emit_expr-requires-in-Some : goal.emit_expr-emit_expr-requires-in-Some
 emit_expr-emit_expr-requires-in-Some t c =
-    (search (rules, the_lemmas), omega (arith, c.requires, ap expr_size c.in-Binary.is, size_binary c.in-Binary.op c.in-Binary.left c.in-Binary.right, ap expr_size c.get-in-Binary.ensures, ap expr_size c.get-in-Some.ensures, behind_expr _ _ _ _ c.in_ok-emit_expr-in-Binary.ensures))
+    (search (rules, the_lemmas), omega (arith, c.requires, ap expr_size c.in-Binary.is, size_binary c.in-Binary.op c.in-Binary.width c.in-Binary.left c.in-Binary.right, ap expr_size c.get-in-Binary.ensures, ap expr_size c.get-in-Some.ensures, behind_expr _ _ _ _ c.in_ok-emit_expr-in-Binary.ensures))
 
 pub emit_exprs-emit_expr-requires : goal.emit_exprs-emit_expr-requires
 emit_exprs-emit_expr-requires t c =

@@ -13,6 +13,9 @@ decreases-primary l = 8 * l.depth + 3
 abbrev pub decreases-behind_name : goal.decreases-behind_name
 decreases-behind_name l = 8 * l.depth + 2
 
+abbrev pub decreases-cast : goal.decreases-cast
+decreases-cast l = 8 * l.depth + 2
+
 abbrev pub decreases-args : goal.decreases-args
 decreases-args l = 8 * l.depth + 1
 

@@ -1,7 +1,7 @@
 -- What is left of the proof of `passes::write_told`.
 use Rattle.std.proofs.Common.{◌≡◌, ◌∙◌, sym, ap, subst, Err}
-use Rattle.psy_scan.specs.declared.fault.ScanFault.TheVariants as scan
-use Rattle.psy_passes.specs.Names.{RefusesOther, TellsListed}
+use Rattle.psy_passes.specs.declared.scan_fault.ScanFault.TheVariants as scan
+use Rattle.psy_passes.specs.NameChecks.{RefusesOther, TellsListed}
 use Rattle.psy_passes.specs.Outcomes.{IsOfTelling, since}
 use Rattle.psy_passes.proofs.Sinces.{err_is, halted_since, telling_only, unread_is, unwritten_is}
 use Rattle.psy_passes.proofs.Surveyed.{changed_end, differ_by, same_by, told_all, told_end, told_halt, told_none}

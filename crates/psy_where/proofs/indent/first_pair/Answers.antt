@@ -2,7 +2,7 @@
 use Rattle.std.proofs.Common.{◌≡◌, ◌-◌, [], length, take, refl, sym, ap, ◌∙◌, arith}
 use Rattle.psy_expect.specs.declared.brace.Brace.TheVariants.{Opens, Closes, Neither}
 use Rattle.psy_where.specs.Indents.{first_pair, line_from}
-use Rattle.psy_where.specs.Places.{before_at}
+use Rattle.psy_spot.specs.Spots.{before_at}
 use Rattle.psy_where.proofs.PairsFound.{found-is, kept-closes, kept-neither, kept-opens, left-more, none-is, pair-end, pair-is, popped, rises, rises-more}
 use Rattle.psy_where.proofs.indent.first_pair.Goals as goal
 use Rattle.psy_where.proofs.indent.first_pair.Goals.{in-Opens+in_ok-push-in-Opens, in-Closes+else-is_some, in-Neither}

@@ -1,6 +1,6 @@
 -- What is left of the proof of `frames::Frames::set_cell`.
 use Rattle.std.proofs.Common.{arith}
-use Rattle.std.proofs.Common.{w32, to_z, of_z, ◌≡◌}
+use Rattle.std.proofs.Common.{w64, to_z, of_z, ◌≡◌}
 use Rattle.std.proofs.lemmas.Int.{to_z-of_z}
 use Rattle.psy_machine.proofs.Laid.{cell_within, set_cell_gives}
 use Rattle.psy_machine.proofs.frames.Frames.set_cell.Goals as goal
@@ -17,5 +17,5 @@ index_mut-requires c =
 
 pub returns : goal.returns
 returns c =
-    let value : to_z w32 (of_z w32 c.args.value) ≡ c.args.value = grind (arith, to_z-of_z) in
+    let value : to_z w64 (of_z w64 c.args.value) ≡ c.args.value = grind (arith, to_z-of_z) in
     rw value (set_cell_gives c.self.inside c.args.self.now c.args.number c.args.value c.self.view_is c.self.invariant)

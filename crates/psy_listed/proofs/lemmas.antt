@@ -1,2 +1,0 @@
--- The lemmas that crates above may use.
-pub mod Distinct

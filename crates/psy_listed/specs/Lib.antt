@@ -1,5 +1,0 @@
--- The definitions of this crate, by subject.
-pub mod Listing
-pub mod Logs
-pub mod Names
-pub mod Tables

@@ -1,0 +1,4 @@
+-- The lemmas that crates above may use.
+pub mod Distinct
+pub mod Growth
+pub mod Notes

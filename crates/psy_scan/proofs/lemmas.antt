@@ -1,3 +1,0 @@
--- The lemmas that crates above may use.
-pub mod Growth
-pub mod Notes

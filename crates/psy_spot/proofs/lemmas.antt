@@ -1,0 +1,2 @@
+-- The lemmas that crates above may use.
+pub mod LinesBack
